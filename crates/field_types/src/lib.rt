@@ -1,0 +1,8 @@
+//! The bytes of fields: names, texts, numbers, and the types of the data description.
+#![tactic(auto)]
+
+pub mod faults;
+pub mod kinds;
+pub mod names;
+pub mod texts;
+pub mod values;
