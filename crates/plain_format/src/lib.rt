@@ -1,0 +1,5 @@
+//! Record formats of character fields: read from the plainest sources, their images packed and unpacked.
+#![tactic(auto)]
+
+pub mod formats;
+pub mod packing;
