@@ -1,0 +1,14 @@
+//! DDS lines read into specifications, or the first fault of a source.
+#![tactic(auto)]
+
+pub mod arguments;
+pub mod faults;
+pub mod keywords;
+pub mod specifications;
+
+pub use arguments::{Argument, Arguments, Characters};
+pub use faults::{DdsCause, DdsFault, SourceError};
+pub use keywords::{Keyword, Keywords};
+pub use specifications::{
+    Columns, LengthEntry, NameEntry, Source, Specification, SpecificationKind, Specifications,
+};
