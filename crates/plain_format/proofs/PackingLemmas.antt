@@ -1,5 +1,5 @@
 -- How the bytes of the first fields stand before those of the others.
-use Rattle.std.proofs.Common.{◌≡◌, ℕ, ◌+◌, ◌<◌, List, [], ◌∷◌, ◌++◌, length, drop, get_or, Result, Ok, Err, Option, refl, ap, arith, append_assoc, drop-cons, add-one}
+use Rattle.std.proofs.Common.{◌≡◌, ℕ, ◌+◌, List, [], ◌∷◌, ◌++◌, length, drop, get_or, Result, Ok, Err, Option, refl, sym, ap, arith, append_assoc, drop-cons, add-one}
 use Rattle.field_types.specs.declared.values.Value.{Value}
 use Rattle.field_types.specs.declared.faults.ValueFault.{ValueFault}
 use Rattle.field_types.specs.declared.faults.RecordFault.{RecordFault}
@@ -12,5 +12,5 @@ behind bytes (Ok others) = Ok (bytes ++ others)
 behind bytes (Err fault) = Err fault
 
 pub behind-joined : (front bytes : List ℕ) (number : ℕ) (rest : Result (List ℕ) RecordFault) → behind front (joined number (Ok bytes) rest) ≡ behind (front ++ bytes) rest
-behind-joined front bytes number (Ok others) = ap (λ x. Ok x) (append_assoc-sym front bytes others)
+behind-joined front bytes number (Ok others) = ap (λ x. Ok x) (sym (append_assoc front bytes others))
 behind-joined front bytes number (Err fault) = refl

@@ -53,10 +53,6 @@ Packs wanted (Ok image) = wanted ≡ Ok image
 Packs wanted (Err NoMemory) = Unit {0}
 Packs wanted (Err (Refused fault)) = wanted ≡ Err fault
 
--- the same of the bytes alone
-abbrev pub PacksFields : Result (List ℕ) RecordFault → Result (List ℕ) PackFault → Type 0
-PacksFields wanted answer = Packs wanted answer
-
 -- one field's bytes were appended, or its fault was given
 abbrev pub PushesField : Result (List ℕ) ValueFault → List ℕ → List ℕ → Option ValueFault → Type 0
 PushesField wanted old new (Some cause) = (wanted ≡ Err cause) × (new ≡ old)

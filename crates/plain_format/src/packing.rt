@@ -1,6 +1,6 @@
 //! From values to images and back, by `specs/Packing.antt`.
 ghost use Rattle.std.specs.Prelude.{◌≡◌, ◌≤◌, ◌++◌, length, replicate, OnOk, IfOk};
-ghost use Rattle.plain_format.specs.Packing.{field_bytes, fields_bytes, image_of, values_of, record_length, Packs, PacksFields, PushesField};
+ghost use Rattle.plain_format.specs.Packing.{field_bytes, fields_bytes, image_of, values_of, record_length, Packs, PushesField};
 ghost use Rattle.plain_format.specs.declared.packing.PackFault.TheVariants.{NoMemory};
 
 use crate::formats::{Field, Format};
@@ -44,7 +44,7 @@ impl Format {
         if values.len() != fields.len() {
             return Err(PackFault::Refused(RecordFault::Count));
         }
-        Ok(Image::from_vec(pack_fields(alloc, fields, values)?))
+        pack_fields(alloc, fields, values)
     }
 
     /// The values that a record shows, each in the width of its field.
@@ -67,10 +67,10 @@ fn pack_fields(
     alloc: Global,
     fields: &[Field],
     values: &[Option<Value>],
-) -> Result<Vec<u8>, PackFault>
+) -> Result<Image, PackFault>
     requires same { length values.now ≡ length fields.now }
     requires few { length fields.now ≤ 1000 }
-    ensures { PacksFields (fields_bytes 1 fields.now values.now) result }
+    ensures { Packs (fields_bytes 1 fields.now values.now) result }
 {
     let mut bytes = Vec::new(alloc);
     for i in 0..fields.len() {
@@ -79,7 +79,7 @@ fn pack_fields(
             return Err(PackFault::Refused(RecordFault::BadField { field, cause }));
         }
     }
-    Ok(bytes)
+    Ok(Image::from_vec(bytes))
 }
 
 /// Appends the bytes of one field, or says why its value doesn't fit.

@@ -1,0 +1,13 @@
+-- Which text has a name: the sources that come with an input. (Our own: IBM i keeps them in source physical files.)
+use Rattle.std.specs.Prelude.{ℕ, Bool, if◌then◌else◌, nat_eq, Option, Some, None, List, [], ◌∷◌}
+use Rattle.std.specs.Cmp.Lexicographic.{pointwise}
+use Rattle.library_model.specs.declared.sources.NamedSource.{NamedSource}
+
+-- whether two names are the same
+abbrev pub same_name : List ℕ → List ℕ → Bool
+same_name a b = pointwise nat_eq a b
+
+-- the text of the first source of this name
+abbrev pub text_of : List NamedSource → List ℕ → Option (List ℕ)
+text_of [] name = None
+text_of (source ∷ others) name = if same_name source.name name then Some source.text else text_of others name
