@@ -1,0 +1,3 @@
+pub mod Member
+pub mod Members
+pub mod Entries
