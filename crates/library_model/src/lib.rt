@@ -6,4 +6,5 @@ pub mod calls;
 pub mod replies;
 pub mod requests;
 pub mod sources;
+pub mod state;
 pub mod value_lists;
