@@ -5,7 +5,7 @@ use Rattle.member_slots.specs.Member.{empty_member}
 use Rattle.member_slots.specs.Members.{put_member}
 use Rattle.plain_format.specs.Packing.{record_length}
 use Rattle.plain_format.specs.PlainSource.{format_of}
-use Rattle.plain_format.specs.declared.formats.Format.{Format}
+use Rattle.library_model.specs.declared.plans.NewFile.{NewFile}
 use Rattle.library_model.specs.declared.requests.CreatePhysicalFile.{CreatePhysicalFile}
 use Rattle.library_model.specs.declared.sources.NamedSource.{NamedSource}
 use Rattle.library_model.specs.declared.state.File.{File}
@@ -16,11 +16,6 @@ use Rattle.library_model.specs.declared.replies.Missing.TheVariants.{Name}
 use Rattle.library_model.specs.SourceList.{text_of}
 use Rattle.library_model.specs.State.{State, file_named}
 use Rattle.library_model.specs.Refusals.{◌>>=◌, found, refuse_if}
-
--- what the new file is made of
-pub record NewFile : Type 0 where
-  pub source : List ℕ
-  pub format : Format
 
 -- The source of this name and its format. A source that has none yet counts as not there.
 abbrev pub described : Option (List ℕ) → Option NewFile

@@ -1,6 +1,7 @@
 pub mod SourceList
 pub mod State
 pub mod Refusals
+pub mod Answers
 pub mod CreatePhysicalFile
 pub mod OpenFile
 pub mod WriteRecord

@@ -5,6 +5,7 @@ use Rattle.member_slots.specs.Members.{member_of, with_member}
 use Rattle.field_types.specs.declared.faults.RecordFault.{RecordFault}
 use Rattle.plain_format.specs.Packing.{image_of}
 use Rattle.library_model.specs.declared.requests.WriteRecord.{WriteRecord}
+use Rattle.library_model.specs.declared.plans.NewRecord.{NewRecord}
 use Rattle.library_model.specs.declared.requests.OpenOption.{OpenOption}
 use Rattle.library_model.specs.declared.requests.OpenOption.TheVariants.{Input, All}
 use Rattle.library_model.specs.declared.replies.Reply.{Reply}
@@ -13,11 +14,6 @@ use Rattle.library_model.specs.declared.replies.Missing.TheVariants.{Name}
 use Rattle.library_model.specs.SourceList.{same_name}
 use Rattle.library_model.specs.State.{State, file_named, open_named, job_at, opens_of}
 use Rattle.library_model.specs.Refusals.{◌>>=◌, found, refuse_if}
-
--- the record to add, and the number of its member
-pub record NewRecord : Type 0 where
-  pub member : ℕ
-  pub image : List ℕ
 
 -- a format is named that isn't the file's
 abbrev pub names_other : Option (List ℕ) → List ℕ → Bool

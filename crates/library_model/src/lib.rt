@@ -3,6 +3,7 @@
 #![tactic(auto)]
 
 pub mod calls;
+pub mod plans;
 pub mod replies;
 pub mod requests;
 pub mod sources;
