@@ -1,1 +1,4 @@
+pub mod Decimal
+pub mod Lines
 pub mod Packing
+pub mod PlainSource
