@@ -3,6 +3,9 @@ use Rattle.std.specs.Prelude.{Bool, true, false, ◌&&◌, not, Option, Some, No
 use Rattle.std.specs.Option.{is_none}
 use Rattle.library_model.specs.declared.requests.Request.{Request}
 use Rattle.library_model.specs.declared.requests.Request.TheVariants.{CreatePhysicalFile, OpenFile, Write, Chain, EndJob}
+use Rattle.library_model.specs.declared.calls.Call.{Call}
+use Rattle.library_model.specs.declared.replies.Reply.{Reply}
+use Rattle.library_model.specs.declared.replies.Reply.TheVariants.{Entries}
 use Rattle.library_model.specs.declared.requests.LockOption.{LockOption}
 use Rattle.library_model.specs.declared.requests.LockOption.TheVariants.{No, Default}
 use Rattle.library_model.specs.declared.requests.AccessPath.{AccessPath}
@@ -23,3 +26,12 @@ is_built (Write args) = is_none args.record_number
 is_built (Chain args) = locks_nothing args.lock
 is_built (EndJob args) = true
 is_built _ = false
+
+-- which replies come so far: none shows entries of the journal
+abbrev pub is_built_reply : Reply → Bool
+is_built_reply (Entries entries) = false
+is_built_reply _ = true
+
+-- a call that can be made so far
+abbrev pub is_built_call : Call → Bool
+is_built_call call = is_built call.request && is_built_reply call.reply
