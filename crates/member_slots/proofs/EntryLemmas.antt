@@ -1,9 +1,9 @@
 -- What the place of a number in the list of entries says of the members.
-use Rattle.std.proofs.Common.{ℕ, zero, suc, ◌+◌, ◌≤◌, ◌<◌, ◌≡◌, not, List, [], ◌∷◌, length, map, set, get_or, Option, Some, None, arith, sym, ap, refl}
-use Rattle.std.specs.List.{filter, insert, remove}
+use Rattle.std.proofs.Common.{ℕ, zero, suc, ◌<◌, ◌≡◌, List, [], ◌∷◌, length, map, set, get_or, Some, None, arith, refl}
+use Rattle.std.specs.List.{insert, remove}
 use Rattle.std.proofs.lemmas.Bool.Decides.{nat_tests}
 use Rattle.member_slots.specs.declared.members.Entry.{Entry}
-use Rattle.member_slots.specs.Members.{Numbered, item_at, with_item, put_item, without_item}
+use Rattle.member_slots.specs.Members.{item_at, with_item, put_item, without_item}
 use Rattle.member_slots.specs.Entries.{numbered, IsPlace, IsGap}
 
 -- a place behind the first entry is a place of the entries behind it
@@ -70,11 +70,16 @@ module _ {A : Type 0} (part : Entry → A) (number : ℕ) where
   pub item_at-gap : (entries : List Entry) (place : ℕ) → IsGap entries number place → item_at number (map (numbered part) entries) ≡ None
   item_at-gap [] place h = refl
   item_at-gap (entry ∷ entries) zero h =
-      grind (arith, nat_tests, h.behind zero entry (omega arith) (omega arith), item_at-gap entries zero (record {
-        in_range = omega arith;
-        before = λ k d lt. absurd (omega arith);
-        behind = λ k d le within. h.behind (suc k) d (omega arith) (omega arith);
-      }))
+      grind (
+        arith,
+        nat_tests,
+        h.behind zero entry (omega arith) (omega arith),
+        item_at-gap entries zero (record {
+          in_range = omega arith;
+          before = λ k d lt. absurd (omega arith);
+          behind = λ k d le within. h.behind (suc k) d (omega arith) (omega arith);
+        }),
+      )
   item_at-gap (entry ∷ entries) (suc place) h =
       grind (arith, nat_tests, h.before zero entry, item_at-gap entries place (IsGap-tail entry entries number place h))
 

@@ -1,5 +1,5 @@
 -- The entries stay in order, and each a member, when one of them changes, comes or goes.
-use Rattle.std.proofs.Common.{ℕ, ◌+◌, ◌-◌, ◌≤◌, ◌<◌, ◌≡◌, List, [], ◌∷◌, length, map, set, get_or, sym, ap, subst, arith}
+use Rattle.std.proofs.Common.{ℕ, ◌+◌, ◌-◌, ◌<◌, ◌≡◌, List, [], ◌∷◌, length, map, set, get_or, subst, arith}
 use Rattle.std.specs.List.{insert, remove, AllPairs}
 use Rattle.std.proofs.lemmas.List.{get_or-map, length-map}
 use Rattle.std.proofs.lemmas.Grind.{common_steps}
@@ -26,7 +26,7 @@ module _ (entries : List Entry) (h : AreEntries entries) (number place : ℕ) (n
       let below : (k : ℕ) (d : Entry) → k < place → get_or (insert entries place new) k d ≡ get_or entries k d = λ k d lt. get_or-insert_below entries place new d k lt gap.in_range in
       let here : (k : ℕ) (d : Entry) → k ≡ place → get_or (insert entries place new) k d ≡ new = λ k d at. rw at (get_or-insert_at entries place new d gap.in_range) in
       let above : (k : ℕ) (d : Entry) → place < k → get_or (insert entries place new) k d ≡ get_or entries (k - 1) d =
-          λ k d lt. subst (λ q. get_or (insert entries place new) q d ≡ get_or entries (k - 1) d) {x = k - 1 + 1} (omega arith) (get_or-insert_above entries place new d (k - 1) (omega arith) gap.in_range) in
+      λ k d lt. subst (λ q. get_or (insert entries place new) q d ≡ get_or entries (k - 1) d) {x = k - 1 + 1} (omega arith) (get_or-insert_above entries place new d (k - 1) (omega arith) gap.in_range) in
       record {
         rising = λ i j d lt within.
             grind (arith, below i d, here i d, above i d, below j d, here j d, above j d, h.rising i j d, h.rising i (j - 1) d, h.rising (i - 1) (j - 1) d, gap.before i d, gap.behind (j - 1) d);

@@ -1,5 +1,5 @@
 -- What a binary search among the entries finds.
-use Rattle.std.proofs.Common.{ℕ, ◌≤◌, ◌<◌, ◌≡◌, List, length, map, get_or, Result, Ok, Err, IfOk, IfErr, IsOk, IsSome, sym, ap, arith}
+use Rattle.std.proofs.Common.{ℕ, ◌≤◌, ◌≡◌, List, length, map, get_or, Result, Ok, Err, IfOk, IfErr, IsOk, IsSome, sym, ap, arith}
 use Rattle.std.specs.List.Sorted.{IsSearchInRange, IsBinarySearchResult, IsNonDecreasingBy}
 use Rattle.std.specs.Ordering.{nat_cmp, ordering_index}
 use Rattle.std.proofs.lemmas.Cmp.{ranked}

@@ -1,4 +1,4 @@
-use Rattle.std.proofs.Common.{arith, rules, refl}
+use Rattle.std.proofs.Common.{arith}
 use Rattle.member_slots.proofs.FoundLemmas.{found}
 use Rattle.member_slots.proofs.members.Members.append.Goals as goal
 
@@ -36,4 +36,3 @@ pub returns-clause-spent : goal.returns-clause-spent
 returns-clause-spent c =
     let entry = found _ _ _ _ _ _ c.self.view_is c.self.invariant c.deref.ensures.value c.place_of_member-place.ensures c.index_mut.ensures.value in
     rw (entry.spares c.append.new.self, entry.spare) (grind (arith, c.append.ensures.spent))
-

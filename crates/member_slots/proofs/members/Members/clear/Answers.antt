@@ -1,4 +1,4 @@
-use Rattle.std.proofs.Common.{arith, rules, refl}
+use Rattle.std.proofs.Common.{refl}
 use Rattle.member_slots.proofs.FoundLemmas.{found}
 use Rattle.member_slots.proofs.members.Members.clear.Goals as goal
 
@@ -21,4 +21,3 @@ pub returns-clause-other_spares : goal.returns-clause-other_spares
 returns-clause-other_spares c =
     let entry = found _ _ _ _ _ _ c.self.view_is c.self.invariant c.deref.ensures.value c.place_of_member-place.ensures c.index_mut.ensures.value in
     rw (entry.spare_after c.clear.new.self) (entry.spares c.clear.new.self)
-

@@ -1,4 +1,4 @@
-use Rattle.std.proofs.Common.{arith, rules, refl}
+use Rattle.std.proofs.Common.{arith}
 use Rattle.member_slots.proofs.FoundLemmas.{found}
 use Rattle.member_slots.proofs.members.Members.reserve.Goals as goal
 
@@ -36,4 +36,3 @@ pub returns-clause-other_spares : goal.returns-clause-other_spares
 returns-clause-other_spares c =
     let entry = found _ _ _ _ _ _ c.self.view_is c.self.invariant c.deref.ensures.value c.place_of_member-place.ensures c.index_mut.ensures.value in
     rw (entry.spare_after c.reserve.new.self) (entry.spares c.reserve.new.self)
-

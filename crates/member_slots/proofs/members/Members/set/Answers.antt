@@ -1,4 +1,4 @@
-use Rattle.std.proofs.Common.{arith, rules, refl}
+use Rattle.std.proofs.Common.{refl}
 use Rattle.member_slots.proofs.FoundLemmas.{found}
 use Rattle.member_slots.proofs.members.Members.set.Goals as goal
 
@@ -36,4 +36,3 @@ pub returns-clause-fits : goal.returns-clause-fits
 returns-clause-fits c =
     let entry = found _ _ _ _ _ _ c.self.view_is c.self.invariant c.deref.ensures.value c.place_of_member-place.ensures c.index_mut.ensures.value in
     rw entry.state c.set.ensures.fits
-
