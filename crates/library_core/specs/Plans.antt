@@ -1,9 +1,11 @@
 -- What a plan promises its effect: that the effect can be done.
-use Rattle.std.specs.Prelude.{◌≡◌, ℕ, ◌≤◌, false, None, length, IsSome}
+use Rattle.std.specs.Prelude.{◌≡◌, ℕ, ◌≤◌, false, Option, None, Result, Ok, Err, length, IsSome}
 use Rattle.member_slots.specs.Member.{is_full}
 use Rattle.member_slots.specs.Members.{member_at, member_of}
 use Rattle.library_model.specs.declared.plans.NewFile.{NewFile}
 use Rattle.library_model.specs.declared.plans.NewRecord.{NewRecord}
+use Rattle.library_model.specs.declared.plans.Stop.{Stop}
+use Rattle.library_model.specs.declared.plans.Stop.TheVariants.{NoMemory, Refused}
 use Rattle.library_model.specs.declared.requests.CreatePhysicalFile.{CreatePhysicalFile}
 use Rattle.library_model.specs.declared.requests.OpenFile.{OpenFile}
 use Rattle.library_model.specs.State.{State, file_named}
@@ -24,3 +26,9 @@ pub record IsNewRecord (s : State) (plan : NewRecord) : Type 0 where
   pub there : IsSome (member_at plan.member s.members)
   pub room : is_full (member_of plan.member s.members) ≡ false
   pub fits : length plan.image ≡ (member_of plan.member s.members).record_length
+
+-- the answer of looking for a source: what it describes, that it describes nothing, or want of memory
+abbrev pub Describes : Result (Option NewFile) Stop → Option NewFile → Type 0
+Describes (Ok answer) wanted = answer ≡ wanted
+Describes (Err NoMemory) wanted = Unit {0}
+Describes (Err (Refused reply)) wanted = ⊥

@@ -10,7 +10,6 @@ use library_model::plans::Stop;
 use library_model::replies::{Missing, RecordRead, Reply};
 use library_model::requests::{ChainRecord, ChainTo};
 use library_model::value_lists::Values;
-use member_slots::slot::Slot;
 
 impl Contents {
     /// Reads the record of a relative record number.

@@ -1,14 +1,18 @@
 //! What the library has in memory: the files, the members and the jobs. Each request stands in a file of its own.
-ghost use Rattle.std.specs.Prelude.{◌≡◌, ◌+◌, ◌<◌, [], ◌∷◌, ◌++◌, length, IsTrue, IfOk, OnOk, OnErr};
+ghost use Rattle.std.specs.Prelude.{◌≡◌, ◌+◌, ◌<◌, [], ◌∷◌, ◌++◌, length, IsTrue, IfOk, IfSome, OnOk, OnErr, option_map};
 ghost use Rattle.library_model.specs.State.{empty_library, job_at, new_job};
 ghost use Rattle.library_model.specs.Step.{is_running};
 ghost use Rattle.library_model.specs.EndJob.{end_job};
+ghost use Rattle.library_model.specs.ChainRecord.{record_in};
+ghost use Rattle.member_slots.specs.Member.{is_full, slot_at};
+ghost use Rattle.member_slots.specs.Members.{member_of};
 
 use crate::catalogue::Catalogue;
 use crate::jobs::Jobs;
 use field_types::names::Name;
 use library_model::replies::Reply;
 use member_slots::members::Members;
+use member_slots::slot::Slot;
 use std::alloc::{AllocError, Global};
 use std::marker::Model;
 
@@ -72,6 +76,31 @@ impl Contents {
         ensures unchanged { OnErr result (self.new ≡ self.old) }
     {
         self.jobs.begin(self.alloc, name)
+    }
+
+    /// Whether the member with that number takes no further slot.
+    pub fn is_full(&self, number: u32) -> bool
+        ensures { result ≡ is_full (member_of number self.now.members) }
+    {
+        match self.members.at(number) {
+            Some(member) => member.is_full(),
+            None => false,
+        }
+    }
+
+    /// The image of the record at a relative record number of a member.
+    pub fn live_image(&self, number: u32, rrn: u32) -> Option<&[u8]>
+        ensures image { option_map (λ image. image.now) result ≡ record_in (slot_at (member_of number self.now.members) rrn) }
+        ensures fits { IfSome result (λ image. length image.now ≡ (member_of number self.now.members).record_length) }
+    {
+        let member = self.members.at(number)?;
+        if rrn == 0 || rrn > member.slots() {
+            return None;
+        }
+        match member.slot(rrn) {
+            Slot::Live(image) => Some(image.as_bytes()),
+            Slot::Deleted => None,
+        }
     }
 
     /// ENDJOB: closes the job's opens; it has ended.

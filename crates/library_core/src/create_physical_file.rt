@@ -4,7 +4,7 @@ ghost use Rattle.library_model.specs.SourceList.{text_of};
 ghost use Rattle.library_model.specs.State.{file_named};
 ghost use Rattle.library_model.specs.Answers.{Gives, Answers};
 ghost use Rattle.library_model.specs.CreatePhysicalFile.{create_plan, created, create_of_plan, create_physical_file, described};
-ghost use Rattle.library_core.specs.Plans.{IsNewFile};
+ghost use Rattle.library_core.specs.Plans.{IsNewFile, Describes};
 
 use crate::contents::Contents;
 use library_model::plans::{NewFile, Stop};
@@ -61,7 +61,11 @@ impl Contents {
     }
 
     /// The source and its format, where there is such a source.
-    fn new_file(&self, sources: &Sources, args: &CreatePhysicalFile) -> Result<Option<NewFile>, Stop>
+    fn new_file(
+        &self,
+        sources: &Sources,
+        args: &CreatePhysicalFile,
+    ) -> Result<Option<NewFile>, Stop>
         ensures { Describes result (described (text_of sources.now args.now.source)) }
     {
         let Some(source) = sources.text(&args.source) else {

@@ -48,7 +48,7 @@ impl Contents {
             Err(PackFault::NoMemory) => return Err(Stop::NoMemory),
             Err(PackFault::Refused(fault)) => return Err(Stop::Refused(Reply::BadValue(fault))),
         };
-        if self.members.is_full(opened.member) {
+        if self.is_full(opened.member) {
             return Err(Stop::Refused(Reply::MemberFull));
         }
         Ok(NewRecord {

@@ -1,0 +1,24 @@
+-- What a change of one member leaves of the others.
+use Rattle.std.proofs.Common.{◌≡◌, ◌≢◌, ℕ, ◌+◌, ◌<◌, ◌≤◌, Bool, true, false, List, [], ◌∷◌, Option, Some, None, refl, sym, ◌∙◌, ap, arith, rules, eqb, ltb, leb}
+use Rattle.std.proofs.lemmas.Grind.{common_steps}
+use Rattle.std.proofs.lemmas.Bool.Decides.{nat_tests}
+use Rattle.member_slots.specs.Members.{Numbered, item_at, put_item, with_item}
+
+pub item_at-put_item_other : {A : Type 0} (n k : ℕ) (x : A) (xs : List (Numbered A)) → n ≢ k → item_at n (put_item k x xs) ≡ item_at n xs
+item_at-put_item_other n k x [] other = grind (arith, nat_tests)
+item_at-put_item_other n k x (entry ∷ entries) other =
+    grind (arith, nat_tests, item_at-put_item_other n k x entries other)
+
+pub item_at-put_item_same : {A : Type 0} (k : ℕ) (x : A) (xs : List (Numbered A)) → item_at k (put_item k x xs) ≡ Some x
+item_at-put_item_same k x [] = grind (arith, nat_tests)
+item_at-put_item_same k x (entry ∷ entries) = grind (arith, nat_tests, item_at-put_item_same k x entries)
+
+pub item_at-with_item_other : {A : Type 0} (n k : ℕ) (x : A) (xs : List (Numbered A)) → n ≢ k → item_at n (with_item k x xs) ≡ item_at n xs
+item_at-with_item_other n k x [] other = refl
+item_at-with_item_other n k x (entry ∷ entries) other =
+    grind (arith, nat_tests, item_at-with_item_other n k x entries other)
+
+pub item_at-with_item_same : {A : Type 0} (k : ℕ) (x y : A) (xs : List (Numbered A)) → item_at k xs ≡ Some y → item_at k (with_item k x xs) ≡ Some x
+item_at-with_item_same k x y [] there = cc
+item_at-with_item_same k x y (entry ∷ entries) there =
+    grind (arith, nat_tests, item_at-with_item_same k x y entries)
