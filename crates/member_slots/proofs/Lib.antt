@@ -3,3 +3,4 @@ pub mod MemberLemmas
 pub mod EntryLemmas
 pub mod OrderLemmas
 pub mod SearchLemmas
+pub mod ChangeLaws
