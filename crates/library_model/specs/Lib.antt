@@ -1,1 +1,12 @@
 pub mod SourceList
+pub mod State
+pub mod Refusals
+pub mod Answers
+pub mod CreatePhysicalFile
+pub mod OpenFile
+pub mod WriteRecord
+pub mod ChainRecord
+pub mod EndJob
+pub mod Built
+pub mod Step
+pub mod History

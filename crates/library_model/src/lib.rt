@@ -3,7 +3,9 @@
 #![tactic(auto)]
 
 pub mod calls;
+pub mod plans;
 pub mod replies;
 pub mod requests;
 pub mod sources;
+pub mod state;
 pub mod value_lists;

@@ -1,2 +1,5 @@
+pub mod FoundLemmas
 pub mod MemberLemmas
 pub mod EntryLemmas
+pub mod OrderLemmas
+pub mod SearchLemmas

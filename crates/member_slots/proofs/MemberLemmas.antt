@@ -1,5 +1,5 @@
 -- What stays true of a member when it changes.
-use Rattle.std.proofs.Common.{ℕ, ◌+◌, ◌≤◌, ◌≡◌, ◌*◌, not, length, arith, refl}
+use Rattle.std.proofs.Common.{◌≤◌, ◌*◌, not, length, arith, refl}
 use Rattle.std.specs.List.{filter}
 use Rattle.std.proofs.Math.Nat.{mul-le-mul_right}
 use Rattle.std.proofs.lemmas.List.Elements.{All-filter}

@@ -28,6 +28,7 @@ pub record IsPlace (entries : List Entry) (number place : ℕ) : Type 0 where
   pub in_range : place < length entries
   pub here : HoldsAt (λ entry. entry.number ≡ number) entries place
   pub before : (k : ℕ) (d : Entry) → k < place → (slice_index_or entries k d).number < number
+  pub behind : (k : ℕ) (d : Entry) → place < k → k < length entries → number < (slice_index_or entries k d).number
 
 -- the number has no entry, and its entry would go to the place
 pub record IsGap (entries : List Entry) (number place : ℕ) : Type 0 where

@@ -1,6 +1,6 @@
 -- What a member is: its record length and its list of slots, and what each change makes of it.
 -- (Database Programming, "Physical file members", "Relative record number" and "Reorganizing data in physical file members".)
-use Rattle.std.specs.Prelude.{ℕ, suc, ◌+◌, ◌-◌, ◌*◌, ◌≤◌, ◌≡◌, ◌==◌, Bool, true, false, ◌||◌, nat_lt, if◌then◌else◌, List, [], ◌∷◌, ◌++◌, length, filter, slice_get, slice_set, All, Option, Some, None}
+use Rattle.std.specs.Prelude.{ℕ, ◌+◌, ◌-◌, ◌*◌, ◌≤◌, ◌≡◌, ◌==◌, Bool, true, false, ◌||◌, nat_lt, if◌then◌else◌, List, [], ◌∷◌, ◌++◌, length, filter, slice_get, slice_set, All, Option, None}
 use Rattle.member_slots.specs.declared.slot.Slot.{Slot}
 use Rattle.member_slots.specs.declared.slot.Slot.TheVariants.{Live, Deleted}
 

@@ -1,6 +1,6 @@
 -- The members of a library by their numbers: which member a number names, and what each change makes of them.
 -- (Database Programming, "Physical file members".)
-use Rattle.std.specs.Prelude.{ℕ, ◌<◌, ◌≡◌, ◌==◌, nat_lt, if◌then◌else◌, List, [], ◌∷◌, filter, not, All, AllPairs, Option, Some, None, unwrap_or}
+use Rattle.std.specs.Prelude.{ℕ, ◌<◌, ◌==◌, nat_lt, if◌then◌else◌, List, [], ◌∷◌, filter, not, All, AllPairs, Option, Some, None, unwrap_or}
 use Rattle.member_slots.specs.Member.{MemberState, IsMember, empty_member}
 
 -- what belongs to the member with a number

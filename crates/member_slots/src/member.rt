@@ -1,5 +1,5 @@
 //! One member: its slots by relative record number. Several members by number stand in `members.rt`.
-ghost use Rattle.std.specs.Prelude.{◌≡◌, ℕ, ◌+◌, ◌≤◌, ◌<◌, length, Some, IsTrue, IsErr, IfOk, OnOk, OnErr, ◌↔◌};
+ghost use Rattle.std.specs.Prelude.{◌≡◌, ℕ, ◌+◌, ◌-◌, ◌≤◌, ◌<◌, length, Some, IsTrue, IsErr, IfOk, OnOk, OnErr, ◌↔◌};
 ghost use Rattle.member_slots.specs.Member.{FitsSlot, IsMember, empty_member, slot_at, is_full, appended, changed, cleared, reorganized};
 
 use crate::slot::Slot;
@@ -101,7 +101,7 @@ impl Member {
         ensures full { IsErr result ↔ IsTrue (is_full self.old.state) }
         ensures number { IfOk result (λ rrn. rrn ≡ length self.old.state.slots + 1) }
         ensures appended { OnOk result (self.new.state ≡ appended self.old.state image) }
-        ensures spent { OnOk result (self.new.spare + 1 ≡ self.old.spare) }
+        ensures spent { OnOk result (self.new.spare ≡ self.old.spare - 1) }
         ensures refused { OnErr result (self.new ≡ self.old) }
         ensures lawful { IsMember self.new.state }
     {

@@ -51,8 +51,10 @@ impl Members {
         ensures spare { IfSome result (λ m. m.now.spare ≡ spare_at number self.now) }
         ensures lawful { AreMembers self.now.members }
     {
-        let place = place_of(&self.entries, number).ok()?;
-        Some(&self.entries[place].member)
+        match place_of(&self.entries, number) {
+            Ok(place) => Some(&self.entries[place].member),
+            Err(_) => None,
+        }
     }
 
     /// Keeps the member under that number, in place of one that is there. A refused member is let go.
@@ -80,8 +82,10 @@ impl Members {
         ensures gone { self.new.members ≡ without_member number self.old.members }
         ensures spares { self.new.spares ≡ without_item number self.old.spares }
     {
-        let place = place_of(&self.entries, number).ok()?;
-        Some(self.entries.remove(place).member)
+        match place_of(&self.entries, number) {
+            Ok(place) => Some(self.entries.remove(place).member),
+            Err(_) => None,
+        }
     }
 
     /// Makes room in the member with that number for at least that many further slots.

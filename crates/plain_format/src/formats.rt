@@ -1,5 +1,6 @@
 //! A record format: its name and its character fields in order.
 ghost use Rattle.std.specs.Prelude.{◌≡◌, ◌<◌, ◌≤◌, [], ◌∷◌, ◌++◌, length, OnOk, OnErr, IfOk};
+ghost use Rattle.plain_format.specs.Packing.{record_length};
 
 use field_types::names::Name;
 use std::alloc::{AllocError, Global};
@@ -77,6 +78,17 @@ pub struct Format {
 }
 
 impl Format {
+    /// The bytes of a record.
+    pub fn record_length(&self) -> u32
+        ensures { result ≡ record_length self.now.fields }
+    {
+        let mut length: u32 = 0;
+        for field in self.fields.as_slice() {
+            length += u32::from(field.length);
+        }
+        length
+    }
+
     /// A copy in memory of its own.
     pub fn copied(&self, alloc: Global) -> Result<Format, AllocError>
         ensures { IfOk result (λ f. f ≡ self.now) }

@@ -92,7 +92,10 @@ fn entries(columns: &[u8; 80]) -> PlainLine
 fn field_line(columns: &[u8; 80]) -> PlainLine
     ensures { result ≡ field_line (name_alone (slice_range columns.now 18 28)) (length_of_entry (slice_range columns.now 29 34)) }
 {
-    match (name_alone(&columns[18..28]), length_of_entry(&columns[29..34])) {
+    match (
+        name_alone(&columns[18..28]),
+        length_of_entry(&columns[29..34]),
+    ) {
         (Some(name), Some(length)) => PlainLine::FieldLine(Field { name, length }),
         _ => PlainLine::OtherLine,
     }
