@@ -1,5 +1,5 @@
 -- The table by runs and the tables by place say the same, and one direction is the other turned round.
-use Rattle.std.proofs.Common.{◌≡◌, ◌+◌, ◌-◌, ℕ, zero, suc, ◌<◌, ◌≤◌, Bool, true, false, ◌&&◌, ◌==◌, nat_lt, Option, Some, None, is_none, List, [], ◌∷◌, map, length, get_or, slice_index, Fits, w8, refl, sym, ◌∙◌, ap, if◌then◌else◌, cond, inl, inr, IsTrue, not, arith}
+use Rattle.std.proofs.Common.{◌≡◌, ◌+◌, ◌-◌, ℕ, zero, suc, ◌<◌, ◌≤◌, Bool, true, false, ◌&&◌, ◌==◌, nat_lt, Option, Some, None, is_none, List, [], ◌∷◌, map, length, get_or, slice_index, Fits, w8, refl, ap, cond, inl, inr, not, arith}
 use Rattle.std.specs.List.{list_all, position_or_len}
 use Rattle.std.proofs.lemmas.Bool.{and_parts, eqb-true, ltb-true, ltb-false, le-ltb, cases_lt}
 use Rattle.std.proofs.lemmas.Bool.Decides.{nat_tests}

@@ -1,4 +1,4 @@
-use Rattle.std.proofs.Common.{◌≡◌, ◌∙◌, ◌<◌, arith}
+use Rattle.std.proofs.Common.{◌∙◌, ◌<◌, arith}
 use Rattle.ebc_text.proofs.TableLemmas.{character-at}
 use Rattle.ebc_text.proofs.to_ascii.Goals as goal
 

@@ -1,4 +1,4 @@
-use Rattle.std.proofs.Common.{◌≡◌, ◌∙◌, ◌<◌, arith}
+use Rattle.std.proofs.Common.{◌∙◌, ◌<◌, arith}
 use Rattle.ebc_text.proofs.TableLemmas.{code-at}
 use Rattle.ebc_text.proofs.to_ebcdic_byte.Goals as goal
 
