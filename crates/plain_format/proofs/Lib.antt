@@ -1,2 +1,4 @@
+pub mod DecimalLemmas
+pub mod DraftLemmas
 pub mod LineLemmas
 pub mod PackingLemmas

@@ -1,18 +1,96 @@
 -- Where a line ends, and what is behind it.
-use Rattle.std.proofs.Common.{◌≡◌, ℕ, ◌+◌, ◌<◌, ◌≤◌, Bool, true, false, cond, List, [], ◌∷◌, ◌++◌, length, take, drop, Option, Some, None, eqb, sym, refl, ap, ◌∙◌, arith, rules, add-one, not}
-use Rattle.std.specs.Prelude.{unwrap_or, nat_lt, position}
-use Rattle.std.specs.List.{position_or_len}
+use Rattle.std.proofs.Common.{◌≡◌, ℕ, ◌+◌, ◌<◌, ◌≤◌, Bool, true, false, cond, not, List, [], ◌∷◌, ◌++◌, length, take, drop, eqb, refl, ap, ◌∙◌, arith, suc, sym, length-drop, Option, Some, None, IsTrue, ◌&&◌, ◌-◌, min, replicate, ⊎_elim, subst, append-nil, map, set, get_or, length-append}
+use Rattle.std.proofs.str.Laws.{order}
+use Rattle.std.specs.Prelude.{IsSome, IfSome, ◌↔◌}
+use Rattle.std.specs.List.{position_or_len, prefix_len, take_while}
 use Rattle.std.proofs.lemmas.List.Sums.{prefix_len-le-length}
-use Rattle.std.proofs.lemmas.Grind.{common_steps}
-use Rattle.std.proofs.lemmas.Bool.Decides.{nat_tests}
-use Rattle.plain_format.specs.Lines.{lines_of, onto_first}
+use Rattle.std.proofs.lemmas.List.Folds.{length-prefix_len}
+use Rattle.std.proofs.lemmas.List.{take_all, drop_all, length-map, length-take, get_or_default, take-replicate, drop-replicate, take-append-le}
+use Rattle.std.proofs.lemmas.List.Edits.{map_over_more}
+use Rattle.std.proofs.Math.Seq.{take-length, take-append-add}
+use Rattle.std.specs.List.{list_all}
+use Rattle.field_types.specs.SystemName.{is_name}
+use Rattle.plain_format.specs.Lines.{lines_of, onto_first, is_blank, word_length, name_alone}
 
--- the first place that passes, or the end where none does
-pub position_or_end : {X : Type 0} (p : X → Bool) (xs : List X) → unwrap_or (position p xs) (length xs) ≡ position_or_len p xs
-position_or_end p xs = let within = prefix_len-le-length (λ x. not (p x)) xs in grind (arith, nat_tests)
+pub ruleset counted = (length-prefix_len, prefix_len-le-length)
+
+-- one more byte before the first line and what is behind it
+longer : (b : ℕ) (lines : List (List ℕ)) (n : ℕ) (bs : List ℕ) → lines ≡ take n bs ∷ lines_of (drop (n + 1) bs) → onto_first b lines ≡ take (1 + n) (b ∷ bs) ∷ lines_of (drop (1 + n + 1) (b ∷ bs))
+longer b lines n bs h =
+    let line_end : 1 + n ≡ suc n = omega arith in
+    let behind : 1 + n + 1 ≡ suc (n + 1) = omega arith in
+    ap (onto_first b) h ∙ rw (behind, line_end) refl
 
 -- the first line goes up to the first line feed, and the others begin behind it
 pub lines_of-cut : (text : List ℕ) → 0 < length text → lines_of text ≡ take (position_or_len (λ b. eqb b 10) text) text ∷ lines_of (drop (position_or_len (λ b. eqb b 10) text + 1) text)
 lines_of-cut [] some = absurd (omega arith)
 lines_of-cut (b ∷ []) some = elim (eqb b 10) as (λ v. cond v ([] ∷ []) ((b ∷ []) ∷ []) ≡ take (cond (not v) (1 + 0) 0) (b ∷ []) ∷ lines_of (drop (cond (not v) (1 + 0) 0 + 1) (b ∷ []))) [ true ↦ refl | false ↦ refl ]
-lines_of-cut (b ∷ c ∷ bs) some = ?
+lines_of-cut (b ∷ c ∷ bs) some =
+    let others = lines_of-cut (c ∷ bs) (omega arith) in
+    elim (eqb b 10) as (λ v. cond v ([] ∷ lines_of (c ∷ bs)) (onto_first b (lines_of (c ∷ bs))) ≡ take (cond (not v) (1 + position_or_len (λ b. eqb b 10) (c ∷ bs)) 0) (b ∷ c ∷ bs) ∷ lines_of (drop (cond (not v) (1 + position_or_len (λ b. eqb b 10) (c ∷ bs)) 0 + 1) (b ∷ c ∷ bs)))
+    [ true ↦ refl | false ↦ longer b (lines_of (c ∷ bs)) (position_or_len (λ b. eqb b 10) (c ∷ bs)) (c ∷ bs) others ]
+
+-- a name's text and the name that is read from it
+name_from : (r : Option (List ℕ)) (text : List ℕ) (valid : Bool) → (IsSome r ↔ IsTrue valid) → IfSome r (λ n. n ≡ text) → r ≡ cond valid (Some text) None
+name_from None text true valid value = absurd (let some : false ≡ true = valid.1 refl in cc)
+name_from None text false valid value = refl
+name_from (Some n) text true valid value = ap (λ x. Some x) value
+name_from (Some n) text false valid value = absurd (let some : false ≡ true = valid.0 refl in cc)
+
+-- the name in front of blanks, as it is read
+pub name_alone-from : (text : List ℕ) (n : ℕ) (r : Option (List ℕ)) → n ≡ word_length text → list_all is_blank (drop n text) ≡ true → (IsSome r ↔ IsTrue (is_name (take n text))) → IfSome r (λ name. name ≡ take n text) → r ≡ name_alone text
+name_alone-from text n r here blank valid value =
+    let P : ℕ → Type 0 = λ k. r ≡ cond (list_all is_blank (drop k text) && is_name (take k text)) (Some (take k text)) None in
+    subst P here (rw blank (name_from r (take n text) (is_name (take n text)) valid value))
+
+pub name_alone-none : (text : List ℕ) (n : ℕ) → n ≡ word_length text → list_all is_blank (drop n text) ≡ false → None ≡ name_alone text
+name_alone-none text n here blank =
+    let P : ℕ → Type 0 = λ k. None ≡ cond (list_all is_blank (drop k text) && is_name (take k text)) (Some (take k text)) None in
+    subst P here (rw blank refl)
+
+-- what is left of the text from a place on
+pub rest_of : (at : ℕ) (text : List ℕ) → take (length text - at) (drop at text) ≡ drop at text
+rest_of at text = take_all (length text - at) (drop at text) (omega (arith, length-drop at text))
+
+-- the first line, where a line feed is behind it
+pub lines_of-split : (text : List ℕ) (n : ℕ) → n ≡ position_or_len (λ b. eqb b 10) text → n < length text → (lines_of text ≡ take n text ∷ lines_of (take (length text - (n + 1)) (drop (n + 1) text))) × (length (take (length text - (n + 1)) (drop (n + 1) text)) < length text)
+lines_of-split text n here within =
+    let P : ℕ → Type 0 = λ k. lines_of text ≡ take k text ∷ lines_of (drop (k + 1) text) in
+    rw (rest_of (n + 1) text) (subst P (sym here) (lines_of-cut text (omega arith)), omega (arith, length-drop (n + 1) text))
+
+-- the last line
+pub lines_of-last : (text : List ℕ) (n : ℕ) → n ≡ position_or_len (λ b. eqb b 10) text → length text ≤ n → 0 < length text → (lines_of text ≡ text ∷ lines_of (take (length text - n) (drop n text))) × (length (take (length text - n) (drop n text)) < length text)
+lines_of-last text n here past some =
+    let P : ℕ → Type 0 = λ k. lines_of text ≡ take k text ∷ lines_of (drop (k + 1) text) in
+    let nothing : drop n text ≡ [] = drop_all n text past in
+    let all : take n text ≡ text = take_all n text past in
+    let behind : drop (n + 1) text ≡ [] = drop_all (n + 1) text (omega arith) in
+    let cut : lines_of text ≡ take n text ∷ lines_of (drop (n + 1) text) = subst P (sym here) (lines_of-cut text some) in
+    rw (rest_of n text, nothing) (cut ∙ (λ i. all i ∷ lines_of (behind i)), some)
+
+-- the characters up to a place were written over, and one more is
+pub folded_more : (f : ℕ → ℕ) (xs ys : List ℕ) (i : ℕ) → i < length xs → ys ≡ map f (take i xs) ++ drop i xs → set ys i (f (get_or ys i 0)) ≡ map f (take (i + 1) xs) ++ drop (i + 1) xs
+folded_more f xs ys i within so_far =
+    let same : length ys ≡ length xs = ap length so_far ∙ simp (length-append, length-map, length-take, length-drop) (omega arith) in
+    map_over_more f xs ys i (get_or ys i 0) within so_far (get_or_default ys i 0 (get_or ys i 0) (omega arith))
+
+pub folded_all : (f : ℕ → ℕ) (xs ys : List ℕ) (i : ℕ) → length xs ≤ i → ys ≡ map f (take i xs) ++ drop i xs → ys ≡ map f xs
+folded_all f xs ys i past so_far = so_far ∙ rw (take_all i xs past, drop_all i xs past, append-nil (map f xs)) refl
+
+-- the first 80 characters, with blanks behind a shorter line
+pub shown_columns : (line : List ℕ) (shown : ℕ) → shown ≡ min (length line) 80 → take shown line ++ drop shown (replicate 80 32) ≡ take 80 (line ++ replicate 80 32)
+shown_columns line shown e = ⊎_elim
+    (λ short.
+        let all : shown ≡ length line = omega arith in
+        let more : 80 ≡ length line + (80 - length line) = omega arith in
+        let room : 80 - length line ≤ 80 = omega arith in
+        let end : take (length line + (80 - length line)) (line ++ replicate 80 32) ≡ line ++ replicate (80 - length line) 32 = take-append-add line (replicate 80 32) (80 - length line) ∙ ap (λ blanks. line ++ blanks) (take-replicate {X = ℕ} (80 - length line) 80 32 room) in
+        subst (λ n. take n line ++ drop n (replicate 80 32) ≡ take 80 (line ++ replicate 80 32)) (sym all)
+        (rw (take-length line, drop-replicate {X = ℕ} (length line) 80 32)
+            (subst (λ n. line ++ replicate (80 - length line) 32 ≡ take n (line ++ replicate 80 32)) (sym more) (sym end))))
+    (λ long.
+        let all : shown ≡ 80 = omega arith in
+        let within : 80 ≤ length line = omega arith in
+        subst (λ n. take n line ++ drop n (replicate 80 32) ≡ take 80 (line ++ replicate 80 32)) (sym all)
+        (rw (take-append-le 80 line (replicate 80 32) within, drop-replicate {X = ℕ} 80 80 32, append-nil (take 80 line)) refl))
+    (order (length line) 80)

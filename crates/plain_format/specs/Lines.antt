@@ -29,5 +29,5 @@ word_length text = position_or_len is_blank text
 -- the system name that stands at the front, with nothing but blanks behind it
 abbrev pub name_alone : List ℕ → Option (List ℕ)
 name_alone text =
-    if is_name (take (word_length text) text) && list_all is_blank (drop (word_length text) text)
+    if list_all is_blank (drop (word_length text) text) && is_name (take (word_length text) text)
     then Some (take (word_length text) text) else None

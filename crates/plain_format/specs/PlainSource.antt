@@ -2,7 +2,7 @@
 -- (DDS for Physical and Logical Files, "Positional entries for physical and logical files".)
 use Rattle.std.specs.Prelude.{◌≡◌, ℕ, ◌+◌, ◌-◌, Bool, if◌then◌else◌, true, false, ◌==◌, ◌||◌, ◌&&◌, nat_le, Option, Some, None, Result, Ok, Err, IsTrue, ◌≤◌, List, [], ◌∷◌, ◌++◌, length, take, map, filter, replicate, slice_index, slice_range}
 use Rattle.std.specs.Option.{option_map, option_and_then}
-use Rattle.std.specs.List.{list_all, list_any, position_or_len}
+use Rattle.std.specs.List.{list_all, list_any, prefix_len}
 use Rattle.std.specs.Cmp.Lexicographic.{pointwise}
 use Rattle.std.specs.Prelude.{nat_eq, drop, not}
 use Rattle.plain_format.specs.Lines.{lines_of, is_blank, name_alone}
@@ -43,7 +43,7 @@ has_blank_margins columns =
 
 -- a length: blanks, and then a number of 1 to 256
 abbrev pub length_of_entry : List ℕ → Option ℕ
-length_of_entry entry = option_and_then (λ n. if n == 0 then None else Some n) (decimal_up_to 256 (drop (position_or_len (λ b. not (is_blank b)) entry) entry))
+length_of_entry entry = option_and_then (λ n. if n == 0 then None else Some n) (decimal_up_to 256 (drop (prefix_len is_blank entry) entry))
 
 abbrev pub record_line : Option (List ℕ) → PlainLine
 record_line None = OtherLine
@@ -67,6 +67,13 @@ line_of_columns columns = if is_skipped columns then Skipped else (if has_blank_
 
 unfoldable pub plain_line : List ℕ → PlainLine
 plain_line line = line_of_columns (columns line)
+
+-- a field has at least one byte
+abbrev pub HasWidth : PlainLine → Type 0
+HasWidth Skipped = Unit {0}
+HasWidth (RecordLine name) = Unit {0}
+HasWidth (FieldLine field) = 1 ≤ field.length
+HasWidth OtherLine = Unit {0}
 
 -- whether a line isn't skipped
 abbrev pub speaks : PlainLine → Bool

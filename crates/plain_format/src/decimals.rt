@@ -1,10 +1,11 @@
 //! Numbers spelled in decimal digits.
-ghost use Rattle.std.specs.Prelude.{◌≡◌};
+ghost use Rattle.std.specs.Prelude.{◌≡◌, ◌≤◌, IfSome};
 ghost use Rattle.plain_format.specs.Decimal.{is_digit, decimal_up_to};
 
 /// The number that the digits spell, where there is nothing but digits and it passes no limit; 0 for no digits.
 pub fn decimal(text: &[u8], limit: u32) -> Option<u32>
-    ensures { result ≡ decimal_up_to limit text.now }
+    ensures spelled { result ≡ decimal_up_to limit text.now }
+    ensures small { IfSome result (λ n. n ≤ limit) }
 {
     let mut number = 0u64;
     for &digit in text {

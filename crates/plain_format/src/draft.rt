@@ -1,7 +1,8 @@
 //! A format as far as the lines of a source have told it.
-ghost use Rattle.std.specs.Prelude.{◌≡◌, ◌≤◌, None, IfOk, OnErr, length};
+ghost use Rattle.std.specs.Prelude.{◌≡◌, ◌≤◌, None, Some, IfOk, OnErr, length};
 ghost use Rattle.plain_format.specs.PlainSource.{with_line, plain_line, finished, fits_behind, has_name_of, Adds, IsDraft};
 ghost use Rattle.plain_format.specs.Packing.{record_length};
+ghost use Rattle.plain_format.specs.declared.reading.PlainLine.TheVariants.{FieldLine};
 
 use crate::formats::{Field, Fields, Format};
 use crate::reading::{PlainLine, plain_line};
@@ -52,17 +53,10 @@ impl Draft {
                 }
                 Ok(first)
             }
-            PlainLine::FieldLine(field) => self.add_field(field),
-        }
-    }
-
-    fn add_field(&mut self, field: Field) -> Result<bool, AllocError> {
-        match &mut self.format {
-            Some(format) if fits_behind(format.fields.as_slice(), &field) => {
-                format.fields.push(field)?;
-                Ok(true)
-            }
-            _ => Ok(false),
+            PlainLine::FieldLine(field) => match &mut self.format {
+                Some(format) => add_field(format, field),
+                None => Ok(false),
+            },
         }
     }
 
@@ -73,6 +67,20 @@ impl Draft {
         self.format
             .filter(|format| !format.fields.as_slice().is_empty())
     }
+}
+
+fn add_field(format: &mut Format, field: Field) -> Result<bool, AllocError>
+    requires draft { IsDraft (Some format.old) }
+    requires width { 1 ≤ field.length }
+    ensures added { IfOk result (λ added. Adds (with_line (Some format.old) (FieldLine field)) (Some format.old) (Some format.new) added) }
+    ensures unchanged { OnErr result (format.new ≡ format.old) }
+    ensures draft { IsDraft (Some format.new) }
+{
+    if !fits_behind(format.fields.as_slice(), &field) {
+        return Ok(false);
+    }
+    format.fields.push(field)?;
+    Ok(true)
 }
 
 fn fits_behind(fields: &[Field], field: &Field) -> bool

@@ -1,7 +1,7 @@
 //! Lines of a text one after another, and the name that a line holds.
 ghost use Rattle.std.specs.Prelude.{◌≡◌, ◌<◌, ◌∷◌, [], length, MatchOption};
 ghost use Rattle.std.specs.Prelude.{◌==◌, ◌≤◌};
-ghost use Rattle.std.specs.List.{position_or_len};
+ghost use Rattle.std.specs.List.{list_all, position_or_len};
 ghost use Rattle.plain_format.specs.Lines.{is_blank, lines_of, name_alone, word_length};
 
 use field_types::names::Name;
@@ -28,14 +28,12 @@ pub fn split_line(text: &[u8]) -> Option<(&[u8], &[u8])>
     }
 }
 
-#[tactic(auto, using(crate::proofs::LineLemmas::position_or_end))]
+#[tactic(auto, using(crate::proofs::LineLemmas::counted))]
 fn line_length(text: &[u8]) -> usize
     ensures line { result ≡ position_or_len (λ b. b == 10) text.now }
     ensures within { result ≤ length text.now }
 {
-    text.iter()
-        .position(|&byte| byte == b'\n')
-        .unwrap_or(text.len())
+    text.iter().take_while(|&&byte| byte != b'\n').count()
 }
 
 /// The system name at the front of a text, where nothing but blanks is behind it.
@@ -43,20 +41,23 @@ pub fn name_alone(text: &[u8]) -> Option<Name>
     ensures { result ≡ name_alone text.now }
 {
     let length = word_length(text);
-    let blank = text[length..].iter().all(|&byte| is_blank(byte));
-    if blank {
+    if is_all_blank(&text[length..]) {
         Name::from_bytes(&text[..length])
     } else {
         None
     }
 }
 
-#[tactic(auto, using(crate::proofs::LineLemmas::position_or_end))]
+fn is_all_blank(text: &[u8]) -> bool
+    ensures { result ≡ list_all is_blank text.now }
+{
+    text.iter().all(|&byte| is_blank(byte))
+}
+
+#[tactic(auto, using(crate::proofs::LineLemmas::counted))]
 fn word_length(text: &[u8]) -> usize
     ensures word { result ≡ word_length text.now }
     ensures within { result ≤ length text.now }
 {
-    text.iter()
-        .position(|&byte| is_blank(byte))
-        .unwrap_or(text.len())
+    text.iter().take_while(|&&byte| !is_blank(byte)).count()
 }

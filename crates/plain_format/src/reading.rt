@@ -1,9 +1,9 @@
 //! Plain sources: what a line says, by the positions in it, and the format that the lines describe.
 //! The rules stand in `specs/PlainSource.antt`; `draft.rt` puts a format together line by line.
-ghost use Rattle.std.specs.Prelude.{◌≡◌, ◌≤◌, length, map, not, slice_range};
-ghost use Rattle.std.specs.List.{position_or_len};
+ghost use Rattle.std.specs.Prelude.{◌≡◌, ◌≤◌, ◌++◌, length, map, not, replicate, slice_range, take};
+ghost use Rattle.std.specs.List.{prefix_len};
 ghost use Rattle.plain_format.specs.Lines.{is_blank, name_alone};
-ghost use Rattle.plain_format.specs.PlainSource.{columns, folded, without_return, is_blank_at, is_skipped, has_blank_margins, entries, field_line, length_of_entry, plain_line, format_of, ReadsFormat};
+ghost use Rattle.plain_format.specs.PlainSource.{columns, folded, without_return, is_blank_at, is_skipped, has_blank_margins, entries, field_line, length_of_entry, plain_line, format_of, HasWidth, ReadsFormat};
 ghost use Rattle.plain_format.specs.declared.reading.FormatError.TheVariants.{NoMemory};
 
 use crate::decimals::decimal;
@@ -61,7 +61,8 @@ pub fn read_format(alloc: Global, text: &[u8]) -> Result<Format, FormatError>
 /// What a line says, by its positions. It is without its line feed.
 #[tactic(auto, unfolding(crate::specs::PlainSource::plain_line))]
 pub fn plain_line(line: &[u8]) -> PlainLine
-    ensures { result ≡ plain_line line.now }
+    ensures said { result ≡ plain_line line.now }
+    ensures width { HasWidth result }
 {
     let columns = columns(line);
     if is_skipped(&columns) {
@@ -110,15 +111,12 @@ fn length_of_entry(entry: &[u8]) -> Option<u16>
     }
 }
 
-#[tactic(auto, using(crate::proofs::LineLemmas::position_or_end))]
+#[tactic(auto, using(crate::proofs::LineLemmas::counted))]
 fn blanks_before(entry: &[u8]) -> usize
-    ensures blanks { result ≡ position_or_len (λ b. not (is_blank b)) entry.now }
+    ensures blanks { result ≡ prefix_len is_blank entry.now }
     ensures within { result ≤ length entry.now }
 {
-    entry
-        .iter()
-        .position(|&byte| !is_blank(byte))
-        .unwrap_or(entry.len())
+    entry.iter().take_while(|&&byte| is_blank(byte)).count()
 }
 
 fn is_skipped(columns: &[u8; 80]) -> bool
@@ -149,19 +147,25 @@ fn is_blank_at(columns: &[u8; 80], first: usize, last: usize) -> bool
 fn columns(line: &[u8]) -> [u8; 80]
     ensures { result ≡ columns line.now }
 {
-    let line = without_return(line);
+    let mut columns = filled(without_return(line));
+    fold(&mut columns);
+    columns
+}
+
+fn filled(line: &[u8]) -> [u8; 80]
+    ensures { result ≡ take 80 (line.now ++ replicate 80 32) }
+{
     let shown = line.len().min(80);
     let mut columns = [b' '; 80];
     columns[..shown].copy_from_slice(&line[..shown]);
-    fold(&mut columns);
     columns
 }
 
 fn fold(columns: &mut [u8; 80])
     ensures { columns.new ≡ map folded columns.old }
 {
-    for column in columns.iter_mut() {
-        *column = folded(*column);
+    for i in 0..80 {
+        columns[i] = folded(columns[i]);
     }
 }
 

@@ -1,0 +1,16 @@
+use Rattle.std.proofs.Common.{sym, ap, ◌∙◌}
+use Rattle.std.specs.List.{list_all}
+use Rattle.plain_format.specs.Lines.{is_blank}
+use Rattle.plain_format.proofs.LineLemmas.{name_alone-from, name_alone-none, rest_of}
+use Rattle.plain_format.proofs.lines.name_alone.Goals as goal
+
+pub returns-then-is_all_blank : goal.returns-then-is_all_blank
+returns-then-is_all_blank c =
+    name_alone-from c.args.text.now c.word_length-length.result c.from_bytes.result c.word_length-length.ensures.word
+    (ap (list_all is_blank) (sym (rest_of c.word_length-length.result c.args.text.now)) ∙ sym c.if-is_all_blank.ensures)
+    c.from_bytes.ensures.valid c.from_bytes.ensures.value
+
+pub returns-else-is_all_blank : goal.returns-else-is_all_blank
+returns-else-is_all_blank c =
+    name_alone-none c.args.text.now c.word_length-length.result c.word_length-length.ensures.word
+    (ap (list_all is_blank) (sym (rest_of c.word_length-length.result c.args.text.now)) ∙ sym c.if-is_all_blank.ensures)
