@@ -1,0 +1,4 @@
+pub mod Texts
+pub mod RequestText
+pub mod ReplyText
+pub mod HistoryListing

@@ -1,0 +1,7 @@
+//! The listing of a run: a line for each call with its reply. Its texts stand in `specs/`.
+#![tactic(auto)]
+
+pub mod history_listing;
+mod replies;
+mod requests;
+mod texts;
