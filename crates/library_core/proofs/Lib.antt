@@ -1,3 +1,5 @@
 pub mod MemberLemmas
 pub mod LawfulLemmas
 pub mod LengthLemmas
+pub mod StepLemmas
+pub mod ReplyLemmas

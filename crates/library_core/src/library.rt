@@ -1,8 +1,9 @@
 //! The library over a store, and the one call on it.
-ghost use Rattle.std.specs.Prelude.{◌≡◌, ◌+◌, ◌<◌, ◌∷◌, [], ◌++◌, length, IsTrue, IfOk, OnOk, OnErr, false, true};
+ghost use Rattle.std.specs.Prelude.{◌≡◌, ℕ, ◌+◌, ◌<◌, ◌∷◌, [], ◌++◌, length, IsTrue, IfOk, OnOk, OnErr, Err, false, true};
 ghost use Rattle.library_model.specs.State.{empty_library, job_at, new_job};
-ghost use Rattle.library_model.specs.Built.{is_built};
-ghost use Rattle.library_model.specs.Step.{step, MayAnswer, is_running, needs_memory};
+ghost use Rattle.library_model.specs.Answers.{Answers};
+ghost use Rattle.library_model.specs.Built.{is_built, is_built_reply};
+ghost use Rattle.library_model.specs.Step.{step, MayAnswer, is_running, needs_memory, runs_after};
 
 use crate::contents::Contents;
 use field_types::names::Name;
@@ -79,6 +80,8 @@ pub fn call<S: Store>(
     requires built { IsTrue (is_built request.now) }
     ensures answer { MayAnswer sources.now library.old.state job request.now result library.new.state }
     ensures exact { needs_memory request.now ≡ false → (library.new.state, result) ≡ step sources.now library.old.state job request.now }
+    ensures running { (other : ℕ) → is_running (job_at other library.new.state.jobs) ≡ runs_after job request.now library.old.state.jobs other }
+    ensures reply { IsTrue (is_built_reply result) }
     ensures store { library.new.store ≡ library.old.store }
 {
     library.contents.answer(job, sources, request)
@@ -86,25 +89,35 @@ pub fn call<S: Store>(
 
 impl Contents {
     /// Answers one request of a job.
-    #[tactic(auto, unfolding(library_model::specs::Step::step))]
     fn answer(&mut self, job: u32, sources: &Sources, request: &Request) -> Reply
         requires running { IsTrue (is_running (job_at job self.old.jobs)) }
         requires built { IsTrue (is_built request.now) }
         ensures answer { MayAnswer sources.now self.old job request.now result self.new }
         ensures exact { needs_memory request.now ≡ false → (self.new, result) ≡ step sources.now self.old job request.now }
+        ensures running { (other : ℕ) → is_running (job_at other self.new.jobs) ≡ runs_after job request.now self.old.jobs other }
+        ensures reply { IsTrue (is_built_reply result) }
     {
-        let answer = match request {
+        match self.perform(job, sources, request) {
+            Ok(reply) => reply,
+            Err(Stop::NoMemory) => Reply::NoMemory,
+            Err(Stop::Refused(reply)) => reply,
+        }
+    }
+
+    #[tactic(auto, unfolding(library_model::specs::Step::step))]
+    fn perform(&mut self, job: u32, sources: &Sources, request: &Request) -> Result<Reply, Stop>
+        requires running { IsTrue (is_running (job_at job self.old.jobs)) }
+        requires built { IsTrue (is_built request.now) }
+        ensures step { Answers self.old self.new result (step sources.now self.old job request.now) }
+        ensures sure { needs_memory request.now ≡ false → result ≡ Err Stop.NoMemory → ⊥ }
+    {
+        match request {
             Request::CreatePhysicalFile(args) => self.create_physical_file(sources, args),
             Request::OpenFile(args) => self.open_file(job, args),
             Request::Write(args) => self.write_record(job, args),
             Request::Chain(args) => self.chain_record(job, args),
             Request::EndJob(_) => Ok(self.end_job(job)),
             _ => Err(Stop::NoMemory),
-        };
-        match answer {
-            Ok(reply) => reply,
-            Err(Stop::NoMemory) => Reply::NoMemory,
-            Err(Stop::Refused(reply)) => reply,
         }
     }
 }

@@ -1,5 +1,5 @@
 -- One step of the library: from its state and a job's request to the state after it and the reply. It has no choice.
-use Rattle.std.specs.Prelude.{◌≡◌, ℕ, ◌⊎◌, Bool, true, false, not, List, Option, Some, None}
+use Rattle.std.specs.Prelude.{◌≡◌, ℕ, ◌⊎◌, ◌==◌, ◌&&◌, Bool, true, false, not, List, Option, Some, None}
 use Rattle.library_model.specs.declared.requests.Request.{Request}
 use Rattle.library_model.specs.declared.requests.Request.TheVariants.{CreatePhysicalFile, OpenFile, Write, Chain, EndJob}
 use Rattle.library_model.specs.declared.replies.Reply.{Reply}
@@ -36,3 +36,8 @@ needs_memory _ = true
 abbrev pub is_running : Option Job → Bool
 is_running None = false
 is_running (Some job) = not job.ended
+
+-- whether a job runs after a request of another or its own: its own ENDJOB ends it, and nothing else does
+abbrev pub runs_after : ℕ → Request → List Job → ℕ → Bool
+runs_after job (EndJob args) jobs other = not (other == job) && is_running (job_at other jobs)
+runs_after job _ jobs other = is_running (job_at other jobs)
