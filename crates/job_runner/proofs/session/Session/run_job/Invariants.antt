@@ -1,0 +1,14 @@
+use Rattle.std.proofs.Common.{◌≡◌, ◌≢◌, ℕ}
+use Rattle.job_runner.specs.Ended.{calls_of}
+use Rattle.job_runner.specs.Session.{remaining}
+use Rattle.job_runner.proofs.session.Session.run_job.Given as goal
+
+abbrev pub invariant-loop : goal.invariant-loop
+invariant-loop g l = record {
+  others : (other : ℕ) → other ≢ l.job → calls_of other l.self.calls ≡ calls_of other l.fn.self.calls;
+  scripts : l.self.scripts ≡ l.fn.self.scripts;
+  store : l.self.library.store ≡ l.fn.self.library.store;
+}
+
+abbrev pub decreases-loop : goal.decreases-loop
+decreases-loop g l = remaining l.self.scripts.scripts l.job l.self.calls

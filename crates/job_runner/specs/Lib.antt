@@ -1,0 +1,4 @@
+pub mod Asked
+pub mod Ended
+pub mod Session
+pub mod Places
