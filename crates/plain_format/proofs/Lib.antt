@@ -2,3 +2,4 @@ pub mod DecimalLemmas
 pub mod DraftLemmas
 pub mod LineLemmas
 pub mod PackingLemmas
+pub mod SourceLemmas
