@@ -4,6 +4,8 @@ use Rattle.std.specs.Cmp.Lexicographic.{pointwise}
 use Rattle.std.proofs.lemmas.Bool.{cases_Bool, cond-true, cond-false}
 use Rattle.std.proofs.lemmas.Option.{same_Some}
 use Rattle.std.proofs.lemmas.Slice.Eq.{strip_prefix_is}
+use Rattle.library_model.specs.declared.requests.Request.{Request}
+use Rattle.job_script.specs.Statements.{exactly}
 use Rattle.job_script.specs.Texts.{behind}
 
 -- what stands behind a front is what was put there
@@ -49,10 +51,18 @@ pointwise-after (p ∷ ps) b [] = refl
 pointwise-after (p ∷ ps) b (c ∷ cs) =
     elim (nat_eq c p) as (λ v. v && pointwise nat_eq cs (ps ++ b) ≡ is_behind (cond v (behind ps cs) None) b) [ true ↦ pointwise-after ps b cs | false ↦ refl ]
 
+exactly-behind : (b : List ℕ) (request : Request) (rest : Option (List ℕ)) → cond (is_behind rest b) (Some request) None ≡ option_and_then (exactly b request) rest
+exactly-behind b request None = refl
+exactly-behind b request (Some rest) = refl
+
 pub behind-twice : (a b c d text : List ℕ) → behind (a ++ b ++ c ++ d) text ≡ option_and_then (behind (c ++ d)) (behind (a ++ b) text)
 behind-twice a b c d text = rw (append_assoc (a ++ b) c d) (behind-after (a ++ b) (c ++ d) text)
 
-pub ruleset fronts = (behind-after, behind-twice, pointwise-after)
+-- a line that is a front and then a text
+pub exactly-front : (a b : List ℕ) (request : Request) (line : List ℕ) → exactly (a ++ b) request line ≡ option_and_then (exactly b request) (behind a line)
+exactly-front a b request line = ap (λ same. cond same (Some request) None) (pointwise-after a b line) ∙ exactly-behind b request (behind a line)
+
+pub ruleset fronts = (behind-after, behind-twice)
 
 -- what `strip_prefix` gives
 pub stripped : (text front : List ℕ) (r : Option (Bor (List ℕ))) → MatchOption r ((rest : List ℕ) → text ≢ front ++ rest) (λ x. text ≡ front ++ x.now) → option_copied r ≡ behind front text

@@ -1,5 +1,5 @@
 //! Character literals and the values of a VAL parameter, by `specs/Literals.antt`.
-ghost use Rattle.std.specs.Prelude.{◌≡◌, ◌<◌, ◌≤◌, ℕ, List, Option, [], length, IfOk, IfSome, option_map};
+ghost use Rattle.std.specs.Prelude.{◌≡◌, ◌<◌, ◌≤◌, ℕ, List, Option, [], ◌∷◌, length, IfOk, IfSome, option_map};
 ghost use Rattle.job_script.specs.Literals.{before, quoted, hexadecimal, hex_digit, hex_byte, literal_bytes, literal_at, value_behind, values_behind, says, LeavesLess};
 
 use crate::cards::behind;
@@ -116,10 +116,25 @@ fn next_character(text: &[u8]) -> Next<'_>
     ensures less { LeavesLess text.now result }
 {
     match text {
-        [b'\'', b'\'', rest @ ..] => byte_or_missing(to_ebcdic_byte(b'\''), rest),
-        [b'\'', rest @ ..] => Next::Closed(rest),
-        [character, rest @ ..] => byte_or_missing(to_ebcdic_byte(*character), rest),
         [] => Next::Missing,
+        [character, rest @ ..] => {
+            if *character == b'\'' {
+                second_apostrophe(rest)
+            } else {
+                byte_or_missing(to_ebcdic_byte(*character), rest)
+            }
+        }
+    }
+}
+
+/// What an apostrophe is, by the text behind it.
+fn second_apostrophe(text: &[u8]) -> Next<'_>
+    ensures read { quoted (39 ∷ text.now) ≡ says quoted result }
+    ensures less { LeavesLess (39 ∷ text.now) result }
+{
+    match text {
+        [b'\'', rest @ ..] => byte_or_missing(to_ebcdic_byte(b'\''), rest),
+        _ => Next::Closed(text),
     }
 }
 

@@ -33,36 +33,45 @@ pub fn statement(
     }
 }
 
-#[tactic(auto, using(crate::proofs::TextLemmas::fronts))]
 fn create_file(file: &Name, line: &[u8]) -> Option<Request>
     ensures { result ≡ exactly (create_line file.now) (create_request file.now) line.now }
 {
     match behind_twice(line, b"CRTPF FILE(", b") SRC(", file) {
-        Some(rest) if rest == b")".as_slice() => {
-            Some(Request::CreatePhysicalFile(CreatePhysicalFile {
+        None => None,
+        Some(rest) => {
+            let request = Request::CreatePhysicalFile(CreatePhysicalFile {
                 file: *file,
                 source: *file,
-            }))
+            });
+            when_exactly(rest, b")", request)
         }
-        _ => None,
     }
 }
 
-#[tactic(auto, using(crate::proofs::TextLemmas::fronts))]
 fn open_file(file: &Name, line: &[u8]) -> Option<Request>
     ensures { result ≡ exactly (open_line file.now) (open_request file.now) line.now }
 {
     match behind_name(line, b"OPNDBF FILE(", file) {
-        Some(rest) if rest == b") OPTION(*ALL)".as_slice() => Some(Request::OpenFile(OpenFile {
-            file: *file,
-            option: OpenOption::All,
-            member: *file,
-            open_id: *file,
-            commit: false,
-            access_path: AccessPath::File,
-        })),
-        _ => None,
+        None => None,
+        Some(rest) => {
+            let request = Request::OpenFile(OpenFile {
+                file: *file,
+                option: OpenOption::All,
+                member: *file,
+                open_id: *file,
+                commit: false,
+                access_path: AccessPath::File,
+            });
+            when_exactly(rest, b") OPTION(*ALL)", request)
+        }
     }
+}
+
+/// The request, where the line ends in exactly this text.
+fn when_exactly(rest: &[u8], end: &[u8], request: Request) -> Option<Request>
+    ensures { result ≡ exactly end.now request rest.now }
+{
+    if rest == end { Some(request) } else { None }
 }
 
 fn record_call(
