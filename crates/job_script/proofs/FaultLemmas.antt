@@ -26,7 +26,7 @@ Begins-run lines state went =
     let others = completes state (1 + length lines) in
     let all : said Start 1 (lines ++ others.0) ≡ Some others.1 = ap (λ s. option_and_then ended s) (run-behind lines others.0 state went) ∙ others.2 in
     option_and_then_some ended (run Start 1 (lines ++ others.0)) others.1 all
-    (λ final read end. (others.0, others.1, Reads-run (lines ++ others.0) final others.1 read end))
+    (λ final read end. (others.0, (others.1, Reads-run (lines ++ others.0) final others.1 read end)))
 
 -- with a line that can't be read, no lines make an input
 dead : (lines : List (List ℕ)) (state : State) (line : List ℕ) → run Start 1 lines ≡ Some state → step state (1 + length lines) line ≡ None → Begins (lines ++ line ∷ []) → ⊥
@@ -129,7 +129,7 @@ Reads-end bytes state n scripts so_far end = Reads-run (lines_of bytes) state sc
 -- an input has no line at fault
 pub IsFirstFault-input : (lines : List (List ℕ)) (n : ℕ) → IsFirstFault lines n → IsInput lines → ⊥
 IsFirstFault-input lines n fault input = ⊎_elim
-    (λ none. none (drop n lines, input.0, subst (λ l. Reads l input.0) (sym (take-append-drop n lines)) input.1))
+    (λ none. none (drop n lines, (input.0, subst (λ l. Reads l input.0) (sym (take-append-drop n lines)) input.1)))
     (λ end. end.1 input)
     fault.fault
 

@@ -94,7 +94,7 @@ reached-card s lines line None format next reached is_job is_format went = absur
 reached-card s lines line (Some job) None next reached is_job is_format went = absurd (cc)
 reached-card s lines line (Some job) (Some format) next reached is_job is_format went =
     let j : JobLines = record { file = s.file; text = s.text; fields = format.fields; job = job; script = [] } in
-    let none : length ([] {A = List ℕ}) ≤ 1000 = omega arith in
+    let none : 0 ≤ 1000 = omega arith in
     let at_job : JobReached j (lines ++ line ∷ []) = record {
       dds_card = reached.dds_card;
       source = reached.source;

@@ -4,3 +4,4 @@ pub mod Literals
 pub mod Statements
 pub mod Input
 pub mod LineByLine
+pub mod Asks

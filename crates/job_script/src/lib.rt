@@ -2,6 +2,7 @@
 //! Begin with `specs/Input.antt` and `input.rt`; what a script asks stands in `specs/Asks.antt` and `asks.rt`.
 #![tactic(auto)]
 
+pub mod asks;
 mod cards;
 pub mod input;
 mod literals;
