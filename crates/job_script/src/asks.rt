@@ -41,7 +41,7 @@ pub fn next(
     last: Option<&Reply>,
     full: bool,
 ) -> Result<Request, AllocError>
-    ensures asks { IfOk result (λ request. (replies : List Reply) → length replies ≡ state.old → last_of replies ≡ option_copied last → request ≡ asks script.now replies full) }
+    ensures asks { IfOk result (λ request. (replies : List Reply) → length replies ≡ state.old → last_of replies ≡ option_copied last.entry → request ≡ asks script.now replies full) }
     ensures counted { OnOk result (state.new ≡ min (state.old + 1) 4294967295) }
     ensures unchanged { OnErr result (state.new ≡ state.old) }
 {
@@ -57,7 +57,7 @@ fn asked(
     last: Option<&Reply>,
     full: bool,
 ) -> Result<Request, AllocError>
-    ensures { IfOk result (λ request. request ≡ asks_after script.now place (option_copied last) full) }
+    ensures { IfOk result (λ request. request ≡ asks_after script.now place (option_copied last.entry) full) }
 {
     if let Some(reply) = last {
         if is_refusal(reply) {
