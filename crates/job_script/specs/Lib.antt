@@ -4,4 +4,5 @@ pub mod Literals
 pub mod Statements
 pub mod Input
 pub mod LineByLine
+pub mod Ready
 pub mod Asks

@@ -1,6 +1,8 @@
 //! What a job asks next, by `specs/Asks.antt`.
-ghost use Rattle.std.specs.Prelude.{◌≡◌, ◌+◌, List, min, length, IfOk, OnOk, OnErr, option_copied, slice_get};
+ghost use Rattle.std.specs.Prelude.{◌≡◌, ◌+◌, List, min, length, IfOk, IsTrue, OnOk, OnErr, option_copied, slice_get};
 ghost use Rattle.library_model.specs.declared.replies.Reply.{Reply};
+ghost use Rattle.library_model.specs.Built.{is_built};
+ghost use Rattle.job_script.specs.Ready.{is_built_script};
 ghost use Rattle.job_script.specs.Asks.{is_refusal, last_of, end_job, line_of, asks_statement, asks_after, asks};
 
 use crate::scripts::{Script, Statement};
@@ -41,7 +43,9 @@ pub fn next(
     last: Option<&Reply>,
     full: bool,
 ) -> Result<Request, AllocError>
+    ensures at_place { IfOk result (λ request. request ≡ asks_after script.now state.old (option_copied last.entry) full) }
     ensures asks { IfOk result (λ request. (replies : List Reply) → length replies ≡ state.old → last_of replies ≡ option_copied last.entry → request ≡ asks script.now replies full) }
+    ensures built { IsTrue (is_built_script script.now) → IfOk result (λ request. IsTrue (is_built request)) }
     ensures counted { OnOk result (state.new ≡ min (state.old + 1) 4294967295) }
     ensures unchanged { OnErr result (state.new ≡ state.old) }
 {

@@ -1,7 +1,9 @@
 //! An input: the job scripts that its bytes spell, or the first line that is at fault.
-ghost use Rattle.std.specs.Prelude.{◌≡◌, ◌≤◌, ℕ, length, IfOk, IfErr};
+ghost use Rattle.std.specs.Prelude.{◌≡◌, ◌≤◌, ℕ, List, length, IfOk, IfErr};
 ghost use Rattle.plain_format.specs.Lines.{lines_of};
 ghost use Rattle.job_script.specs.Input.{Reads, IsInput, IsFirstFault};
+ghost use Rattle.job_script.specs.Ready.{IsReady};
+ghost use Rattle.job_script.specs.declared.scripts.Scripts.{Scripts};
 ghost use Rattle.job_script.specs.declared.input.InputError.TheVariants.{NoMemory};
 
 use crate::reader::{State, finish, step};
@@ -30,6 +32,7 @@ impl From<AllocError> for InputError {
 pub fn read_input(alloc: Global, bytes: &[u8]) -> Result<Scripts, InputError>
     requires { length bytes.now ≤ 16777216 }
     ensures read { IfOk result (λ scripts. Reads (lines_of bytes.now) scripts) }
+    ensures ready { IfOk result (λ scripts. IsReady scripts) }
     ensures fault { (line : ℕ) → result ≡ Err (InputError.Script line) → IsFirstFault (lines_of bytes.now) line }
     ensures accepted { IsInput (lines_of bytes.now) → IfErr result (λ e. e ≡ NoMemory) }
 {
@@ -48,4 +51,10 @@ pub fn read_input(alloc: Global, bytes: &[u8]) -> Result<Scripts, InputError>
         Some(scripts) => Ok(scripts),
         None => Err(InputError::Script { line: lines + 1 }),
     }
+}
+
+/// Lines say one thing at most.
+pub fn one_reading()
+    ensures { (lines : List (List ℕ)) (scripts others : Scripts) → Reads lines scripts → Reads lines others → scripts ≡ others }
+{
 }

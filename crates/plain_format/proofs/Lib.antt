@@ -3,3 +3,4 @@ pub mod DraftLemmas
 pub mod LineLemmas
 pub mod PackingLemmas
 pub mod SourceLemmas
+pub mod TextLemmas

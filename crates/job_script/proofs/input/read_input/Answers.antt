@@ -3,6 +3,7 @@ use Rattle.plain_format.specs.Lines.{lines_of}
 use Rattle.job_script.specs.Input.{IsFirstFault}
 use Rattle.job_script.specs.LineByLine.{step, ended}
 use Rattle.job_script.proofs.FaultLemmas.{ReadSoFar, ReadSoFar-more, IsFirstFault-line, IsFirstFault-end, IsFirstFault-input, Reads-end}
+use Rattle.job_script.proofs.ReadyLemmas.{IsReady-Reads}
 use Rattle.job_script.proofs.input.read_input.Goals as goal
 use Rattle.job_script.proofs.input.read_input.Goals.{In-None, In-None-finish}
 
@@ -45,3 +46,6 @@ returns-in-None-finish-clause-fault c line same =
 
 pub returns-in-None-finish-clause-accepted : goal.returns-in-None-finish-clause-accepted
 returns-in-None-finish-clause-accepted c input = absurd (IsFirstFault-input (lines_of c.args.bytes.now) (c.loop-line.lines + 1) (fault_at_end c) input)
+
+pub returns-in-Some-finish-clause-ready : goal.returns-in-Some-finish-clause-ready
+returns-in-Some-finish-clause-ready c = IsReady-Reads c.args.bytes.now c.in-Some-finish.scripts (returns-in-Some-finish-clause-read c)
