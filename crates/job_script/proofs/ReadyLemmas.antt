@@ -1,5 +1,5 @@
 -- What an input says is ready for the library.
-use Rattle.std.proofs.Common.{◌≡◌, ℕ, ◌+◌, Bool, true, false, cond, not, ◌&&◌, List, [], ◌∷◌, ◌++◌, Option, Some, None, IsTrue, eqb, refl, sym, ap, ◌∙◌, subst, arith, ⊎_elim, option_map, is_some}
+use Rattle.std.proofs.Common.{◌≡◌, ℕ, ◌+◌, Bool, true, false, cond, not, ◌&&◌, List, [], ◌∷◌, ◌++◌, Option, Some, None, IsTrue, ◌≤◌, eqb, refl, sym, ap, ◌∙◌, subst, arith, ⊎_elim, option_map, is_some}
 use Rattle.std.specs.List.{list_all}
 use Rattle.std.specs.Cmp.Lexicographic.{pointwise}
 use Rattle.std.specs.Prelude.{nat_eq, slice_get, option_and_then}
@@ -73,11 +73,12 @@ IsReady-job bytes scripts input =
     let no_feed : list_all has_no_feed input.source ≡ true = source-no_feed bytes input.dds_card input.source (input.job_card ∷ input.statements ++ end_card ∷ []) input.laid_out in
     let reads : format_of (text_of_lines input.source) ≡ Some input.format = ap source_format (lines_of-text input.source no_feed) ∙ input.describes in
     let built : is_built_script input.script ≡ true = Spells-built input.file input.format.fields 0 _ input.statements input.script input.spelled in
-    subst IsReady (sym input.says) (record { sources = ap (λ format. is_some format && true) reads; requests = ap (λ b. b && true) built })
+    let one : 1 ≤ 64 = omega arith in
+    subst IsReady (sym input.says) (record { sources = ap (λ format. is_some format && true) reads; requests = ap (λ b. b && true) built; named = refl; few = one })
 
 -- what was read of an input is ready
 pub IsReady-Reads : (bytes : List ℕ) (scripts : Scripts) → Reads (lines_of bytes) scripts → IsReady scripts
 IsReady-Reads bytes scripts reads = ⊎_elim
-    (λ empty. subst IsReady (sym empty.1) (record { sources = refl; requests = refl }))
-    (λ job. ⊎_elim (λ bare. subst IsReady (sym bare.says) (record { sources = refl; requests = refl })) (IsReady-job bytes scripts) job)
+    (λ empty. let none : 0 ≤ 64 = omega arith in subst IsReady (sym empty.1) (record { sources = refl; requests = refl; named = refl; few = none }))
+    (λ job. ⊎_elim (λ bare. let one : 1 ≤ 64 = omega arith in subst IsReady (sym bare.says) (record { sources = refl; requests = refl; named = refl; few = one })) (IsReady-job bytes scripts) job)
     reads

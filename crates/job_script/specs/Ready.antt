@@ -1,5 +1,5 @@
--- What the library asks of scripts: each source has a format, and each request is one that it answers.
-use Rattle.std.specs.Prelude.{Bool, IsTrue, List}
+-- What the library asks of scripts: each source has a format, each request is one that it answers, and each job has a name.
+use Rattle.std.specs.Prelude.{◌≡◌, ◌≤◌, Bool, IsTrue, List, length}
 use Rattle.std.specs.List.{list_all}
 use Rattle.std.specs.Option.{is_some}
 use Rattle.library_model.specs.Built.{is_built}
@@ -13,3 +13,5 @@ is_built_script script = list_all (λ statement. is_built statement.request) scr
 pub record IsReady (scripts : Scripts) : Type 0 where
   pub sources : IsTrue (list_all (λ source. is_some (format_of source.text)) scripts.sources)
   pub requests : IsTrue (list_all is_built_script scripts.scripts)
+  pub named : length scripts.names ≡ length scripts.scripts
+  pub few : length scripts.names ≤ 64

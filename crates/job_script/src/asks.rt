@@ -11,8 +11,8 @@ use library_model::requests::{EndJob, EndReason, Request};
 use std::alloc::{AllocError, Global};
 use std::marker::Model;
 
-/// How far a job has come.
-#[derive(Drop)]
+/// How far a job has come: the number of requests that it has made.
+#[derive(Clone, Copy)]
 pub struct JobState {
     made: u32,
 }
@@ -23,6 +23,8 @@ impl Model for JobState {
     ghost Value = { ℕ };
 
     ghost view = { λ s. s.made };
+
+    ghost inverse = { λ n. record { made = n } };
 }
 
 impl JobState {

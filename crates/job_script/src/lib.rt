@@ -9,3 +9,6 @@ mod literals;
 mod reader;
 pub mod scripts;
 mod statements;
+
+#[cfg(test)]
+mod tests;
