@@ -34,8 +34,8 @@ dead lines state line went stops begins =
     let others : List (List ℕ) = begins.0 in
     let all : said Start 1 ((lines ++ line ∷ []) ++ others) ≡ Some begins.1.0 = said-Reads ((lines ++ line ∷ []) ++ others) begins.1.0 begins.1.1 in
     let none : said Start 1 ((lines ++ line ∷ []) ++ others) ≡ None =
-        ap (said Start 1) (append_assoc lines (line ∷ []) others)
-        ∙ ap (λ s. option_and_then ended s) (run-behind lines (line ∷ others) state went ∙ ap (λ s. option_and_then (λ (next : State). run next (1 + length lines + 1) others) s) stops) in
+    ap (said Start 1) (append_assoc lines (line ∷ []) others)
+    ∙ ap (λ s. option_and_then ended s) (run-behind lines (line ∷ others) state went ∙ ap (λ s. option_and_then (λ (next : State). run next (1 + length lines + 1) others) s) stops) in
     let both : None ≡ Some begins.1.0 = sym none ∙ all in
     cc
 
@@ -115,11 +115,14 @@ IsFirstFault-end bytes state n so_far missing =
     record {
       counted = omega arith;
       begins = subst (λ k. Begins (take k lines)) (sym before) (Begins-run (take n lines) state so_far.read);
-      fault = inr (last, λ input.
-          let all : said Start 1 lines ≡ Some input.0 = said-Reads lines input.0 input.1 in
-          let none : said Start 1 lines ≡ None = ap (λ s. option_and_then ended s) (all_read bytes state n so_far) ∙ missing in
-          let both : None ≡ Some input.0 = sym none ∙ all in
-          cc);
+      fault = inr (
+        last,
+        λ input.
+            let all : said Start 1 lines ≡ Some input.0 = said-Reads lines input.0 input.1 in
+            let none : said Start 1 lines ≡ None = ap (λ s. option_and_then ended s) (all_read bytes state n so_far) ∙ missing in
+            let both : None ≡ Some input.0 = sym none ∙ all in
+            cc,
+      );
     }
 
 -- what was read is what the input says

@@ -28,9 +28,10 @@ pub run-append : (state : State) (number : ℕ) (lines others : List (List ℕ))
 run-append state number [] others = ap (λ n. run state n others) (sym (add-zero number))
 run-append state number (line ∷ lines) others =
     let counted : number + 1 + length lines ≡ number + suc (length lines) = omega arith in
-    elim (step state number line) as (λ s. option_and_then (λ next. run next (number + 1) (lines ++ others)) s ≡ option_and_then (λ next. run next (number + suc (length lines)) others) (option_and_then (λ next. run next (number + 1) lines) s))
-    [ None ↦ refl
-    | Some next ↦ run-append next (number + 1) lines others ∙ ap (λ n. option_and_then (λ end. run end n others) (run next (number + 1) lines)) counted ]
+    elim (step state number line) as (λ s. option_and_then (λ next. run next (number + 1) (lines ++ others)) s ≡ option_and_then (λ next. run next (number + suc (length lines)) others) (option_and_then (λ next. run next (number + 1) lines) s)) [
+      | None ↦ refl
+      | Some next ↦ run-append next (number + 1) lines others ∙ ap (λ n. option_and_then (λ end. run end n others) (run next (number + 1) lines)) counted
+    ]
 
 -- the lines of a source with its card
 pub record SourceReached (s : SourceLines) (lines : List (List ℕ)) : Type 0 where
@@ -143,7 +144,7 @@ reached-statement j lines line (Some request) next reached said went =
     let numbered : length lines + 1 ≡ length reached.source + 3 + length reached.statements = omega arith in
     let placed : length j.script ≡ 0 + length j.script = omega arith in
     let said_here : statement_of (0 + length j.script) j.file reached.format.fields line ≡ Some request =
-        subst (λ fields. statement_of (0 + length j.script) j.file fields line ≡ Some request) reached.fields (subst (λ p. statement_of p j.file j.fields line ≡ Some request) placed said) in
+    subst (λ fields. statement_of (0 + length j.script) j.file fields line ≡ Some request) reached.fields (subst (λ p. statement_of p j.file j.fields line ≡ Some request) placed said) in
     let few : length (reached.statements ++ line ∷ []) ≤ 1000 = simp length-append (omega arith) in
     let at_job : JobReached more (lines ++ line ∷ []) = record {
       dds_card = reached.dds_card;
@@ -169,7 +170,7 @@ reached-end j lines line next reached end went =
     let last : line ≡ end_card = is_end-same line end in
     let front : List (List ℕ) = reached.dds_card ∷ reached.source in
     let laid_out : lines ++ line ∷ [] ≡ front ++ (reached.job_card ∷ reached.statements ++ end_card ∷ []) =
-        ap (λ l. l ++ line ∷ []) reached.laid_out ∙ append_assoc front (reached.job_card ∷ reached.statements) (line ∷ []) ∙ ap (λ l. front ++ (reached.job_card ∷ reached.statements ++ l ∷ [])) last in
+    ap (λ l. l ++ line ∷ []) reached.laid_out ∙ append_assoc front (reached.job_card ∷ reached.statements) (line ∷ []) ∙ ap (λ l. front ++ (reached.job_card ∷ reached.statements ++ l ∷ [])) last in
     let job : IsSourceJob (lines ++ line ∷ []) (source_job j.file j.text j.job j.script) = record {
       dds_card = reached.dds_card;
       file = j.file;
@@ -213,9 +214,9 @@ reached-run [] state final lines reached went = subst (λ l. Reached final l) (s
 reached-run (line ∷ more) state final lines reached went =
     option_and_then_some (λ (next : State). run next (length lines + 1 + 1) more) (step state (length lines + 1) line) final went
     (λ next stepped others.
-        let counted : length lines + 1 + 1 ≡ length (lines ++ line ∷ []) + 1 = simp length-append (omega arith) in
-        subst (λ l. Reached final l) (append_assoc lines (line ∷ []) more)
-        (reached-run more next final (lines ++ line ∷ []) (reached-step state lines line next reached stepped) (subst (λ n. run next n more ≡ Some final) counted others)))
+    let counted : length lines + 1 + 1 ≡ length (lines ++ line ∷ []) + 1 = simp length-append (omega arith) in
+    subst (λ l. Reached final l) (append_assoc lines (line ∷ []) more)
+    (reached-run more next final (lines ++ line ∷ []) (reached-step state lines line next reached stepped) (subst (λ n. run next n more ≡ Some final) counted others)))
 
 -- what is read to its end is an input
 pub Reads-reached : (final : State) (lines : List (List ℕ)) (scripts : Scripts) → Reached final lines → ended final ≡ Some scripts → Reads lines scripts

@@ -45,14 +45,14 @@ statement_of-built place file fields line r said =
     ⊎_elim
     (λ first. exactly-built (create_line file) (create_request file) line r refl (sym (cond-true (nat_eq place 0) (exactly (create_line file) (create_request file) line) second first) ∙ said))
     (λ later.
-        let said_later : second ≡ Some r = sym (cond-false (nat_eq place 0) (exactly (create_line file) (create_request file) line) second later) ∙ said in
-        ⊎_elim
-        (λ next. exactly-built (open_line file) (open_request file) line r refl (sym (cond-true (nat_eq place 1) (exactly (open_line file) (open_request file) line) others next) ∙ said_later))
-        (λ call. either-built (written_in file fields line) (chained_in file line) r
-            (λ x. write-built file (option_and_then (values_behind [] fields) (behind (write_front file) line)) x)
-            (λ x. chain-built file (option_and_then number_before_lock (behind (chain_front file) line)) x)
-            (sym (cond-false (nat_eq place 1) (exactly (open_line file) (open_request file) line) others call) ∙ said_later))
-        (cases_Bool (nat_eq place 1)))
+    let said_later : second ≡ Some r = sym (cond-false (nat_eq place 0) (exactly (create_line file) (create_request file) line) second later) ∙ said in
+    ⊎_elim
+    (λ next. exactly-built (open_line file) (open_request file) line r refl (sym (cond-true (nat_eq place 1) (exactly (open_line file) (open_request file) line) others next) ∙ said_later))
+    (λ call. either-built (written_in file fields line) (chained_in file line) r
+    (λ x. write-built file (option_and_then (values_behind [] fields) (behind (write_front file) line)) x)
+    (λ x. chain-built file (option_and_then number_before_lock (behind (chain_front file) line)) x)
+    (sym (cond-false (nat_eq place 1) (exactly (open_line file) (open_request file) line) others call) ∙ said_later))
+    (cases_Bool (nat_eq place 1)))
     (cases_Bool (nat_eq place 0))
 
 Spells-built : (file : List ℕ) (fields : List Field) (place number : ℕ) (lines : List (List ℕ)) (script : List Statement) → Spells file fields place number lines script → is_built_script script ≡ true

@@ -38,13 +38,13 @@ said-source (line ∷ source) s draft number more no_cards went =
     let no_card : is_card line ≡ false = not-true (is_card line) parts.0 in
     option_and_then_some (λ (next : Option Format). drafted next source) (with_line s.draft (plain_line line)) draft went
     (λ next added others.
-        let after : SourceLines = record { file = s.file; text = s.text ++ (line ++ 10 ∷ []); draft = next } in
-        let stepped : step (Source s) number line ≡ Some (Source after) =
-            cond-false (is_card line) (card_step s (card_name job_word line) (finished s.draft)) (source_step s line (with_line s.draft (plain_line line))) no_card ∙ ap (source_step s line) added in
-        let counted : number + 1 + length source ≡ number + suc (length source) = omega arith in
-        said-step (Source s) (Source after) number line (source ++ more) stepped
-        ∙ said-source source after draft (number + 1) more parts.1 others
-        ∙ (λ i. said (Source (record { file = s.file; text = append_assoc s.text (line ++ 10 ∷ []) (text_of_lines source) i; draft = draft })) (counted i) more))
+    let after : SourceLines = record { file = s.file; text = s.text ++ (line ++ 10 ∷ []); draft = next } in
+    let stepped : step (Source s) number line ≡ Some (Source after) =
+    cond-false (is_card line) (card_step s (card_name job_word line) (finished s.draft)) (source_step s line (with_line s.draft (plain_line line))) no_card ∙ ap (source_step s line) added in
+    let counted : number + 1 + length source ≡ number + suc (length source) = omega arith in
+    said-step (Source s) (Source after) number line (source ++ more) stepped
+    ∙ said-source source after draft (number + 1) more parts.1 others
+    ∙ (λ i. said (Source (record { file = s.file; text = append_assoc s.text (line ++ 10 ∷ []) (text_of_lines source) i; draft = draft })) (counted i) more))
 
 -- the statements of a job
 said-statements : (statements : List (List ℕ)) (script : List Statement) (j : JobLines) (number : ℕ) (more : List (List ℕ)) → Spells j.file j.fields (length j.script) number statements script → length j.script + length statements ≤ 1000 → said (Job j) number (statements ++ more) ≡ said (Job (record j { script = j.script ++ script })) (number + length statements) more
@@ -60,10 +60,10 @@ said-statements (line ∷ statements) (statement ∷ script) j number more spell
     let numbered : Statement = record { line = number; request = statement.request } in
     let same : numbered ≡ statement = (λ i. record { line = sym spelled.0 i; request = statement.request }) in
     let stepped : step (Job j) number line ≡ Some (Job after) =
-        cond-false (is_end line) (Some (Ended (source_job j.file j.text j.job j.script))) (statement_step j number (statement_of (length j.script) j.file j.fields line)) no_end
-        ∙ ap (statement_step j number) spelled.1
-        ∙ cond-true (nat_lt (length j.script) 1000) (Some (Job (record j { script = j.script ++ numbered ∷ [] }))) None room
-        ∙ ap (λ s. Some (Job (record j { script = j.script ++ s ∷ [] }))) same in
+    cond-false (is_end line) (Some (Ended (source_job j.file j.text j.job j.script))) (statement_step j number (statement_of (length j.script) j.file j.fields line)) no_end
+    ∙ ap (statement_step j number) spelled.1
+    ∙ cond-true (nat_lt (length j.script) 1000) (Some (Job (record j { script = j.script ++ numbered ∷ [] }))) None room
+    ∙ ap (λ s. Some (Job (record j { script = j.script ++ s ∷ [] }))) same in
     let longer : length (j.script ++ statement ∷ []) ≡ length j.script + 1 = length-append j.script (statement ∷ []) in
     let others : Spells j.file j.fields (length (j.script ++ statement ∷ [])) (number + 1) statements script = subst (λ place. Spells j.file j.fields place (number + 1) statements script) (sym longer) spelled.2 in
     let fewer : length (j.script ++ statement ∷ []) + length statements ≤ 1000 = omega arith in
@@ -76,7 +76,7 @@ said-statements (line ∷ statements) (statement ∷ script) j number more spell
 said-bare : (lines : List (List ℕ)) (scripts : Scripts) → IsBareJob lines scripts → said Start 1 lines ≡ Some scripts
 said-bare lines scripts input =
     let stepped : step Start 1 input.job_card ≡ Some (Bare input.job) =
-        ap (λ file. first_step file (card_name job_word input.job_card)) (job_card-no_dds input.job_card input.job input.names_job) ∙ ap (first_step None) input.names_job in
+    ap (λ file. first_step file (card_name job_word input.job_card)) (job_card-no_dds input.job_card input.job input.names_job) ∙ ap (first_step None) input.names_job in
     ap (said Start 1) input.laid_out ∙ said-step Start (Bare input.job) 1 input.job_card (end_card ∷ []) stepped ∙ ap (λ s. Some s) (sym input.says)
 
 -- a job with its source
@@ -89,8 +89,8 @@ said-job lines scripts input =
     let at_card : SourceLines = record { file = input.file; text = text_of_lines input.source; draft = draft.0 } in
     let at_job : JobLines = record { file = input.file; text = text_of_lines input.source; fields = input.format.fields; job = input.job; script = [] } in
     let to_job : step (Source at_card) (1 + 1 + length input.source) input.job_card ≡ Some (Job at_job) =
-        cond-true (is_card input.job_card) (card_step at_card (card_name job_word input.job_card) (finished draft.0)) (source_step at_card input.job_card (with_line draft.0 (plain_line input.job_card))) (job_card-is_card input.job_card input.job input.names_job)
-        ∙ (λ i. card_step at_card (input.names_job i) (draft.2 i)) in
+    cond-true (is_card input.job_card) (card_step at_card (card_name job_word input.job_card) (finished draft.0)) (source_step at_card input.job_card (with_line draft.0 (plain_line input.job_card))) (job_card-is_card input.job_card input.job input.names_job)
+    ∙ (λ i. card_step at_card (input.names_job i) (draft.2 i)) in
     let number : ℕ = 1 + 1 + length input.source + 1 in
     let numbered : length input.source + 3 ≡ number = omega arith in
     let spelled : Spells input.file input.format.fields 0 number input.statements input.script = subst (λ n. Spells input.file input.format.fields 0 n input.statements input.script) numbered input.spelled in

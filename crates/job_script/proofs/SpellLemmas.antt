@@ -33,9 +33,10 @@ Spells-more file fields place number (l ∷ lines) (s ∷ script) line statement
 -- //END is no statement
 pub statement_of-end : (place : ℕ) (file : List ℕ) (fields : List Field) → statement_of place file fields end_card ≡ None
 statement_of-end place file fields =
-    elim (nat_eq place 0) as (λ v. cond v (exactly (create_line file) (create_request file) end_card) (cond (nat_eq place 1) (exactly (open_line file) (open_request file) end_card) (either (written_in file fields end_card) (chained_in file end_card))) ≡ None)
-    [ true ↦ refl
-    | false ↦ elim (nat_eq place 1) as (λ v. cond v (exactly (open_line file) (open_request file) end_card) (either (written_in file fields end_card) (chained_in file end_card)) ≡ None) [ true ↦ refl | false ↦ refl ] ]
+    elim (nat_eq place 0) as (λ v. cond v (exactly (create_line file) (create_request file) end_card) (cond (nat_eq place 1) (exactly (open_line file) (open_request file) end_card) (either (written_in file fields end_card) (chained_in file end_card))) ≡ None) [
+      | true ↦ refl
+      | false ↦ elim (nat_eq place 1) as (λ v. cond v (exactly (open_line file) (open_request file) end_card) (either (written_in file fields end_card) (chained_in file end_card)) ≡ None) [ true ↦ refl | false ↦ refl ]
+    ]
 
 -- a line that is //END
 pub is_end-same : (line : List ℕ) → is_end line ≡ true → line ≡ end_card

@@ -19,9 +19,9 @@ behind-is [] text rest h = same_Some text rest h
 behind-is (p ∷ ps) [] rest h = absurd (cc)
 behind-is (p ∷ ps) (b ∷ bs) rest h = ⊎_elim
     (λ same.
-        let front : b ≡ p = eqb-true b p same in
-        let others : bs ≡ ps ++ rest = behind-is ps bs rest (sym (cond-true (eqb b p) (behind ps bs) None same) ∙ h) in
-        (λ i. front i ∷ others i))
+    let front : b ≡ p = eqb-true b p same in
+    let others : bs ≡ ps ++ rest = behind-is ps bs rest (sym (cond-true (eqb b p) (behind ps bs) None same) ∙ h) in
+    (λ i. front i ∷ others i))
     (λ other. absurd (let none : None ≡ Some rest = sym (cond-false (eqb b p) (behind ps bs) None other) ∙ h in cc))
     (cases_Bool (eqb b p))
 

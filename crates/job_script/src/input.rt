@@ -56,5 +56,4 @@ pub fn read_input(alloc: Global, bytes: &[u8]) -> Result<Scripts, InputError>
 /// Lines say one thing at most.
 pub fn one_reading()
     ensures { (lines : List (List ℕ)) (scripts others : Scripts) → Reads lines scripts → Reads lines others → scripts ≡ others }
-{
-}
+{}

@@ -9,6 +9,5 @@ mod literals;
 mod reader;
 pub mod scripts;
 mod statements;
-
 #[cfg(test)]
 mod tests;

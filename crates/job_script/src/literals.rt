@@ -66,10 +66,7 @@ fn value_behind<'a>(
     }
 }
 
-fn literal_at<'a>(
-    alloc: Global,
-    text: &'a [u8],
-) -> Result<Option<(Text, &'a [u8])>, AllocError>
+fn literal_at<'a>(alloc: Global, text: &'a [u8]) -> Result<Option<(Text, &'a [u8])>, AllocError>
     ensures { IfOk result (λ read. option_map (λ r. (r.0, r.1.now)) read ≡ literal_at text.now) }
 {
     match text {

@@ -137,19 +137,10 @@ fn bare_line(alloc: Global, job: Name, line: &[u8]) -> Result<Option<State>, All
     if !is_end(line) {
         return Ok(None);
     }
-    Ok(Some(State::Ended(one_job(
-        alloc,
-        Sources::new(alloc),
-        job,
-        Script::new(alloc),
-    )?)))
+    Ok(Some(State::Ended(one_job(alloc, Sources::new(alloc), job, Script::new(alloc))?)))
 }
 
-fn source_line(
-    alloc: Global,
-    source: SourceLines,
-    line: &[u8],
-) -> Result<Option<State>, AllocError>
+fn source_line(alloc: Global, source: SourceLines, line: &[u8]) -> Result<Option<State>, AllocError>
     ensures { IfOk result (λ next. next ≡ step (State.Source source) 0 line.now) }
 {
     if is_card(line) {

@@ -9,8 +9,8 @@ use crate::cards::behind;
 use crate::literals::values;
 use field_types::names::Name;
 use library_model::requests::{
-    AccessPath, ChainRecord, ChainTo, CreatePhysicalFile, LockOption, OpenFile, OpenOption, Request,
-    WriteRecord,
+    AccessPath, ChainRecord, ChainTo, CreatePhysicalFile, LockOption, OpenFile, OpenOption,
+    Request, WriteRecord,
 };
 use plain_format::decimals::{decimal, is_digit};
 use plain_format::formats::Field;
@@ -156,12 +156,7 @@ fn digits_before(text: &[u8]) -> usize
 
 /// What stands behind these words around the file's name.
 #[tactic(auto, using(crate::proofs::TextLemmas::fronts))]
-fn behind_front<'a>(
-    line: &'a [u8],
-    before: &[u8],
-    file: &Name,
-    after: &[u8],
-) -> Option<&'a [u8]>
+fn behind_front<'a>(line: &'a [u8], before: &[u8], file: &Name, after: &[u8]) -> Option<&'a [u8]>
     ensures { option_copied result ≡ behind (before.now ++ file.now ++ after.now) line.now }
 {
     match behind_name(line, before, file) {
@@ -172,12 +167,7 @@ fn behind_front<'a>(
 
 /// What stands behind two fronts, each with the file's name behind it.
 #[tactic(auto, using(crate::proofs::TextLemmas::fronts))]
-fn behind_twice<'a>(
-    line: &'a [u8],
-    first: &[u8],
-    second: &[u8],
-    file: &Name,
-) -> Option<&'a [u8]>
+fn behind_twice<'a>(line: &'a [u8], first: &[u8], second: &[u8], file: &Name) -> Option<&'a [u8]>
     ensures { option_copied result ≡ behind (first.now ++ file.now ++ second.now ++ file.now) line.now }
 {
     match behind_name(line, first, file) {

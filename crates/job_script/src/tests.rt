@@ -2,6 +2,7 @@
 use crate::asks::{JobState, next};
 use crate::input::{InputError, read_input};
 use crate::scripts::Scripts;
+use field_types::names::Name;
 use field_types::values::Value;
 use library_model::replies::Reply;
 use library_model::requests::{ChainTo, EndReason, Request};
@@ -10,6 +11,7 @@ use std::process::Abort;
 use std::test::Fail;
 
 const RECORD: &str = "     A          R CUSTR";
+
 const FIELD: &str = "     A            NAME           5A";
 
 /// The input that is worked through in the documents.
@@ -45,7 +47,11 @@ const FAULTS: [(usize, &str, u32); 69] = [
     (2, "     A          R 1CUST", 2),
     (2, "     A          R CU TR", 2),
     (2, "     A          R CUSTR     5A", 2),
-    (2, "     A          R CUSTR                     TEXT('A')", 2),
+    (
+        2,
+        "     A          R CUSTR                     TEXT('A')",
+        2,
+    ),
     (2, "//JOB J1", 2),
     (2, "\0", 3),
     (3, "     A            NAME            A", 3),
@@ -58,8 +64,16 @@ const FAULTS: [(usize, &str, u32); 69] = [
     (3, "     A           RNAME           5A", 3),
     (3, "     A          R OTHER", 3),
     (3, "//JOB J1", 3),
-    (3, "     A            NAME           5A\n     A            name           1A", 4),
-    (3, "     A            NAME           5A\n     A            OTHER        252A", 4),
+    (
+        3,
+        "     A            NAME           5A\n     A            name           1A",
+        4,
+    ),
+    (
+        3,
+        "     A            NAME           5A\n     A            OTHER        252A",
+        4,
+    ),
     (4, "//JOB", 4),
     (4, "//JOB J1 J2", 4),
     (4, "//DDS OTHER", 4),
@@ -101,7 +115,10 @@ const FAULTS: [(usize, &str, u32); 69] = [
 /// A line of the first input, and what may stand there in its place.
 const VARIANTS: [(usize, &str); 15] = [
     (1, "//DDS \t CUST \t"),
-    (2, "01000a          r custr                                                         PAST 80"),
+    (
+        2,
+        "01000a          r custr                                                         PAST 80",
+    ),
     (2, "     A* a comment\n\n     A          R CUSTR\r\nzzzzzz"),
     (3, "                  name       00005a"),
     (3, "\t    A\t           NAME           5A\r"),
@@ -113,7 +130,10 @@ const VARIANTS: [(usize, &str); 15] = [
     (7, "WRITE OPNID(CUST) VAL(X'00fFA1b2C3')"),
     (7, "CHAIN OPNID(CUST) RRN(0) LCK(*NO)"),
     (8, "CHAIN OPNID(CUST) RRN(4294967295) LCK(*NO)"),
-    (8, "WRITE OPNID(CUST) VAL('^[]~`')\nWRITE OPNID(CUST) VAL(')')"),
+    (
+        8,
+        "WRITE OPNID(CUST) VAL('^[]~`')\nWRITE OPNID(CUST) VAL(')')",
+    ),
     (9, "//END"),
 ];
 
@@ -146,11 +166,19 @@ fn with_line(alloc: Global, place: usize, text: &str) -> Result<String, AllocErr
 fn faults_have_their_lines(rt: HostRuntime) -> Result<(), Fail> {
     for (place, text, line) in FAULTS {
         let input = with_line(rt.alloc(), place, text)?;
-        assert_eq!(rt; fault_of(rt.alloc(), input.as_str())?, line, "line {place} as {text:?}");
+        assert_eq!(rt;
+            fault_of(rt.alloc(), input.as_str())?,
+            line,
+            "line {place} as {text:?}"
+        );
     }
     for (place, text) in VARIANTS {
         let input = with_line(rt.alloc(), place, text)?;
-        assert_eq!(rt; fault_of(rt.alloc(), input.as_str())?, 0, "line {place} as {text:?}");
+        assert_eq!(rt;
+            fault_of(rt.alloc(), input.as_str())?,
+            0,
+            "line {place} as {text:?}"
+        );
     }
     Ok(())
 }
@@ -165,8 +193,16 @@ fn missing_lines_are_behind_the_last(rt: HostRuntime) -> Result<(), Fail> {
     let mut number = 1u32;
     for line in FIRST {
         input.push_str(line)?;
-        let wanted = if number == 9 { 0 } else { number.wrapping_add(1) };
-        assert_eq!(rt; fault_of(rt.alloc(), input.as_str())?, wanted, "the first {number} lines");
+        let wanted = if number == 9 {
+            0
+        } else {
+            number.wrapping_add(1)
+        };
+        assert_eq!(rt;
+            fault_of(rt.alloc(), input.as_str())?,
+            wanted,
+            "the first {number} lines"
+        );
         input.push_str("\n")?;
         number = number.wrapping_add(1);
     }
@@ -176,7 +212,13 @@ fn missing_lines_are_behind_the_last(rt: HostRuntime) -> Result<(), Fail> {
 #[test]
 fn jobs_have_a_thousand_statements(rt: HostRuntime) -> Result<(), Fail> {
     let mut input = String::new(rt.alloc());
-    for line in ["//DDS CUST", RECORD, FIELD, "//JOB J1", "CRTPF FILE(CUST) SRC(CUST)"] {
+    for line in [
+        "//DDS CUST",
+        RECORD,
+        FIELD,
+        "//JOB J1",
+        "CRTPF FILE(CUST) SRC(CUST)",
+    ] {
         input.push_str(line)?;
         input.push_str("\n")?;
     }
@@ -217,8 +259,16 @@ fn first_input_is_read(rt: HostRuntime) -> Result<(), Fail> {
         }
     }
     assert_eq!(rt; lines.as_slice(), [5, 6, 7, 8].as_slice());
-    let source = scripts.sources.text(&names[0]);
-    assert!(rt; source.is_none());
+    match Name::from_bytes(b"CUST") {
+        None => panic!(rt; "no name"),
+        Some(file) => match scripts.sources.text(&file) {
+            None => panic!(rt; "no source"),
+            Some(text) => {
+                let lines = b"     A          R CUSTR\n     A            NAME           5A\n";
+                assert_eq!(rt; text.as_bytes(), lines.as_slice());
+            }
+        },
+    }
     Ok(())
 }
 
@@ -252,7 +302,12 @@ fn jobs_ask_for_their_statements(rt: HostRuntime) -> Result<(), Fail> {
     let scripts = first_scripts(&rt, rt.alloc())?;
     for script in scripts.scripts.as_slice() {
         let mut state = JobState::new();
-        let replies = [None, Some(Reply::Done), Some(Reply::Done), Some(Reply::Added { rrn: 1 })];
+        let replies = [
+            None,
+            Some(Reply::Done),
+            Some(Reply::Done),
+            Some(Reply::Added { rrn: 1 }),
+        ];
         let wanted = [("CRTPF", 0), ("OPNDBF", 0), ("WRITE", 0), ("CHAIN", 1)];
         for (reply, asked) in replies.iter().zip(wanted) {
             let request = next(rt.alloc(), script, &mut state, reply.as_ref(), false)?;
