@@ -1,8 +1,8 @@
 -- What format the lines make that are still to come, and that a line more or less leaves it.
-use Rattle.std.proofs.Common.{◌≡◌, ℕ, ◌+◌, ◌<◌, ◌≤◌, Bool, true, false, cond, not, ◌&&◌, ◌||◌, List, [], ◌∷◌, ◌++◌, length, map, filter, Option, Some, None, sym, refl, ap, ◌∙◌, arith, append_assoc, IsTrue, zero, suc, subst, ⊎_elim, drop, append-nil, length-append}
+use Rattle.std.proofs.Common.{◌≡◌, ℕ, ◌+◌, ◌<◌, ◌≤◌, Bool, true, false, cond, not, ◌&&◌, ◌||◌, List, [], ◌∷◌, ◌++◌, length, map, filter, Option, Some, None, sym, refl, ap, ◌∙◌, arith, append_assoc, zero, suc, subst, ⊎_elim, drop, append-nil, length-append}
 use Rattle.std.specs.Prelude.{nat_le}
 use Rattle.std.specs.Option.{option_map, option_and_then}
-use Rattle.std.specs.List.{list_any, sum_by, prefix_len}
+use Rattle.std.specs.List.{list_any, prefix_len}
 use Rattle.std.specs.Prelude.{slice_index, slice_range}
 use Rattle.std.proofs.lemmas.Bool.{leb-true, leb-false, le-leb, lt-leb, ne_eqb, cases_Bool, and_parts, and_left, and_right, not-true}
 use Rattle.std.proofs.lemmas.Option.{cond_some}
@@ -17,7 +17,7 @@ use Rattle.plain_format.specs.declared.formats.Format.{Format}
 use Rattle.plain_format.specs.declared.reading.PlainLine.{PlainLine}
 use Rattle.plain_format.specs.declared.reading.PlainLine.TheVariants.{Skipped, RecordLine, FieldLine, OtherLine}
 use Rattle.plain_format.specs.Packing.{record_length}
-use Rattle.plain_format.specs.PlainSource.{speaks, plain_line, columns, is_skipped, has_blank_margins, is_blank_at, entries, length_of_entry, fields_of, has_name_of, names_differ, is_record, format_with, format_of_said, source_format, fits_behind, with_line, finished, HasWidth, record_line, field_line, Adds, IsDraft}
+use Rattle.plain_format.specs.PlainSource.{speaks, plain_line, columns, is_skipped, has_blank_margins, is_blank_at, entries, length_of_entry, fields_of, has_name_of, names_differ, is_record, format_with, format_of_said, fits_behind, with_line, finished, HasWidth, record_line, field_line, Adds, IsDraft}
 
 -- the format of these lines behind the format so far
 abbrev pub completed_by : Option Format → List PlainLine → Option Format
@@ -145,13 +145,13 @@ is_record-ends : (fields others : List Field) (field : Field) → fits_behind fi
 is_record-ends fields others field ended =
     is_record-none (fields ++ field ∷ others)
     (⊎_elim
-        (λ again. and_left (names_differ (fields ++ field ∷ others)) (nat_le (record_length (fields ++ field ∷ others)) 256) (names_differ-twice fields others field again))
-        (λ new. and_right (names_differ (fields ++ field ∷ others)) (nat_le (record_length (fields ++ field ∷ others)) 256)
-            (let long : nat_le (record_length fields + field.length) 256 ≡ false = subst (λ b. not b && nat_le (record_length fields + field.length) 256 ≡ false) new ended in
-            let past : 256 < record_length fields + field.length = leb-false (record_length fields + field.length) 256 long in
-            let sum = record_length-more fields others field in
-            lt-leb (record_length (fields ++ field ∷ others)) 256 (omega arith)))
-        (cases_Bool (has_name_of field fields)))
+    (λ again. and_left (names_differ (fields ++ field ∷ others)) (nat_le (record_length (fields ++ field ∷ others)) 256) (names_differ-twice fields others field again))
+    (λ new. and_right (names_differ (fields ++ field ∷ others)) (nat_le (record_length (fields ++ field ∷ others)) 256)
+    (let long : nat_le (record_length fields + field.length) 256 ≡ false = subst (λ b. not b && nat_le (record_length fields + field.length) 256 ≡ false) new ended in
+    let past : 256 < record_length fields + field.length = leb-false (record_length fields + field.length) 256 long in
+    let sum = record_length-more fields others field in
+    lt-leb (record_length (fields ++ field ∷ others)) 256 (omega arith)))
+    (cases_Bool (has_name_of field fields)))
 
 completed_by-full : (name : List ℕ) (fields : List Field) (field : Field) (rest : Option (List Field)) → fits_behind fields field ≡ false → option_and_then (λ others. format_with name (fields ++ others)) (option_map (λ others. field ∷ others) rest) ≡ None
 completed_by-full name fields field None ended = refl

@@ -2,7 +2,7 @@
 use Rattle.std.proofs.Common.{◌≡◌, ℕ, ◌+◌, ◌<◌, ◌≤◌, Bool, true, false, cond, not, List, [], ◌∷◌, ◌++◌, length, take, drop, eqb, refl, ap, ◌∙◌, arith, suc, sym, length-drop, Option, Some, None, IsTrue, ◌&&◌, ◌-◌, min, replicate, ⊎_elim, subst, append-nil, map, set, get_or, length-append}
 use Rattle.std.proofs.str.Laws.{order}
 use Rattle.std.specs.Prelude.{IsSome, IfSome, ◌↔◌}
-use Rattle.std.specs.List.{position_or_len, prefix_len, take_while}
+use Rattle.std.specs.List.{position_or_len}
 use Rattle.std.proofs.lemmas.List.Sums.{prefix_len-le-length}
 use Rattle.std.proofs.lemmas.List.Folds.{length-prefix_len}
 use Rattle.std.proofs.lemmas.List.{take_all, drop_all, length-map, length-take, get_or_default, take-replicate, drop-replicate, take-append-le}
@@ -81,16 +81,16 @@ folded_all f xs ys i past so_far = so_far ∙ rw (take_all i xs past, drop_all i
 pub shown_columns : (line : List ℕ) (shown : ℕ) → shown ≡ min (length line) 80 → take shown line ++ drop shown (replicate 80 32) ≡ take 80 (line ++ replicate 80 32)
 shown_columns line shown e = ⊎_elim
     (λ short.
-        let all : shown ≡ length line = omega arith in
-        let more : 80 ≡ length line + (80 - length line) = omega arith in
-        let room : 80 - length line ≤ 80 = omega arith in
-        let end : take (length line + (80 - length line)) (line ++ replicate 80 32) ≡ line ++ replicate (80 - length line) 32 = take-append-add line (replicate 80 32) (80 - length line) ∙ ap (λ blanks. line ++ blanks) (take-replicate {X = ℕ} (80 - length line) 80 32 room) in
-        subst (λ n. take n line ++ drop n (replicate 80 32) ≡ take 80 (line ++ replicate 80 32)) (sym all)
-        (rw (take-length line, drop-replicate {X = ℕ} (length line) 80 32)
-            (subst (λ n. line ++ replicate (80 - length line) 32 ≡ take n (line ++ replicate 80 32)) (sym more) (sym end))))
+    let all : shown ≡ length line = omega arith in
+    let more : 80 ≡ length line + (80 - length line) = omega arith in
+    let room : 80 - length line ≤ 80 = omega arith in
+    let end : take (length line + (80 - length line)) (line ++ replicate 80 32) ≡ line ++ replicate (80 - length line) 32 = take-append-add line (replicate 80 32) (80 - length line) ∙ ap (λ blanks. line ++ blanks) (take-replicate {X = ℕ} (80 - length line) 80 32 room) in
+    subst (λ n. take n line ++ drop n (replicate 80 32) ≡ take 80 (line ++ replicate 80 32)) (sym all)
+    (rw (take-length line, drop-replicate {X = ℕ} (length line) 80 32)
+    (subst (λ n. line ++ replicate (80 - length line) 32 ≡ take n (line ++ replicate 80 32)) (sym more) (sym end))))
     (λ long.
-        let all : shown ≡ 80 = omega arith in
-        let within : 80 ≤ length line = omega arith in
-        subst (λ n. take n line ++ drop n (replicate 80 32) ≡ take 80 (line ++ replicate 80 32)) (sym all)
-        (rw (take-append-le 80 line (replicate 80 32) within, drop-replicate {X = ℕ} 80 80 32, append-nil (take 80 line)) refl))
+    let all : shown ≡ 80 = omega arith in
+    let within : 80 ≤ length line = omega arith in
+    subst (λ n. take n line ++ drop n (replicate 80 32) ≡ take 80 (line ++ replicate 80 32)) (sym all)
+    (rw (take-append-le 80 line (replicate 80 32) within, drop-replicate {X = ℕ} 80 80 32, append-nil (take 80 line)) refl))
     (order (length line) 80)

@@ -1,10 +1,7 @@
 -- How the bytes of the first fields stand before those of the others.
-use Rattle.std.proofs.Common.{◌≡◌, ℕ, ◌+◌, List, [], ◌∷◌, ◌++◌, length, drop, get_or, Result, Ok, Err, Option, refl, sym, ap, arith, append_assoc, drop-cons, add-one}
-use Rattle.field_types.specs.declared.values.Value.{Value}
-use Rattle.field_types.specs.declared.faults.ValueFault.{ValueFault}
+use Rattle.std.proofs.Common.{◌≡◌, ℕ, List, ◌++◌, Result, Ok, Err, refl, sym, ap, append_assoc}
 use Rattle.field_types.specs.declared.faults.RecordFault.{RecordFault}
-use Rattle.plain_format.specs.declared.formats.Field.{Field}
-use Rattle.plain_format.specs.Packing.{joined, fields_bytes, field_bytes}
+use Rattle.plain_format.specs.Packing.{joined}
 
 -- bytes before those of an answer
 abbrev pub behind : List ℕ → Result (List ℕ) RecordFault → Result (List ℕ) RecordFault

@@ -1,6 +1,6 @@
 -- The lines of a text, and the words in a line.
 -- (Our own; DDS for Physical and Logical Files has sources as records of a source file.)
-use Rattle.std.specs.Prelude.{ℕ, Bool, if◌then◌else◌, ◌==◌, ◌||◌, ◌&&◌, Option, Some, None, List, [], ◌∷◌, ◌++◌, length, take, drop}
+use Rattle.std.specs.Prelude.{ℕ, Bool, if◌then◌else◌, ◌==◌, ◌||◌, ◌&&◌, Option, Some, None, List, [], ◌∷◌, ◌++◌, take, drop}
 use Rattle.std.specs.List.{list_all, flat_map, position_or_len}
 use Rattle.field_types.specs.SystemName.{is_name}
 

@@ -1,6 +1,6 @@
 -- Which image stands for a list of values, and which values an image shows, in a format of character fields.
 -- (DDS for Physical and Logical Files, data types; Database Programming, record formats.)
-use Rattle.std.specs.Prelude.{◌≡◌, ℕ, ◌+◌, ◌-◌, Bool, if◌then◌else◌, nat_le, nat_eq, Option, Some, None, Result, Ok, Err, List, [], ◌∷◌, ◌++◌, length, take, drop, replicate}
+use Rattle.std.specs.Prelude.{◌≡◌, ℕ, ◌+◌, ◌-◌, if◌then◌else◌, nat_le, nat_eq, Option, Some, None, Result, Ok, Err, List, [], ◌∷◌, ◌++◌, length, take, drop, replicate}
 use Rattle.std.specs.List.{sum_by}
 use Rattle.field_types.specs.declared.values.Value.{Value}
 use Rattle.field_types.specs.declared.values.Value.TheVariants.{Chars, Number}

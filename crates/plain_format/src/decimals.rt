@@ -20,7 +20,8 @@ pub fn decimal(text: &[u8], limit: u32) -> Option<u32>
     Some(number as u32)
 }
 
-fn is_digit(byte: u8) -> bool
+/// Whether a byte is 0 to 9 in ASCII.
+pub fn is_digit(byte: u8) -> bool
     ensures { result ≡ is_digit byte }
 {
     matches!(byte, b'0'..=b'9')

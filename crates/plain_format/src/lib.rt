@@ -7,3 +7,5 @@ pub mod formats;
 pub mod lines;
 pub mod packing;
 pub mod reading;
+#[cfg(test)]
+mod tests;

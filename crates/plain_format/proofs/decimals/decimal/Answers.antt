@@ -1,4 +1,4 @@
-use Rattle.std.proofs.Common.{◌≡◌, ◌<◌, ◌+◌, ◌*◌, ◌-◌, length, get_or, sym, ◌∙◌, arith}
+use Rattle.std.proofs.Common.{◌<◌, ◌+◌, ◌*◌, ◌-◌, get_or, sym, ◌∙◌, arith}
 use Rattle.plain_format.proofs.DecimalLemmas.{digits_from-ends}
 use Rattle.plain_format.proofs.decimals.decimal.Goals as goal
 

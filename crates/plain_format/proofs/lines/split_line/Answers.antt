@@ -1,4 +1,4 @@
-use Rattle.std.proofs.Common.{◌<◌, length, sym, arith, false-eqb}
+use Rattle.std.proofs.Common.{◌<◌, length, arith, false-eqb}
 use Rattle.plain_format.proofs.LineLemmas.{lines_of-split, lines_of-last}
 use Rattle.plain_format.proofs.lines.split_line.Goals as goal
 

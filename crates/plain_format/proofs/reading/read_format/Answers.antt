@@ -1,6 +1,6 @@
 use Rattle.plain_format.specs.Lines.{lines_of}
 use Rattle.plain_format.specs.PlainSource.{format_of}
-use Rattle.plain_format.proofs.DraftLemmas.{read-ends, read-more}
+use Rattle.plain_format.proofs.DraftLemmas.{read-ends}
 use Rattle.plain_format.proofs.reading.read_format.Goals as goal
 
 pub returns-then-not-branch : goal.returns-then-not-branch

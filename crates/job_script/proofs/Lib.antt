@@ -1,0 +1,9 @@
+pub mod AsksLemmas
+pub mod CompletionLemmas
+pub mod FaultLemmas
+pub mod LiteralLemmas
+pub mod ReachLemmas
+pub mod ReadyLemmas
+pub mod RunLemmas
+pub mod SpellLemmas
+pub mod TextLemmas
