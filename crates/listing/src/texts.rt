@@ -43,6 +43,7 @@ pub fn push_number_parameter(
 }
 
 /// Appends values with a blank between each two.
+#[tactic(auto, unfolding(crate::specs::Texts::values_text))]
 pub fn push_values(out: &mut Vec<u8>, values: &[Value]) -> Result<(), AllocError>
     ensures { OnOk result (out.new.items ≡ out.old.items ++ values_text values.now) }
 {
@@ -58,6 +59,7 @@ pub fn push_values(out: &mut Vec<u8>, values: &[Value]) -> Result<(), AllocError
 }
 
 /// Appends values that may be left out, with a blank between each two.
+#[tactic(auto, unfolding(crate::specs::Texts::given_values_text))]
 pub fn push_given_values(out: &mut Vec<u8>, values: &[Option<Value>]) -> Result<(), AllocError>
     ensures { OnOk result (out.new.items ≡ out.old.items ++ given_values_text values.now) }
 {
@@ -169,10 +171,7 @@ fn padded_digits(alloc: Global, scale: usize, magnitude: u128) -> Result<Vec<u8>
     ensures enough { IfOk result (λ digits. scale < length digits.items) }
 {
     let shown = magnitude.to_string(alloc)?;
-    let mut digits = Vec::new(alloc);
-    for _ in shown.len()..scale + 1 {
-        digits.push(b'0')?;
-    }
+    let mut digits = vec![in alloc; b'0'; (scale + 1).saturating_sub(shown.len())]?;
     digits.extend_from_slice(shown.as_bytes())?;
     Ok(digits)
 }
