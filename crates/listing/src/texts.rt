@@ -2,24 +2,11 @@
 ghost use Rattle.std.specs.Prelude.{◌≡◌, ◌+◌, ◌<◌, ◌++◌, length, OnOk, IfOk};
 ghost use Rattle.std.specs.List.{list_all, flat_map};
 ghost use Rattle.std.specs.Fmt.{decimal};
-ghost use Rattle.listing.specs.Texts.{parameter, number_parameter, has_character, quoted_character, hex_digit, hex_pair, text_literal, number_literal, padded_digits, pointed, value_text, given_text, values_text, given_values_text};
+ghost use Rattle.listing.specs.Texts.{has_character, quoted_character, hex_digit, hex_pair, text_literal, number_literal, padded_digits, pointed, value_text, given_text, values_text, given_values_text};
 
 use ebc_text::to_ascii;
 use field_types::values::{Dec, Value};
 use std::alloc::{AllocError, Global};
-
-/// Appends a parameter: a blank, its keyword, and its value in parentheses.
-#[tactic(auto, unfolding(crate::specs::Texts::parameter))]
-pub fn push_parameter(out: &mut Vec<u8>, keyword: &[u8], value: &[u8]) -> Result<(), AllocError>
-    ensures { OnOk result (out.new.items ≡ out.old.items ++ parameter keyword.now value.now) }
-{
-    out.push(b' ')?;
-    out.extend_from_slice(keyword)?;
-    out.push(b'(')?;
-    out.extend_from_slice(value)?;
-    out.push(b')')?;
-    Ok(())
-}
 
 /// Appends a number in digits.
 pub fn push_number(out: &mut Vec<u8>, number: u64) -> Result<(), AllocError>
@@ -28,18 +15,6 @@ pub fn push_number(out: &mut Vec<u8>, number: u64) -> Result<(), AllocError>
     let digits = number.to_string(*out.allocator())?;
     out.extend_from_slice(digits.as_bytes())?;
     Ok(())
-}
-
-/// Appends a parameter whose value is a number.
-pub fn push_number_parameter(
-    out: &mut Vec<u8>,
-    keyword: &[u8],
-    number: u64,
-) -> Result<(), AllocError>
-    ensures { OnOk result (out.new.items ≡ out.old.items ++ number_parameter keyword.now number) }
-{
-    let digits = number.to_string(*out.allocator())?;
-    push_parameter(out, keyword, digits.as_bytes())
 }
 
 /// Appends values with a blank between each two.
