@@ -2,7 +2,7 @@
 ghost use Rattle.std.specs.Prelude.{◌≡◌, ◌++◌, OnOk, IfOk, IsTrue};
 ghost use Rattle.std.specs.List.{All};
 ghost use Rattle.library_model.specs.Built.{is_built_reply};
-ghost use Rattle.listing.specs.HistoryListing.{call_line, listing};
+ghost use Rattle.listing.specs.HistoryListing.{call_line, exchange, listing};
 
 use crate::replies::{job_name, push_reply};
 use crate::requests::push_request;
@@ -39,6 +39,14 @@ fn push_line(out: &mut Vec<u8>, names: &[Name], number: u64, call: &Call) -> Res
     out.push(b' ')?;
     push_number(out, call.moment)?;
     out.push(b' ')?;
+    push_exchange(out, names, call)
+}
+
+#[tactic(auto, unfolding(crate::specs::HistoryListing::exchange))]
+fn push_exchange(out: &mut Vec<u8>, names: &[Name], call: &Call) -> Result<(), AllocError>
+    requires { IsTrue (is_built_reply call.now.reply) }
+    ensures { OnOk result (out.new.items ≡ out.old.items ++ exchange names.now call.now) }
+{
     push_request(out, &call.request)?;
     out.extend_from_slice(b" => ")?;
     push_reply(out, names, &call.reply)?;
