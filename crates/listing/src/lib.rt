@@ -5,4 +5,6 @@ pub mod history_listing;
 mod parameters;
 mod replies;
 mod requests;
+#[cfg(test)]
+mod tests;
 mod texts;
