@@ -1,5 +1,5 @@
 -- How a reply is printed: OK and what was done, or the refusal's name and what it carries. (Our own.)
-use Rattle.std.specs.Prelude.{ℕ, ◌-◌, Option, Some, None, List, [], ◌∷◌, ◌++◌, slice_get, codes}
+use Rattle.std.specs.Prelude.{ℕ, ◌-◌, List, [], ◌∷◌, ◌++◌, slice_get, codes}
 use Rattle.std.specs.Option.{unwrap_or}
 use Rattle.std.specs.Fmt.{decimal}
 use Rattle.dds_source.specs.declared.faults.DdsCause.{DdsCause}

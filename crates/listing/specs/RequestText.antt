@@ -1,5 +1,5 @@
 -- How a request is printed: the command and its parameters, every default filled in. (CL commands; OPNDBF to UNLOCK are our own.)
-use Rattle.std.specs.Prelude.{ℕ, Bool, true, false, Option, Some, None, List, [], ◌∷◌, ◌++◌, codes}
+use Rattle.std.specs.Prelude.{ℕ, Bool, true, false, Option, Some, None, List, [], ◌++◌, codes}
 use Rattle.std.specs.Fmt.{decimal}
 use Rattle.commit_level.specs.declared.Level.{Level}
 use Rattle.commit_level.specs.declared.Level.TheVariants.{Chg, Cs, All as AllRecords}

@@ -2,6 +2,9 @@
 #![tactic(auto)]
 
 pub mod history_listing;
+mod parameters;
 mod replies;
 mod requests;
+#[cfg(test)]
+mod tests;
 mod texts;

@@ -3,7 +3,9 @@ ghost use Rattle.std.specs.Prelude.{◌≡◌, ◌++◌, codes, OnOk};
 ghost use Rattle.listing.specs.Texts.{parameter, number_parameter, values_text, given_values_text};
 ghost use Rattle.listing.specs.RequestText.{level_text, images_text, end_text, option_text, yes_or_no, path_text, lock_text, reason_text, limit_parameter, chain_parameter, format_text, place_text, member_parameters, range_parameters, open_parameters, position_parameters, read_parameters, equal_parameters, write_parameters, command, parameters, request_text};
 
-use crate::texts::{push_given_values, push_number_parameter, push_parameter, push_values};
+use crate::parameters::{
+    push_given_parameter, push_name, push_number_parameter, push_parameter, push_values_parameter,
+};
 use commit_level::Level;
 use entry_codec::Images;
 use field_types::names::Name;
@@ -12,7 +14,6 @@ use library_model::requests::{
     LockOption, OpenFile, OpenOption, RangeEnd, ReadEqual, ReadRecord, Request, SetPosition,
     UpdateRecord, WriteRecord,
 };
-use library_model::value_lists::{GivenValues, Values};
 use std::alloc::AllocError;
 
 /// Appends a request: the command and its parameters.
@@ -67,33 +68,15 @@ fn push_parameters(out: &mut Vec<u8>, request: &Request) -> Result<(), AllocErro
     ensures { OnOk result (out.new.items ≡ out.old.items ++ parameters request.now) }
 {
     match request {
-        Request::CreatePhysicalFile(args) => push_names(
-            out,
-            b"FILE",
-            &args.file,
-            b"SRC",
-            &args.source,
-        ),
-        Request::CreateLogicalFile(args) => push_names(
-            out,
-            b"FILE",
-            &args.file,
-            b"SRC",
-            &args.source,
-        ),
+        Request::CreatePhysicalFile(args) => push_file_source(out, &args.file, &args.source),
+        Request::CreateLogicalFile(args) => push_file_source(out, &args.file, &args.source),
         Request::DeleteFile(args) => push_name(out, b"FILE", &args.file),
         Request::AddMember(args)
         | Request::ClearMember(args)
         | Request::ReorganizeMember(args)
-        | Request::EndJournaling(args) => push_names(
-            out,
-            b"FILE",
-            &args.file,
-            b"MBR",
-            &args.member,
-        ),
+        | Request::EndJournaling(args) => push_file_member(out, &args.file, &args.member),
         Request::StartJournaling(args) => {
-            push_names(out, b"FILE", &args.file, b"MBR", &args.member)?;
+            push_file_member(out, &args.file, &args.member)?;
             push_parameter(out, b"IMAGES", images_text(args.images))
         }
         Request::ChangeJournal
@@ -122,29 +105,24 @@ fn push_parameters(out: &mut Vec<u8>, request: &Request) -> Result<(), AllocErro
     }
 }
 
-fn push_name(out: &mut Vec<u8>, keyword: &[u8], name: &Name) -> Result<(), AllocError>
-    ensures { OnOk result (out.new.items ≡ out.old.items ++ parameter keyword.now name.now) }
+fn push_file_source(out: &mut Vec<u8>, file: &Name, source: &Name) -> Result<(), AllocError>
+    ensures { OnOk result (out.new.items ≡ out.old.items ++ (parameter (codes "FILE") file.now ++ parameter (codes "SRC") source.now)) }
 {
-    push_parameter(out, keyword, name.as_bytes())
+    push_name(out, b"FILE", file)?;
+    push_name(out, b"SRC", source)
 }
 
-fn push_names(
-    out: &mut Vec<u8>,
-    keyword: &[u8],
-    name: &Name,
-    other: &[u8],
-    second: &Name,
-) -> Result<(), AllocError>
-    ensures { OnOk result (out.new.items ≡ out.old.items ++ (parameter keyword.now name.now ++ parameter other.now second.now)) }
+fn push_file_member(out: &mut Vec<u8>, file: &Name, member: &Name) -> Result<(), AllocError>
+    ensures { OnOk result (out.new.items ≡ out.old.items ++ (parameter (codes "FILE") file.now ++ parameter (codes "MBR") member.now)) }
 {
-    push_name(out, keyword, name)?;
-    push_name(out, other, second)
+    push_name(out, b"FILE", file)?;
+    push_name(out, b"MBR", member)
 }
 
 fn push_range(out: &mut Vec<u8>, args: &JournaledChanges) -> Result<(), AllocError>
     ensures { OnOk result (out.new.items ≡ out.old.items ++ range_parameters args.now) }
 {
-    push_names(out, b"FILE", &args.file, b"MBR", &args.member)?;
+    push_file_member(out, &args.file, &args.member)?;
     push_end(out, b"FROMENT", args.from)?;
     push_end(out, b"TOENT", args.to)
 }
@@ -164,7 +142,8 @@ fn push_open(out: &mut Vec<u8>, args: &OpenFile) -> Result<(), AllocError>
 {
     push_name(out, b"FILE", &args.file)?;
     push_parameter(out, b"OPTION", option_text(args.option))?;
-    push_names(out, b"MBR", &args.member, b"OPNID", &args.open_id)?;
+    push_name(out, b"MBR", &args.member)?;
+    push_name(out, b"OPNID", &args.open_id)?;
     push_parameter(out, b"COMMIT", yes_or_no(args.commit))?;
     push_parameter(out, b"ACCPTH", path_text(args.access_path))
 }
@@ -174,7 +153,7 @@ fn push_position(out: &mut Vec<u8>, args: &SetPosition) -> Result<(), AllocError
 {
     push_name(out, b"OPNID", &args.open_id)?;
     match &args.to {
-        Limit::Key(values) => push_key(out, values),
+        Limit::Key(values) => push_values_parameter(out, b"KEY", values),
         Limit::LowValue => push_parameter(out, b"KEY", b"*LOVAL"),
         Limit::HighValue => push_parameter(out, b"KEY", b"*HIVAL"),
         Limit::RecordNumber(rrn) => push_number_parameter(out, b"RRN", u64::from(*rrn)),
@@ -192,7 +171,7 @@ fn push_read_equal(out: &mut Vec<u8>, args: &ReadEqual) -> Result<(), AllocError
     ensures { OnOk result (out.new.items ≡ out.old.items ++ equal_parameters args.now) }
 {
     push_name(out, b"OPNID", &args.open_id)?;
-    push_key(out, &args.key)?;
+    push_values_parameter(out, b"KEY", &args.key)?;
     push_parameter(out, b"LCK", lock_text(args.lock))
 }
 
@@ -208,7 +187,7 @@ fn push_chain_to(out: &mut Vec<u8>, to: &ChainTo) -> Result<(), AllocError>
     ensures { OnOk result (out.new.items ≡ out.old.items ++ chain_parameter to.now) }
 {
     match to {
-        ChainTo::Key(values) => push_key(out, values),
+        ChainTo::Key(values) => push_values_parameter(out, b"KEY", values),
         ChainTo::RecordNumber(rrn) => push_number_parameter(out, b"RRN", u64::from(*rrn)),
     }
 }
@@ -219,7 +198,7 @@ fn push_write(out: &mut Vec<u8>, args: &WriteRecord) -> Result<(), AllocError>
     push_name(out, b"OPNID", &args.open_id)?;
     push_format(out, args.format)?;
     push_place(out, args.record_number)?;
-    push_given(out, &args.values)
+    push_given_parameter(out, &args.values)
 }
 
 fn push_format(out: &mut Vec<u8>, format: Option<Name>) -> Result<(), AllocError>
@@ -244,7 +223,7 @@ fn push_update(out: &mut Vec<u8>, args: &UpdateRecord) -> Result<(), AllocError>
     ensures { OnOk result (out.new.items ≡ out.old.items ++ (parameter (codes "OPNID") args.now.open_id ++ parameter (codes "VAL") (given_values_text args.now.values))) }
 {
     push_name(out, b"OPNID", &args.open_id)?;
-    push_given(out, &args.values)
+    push_given_parameter(out, &args.values)
 }
 
 fn push_end_job(out: &mut Vec<u8>, args: &EndJob) -> Result<(), AllocError>
@@ -252,26 +231,6 @@ fn push_end_job(out: &mut Vec<u8>, args: &EndJob) -> Result<(), AllocError>
 {
     push_parameter(out, b"REASON", reason_text(args.reason))?;
     push_number_parameter(out, b"LINE", u64::from(args.line))
-}
-
-#[tactic(auto, unfolding(crate::specs::Texts::parameter))]
-fn push_key(out: &mut Vec<u8>, values: &Values) -> Result<(), AllocError>
-    ensures { OnOk result (out.new.items ≡ out.old.items ++ parameter (codes "KEY") (values_text values.now)) }
-{
-    out.extend_from_slice(b" KEY(")?;
-    push_values(out, values.as_slice())?;
-    out.push(b')')?;
-    Ok(())
-}
-
-#[tactic(auto, unfolding(crate::specs::Texts::parameter))]
-fn push_given(out: &mut Vec<u8>, values: &GivenValues) -> Result<(), AllocError>
-    ensures { OnOk result (out.new.items ≡ out.old.items ++ parameter (codes "VAL") (given_values_text values.now)) }
-{
-    out.extend_from_slice(b" VAL(")?;
-    push_given_values(out, values.as_slice())?;
-    out.push(b')')?;
-    Ok(())
 }
 
 fn level_text(level: Level) -> &'static [u8]

@@ -2,24 +2,11 @@
 ghost use Rattle.std.specs.Prelude.{◌≡◌, ◌+◌, ◌<◌, ◌++◌, length, OnOk, IfOk};
 ghost use Rattle.std.specs.List.{list_all, flat_map};
 ghost use Rattle.std.specs.Fmt.{decimal};
-ghost use Rattle.listing.specs.Texts.{parameter, number_parameter, has_character, quoted_character, hex_digit, hex_pair, text_literal, number_literal, padded_digits, pointed, value_text, given_text, values_text, given_values_text};
+ghost use Rattle.listing.specs.Texts.{has_character, quoted_character, hex_digit, hex_pair, text_literal, number_literal, padded_digits, pointed, value_text, given_text, values_text, given_values_text};
 
 use ebc_text::to_ascii;
 use field_types::values::{Dec, Value};
 use std::alloc::{AllocError, Global};
-
-/// Appends a parameter: a blank, its keyword, and its value in parentheses.
-#[tactic(auto, unfolding(crate::specs::Texts::parameter))]
-pub fn push_parameter(out: &mut Vec<u8>, keyword: &[u8], value: &[u8]) -> Result<(), AllocError>
-    ensures { OnOk result (out.new.items ≡ out.old.items ++ parameter keyword.now value.now) }
-{
-    out.push(b' ')?;
-    out.extend_from_slice(keyword)?;
-    out.push(b'(')?;
-    out.extend_from_slice(value)?;
-    out.push(b')')?;
-    Ok(())
-}
 
 /// Appends a number in digits.
 pub fn push_number(out: &mut Vec<u8>, number: u64) -> Result<(), AllocError>
@@ -30,19 +17,8 @@ pub fn push_number(out: &mut Vec<u8>, number: u64) -> Result<(), AllocError>
     Ok(())
 }
 
-/// Appends a parameter whose value is a number.
-pub fn push_number_parameter(
-    out: &mut Vec<u8>,
-    keyword: &[u8],
-    number: u64,
-) -> Result<(), AllocError>
-    ensures { OnOk result (out.new.items ≡ out.old.items ++ number_parameter keyword.now number) }
-{
-    let digits = number.to_string(*out.allocator())?;
-    push_parameter(out, keyword, digits.as_bytes())
-}
-
 /// Appends values with a blank between each two.
+#[tactic(auto, unfolding(crate::specs::Texts::values_text))]
 pub fn push_values(out: &mut Vec<u8>, values: &[Value]) -> Result<(), AllocError>
     ensures { OnOk result (out.new.items ≡ out.old.items ++ values_text values.now) }
 {
@@ -58,6 +34,7 @@ pub fn push_values(out: &mut Vec<u8>, values: &[Value]) -> Result<(), AllocError
 }
 
 /// Appends values that may be left out, with a blank between each two.
+#[tactic(auto, unfolding(crate::specs::Texts::given_values_text))]
 pub fn push_given_values(out: &mut Vec<u8>, values: &[Option<Value>]) -> Result<(), AllocError>
     ensures { OnOk result (out.new.items ≡ out.old.items ++ given_values_text values.now) }
 {
@@ -169,10 +146,7 @@ fn padded_digits(alloc: Global, scale: usize, magnitude: u128) -> Result<Vec<u8>
     ensures enough { IfOk result (λ digits. scale < length digits.items) }
 {
     let shown = magnitude.to_string(alloc)?;
-    let mut digits = Vec::new(alloc);
-    for _ in shown.len()..scale + 1 {
-        digits.push(b'0')?;
-    }
+    let mut digits = vec![in alloc; b'0'; (scale + 1).saturating_sub(shown.len())]?;
     digits.extend_from_slice(shown.as_bytes())?;
     Ok(digits)
 }
