@@ -1,0 +1,71 @@
+//! Where a read begins, and on which side of it an entry lies. `search.rt` looks for the nearest entry.
+
+ghost use Rattle.std.specs.Prelude.{◌≡◌, ◌+◌};
+ghost use Rattle.key_pages.specs.Position.{partial_cmp, side_of};
+
+use crate::counting::Steps;
+use crate::entries::{self, Entry};
+use std::cmp::Ordering;
+use std::sync::ledger::Ledger;
+
+/// A place between or on the entries of a list. It borrows its key, and takes no memory.
+#[derive(Clone, Copy)]
+pub enum Position<'a> {
+    /// Before all entries.
+    Start,
+
+    /// Past all entries.
+    End,
+
+    /// On the place of an entry, which need not be in the list.
+    On {
+        key: &'a [u8],
+        format: u16,
+        rrn: u32,
+    },
+
+    /// Before each entry whose key begins with this partial key or is greater.
+    Before(&'a [u8]),
+
+    /// Past each entry whose key begins with this partial key or is less.
+    Past(&'a [u8]),
+}
+
+/// One comparison, which is the only one that a search has, and one step.
+pub(crate) fn side<L: Ledger>(
+    from: &Position<'_>,
+    entry: &Entry,
+    falling: bool,
+    steps: &mut Steps<L>,
+) -> Ordering
+    ensures side { result ≡ side_of falling from.now entry.now }
+    ensures cost { steps.new ≡ steps.old + 1 }
+{
+    steps.tick();
+    match *from {
+        Position::Start => Ordering::Greater,
+        Position::End => Ordering::Less,
+        Position::On { key, format, rrn } => entries::compare(entry, key, format, rrn, falling),
+        Position::Before(part) => {
+            if compare_part(entry.key.bytes(), part).is_lt() {
+                Ordering::Less
+            } else {
+                Ordering::Greater
+            }
+        }
+        Position::Past(part) => {
+            if compare_part(entry.key.bytes(), part).is_le() {
+                Ordering::Less
+            } else {
+                Ordering::Greater
+            }
+        }
+    }
+}
+
+fn compare_part(key: &[u8], part: &[u8]) -> Ordering
+    ensures { result ≡ partial_cmp key.now part.now }
+{
+    let length = key.len().min(part.len());
+    (&key[..length]).cmp(&part)
+}
