@@ -9,6 +9,7 @@ ghost use Rattle.key_pages.specs.Search.{is_passed};
 use crate::counting::Steps;
 use crate::entries::Entry;
 use crate::positions::{self, Position};
+use std::cmp::Ordering;
 use std::sync::ledger::Ledger;
 
 /// How many entries lie before the position, or with `itself` also on it.
@@ -31,11 +32,17 @@ pub(crate) fn place<L: Ledger>(
     while low < high {
         let middle = low + (high - low) / 2;
         let side = positions::side(from, &entries[middle], falling, steps);
-        if side.is_lt() || (itself && side.is_eq()) {
+        if is_passed(side, itself) {
             low = middle + 1;
         } else {
             high = middle;
         }
     }
     low
+}
+
+fn is_passed(side: Ordering, itself: bool) -> bool
+    ensures { result ≡ is_passed itself side }
+{
+    if itself { side.is_le() } else { side.is_lt() }
 }

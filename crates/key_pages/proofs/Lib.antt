@@ -1,0 +1,5 @@
+pub mod Splits
+pub mod OrderLemmas
+pub mod SideLemmas
+pub mod WalkLemmas
+pub mod StepLemmas
