@@ -1,8 +1,8 @@
 -- The order of entries is total and tells any two apart; what an insert and a removal leave is in order.
-use Rattle.std.proofs.Common.{◌≡◌, ℕ, suc, zero, Result, Ok, Err, IfOk, IfErr, ◌+◌, ◌<◌, ◌≤◌, Bool, true, false, cond, List, [], ◌∷◌, ◌++◌, length, get_or, take, drop, refl, ap, sym, ◌∙◌, arith, inl, inr}
+use Rattle.std.proofs.Common.{◌≡◌, ℕ, suc, zero, Result, Ok, Err, IfOk, IfErr, IsErr, ◌+◌, ◌<◌, ◌≤◌, Bool, true, false, cond, List, [], ◌∷◌, ◌++◌, length, get_or, take, drop, refl, ap, sym, ◌∙◌, arith, inl, inr}
 use Rattle.std.specs.declared.cmp.Ordering.{Ordering}
 use Rattle.std.specs.declared.cmp.Ordering.TheVariants.{Less, Equal, Greater}
-use Rattle.std.specs.Prelude.{filter, remove, insert, All, Contains, Some}
+use Rattle.std.specs.Prelude.{◌≢◌, filter, remove, insert, All, AllPairs, Contains, Some}
 use Rattle.std.specs.Cmp.{IsTotalOrder}
 use Rattle.std.specs.Ordering.{nat_cmp, ordering_then, ordering_reverse, ordering_index, is_lt, is_gt, is_ne}
 use Rattle.std.specs.List.{AllWithin, AllByRecursion, HoldsAt, slice_get}
@@ -18,7 +18,8 @@ use Rattle.std.proofs.lemmas.List.Elements.{All-from_recursion, recursion_from_A
 use Rattle.key_pages.specs.declared.entries.Entry.{Entry}
 use Rattle.key_pages.specs.Order.{key_cmp, tie_cmp, entry_cmp, IsInOrder}
 use Rattle.key_pages.specs.EntryList.{with_entry, without_entry}
-use Rattle.key_pages.proofs.Splits.{filter-front, filter-back, filter-but}
+use Rattle.key_pages.specs.Search.{IsAt, IsGapFor}
+use Rattle.key_pages.proofs.Splits.{filter-front, filter-back, filter-but, filter-all}
 
 tie_total : (falling : Bool) → IsTotalOrder (tie_cmp falling)
 tie_total false = nat_cmp_total
@@ -69,9 +70,10 @@ module _ {K : Type 0} (c : K → K → Ordering) (o : IsTotalOrder c) where
   sorted_around (x ∷ xs) e ys front back below above =
       let less : c x e ≡ Less = below 0 x (omega arith) in
       let beyond : All (λ y. c x y ≡ Less) (e ∷ ys) = All-cons (λ y. c x y ≡ Less) e ys less (All-weaker (λ y. c e y ≡ Less) (λ y. c x y ≡ Less) (λ y h. o.trans x e y less h) ys above) in
-      let front' : All (λ y. c x y ≡ Less) xs = All-from_recursion (λ y. c x y ≡ Less) xs front.0 in
-      (recursion_from_All (λ y. c x y ≡ Less) (xs ++ e ∷ ys) (All-append (λ y. c x y ≡ Less) xs (e ∷ ys) front' beyond),
-      sorted_around xs e ys front.1 back (λ k d h. below (suc k) d (omega arith)) above)
+      let front' : All (λ y. c x y ≡ Less) xs = All-from_recursion (λ y. c x y ≡ Less) xs front.0 in (
+        recursion_from_All (λ y. c x y ≡ Less) (xs ++ e ∷ ys) (All-append (λ y. c x y ≡ Less) xs (e ∷ ys) front' beyond),
+        sorted_around xs e ys front.1 back (λ k d h. below (suc k) d (omega arith)) above,
+      )
 
   -- an element in the middle is above those before it, and below those after it
   pub below_middle : (xs : List K) (e : K) (ys : List K) → IsStrictlySortedBy c (xs ++ e ∷ ys) → AllByRecursion (λ x. c x e ≡ Less) xs
@@ -123,28 +125,49 @@ pub IsInOrder-without_entry : (falling : Bool) (entry : Entry) (entries : List E
 IsInOrder-without_entry falling entry entries sorted =
     IsStrictlySortedBy-filter (entry_cmp falling) (λ other. is_ne (entry_cmp falling other entry)) entries sorted
 
--- where the entry is, or where it would go
-pub found_at : (falling : Bool) (entry : Entry) (entries : List Entry) (i : ℕ) → IsInOrder falling entries → i < length entries → HoldsAt (λ other. entry_cmp falling other entry ≡ Equal) entries i
-    → (slice_get entries i ≡ Some entry) × (remove entries i ≡ without_entry falling entry entries)
+-- where the entry is
+found_at : (falling : Bool) (entry : Entry) (entries : List Entry) (i : ℕ) → IsInOrder falling entries → i < length entries → HoldsAt (λ other. entry_cmp falling other entry ≡ Equal) entries i → IsAt falling entry entries i
 found_at falling entry entries i sorted within here =
-    (slice_get-get_or entries i entry within ∙ ap Some (entry_exact falling (get_or entries i entry) entry (here entry)),
-    sym (remove_at (entry_cmp falling) (entry_total falling) entry entries i sorted within here))
+    let same : get_or entries i entry ≡ entry = entry_exact falling (get_or entries i entry) entry (here entry) in
+    record {
+      here = slice_get-get_or entries i entry within ∙ ap Some same;
+      there = (i, within, same);
+      removed = sym (remove_at (entry_cmp falling) (entry_total falling) entry entries i sorted within here);
+    }
 
-pub absent_at : (falling : Bool) (entry : Entry) (entries : List Entry) (i : ℕ) → IsPartitionPoint (λ other. entry_cmp falling other entry ≡ Less) (λ other. entry_cmp falling other entry ≡ Greater) entries i
-    → (¬ Contains entries entry) × (insert entries i entry ≡ with_entry falling entry entries)
-absent_at falling entry entries i cut =
-    (λ there.
-    let itself : entry_cmp falling (get_or entries there.0 entry) entry ≡ Equal = ap (λ other. entry_cmp falling other entry) there.2 ∙ tied_itself (entry_total falling) entry in
-    elim (cases_lt there.0 i) [
-      inl below ↦ let less = cut.0 there.0 entry (omega arith) below in cc
-    | inr above ↦ let greater = cut.1 there.0 entry above there.1 in cc
-    ],
-    sym (insert_at (entry_cmp falling) (entry_total falling) entry entries i cut))
+-- where it would go
+absent_at : (falling : Bool) (entry : Entry) (entries : List Entry) (i : ℕ) → IsPartitionPoint (λ other. entry_cmp falling other entry ≡ Less) (λ other. entry_cmp falling other entry ≡ Greater) entries i → IsGapFor falling entry entries i
+absent_at falling entry entries i cut = record {
+  absent = λ there.
+      let itself : entry_cmp falling (get_or entries there.0 entry) entry ≡ Equal = ap (λ other. entry_cmp falling other entry) there.2 ∙ tied_itself (entry_total falling) entry in
+      elim (cases_lt there.0 i) [
+        | inl below ↦ let less = cut.0 there.0 entry (omega arith) below in cc
+        | inr above ↦ let greater = cut.1 there.0 entry above there.1 in cc
+      ];
+  inserted = sym (insert_at (entry_cmp falling) (entry_total falling) entry entries i cut);
+  unchanged = sym (filter-all (λ other. is_ne (entry_cmp falling other entry)) entries (λ k d from upto.
+      elim (cases_lt k i) [
+        | inl below ↦ ap is_ne (cut.0 k d from below)
+        | inr above ↦ ap is_ne (cut.1 k d above upto)
+      ]));
+}
 
 -- what the search of a list in order for an entry answers
-pub searched_entry : (falling : Bool) (entry : Entry) (entries : List Entry) (found : Result ℕ ℕ) → IsInOrder falling entries → IsSearchInRange found (length entries) → IsBinarySearchResult (λ other. entry_cmp falling other entry) entries found
-    → IfOk found (λ i. (slice_get entries i ≡ Some entry) × (remove entries i ≡ without_entry falling entry entries))
-    × IfErr found (λ i. (¬ Contains entries entry) × (insert entries i entry ≡ with_entry falling entry entries))
-searched_entry falling entry entries (Ok i) sorted within is = (found_at falling entry entries i sorted within is, tt)
-searched_entry falling entry entries (Err i) sorted within is =
+pub searched : (falling : Bool) (entry : Entry) (entries : List Entry) (found : Result ℕ ℕ) → IsInOrder falling entries → IsSearchInRange found (length entries) → IsBinarySearchResult (λ other. entry_cmp falling other entry) entries found
+    → IfOk found (IsAt falling entry entries) × IfErr found (IsGapFor falling entry entries)
+searched falling entry entries (Ok i) sorted within is = (found_at falling entry entries i sorted within is, tt)
+searched falling entry entries (Err i) sorted within is =
     (tt, absent_at falling entry entries i (is (rises (entry_cmp falling) (entry_total falling) entry entries sorted)))
+
+-- an entry that isn't there is not found
+pub is_err_from_absent : (falling : Bool) (entry : Entry) (entries : List Entry) (found : Result ℕ ℕ) → ¬ Contains entries entry → IfOk found (IsAt falling entry entries) → IsErr found
+is_err_from_absent falling entry entries (Ok i) absent is = absurd (absent is.there)
+is_err_from_absent falling entry entries (Err i) absent is = refl
+
+-- no entry is there twice
+pub apart : (falling : Bool) (entries : List Entry) → IsInOrder falling entries → AllPairs (λ entry other. entry ≢ other) entries
+apart falling entries sorted i j d before within same =
+    let less = Less-from_sorted (entry_cmp falling) entries i j d sorted before within in
+    let itself = tied_itself (entry_total falling) (get_or entries i d) in
+    let also = ap (λ other. entry_cmp falling (get_or entries i d) other) same in
+    cc

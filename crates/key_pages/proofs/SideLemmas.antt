@@ -44,25 +44,25 @@ module _ {K : Type 0} (c : K → K → Ordering) (o : IsTotalOrder c) where
   Less-before_le : (x y z : K) → c x y ≡ Less → is_le (c y z) ≡ true → c x z ≡ Less
   Less-before_le x y z less upto =
       elim (c y z) as (λ r. c y z ≡ r → is_le r ≡ true → c x z ≡ Less) [
-        Less ↦ λ is _. o.trans x y z less is
-      | Equal ↦ λ is _. sym (alike_right o y z x is) ∙ less
-      | Greater ↦ λ is no. cc
+        | Less ↦ λ is _. o.trans x y z less is
+        | Equal ↦ λ is _. sym (alike_right o y z x is) ∙ less
+        | Greater ↦ λ is no. cc
       ] refl upto
 
   lt-before_lt : (x y z : K) → is_gt (c x y) ≡ false → is_lt (c y z) ≡ true → is_lt (c x z) ≡ true
   lt-before_lt x y z rises below =
       elim (c x y) as (λ r. c x y ≡ r → is_gt r ≡ false → is_lt (c x z) ≡ true) [
-        Less ↦ λ is _. ap is_lt (o.trans x y z is (from_is_lt (c y z) below))
-      | Equal ↦ λ is _. ap is_lt (o.congr x y z is) ∙ below
-      | Greater ↦ λ is no. cc
+        | Less ↦ λ is _. ap is_lt (o.trans x y z is (from_is_lt (c y z) below))
+        | Equal ↦ λ is _. ap is_lt (o.congr x y z is) ∙ below
+        | Greater ↦ λ is no. cc
       ] refl rises
 
   le-before_le : (x y z : K) → is_gt (c x y) ≡ false → is_le (c y z) ≡ true → is_le (c x z) ≡ true
   le-before_le x y z rises below =
       elim (c x y) as (λ r. c x y ≡ r → is_gt r ≡ false → is_le (c x z) ≡ true) [
-        Less ↦ λ is _. ap is_le (Less-before_le x y z is below)
-      | Equal ↦ λ is _. ap is_le (o.congr x y z is) ∙ below
-      | Greater ↦ λ is no. cc
+        | Less ↦ λ is _. ap is_le (Less-before_le x y z is below)
+        | Equal ↦ λ is _. ap is_le (o.congr x y z is) ∙ below
+        | Greater ↦ λ is no. cc
       ] refl rises
 
 -- a position between keys is passed by those that are below it
@@ -109,8 +109,8 @@ module _ (itself falling : Bool) (from : Position) (xs : List Entry) (i : ℕ) (
   pub ahead_from : passes x ≡ false → AllWithin (λ e. passes e ≡ false) xs i (length xs)
   ahead_from ahead = λ k d from' upto.
       elim (cases_lt i k) [
-        inl later ↦ false_from_ne_true _ (λ passed. let also : passes x ≡ true = ap passes (here d) ∙ passed_before itself falling from (get_or xs i d) (get_or xs k d) (Less-from_sorted (entry_cmp falling) xs i k d sorted later upto) passed in cc)
-      | inr upto' ↦ let same : k ≡ i = omega arith in ap (λ j. passes (get_or xs j d)) same ∙ (sym (ap passes (here d)) ∙ ahead)
+        | inl later ↦ false_from_ne_true _ (λ passed. let also : passes x ≡ true = ap passes (here d) ∙ passed_before itself falling from (get_or xs i d) (get_or xs k d) (Less-from_sorted (entry_cmp falling) xs i k d sorted later upto) passed in cc)
+        | inr upto' ↦ let same : k ≡ i = omega arith in ap (λ j. passes (get_or xs j d)) same ∙ (sym (ap passes (here d)) ∙ ahead)
       ]
 
 -- what a place that parts the list says of the entries next to the position

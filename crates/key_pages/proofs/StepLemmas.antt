@@ -27,6 +27,6 @@ cost-step count start steps after rest begun next left some =
 pub IsFewSteps-halving : (count before after : ℕ) → 2 ^ (after - before) ≤ 2 * count + 1 → IsFewSteps count before after
 IsFewSteps-halving count before after cost digits fits =
     elim (cases_lt (suc digits) (after - before)) [
-      inl many ↦ let more = pow-lt many in let step = pow-suc 2 digits in absurd (omega (arith, more, step))
-    | inr few ↦ omega arith
+      | inl many ↦ let more = pow-lt many in let step = pow-suc 2 digits in absurd (omega (arith, more, step))
+      | inr few ↦ omega arith
     ]

@@ -1,10 +1,9 @@
 //! An entry of an access path, and the order of entries. Lists of them are in `list.rt`.
 
-ghost use Rattle.std.specs.Prelude.{◌≡◌, length, IfOk, IfErr, Contains, insert, remove};
-ghost use Rattle.std.specs.List.{slice_get};
+ghost use Rattle.std.specs.Prelude.{◌≡◌, length, IfOk, IfErr};
 ghost use Rattle.std.specs.List.Sorted.{IsSearchInRange};
 ghost use Rattle.key_pages.specs.Order.{entry_cmp, IsInOrder};
-ghost use Rattle.key_pages.specs.EntryList.{with_entry, without_entry};
+ghost use Rattle.key_pages.specs.Search.{IsAt, IsGapFor};
 
 use crate::keys::Key;
 use std::cmp::Ordering;
@@ -38,8 +37,8 @@ pub(crate) fn compare(entry: &Entry, key: &[u8], format: u16, rrn: u32, falling:
 pub(crate) fn find(entries: &[Entry], entry: &Entry, falling: bool) -> Result<usize, usize>
     requires { IsInOrder falling entries.now }
     ensures within { IsSearchInRange result (length entries.now) }
-    ensures found { IfOk result (λ place. (slice_get entries.now place ≡ Some entry.now) × (remove entries.now place ≡ without_entry falling entry.now entries.now)) }
-    ensures absent { IfErr result (λ place. ¬ Contains entries.now entry.now × (insert entries.now place entry.now ≡ with_entry falling entry.now entries.now)) }
+    ensures found { IfOk result (IsAt falling entry.now entries.now) }
+    ensures absent { IfErr result (IsGapFor falling entry.now entries.now) }
 {
     entries.binary_search_by(|other| {
         compare(other, entry.key.bytes(), entry.format, entry.rrn, falling)

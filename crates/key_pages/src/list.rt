@@ -93,7 +93,9 @@ impl Pages {
         ensures falling { self.new.falling ≡ self.old.falling }
         ensures spare { self.new.spare ≡ (if is_some result then self.old.spare + 1 else self.old.spare) }
     {
-        let place = entries::find(&self.entries, entry, self.falling).ok()?;
+        let Ok(place) = entries::find(&self.entries, entry, self.falling) else {
+            return None;
+        };
         self.spare += 1;
         Some(self.entries.remove(place))
     }
