@@ -3,3 +3,4 @@ pub mod OrderLemmas
 pub mod SideLemmas
 pub mod WalkLemmas
 pub mod StepLemmas
+pub mod MemberLemmas

@@ -1,5 +1,5 @@
 -- Along a list in order the entries before a position come first, then one on it, then those past it.
-use Rattle.std.proofs.Common.{◌≡◌, ℕ, suc, zero, ◌+◌, ◌<◌, ◌≤◌, Bool, true, false, not, cond, None, List, [], ◌∷◌, length, get_or, take, refl, ap, sym, ◌∙◌, arith, subst, inl, inr}
+use Rattle.std.proofs.Common.{◌≡◌, ℕ, suc, zero, ◌+◌, ◌<◌, ◌≤◌, Bool, true, false, not, ◌||◌, cond, None, List, [], ◌∷◌, length, get_or, take, refl, ap, sym, ◌∙◌, arith, subst, inl, inr}
 use Rattle.std.specs.declared.cmp.Ordering.{Ordering}
 use Rattle.std.specs.declared.cmp.Ordering.TheVariants.{Less, Equal, Greater}
 use Rattle.std.specs.Cmp.{IsTotalOrder}
@@ -7,6 +7,7 @@ use Rattle.std.specs.Cmp.Lexicographic.{slice_cmp}
 use Rattle.std.specs.Ordering.{nat_cmp, ordering_then, is_lt, is_gt, is_le}
 use Rattle.std.specs.List.{AllWithin, last_or, slice_get}
 use Rattle.std.proofs.lemmas.Bool.{cases_lt, false_from_ne_true}
+use Rattle.std.proofs.lemmas.Bool.Decides.{nat_tests}
 use Rattle.std.proofs.lemmas.Cmp.{nat_list_cmp_total, alike_right}
 use Rattle.std.proofs.lemmas.List.{get_or_default}
 use Rattle.std.proofs.lemmas.List.Elements.{AllWithin-more}
@@ -15,7 +16,7 @@ use Rattle.key_pages.specs.declared.entries.Entry.{Entry}
 use Rattle.key_pages.specs.declared.positions.Position.{Position}
 use Rattle.key_pages.specs.declared.positions.Position.TheVariants.{Start, End, On, Before, Past}
 use Rattle.key_pages.specs.Order.{key_cmp, entry_cmp, IsInOrder}
-use Rattle.key_pages.specs.Position.{partial_cmp, side_of, is_past, is_short, next_entry, prior_entry}
+use Rattle.key_pages.specs.Position.{is_less, begins_with, side_of, is_past, is_short, next_entry, prior_entry}
 use Rattle.key_pages.specs.Search.{is_passed}
 use Rattle.key_pages.proofs.OrderLemmas.{entry_total, from_is_lt}
 use Rattle.key_pages.proofs.Splits.{find-split, filter-none, filter-front, last_or-take}
@@ -38,6 +39,24 @@ cut_rises (suc n) [] [] rises = refl
 cut_rises (suc n) [] (y ∷ ys) rises = refl
 cut_rises (suc n) (x ∷ xs) [] rises = cc
 cut_rises (suc n) (x ∷ xs) (y ∷ ys) rises = same_first (nat_cmp x y) _ _ (cut_rises n xs ys) rises
+
+-- which of two keys is less, and which begins with the other, is seen in the first as cut to the length of the other
+less_then : (first p q : Ordering) → is_lt p ≡ is_lt q → is_lt (ordering_then first p) ≡ is_lt (ordering_then first q)
+less_then Less p q same = refl
+less_then Equal p q same = same
+less_then Greater p q same = refl
+
+pub is_less-cut : (key part : List ℕ) → is_lt (key_cmp (take (length part) key) part) ≡ is_less key part
+is_less-cut [] [] = refl
+is_less-cut (k ∷ key) [] = refl
+is_less-cut [] (p ∷ part) = refl
+is_less-cut (k ∷ key) (p ∷ part) = less_then (nat_cmp k p) _ _ (is_less-cut key part)
+
+pub is_upto-cut : (key part : List ℕ) → is_le (key_cmp (take (length part) key) part) ≡ (is_less key part || begins_with key part)
+is_upto-cut [] [] = refl
+is_upto-cut (k ∷ key) [] = refl
+is_upto-cut [] (p ∷ part) = refl
+is_upto-cut (k ∷ key) (p ∷ part) = let rest = is_upto-cut key part in grind (arith, nat_tests, rest)
 
 module _ {K : Type 0} (c : K → K → Ordering) (o : IsTotalOrder c) where
   -- what is below the lesser of two is below the greater, and so on
@@ -83,13 +102,14 @@ passed_before true falling (On key format rrn) a b less passed =
     let at : Entry = record { key = key.now; format = format; rrn = rrn } in
     ap is_le (Less-before_le (entry_cmp falling) (entry_total falling) a b at less passed)
 passed_before itself falling (Before part) a b less passed =
-    let rises = cut_rises (length part.now) a.key b.key (not_above_first (key_cmp a.key b.key) _ less) in
-    let below = sym (is_passed-between itself (is_lt (partial_cmp b.key part.now))) ∙ passed in
-    is_passed-between itself (is_lt (partial_cmp a.key part.now)) ∙ lt-before_lt key_cmp nat_list_cmp_total _ _ part.now rises below
+    let rises = not_above_first (key_cmp a.key b.key) _ less in
+    let below = sym (is_passed-between itself (is_less b.key part.now)) ∙ passed in
+    is_passed-between itself (is_less a.key part.now) ∙ lt-before_lt key_cmp nat_list_cmp_total _ _ part.now rises below
 passed_before itself falling (Past part) a b less passed =
     let rises = cut_rises (length part.now) a.key b.key (not_above_first (key_cmp a.key b.key) _ less) in
-    let below = sym (is_passed-between itself (is_le (partial_cmp b.key part.now))) ∙ passed in
-    is_passed-between itself (is_le (partial_cmp a.key part.now)) ∙ le-before_le key_cmp nat_list_cmp_total _ _ part.now rises below
+    let below = is_upto-cut b.key part.now ∙ (sym (is_passed-between itself (is_less b.key part.now || begins_with b.key part.now)) ∙ passed) in
+    is_passed-between itself (is_less a.key part.now || begins_with a.key part.now)
+    ∙ (sym (is_upto-cut a.key part.now) ∙ le-before_le key_cmp nat_list_cmp_total _ _ part.now rises below)
 
 module _ (itself falling : Bool) (from : Position) (xs : List Entry) (i : ℕ) (x : Entry) (sorted : IsInOrder falling xs) (within : i < length xs) (read : x ≡ get_or xs i x) where
   abbrev passes : Entry → Bool

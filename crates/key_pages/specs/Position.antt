@@ -1,26 +1,30 @@
 -- Which entry of a sorted list comes next after a position, and which is the last one before it?
 -- Source: IBM i, ILE RPG Reference (SETLL, SETGT, READ, READP), and Database Programming (Positioning in a file).
-use Rattle.std.specs.Prelude.{◌≡◌, ℕ, Bool, ◌||◌, cond, Option, None, Some, List, length, take, find, filter}
-use Rattle.std.specs.List.{last_or}
+use Rattle.std.specs.Prelude.{◌≡◌, ℕ, Bool, ◌||◌, nat_eq, cond, Option, None, List, find, filter}
+use Rattle.std.specs.List.{last_or, starts_with}
 use Rattle.std.specs.declared.cmp.Ordering.{Ordering}
 use Rattle.std.specs.declared.cmp.Ordering.TheVariants.{Less, Greater}
-use Rattle.std.specs.Ordering.{is_lt, is_gt, is_le}
+use Rattle.std.specs.Ordering.{is_lt, is_gt}
 use Rattle.key_pages.specs.declared.entries.Entry.{Entry}
 use Rattle.key_pages.specs.declared.positions.Position.{Position}
 use Rattle.key_pages.specs.declared.positions.Position.TheVariants.{Start, End, On, Before, Past}
 use Rattle.key_pages.specs.Order.{key_cmp, entry_cmp}
 
--- a key, cut to the length of a partial key, against it: `Equal` where the key begins with it
-abbrev pub partial_cmp : List ℕ → List ℕ → Ordering
-partial_cmp key part = key_cmp (take (length part) key) part
+-- the key is less than the partial key
+abbrev pub is_less : List ℕ → List ℕ → Bool
+is_less key part = is_lt (key_cmp key part)
+
+-- the key begins with the partial key
+abbrev pub begins_with : List ℕ → List ℕ → Bool
+begins_with key part = starts_with nat_eq key part
 
 -- on which side of a position an entry lies: `Less` before it, `Equal` on it, `Greater` past it
 abbrev pub side_of : Bool → Position → Entry → Ordering
 side_of falling Start entry = Greater
 side_of falling End entry = Less
 side_of falling (On key format rrn) entry = entry_cmp falling entry (record { key = key.now; format = format; rrn = rrn })
-side_of falling (Before part) entry = cond (is_lt (partial_cmp entry.key part.now)) Less Greater
-side_of falling (Past part) entry = cond (is_le (partial_cmp entry.key part.now)) Less Greater
+side_of falling (Before part) entry = cond (is_less entry.key part.now) Less Greater
+side_of falling (Past part) entry = cond (is_less entry.key part.now || begins_with entry.key part.now) Less Greater
 
 -- the entry lies past the position
 abbrev pub is_past : Bool → Position → Entry → Bool

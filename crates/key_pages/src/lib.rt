@@ -4,14 +4,14 @@
 mod counting;
 mod entries;
 mod keys;
+mod laws;
 mod list;
 mod positions;
 mod search;
-mod walks;
 
 pub use counting::Steps;
 pub use entries::Entry;
 pub use keys::Key;
+pub use laws::{insertion, one_order, removal, walk_backward, walk_forward};
 pub use list::Pages;
 pub use positions::Position;
-pub use walks::{walks_backward, walks_forward};

@@ -122,20 +122,20 @@ impl Pages {
     }
 
     /// The first entry past the position, for callers who count nothing.
-    pub fn next(&self, from: &Position<'_>) -> Option<&Entry>
+    pub fn next_entry(&self, from: &Position<'_>) -> Option<&Entry>
         ensures { option_copied result ≡ next_entry self.now.falling from.now self.now.entries }
     {
-        self.next_in::<Brand>(from, Blank::new(1))
+        self.next_entry_in::<Brand>(from, Blank::new(1))
     }
 
     /// The last entry before the position, for callers who count nothing.
-    pub fn prior(&self, from: &Position<'_>) -> Option<&Entry>
+    pub fn prior_entry(&self, from: &Position<'_>) -> Option<&Entry>
         ensures { option_copied result ≡ prior_entry self.now.falling from.now self.now.entries }
     {
-        self.prior_in::<Brand>(from, Blank::new(1))
+        self.prior_entry_in::<Brand>(from, Blank::new(1))
     }
 
-    fn next_in<L: Ledger>(&self, from: &Position<'_>, blank: Blank) -> Option<&Entry>
+    fn next_entry_in<L: Ledger>(&self, from: &Position<'_>, blank: Blank) -> Option<&Entry>
         requires name { blank.name ≡ L.name }
         requires parts { blank.parts ≡ L.parts }
         requires some { 0 < L.parts }
@@ -144,7 +144,7 @@ impl Pages {
         self.after(from, &mut Steps::<L>::new(blank))
     }
 
-    fn prior_in<L: Ledger>(&self, from: &Position<'_>, blank: Blank) -> Option<&Entry>
+    fn prior_entry_in<L: Ledger>(&self, from: &Position<'_>, blank: Blank) -> Option<&Entry>
         requires name { blank.name ≡ L.name }
         requires parts { blank.parts ≡ L.parts }
         requires some { 0 < L.parts }

@@ -1,7 +1,8 @@
 //! Where a read begins, and on which side of it an entry lies. `search.rt` looks for the nearest entry.
 
-ghost use Rattle.std.specs.Prelude.{◌≡◌, ◌+◌};
-ghost use Rattle.key_pages.specs.Position.{partial_cmp, side_of};
+ghost use Rattle.std.specs.Prelude.{◌≡◌, ◌+◌, ◌||◌};
+ghost use Rattle.std.specs.Ordering.{is_lt, is_le};
+ghost use Rattle.key_pages.specs.Position.{is_less, begins_with, side_of};
 
 use crate::counting::Steps;
 use crate::entries::{self, Entry};
@@ -63,8 +64,10 @@ pub(crate) fn side<L: Ledger>(
     }
 }
 
+// The key, cut to the length of the partial key, against it: `Equal` where it begins with it.
 fn compare_part(key: &[u8], part: &[u8]) -> Ordering
-    ensures { result ≡ partial_cmp key.now part.now }
+    ensures less { is_lt result ≡ is_less key.now part.now }
+    ensures upto { is_le result ≡ (is_less key.now part.now || begins_with key.now part.now) }
 {
     let length = key.len().min(part.len());
     (&key[..length]).cmp(&part)

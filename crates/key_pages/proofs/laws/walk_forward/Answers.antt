@@ -2,7 +2,7 @@
 use Rattle.std.proofs.Common.{◌≡◌, List, [], ◌∷◌, true, refl}
 use Rattle.key_pages.specs.declared.positions.Position.TheVariants.{Start}
 use Rattle.key_pages.proofs.WalkLemmas.{forward, all_past}
-use Rattle.key_pages.proofs.walks.walks_forward.Goals as goal
+use Rattle.key_pages.proofs.laws.walk_forward.Goals as goal
 
 pub returns : goal.returns
 returns c falling entries sorted = forward falling entries [] entries Start sorted refl tt (all_past falling entries)
