@@ -1,5 +1,5 @@
 -- A list that a test cuts in two: what a filter keeps, what a search finds, and the last element that passes.
-use Rattle.std.proofs.Common.{◌≡◌, ℕ, suc, zero, ◌<◌, ◌≤◌, Bool, true, false, cond, Option, None, Some, List, [], ◌∷◌, ◌++◌, length, get_or, take, drop, refl, ap, sym, ◌∙◌, arith, Bor}
+use Rattle.std.proofs.Common.{◌≡◌, ℕ, suc, zero, ◌<◌, Bool, true, false, cond, Option, None, Some, List, [], ◌∷◌, ◌++◌, length, get_or, take, drop, refl, ap, sym, ◌∙◌, arith, Bor}
 use Rattle.std.specs.Prelude.{filter, find, remove}
 use Rattle.std.specs.List.{AllWithin, last_or, slice_get}
 use Rattle.std.specs.Option.{option_copied}

@@ -1,7 +1,7 @@
 -- A list in order that is read from entry to entry comes whole, forward and backward.
 use Rattle.std.proofs.Common.{◌≡◌, Bool, true, false, cond, None, Some, List, [], ◌∷◌, ◌++◌, reverse, filter, find, refl, ap, sym, ◌∙◌, subst, append_assoc}
 use Rattle.std.specs.declared.cmp.Ordering.{Ordering}
-use Rattle.std.specs.declared.cmp.Ordering.TheVariants.{Less, Equal, Greater}
+use Rattle.std.specs.declared.cmp.Ordering.TheVariants.{Less}
 use Rattle.std.specs.Ordering.{is_lt, is_gt}
 use Rattle.std.specs.List.{AllByRecursion, last_or}
 use Rattle.std.proofs.lemmas.Cmp.{tied_itself}
@@ -12,7 +12,7 @@ use Rattle.key_pages.specs.declared.entries.Entry.{Entry}
 use Rattle.key_pages.specs.declared.positions.Position.{Position}
 use Rattle.key_pages.specs.declared.positions.Position.TheVariants.{Start, End, On, Before, Past}
 use Rattle.key_pages.specs.Order.{entry_cmp, IsInOrder}
-use Rattle.key_pages.specs.Position.{side_of, is_past, is_short, next_entry, prior_entry, IsOn}
+use Rattle.key_pages.specs.Position.{side_of, is_past, is_short, IsOn}
 use Rattle.key_pages.specs.Walk.{ComesForward, ComesBackward}
 use Rattle.key_pages.proofs.OrderLemmas.{entry_total, below_middle, above_middle, Greater-from_Less}
 use Rattle.key_pages.proofs.Splits.{last_or-append}

@@ -1,5 +1,5 @@
 -- What comes from a sorted list that is read from entry to entry?
-use Rattle.std.specs.Prelude.{◌≡◌, Bool, Option, None, Some, List, [], ◌∷◌}
+use Rattle.std.specs.Prelude.{◌≡◌, Bool, None, Some, List, [], ◌∷◌}
 use Rattle.key_pages.specs.declared.entries.Entry.{Entry}
 use Rattle.key_pages.specs.declared.positions.Position.{Position}
 use Rattle.key_pages.specs.Position.{next_entry, prior_entry, IsOn}

@@ -8,7 +8,7 @@ ghost use Rattle.key_pages.specs.Search.{IsAt, IsGapFor};
 use crate::keys::Key;
 use std::cmp::Ordering;
 
-/// What an access path has of a record: its key, its record format (numbered from 0 within the file) and its relative
+/// What an access path has of a record: its key, the number of its record format within the file, and its relative
 /// record number.
 #[derive(Drop)]
 pub struct Entry {

@@ -8,6 +8,8 @@ mod laws;
 mod list;
 mod positions;
 mod search;
+#[cfg(test)]
+mod tests;
 
 pub use counting::Steps;
 pub use entries::Entry;

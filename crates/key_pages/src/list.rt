@@ -104,6 +104,7 @@ impl Pages {
     pub fn after<L: Ledger>(&self, from: &Position<'_>, steps: &mut Steps<L>) -> Option<&Entry>
         ensures first { option_copied result ≡ next_entry self.now.falling from.now self.now.entries }
         ensures cost { IsFewSteps (length self.now.entries) steps.old steps.new }
+        ensures rises { steps.old ≤ steps.new }
     {
         let place = search::place(&self.entries, self.falling, from, true, steps);
         self.entries.get(place)
@@ -113,6 +114,7 @@ impl Pages {
     pub fn before<L: Ledger>(&self, from: &Position<'_>, steps: &mut Steps<L>) -> Option<&Entry>
         ensures last { option_copied result ≡ prior_entry self.now.falling from.now self.now.entries }
         ensures cost { IsFewSteps (length self.now.entries) steps.old steps.new }
+        ensures rises { steps.old ≤ steps.new }
     {
         let place = search::place(&self.entries, self.falling, from, false, steps);
         if place == 0 {

@@ -1,6 +1,7 @@
 //! Where a read begins, and on which side of it an entry lies. `search.rt` looks for the nearest entry.
 
-ghost use Rattle.std.specs.Prelude.{◌≡◌, ◌+◌, ◌||◌};
+ghost use Rattle.std.specs.Prelude.{◌≡◌, ◌+◌, ◌||◌, if◌then◌else◌};
+ghost use Rattle.std.specs.declared.cmp.Ordering.TheVariants.{Less, Greater};
 ghost use Rattle.std.specs.Ordering.{is_lt, is_le};
 ghost use Rattle.key_pages.specs.Position.{is_less, begins_with, side_of};
 
@@ -47,20 +48,19 @@ pub(crate) fn side<L: Ledger>(
         Position::Start => Ordering::Greater,
         Position::End => Ordering::Less,
         Position::On { key, format, rrn } => entries::compare(entry, key, format, rrn, falling),
-        Position::Before(part) => {
-            if compare_part(entry.key.bytes(), part).is_lt() {
-                Ordering::Less
-            } else {
-                Ordering::Greater
-            }
-        }
-        Position::Past(part) => {
-            if compare_part(entry.key.bytes(), part).is_le() {
-                Ordering::Less
-            } else {
-                Ordering::Greater
-            }
-        }
+        Position::Before(part) => between(compare_part(entry.key.bytes(), part).is_lt()),
+        Position::Past(part) => between(compare_part(entry.key.bytes(), part).is_le()),
+    }
+}
+
+// The side of an entry that can't be on the position.
+fn between(before: bool) -> Ordering
+    ensures { result ≡ (if before then Less else Greater) }
+{
+    if before {
+        Ordering::Less
+    } else {
+        Ordering::Greater
     }
 }
 

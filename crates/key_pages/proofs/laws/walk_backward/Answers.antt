@@ -1,5 +1,5 @@
 -- All entries are before the end.
-use Rattle.std.proofs.Common.{◌≡◌, [], reverse, sym}
+use Rattle.std.proofs.Common.{[], reverse, sym}
 use Rattle.std.proofs.lemmas.List.{reverse-reverse, append-nil}
 use Rattle.key_pages.specs.declared.positions.Position.TheVariants.{End}
 use Rattle.key_pages.proofs.WalkLemmas.{backward, all_short}

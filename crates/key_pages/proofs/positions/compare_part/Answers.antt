@@ -1,5 +1,5 @@
 -- The cut key tells what the whole one does.
-use Rattle.std.proofs.Common.{rules, arith, ◌≡◌, ◌∙◌, ap, length, take}
+use Rattle.std.proofs.Common.{arith, ◌≡◌, ◌∙◌, ap, length, take}
 use Rattle.std.specs.Ordering.{is_lt, is_le}
 use Rattle.std.proofs.lemmas.Grind.{common_steps}
 use Rattle.key_pages.specs.Order.{key_cmp}

@@ -1,7 +1,5 @@
 -- The entry isn't there, so the search ends at its place, and there is room.
-use Rattle.std.proofs.Common.{◌≡◌, ◌∙◌, sym, ap, subst, arith, is_ok, Err, IfErr, List, insert}
-use Rattle.key_pages.specs.declared.entries.Entry.{Entry}
-use Rattle.key_pages.specs.Order.{IsInOrder}
+use Rattle.std.proofs.Common.{◌≡◌, ◌∙◌, arith}
 use Rattle.key_pages.specs.EntryList.{with_entry}
 use Rattle.key_pages.specs.Search.{IsGapFor}
 use Rattle.key_pages.proofs.OrderLemmas.{IsInOrder-with_entry, is_err_from_absent}

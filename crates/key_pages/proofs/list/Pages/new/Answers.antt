@@ -1,8 +1,6 @@
 -- An empty list is in order.
-use Rattle.std.proofs.Common.{rules, arith}
+use Rattle.std.proofs.Common.{rules}
 use Rattle.std.specs.List.Sorted.{IsStrictlySortedBy}
-use Rattle.key_pages.proofs.Splits.{filter-none}
-use Rattle.key_pages.proofs.OrderLemmas.{entry_total}
 use Rattle.key_pages.proofs.list.Pages.new.Goals as goal
 
 pub invariant_of-result : goal.invariant_of-result
