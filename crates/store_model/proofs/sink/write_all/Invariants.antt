@@ -1,0 +1,12 @@
+use Rattle.std.proofs.Common.{length, ◌-◌, ◌≡◌, ◌++◌, ◌≤◌, take}
+use Rattle.store_model.proofs.sink.write_all.Given as goal
+
+abbrev pub invariant-loop-done : goal.invariant-loop-done
+invariant-loop-done g l = record {
+  within : l.done ≤ length l.bytes;
+  taken : g.O.Sink.tells → g.O.Sink.taken l.sink ≡ g.O.Sink.taken l.fn.sink ++ take l.done l.bytes;
+  faults : g.O.Sink.faults l.fn.sink ≤ g.O.Sink.faults l.sink;
+}
+
+abbrev pub decreases-loop-done : goal.decreases-loop-done
+decreases-loop-done g l = length l.bytes - l.done
