@@ -8,6 +8,7 @@ mod fault;
 mod gate;
 mod memory_sink;
 mod memory_source;
+mod past;
 mod sink;
 mod source;
 mod store;
