@@ -31,21 +31,21 @@ module _ (areas : List (Vec ℕ Global)) (changes : List Change) (agrees : (area
       → (other : ℕ) → held (set areas area new) other ≡ seen other
   set_agrees seen area new bytes within is put other =
       put_cases other area bytes (seen_after blank changes other) (held (set areas area new) other)
-        (λ same. ap (λ (n : ℕ). held (set areas area new) n) same ∙ held-set_same areas area new within ∙ is)
-        (λ apart. held-set_other areas area other new apart ∙ agrees other)
+      (λ same. ap (λ (n : ℕ). held (set areas area new) n) same ∙ held-set_same areas area new within ∙ is)
+      (λ apart. held-set_other areas area other new apart ∙ agrees other)
       ∙ sym (ap (λ (f : Areas). f other) put)
 
   pub wrote_agrees : (pushed : List Change) (area at : ℕ) (new bytes : Vec ℕ Global) → area < length areas → new.items ≡ written at bytes.items (held areas area) → pushed ≡ changes ++ Wrote area at bytes ∷ []
       → (other : ℕ) → held (set areas area new) other ≡ seen_after blank pushed other
   wrote_agrees pushed area at new bytes within is push =
       set_agrees (seen_after blank pushed) area new _ within (is ∙ ap (λ (l : List ℕ). written at bytes.items l) (agrees area))
-        (ap (λ (l : List Change). seen_after blank l) push ∙ seen_after-push blank changes (Wrote area at bytes))
+      (ap (λ (l : List Change). seen_after blank l) push ∙ seen_after-push blank changes (Wrote area at bytes))
 
   pub shortened_agrees : (pushed : List Change) (area n : ℕ) (new : Vec ℕ Global) → area < length areas → new.items ≡ take n (held areas area) → pushed ≡ changes ++ Shortened area n ∷ []
       → (other : ℕ) → held (set areas area new) other ≡ seen_after blank pushed other
   shortened_agrees pushed area n new within is push =
       set_agrees (seen_after blank pushed) area new _ within (is ∙ ap (λ (l : List ℕ). take n l) (agrees area))
-        (ap (λ (l : List Change). seen_after blank l) push ∙ seen_after-push blank changes (Shortened area n))
+      (ap (λ (l : List Change). seen_after blank l) push ∙ seen_after-push blank changes (Shortened area n))
 
   synced_agrees : (pushed : List Change) (area : ℕ) → pushed ≡ changes ++ Synced area ∷ [] → (other : ℕ) → held areas other ≡ seen_after blank pushed other
   synced_agrees pushed area push other =
@@ -60,8 +60,8 @@ module _ (areas : List (Vec ℕ Global)) (changes : List Change) (agrees : (area
   pub empty_agrees : (pushed : List Change) (area n : ℕ) → held areas area ≡ [] → pushed ≡ changes ++ Shortened area n ∷ [] → (other : ℕ) → held areas other ≡ seen_after blank pushed other
   empty_agrees pushed area n none push other =
       put_cases other area (take n (seen_after blank changes area)) (seen_after blank changes other) (held areas other)
-        (λ same. ap (λ (k : ℕ). held areas k) same ∙ none ∙ sym (ap (λ (l : List ℕ). take n l) (sym (agrees area) ∙ none) ∙ take_all n [] (omega arith)))
-        (λ apart. agrees other)
+      (λ same. ap (λ (k : ℕ). held areas k) same ∙ none ∙ sym (ap (λ (l : List ℕ). take n l) (sym (agrees area) ∙ none) ∙ take_all n [] (omega arith)))
+      (λ apart. agrees other)
       ∙ sym (ap (λ (f : Areas). f other) (ap (λ (l : List Change). seen_after blank l) push ∙ seen_after-push blank changes (Shortened area n)))
 
   -- no area passes the bound after one of them was set

@@ -2,4 +2,6 @@ pub mod Calls
 pub mod Disk
 pub mod Faults
 pub mod Memory
+pub mod MemoryStore
 pub mod Past
+pub mod Steps

@@ -3,7 +3,6 @@
 ghost use Rattle.std.specs.Prelude.{◌≡◌, ◌+◌, ◌^◌, ◌<◌, ◌≤◌, ◌++◌, [], ◌∷◌, ℕ, length, take, Vec, OnOk, OnErr};
 ghost use Rattle.store_model.specs.Disk.{written};
 ghost use Rattle.store_model.specs.Past.{held, blank, seen_after};
-
 ghost use Rattle.std.specs.declared.alloc.Global.{Global};
 ghost use Rattle.store_model.specs.declared.past.Change.TheVariants.{Wrote, Shortened, Synced};
 
@@ -50,7 +49,13 @@ impl Past {
     }
 
     /// Writes to the area. After an `Err` nothing has changed.
-    pub fn write(&mut self, alloc: Global, area: u32, at: u64, bytes: &[u8]) -> Result<(), AllocError>
+    pub fn write(
+        &mut self,
+        alloc: Global,
+        area: u32,
+        at: u64,
+        bytes: &[u8],
+    ) -> Result<(), AllocError>
         requires start { at ≤ length (seen_after blank self.old.changes.items area) }
         requires room { at + length bytes.now ≤ 2 ^ 62 }
         ensures pushed { OnOk result ((v : Vec ℕ Global) × (v.items ≡ bytes.now) × (self.new.changes.items ≡ self.old.changes.items ++ Wrote area at v ∷ [])) }

@@ -23,10 +23,10 @@ invariant_of-self-in-Ok c =
     let bytes = c.in_ok-from_slice.ensures.items in
     record {
       agrees = wrote_agrees areas past.changes.items (λ area. c.reach.ensures.same area ∙ past.agrees area) c.push.new.self.items c.args.area c.args.at c.overwrite.new.old _ within
-        (new ∙ ap (λ (l : List ℕ). written c.args.at l (held areas c.args.area)) (sym bytes)) c.in_ok-push.ensures.items;
+          (new ∙ ap (λ (l : List ℕ). written c.args.at l (held areas c.args.area)) (sym bytes)) c.in_ok-push.ensures.items;
       fits = set_fits areas past.changes.items (λ area. c.reach.ensures.same area ∙ past.agrees area) c.args.area c.overwrite.new.old _ within
-        (λ area. omega (arith, ap length (c.reach.ensures.same area), past.fits area))
-        (omega (arith, ap length new, length-written c.args.at c.args.bytes.now (held areas c.args.area) 4611686018427387904 (omega arith) (omega (arith, ap length (c.reach.ensures.same c.args.area), past.fits c.args.area))));
+          (λ area. omega (arith, ap length (c.reach.ensures.same area), past.fits area))
+          (omega (arith, ap length new, length-written c.args.at c.args.bytes.now (held areas c.args.area) 4611686018427387904 (omega arith) (omega (arith, ap length (c.reach.ensures.same c.args.area), past.fits c.args.area))));
     }
 
 pub invariant_of-self-in-Err : goal.invariant_of-self-in-Err

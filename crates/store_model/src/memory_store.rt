@@ -1,0 +1,129 @@
+//! A disk in memory that keeps its whole past, fails where it is told to, and may stop. The trait is in `store.rt`,
+//! what a stop may leave in `stop_images.rt`.
+
+use crate::calls::Calls;
+use crate::past::Past;
+use crate::{Failed, Store};
+use std::alloc::Global;
+
+/// The longest an area may be.
+const MAX_SIZE: u64 = 1 << 62;
+
+/// Areas in memory. At most one of its calls is to fail, and from one call on all may fail; growth that finds no
+/// memory fails too. A call that fails changes nothing.
+#[derive(Drop)]
+pub struct MemoryStore {
+    alloc: Global,
+    past: Past,
+    calls: Calls,
+    stop: Option<u64>,
+}
+
+impl MemoryStore {
+    ghost use Rattle.std.specs.Prelude.{◌≡◌, ◌≤◌, [], Some, None, OnOk, OnErr, IsErr, ◌⊎◌};
+    ghost use Rattle.store_model.specs.Faults.{Rose};
+    ghost use Rattle.store_model.specs.Calls.{fresh, passed, IsToFail};
+    ghost use Rattle.store_model.specs.MemoryStore.{changes_of, calls_of, IsStopped};
+
+    /// A store of which nothing was written. It fails at no call.
+    pub fn new(alloc: Global) -> MemoryStore
+        ensures changes { changes_of result ≡ [] }
+        ensures calls { calls_of result ≡ fresh }
+        ensures stop { result.stop ≡ None }
+    {
+        MemoryStore {
+            alloc,
+            past: Past::new(alloc),
+            calls: Calls::NONE,
+            stop: None,
+        }
+    }
+
+    /// Lets one call fail, counted from 1 over all calls; a call that was made already doesn't come again.
+    pub fn fail_at(&mut self, call: u64)
+        ensures changes { changes_of self.new ≡ changes_of self.old }
+        ensures calls { calls_of self.new ≡ record (calls_of self.old) { failing = Some call } }
+        ensures stop { self.new.stop ≡ self.old.stop }
+    {
+        self.calls.failing = Some(call);
+    }
+
+    /// Lets this call and each after it fail, counted from 1 over all calls.
+    pub fn stop_at(&mut self, call: u64)
+        ensures changes { changes_of self.new ≡ changes_of self.old }
+        ensures calls { calls_of self.new ≡ calls_of self.old }
+        ensures stop { self.new.stop ≡ Some call }
+    {
+        self.stop = Some(call);
+    }
+
+    /// One call more.
+    fn begin(&mut self) -> Result<(), Failed>
+        ensures changes { changes_of self.new ≡ changes_of self.old }
+        ensures stop { self.new.stop ≡ self.old.stop }
+        ensures cause { IsErr result → Rose (calls_of self.old).faults (calls_of self.new).faults }
+        ensures never_falls { (calls_of self.old).faults ≤ (calls_of self.new).faults }
+        ensures passed { OnOk result (calls_of self.new ≡ passed (calls_of self.old)) }
+        ensures told_to { OnErr result (IsToFail (calls_of self.old) ⊎ IsStopped self.old) }
+    {
+        self.calls.begin()?;
+        match self.stop {
+            Some(call) if call <= self.calls.made => Err(self.calls.fault()),
+            _ => Ok(()),
+        }
+    }
+}
+
+impl Store for MemoryStore {
+    ghost use Rattle.std.specs.Prelude.{◌+◌, ◌^◌, ℕ, length, take, drop, IfOk};
+    ghost use Rattle.store_model.specs.Disk.{Stays, Does, Torn, Cut, IsDurable, written};
+    ghost use Rattle.store_model.specs.MemoryStore.{disk_of, may_seen, sizes_fit};
+
+    ghost tells = { Unit {0} };
+
+    ghost disk = { disk_of };
+
+    fn size(&mut self, area: u32) -> Result<u64, Failed> {
+        self.begin()?;
+        Ok(self.past.bytes(area).len() as u64)
+    }
+
+    fn read(&mut self, area: u32, at: u64, into: &mut [u8]) -> Result<(), Failed> {
+        self.begin()?;
+        let start = at as usize;
+        let end = start + into.len();
+        into.copy_from_slice(&self.past.bytes(area)[start..end]);
+        Ok(())
+    }
+
+    fn write(&mut self, area: u32, at: u64, bytes: &[u8]) -> Result<(), Failed> {
+        self.begin()?;
+        if bytes.len() as u64 > MAX_SIZE - at {
+            return Err(self.calls.fault());
+        }
+        match self.past.write(self.alloc, area, at, bytes) {
+            Ok(()) => Ok(()),
+            Err(_) => Err(self.calls.fault()),
+        }
+    }
+
+    fn cut(&mut self, area: u32, length: u64) -> Result<(), Failed> {
+        self.begin()?;
+        match self.past.cut(area, length) {
+            Ok(()) => Ok(()),
+            Err(_) => Err(self.calls.fault()),
+        }
+    }
+
+    fn sync(&mut self, area: u32) -> Result<(), Failed> {
+        self.begin()?;
+        match self.past.sync(area) {
+            Ok(()) => Ok(()),
+            Err(_) => Err(self.calls.fault()),
+        }
+    }
+
+    ghost leaves = { λ store _. may_seen store };
+
+    ghost fits = { λ store area _. sizes_fit store area };
+}
