@@ -1,6 +1,6 @@
 -- What a store in memory has come through: each change that a call made, and what a stop may leave of them.
 -- A model of our own, as `Disk`.
-use Rattle.std.specs.Prelude.{◌≡◌, ℕ, zero, suc, ◌≤◌, List, [], ◌∷◌, length, take, if◌then◌else◌, ◌==◌, Vec}
+use Rattle.std.specs.Prelude.{◌≡◌, ℕ, zero, suc, ◌+◌, ◌^◌, ◌≤◌, List, [], ◌∷◌, length, take, if◌then◌else◌, ◌==◌, Vec}
 use Rattle.std.proofs.Math.Nat.{le_trans}
 use Rattle.std.specs.declared.alloc.Global.{Global}
 use Rattle.store_model.specs.Disk.{Areas, Disk, Only, Torn, Cut, written}
@@ -22,6 +22,12 @@ abbrev pub changed : Change → Areas → Areas
 changed (Wrote area at bytes) seen = λ other. if other == area then written at bytes.items (seen area) else seen other
 changed (Shortened area length) seen = λ other. if other == area then take length (seen area) else seen other
 changed (Synced area) seen = seen
+
+-- no area gets longer than an area may be
+abbrev pub HasRoom : Change → Type 0
+HasRoom (Wrote area at bytes) = at + length bytes.items ≤ 2 ^ 62
+HasRoom (Shortened area length) = Unit {0}
+HasRoom (Synced area) = Unit {0}
 
 -- what a stop may leave after a change, from what it might have left before, and from what a read gave
 abbrev pub MayAfter : Change → Areas → (Areas → Type 0) → Areas → Type 0

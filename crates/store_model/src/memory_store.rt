@@ -2,12 +2,9 @@
 //! what a stop may leave in `stop_images.rt`.
 
 use crate::calls::Calls;
-use crate::past::Past;
+use crate::past::{Change, Past};
 use crate::{Failed, Store};
 use std::alloc::Global;
-
-/// The longest an area may be.
-const MAX_SIZE: u64 = 1 << 62;
 
 /// Areas in memory. At most one of its calls is to fail, and from one call on all may fail; growth that finds no
 /// memory fails too. A call that fails changes nothing.
@@ -20,8 +17,9 @@ pub struct MemoryStore {
 }
 
 impl MemoryStore {
-    ghost use Rattle.std.specs.Prelude.{◌≡◌, ◌≤◌, [], Some, None, OnOk, OnErr, IsErr, ◌⊎◌};
+    ghost use Rattle.std.specs.Prelude.{◌≡◌, ◌≤◌, ◌++◌, [], ◌∷◌, Some, None, OnOk, OnErr, IsErr, ◌⊎◌};
     ghost use Rattle.store_model.specs.Faults.{Rose};
+    ghost use Rattle.store_model.specs.Past.{HasRoom};
     ghost use Rattle.store_model.specs.Calls.{fresh, passed, IsToFail};
     ghost use Rattle.store_model.specs.MemoryStore.{changes_of, calls_of, IsStopped};
 
@@ -72,6 +70,22 @@ impl MemoryStore {
             _ => Ok(()),
         }
     }
+
+    /// Keeps a change. Want of room is a fault.
+    fn add(&mut self, change: Change) -> Result<(), Failed>
+        ensures pushed { OnOk result (changes_of self.new ≡ changes_of self.old ++ change ∷ []) }
+        ensures room { OnOk result (HasRoom change) }
+        ensures calls { OnOk result (calls_of self.new ≡ calls_of self.old) }
+        ensures unchanged { OnErr result (changes_of self.new ≡ changes_of self.old) }
+        ensures cause { IsErr result → Rose (calls_of self.old).faults (calls_of self.new).faults }
+        ensures never_falls { (calls_of self.old).faults ≤ (calls_of self.new).faults }
+        ensures stop { self.new.stop ≡ self.old.stop }
+    {
+        match self.past.add(self.alloc, change) {
+            Ok(()) => Ok(()),
+            Err(_) => Err(self.calls.fault()),
+        }
+    }
 }
 
 impl Store for MemoryStore {
@@ -98,29 +112,23 @@ impl Store for MemoryStore {
 
     fn write(&mut self, area: u32, at: u64, bytes: &[u8]) -> Result<(), Failed> {
         self.begin()?;
-        if bytes.len() as u64 > MAX_SIZE - at {
+        let Ok(copy) = Vec::from_slice(self.alloc, bytes) else {
             return Err(self.calls.fault());
-        }
-        match self.past.write(self.alloc, area, at, bytes) {
-            Ok(()) => Ok(()),
-            Err(_) => Err(self.calls.fault()),
-        }
+        };
+        self.add(Change::Wrote(area, at, copy))?;
+        Ok(())
     }
 
     fn cut(&mut self, area: u32, length: u64) -> Result<(), Failed> {
         self.begin()?;
-        match self.past.cut(area, length) {
-            Ok(()) => Ok(()),
-            Err(_) => Err(self.calls.fault()),
-        }
+        self.add(Change::Shortened(area, length))?;
+        Ok(())
     }
 
     fn sync(&mut self, area: u32) -> Result<(), Failed> {
         self.begin()?;
-        match self.past.sync(area) {
-            Ok(()) => Ok(()),
-            Err(_) => Err(self.calls.fault()),
-        }
+        self.add(Change::Synced(area))?;
+        Ok(())
     }
 
     ghost leaves = { λ store _. may_seen store };

@@ -1,18 +1,22 @@
 //! What a store in memory has come through: every change, and what each area holds now. `memory_store.rt` puts the
 //! failures round it.
-ghost use Rattle.std.specs.Prelude.{◌≡◌, ◌+◌, ◌^◌, ◌<◌, ◌≤◌, ◌++◌, [], ◌∷◌, ℕ, length, take, Vec, OnOk, OnErr};
+ghost use Rattle.std.specs.Prelude.{◌≡◌, ◌≢◌, ◌↔◌, ◌+◌, ◌^◌, ◌≤◌, ◌++◌, [], ◌∷◌, ℕ, length, take, IsTrue, OnOk, OnErr};
 ghost use Rattle.store_model.specs.Disk.{written};
-ghost use Rattle.store_model.specs.Past.{held, blank, seen_after};
-ghost use Rattle.std.specs.declared.alloc.Global.{Global};
-ghost use Rattle.store_model.specs.declared.past.Change.TheVariants.{Wrote, Shortened, Synced};
+ghost use Rattle.store_model.specs.Past.{held, blank, changed, seen_after, HasRoom};
 
 use std::alloc::{AllocError, Global};
 
-/// A change that a call made to an area, or its sync.
+/// The longest an area may be.
+const MAX_SIZE: u64 = 1 << 62;
+
+/// What a call did.
 #[derive(Drop)]
 pub enum Change {
+    /// These bytes were written to the area, from a place on.
     Wrote(u32, u64, Vec<u8>),
+    /// The area was cut to a length.
     Shortened(u32, u64),
+    /// The area was synced.
     Synced(u32),
 }
 
@@ -48,25 +52,18 @@ impl Past {
         }
     }
 
-    /// Writes to the area. After an `Err` nothing has changed.
-    pub fn write(
-        &mut self,
-        alloc: Global,
-        area: u32,
-        at: u64,
-        bytes: &[u8],
-    ) -> Result<(), AllocError>
-        requires start { at ≤ length (seen_after blank self.old.changes.items area) }
-        requires room { at + length bytes.now ≤ 2 ^ 62 }
-        ensures pushed { OnOk result ((v : Vec ℕ Global) × (v.items ≡ bytes.now) × (self.new.changes.items ≡ self.old.changes.items ++ Wrote area at v ∷ [])) }
+    /// Adds a change. After an `Err`, for want of room, nothing has changed.
+    pub fn add(&mut self, alloc: Global, change: Change) -> Result<(), AllocError>
+        ensures pushed { OnOk result (self.new.changes.items ≡ self.old.changes.items ++ change ∷ []) }
+        ensures room { OnOk result (HasRoom change) }
         ensures unchanged { OnErr result (self.new.changes.items ≡ self.old.changes.items) }
     {
-        let place = area as usize;
-        reach(alloc, &mut self.areas, place + 1)?;
+        if !has_room(&change) {
+            return Err(AllocError);
+        }
         let before = self.changes.len();
-        let change = Change::Wrote(area, at, Vec::from_slice(alloc, bytes)?);
         self.changes.push(change)?;
-        match overwrite(&mut self.areas[place], at as usize, bytes) {
+        match apply(alloc, &mut self.areas, &self.changes[before]) {
             Ok(()) => Ok(()),
             Err(error) => {
                 self.changes.truncate(before);
@@ -74,33 +71,53 @@ impl Past {
             }
         }
     }
+}
 
-    /// Cuts the area. After an `Err` nothing has changed.
-    pub fn cut(&mut self, area: u32, length: u64) -> Result<(), AllocError>
-        requires { length ≤ Rattle.std.specs.Prelude.length (seen_after blank self.old.changes.items area) }
-        ensures pushed { OnOk result (self.new.changes.items ≡ self.old.changes.items ++ Shortened area length ∷ []) }
-        ensures unchanged { OnErr result (self.new.changes.items ≡ self.old.changes.items) }
-    {
-        self.changes.push(Change::Shortened(area, length))?;
-        let place = area as usize;
-        if place < self.areas.len() {
-            self.areas[place].truncate(length as usize);
+/// Whether no area gets longer than an area may be.
+fn has_room(change: &Change) -> bool
+    ensures { IsTrue result ↔ HasRoom change.now }
+{
+    match change {
+        Change::Wrote(_, at, bytes) => {
+            *at <= MAX_SIZE && bytes.len() as u64 <= MAX_SIZE - *at
         }
-        Ok(())
+        Change::Shortened(_, _) => true,
+        Change::Synced(_) => true,
     }
+}
 
-    /// Syncs the area. After an `Err` nothing has changed.
-    pub fn sync(&mut self, area: u32) -> Result<(), AllocError>
-        ensures pushed { OnOk result (self.new.changes.items ≡ self.old.changes.items ++ Synced area ∷ []) }
-        ensures unchanged { OnErr result (self.new.changes.items ≡ self.old.changes.items) }
-    {
-        self.changes.push(Change::Synced(area))?;
-        Ok(())
+/// Does to the areas what the change does. After an `Err` they hold what they held.
+pub fn apply(alloc: Global, areas: &mut Vec<Vec<u8>>, change: &Change) -> Result<(), AllocError>
+    ensures done { OnOk result ((area : ℕ) → held areas.new.items area ≡ changed change.now (held areas.old.items) area) }
+    ensures unchanged { OnErr result ((area : ℕ) → held areas.new.items area ≡ held areas.old.items area) }
+{
+    match change {
+        Change::Wrote(area, at, bytes) => {
+            let place = *area as usize;
+            reach(alloc, areas, place + 1)?;
+            overwrite(&mut areas[place], *at as usize, bytes)?;
+            Ok(())
+        }
+        Change::Shortened(area, length) => {
+            shorten(areas, *area as usize, *length as usize);
+            Ok(())
+        }
+        Change::Synced(_) => Ok(()),
+    }
+}
+
+/// Cuts an area, if it is held.
+fn shorten(areas: &mut Vec<Vec<u8>>, place: usize, length: usize)
+    ensures here { held areas.new.items place ≡ take length (held areas.old.items place) }
+    ensures others { (other : ℕ) → other ≢ place → held areas.new.items other ≡ held areas.old.items other }
+{
+    if place < areas.len() {
+        areas[place].truncate(length);
     }
 }
 
 /// Makes empty areas up to a count.
-fn reach(alloc: Global, areas: &mut Vec<Vec<u8>>, count: usize) -> Result<(), AllocError>
+pub fn reach(alloc: Global, areas: &mut Vec<Vec<u8>>, count: usize) -> Result<(), AllocError>
     ensures reached { OnOk result (count ≤ length areas.new.items) }
     ensures same { (area : ℕ) → held areas.new.items area ≡ held areas.old.items area }
 {
@@ -112,12 +129,12 @@ fn reach(alloc: Global, areas: &mut Vec<Vec<u8>>, count: usize) -> Result<(), Al
 
 /// Writes over what is there, and past the end.
 fn overwrite(old: &mut Vec<u8>, at: usize, bytes: &[u8]) -> Result<(), AllocError>
-    requires { at ≤ length old.old.items }
     ensures written { OnOk result (old.new.items ≡ written at bytes.now old.old.items) }
     ensures unchanged { OnErr result (old.new.items ≡ old.old.items) }
 {
-    let inside = bytes.len().min(old.len() - at);
+    let start = at.min(old.len());
+    let inside = bytes.len().min(old.len() - start);
     old.extend_from_slice(&bytes[inside..])?;
-    old[at..at + inside].copy_from_slice(&bytes[..inside]);
+    old[start..start + inside].copy_from_slice(&bytes[..inside]);
     Ok(())
 }
