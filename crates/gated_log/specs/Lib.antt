@@ -1,0 +1,4 @@
+pub mod Blocks
+pub mod Log
+pub mod Places
+pub mod Steps
