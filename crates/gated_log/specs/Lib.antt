@@ -2,3 +2,4 @@ pub mod Blocks
 pub mod Log
 pub mod Places
 pub mod Steps
+pub mod Walk

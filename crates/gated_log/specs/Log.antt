@@ -1,5 +1,5 @@
 -- A log as its callers see it, and how it stands to the disk.
-use Rattle.std.specs.Prelude.{◌≡◌, ◌⊎◌, ℕ, List, [], ◌∷◌, ◌++◌, ∥◌∥₁}
+use Rattle.std.specs.Prelude.{◌≡◌, ◌⊎◌, ℕ, List, [], ◌∷◌, ◌++◌}
 use Rattle.store_model.specs.Disk.{Disk, IsDurable}
 use Rattle.gated_log.specs.Blocks.{Spells, sizes}
 
@@ -17,8 +17,12 @@ pub record Settled (log : LogState) (blocks : List (List ℕ)) (disk : Disk) : T
   pub durable : IsDurable log.area disk
 
 -- it spells some blocks
+abbrev pub HasBlocks : LogState → Disk → Type 0
+HasBlocks log disk = (blocks : List (List ℕ)) × Settled log blocks disk
+
+-- the same as a mere fact, which a struct's ghost field can keep
 abbrev pub IsSettled : LogState → Disk → Type 0
-IsSettled log disk = ∥ (blocks : List (List ℕ)) × Settled log blocks disk ∥₁
+IsSettled log disk = ∥ HasBlocks log disk ∥₁
 
 -- before or after one block more
 abbrev pub IsWithOrWithout : ℕ → ℕ → List (List ℕ) → List ℕ → List ℕ → Type 0

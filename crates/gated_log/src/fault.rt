@@ -2,7 +2,7 @@
 ghost use Rattle.std.specs.Prelude.{◌≡◌};
 ghost use Rattle.gated_log.specs.declared.fault.LogFault.TheVariants.{StoreFault as Fault, NoMemory};
 
-use std::alloc::AllocError;
+use std::alloc::{AllocError, AllocFailed};
 use store_model::Failed;
 
 /// The store failed: its count of faults rose. Open the log again before it is used.
@@ -38,6 +38,14 @@ impl From<AllocError> for LogFault {
     ghost from_gives = { λ _ e. e ≡ NoMemory };
 
     fn from(_: AllocError) -> Self {
+        LogFault::NoMemory
+    }
+}
+
+impl<T: Drop> From<AllocFailed<T>> for LogFault {
+    ghost from_gives = { λ _ e. e ≡ NoMemory };
+
+    fn from(_: AllocFailed<T>) -> Self {
         LogFault::NoMemory
     }
 }

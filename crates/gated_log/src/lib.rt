@@ -5,6 +5,8 @@
 mod fault;
 mod layout;
 mod log;
+mod opening;
 
 pub use fault::{LogFault, StoreFault};
 pub use log::{Log, format};
+pub use opening::open;

@@ -80,6 +80,7 @@ impl Log {
         ensures same_area { self.new.area ≡ self.old.area }
         ensures same_first { self.new.first ≡ self.old.first }
         ensures same_lengths { self.new.lengths ≡ self.old.lengths }
+        ensures same_room { OnErr result (self.new.room ≡ self.old.room) }
     {
         self.places.reserve(blocks as usize)
     }
@@ -107,7 +108,7 @@ impl Log {
             at: gate + 5,
             length: block.len() as u32,
         };
-        self.places.push(place).unwrap();
+        self.places.push_reserved(place);
         self.end = gate + 5 + block.len() as u64;
         Ok(())
     }

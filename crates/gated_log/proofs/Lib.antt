@@ -1,0 +1,5 @@
+pub mod Append
+pub mod Blocks
+pub mod Numbers
+pub mod Staging
+pub mod Whole
