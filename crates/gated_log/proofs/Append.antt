@@ -1,13 +1,13 @@
 -- What the two steps of an append leave, on bytes.
-use Rattle.std.proofs.Common.{◌≡◌, ◌≢◌, ◌⊎◌, inl, inr, ℕ, zero, suc, ◌+◌, ◌-◌, ◌^◌, ◌<◌, ◌≤◌, min, List, [], ◌∷◌, ◌++◌, length, get_or, take, drop, refl, sym, ◌∙◌, ap, subst, arith, append_assoc, length-append, length-take, length-drop, take-append-drop}
-use Rattle.std.proofs.lemmas.List.{take_at, drop_at, take_all, drop_more, append-nil}
+use Rattle.std.proofs.Common.{◌≡◌, ◌≢◌, inl, inr, ℕ, ◌+◌, ◌^◌, ◌<◌, ◌≤◌, min, List, [], ◌∷◌, ◌++◌, length, get_or, take, drop, refl, sym, ◌∙◌, ap, subst, arith, append_assoc, length-append, take-append-drop}
+use Rattle.std.proofs.lemmas.List.{take_at, drop_at, drop_more}
 use Rattle.std.proofs.lemmas.Bool.{cases_eq}
 use Rattle.store_model.specs.Disk.{Torn, written}
-use Rattle.gated_log.specs.Blocks.{header, block_bytes, IsFirst, Opens, Spells, extent, sizes}
+use Rattle.gated_log.specs.Blocks.{header, block_bytes, Spells, extent, sizes}
 use Rattle.gated_log.specs.Log.{IsWithOrWithout}
-use Rattle.gated_log.specs.Steps.{KeepsFront, IsStaged}
-use Rattle.gated_log.proofs.Blocks.{front_of, opens-push, Front}
-use Rattle.gated_log.proofs.Numbers.{length-header, length-block_bytes}
+use Rattle.gated_log.specs.Steps.{KeepsFront}
+use Rattle.gated_log.proofs.Blocks.{front_of, opens-push}
+use Rattle.gated_log.proofs.Numbers.{length-header}
 
 -- a gate, a block behind it and a closed gate
 abbrev pub after_gate : ℕ → List ℕ → List ℕ → List ℕ

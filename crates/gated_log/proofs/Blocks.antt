@@ -1,12 +1,12 @@
 -- Lists of blocks in an area: one block more, where each stands, and that bytes spell one list alone.
-use Rattle.std.proofs.Common.{◌≡◌, ◌≢◌, ℕ, zero, suc, ◌+◌, ◌-◌, ◌*◌, ◌^◌, ◌<◌, ◌≤◌, List, [], ◌∷◌, ◌++◌, length, get_or, take, drop, map, refl, sym, ◌∙◌, ap, subst, arith, append_assoc, length-append}
-use Rattle.std.proofs.lemmas.List.{map-append, take_at, drop_at, append_cancel_left, drop-drop}
+use Rattle.std.proofs.Common.{◌≡◌, ◌≢◌, ℕ, zero, suc, ◌+◌, ◌^◌, ◌<◌, ◌≤◌, List, [], ◌∷◌, ◌++◌, length, get_or, take, drop, refl, sym, ◌∙◌, ap, subst, arith, append_assoc, length-append}
+use Rattle.std.proofs.lemmas.List.{map-append, take_at, drop_at, append_cancel_left}
 use Rattle.byteorder.specs.Endian.{big_bytes, big_number}
-use Rattle.byteorder.specs.Numbers.{big_number-reads_back, length-bytes_high_first}
-use Rattle.gated_log.specs.Blocks.{header, block_bytes, IsFirst, Opens, Spells, extent, sizes, HasNoBlock, IsFaultAt, HasNoHeader, BreaksAt, IsDamagedAt}
+use Rattle.byteorder.specs.Numbers.{big_number-reads_back}
+use Rattle.gated_log.specs.Blocks.{block_bytes, Opens, extent, sizes, IsFaultAt}
 use Rattle.gated_log.specs.Places.{ArePlaced, lengths_of}
 use Rattle.gated_log.specs.declared.log.Place.{Place}
-use Rattle.gated_log.proofs.Numbers.{length-block_bytes, length-header}
+use Rattle.gated_log.proofs.Numbers.{length-block_bytes}
 
 pub extent-push : (xs : List ℕ) (x : ℕ) → extent (xs ++ x ∷ []) ≡ extent xs + (5 + x)
 extent-push [] x = omega arith
@@ -51,7 +51,7 @@ opens-push [] block body rest after gate is opened small more = (gate, after, op
 opens-push (first ∷ blocks) block body rest after gate (g, next, o, s, is, others) opened small more = (g, next, o, s, is, opens-push blocks block next rest after gate others opened small more)
 
 -- a block's length reads back
-block_number : (block after : List ℕ) → length block < 2 ^ 32 → big_number 4 (block_bytes block ++ after) ≡ length block
+pub block_number : (block after : List ℕ) → length block < 2 ^ 32 → big_number 4 (block_bytes block ++ after) ≡ length block
 unfolding block_bytes
 block_number block after small =
     ap (λ (l : List ℕ). big_number 4 l) (append_assoc (big_bytes 4 (length block)) block after) ∙ big_number-reads_back 4 (length block) (block ++ after) small

@@ -2,4 +2,5 @@ pub mod Append
 pub mod Blocks
 pub mod Numbers
 pub mod Staging
+pub mod Walking
 pub mod Whole

@@ -1,9 +1,9 @@
 -- Writes that follow one another on the log's area.
-use Rattle.std.proofs.Common.{◌≡◌, ℕ, ◌+◌, ◌-◌, ◌≤◌, min, List, [], ◌∷◌, ◌++◌, length, take, drop, sym, ◌∙◌, ap, arith, append_assoc, length-append, length-take, length-drop}
+use Rattle.std.proofs.Common.{◌≡◌, ℕ, ◌+◌, ◌≤◌, min, List, [], ◌∷◌, ◌++◌, length, take, drop, sym, ◌∙◌, ap, arith, append_assoc, length-append, length-take}
 use Rattle.std.proofs.lemmas.List.{take_at, drop-drop, take-take}
 use Rattle.std.proofs.Math.Seq.{drop-append-add}
-use Rattle.store_model.specs.Disk.{Areas, Disk, Does, Stays, Torn, written}
-use Rattle.store_model.proofs.Runs.{weaken, then_does, then_stays}
+use Rattle.store_model.specs.Disk.{Disk, Does, Torn, written}
+use Rattle.store_model.proofs.Runs.{weaken, then_does}
 use Rattle.gated_log.specs.Log.{Anything}
 use Rattle.gated_log.specs.Blocks.{block_bytes}
 use Rattle.gated_log.specs.Steps.{KeepsFront, IsStaged}

@@ -1,12 +1,11 @@
 -- What an append and a read of a block are, for a log that is settled.
-use Rattle.std.proofs.Common.{◌≡◌, ◌⊎◌, inl, inr, ℕ, ◌+◌, ◌-◌, ◌^◌, ◌<◌, ◌≤◌, List, [], ◌∷◌, ◌++◌, length, get_or, take, drop, refl, sym, ◌∙◌, ap, subst, arith}
+use Rattle.std.proofs.Common.{◌≡◌, inl, ℕ, ◌+◌, ◌^◌, ◌<◌, ◌≤◌, List, [], ◌∷◌, ◌++◌, length, get_or, sym, ◌∙◌, ap, subst, arith}
 use Rattle.std.proofs.Math.Logic.{∥∥₁_elim}
 use Rattle.std.proofs.Math.Bridge.{le_prop}
-use Rattle.std.proofs.lemmas.List.{take_at}
-use Rattle.store_model.specs.Disk.{Areas, Disk, Does, Torn, IsDurable, written}
+use Rattle.store_model.specs.Disk.{Disk, Does, Torn, IsDurable, written}
 use Rattle.store_model.proofs.Runs.{weaken, then_does}
-use Rattle.gated_log.specs.Blocks.{header, block_bytes, Opens, Spells, extent, sizes}
-use Rattle.gated_log.specs.Log.{LogState, Settled, HasBlocks, IsSettled, IsWithOrWithout}
+use Rattle.gated_log.specs.Blocks.{header, Spells, extent}
+use Rattle.gated_log.specs.Log.{LogState, Settled, IsSettled, IsWithOrWithout}
 use Rattle.gated_log.specs.Places.{ArePlaced, lengths_of}
 use Rattle.gated_log.specs.Steps.{KeepsFront, IsStaged}
 use Rattle.gated_log.specs.declared.log.Place.{Place}

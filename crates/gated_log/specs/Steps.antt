@@ -1,5 +1,5 @@
 -- What the steps of an append do to the area's bytes.
-use Rattle.std.specs.Prelude.{◌≡◌, ℕ, ◌+◌, ◌≤◌, List, [], ◌∷◌, ◌++◌, length, take, drop}
+use Rattle.std.specs.Prelude.{◌≡◌, ℕ, ◌≤◌, List, ◌∷◌, ◌++◌, length, take}
 use Rattle.gated_log.specs.Blocks.{block_bytes}
 
 -- the bytes up to a place stay

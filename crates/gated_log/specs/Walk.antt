@@ -1,6 +1,6 @@
 -- How far an area was read, gate by gate, while its log is opened.
 use Rattle.std.specs.Prelude.{◌≡◌, ◌≢◌, ℕ, ◌+◌, ◌^◌, ◌<◌, ◌≤◌, List, [], ◌∷◌, ◌++◌, length, drop, Option, Some, None}
-use Rattle.gated_log.specs.Blocks.{header, block_bytes, IsFirst, Opens, IsFaultAt, sizes}
+use Rattle.gated_log.specs.Blocks.{header, block_bytes, IsFirst, Opens, sizes}
 use Rattle.gated_log.specs.Places.{lengths_of}
 use Rattle.gated_log.specs.declared.log.Place.{Place}
 

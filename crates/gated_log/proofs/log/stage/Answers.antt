@@ -1,7 +1,5 @@
-use Rattle.std.proofs.Common.{◌≡◌, ◌++◌, length, sym, ◌∙◌, ap, arith, refl}
+use Rattle.std.proofs.Common.{length, ◌∙◌, ap, arith}
 use Rattle.store_model.proofs.Runs.{then_stays}
-use Rattle.byteorder.specs.Endian.{big_bytes}
-use Rattle.gated_log.specs.Blocks.{block_bytes}
 use Rattle.gated_log.specs.Steps.{KeepsFront}
 use Rattle.gated_log.proofs.Staging.{keep_first, keep_more, staged}
 use Rattle.gated_log.proofs.Numbers.{block_bytes_is}
