@@ -67,7 +67,7 @@ one_block block other after rest small too same =
     (sym (take_at block after (length block) refl) ∙ ap (λ (l : List ℕ). take (length block) l) tails ∙ take_at other rest (length block) (sym sizes_are),
      sym (drop_at block after (length block) refl) ∙ ap (λ (l : List ℕ). drop (length block) l) tails ∙ drop_at other rest (length block) (sym sizes_are))
 
-heads : (a b : ℕ) (xs ys : List ℕ) → a ∷ xs ≡ b ∷ ys → (a ≡ b) × (xs ≡ ys)
+pub heads : (a b : ℕ) (xs ys : List ℕ) → a ∷ xs ≡ b ∷ ys → (a ≡ b) × (xs ≡ ys)
 heads a b xs ys same = (cc, cc)
 
 -- bytes with a fault behind some blocks don't spell others

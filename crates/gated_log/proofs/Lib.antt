@@ -2,5 +2,6 @@ pub mod Append
 pub mod Blocks
 pub mod Numbers
 pub mod Staging
+pub mod Unique
 pub mod Walking
 pub mod Whole

@@ -23,7 +23,7 @@ unfolding block_bytes
 length-block_bytes block = length-append (big_bytes 4 (length block)) block
 
 -- the first sequence reads back
-first_back : (area first : ℕ) (body : List ℕ) → first < 2 ^ 64 → big_number 8 (take 8 (drop 16 (header area first ++ body))) ≡ first
+pub first_back : (area first : ℕ) (body : List ℕ) → first < 2 ^ 64 → big_number 8 (take 8 (drop 16 (header area first ++ body))) ≡ first
 unfolding header
 first_back area first body fits = big_number-reads_back 8 first [] fits
 

@@ -6,7 +6,9 @@ mod fault;
 mod layout;
 mod log;
 mod opening;
+mod reading;
 
 pub use fault::{LogFault, StoreFault};
 pub use log::{Log, format};
 pub use opening::open;
+pub use reading::one_reading;
