@@ -8,9 +8,9 @@ use Rattle.store_model.specs.Past.{blank, changed, MayAfter, seen_after, Leaves,
 use Rattle.store_model.specs.Steps.{torn_not, cut_not, put_here, put_others}
 use Rattle.store_model.specs.declared.past.Change.{Change}
 use Rattle.store_model.specs.declared.past.Change.TheVariants.{Wrote, Shortened, Synced}
-use Rattle.store_model.proofs.Replay.{seen_after-push}
+use Rattle.store_model.proofs.Pushed.{seen_after-push}
 
-leaves_push : (seen : Areas) (may : Areas → Type 0) (changes : List Change) (change : Change) (c : Areas) → Leaves seen may (changes ++ change ∷ []) c → MayAfter change (seen_after seen changes) (Leaves seen may changes) c
+pub leaves_push : (seen : Areas) (may : Areas → Type 0) (changes : List Change) (change : Change) (c : Areas) → Leaves seen may (changes ++ change ∷ []) c → MayAfter change (seen_after seen changes) (Leaves seen may changes) c
 leaves_push seen may [] change c left = left
 leaves_push seen may (first ∷ changes) change c left = leaves_push (changed first seen) (MayAfter first seen may) changes change c left
 

@@ -1,5 +1,5 @@
 -- How calls on a disk follow one another: for crates whose calls are made of a store's calls.
-use Rattle.std.proofs.Common.{◌≡◌, ◌≢◌, ◌⊎◌, inl, inr, ⊎_elim, ℕ, ◌≤◌, List, ◌∙◌, refl, sym, arith}
+use Rattle.std.proofs.Common.{◌≢◌, inl, inr, ⊎_elim, ℕ, List, ◌∙◌, refl, sym, arith}
 use Rattle.store_model.specs.Disk.{Areas, Disk, May, IsDurable, Only, Later, Does, Stays}
 
 abbrev Step : Type 1
@@ -64,11 +64,14 @@ module _ (area : ℕ) (P : Step) (a b : Disk) (does : Does area P a b) where
       | inl before ↦ let from = does.images areas before in (from.0, from.1, record { here = early (from.0 area) (areas area) from.2.here; others = from.2.others })
       | inr after ↦
           let mid = next.images areas after in
-          let from = now mid.0 mid.1 in
-          (from.0, from.1, record {
-            here = late (from.0 area) (mid.0 area) (areas area) from.2.here (between mid.0 mid.1) mid.2.here;
-            others = λ other apart. mid.2.others other apart ∙ from.2.others other apart;
-          })
+          let from = now mid.0 mid.1 in (
+            from.0,
+            from.1,
+            record {
+              here = late (from.0 area) (mid.0 area) (areas area) from.2.here (between mid.0 mid.1) mid.2.here;
+              others = λ other apart. mid.2.others other apart ∙ from.2.others other apart;
+            },
+          )
     ];
   }
 

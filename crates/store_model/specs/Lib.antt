@@ -4,4 +4,5 @@ pub mod Faults
 pub mod Memory
 pub mod MemoryStore
 pub mod Past
+pub mod Replayed
 pub mod Steps

@@ -10,8 +10,10 @@ mod memory_sink;
 mod memory_source;
 mod memory_store;
 mod past;
+mod replay;
 mod sink;
 mod source;
+mod stop_images;
 mod store;
 
 pub use clock::{Clock, StepClock};

@@ -10,10 +10,10 @@ use std::alloc::Global;
 /// memory fails too. A call that fails changes nothing.
 #[derive(Drop)]
 pub struct MemoryStore {
-    alloc: Global,
-    past: Past,
-    calls: Calls,
-    stop: Option<u64>,
+    pub(crate) alloc: Global,
+    pub(crate) past: Past,
+    pub(crate) calls: Calls,
+    pub(crate) stop: Option<u64>,
 }
 
 impl MemoryStore {

@@ -1,6 +1,6 @@
 //! What a store in memory has come through: every change, and what each area holds now. `memory_store.rt` puts the
 //! failures round it.
-ghost use Rattle.std.specs.Prelude.{◌≡◌, ◌≢◌, ◌↔◌, ◌+◌, ◌^◌, ◌≤◌, ◌++◌, [], ◌∷◌, ℕ, length, take, IsTrue, OnOk, OnErr};
+ghost use Rattle.std.specs.Prelude.{◌≡◌, ◌≢◌, ◌↔◌, ◌+◌, ◌^◌, ◌≤◌, ◌++◌, [], ◌∷◌, ℕ, length, max, take, IsTrue, OnOk, OnErr};
 ghost use Rattle.store_model.specs.Disk.{written};
 ghost use Rattle.store_model.specs.Past.{held, blank, changed, seen_after, HasRoom};
 
@@ -27,6 +27,7 @@ pub struct Past {
     pub changes: Vec<Change>,
     ghost agrees: { (area : ℕ) → held areas.items area ≡ seen_after blank changes.items area },
     ghost fits: { (area : ℕ) → length (held areas.items area) ≤ 2 ^ 62 },
+    ghost few: { length areas.items ≤ 2 ^ 32 },
 }
 
 impl Past {
@@ -78,9 +79,7 @@ fn has_room(change: &Change) -> bool
     ensures { IsTrue result ↔ HasRoom change.now }
 {
     match change {
-        Change::Wrote(_, at, bytes) => {
-            *at <= MAX_SIZE && bytes.len() as u64 <= MAX_SIZE - *at
-        }
+        Change::Wrote(_, at, bytes) => { *at <= MAX_SIZE && bytes.len() as u64 <= MAX_SIZE - *at }
         Change::Shortened(_, _) => true,
         Change::Synced(_) => true,
     }
@@ -90,6 +89,7 @@ fn has_room(change: &Change) -> bool
 pub fn apply(alloc: Global, areas: &mut Vec<Vec<u8>>, change: &Change) -> Result<(), AllocError>
     ensures done { OnOk result ((area : ℕ) → held areas.new.items area ≡ changed change.now (held areas.old.items) area) }
     ensures unchanged { OnErr result ((area : ℕ) → held areas.new.items area ≡ held areas.old.items area) }
+    ensures few { length areas.old.items ≤ 2 ^ 32 → length areas.new.items ≤ 2 ^ 32 }
 {
     match change {
         Change::Wrote(area, at, bytes) => {
@@ -107,12 +107,13 @@ pub fn apply(alloc: Global, areas: &mut Vec<Vec<u8>>, change: &Change) -> Result
 }
 
 /// Cuts an area, if it is held.
-fn shorten(areas: &mut Vec<Vec<u8>>, place: usize, length: usize)
-    ensures here { held areas.new.items place ≡ take length (held areas.old.items place) }
+fn shorten(areas: &mut Vec<Vec<u8>>, place: usize, end: usize)
+    ensures here { held areas.new.items place ≡ take end (held areas.old.items place) }
     ensures others { (other : ℕ) → other ≢ place → held areas.new.items other ≡ held areas.old.items other }
+    ensures count { length areas.new.items ≡ length areas.old.items }
 {
     if place < areas.len() {
-        areas[place].truncate(length);
+        areas[place].truncate(end);
     }
 }
 
@@ -120,6 +121,7 @@ fn shorten(areas: &mut Vec<Vec<u8>>, place: usize, length: usize)
 pub fn reach(alloc: Global, areas: &mut Vec<Vec<u8>>, count: usize) -> Result<(), AllocError>
     ensures reached { OnOk result (count ≤ length areas.new.items) }
     ensures same { (area : ℕ) → held areas.new.items area ≡ held areas.old.items area }
+    ensures few { length areas.new.items ≤ max (length areas.old.items) count }
 {
     while areas.len() < count {
         areas.push(Vec::new(alloc))?;
@@ -128,7 +130,7 @@ pub fn reach(alloc: Global, areas: &mut Vec<Vec<u8>>, count: usize) -> Result<()
 }
 
 /// Writes over what is there, and past the end.
-fn overwrite(old: &mut Vec<u8>, at: usize, bytes: &[u8]) -> Result<(), AllocError>
+pub fn overwrite(old: &mut Vec<u8>, at: usize, bytes: &[u8]) -> Result<(), AllocError>
     ensures written { OnOk result (old.new.items ≡ written at bytes.now old.old.items) }
     ensures unchanged { OnErr result (old.new.items ≡ old.old.items) }
 {

@@ -5,7 +5,7 @@ use Rattle.store_model.specs.declared.past.Change.{Change}
 use Rattle.store_model.specs.declared.past.Change.TheVariants.{Wrote}
 use Rattle.store_model.proofs.Held.{held_read, held-set_back}
 use Rattle.store_model.proofs.Pieces.{on_err}
-use Rattle.store_model.proofs.Replay.{set_wrote, same_areas}
+use Rattle.store_model.proofs.Pushed.{set_wrote, same_areas}
 use Rattle.store_model.proofs.past.apply.Goals as goal
 
 pub returns-in_err-overwrite-in-Wrote-clause-unchanged : goal.returns-in_err-overwrite-in-Wrote-clause-unchanged
@@ -23,6 +23,6 @@ returns-in_ok-overwrite-in-Wrote-clause-done c = λ area.
     let here = held_read areas c.in-Wrote.area c.index_mut.result.now within c.index_mut.ensures.value in
     let change : Change = Wrote c.in-Wrote.area c.in-Wrote.at c.in-Wrote.bytes in
     set_wrote areas c.in-Wrote.area c.in-Wrote.at c.in-Wrote.bytes c.overwrite.new.old within
-      (c.in_ok-overwrite-in-Wrote.ensures.written ∙ ap (λ (l : List ℕ). written c.in-Wrote.at l c.index_mut.result.now.items) c.deref.ensures.value ∙ ap (λ (l : List ℕ). written c.in-Wrote.at c.in-Wrote.bytes.items l) here) area
+    (c.in_ok-overwrite-in-Wrote.ensures.written ∙ ap (λ (l : List ℕ). written c.in-Wrote.at l c.index_mut.result.now.items) c.deref.ensures.value ∙ ap (λ (l : List ℕ). written c.in-Wrote.at c.in-Wrote.bytes.items l) here) area
     ∙ ap (λ (f : Areas). changed change f area) (same_areas (held areas) (held c.args.areas.now.items) c.reach.ensures.same)
     ∙ ap (λ (k : Change). changed k (held c.args.areas.now.items) area) (sym c.in-Wrote.is)

@@ -2,7 +2,7 @@ use Rattle.std.proofs.Common.{◌≡◌, ℕ, ◌∙◌, ap, arith, refl}
 use Rattle.store_model.specs.declared.past.Change.{Change}
 use Rattle.store_model.specs.Past.{held, changed}
 use Rattle.store_model.proofs.Pieces.{last_is}
-use Rattle.store_model.proofs.Replay.{push_agrees, push_fits}
+use Rattle.store_model.proofs.Pushed.{push_agrees, push_fits}
 use Rattle.store_model.proofs.past.Past.add.Goals as goal
 
 pub invariant_of-self-in-Ok : goal.invariant_of-self-in-Ok
@@ -13,4 +13,5 @@ invariant_of-self-in-Ok c =
     record {
       agrees = push_agrees past.changes.items c.push.new.self.items c.args.change (held past.areas.items) (held c.apply.new.areas.items) past.agrees done c.in_ok-push.ensures.items;
       fits = push_fits past.changes.items c.push.new.self.items c.args.change (held past.areas.items) (held c.apply.new.areas.items) past.agrees done (c.if-not-has_room.ensures.0 refl) past.fits;
+      few = c.apply.ensures.few past.few;
     }
