@@ -1,5 +1,6 @@
 pub mod Append
 pub mod Blocks
+pub mod Kept
 pub mod Numbers
 pub mod Staging
 pub mod Unique

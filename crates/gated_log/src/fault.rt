@@ -49,3 +49,11 @@ impl<T: Drop> From<AllocFailed<T>> for LogFault {
         LogFault::NoMemory
     }
 }
+
+impl From<StoreFault> for LogFault {
+    ghost from_gives = { λ _ e. e ≡ Fault };
+
+    fn from(_: StoreFault) -> Self {
+        LogFault::StoreFault
+    }
+}

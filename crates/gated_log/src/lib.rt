@@ -12,3 +12,6 @@ pub use fault::{LogFault, StoreFault};
 pub use log::{Log, format};
 pub use opening::open;
 pub use reading::one_reading;
+
+#[cfg(test)]
+mod tests;

@@ -147,7 +147,7 @@ fn stage<S: Store>(store: &mut S, area: u32, at: u64, block: &[u8]) -> Result<()
     store.write(area, at, &length)?;
     store.write(area, at + 4, block)?;
     store.write(area, at + 4 + block.len() as u64, &[CLOSED])?;
-    store.sync(area)?;
+    store.sync(area)?; // before its gate is opened
     Ok(())
 }
 
@@ -160,6 +160,6 @@ fn open_gate<S: Store>(store: &mut S, area: u32, at: u64) -> Result<(), Failed>
     ensures cause { IsErr result → Rose (S.disk store.old).faults (S.disk store.new).faults }
 {
     store.write(area, at, &[OPEN])?;
-    store.sync(area)?;
+    store.sync(area)?; // before the block is acknowledged
     Ok(())
 }

@@ -18,6 +18,10 @@ changes_of store = store.past.changes.items
 abbrev pub calls_of : MemoryStore → Calls
 calls_of store = store.calls
 
+-- the call from which on each one fails
+abbrev pub stop_of : MemoryStore → Option ℕ
+stop_of store = store.stop
+
 -- the disk that it stands for
 abbrev pub disk_of : MemoryStore → Disk
 disk_of store = disk_after (changes_of store) (calls_of store).faults
@@ -29,7 +33,7 @@ Stops (Some stop) call = stop ≤ call
 
 -- the next call comes after the stop
 abbrev pub IsStopped : MemoryStore → Type 0
-IsStopped store = Stops store.stop (counted store.calls.made)
+IsStopped store = Stops (stop_of store) (counted (calls_of store).made)
 
 pub may_seen : (store : MemoryStore) → May (disk_of store) (disk_of store).seen
 may_seen store = (length (changes_of store), omega arith, subst (λ (l : List Change). MayLeave l (disk_of store).seen) (sym (take_all (length (changes_of store)) (changes_of store) (omega arith))) (seen_leaves (changes_of store)))

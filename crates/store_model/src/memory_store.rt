@@ -21,13 +21,13 @@ impl MemoryStore {
     ghost use Rattle.store_model.specs.Faults.{Rose};
     ghost use Rattle.store_model.specs.Past.{HasRoom};
     ghost use Rattle.store_model.specs.Calls.{fresh, passed, IsToFail};
-    ghost use Rattle.store_model.specs.MemoryStore.{changes_of, calls_of, IsStopped};
+    ghost use Rattle.store_model.specs.MemoryStore.{changes_of, calls_of, stop_of, IsStopped};
 
     /// A store of which nothing was written. It fails at no call.
     pub fn new(alloc: Global) -> MemoryStore
         ensures changes { changes_of result ≡ [] }
         ensures calls { calls_of result ≡ fresh }
-        ensures stop { result.stop ≡ None }
+        ensures stop { stop_of result ≡ None }
     {
         MemoryStore {
             alloc,
@@ -41,7 +41,7 @@ impl MemoryStore {
     pub fn fail_at(&mut self, call: u64)
         ensures changes { changes_of self.new ≡ changes_of self.old }
         ensures calls { calls_of self.new ≡ record (calls_of self.old) { failing = Some call } }
-        ensures stop { self.new.stop ≡ self.old.stop }
+        ensures stop { stop_of self.new ≡ stop_of self.old }
     {
         self.calls.failing = Some(call);
     }
@@ -50,7 +50,7 @@ impl MemoryStore {
     pub fn stop_at(&mut self, call: u64)
         ensures changes { changes_of self.new ≡ changes_of self.old }
         ensures calls { calls_of self.new ≡ calls_of self.old }
-        ensures stop { self.new.stop ≡ Some call }
+        ensures stop { stop_of self.new ≡ Some call }
     {
         self.stop = Some(call);
     }
@@ -58,7 +58,7 @@ impl MemoryStore {
     /// One call more.
     fn begin(&mut self) -> Result<(), Failed>
         ensures changes { changes_of self.new ≡ changes_of self.old }
-        ensures stop { self.new.stop ≡ self.old.stop }
+        ensures stop { stop_of self.new ≡ stop_of self.old }
         ensures cause { IsErr result → Rose (calls_of self.old).faults (calls_of self.new).faults }
         ensures never_falls { (calls_of self.old).faults ≤ (calls_of self.new).faults }
         ensures passed { OnOk result (calls_of self.new ≡ passed (calls_of self.old)) }
@@ -79,7 +79,7 @@ impl MemoryStore {
         ensures unchanged { OnErr result (changes_of self.new ≡ changes_of self.old) }
         ensures cause { IsErr result → Rose (calls_of self.old).faults (calls_of self.new).faults }
         ensures never_falls { (calls_of self.old).faults ≤ (calls_of self.new).faults }
-        ensures stop { self.new.stop ≡ self.old.stop }
+        ensures stop { stop_of self.new ≡ stop_of self.old }
     {
         match self.past.add(self.alloc, change) {
             Ok(()) => Ok(()),
@@ -89,20 +89,38 @@ impl MemoryStore {
 }
 
 impl Store for MemoryStore {
-    ghost use Rattle.std.specs.Prelude.{◌+◌, ◌^◌, ℕ, length, take, drop, IfOk};
+    ghost use Rattle.std.specs.Prelude.{◌≡◌, ◌⊎◌, ◌+◌, ◌^◌, ◌≤◌, ℕ, length, take, drop, IfOk, OnOk, OnErr, IsErr};
     ghost use Rattle.store_model.specs.Disk.{Stays, Does, Torn, Cut, IsDurable, written};
-    ghost use Rattle.store_model.specs.MemoryStore.{disk_of, may_seen, sizes_fit};
+    ghost use Rattle.store_model.specs.MemoryStore.{disk_of, changes_of, calls_of, IsStopped, may_seen, sizes_fit};
+    ghost use Rattle.store_model.specs.Faults.{Rose};
+    ghost use Rattle.store_model.specs.Calls.{passed, IsToFail};
 
     ghost tells = { Unit {0} };
 
     ghost disk = { disk_of };
 
-    fn size(&mut self, area: u32) -> Result<u64, Failed> {
+    fn size(&mut self, area: u32) -> Result<u64, Failed>
+        ensures size { IfOk result (λ n. n ≡ length ((disk_of self.old).seen area)) }
+        ensures bound { IfOk result (λ n. n ≤ 2 ^ 62) }
+        ensures stays { Stays (disk_of self.old) (disk_of self.new) }
+        ensures cause { IsErr result → Rose (disk_of self.old).faults (disk_of self.new).faults }
+        ensures unchanged { OnErr result (changes_of self.new ≡ changes_of self.old) }
+        ensures passed { OnOk result (calls_of self.new ≡ passed (calls_of self.old)) }
+        ensures told_to { OnErr result (IsToFail (calls_of self.old) ⊎ IsStopped self.old) }
+    {
         self.begin()?;
         Ok(self.past.bytes(area).len() as u64)
     }
 
-    fn read(&mut self, area: u32, at: u64, into: &mut [u8]) -> Result<(), Failed> {
+    fn read(&mut self, area: u32, at: u64, into: &mut [u8]) -> Result<(), Failed>
+        requires { at + length into.old ≤ length ((disk_of self.old).seen area) }
+        ensures bytes { OnOk result (into.new ≡ take (length into.new) (drop at ((disk_of self.old).seen area))) }
+        ensures stays { Stays (disk_of self.old) (disk_of self.new) }
+        ensures cause { IsErr result → Rose (disk_of self.old).faults (disk_of self.new).faults }
+        ensures unchanged { OnErr result (changes_of self.new ≡ changes_of self.old) }
+        ensures passed { OnOk result (calls_of self.new ≡ passed (calls_of self.old)) }
+        ensures told_to { OnErr result (IsToFail (calls_of self.old) ⊎ IsStopped self.old) }
+    {
         self.begin()?;
         let start = at as usize;
         let end = start + into.len();
@@ -110,7 +128,15 @@ impl Store for MemoryStore {
         Ok(())
     }
 
-    fn write(&mut self, area: u32, at: u64, bytes: &[u8]) -> Result<(), Failed> {
+    fn write(&mut self, area: u32, at: u64, bytes: &[u8]) -> Result<(), Failed>
+        requires { at ≤ length ((disk_of self.old).seen area) }
+        ensures written { OnOk result ((disk_of self.new).seen area ≡ written at bytes.now ((disk_of self.old).seen area)) }
+        ensures bound { OnOk result (at + length bytes.now ≤ 2 ^ 62) }
+        ensures does { Does area (Torn at (length bytes.now)) (disk_of self.old) (disk_of self.new) }
+        ensures cause { IsErr result → Rose (disk_of self.old).faults (disk_of self.new).faults }
+        ensures unchanged { OnErr result (changes_of self.new ≡ changes_of self.old) }
+        ensures passed { OnOk result (calls_of self.new ≡ passed (calls_of self.old)) }
+    {
         self.begin()?;
         let Ok(copy) = Vec::from_slice(self.alloc, bytes) else {
             return Err(self.calls.fault());
@@ -119,13 +145,26 @@ impl Store for MemoryStore {
         Ok(())
     }
 
-    fn cut(&mut self, area: u32, length: u64) -> Result<(), Failed> {
+    fn cut(&mut self, area: u32, length: u64) -> Result<(), Failed>
+        requires { length ≤ Rattle.std.specs.Prelude.length ((disk_of self.old).seen area) }
+        ensures cut { OnOk result ((disk_of self.new).seen area ≡ take length ((disk_of self.old).seen area)) }
+        ensures does { Does area (Cut length) (disk_of self.old) (disk_of self.new) }
+        ensures cause { IsErr result → Rose (disk_of self.old).faults (disk_of self.new).faults }
+        ensures unchanged { OnErr result (changes_of self.new ≡ changes_of self.old) }
+        ensures passed { OnOk result (calls_of self.new ≡ passed (calls_of self.old)) }
+    {
         self.begin()?;
         self.add(Change::Shortened(area, length))?;
         Ok(())
     }
 
-    fn sync(&mut self, area: u32) -> Result<(), Failed> {
+    fn sync(&mut self, area: u32) -> Result<(), Failed>
+        ensures durable { OnOk result (IsDurable area (disk_of self.new)) }
+        ensures stays { Stays (disk_of self.old) (disk_of self.new) }
+        ensures cause { IsErr result → Rose (disk_of self.old).faults (disk_of self.new).faults }
+        ensures unchanged { OnErr result (changes_of self.new ≡ changes_of self.old) }
+        ensures passed { OnOk result (calls_of self.new ≡ passed (calls_of self.old)) }
+    {
         self.begin()?;
         self.add(Change::Synced(area))?;
         Ok(())
