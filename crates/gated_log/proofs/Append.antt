@@ -31,12 +31,16 @@ upto area first blocks bytes gate spells is =
       whole = spells.header ∙ ap (λ (l : List ℕ). header area first ++ l) part.whole ∙ sym (append_assoc (header area first) part.front (0 ∷ spells.rest));
       size = omega (arith, length-append (header area first) part.front, length-header area first, part.size);
       without = λ other. record {
-        has_first = spells.has_first; body = part.front ++ 0 ∷ other; rest = other;
+        has_first = spells.has_first;
+        body = part.front ++ 0 ∷ other;
+        rest = other;
         header = append_assoc (header area first) part.front (0 ∷ other);
         opens = part.opens (0 ∷ other);
       };
       with_one = λ block other open_gate opened small. record {
-        has_first = spells.has_first; body = part.front ++ after_gate open_gate block other; rest = other;
+        has_first = spells.has_first;
+        body = part.front ++ after_gate open_gate block other;
+        rest = other;
         header = append_assoc (header area first) part.front (after_gate open_gate block other);
         opens = opens-push blocks block (part.front ++ after_gate open_gate block other) (after_gate open_gate block other) (0 ∷ other) open_gate (part.opens (after_gate open_gate block other)) opened small refl;
       };
@@ -56,7 +60,7 @@ module _ (area first gate : ℕ) (blocks : List (List ℕ)) (block bytes : List 
   pub front_keeps : (new : List ℕ) → KeepsFront (gate + 1) bytes new → Spells area first blocks new
   front_keeps new keeps =
       let whole : new ≡ at.front ++ 0 ∷ drop (gate + 1) new =
-          sym (take-append-drop (gate + 1) new) ∙ ap (λ (l : List ℕ). l ++ drop (gate + 1) new) ((keeps gate_within).1 ∙ closed) ∙ append_assoc at.front (0 ∷ []) (drop (gate + 1) new) in
+      sym (take-append-drop (gate + 1) new) ∙ ap (λ (l : List ℕ). l ++ drop (gate + 1) new) ((keeps gate_within).1 ∙ closed) ∙ append_assoc at.front (0 ∷ []) (drop (gate + 1) new) in
       subst (λ (l : List ℕ). Spells area first blocks l) (sym whole) (at.without (drop (gate + 1) new))
 
   module _ (new rest : List ℕ) (staged : new ≡ take (gate + 1) bytes ++ block_bytes block ++ 0 ∷ rest) where
@@ -89,11 +93,11 @@ module _ (area first gate : ℕ) (blocks : List (List ℕ)) (block bytes : List 
         let kept : take gate c ≡ at.front = subst (λ (n : ℕ). take n c ≡ take n new) least torn.before ∙ before in
         let gate_is : drop gate c ≡ after_gate (get_or c gate 0) block rest = drop_more c gate 0 (omega (arith, torn.no_shorter, staged_size)) ∙ ap (λ (l : List ℕ). get_or c gate 0 ∷ l) (torn.after ∙ behind) in
         let parts : c ≡ at.front ++ after_gate (get_or c gate 0) block rest =
-            sym (take-append-drop gate c) ∙ ap (λ (l : List ℕ). l ++ drop gate c) kept ∙ ap (λ (l : List ℕ). at.front ++ l) gate_is in
+        sym (take-append-drop gate c) ∙ ap (λ (l : List ℕ). l ++ drop gate c) kept ∙ ap (λ (l : List ℕ). at.front ++ l) gate_is in
         subst (λ (l : List ℕ). IsWithOrWithout area first blocks block l) (sym parts) (any_gate (get_or c gate 0))
 
     pub opened_gate : (c : List ℕ) → c ≡ written gate (1 ∷ []) new → Spells area first (blocks ++ block ∷ []) c
     opened_gate c is =
         let whole : c ≡ at.front ++ after_gate 1 block rest =
-            is ∙ ap (λ (l : List ℕ). (l ++ 1 ∷ []) ++ drop (gate + 1) new) before ∙ ap (λ (l : List ℕ). (at.front ++ 1 ∷ []) ++ l) behind ∙ append_assoc at.front (1 ∷ []) (block_bytes block ++ 0 ∷ rest) in
+        is ∙ ap (λ (l : List ℕ). (l ++ 1 ∷ []) ++ drop (gate + 1) new) before ∙ ap (λ (l : List ℕ). (at.front ++ 1 ∷ []) ++ l) behind ∙ append_assoc at.front (1 ∷ []) (block_bytes block ++ 0 ∷ rest) in
         subst (λ (l : List ℕ). Spells area first (blocks ++ block ∷ []) l) (sym whole) (at.with_one block rest 1 (omega arith) small)

@@ -62,10 +62,11 @@ unfolding block_bytes
 one_block block other after rest small too same =
     let sizes_are : length block ≡ length other = sym (block_number block after small) ∙ ap (λ (l : List ℕ). big_number 4 l) same ∙ block_number other rest too in
     let tails : block ++ after ≡ other ++ rest =
-        append_cancel_left (big_bytes 4 (length other)) (block ++ after) (other ++ rest)
-          (ap (λ (n : ℕ). big_bytes 4 n ++ (block ++ after)) (sym sizes_are) ∙ sym (append_assoc (big_bytes 4 (length block)) block after) ∙ same ∙ append_assoc (big_bytes 4 (length other)) other rest) in
-    (sym (take_at block after (length block) refl) ∙ ap (λ (l : List ℕ). take (length block) l) tails ∙ take_at other rest (length block) (sym sizes_are),
-     sym (drop_at block after (length block) refl) ∙ ap (λ (l : List ℕ). drop (length block) l) tails ∙ drop_at other rest (length block) (sym sizes_are))
+    append_cancel_left (big_bytes 4 (length other)) (block ++ after) (other ++ rest)
+    (ap (λ (n : ℕ). big_bytes 4 n ++ (block ++ after)) (sym sizes_are) ∙ sym (append_assoc (big_bytes 4 (length block)) block after) ∙ same ∙ append_assoc (big_bytes 4 (length other)) other rest) in (
+      sym (take_at block after (length block) refl) ∙ ap (λ (l : List ℕ). take (length block) l) tails ∙ take_at other rest (length block) (sym sizes_are),
+      sym (drop_at block after (length block) refl) ∙ ap (λ (l : List ℕ). drop (length block) l) tails ∙ drop_at other rest (length block) (sym sizes_are),
+    )
 
 pub heads : (a b : ℕ) (xs ys : List ℕ) → a ∷ xs ≡ b ∷ ys → (a ≡ b) × (xs ≡ ys)
 heads a b xs ys same = (cc, cc)
@@ -101,9 +102,9 @@ unfolding block_bytes
 first_block before body block after gate at is place =
     let front = before ++ gate ∷ big_bytes 4 (length block) in
     let whole : before ++ body ≡ front ++ (block ++ after) =
-        moved before body block after gate is ∙ append_assoc before (gate ∷ (big_bytes 4 (length block) ++ block)) after
-        ∙ ap (λ (l : List ℕ). before ++ gate ∷ l) (append_assoc (big_bytes 4 (length block)) block after)
-        ∙ sym (append_assoc before (gate ∷ big_bytes 4 (length block)) (block ++ after)) in
+    moved before body block after gate is ∙ append_assoc before (gate ∷ (big_bytes 4 (length block) ++ block)) after
+    ∙ ap (λ (l : List ℕ). before ++ gate ∷ l) (append_assoc (big_bytes 4 (length block)) block after)
+    ∙ sym (append_assoc before (gate ∷ big_bytes 4 (length block)) (block ++ after)) in
     ap (λ (l : List ℕ). take (length block) (drop at l)) whole
     ∙ ap (λ (l : List ℕ). take (length block) l) (drop_at front (block ++ after) at (omega (arith, length-append before (gate ∷ big_bytes 4 (length block)))))
     ∙ take_at block after (length block) refl
@@ -130,5 +131,5 @@ block_at (block ∷ blocks) (place ∷ places) before body rest gate end zero d 
 block_at (block ∷ blocks) (place ∷ places) before body rest gate end (suc n) d (g, after, opened, small, is, more) placed same size below =
     let heads_are = lengths-head place places block blocks same in
     subst (λ (l : List ℕ). Read l (get_or blocks n []) (get_or places n d)) (sym (moved before body block after g is))
-      (block_at blocks places (before ++ g ∷ block_bytes block) after rest (gate + 5 + place.length) end n d more placed.1 heads_are.1
-        (omega (arith, length-append before (g ∷ block_bytes block), length-block_bytes block, heads_are.0)) (omega arith))
+    (block_at blocks places (before ++ g ∷ block_bytes block) after rest (gate + 5 + place.length) end n d more placed.1 heads_are.1
+    (omega (arith, length-append before (g ∷ block_bytes block), length-block_bytes block, heads_are.0)) (omega arith))

@@ -33,7 +33,7 @@ no_header area first bytes size is other = λ sequence body has whole.
     let same : sequence ≡ first = sym (first_back area sequence body has.fits) ∙ ap (λ (l : List ℕ). big_number 8 (take 8 (drop 16 l))) (sym whole) ∙ sym is in
     let none : body ≡ [] = nil_from_length body (omega (arith, ap length whole, length-append (header area sequence) body, length-header area sequence)) in
     other (subst (λ (n : ℕ). IsFirst area n) same has)
-      (whole ∙ ap (λ (l : List ℕ). header area sequence ++ l) none ∙ append-nil (header area sequence) ∙ ap (λ (n : ℕ). header area n) same)
+    (whole ∙ ap (λ (l : List ℕ). header area sequence ++ l) none ∙ append-nil (header area sequence) ∙ ap (λ (n : ℕ). header area n) same)
 
 -- fewer bytes than a header has are none
 pub short_header : (area : ℕ) (bytes : List ℕ) → length bytes < 32 → HasNoHeader area bytes

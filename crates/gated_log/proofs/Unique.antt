@@ -7,9 +7,10 @@ use Rattle.gated_log.proofs.Numbers.{first_back, length-header}
 use Rattle.gated_log.proofs.Blocks.{heads, one_block, one_opens, fault_spells_none}
 
 one_first : (area first other : ℕ) (bytes body next : List ℕ) → IsFirst area first → IsFirst area other → bytes ≡ header area first ++ body → bytes ≡ header area other ++ next → (first ≡ other) × (body ≡ next)
-one_first area first other bytes body next has too is same =
-    (sym (first_back area first body has.fits) ∙ ap (λ (l : List ℕ). big_number 8 (take 8 (drop 16 l))) (sym is ∙ same) ∙ first_back area other next too.fits,
-     sym (drop_at (header area first) body 32 (length-header area first)) ∙ ap (λ (l : List ℕ). drop 32 l) (sym is ∙ same) ∙ drop_at (header area other) next 32 (length-header area other))
+one_first area first other bytes body next has too is same = (
+  sym (first_back area first body has.fits) ∙ ap (λ (l : List ℕ). big_number 8 (take 8 (drop 16 l))) (sym is ∙ same) ∙ first_back area other next too.fits,
+  sym (drop_at (header area first) body 32 (length-header area first)) ∙ ap (λ (l : List ℕ). drop 32 l) (sym is ∙ same) ∙ drop_at (header area other) next 32 (length-header area other),
+)
 
 pub one_list : (area first other : ℕ) (blocks others : List (List ℕ)) (bytes : List ℕ) → Spells area first blocks bytes → Spells area other others bytes → (first ≡ other) × (blocks ≡ others)
 one_list area first other blocks others bytes spells same =
@@ -40,9 +41,9 @@ one_fault (block ∷ blocks) (second ∷ others) body rest after place at other 
     let moved : (bs : List (List ℕ)) → place + extent (sizes (block ∷ bs)) ≡ (place + (5 + length block)) + extent (sizes bs) = λ bs. omega arith in
     let moved_too : place + extent (sizes (second ∷ others)) ≡ (place + (5 + length block)) + extent (sizes others) = omega (arith, ap length parts.0) in
     one_fault blocks others next rest after (place + (5 + length block)) at other more
-      (subst (λ (k : ℕ). IsFaultAt k rest at) (moved blocks) fault)
-      (subst (λ (l : List ℕ). Opens others l after) (sym parts.1) others_are)
-      (subst (λ (k : ℕ). IsFaultAt k after other) moved_too there)
+    (subst (λ (k : ℕ). IsFaultAt k rest at) (moved blocks) fault)
+    (subst (λ (l : List ℕ). Opens others l after) (sym parts.1) others_are)
+    (subst (λ (k : ℕ). IsFaultAt k after other) moved_too there)
 
 pub one_damage : (area at other : ℕ) (bytes : List ℕ) → IsDamagedAt area bytes at → IsDamagedAt area bytes other → at ≡ other
 one_damage area at other bytes (inl first) (inl second) = first.1 ∙ sym second.1

@@ -20,14 +20,14 @@ module _ (log : LogState) (area gate : ℕ) (places : List Place) (area_is : are
   pub gate_in : (disk : Disk) → IsSettled log disk → gate + 1 ≤ length (disk.seen area)
   gate_in disk some =
       ∥∥₁_elim some le_prop (λ has.
-        subst (λ (a : ℕ). gate + 1 ≤ length (disk.seen a)) (sym area_is)
-          (gate_within log.area log.first gate has.0 [] (disk.seen log.area) (at_gate has.0 disk has.1) (omega arith)))
+      subst (λ (a : ℕ). gate + 1 ≤ length (disk.seen a)) (sym area_is)
+      (gate_within log.area log.first gate has.0 [] (disk.seen log.area) (at_gate has.0 disk has.1) (omega arith)))
 
   pub gate_in_staged : (old new : Disk) (block : List ℕ) → length block < 2 ^ 32 → IsSettled log old → IsStaged (gate + 1) block (old.seen area) (new.seen area) → gate ≤ length (new.seen area)
   gate_in_staged old new block small some staged =
       ∥∥₁_elim some le_prop (λ has.
-        let at = subst (λ (a : ℕ). Upto log.area log.first has.0 (old.seen a) gate) (sym area_is) (at_gate has.0 old has.1) in
-        omega (arith, staged_size log.area log.first gate has.0 block (old.seen area) at small (new.seen area) staged.0 staged.1))
+      let at = subst (λ (a : ℕ). Upto log.area log.first has.0 (old.seen a) gate) (sym area_is) (at_gate has.0 old has.1) in
+      omega (arith, staged_size log.area log.first gate has.0 block (old.seen area) at small (new.seen area) staged.0 staged.1))
 
   -- the nth block is read where it stands
   pub read_at : (blocks : List (List ℕ)) (disk : Disk) (n : ℕ) (place : Place) → Settled log blocks disk → n < length places → place ≡ get_or places n place → Read (disk.seen area) (get_or blocks n []) place
@@ -36,7 +36,7 @@ module _ (log : LogState) (area gate : ℕ) (places : List Place) (area_is : are
       let read = block_at blocks places (header log.area log.first) settled.spells.body (0 ∷ settled.spells.rest) 32 gate n place settled.spells.opens placed (lengths_are ∙ settled.lengths) (length-header log.area log.first) below in
       let there = subst (λ (p : Place). Read (header log.area log.first ++ settled.spells.body) (get_or blocks n []) p) (sym is) read in
       subst (λ (a : ℕ). Read (disk.seen a) (get_or blocks n []) place) (sym area_is)
-        (subst (λ (l : List ℕ). Read l (get_or blocks n []) place) (sym whole) there)
+      (subst (λ (l : List ℕ). Read l (get_or blocks n []) place) (sym whole) there)
 
   pub read_within : (disk : Disk) (n : ℕ) (place : Place) → IsSettled log disk → n < length places → place ≡ get_or places n place → place.at + place.length ≤ length (disk.seen area)
   read_within disk n place some below is = ∥∥₁_elim some le_prop (λ has. (read_at has.0 disk n place has.1 below is).within)
@@ -50,7 +50,7 @@ module _ (log : LogState) (area gate : ℕ) (places : List Place) (area_is : are
     stage_moment mid does =
         let here = subst (λ (a : ℕ). Does a (KeepsFront (gate + 1)) old mid) area_is does in
         weaken log.area (KeepsFront (gate + 1)) old mid here (λ bytes. bytes ≡ old.seen log.area) (λ _ bytes. IsWithOrWithout log.area log.first blocks block bytes) settled.durable
-          (λ before after is keeps. inl (front_keeps log.area log.first gate blocks block (old.seen log.area) at small after (subst (λ (l : List ℕ). KeepsFront (gate + 1) l after) is keeps)))
+        (λ before after is keeps. inl (front_keeps log.area log.first gate blocks block (old.seen log.area) at small after (subst (λ (l : List ℕ). KeepsFront (gate + 1) l after) is keeps)))
 
     -- while the gate is opened it is the old one or has the block
     pub whole_moment : (mid new : Disk) → Does area (KeepsFront (gate + 1)) old mid → IsDurable area mid → IsStaged (gate + 1) block (old.seen area) (mid.seen area) → Does area (Torn gate 1) mid new → Does log.area (λ _ bytes. IsWithOrWithout log.area log.first blocks block bytes) old new
@@ -58,8 +58,8 @@ module _ (log : LogState) (area gate : ℕ) (places : List Place) (area_is : are
         let next = subst (λ (a : ℕ). Does a (Torn gate 1) mid new) area_is second in
         let there = subst (λ (a : ℕ). IsStaged (gate + 1) block (old.seen a) (mid.seen a)) area_is staged in
         then_does log.area (λ _ bytes. IsWithOrWithout log.area log.first blocks block bytes) old mid (stage_moment mid first) (Torn gate 1) new (λ bytes. bytes ≡ mid.seen log.area) (λ _ bytes. IsWithOrWithout log.area log.first blocks block bytes) next
-          (subst (λ (a : ℕ). IsDurable a mid) area_is durable) (λ before after r. r)
-          (λ before between after r is torn. torn_gate log.area log.first gate blocks block (old.seen log.area) at small (mid.seen log.area) there.0 there.1 after (subst (λ (l : List ℕ). Torn gate 1 l after) is torn))
+        (subst (λ (a : ℕ). IsDurable a mid) area_is durable) (λ before after r. r)
+        (λ before between after r is torn. torn_gate log.area log.first gate blocks block (old.seen log.area) at small (mid.seen log.area) there.0 there.1 after (subst (λ (l : List ℕ). Torn gate 1 l after) is torn))
 
     -- and then it has the block
     pub appended : (after : LogState) (mid new : Disk) → after.area ≡ area → after.first ≡ log.first → after.lengths ≡ lengths_of places ++ length block ∷ []

@@ -8,5 +8,4 @@ pub fn one_reading()
     ensures one_list { (area first other : ℕ) (blocks others : List (List ℕ)) (bytes : List ℕ) → Spells area first blocks bytes → Spells area other others bytes → (first ≡ other) × (blocks ≡ others) }
     ensures one_damage { (area at other : ℕ) (bytes : List ℕ) → IsDamagedAt area bytes at → IsDamagedAt area bytes other → at ≡ other }
     ensures never_both { (area first at : ℕ) (blocks : List (List ℕ)) (bytes : List ℕ) → IsDamagedAt area bytes at → Spells area first blocks bytes → ⊥ }
-{
-}
+{}

@@ -13,7 +13,8 @@ const AREA: u32 = 3;
 const BLOCKS: [&[u8]; 4] = [b"AB", b"", b"\0\x01\0", b"a longer block"];
 
 /// The format page's example: first sequence 1, the block `AB`, a closed gate.
-const ONE_BLOCK: [u8; 40] = *b"IBMIDBF1\0\0\0\x01\0\0\0\x03\0\0\0\0\0\0\0\x01\0\0\0\0\0\0\0\0\x01\0\0\0\x02AB\0";
+const ONE_BLOCK: [u8; 40] =
+    *b"IBMIDBF1\0\0\0\x01\0\0\0\x03\0\0\0\0\0\0\0\x01\0\0\0\0\0\0\0\0\x01\0\0\0\x02AB\0";
 
 /// Opens the log and appends a block.
 fn add<S: Store>(alloc: Global, store: &mut S, block: &[u8]) -> Result<(), LogFault>
@@ -25,14 +26,20 @@ fn add<S: Store>(alloc: Global, store: &mut S, block: &[u8]) -> Result<(), LogFa
     Ok(())
 }
 
-/// The log's blocks.
-fn blocks_of<S: Store>(alloc: Global, store: &mut S) -> Result<Vec<Vec<u8>>, LogFault> {
+/// How many blocks the log has.
+fn count_of<S: Store>(alloc: Global, store: &mut S) -> Result<u64, LogFault> {
     let log = open(alloc, store, AREA)?;
-    let mut blocks = Vec::new(alloc);
-    for n in 0..log.count() {
-        blocks.push(log.block(alloc, store, n)?)?;
+    Ok(log.count())
+}
+
+/// The nth block, none where there is no such block.
+fn nth<S: Store>(alloc: Global, store: &mut S, n: u64) -> Result<Vec<u8>, LogFault> {
+    let log = open(alloc, store, AREA)?;
+    if n < log.count() {
+        log.block(alloc, store, n)
+    } else {
+        Ok(Vec::new(alloc))
     }
-    Ok(blocks)
 }
 
 /// The whole area.
@@ -45,22 +52,26 @@ fn contents<S: Store>(alloc: Global, store: &mut S) -> Result<Vec<u8>, Fail> {
 }
 
 /// Makes the log, and how many of the blocks it appended before the first failure.
-fn run<S: Store>(alloc: Global, store: &mut S) -> Option<usize> {
+fn run<S: Store>(alloc: Global, store: &mut S) -> Option<u64> {
     format(store, AREA, 1).ok()?;
-    let mut done = 0;
-    for block in BLOCKS {
+    for (done, block) in BLOCKS.iter().enumerate() {
         if add(alloc, store, block).is_err() {
-            break;
+            return Some(done as u64);
         }
-        done += 1;
     }
-    Some(done)
+    Some(4)
 }
 
-/// Whether these are the first blocks, so many of them or one more.
-fn is_before_or_after(blocks: &[Vec<u8>], done: usize) -> bool {
-    let whole = blocks.iter().zip(BLOCKS).all(|(block, wanted)| block.as_slice() == wanted);
-    whole && (blocks.len() == done || (blocks.len() == done + 1 && done < BLOCKS.len()))
+/// Whether the log has the first blocks, so many of them or one more.
+fn is_before_or_after<S: Store>(alloc: Global, store: &mut S, done: u64) -> Result<bool, LogFault> {
+    let count = count_of(alloc, store)?;
+    for (n, wanted) in BLOCKS.iter().enumerate() {
+        let n = n as u64;
+        if n < count && nth(alloc, store, n)?.as_slice() != *wanted {
+            return Ok(false);
+        }
+    }
+    Ok(count <= 4 && (count == done || count.checked_sub(1) == Some(done)))
 }
 
 #[test]
@@ -69,7 +80,10 @@ fn a_block_is_written_as_the_page_says(rt: HostRuntime) -> Result<(), Fail> {
     let mut store = MemoryStore::new(alloc);
     format(&mut store, AREA, 1)?;
     add(alloc, &mut store, b"AB")?;
-    assert_eq!(rt; contents(alloc, &mut store)?.as_slice(), ONE_BLOCK.as_slice());
+    assert_eq!(rt;
+        contents(alloc, &mut store)?.as_slice(),
+        ONE_BLOCK.as_slice()
+    );
     assert_eq!(rt; open(alloc, &mut store, AREA)?.first(), 1);
     Ok(())
 }
@@ -85,8 +99,7 @@ fn every_stop_leaves_the_list_before_or_after(rt: HostRuntime) -> Result<(), Fai
         store.stop_at(call);
         if let Some(done) = run(alloc, &mut store) {
             for image in store.stop_images(alloc)?.iter_mut() {
-                let blocks = blocks_of(alloc, image)?;
-                assert!(rt; is_before_or_after(&blocks, done), "stop at {call}");
+                assert!(rt; is_before_or_after(alloc, image, done)?, "stop at {call}");
             }
         }
     }
@@ -100,8 +113,10 @@ fn every_failure_leaves_the_list_before_or_after(rt: HostRuntime) -> Result<(), 
         let mut store = MemoryStore::new(alloc);
         store.fail_at(call);
         if let Some(done) = run(alloc, &mut store) {
-            let blocks = blocks_of(alloc, &mut store)?;
-            assert!(rt; is_before_or_after(&blocks, done), "failure at {call}");
+            assert!(rt;
+                is_before_or_after(alloc, &mut store, done)?,
+                "failure at {call}"
+            );
         }
     }
     Ok(())

@@ -93,7 +93,10 @@ fn a_store_fails_and_stops_where_it_is_told_to(rt: HostRuntime) -> Result<(), Fa
     add(&mut store, 3, 0, b"block")?;
     store.fail_at(4);
     assert!(rt; add(&mut store, 3, 0, b"!").is_err());
-    assert_eq!(rt; contents(alloc, &mut store, 3)?.as_slice(), b"block".as_slice());
+    assert_eq!(rt;
+        contents(alloc, &mut store, 3)?.as_slice(),
+        b"block".as_slice()
+    );
     store.cut(3, 0)?;
     store.stop_at(8);
     assert!(rt; store.sync(3).is_err());

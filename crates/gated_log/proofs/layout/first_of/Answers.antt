@@ -8,7 +8,7 @@ use Rattle.gated_log.proofs.layout.first_of.Goals.{else-may_be_first-via-then-ma
 pub returns-else-may_be_first : goal.returns-else-may_be_first
 returns-else-may_be_first c =
     no_header c.args.area c.read_u64-first.result c.args.bytes.now c.told-bytes c.read_u64-first.ensures
-      (elim c.else-may_be_first.branch [
-        | else-may_be_first-via-then-may_be_first+else-eq w ↦ λ has same. false≢true (sym w.if-eq.false ∙ w.eq.ensures ∙ (bytes_eq-Decides c.args.bytes.now w.header_of.result).1 (same ∙ sym w.header_of.ensures))
-        | else-may_be_first-via-else-may_be_first w ↦ λ has same. false≢true (sym w.if-may_be_first.false ∙ c.may_be_first.ensures.1 has)
-      ])
+    (elim c.else-may_be_first.branch [
+      | else-may_be_first-via-then-may_be_first+else-eq w ↦ λ has same. false≢true (sym w.if-eq.false ∙ w.eq.ensures ∙ (bytes_eq-Decides c.args.bytes.now w.header_of.result).1 (same ∙ sym w.header_of.ensures))
+      | else-may_be_first-via-else-may_be_first w ↦ λ has same. false≢true (sym w.if-may_be_first.false ∙ c.may_be_first.ensures.1 has)
+    ])

@@ -6,7 +6,7 @@ use Rattle.store_model.proofs.DiskAfter.{cut_push, shortened_seen}
 use Rattle.store_model.proofs.memory_store.MemoryStoreStore.cut.Goals as goal
 
 pub returns-clause-cut : goal.returns-clause-cut
-returns-clause-cut c = 
+returns-clause-cut c =
     let push = c.in_ok-add.ensures.pushed ∙ ap (λ (l : List Change). l ++ Shortened c.args.area c.args.length ∷ []) c.begin.ensures.changes in
     shortened_seen (changes_of c.args.self.now) (changes_of c.add.new.self) c.args.area c.args.length push
 

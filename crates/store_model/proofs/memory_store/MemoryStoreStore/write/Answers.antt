@@ -8,7 +8,7 @@ use Rattle.store_model.proofs.DiskAfter.{torn_push, wrote_seen}
 use Rattle.store_model.proofs.memory_store.MemoryStoreStore.write.Goals as goal
 
 pub returns-clause-written : goal.returns-clause-written
-returns-clause-written c = 
+returns-clause-written c =
     let push = c.in_ok-add.ensures.pushed ∙ ap (λ (l : List Change). l ++ Wrote c.args.area c.args.at c.in-Ok.copy ∷ []) c.begin.ensures.changes in
     wrote_seen (changes_of c.args.self.now) (changes_of c.add.new.self) c.args.area c.args.at c.in-Ok.copy push
     ∙ ap (λ (l : List ℕ). written c.args.at l (seen_after blank (changes_of c.args.self.now) c.args.area)) c.in-Ok.ensures.items
