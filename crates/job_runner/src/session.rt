@@ -158,6 +158,13 @@ impl<S: Store, C: Clock> Session<S, C> {
         }
     }
 
+    /// The names of the jobs, in order of their numbers.
+    pub fn names(&self) -> &[Name]
+        ensures { result.now ≡ self.now.scripts.names }
+    {
+        self.scripts.names.as_slice()
+    }
+
     /// How many jobs there are.
     fn jobs(&self) -> u32
         ensures { result ≡ length self.now.scripts.scripts }

@@ -1,7 +1,7 @@
 -- Lists of bytes taken piece by piece.
-use Rattle.std.proofs.Common.{◌≡◌, ℕ, ◌+◌, ◌-◌, ◌≤◌, List, ◌++◌, length, take, drop, sym, ◌∙◌, ap, arith, append_assoc, length-take, length-drop}
+use Rattle.std.proofs.Common.{[], ◌∷◌, get_or, Result, Ok, Err, OnErr, ◌≡◌, ℕ, ◌+◌, ◌-◌, ◌≤◌, List, ◌++◌, length, take, drop, sym, ◌∙◌, ap, arith, append_assoc, length-take, length-drop}
 use Rattle.std.proofs.Math.Seq.{take-add}
-use Rattle.std.proofs.lemmas.List.{take_at, take_rest, drop-drop, take-append-drop}
+use Rattle.std.proofs.lemmas.List.{get_or_at, take_at, take_rest, drop-drop, take-append-drop}
 
 -- a piece from a place on, as the front of what was read, and what is left behind it
 pub read_front : (all piece rest : List ℕ) (place n m : ℕ) → n ≡ m → n ≤ length all - place → piece ≡ take m (drop place all) → drop place all ≡ take n (piece ++ rest) ++ drop (place + n) all
@@ -16,3 +16,12 @@ taken_further first bytes old new done n so_far more =
     more ∙ ap (λ (l : List ℕ). old ++ take n l) (take_rest bytes done)
     ∙ ap (λ (l : List ℕ). l ++ take n (drop done bytes)) so_far
     ∙ append_assoc first (take done bytes) (take n (drop done bytes)) ∙ ap (λ (l : List ℕ). first ++ l) (sym (take-add done n bytes))
+
+-- a plain fact at an exit that answers an error
+pub on_err : {T E : Type 0} (r : Result T E) (P : Type 0) → P → OnErr r P
+on_err (Ok x) P p = tt
+on_err (Err e) P p = p
+
+-- what was pushed stands at the place that was the end
+pub last_is : {X : Type 0} (xs pushed : List X) (x y : X) (n : ℕ) → pushed ≡ xs ++ x ∷ [] → length xs ≡ n → y ≡ get_or pushed n y → y ≡ x
+last_is {X} xs pushed x y n push size read = read ∙ ap (λ (l : List X). get_or l n y) push ∙ get_or_at xs x [] y n size

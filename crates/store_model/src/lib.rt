@@ -8,8 +8,12 @@ mod fault;
 mod gate;
 mod memory_sink;
 mod memory_source;
+mod memory_store;
+mod past;
+mod replay;
 mod sink;
 mod source;
+mod stop_images;
 mod store;
 
 pub use clock::{Clock, StepClock};
@@ -17,6 +21,10 @@ pub use fault::Failed;
 pub use gate::{Gate, OpenGate, Point};
 pub use memory_sink::MemorySink;
 pub use memory_source::MemorySource;
+pub use memory_store::MemoryStore;
 pub use sink::{Sink, write_all};
 pub use source::{ReadError, Source, read_to_end};
 pub use store::Store;
+
+#[cfg(test)]
+mod tests;

@@ -1,0 +1,5 @@
+pub mod Blocks
+pub mod Log
+pub mod Places
+pub mod Steps
+pub mod Walk

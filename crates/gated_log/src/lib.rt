@@ -1,0 +1,17 @@
+//! A list of blocks in one area of a store, whole after any stop: each block stands behind a gate that is opened,
+//! in a write of its own, once the block is on the disk.
+#![tactic(auto)]
+
+mod fault;
+mod layout;
+mod log;
+mod opening;
+mod reading;
+
+pub use fault::{LogFault, StoreFault};
+pub use log::{Log, format};
+pub use opening::open;
+pub use reading::one_reading;
+
+#[cfg(test)]
+mod tests;

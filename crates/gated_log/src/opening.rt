@@ -1,0 +1,99 @@
+//! Opens a log: walks from gate to gate, and trusts no byte. `log.rt` has the log itself.
+ghost use Rattle.std.specs.Prelude.{◌≡◌, ◌+◌, ◌<◌, ◌≤◌, ◌^◌, ℕ, [], length, drop, IfOk, IsErrOf};
+ghost use Rattle.store_model.specs.Disk.{Stays, IsDurable};
+ghost use Rattle.store_model.specs.Faults.{Rose};
+ghost use Rattle.gated_log.specs.Blocks.{IsFirst, IsDamagedAt, IsFaultAt, HasNoHeader, Spells};
+ghost use Rattle.gated_log.specs.Log.{HasBlocks};
+ghost use Rattle.gated_log.specs.Walk.{IsFound, IsBehind, IsWalked};
+
+use crate::LogFault;
+use crate::layout::{CLOSED, HEADER, first_of, length_of};
+use crate::log::{Log, Place};
+use std::alloc::Global;
+use store_model::Store;
+
+/// Opens the log of an area. It writes nothing, so a stop within it leaves what a stop before it could; from its
+/// sync on that is what a read gives.
+pub fn open<S: Store>(alloc: Global, store: &mut S, area: u32) -> Result<Log, LogFault>
+    ensures opened { IfOk result (λ log. S.tells → HasBlocks log (S.disk store.new)) }
+    ensures area { IfOk result (λ log. log.area ≡ area) }
+    ensures damaged { (a at : ℕ) → IsErrOf result (LogFault.Damaged a at) → (a ≡ area) × (S.tells → IsDamagedAt area ((S.disk store.old).seen area) at) }
+    ensures stays { Stays (S.disk store.old) (S.disk store.new) }
+    ensures cause { IsErrOf result LogFault.StoreFault → Rose (S.disk store.old).faults (S.disk store.new).faults }
+{
+    store.sync(area)?;
+    let size = store.size(area)?;
+    let first = read_first(store, area, size)?;
+    let mut places = Vec::new(alloc);
+    let mut gate = HEADER as u64;
+    while let Some(place) = next_place(store, area, gate, size)? {
+        places.push(place)?;
+        gate = place.at + u64::from(place.length);
+    }
+    Ok(Log {
+        area,
+        first,
+        places,
+        end: gate,
+    })
+}
+
+/// The first sequence in the area's header.
+fn read_first<S: Store>(store: &mut S, area: u32, size: u64) -> Result<u64, LogFault>
+    requires { S.tells → size ≡ length ((S.disk store.old).seen area) }
+    ensures first { IfOk result (λ first. S.tells → IsWalked area first ((S.disk store.old).seen area) [] 32) }
+    ensures whole { IfOk result (λ _. 32 ≤ size) }
+    ensures damaged { (a at : ℕ) → IsErrOf result (LogFault.Damaged a at) → (a ≡ area) × (at ≡ 0) × (S.tells → HasNoHeader area ((S.disk store.old).seen area)) }
+    ensures stays { Stays (S.disk store.old) (S.disk store.new) }
+    ensures cause { IsErrOf result LogFault.StoreFault → Rose (S.disk store.old).faults (S.disk store.new).faults }
+{
+    if size < HEADER as u64 {
+        return Err(LogFault::Damaged { area, at: 0 });
+    }
+    let mut header = [0; HEADER];
+    store.read(area, 0, &mut header)?;
+    match first_of(area, &header) {
+        Some(first) => Ok(first),
+        None => Err(LogFault::Damaged { area, at: 0 }),
+    }
+}
+
+/// The place of the block behind a gate, `None` if the gate is closed.
+fn next_place<S: Store>(
+    store: &mut S,
+    area: u32,
+    gate: u64,
+    size: u64,
+) -> Result<Option<Place>, LogFault>
+    requires size { S.tells → size ≡ length ((S.disk store.old).seen area) }
+    requires bound { size ≤ 2 ^ 62 }
+    ensures found { IfOk result (λ found. S.tells → IsFound (drop gate ((S.disk store.old).seen area)) found) }
+    ensures behind { IfOk result (λ found. IsBehind gate size found) }
+    ensures inside { IfOk result (λ _. gate < size) }
+    ensures damaged { (a at : ℕ) → IsErrOf result (LogFault.Damaged a at) → (a ≡ area) × (S.tells → IsFaultAt gate (drop gate ((S.disk store.old).seen area)) at) }
+    ensures stays { Stays (S.disk store.old) (S.disk store.new) }
+    ensures cause { IsErrOf result LogFault.StoreFault → Rose (S.disk store.old).faults (S.disk store.new).faults }
+{
+    if gate >= size {
+        return Err(LogFault::Damaged { area, at: gate });
+    }
+    let mut value = [CLOSED];
+    store.read(area, gate, &mut value)?;
+    if value[0] == CLOSED {
+        return Ok(None);
+    }
+    let damaged = LogFault::Damaged { area, at: gate + 1 };
+    if size - gate < 5 {
+        return Err(damaged);
+    }
+    let mut length = [0; 4];
+    store.read(area, gate + 1, &mut length)?;
+    let length = length_of(&length);
+    if size - gate - 5 < u64::from(length) {
+        return Err(damaged);
+    }
+    Ok(Some(Place {
+        at: gate + 5,
+        length,
+    }))
+}

@@ -1,0 +1,79 @@
+-- What holds at each status of a run: its cause, what was read, and what was written. (Our own.)
+use Rattle.std.specs.Prelude.{◌≡◌, ◌⊎◌, ℕ, ◌<◌, ◌≤◌, Bool, true, false, IsTrue, List, [], ◌++◌, length, take}
+use Rattle.plain_format.specs.Lines.{lines_of}
+use Rattle.library_model.specs.State.{State}
+use Rattle.library_model.specs.declared.calls.Call.{Call}
+use Rattle.job_script.specs.declared.scripts.Scripts.{Scripts}
+use Rattle.job_script.specs.Input.{Reads, IsInput, IsFirstFault}
+use Rattle.job_runner.specs.Session.{IsRun}
+use Rattle.job_runner.specs.Ended.{has_ended, has_early_end}
+use Rattle.listing.specs.HistoryListing.{listing}
+use Rattle.ibmi_batch.specs.declared.status.Status.{Status}
+use Rattle.ibmi_batch.specs.declared.status.Status.TheVariants.{Done, Words, ReadFault, TooLong, Script, NotALibrary, Damaged, StoreFault, WriteFault, NoMemory, JobsEnded, Exists}
+
+-- Words comes exactly where the words aren't those of a run
+abbrev pub WordsFor : Status → Bool → Type 0
+WordsFor Words are_run = are_run ≡ false
+WordsFor _ are_run = are_run ≡ true
+
+-- a fault comes only where the object's own count of faults rose, and the statuses of the store don't come yet
+abbrev pub CauseFor : Status → (source_rose sink_rose : Type 0) → Type 0
+CauseFor ReadFault source_rose sink_rose = source_rose
+CauseFor WriteFault source_rose sink_rose = sink_rose
+CauseFor NotALibrary source_rose sink_rose = ⊥
+CauseFor (Damaged area at) source_rose sink_rose = ⊥
+CauseFor StoreFault source_rose sink_rose = ⊥
+CauseFor Exists source_rose sink_rose = ⊥
+CauseFor _ source_rose sink_rose = Unit {0}
+
+-- what the input is: too long, at fault in that line first, or an input
+abbrev pub InputFor : Status → List ℕ → Type 0
+InputFor TooLong input = 16777216 < length input
+InputFor (Script line) input = IsFirstFault (lines_of input) line
+InputFor Done input = IsInput (lines_of input) × (length input ≤ 16777216)
+InputFor JobsEnded input = IsInput (lines_of input) × (length input ≤ 16777216)
+InputFor WriteFault input = IsInput (lines_of input) × (length input ≤ 16777216)
+InputFor _ input = Unit {0}
+
+-- what is left of the input where lines were judged: nothing
+abbrev pub LeftFor : Status → List ℕ → Type 0
+LeftFor (Script line) left = left ≡ []
+LeftFor Done left = left ≡ []
+LeftFor JobsEnded left = left ≡ []
+LeftFor WriteFault left = left ≡ []
+LeftFor _ left = Unit {0}
+
+-- a legal history of the jobs of the input, in which each job's calls are all that its script asks, and its listing
+pub record RanWhole (input old new : List ℕ) (early : Bool) : Type 0 where
+  pub scripts : Scripts
+  pub state : State
+  pub calls : List Call
+  pub reads : Reads (lines_of input) scripts
+  pub run : IsRun scripts state calls
+  pub ended : (job : ℕ) → 1 ≤ job → job ≤ length scripts.scripts → IsTrue (has_ended job calls)
+  pub ends : has_early_end calls ≡ early
+  pub written : new ≡ old ++ listing scripts.names calls
+
+-- the same, of which the first part of the listing was written
+pub record RanInPart (input old new : List ℕ) : Type 0 where
+  pub scripts : Scripts
+  pub state : State
+  pub calls : List Call
+  pub reads : Reads (lines_of input) scripts
+  pub run : IsRun scripts state calls
+  pub part : ℕ
+  pub written : new ≡ old ++ take part (listing scripts.names calls)
+
+-- what was written behind what the sink had taken: the listing, a part of it, or nothing
+abbrev pub WrittenFor : Status → (input old new : List ℕ) → Type 0
+WrittenFor Done input old new = RanWhole input old new false
+WrittenFor JobsEnded input old new = RanWhole input old new true
+WrittenFor WriteFault input old new = RanInPart input old new
+WrittenFor _ input old new = new ≡ old
+
+-- the statuses of an input that is in order, where no fault comes
+abbrev pub IsOrderly : Status → Type 0
+IsOrderly Done = Unit {0}
+IsOrderly JobsEnded = Unit {0}
+IsOrderly NoMemory = Unit {0}
+IsOrderly _ = ⊥

@@ -1,0 +1,12 @@
+-- Which words of a command line are a run: RUN, and a folder. (Our own.)
+use Rattle.std.specs.Prelude.{ℕ, Bool, true, false, not, ◌==◌, ◌&&◌, nat_eq, List, [], ◌∷◌, codes}
+use Rattle.std.specs.Cmp.Lexicographic.{pointwise}
+
+-- a word that isn't empty and doesn't begin with a hyphen
+abbrev pub names_folder : List ℕ → Bool
+names_folder [] = false
+names_folder (b ∷ bs) = not (b == 45)
+
+abbrev pub are_run_words : List (List ℕ) → Bool
+are_run_words (command ∷ folder ∷ []) = pointwise nat_eq command (codes "RUN") && names_folder folder
+are_run_words _ = false

@@ -1,0 +1,44 @@
+//! What a run came to: a number for the caller, and a text beside it.
+
+/// The status of a run.
+#[derive(Clone, Copy)]
+pub enum Status {
+    Done,
+    /// The words aren't a command.
+    Words,
+    ReadFault,
+    /// The input has more than 16 MiB.
+    TooLong,
+    /// The first line that is at fault.
+    Script { line: u32 },
+    NotALibrary,
+    /// The first place of the store that isn't as it has to be.
+    Damaged { area: u32, at: u64 },
+    StoreFault,
+    WriteFault,
+    NoMemory,
+    /// A job ended otherwise than its script does.
+    JobsEnded,
+    /// There is a library already.
+    Exists,
+}
+
+impl Status {
+    /// The number with which the process ends.
+    pub fn number(self) -> u8 {
+        match self {
+            Status::Done => 0,
+            Status::Words => 1,
+            Status::ReadFault => 2,
+            Status::TooLong => 3,
+            Status::Script { .. } => 4,
+            Status::NotALibrary => 5,
+            Status::Damaged { .. } => 6,
+            Status::StoreFault => 7,
+            Status::WriteFault => 8,
+            Status::NoMemory => 9,
+            Status::JobsEnded => 10,
+            Status::Exists => 11,
+        }
+    }
+}
