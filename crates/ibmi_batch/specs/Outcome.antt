@@ -43,26 +43,38 @@ LeftFor JobsEnded left = left ≡ []
 LeftFor WriteFault left = left ≡ []
 LeftFor _ left = Unit {0}
 
--- a legal history of the jobs of the input, in which each job's calls are all that its script asks, and its listing
-pub record RanWhole (input old new : List ℕ) (early : Bool) : Type 0 where
-  pub scripts : Scripts
+-- a legal history of the jobs of these scripts, in which each job's calls are all that its script asks, and its listing
+pub record Listed (scripts : Scripts) (old new : List ℕ) (early : Bool) : Type 0 where
   pub state : State
   pub calls : List Call
-  pub reads : Reads (lines_of input) scripts
   pub run : IsRun scripts state calls
   pub ended : (job : ℕ) → 1 ≤ job → job ≤ length scripts.scripts → IsTrue (has_ended job calls)
   pub ends : has_early_end calls ≡ early
   pub written : new ≡ old ++ listing scripts.names calls
 
 -- the same, of which the first part of the listing was written
-pub record RanInPart (input old new : List ℕ) : Type 0 where
-  pub scripts : Scripts
+pub record ListedInPart (scripts : Scripts) (old new : List ℕ) : Type 0 where
   pub state : State
   pub calls : List Call
-  pub reads : Reads (lines_of input) scripts
   pub run : IsRun scripts state calls
+  pub ended : (job : ℕ) → 1 ≤ job → job ≤ length scripts.scripts → IsTrue (has_ended job calls)
   pub part : ℕ
   pub written : new ≡ old ++ take part (listing scripts.names calls)
+
+-- what a session writes at a status, to a sink that tells what it takes
+abbrev pub ListsFor : Status → Type 0 → Scripts → (old new : List ℕ) → Type 0
+ListsFor Done tells scripts old new = tells → Listed scripts old new false
+ListsFor JobsEnded tells scripts old new = tells → Listed scripts old new true
+ListsFor WriteFault tells scripts old new = tells → ListedInPart scripts old new
+ListsFor NoMemory tells scripts old new = tells → new ≡ old
+ListsFor _ tells scripts old new = ⊥
+
+-- what the input says, and its listing
+abbrev pub RanWhole : (input old new : List ℕ) → Bool → Type 0
+RanWhole input old new early = (scripts : Scripts) × Reads (lines_of input) scripts × Listed scripts old new early
+
+abbrev pub RanInPart : (input old new : List ℕ) → Type 0
+RanInPart input old new = (scripts : Scripts) × Reads (lines_of input) scripts × ListedInPart scripts old new
 
 -- what was written behind what the sink had taken: the listing, a part of it, or nothing
 abbrev pub WrittenFor : Status → (input old new : List ℕ) → Type 0

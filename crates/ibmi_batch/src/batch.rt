@@ -1,9 +1,9 @@
 //! A run: the input is read and judged, the jobs run, and their listing is written.
-ghost use Rattle.std.specs.Prelude.{◌≡◌, ◌≤◌, ◌++◌, ⊤, ℕ, true, false, List, length, map, string_bytes};
+ghost use Rattle.std.specs.Prelude.{◌≡◌, ◌≤◌, ◌++◌, [], ℕ, true, IsTrue, length, map, string_bytes};
 ghost use Rattle.store_model.specs.Faults.{Rose};
-ghost use Rattle.job_script.specs.Input.{IsInput, Reads};
+ghost use Rattle.job_script.specs.Input.{IsInput};
 ghost use Rattle.plain_format.specs.Lines.{lines_of};
-ghost use Rattle.job_runner.specs.Ended.{has_early_end};
+ghost use Rattle.job_runner.specs.Ended.{has_ended, has_early_end, ends_early};
 ghost use Rattle.ibmi_batch.specs.Words.{are_run_words};
 ghost use Rattle.ibmi_batch.specs.Outcome.{WordsFor, CauseFor, InputFor, LeftFor, WrittenFor, IsOrderly, ListsFor};
 
@@ -110,4 +110,43 @@ fn run_session<S: Store, O: Sink, C: Clock>(
     };
     let (store, clock) = session.into_parts();
     (status, store, clock)
+}
+
+/// Writes the listing of a session whose jobs have all ended.
+fn write_listing<S: Store, O: Sink, C: Clock>(
+    alloc: Global,
+    session: &Session<S, C>,
+    out: &mut O,
+) -> Status
+    requires { (job : ℕ) → 1 ≤ job → job ≤ length session.now.scripts.scripts → IsTrue (has_ended job session.now.calls) }
+    ensures lists { ListsFor result (O.tells) session.now.scripts (O.taken out.old) (O.taken out.new) }
+    ensures cause { CauseFor result ⊥ (Rose (O.faults out.old) (O.faults out.new)) }
+{
+    let calls = session.history();
+    let text = match listing(alloc, session.names(), calls) {
+        Ok(text) => text,
+        Err(_) => return Status::NoMemory,
+    };
+    let early = has_early_end(calls);
+    match write_all(out, text.as_slice()) {
+        Err(_) => Status::WriteFault,
+        Ok(()) if early => Status::JobsEnded,
+        Ok(()) => Status::Done,
+    }
+}
+
+/// Whether some job ended otherwise than its script does.
+fn has_early_end(calls: &[Call]) -> bool
+    ensures { result ≡ has_early_end calls.now }
+{
+    calls.iter().any(|call| ends_early(&call.request))
+}
+
+fn ends_early(request: &Request) -> bool
+    ensures { result ≡ ends_early request.now }
+{
+    match request {
+        Request::EndJob(args) => args.reason != EndReason::Normal,
+        _ => false,
+    }
 }

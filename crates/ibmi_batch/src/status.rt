@@ -1,5 +1,7 @@
 //! What a run came to: a number for the caller, and a text beside it.
 
+use std::fmt;
+
 /// The status of a run.
 #[derive(Clone, Copy)]
 pub enum Status {
@@ -39,6 +41,25 @@ impl Status {
             Status::NoMemory => 9,
             Status::JobsEnded => 10,
             Status::Exists => 11,
+        }
+    }
+}
+
+impl fmt::Display for Status {
+    fn fmt<W: fmt::Write>(&self, f: &mut fmt::Formatter<W>) -> fmt::Result {
+        match self {
+            Status::Done => Ok(()),
+            Status::Words => write!(f, "words"),
+            Status::ReadFault => write!(f, "read fault"),
+            Status::TooLong => write!(f, "input too long"),
+            Status::Script { line } => write!(f, "script line {line}"),
+            Status::NotALibrary => write!(f, "not a library"),
+            Status::Damaged { area, at } => write!(f, "damaged area {area} at {at}"),
+            Status::StoreFault => write!(f, "store fault"),
+            Status::WriteFault => write!(f, "write fault"),
+            Status::NoMemory => write!(f, "no memory"),
+            Status::JobsEnded => write!(f, "jobs ended"),
+            Status::Exists => write!(f, "library exists"),
         }
     }
 }

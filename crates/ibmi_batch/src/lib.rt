@@ -1,0 +1,8 @@
+//! The run of a batch: words, an input, the jobs, and their listing.
+#![tactic(auto)]
+
+pub mod batch;
+pub mod status;
+#[cfg(test)]
+mod tests;
+mod words;
