@@ -125,19 +125,30 @@ read2 make a b bytes = a bytes >>= λ x. b x.1 >>= λ y. all_of (make x.0 y.0) y
 abbrev pub read3 : {A B C : Type 0} → (A → B → C → EntryKind) → Reader A → Reader B → Reader C → List ℕ → Option EntryKind
 read3 make a b c bytes = a bytes >>= λ x. b x.1 >>= λ y. c y.1 >>= λ z. all_of (make x.0 y.0 z.0) z.1
 
-unfoldable pub kind_at : List ℕ → List ℕ → Option EntryKind
-kind_at letters bytes =
+-- what happened to files and members
+unfoldable pub file_kinds_at : List ℕ → List ℕ → Option EntryKind
+file_kinds_at letters bytes =
     if bytes_eq letters (codes "DCT") then read3 FileCreated file_kind_at name_at source_at bytes
     else if bytes_eq letters (codes "DDT") then read1 FileDeleted name_at bytes
     else if bytes_eq letters (codes "DAM") then read2 MemberAdded name_at name_at bytes
-    else if bytes_eq letters (codes "FJM") then read2 JournalingStarted images_at number4_at bytes
+    else None
+
+-- what happened to a member as a whole
+unfoldable pub member_kinds_at : List ℕ → List ℕ → Option EntryKind
+member_kinds_at letters bytes =
+    if bytes_eq letters (codes "FJM") then read2 JournalingStarted images_at number4_at bytes
     else if bytes_eq letters (codes "FIS") then read1 InitialSlot flagged_image_at bytes
     else if bytes_eq letters (codes "FEJ") then all_of JournalingEnded bytes
     else if bytes_eq letters (codes "FCR") then all_of MemberCleared bytes
     else if bytes_eq letters (codes "FRG") then all_of MemberReorganized bytes
     else if bytes_eq letters (codes "FAY") then read3 ChangesApplied number8_at number8_at number4_at bytes
     else if bytes_eq letters (codes "FRC") then read3 ChangesRemoved number8_at number8_at number4_at bytes
-    else if bytes_eq letters (codes "RPT") then read1 RecordAdded flagged_image_at bytes
+    else None
+
+-- what happened to a record
+unfoldable pub record_kinds_at : List ℕ → List ℕ → Option EntryKind
+record_kinds_at letters bytes =
+    if bytes_eq letters (codes "RPT") then read1 RecordAdded flagged_image_at bytes
     else if bytes_eq letters (codes "RPX") then read1 RecordAddedAtNumber flagged_image_at bytes
     else if bytes_eq letters (codes "RUB") then read1 BeforeImage flagged_image_at bytes
     else if bytes_eq letters (codes "RUP") then read2 AfterImage before_at image_at bytes
@@ -145,15 +156,39 @@ kind_at letters bytes =
     else if bytes_eq letters (codes "RBR") then read1 UndoBeforeImage flagged_image_at bytes
     else if bytes_eq letters (codes "RUR") then read2 UndoAfterImage before_at image_at bytes
     else if bytes_eq letters (codes "RDR") then read1 UndoDelete flagged_image_at bytes
-    else if bytes_eq letters (codes "CBC") then read1 CommitmentStarted level_at bytes
+    else None
+
+-- what happened to a commit cycle
+unfoldable pub commit_kinds_at : List ℕ → List ℕ → Option EntryKind
+commit_kinds_at letters bytes =
+    if bytes_eq letters (codes "CBC") then read1 CommitmentStarted level_at bytes
     else if bytes_eq letters (codes "CSC") then all_of CommitCycleStarted bytes
     else if bytes_eq letters (codes "CCM") then all_of CommitCycleCommitted bytes
     else if bytes_eq letters (codes "CRB") then all_of CommitCycleRolledBack bytes
     else if bytes_eq letters (codes "CEC") then all_of CommitmentEnded bytes
-    else if bytes_eq letters (codes "JIA") then all_of AbnormalEnd bytes
+    else None
+
+-- what happened to the journal
+unfoldable pub journal_kinds_at : List ℕ → List ℕ → Option EntryKind
+journal_kinds_at letters bytes =
+    if bytes_eq letters (codes "JIA") then all_of AbnormalEnd bytes
     else if bytes_eq letters (codes "JNR") then read1 NextReceiver number4_at bytes
     else if bytes_eq letters (codes "JPR") then read1 PreviousReceiver number4_at bytes
     else None
+
+unfoldable pub kind_by_code : ℕ → List ℕ → List ℕ → Option EntryKind
+kind_by_code code letters bytes =
+    if code == 68 then file_kinds_at letters bytes
+    else if code == 70 then member_kinds_at letters bytes
+    else if code == 82 then record_kinds_at letters bytes
+    else if code == 67 then commit_kinds_at letters bytes
+    else if code == 74 then journal_kinds_at letters bytes
+    else None
+
+-- by the code, which is the first letter
+unfoldable pub kind_at : List ℕ → List ℕ → Option EntryKind
+kind_at [] bytes = None
+kind_at (code ∷ type) bytes = kind_by_code code (code ∷ type) bytes
 
 -- ---- entries
 

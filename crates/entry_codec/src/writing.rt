@@ -16,6 +16,7 @@ const LENGTH_FIELD: usize = 4;
 const HEAD_LENGTH: usize = 45;
 
 /// How many bytes the entry has in a receiver.
+#[tactic(auto, using(crate::proofs::Lengths::entry_lengths))]
 pub fn entry_length(e: &Entry) -> usize
     requires { HasSpelling e.now }
     ensures { result ≡ length (spelling e.now) }
@@ -41,6 +42,7 @@ pub fn write_entry(e: &Entry, out: &mut Vec<u8>) -> Result<(), AllocError>
     Ok(())
 }
 
+#[tactic(auto, using(crate::proofs::Lengths::entry_lengths))]
 fn put_entry(e: &Entry, out: &mut Vec<u8>)
     requires room { HasRoom out.old (spelling e.now) }
     requires spelled { HasSpelling e.now }

@@ -1,5 +1,5 @@
 //! An unsigned number in four bytes, the highest first.
-ghost use Rattle.std.specs.Prelude.{◌≡◌, IfOk, length};
+ghost use Rattle.std.specs.Prelude.{◌≡◌, ◌<◌, ◌^◌, IfOk, length};
 ghost use Rattle.entry_codec.specs.Spelling.{number4};
 ghost use Rattle.entry_codec.specs.Reading.{Gives, number4_at, number4_of};
 ghost use Rattle.entry_codec.specs.Writing.{HasRoom, Appends};
@@ -19,7 +19,8 @@ pub fn length(_number: &u32) -> usize
 #[tactic(auto, unfolding(crate::specs::Spelling::number4))]
 pub fn put(number: &u32, out: &mut Vec<u8>)
     requires { HasRoom out.old (number4 number.now) }
-    ensures { Appends out.old out.new (number4 number.now) }
+    ensures written { Appends out.old out.new (number4 number.now) }
+    ensures kept { number.now < 2 ^ 32 }
 {
     let mut bytes = [0; 4];
     BigEndian::write_u32(&mut bytes, *number);

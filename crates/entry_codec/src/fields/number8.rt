@@ -1,5 +1,5 @@
 //! An unsigned number in eight bytes, the highest first.
-ghost use Rattle.std.specs.Prelude.{◌≡◌, IfOk, length};
+ghost use Rattle.std.specs.Prelude.{◌≡◌, ◌<◌, ◌^◌, IfOk, length};
 ghost use Rattle.entry_codec.specs.Spelling.{number8};
 ghost use Rattle.entry_codec.specs.Reading.{Gives, number8_at, number8_of};
 ghost use Rattle.entry_codec.specs.Writing.{HasRoom, Appends};
@@ -19,7 +19,8 @@ pub fn length(_number: &u64) -> usize
 #[tactic(auto, unfolding(crate::specs::Spelling::number8))]
 pub fn put(number: &u64, out: &mut Vec<u8>)
     requires { HasRoom out.old (number8 number.now) }
-    ensures { Appends out.old out.new (number8 number.now) }
+    ensures written { Appends out.old out.new (number8 number.now) }
+    ensures kept { number.now < 2 ^ 64 }
 {
     let mut bytes = [0; 8];
     BigEndian::write_u64(&mut bytes, *number);
