@@ -18,3 +18,6 @@ pub use kinds::{EntryKind, FileKind, Images, MAX_RECORD_LENGTH, MIN_RECORD_LENGT
 pub use reading::{one_spelling, read_entry};
 pub use source::Source;
 pub use writing::{entry_length, write_entry};
+
+#[cfg(test)]
+mod tests;
