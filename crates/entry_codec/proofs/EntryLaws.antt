@@ -1,23 +1,24 @@
 -- An entry that is read is what the bytes spell, and each spelled entry is read again, whatever follows.
-use Rattle.std.proofs.Common.{◌≡◌, ℕ, ◌+◌, ◌^◌, ◌<◌, Bool, true, ◌&&◌, ltb, eqb, List, [], ◌++◌, length, take, drop, IsTrue, Option, Some, None, refl, sym, ap, subst, ◌∙◌, append_assoc, arith, length-append}
+use Rattle.std.proofs.Common.{◌≡◌, ℕ, ◌+◌, ◌^◌, ◌<◌, Bool, true, ◌&&◌, ltb, eqb, List, [], ◌++◌, length, drop, IsTrue, Option, Some, None, refl, sym, ap, subst, ◌∙◌, append_assoc, arith, length-append}
 use Rattle.std.specs.Prelude.{IfSome}
 use Rattle.std.specs.Option.{unwrap_or}
 use Rattle.field_types.specs.SystemName.{is_name}
-use Rattle.std.proofs.Math.Seq.{take-append_seam, drop-append_seam}
+use Rattle.std.proofs.Math.Seq.{drop-append_seam}
 use Rattle.std.proofs.lemmas.Bool.{false≢true}
 use Rattle.std.proofs.lemmas.Option.{none-some}
 use Rattle.entry_codec.specs.declared.entries.Entry.{Entry}
 use Rattle.entry_codec.specs.declared.kinds.EntryKind.{EntryKind}
+use Rattle.entry_codec.specs.declared.kinds.EntryKind.TheVariants.{FileCreated, FileDeleted, MemberAdded, JournalingStarted, InitialSlot, JournalingEnded, MemberCleared, MemberReorganized, ChangesApplied, ChangesRemoved, RecordAdded, RecordAddedAtNumber, BeforeImage, AfterImage, RecordDeleted, UndoBeforeImage, UndoAfterImage, UndoDelete, CommitmentStarted, CommitCycleStarted, CommitCycleCommitted, CommitCycleRolledBack, CommitmentEnded, AbnormalEnd, NextReceiver, PreviousReceiver}
 use Rattle.entry_codec.specs.declared.places.Place.{Place}
 use Rattle.entry_codec.specs.declared.places.Place.TheVariants.{Library, Member, Slot, Record, Commitment, CycleStart, CycleEnd}
 use Rattle.entry_codec.specs.Placing.{letters, place, is_absent, is_present, is_own, is_placed_at}
-use Rattle.entry_codec.specs.Spelling.{number4, number8, job_field, body, head, content, spelling, HoldsImages, HasSpelling, IsHead, IsEntry, IsSpelled}
+use Rattle.entry_codec.specs.Spelling.{number4, number8, job_field, body, head, content, spelling, HoldsFields, HasSpelling, IsHead, IsEntry, IsSpelled, Begins}
 use Rattle.entry_codec.specs.Reading.{◌>>=◌, front_at, number4_at, number8_at, optional4_at, optional8_at, job_in, kind_at, content_at, entry_at}
 use Rattle.entry_codec.proofs.FieldLemmas.{length-number4, length-job_field}
-use Rattle.entry_codec.proofs.Lengths.{length-letters}
+use Rattle.entry_codec.proofs.Lengths.{length-letters, length-file_created, length-content, content-fits}
 use Rattle.entry_codec.proofs.Laws.{IsBytes, IsCounted, and-split, bind_takes, test_takes, Takes, Takes-then, front_takes, front_again, number4_takes, number8_takes, number4_reads, number8_reads, optional4_takes, optional8_takes, optional4_reads, optional8_reads}
 use Rattle.entry_codec.proofs.NameLaws.{job_in_takes, job_in_reads}
-use Rattle.entry_codec.proofs.KindLaws.{IsKindOf, kind_takes, kind_reads}
+use Rattle.entry_codec.proofs.KindLaws.{HoldsImages, IsKindOf, kind_takes, kind_reads}
 
 -- ---- what stands where it has to is counted from 1
 
@@ -97,7 +98,6 @@ content_reads e is =
     let t2 = job_field e.job ++ t3 in
     let t1 = letters e.kind ++ t2 in
     let regrouped : content e ≡ number8 e.sequence ++ t1 = simp append_assoc in
-    let short : length (body e.kind) < 2 ^ 32 = omega (arith, length-append (head e) (body e.kind), is.has.fits) in
     ap content_at regrouped
     ∙ rw (
       number8_reads e.sequence t1 is.is.head.sequence,
@@ -108,20 +108,43 @@ content_reads e is =
       optional8_reads e.group t5 counted.0 is.is.head.group,
       optional4_reads e.member t6 counted.1 is.is.head.member,
       optional4_reads e.rrn t7 counted.2 is.is.head.rrn,
-      kind_reads e.kind is.has.images is.is.kind short,
+      kind_reads e.kind is.has.fields is.is.kind,
       is.has.placed,
     ) refl
 
--- the entry is spelled at the front of the bytes, and takes so many of them
-pub record IsAtFront (bytes : List ℕ) (e : Entry) (count : ℕ) : Type 0 where
-  pub is : IsSpelled e
-  pub long : count ≡ length (spelling e)
-  pub front : take count bytes ≡ spelling e
+-- the length that was read bounds a source
+fields_from_length : (k : EntryKind) → HoldsImages k → 45 + length (body k) < 2 ^ 32 → HoldsFields k
+fields_from_length (FileCreated kind name source) h lt = omega (arith, lt, length-file_created kind name source)
+fields_from_length (FileDeleted name) h lt = h
+fields_from_length (MemberAdded file name) h lt = h
+fields_from_length (JournalingStarted images slots) h lt = h
+fields_from_length (InitialSlot image) h lt = h
+fields_from_length JournalingEnded h lt = h
+fields_from_length MemberCleared h lt = h
+fields_from_length MemberReorganized h lt = h
+fields_from_length (ChangesApplied first last changes) h lt = h
+fields_from_length (ChangesRemoved first last changes) h lt = h
+fields_from_length (RecordAdded image) h lt = h
+fields_from_length (RecordAddedAtNumber image) h lt = h
+fields_from_length (BeforeImage image) h lt = h
+fields_from_length (AfterImage has_before image) h lt = h
+fields_from_length (RecordDeleted before) h lt = h
+fields_from_length (UndoBeforeImage image) h lt = h
+fields_from_length (UndoAfterImage has_before image) h lt = h
+fields_from_length (UndoDelete image) h lt = h
+fields_from_length (CommitmentStarted level) h lt = h
+fields_from_length CommitCycleStarted h lt = h
+fields_from_length CommitCycleCommitted h lt = h
+fields_from_length CommitCycleRolledBack h lt = h
+fields_from_length CommitmentEnded h lt = h
+fields_from_length AbnormalEnd h lt = h
+fields_from_length (NextReceiver number) h lt = h
+fields_from_length (PreviousReceiver number) h lt = h
 
-pub entry_takes : (bytes : List ℕ) → IsBytes bytes → IfSome (entry_at bytes) (λ x. IsAtFront bytes x.0 x.1)
+pub entry_takes : (bytes : List ℕ) → IsBytes bytes → IfSome (entry_at bytes) (λ x. Begins bytes x.0 x.1)
 unfolding entry_at
 entry_takes bytes ok =
-    let Q = λ (x : Entry × ℕ). IsAtFront bytes x.0 x.1 in
+    let Q = λ (x : Entry × ℕ). Begins bytes x.0 x.1 in
     bind_takes (λ x. Takes bytes (number4 x.0) x.1 × (x.0 < 2 ^ 32)) Q (number4_at bytes) _ (number4_takes bytes ok)
     (λ n hn. bind_takes (λ x. Takes n.1 x.0 x.1 × (length x.0 ≡ n.0) × IsBytes x.0) Q (front_at n.0 n.1) _ (front_takes n.0 n.1 hn.0.rest_fits)
     (λ f hf. bind_takes (IsContentOf f.0) Q (content_at f.0) _ (content_takes f.0 hf.2)
@@ -131,9 +154,12 @@ entry_takes bytes ok =
     let count : 4 + n.0 ≡ length (number4 n.0 ++ f.0) = omega (arith, length-append (number4 n.0) f.0, length-number4 n.0, hf.1) in
     let parts = (Takes-then bytes (number4 n.0) n.1 f.0 f.1 hn.0 hf.0).parts in
     record {
-      is = record { has = record { placed = he.placed; images = he.images; fits = omega (arith, hn.1, long) }; is = he.is };
+      spelled = record { has = record { placed = he.placed; fields = fields_from_length e.kind he.images (omega (arith, hn.1, long, length-content e)) }; is = he.is };
       long = count ∙ ap length text;
-      front = ap (λ (k : ℕ). take k bytes) count ∙ ap (take (length (number4 n.0 ++ f.0))) parts ∙ take-append_seam (number4 n.0 ++ f.0) f.1 ∙ text;
+      within = omega (arith, count, ap length parts, length-append (number4 n.0 ++ f.0) f.1);
+      front =
+          parts ∙ ap (λ (t : List ℕ). t ++ f.1) text
+          ∙ ap (λ (r : List ℕ). spelling e ++ r) (sym (ap (λ (k : ℕ). drop k bytes) count ∙ ap (drop (length (number4 n.0 ++ f.0))) parts ∙ drop-append_seam (number4 n.0 ++ f.0) f.1));
     })))
 
 pub entry_reads : (e : Entry) (rest : List ℕ) → IsSpelled e → entry_at (spelling e ++ rest) ≡ Some (e, length (spelling e))
@@ -141,7 +167,7 @@ unfolding entry_at
 entry_reads e rest is =
     let long : 4 + length (content e) ≡ length (spelling e) = omega (arith, length-append (number4 (length (content e))) (content e), length-number4 (length (content e))) in
     ap entry_at (append_assoc (number4 (length (content e))) (content e) rest)
-    ∙ rw (number4_reads (length (content e)) (content e ++ rest) is.has.fits, front_again (length (content e)) (content e) rest refl, content_reads e is) (ap (λ (n : ℕ). Some (e, n)) long)
+    ∙ rw (number4_reads (length (content e)) (content e ++ rest) (content-fits e is.has), front_again (length (content e)) (content e) rest refl, content_reads e is) (ap (λ (n : ℕ). Some (e, n)) long)
 
 some_is : (x y : Entry × ℕ) (o : Option (Entry × ℕ)) → o ≡ Some x → o ≡ Some y → x ≡ y
 some_is x y o p q = cc
@@ -153,10 +179,8 @@ one_spelling a b x y is_a is_b e =
 
 -- ---- what the reader ensures
 
-pub found_by : (bytes : List ℕ) (x : Entry × ℕ) → IsBytes bytes → entry_at bytes ≡ Some x → IsSpelled x.0 × (x.1 ≡ length (spelling x.0)) × (take x.1 bytes ≡ spelling x.0)
-found_by bytes x ok e =
-    let front : IsAtFront bytes x.0 x.1 = subst (λ (o : Option (Entry × ℕ)). IfSome o (λ y. IsAtFront bytes y.0 y.1)) e (entry_takes bytes ok) in
-    (front.is, front.long, front.front)
+pub found_by : (bytes : List ℕ) (x : Entry × ℕ) → IsBytes bytes → entry_at bytes ≡ Some x → Begins bytes x.0 x.1
+found_by bytes x ok e = subst (λ (o : Option (Entry × ℕ)). IfSome o (λ y. Begins bytes y.0 y.1)) e (entry_takes bytes ok)
 
 pub only_by : (bytes : List ℕ) (o : Option (Entry × ℕ)) → entry_at bytes ≡ o → (e : Entry) (rest : List ℕ) → IsSpelled e → bytes ≡ spelling e ++ rest → o ≡ Some (e, length (spelling e))
 only_by bytes o at e rest is front = sym at ∙ ap entry_at front ∙ entry_reads e rest is

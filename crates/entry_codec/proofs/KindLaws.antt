@@ -12,13 +12,18 @@ use Rattle.entry_codec.specs.declared.kinds.Images.{Images}
 use Rattle.entry_codec.specs.declared.kinds.EntryKind.{EntryKind}
 use Rattle.entry_codec.specs.declared.kinds.EntryKind.TheVariants.{FileCreated, FileDeleted, MemberAdded, JournalingStarted, InitialSlot, JournalingEnded, MemberCleared, MemberReorganized, ChangesApplied, ChangesRemoved, RecordAdded, RecordAddedAtNumber, BeforeImage, AfterImage, RecordDeleted, UndoBeforeImage, UndoAfterImage, UndoDelete, CommitmentStarted, CommitCycleStarted, CommitCycleCommitted, CommitCycleRolledBack, CommitmentEnded, AbnormalEnd, NextReceiver, PreviousReceiver}
 use Rattle.entry_codec.specs.Placing.{letters}
-use Rattle.entry_codec.specs.Spelling.{number4, number8, name_field, file_kind_field, images_field, level_field, before_field, image_field, optional_image_field, source_field, body, IsImage, HoldsImages, IsKind}
+use Rattle.entry_codec.specs.Spelling.{number4, number8, name_field, file_kind_field, images_field, level_field, before_field, image_field, optional_image_field, source_field, body, IsImage, HoldsFields, IsKind}
 use Rattle.entry_codec.specs.Reading.{◌>>=◌, Reader, number4_at, number8_at, name_at, file_kind_at, images_at, level_at, before_at, image_at, flagged_image_at, optional_image_at, source_at, all_of, read1, read2, read3, file_kinds_at, member_kinds_at, record_kinds_at, commit_kinds_at, journal_kinds_at, kind_by_code, kind_at}
 use Rattle.entry_codec.proofs.FieldLemmas.{length-number4}
 use Rattle.entry_codec.proofs.Laws.{IsBytes, bind_takes, test_takes, Takes, number4_takes, number8_takes, number4_reads, number8_reads, file_kind_takes, file_kind_reads, images_takes, images_reads, level_takes, level_reads, before_takes, before_reads, image_takes, image_reads, flagged_image_takes, flagged_image_reads, optional_image_takes, optional_image_reads, source_takes, source_reads}
 use Rattle.entry_codec.proofs.NameLaws.{name_takes, name_reads}
 
 -- ---- what is read is spelled
+
+-- each image could be a record
+abbrev pub HoldsImages : EntryKind → Type 0
+HoldsImages (FileCreated kind name source) = ⊤
+HoldsImages k = HoldsFields k
 
 -- the kind has these letters and this body
 pub record IsKindOf (text bytes : List ℕ) (k : EntryKind) : Type 0 where
@@ -174,33 +179,33 @@ read3_reads make a b c x y z s t u h i j = ap (read3 make a b c) (append_assoc s
 last : {A : Type 0} (a : Reader A) (x : A) (text : List ℕ) → a (text ++ []) ≡ Some (x, []) → a text ≡ Some (x, [])
 last a x text h = ap a (sym (append-nil text)) ∙ h
 
-pub kind_reads : (k : EntryKind) → HoldsImages k → IsKind k → length (body k) < 2 ^ 32 → kind_at (letters k) (body k) ≡ Some k
+pub kind_reads : (k : EntryKind) → HoldsFields k → IsKind k → kind_at (letters k) (body k) ≡ Some k
 unfolding kind_at kind_by_code file_kinds_at member_kinds_at record_kinds_at commit_kinds_at journal_kinds_at
-kind_reads (FileCreated kind name source) images is short =
-    let fits : length source < 2 ^ 32 = omega (arith, length-append (file_kind_field kind ++ name_field name) (source_field source), length-append (number4 (length source)) source, short) in
+kind_reads (FileCreated kind name source) holds is =
+    let fits : length source < 2 ^ 32 = omega arith in
     read3_reads FileCreated file_kind_at name_at source_at kind name source (file_kind_field kind) (name_field name) (source_field source) (file_kind_reads kind (name_field name ++ source_field source)) (name_reads name (source_field source) is) (last source_at source (source_field source) (source_reads source [] fits))
-kind_reads (FileDeleted name) images is short = read1_reads FileDeleted name_at name (name_field name) (last name_at name (name_field name) (name_reads name [] is))
-kind_reads (MemberAdded file name) images is short = read2_reads MemberAdded name_at name_at file name (name_field file) (name_field name) (name_reads file (name_field name) is.0) (last name_at name (name_field name) (name_reads name [] is.1))
-kind_reads (JournalingStarted kept slots) images is short = read2_reads JournalingStarted images_at number4_at kept slots (images_field kept) (number4 slots) (images_reads kept (number4 slots)) (last number4_at slots (number4 slots) (number4_reads slots [] is))
-kind_reads (InitialSlot image) images is short = read1_reads InitialSlot flagged_image_at image (image_field image) (flagged_image_reads image images)
-kind_reads JournalingEnded images is short = refl
-kind_reads MemberCleared images is short = refl
-kind_reads MemberReorganized images is short = refl
-kind_reads (ChangesApplied first last_one changes) images is short = read3_reads ChangesApplied number8_at number8_at number4_at first last_one changes (number8 first) (number8 last_one) (number4 changes) (number8_reads first (number8 last_one ++ number4 changes) is.0) (number8_reads last_one (number4 changes) is.1) (last number4_at changes (number4 changes) (number4_reads changes [] is.2))
-kind_reads (ChangesRemoved first last_one changes) images is short = read3_reads ChangesRemoved number8_at number8_at number4_at first last_one changes (number8 first) (number8 last_one) (number4 changes) (number8_reads first (number8 last_one ++ number4 changes) is.0) (number8_reads last_one (number4 changes) is.1) (last number4_at changes (number4 changes) (number4_reads changes [] is.2))
-kind_reads (RecordAdded image) images is short = read1_reads RecordAdded flagged_image_at image (image_field image) (flagged_image_reads image images)
-kind_reads (RecordAddedAtNumber image) images is short = read1_reads RecordAddedAtNumber flagged_image_at image (image_field image) (flagged_image_reads image images)
-kind_reads (BeforeImage image) images is short = read1_reads BeforeImage flagged_image_at image (image_field image) (flagged_image_reads image images)
-kind_reads (AfterImage has_before image) images is short = read2_reads AfterImage before_at image_at has_before image (before_field has_before) image (before_reads has_before image) (image_reads image images)
-kind_reads (RecordDeleted before) images is short = read1_reads RecordDeleted optional_image_at before (optional_image_field before) (optional_image_reads before images)
-kind_reads (UndoBeforeImage image) images is short = read1_reads UndoBeforeImage flagged_image_at image (image_field image) (flagged_image_reads image images)
-kind_reads (UndoAfterImage has_before image) images is short = read2_reads UndoAfterImage before_at image_at has_before image (before_field has_before) image (before_reads has_before image) (image_reads image images)
-kind_reads (UndoDelete image) images is short = read1_reads UndoDelete flagged_image_at image (image_field image) (flagged_image_reads image images)
-kind_reads (CommitmentStarted level) images is short = read1_reads CommitmentStarted level_at level (level_field level) (last level_at level (level_field level) (level_reads level []))
-kind_reads CommitCycleStarted images is short = refl
-kind_reads CommitCycleCommitted images is short = refl
-kind_reads CommitCycleRolledBack images is short = refl
-kind_reads CommitmentEnded images is short = refl
-kind_reads AbnormalEnd images is short = refl
-kind_reads (NextReceiver number) images is short = read1_reads NextReceiver number4_at number (number4 number) (last number4_at number (number4 number) (number4_reads number [] is))
-kind_reads (PreviousReceiver number) images is short = read1_reads PreviousReceiver number4_at number (number4 number) (last number4_at number (number4 number) (number4_reads number [] is))
+kind_reads (FileDeleted name) holds is = read1_reads FileDeleted name_at name (name_field name) (last name_at name (name_field name) (name_reads name [] is))
+kind_reads (MemberAdded file name) holds is = read2_reads MemberAdded name_at name_at file name (name_field file) (name_field name) (name_reads file (name_field name) is.0) (last name_at name (name_field name) (name_reads name [] is.1))
+kind_reads (JournalingStarted kept slots) holds is = read2_reads JournalingStarted images_at number4_at kept slots (images_field kept) (number4 slots) (images_reads kept (number4 slots)) (last number4_at slots (number4 slots) (number4_reads slots [] is))
+kind_reads (InitialSlot image) holds is = read1_reads InitialSlot flagged_image_at image (image_field image) (flagged_image_reads image holds)
+kind_reads JournalingEnded holds is = refl
+kind_reads MemberCleared holds is = refl
+kind_reads MemberReorganized holds is = refl
+kind_reads (ChangesApplied first last_one changes) holds is = read3_reads ChangesApplied number8_at number8_at number4_at first last_one changes (number8 first) (number8 last_one) (number4 changes) (number8_reads first (number8 last_one ++ number4 changes) is.0) (number8_reads last_one (number4 changes) is.1) (last number4_at changes (number4 changes) (number4_reads changes [] is.2))
+kind_reads (ChangesRemoved first last_one changes) holds is = read3_reads ChangesRemoved number8_at number8_at number4_at first last_one changes (number8 first) (number8 last_one) (number4 changes) (number8_reads first (number8 last_one ++ number4 changes) is.0) (number8_reads last_one (number4 changes) is.1) (last number4_at changes (number4 changes) (number4_reads changes [] is.2))
+kind_reads (RecordAdded image) holds is = read1_reads RecordAdded flagged_image_at image (image_field image) (flagged_image_reads image holds)
+kind_reads (RecordAddedAtNumber image) holds is = read1_reads RecordAddedAtNumber flagged_image_at image (image_field image) (flagged_image_reads image holds)
+kind_reads (BeforeImage image) holds is = read1_reads BeforeImage flagged_image_at image (image_field image) (flagged_image_reads image holds)
+kind_reads (AfterImage has_before image) holds is = read2_reads AfterImage before_at image_at has_before image (before_field has_before) image (before_reads has_before image) (image_reads image holds)
+kind_reads (RecordDeleted before) holds is = read1_reads RecordDeleted optional_image_at before (optional_image_field before) (optional_image_reads before holds)
+kind_reads (UndoBeforeImage image) holds is = read1_reads UndoBeforeImage flagged_image_at image (image_field image) (flagged_image_reads image holds)
+kind_reads (UndoAfterImage has_before image) holds is = read2_reads UndoAfterImage before_at image_at has_before image (before_field has_before) image (before_reads has_before image) (image_reads image holds)
+kind_reads (UndoDelete image) holds is = read1_reads UndoDelete flagged_image_at image (image_field image) (flagged_image_reads image holds)
+kind_reads (CommitmentStarted level) holds is = read1_reads CommitmentStarted level_at level (level_field level) (last level_at level (level_field level) (level_reads level []))
+kind_reads CommitCycleStarted holds is = refl
+kind_reads CommitCycleCommitted holds is = refl
+kind_reads CommitCycleRolledBack holds is = refl
+kind_reads CommitmentEnded holds is = refl
+kind_reads AbnormalEnd holds is = refl
+kind_reads (NextReceiver number) holds is = read1_reads NextReceiver number4_at number (number4 number) (last number4_at number (number4 number) (number4_reads number [] is))
+kind_reads (PreviousReceiver number) holds is = read1_reads PreviousReceiver number4_at number (number4 number) (last number4_at number (number4 number) (number4_reads number [] is))

@@ -1,5 +1,5 @@
 -- Which bytes spell an entry of the journal? The grammar of receivers, apart from reader and writer.
-use Rattle.std.specs.Prelude.{ℕ, ◌≤◌, ◌<◌, ◌^◌, ⊤, Bool, true, false, IsTrue, List, [], ◌∷◌, ◌++◌, length, take, replicate, Option, Some, None, IfSome}
+use Rattle.std.specs.Prelude.{◌≡◌, ℕ, ◌+◌, ◌≤◌, ◌<◌, ◌^◌, ⊤, Bool, true, false, IsTrue, List, [], ◌∷◌, ◌++◌, length, take, drop, replicate, Option, Some, None, IfSome}
 use Rattle.std.specs.Option.{unwrap_or}
 use Rattle.byteorder.specs.Endian.{big_bytes}
 use Rattle.commit_level.specs.declared.Level.{Level}
@@ -111,24 +111,24 @@ spelling e = number4 (length (content e)) ++ content e
 abbrev pub IsImage : List ℕ → Type 0
 IsImage image = (1 ≤ length image) × (length image ≤ 32766)
 
--- each image could be a record
-abbrev pub HoldsImages : EntryKind → Type 0
-HoldsImages (InitialSlot image) = IsImage image
-HoldsImages (RecordAdded image) = IsImage image
-HoldsImages (RecordAddedAtNumber image) = IsImage image
-HoldsImages (BeforeImage image) = IsImage image
-HoldsImages (AfterImage has_before image) = IsImage image
-HoldsImages (RecordDeleted before) = IfSome before IsImage
-HoldsImages (UndoBeforeImage image) = IsImage image
-HoldsImages (UndoAfterImage has_before image) = IsImage image
-HoldsImages (UndoDelete image) = IsImage image
-HoldsImages _ = ⊤
+-- each image could be a record, and the source leaves the length of the entry below 2 ^ 32
+abbrev pub HoldsFields : EntryKind → Type 0
+HoldsFields (FileCreated kind name source) = length source + 60 < 2 ^ 32
+HoldsFields (InitialSlot image) = IsImage image
+HoldsFields (RecordAdded image) = IsImage image
+HoldsFields (RecordAddedAtNumber image) = IsImage image
+HoldsFields (BeforeImage image) = IsImage image
+HoldsFields (AfterImage has_before image) = IsImage image
+HoldsFields (RecordDeleted before) = IfSome before IsImage
+HoldsFields (UndoBeforeImage image) = IsImage image
+HoldsFields (UndoAfterImage has_before image) = IsImage image
+HoldsFields (UndoDelete image) = IsImage image
+HoldsFields _ = ⊤
 
 -- what an entry of the program has to be for a spelling
 pub record HasSpelling (e : Entry) : Type 0 where
   pub placed : IsTrue (is_placed e)
-  pub images : HoldsImages e.kind
-  pub fits : length (content e) < 2 ^ 32
+  pub fields : HoldsFields e.kind
 
 -- what the types of a kind's fields keep: names are names, and numbers have their width
 abbrev pub IsKind : EntryKind → Type 0
@@ -160,3 +160,10 @@ pub record IsEntry (e : Entry) : Type 0 where
 pub record IsSpelled (e : Entry) : Type 0 where
   pub has : HasSpelling e
   pub is : IsEntry e
+
+-- the entry is spelled at the front of the bytes, and takes so many of them
+pub record Begins (bytes : List ℕ) (e : Entry) (count : ℕ) : Type 0 where
+  pub spelled : IsSpelled e
+  pub long : count ≡ length (spelling e)
+  pub within : count ≤ length bytes
+  pub front : bytes ≡ spelling e ++ drop count bytes

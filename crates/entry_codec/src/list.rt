@@ -138,7 +138,7 @@ impl EntryKind {
     }
 
     /// What an entry of this kind names.
-    pub fn place(&self) -> Place
+    pub(crate) fn place(&self) -> Place
         ensures { result ≡ place self.now }
     {
         entry_kinds!(place_arms!(self))

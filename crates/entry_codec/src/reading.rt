@@ -1,8 +1,8 @@
 //! Reading an entry. Bytes are hostile: each length is tested before anything is taken, and memory
 //! only for what the entry holds. What each part answers stands in `specs/Reading.antt`.
-ghost use Rattle.std.specs.Prelude.{◌≡◌, List, ℕ, Some, ◌++◌, IfOk, IfSome, IfNone, length, take};
+ghost use Rattle.std.specs.Prelude.{◌≡◌, List, ℕ, Some, ◌++◌, IfOk, IfSome, IfNone, length};
 ghost use Rattle.entry_codec.specs.declared.entries.Entry.{Entry};
-ghost use Rattle.entry_codec.specs.Spelling.{IsSpelled, spelling};
+ghost use Rattle.entry_codec.specs.Spelling.{Begins, IsSpelled, spelling};
 ghost use Rattle.entry_codec.specs.Reading.{Gives, content_at, entry_at, optional4_at, optional8_at};
 
 use crate::entries::Entry;
@@ -19,7 +19,7 @@ use std::alloc::{AllocError, Global};
 /// is in the grammar. Takes time and memory by the length of the entry, whatever the bytes say.
 pub fn read_entry(alloc: Global, bytes: &[u8]) -> Result<Option<(Entry, usize)>, AllocError>
     // What is read is spelled so.
-    ensures found { IfOk result (λ read. IfSome read (λ x. IsSpelled x.0 × (x.1 ≡ length (spelling x.0)) × (take x.1 bytes.now ≡ spelling x.0))) }
+    ensures found { IfOk result (λ read. IfSome read (λ x. Begins bytes.now x.0 x.1)) }
     // What is spelled so is read, whatever follows it.
     ensures only { (e : Entry) (rest : List ℕ) → IsSpelled e → bytes.now ≡ spelling e ++ rest → IfOk result (λ read. read ≡ Some (e, length (spelling e))) }
     // Nothing is read only where nothing is spelled so.

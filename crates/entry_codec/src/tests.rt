@@ -2,10 +2,12 @@ use super::*;
 use std::test::*;
 
 /// The add that `docs/formats/journal-entries.md` takes apart.
-const ADDED: &[u8] = b"\x00\x00\x003\x00\x00\x00\x00\x00\x00\x00\x03RPTJ1        \x00\x00\x00\x00\x00\x00\x00\x03\x00\x00\x00\x00\x00\x00\x00\x00\x00\x00\x00\x01\x00\x00\x00\x01\x01\xc1@@@@";
+const ADDED: &[u8] =
+    b"\x00\x00\x003\x00\x00\x00\x00\x00\x00\x00\x03RPTJ1        \x00\x00\x00\x00\x00\x00\x00\x03\x00\x00\x00\x00\x00\x00\x00\x00\x00\x00\x00\x01\x00\x00\x00\x01\x01\xc1@@@@";
 
 /// The creation of a file that stands there too.
-const CREATED: &[u8] = b"\x00\x00\x00>\x00\x00\x00\x00\x00\x00\x00\x01DCTJ1        \x00\x00\x00\x00\x00\x00\x00\x00\x00\x00\x00\x00\x00\x00\x00\x00\x00\x00\x00\x01\x00\x00\x00\x00\x01CUST      \x00\x00\x00\x02A\x0a";
+const CREATED: &[u8] =
+    b"\x00\x00\x00>\x00\x00\x00\x00\x00\x00\x00\x01DCTJ1        \x00\x00\x00\x00\x00\x00\x00\x00\x00\x00\x00\x00\x00\x00\x00\x00\x00\x00\x00\x01\x00\x00\x00\x00\x01CUST      \x00\x00\x00\x02A\x0a";
 
 /// One entry of each kind, then those whose flags are others.
 const KINDS: [&[u8]; 32] = [
@@ -45,36 +47,36 @@ const KINDS: [&[u8]; 32] = [
 
 /// A byte of the add that is another, and whether the bytes are still an entry.
 const DAMAGED: [(usize, u8, bool); 32] = [
-    (0, 0x80, false),    // a length past the end
-    (3, 0x32, true),     // one byte less, so a shorter image
-    (3, 0x34, false),    // one byte more than there is
-    (3, 0x2e, false),    // the flag alone, no image
-    (3, 0x2d, false),    // the head alone
-    (3, 0x2c, false),    // less than a head
-    (4, 0xff, true),     // another sequence
-    (12, b'D', false),   // no D PT
-    (12, b'r', false),   // a small letter
-    (13, b'Q', false),   // no R QT
-    (14, b'X', true),    // R PX
-    (14, b'Y', false),   // no R PY
-    (15, b' ', false),   // a name doesn't begin with a blank
-    (15, b'1', false),   // nor with a digit
-    (15, b'j', false),   // nor with a small letter
-    (16, b' ', true),    // the job J
-    (17, b'X', true),    // the job J1X
-    (18, b'X', false),   // a blank in the middle of a name
-    (24, 0, false),      // zeros aren't blanks
+    (0, 0x80, false), // a length past the end
+    (3, 0x32, true), // one byte less, so a shorter image
+    (3, 0x34, false), // one byte more than there is
+    (3, 0x2e, false), // the flag alone, no image
+    (3, 0x2d, false), // the head alone
+    (3, 0x2c, false), // less than a head
+    (4, 0xff, true), // another sequence
+    (12, b'D', false), // no D PT
+    (12, b'r', false), // a small letter
+    (13, b'Q', false), // no R QT
+    (14, b'X', true), // R PX
+    (14, b'Y', false), // no R PY
+    (15, b' ', false), // a name doesn't begin with a blank
+    (15, b'1', false), // nor with a digit
+    (15, b'j', false), // nor with a small letter
+    (16, b' ', true), // the job J
+    (17, b'X', true), // the job J1X
+    (18, b'X', false), // a blank in the middle of a name
+    (24, 0, false), // zeros aren't blanks
     (24, b'X', false),
-    (25, 0xff, true),    // another moment
-    (33, 0xff, true),    // a group
-    (41, 0xff, true),    // another member
-    (44, 0, false),      // no member
-    (45, 0xff, true),    // another record
-    (48, 0, false),      // no record
-    (49, 0, false),      // an unknown flag
-    (49, 2, false),      // a flag of other kinds
+    (25, 0xff, true), // another moment
+    (33, 0xff, true), // a group
+    (41, 0xff, true), // another member
+    (44, 0, false), // no member
+    (45, 0xff, true), // another record
+    (48, 0, false), // no record
+    (49, 0, false), // an unknown flag
+    (49, 2, false), // a flag of other kinds
     (49, 0xff, false),
-    (50, 0, true),       // another image
+    (50, 0, true), // another image
     (54, 0xff, true),
     (54, 0, true),
 ];

@@ -1,5 +1,5 @@
 //! Measuring and writing an entry. The list in `list.rt` has what its body takes.
-ghost use Rattle.std.specs.Prelude.{◌≡◌, ◌+◌, ◌≤◌, ◌++◌, OnOk, OnErr, IsOk, length, vec_len, vec_capacity};
+ghost use Rattle.std.specs.Prelude.{◌≡◌, ◌+◌, ◌^◌, ◌<◌, ◌≤◌, ◌++◌, OnOk, OnErr, IsOk, length, vec_len, vec_capacity};
 ghost use Rattle.entry_codec.specs.Spelling.{HasSpelling, IsEntry, IsSpelled, IsHead, head, spelling};
 ghost use Rattle.entry_codec.specs.Writing.{HasRoom, Appends};
 
@@ -19,7 +19,9 @@ const HEAD_LENGTH: usize = 45;
 #[tactic(auto, using(crate::proofs::Lengths::entry_lengths))]
 pub fn entry_length(e: &Entry) -> usize
     requires { HasSpelling e.now }
-    ensures { result ≡ length (spelling e.now) }
+    ensures length { result ≡ length (spelling e.now) }
+    ensures least { 49 ≤ result }
+    ensures most { result < 2 ^ 32 + 4 }
 {
     LENGTH_FIELD + HEAD_LENGTH + body_length(&e.kind)
 }

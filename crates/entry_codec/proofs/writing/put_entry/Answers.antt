@@ -29,10 +29,10 @@ returns-clause-written c =
     let long : 45 + c.body_length.result ≡ length (content e) = omega (arith, length-content e, c.body_length.ensures) in
     record {
       items =
-        c.put_body.ensures.written.items
-        ∙ ap (λ (x : List ℕ). x ++ body e.kind) (c.put_head.ensures.written.items ∙ ap (λ (x : List ℕ). x ++ head e) c.put.ensures.written.items)
-        ∙ ap (λ (n : ℕ). ((out ++ number4 n) ++ head e) ++ body e.kind) long
-        ∙ regroup out (number4 (length (content e))) (head e) (body e.kind);
+          c.put_body.ensures.written.items
+          ∙ ap (λ (x : List ℕ). x ++ body e.kind) (c.put_head.ensures.written.items ∙ ap (λ (x : List ℕ). x ++ head e) c.put.ensures.written.items)
+          ∙ ap (λ (n : ℕ). ((out ++ number4 n) ++ head e) ++ body e.kind) long
+          ∙ regroup out (number4 (length (content e))) (head e) (body e.kind);
       len = omega (arith, length-number4 (45 + c.body_length.result), length-spelling e, length-content e, length-head e, c.put.ensures.written.len, c.put_head.ensures.written.len, c.put_body.ensures.written.len);
       capacity = omega (arith, c.put.ensures.written.capacity, c.put_head.ensures.written.capacity, c.put_body.ensures.written.capacity);
     }
