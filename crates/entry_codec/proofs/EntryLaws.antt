@@ -1,5 +1,5 @@
 -- An entry that is read is what the bytes spell, and each spelled entry is read again, whatever follows.
-use Rattle.std.proofs.Common.{◌≡◌, ℕ, ◌+◌, ◌^◌, ◌<◌, Bool, true, ◌&&◌, ltb, eqb, List, [], ◌++◌, length, drop, IsTrue, Option, Some, None, refl, sym, ap, subst, ◌∙◌, append_assoc, arith, length-append}
+use Rattle.std.proofs.Common.{◌≡◌, ℕ, ◌+◌, ◌^◌, ◌<◌, Bool, true, ◌&&◌, ltb, eqb, List, ◌++◌, length, drop, IsTrue, Option, Some, None, refl, sym, ap, subst, ◌∙◌, append_assoc, arith, length-append}
 use Rattle.std.specs.Prelude.{IfSome}
 use Rattle.std.specs.Option.{unwrap_or}
 use Rattle.field_types.specs.SystemName.{is_name}
@@ -12,8 +12,8 @@ use Rattle.entry_codec.specs.declared.kinds.EntryKind.TheVariants.{FileCreated, 
 use Rattle.entry_codec.specs.declared.places.Place.{Place}
 use Rattle.entry_codec.specs.declared.places.Place.TheVariants.{Library, Member, Slot, Record, Commitment, CycleStart, CycleEnd}
 use Rattle.entry_codec.specs.Placing.{letters, place, is_absent, is_present, is_own, is_placed_at}
-use Rattle.entry_codec.specs.Spelling.{number4, number8, job_field, body, head, content, spelling, HoldsFields, HasSpelling, IsHead, IsEntry, IsSpelled, Begins}
-use Rattle.entry_codec.specs.Reading.{◌>>=◌, front_at, number4_at, number8_at, optional4_at, optional8_at, job_in, kind_at, content_at, entry_at}
+use Rattle.entry_codec.specs.Spelling.{number4, number8, job_field, body, content, spelling, HoldsFields, IsEntry, IsSpelled, Begins}
+use Rattle.entry_codec.specs.Reading.{front_at, number4_at, number8_at, optional4_at, optional8_at, job_in, kind_at, content_at, entry_at}
 use Rattle.entry_codec.proofs.FieldLemmas.{length-number4, length-job_field}
 use Rattle.entry_codec.proofs.Lengths.{length-letters, length-file_created, length-content, content-fits}
 use Rattle.entry_codec.proofs.Laws.{IsBytes, IsCounted, and-split, bind_takes, test_takes, Takes, Takes-then, front_takes, front_again, number4_takes, number8_takes, number4_reads, number8_reads, optional4_takes, optional8_takes, optional4_reads, optional8_reads}

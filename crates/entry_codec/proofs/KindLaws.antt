@@ -1,20 +1,16 @@
 -- What is read from the letters and the body of an entry is its kind, and each kind is read again.
-use Rattle.std.proofs.Common.{◌≡◌, ℕ, ◌^◌, ◌<◌, Bool, true, false, eqb, List, [], ◌∷◌, ◌++◌, length, IsTrue, Option, Some, None, refl, sym, ap, subst, ◌∙◌, append_assoc, arith, length-append}
+use Rattle.std.proofs.Common.{◌≡◌, ℕ, ◌^◌, ◌<◌, true, eqb, List, [], ◌∷◌, ◌++◌, length, IsTrue, Option, Some, None, refl, sym, ap, ◌∙◌, append_assoc, arith}
 use Rattle.std.specs.Prelude.{IfSome, ⊤, codes}
 use Rattle.std.specs.Str.{bytes_eq}
 use Rattle.std.proofs.lemmas.Bool.{eqb-true}
 use Rattle.std.proofs.lemmas.List.{append-nil, nil_from_length}
 use Rattle.std.proofs.lemmas.Slice.Eq.{bytes_eq-Decides}
-use Rattle.commit_level.specs.declared.Level.{Level}
 use Rattle.field_types.specs.SystemName.{is_name}
-use Rattle.entry_codec.specs.declared.kinds.FileKind.{FileKind}
-use Rattle.entry_codec.specs.declared.kinds.Images.{Images}
 use Rattle.entry_codec.specs.declared.kinds.EntryKind.{EntryKind}
 use Rattle.entry_codec.specs.declared.kinds.EntryKind.TheVariants.{FileCreated, FileDeleted, MemberAdded, JournalingStarted, InitialSlot, JournalingEnded, MemberCleared, MemberReorganized, ChangesApplied, ChangesRemoved, RecordAdded, RecordAddedAtNumber, BeforeImage, AfterImage, RecordDeleted, UndoBeforeImage, UndoAfterImage, UndoDelete, CommitmentStarted, CommitCycleStarted, CommitCycleCommitted, CommitCycleRolledBack, CommitmentEnded, AbnormalEnd, NextReceiver, PreviousReceiver}
 use Rattle.entry_codec.specs.Placing.{letters}
 use Rattle.entry_codec.specs.Spelling.{number4, number8, name_field, file_kind_field, images_field, level_field, before_field, image_field, optional_image_field, source_field, body, IsImage, HoldsFields, IsKind}
 use Rattle.entry_codec.specs.Reading.{◌>>=◌, Reader, number4_at, number8_at, name_at, file_kind_at, images_at, level_at, before_at, image_at, flagged_image_at, optional_image_at, source_at, all_of, read1, read2, read3, file_kinds_at, member_kinds_at, record_kinds_at, commit_kinds_at, journal_kinds_at, kind_by_code, kind_at}
-use Rattle.entry_codec.proofs.FieldLemmas.{length-number4}
 use Rattle.entry_codec.proofs.Laws.{IsBytes, bind_takes, test_takes, Takes, number4_takes, number8_takes, number4_reads, number8_reads, file_kind_takes, file_kind_reads, images_takes, images_reads, level_takes, level_reads, before_takes, before_reads, image_takes, image_reads, flagged_image_takes, flagged_image_reads, optional_image_takes, optional_image_reads, source_takes, source_reads}
 use Rattle.entry_codec.proofs.NameLaws.{name_takes, name_reads}
 

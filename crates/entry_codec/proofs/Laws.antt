@@ -1,7 +1,6 @@
 -- What the reader's fields take is what the writer's fields spell, and what is spelled is taken again.
-use Rattle.std.proofs.Common.{◌≡◌, ℕ, zero, suc, ◌+◌, ◌-◌, ◌*◌, ◌^◌, ◌<◌, ◌≤◌, Bool, true, false, cond, ◌&&◌, ltb, leb, eqb, List, [], ◌∷◌, ◌++◌, length, get_or, take, drop, replicate, slice_index, IsTrue, Option, Some, None, refl, sym, ap, subst, ◌∙◌, append_assoc, arith, inl, inr, length-append, length-take, lit<}
+use Rattle.std.proofs.Common.{◌≡◌, ℕ, zero, suc, ◌+◌, ◌^◌, ◌<◌, Bool, true, false, cond, ◌&&◌, ltb, leb, eqb, List, [], ◌∷◌, ◌++◌, length, get_or, take, drop, IsTrue, Option, Some, None, refl, sym, ap, subst, ◌∙◌, append_assoc, arith, inl, inr, length-append, length-take, lit<}
 use Rattle.std.specs.Prelude.{IfSome, ⊤}
-use Rattle.std.specs.List.{list_all}
 use Rattle.std.proofs.lemmas.Bool.{cases_lt, ltb-false, le-ltb, leb-true, le-leb, eqb-true, false≢true}
 use Rattle.std.proofs.lemmas.List.{take_at, drop_at, take-append-drop, get_or-drop, get_or-take, get_or_past, append-nil}
 use Rattle.std.proofs.lemmas.Nat.{be_bytes_4, be_bytes_8}
@@ -17,7 +16,7 @@ use Rattle.entry_codec.specs.declared.kinds.Images.{Images}
 use Rattle.entry_codec.specs.declared.kinds.Images.TheVariants.{After, Both}
 use Rattle.entry_codec.specs.Placing.{is_counted}
 use Rattle.entry_codec.specs.Spelling.{number4, number8, file_kind_field, images_field, level_field, before_field, image_field, optional_image_field, source_field, IsImage}
-use Rattle.entry_codec.specs.Reading.{◌>>=◌, Reader, front_at, number4_of, number8_of, number4_at, number8_at, unless_zero, optional4_at, optional8_at, file_kind_at, images_at, level_at, before_at, image_at, flagged_image_at, optional_image_at, source_at}
+use Rattle.entry_codec.specs.Reading.{◌>>=◌, front_at, number4_of, number8_of, number4_at, number8_at, unless_zero, optional4_at, optional8_at, file_kind_at, images_at, level_at, before_at, image_at, flagged_image_at, optional_image_at, source_at}
 use Rattle.entry_codec.proofs.FieldLemmas.{length-number4, length-number8}
 
 abbrev pub IsBytes : List ℕ → Type 0

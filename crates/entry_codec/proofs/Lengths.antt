@@ -12,7 +12,7 @@ use Rattle.entry_codec.specs.declared.kinds.Images.TheVariants.{After, Both}
 use Rattle.entry_codec.specs.declared.kinds.EntryKind.{EntryKind}
 use Rattle.entry_codec.specs.declared.kinds.EntryKind.TheVariants.{FileCreated, FileDeleted, MemberAdded, JournalingStarted, InitialSlot, JournalingEnded, MemberCleared, MemberReorganized, ChangesApplied, ChangesRemoved, RecordAdded, RecordAddedAtNumber, BeforeImage, AfterImage, RecordDeleted, UndoBeforeImage, UndoAfterImage, UndoDelete, CommitmentStarted, CommitCycleStarted, CommitCycleCommitted, CommitCycleRolledBack, CommitmentEnded, AbnormalEnd, NextReceiver, PreviousReceiver}
 use Rattle.entry_codec.specs.Placing.{letters}
-use Rattle.entry_codec.specs.Spelling.{number4, number8, name_field, job_field, file_kind_field, images_field, level_field, before_field, source_field, body, head, content, spelling, HoldsFields, HasSpelling}
+use Rattle.entry_codec.specs.Spelling.{number4, number8, name_field, file_kind_field, images_field, level_field, before_field, source_field, body, head, content, spelling, HoldsFields, HasSpelling}
 use Rattle.entry_codec.proofs.FieldLemmas.{length-number4, length-number8, length-name_field, length-job_field}
 
 pub length-letters : (k : EntryKind) → length (letters k) ≡ 3
