@@ -2,8 +2,11 @@
 #![tactic(auto)]
 
 pub mod arguments;
+mod characters;
 pub mod faults;
+mod first;
 pub mod keywords;
+mod lines;
 pub mod specifications;
 
 pub use arguments::{Argument, Arguments, Characters};
