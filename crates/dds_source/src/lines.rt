@@ -1,5 +1,5 @@
 //! Lines with their numbers and positions, and which of them count.
-ghost use Rattle.std.specs.Prelude.{◌≡◌, ℕ, ◌+◌, ◌-◌, ◌<◌, ◌≤◌, ◌==◌, length, take, position, map, ◌∷◌, [], IfOk, MatchOption};
+ghost use Rattle.std.specs.Prelude.{◌≡◌, ℕ, ◌+◌, ◌-◌, ◌<◌, ◌≤◌, ◌==◌, length, take, position, map, ◌∷◌, [], ◌++◌, filter, IfOk, OnOk, MatchOption};
 ghost use Rattle.std.specs.List.{slice_split};
 ghost use Rattle.std.specs.Str.Lines.{strip_carriage_return};
 ghost use Rattle.dds_source.specs.Characters.{is_blank, are_blanks, folded};
@@ -87,14 +87,20 @@ pub(crate) fn counted_lines(alloc: Global, text: &[u8]) -> Result<Vec<Line>, All
     let mut rest = Some(text);
     while let Some(text) = rest {
         let (first, more) = first_line(text);
-        let line = Line::new(number, first);
-        if line.counts() {
-            lines.push(line)?;
-        }
+        push_counted(&mut lines, Line::new(number, first))?;
         number = next_number(number);
         rest = more;
     }
     Ok(lines)
+}
+
+fn push_counted(lines: &mut Vec<Line>, line: Line) -> Result<(), AllocError>
+    ensures { OnOk result (lines.new.items ≡ lines.old.items ++ filter counts (line ∷ [])) }
+{
+    if line.counts() {
+        lines.push(line)?;
+    }
+    Ok(())
 }
 
 /// The first line, and what follows its line feed.
@@ -121,7 +127,8 @@ fn next_number(number: u32) -> u32
 }
 
 fn positions(text: &[u8]) -> [u8; 80]
-    ensures { result ≡ positions text.now }
+    ensures width { length result ≡ 80 }
+    ensures value { result ≡ positions text.now }
 {
     let kept = first_80(without_return(text));
     let mut positions = [b' '; 80];
