@@ -1,6 +1,6 @@
 -- What stands in positions 30 to 34 and 36 to 37: numbers, pushed to the right, perhaps with a sign.
 -- (DDS for Physical and Logical Files, "Length (positions 30 through 34)", "Decimal positions (positions 36 and 37)".)
-use Rattle.std.specs.Prelude.{ℕ, ◌+◌, ◌-◌, ◌*◌, Bool, not, ◌&&◌, ◌==◌, List, [], ◌∷◌, Option, Some, None, if◌then◌else◌}
+use Rattle.std.specs.Prelude.{ℕ, ◌+◌, ◌-◌, ◌*◌, Bool, not, ◌&&◌, ◌==◌, List, [], ◌∷◌, length, Option, Some, None, if◌then◌else◌}
 use Rattle.std.specs.List.{list_all}
 use Rattle.std.specs.Option.{option_map}
 use Rattle.dds_source.specs.declared.specifications.LengthEntry.{LengthEntry}
@@ -23,8 +23,7 @@ from_first (c ∷ cs) = if is_blank c then from_first cs else c ∷ cs
 
 -- a digit at least, and nothing else
 abbrev pub are_digits : List ℕ → Bool
-are_digits [] = Bool.false
-are_digits (c ∷ cs) = list_all is_digit (c ∷ cs)
+are_digits cs = not (length cs == 0) && list_all is_digit cs
 
 -- blanks, and digits to the last position
 abbrev pub unsigned_entry : List ℕ → Option ℕ

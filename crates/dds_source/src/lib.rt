@@ -3,10 +3,12 @@
 
 pub mod arguments;
 mod characters;
+mod entries;
 pub mod faults;
 mod first;
 pub mod keywords;
 mod lines;
+mod numbers;
 pub mod specifications;
 
 pub use arguments::{Argument, Arguments, Characters};

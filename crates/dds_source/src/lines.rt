@@ -47,7 +47,8 @@ impl Line {
         requires begins { 1 ≤ first }
         requires ordered { first ≤ last }
         requires ends { last ≤ 44 }
-        ensures { result.now ≡ entry self.now first last }
+        ensures width { length result.now + first ≡ last + 1 }
+        ensures value { result.now ≡ entry self.now first last }
     {
         &self.entries[first - 1..last]
     }
