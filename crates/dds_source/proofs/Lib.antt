@@ -1,3 +1,5 @@
 pub mod LineLemmas
 pub mod FaultLemmas
 pub mod NumberLemmas
+pub mod KeywordLemmas
+pub mod ContinuationLemmas

@@ -3,9 +3,11 @@
 
 pub mod arguments;
 mod characters;
+mod continuation;
 mod entries;
 pub mod faults;
 mod first;
+mod keyword_texts;
 pub mod keywords;
 mod lines;
 mod numbers;
