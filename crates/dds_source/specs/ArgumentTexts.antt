@@ -1,7 +1,7 @@
 -- Which arguments stand in the parentheses of a keyword.
 -- (DDS for Physical and Logical Files, "Syntax rules for DDS keywords and parameter values".)
 use Rattle.std.specs.Prelude.{ℕ, ◌+◌, ◌-◌, Bool, true, false, not, ◌&&◌, ◌||◌, ◌==◌, nat_le, List, [], ◌∷◌, ◌++◌, length, take, slice_index, slice_range, Option, Some, None, is_none, if◌then◌else◌, pos, neg_ℤ, ℤ}
-use Rattle.std.specs.List.{before_first, after_first, list_any}
+use Rattle.std.specs.List.{before_first, after_first, list_any, list_all}
 use Rattle.std.specs.Option.{option_map, option_map_or}
 use Rattle.std.specs.Result.{result_ok}
 use Rattle.hex.specs.Hex.{decode_of}
@@ -9,7 +9,7 @@ use Rattle.field_types.specs.SystemName.{is_name}
 use Rattle.field_types.specs.declared.values.Dec.{Dec}
 use Rattle.dds_source.specs.declared.arguments.Argument.{Argument}
 use Rattle.dds_source.specs.declared.arguments.Argument.TheVariants as arguments
-use Rattle.dds_source.specs.Characters.{is_blank}
+use Rattle.dds_source.specs.Characters.{is_blank, is_digit}
 use Rattle.dds_source.specs.Continuation.{toggled}
 use Rattle.dds_source.specs.Numbers.{decimal, are_digits}
 use Rattle.dds_source.specs.KeywordTexts.{unless_empty, is_unfinished}
@@ -75,20 +75,25 @@ is_bad_hexadecimal word = begins_hexadecimal word && not (is_quoted_behind false
 abbrev pub is_unsigned : List ℕ → Bool
 is_unsigned word =
     are_digits (before_first (λ c. c == 46) word)
-    && (not (list_any (λ c. c == 46) word) || are_digits (after_first (λ c. c == 46) word))
+    && list_all is_digit (after_first (λ c. c == 46) word)
+    && (not (list_any (λ c. c == 46) word) || not (length (after_first (λ c. c == 46) word) == 0))
     && nat_le (length (before_first (λ c. c == 46) word) + length (after_first (λ c. c == 46) word)) 31
 
+-- a number, or its negative
+abbrev pub signed : Bool → ℕ → ℤ
+signed negative n = if negative then neg_ℤ (pos n) else pos n
+
 -- the number of all digits, and how many stand behind the point
-abbrev pub number_of : (ℕ → ℤ) → List ℕ → Option Dec
-number_of sign word =
+abbrev pub number_of : Bool → List ℕ → Option Dec
+number_of negative word =
     if is_unsigned word
-    then Some (record { units = sign (decimal (before_first (λ c. c == 46) word ++ after_first (λ c. c == 46) word)); scale = length (after_first (λ c. c == 46) word) })
+    then Some (record { units = signed negative (decimal (before_first (λ c. c == 46) word ++ after_first (λ c. c == 46) word)); scale = length (after_first (λ c. c == 46) word) })
     else None
 
 -- a number literal: perhaps a minus sign, then the digits
 abbrev pub number : List ℕ → Option Dec
 number [] = None
-number (c ∷ cs) = if c == 45 then number_of (λ n. neg_ℤ (pos n)) cs else number_of (λ n. pos n) (c ∷ cs)
+number (c ∷ cs) = if c == 45 then number_of true cs else number_of false (c ∷ cs)
 
 -- All arguments.
 

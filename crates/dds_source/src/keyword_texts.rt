@@ -1,6 +1,6 @@
 //! Where the keywords of a text begin and end, and their names.
 ghost use Rattle.std.specs.Prelude.{◌≡◌, ℕ, ◌+◌, ◌-◌, ◌<◌, ◌≤◌, ◌^◌, ◌==◌, ◌||◌, Bool, List, [], ◌∷◌, length, take, drop, IfOk, position};
-ghost use Rattle.std.specs.List.{list_any, list_all, before_first};
+ghost use Rattle.std.specs.List.{list_any, list_all, before_first, after_first};
 ghost use Rattle.dds_source.specs.Characters.{is_letter, is_digit};
 ghost use Rattle.dds_source.specs.KeywordTexts.{outside, is_outside, behind, behind_all, closes, keyword_texts, keywords_in, bytes, is_keyword_name, name_part, has_parentheses, is_unfinished};
 
@@ -111,6 +111,16 @@ pub(crate) fn name_part(keyword: &[u8]) -> &[u8]
     match parenthesis(keyword) {
         Some(end) => &keyword[..end],
         None => keyword,
+    }
+}
+
+/// What stands behind the first parenthesis.
+pub(crate) fn after_parenthesis(keyword: &[u8]) -> &[u8]
+    ensures { result.now ≡ after_first (λ c. c == 40) keyword.now }
+{
+    match parenthesis(keyword) {
+        Some(end) => &keyword[end + 1..],
+        None => &keyword[keyword.len()..],
     }
 }
 

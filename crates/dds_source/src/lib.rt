@@ -1,6 +1,7 @@
 //! DDS lines read into specifications, or the first fault of a source.
 #![tactic(auto)]
 
+mod argument_texts;
 pub mod arguments;
 mod characters;
 mod continuation;
@@ -10,6 +11,7 @@ mod first;
 mod keyword_texts;
 pub mod keywords;
 mod lines;
+mod number_literals;
 mod numbers;
 pub mod specifications;
 

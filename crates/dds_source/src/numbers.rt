@@ -8,14 +8,25 @@ ghost use Rattle.dds_source.specs.Numbers.{decimal, decimal_after, from_first, a
 use crate::lines::is_blank;
 use crate::specifications::LengthEntry;
 
-/// A number of at most 31 digits.
+/// The number that digits spell.
 pub(crate) fn decimal(digits: &[u8]) -> u128
     requires digits { IsTrue (list_all is_digit digits.now) }
     requires short { length digits.now ≤ 31 }
     ensures value { result ≡ decimal digits.now }
     ensures bound { result < 10 ^ length digits.now }
 {
-    let mut number = 0;
+    decimal_after(0, 0, digits)
+}
+
+/// The number that digits spell behind a number that has at most so many places.
+pub(crate) fn decimal_after(number: u128, places: usize, digits: &[u8]) -> u128
+    requires digits { IsTrue (list_all is_digit digits.now) }
+    requires places { number < 10 ^ places }
+    requires short { places + length digits.now ≤ 31 }
+    ensures value { result ≡ decimal_after number digits.now }
+    ensures bound { result < 10 ^ (places + length digits.now) }
+{
+    let mut number = number;
     for &digit in digits {
         number = number * 10 + u128::from(digit - b'0');
     }
@@ -28,7 +39,7 @@ pub(crate) fn are_digits(text: &[u8]) -> bool
     !text.is_empty() && all_digits(text)
 }
 
-fn all_digits(text: &[u8]) -> bool
+pub(crate) fn all_digits(text: &[u8]) -> bool
     ensures { result ≡ list_all is_digit text.now }
 {
     text.iter().all(|&c| is_digit(c))
