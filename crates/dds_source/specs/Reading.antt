@@ -55,21 +55,26 @@ keyword_of (c ∷ cs) =
 unfoldable pub keywords_of : List Line → List Keyword
 keywords_of lines = filter_map keyword_of (keywords_in (joined_text lines))
 
+-- the first character of the last keyword that has begun
+abbrev pub last_begun : Option SourceCharacter → List (List SourceCharacter) → Option SourceCharacter
+last_begun before [] = before
+last_begun before ([] ∷ keywords) = last_begun before keywords
+last_begun before ((c ∷ cs) ∷ keywords) = last_begun (Some c) keywords
+
 -- where a text that should go on isn't finished: at the last keyword that has begun, or else at the sign
-abbrev pub unfinished_at : List (List SourceCharacter) → Line → DdsFault
-unfinished_at [] line = record { line = line.number; column = 44 + used line; cause = UnfinishedText }
-unfinished_at (k ∷ []) line = fault_at k UnfinishedText
-unfinished_at (k ∷ m ∷ ks) line = unfinished_at (m ∷ ks) line
+abbrev pub unfinished_at : Option SourceCharacter → Line → DdsFault
+unfinished_at None line = record { line = line.number; column = 44 + used line; cause = UnfinishedText }
+unfinished_at (Some c) line = record { line = c.line; column = c.column; cause = UnfinishedText }
 
 -- the last of joined lines should go on, and doesn't
-abbrev pub sign_faults : List (List SourceCharacter) → List Line → List DdsFault
-sign_faults keywords [] = []
-sign_faults keywords (line ∷ []) = when (goes_on line) (unfinished_at keywords line)
-sign_faults keywords (l ∷ m ∷ ls) = sign_faults keywords (m ∷ ls)
+abbrev pub sign_faults : Option SourceCharacter → List Line → List DdsFault
+sign_faults begun [] = []
+sign_faults begun (line ∷ []) = when (goes_on line) (unfinished_at begun line)
+sign_faults begun (l ∷ m ∷ ls) = sign_faults begun (m ∷ ls)
 
 -- what is wrong with the keywords of joined lines
 unfoldable pub joined_faults : List Line → List DdsFault
-joined_faults lines = flat_map keyword_faults (keywords_in (joined_text lines)) ++ sign_faults (keywords_in (joined_text lines)) lines
+joined_faults lines = flat_map keyword_faults (keywords_in (joined_text lines)) ++ sign_faults (last_begun None (keywords_in (joined_text lines))) lines
 
 -- Specifications.
 
@@ -128,13 +133,17 @@ specification_of is_behind_condition line keywords = record {
   keywords = keywords;
 }
 
--- What joined lines add: a specification where the first has entries, else keywords, to the specification before them or, where no record format has come, to the file.
-unfoldable pub added : Source → List Line → Source
+-- What a line and its keywords add: a specification where the line has entries, else keywords, to the specification before them or, where no record format has come, to the file.
+unfoldable pub extended : Source → Line → List Keyword → Source
+extended source line keywords =
+    if has_entries line then record source { specifications = source.specifications ++ specification_of (ends_in_condition source.specifications) line keywords ∷ [] }
+    else (if has_record source.specifications then record source { specifications = with_keywords keywords source.specifications }
+    else record source { file = source.file ++ keywords })
+
+-- what joined lines add
+abbrev pub added : Source → List Line → Source
 added source [] = source
-added source (line ∷ lines) =
-    if has_entries line then record source { specifications = source.specifications ++ specification_of (ends_in_condition source.specifications) line (keywords_of (line ∷ lines)) ∷ [] }
-    else (if has_record source.specifications then record source { specifications = with_keywords (keywords_of (line ∷ lines)) source.specifications }
-    else record source { file = source.file ++ keywords_of (line ∷ lines) })
+added source (line ∷ lines) = extended source line (keywords_of (line ∷ lines))
 
 -- what joined lines after joined lines add
 abbrev pub all_added : Source → List (List Line) → Source

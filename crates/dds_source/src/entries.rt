@@ -45,7 +45,7 @@ impl Line {
         }
     }
 
-    fn name(&self) -> Option<NameEntry>
+    pub(crate) fn name(&self) -> Option<NameEntry>
         ensures { result ≡ name_of_line self.now }
     {
         name_entry(self.at(17) == b'K', self.entry(19, 28))
@@ -66,7 +66,7 @@ impl Line {
             || (!is_blank && self.at(17) == b'J')
     }
 
-    fn is_reference(&self) -> bool
+    pub(crate) fn is_reference(&self) -> bool
         ensures { result ≡ is_reference self.now }
     {
         self.at(29) == b'R'

@@ -8,16 +8,20 @@ mod continuation;
 mod entries;
 pub mod faults;
 mod first;
+mod keyword_reading;
 mod keyword_texts;
 pub mod keywords;
 mod lines;
 mod number_literals;
 mod numbers;
+mod reading;
+mod specification_lines;
 pub mod specifications;
 
 pub use arguments::{Argument, Arguments, Characters};
 pub use faults::{DdsCause, DdsFault, SourceError};
 pub use keywords::{Keyword, Keywords};
+pub use reading::read_source;
 pub use specifications::{
     Columns, LengthEntry, NameEntry, Source, Specification, SpecificationKind, Specifications,
 };
