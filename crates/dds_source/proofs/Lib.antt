@@ -3,3 +3,4 @@ pub mod FaultLemmas
 pub mod NumberLemmas
 pub mod KeywordLemmas
 pub mod ContinuationLemmas
+pub mod ReadingLemmas

@@ -27,29 +27,27 @@ use Rattle.dds_source.specs.ArgumentTexts.{arguments_in, argument_of, is_bad_hex
 
 -- Keywords.
 
--- a fault at the first character of a keyword
-abbrev pub fault_at : List SourceCharacter → DdsCause → DdsFault
-fault_at [] cause = record { line = 0; column = 0; cause = cause }
-fault_at (c ∷ cs) cause = record { line = c.line; column = c.column; cause = cause }
+-- what is wrong with a keyword, at its first character: its name, a literal X'..' in its arguments, or that it isn't finished
+abbrev pub text_faults : SourceCharacter → List ℕ → Bool → List DdsFault
+text_faults c text has_bad_literal =
+    when (not (is_keyword_name (name_part text))) (record { line = c.line; column = c.column; cause = BadName })
+    ++ when has_bad_literal (record { line = c.line; column = c.column; cause = BadNumber })
+    ++ when (is_unfinished text) (record { line = c.line; column = c.column; cause = UnfinishedText })
 
--- what is wrong with a keyword: its name, a literal X'..' in its arguments, or that it isn't finished
 unfoldable pub keyword_faults : List SourceCharacter → List DdsFault
-keyword_faults keyword =
-    when (not (is_keyword_name (name_part (bytes keyword)))) (fault_at keyword BadName)
-    ++ when (list_any is_bad_hexadecimal (arguments_in (bytes keyword))) (fault_at keyword BadNumber)
-    ++ when (is_unfinished (bytes keyword)) (fault_at keyword UnfinishedText)
+keyword_faults [] = []
+keyword_faults (c ∷ cs) = text_faults c (bytes (c ∷ cs)) (list_any is_bad_hexadecimal (arguments_in (bytes (c ∷ cs))))
 
--- the arguments, where there are parentheses
-abbrev pub arguments_of : List ℕ → Option (List Argument)
-arguments_of keyword = if has_parentheses keyword then Some (map argument_of (arguments_in keyword)) else None
+-- the keyword that stands there, if its name is one, with its arguments where there are parentheses
+abbrev pub text_keyword : SourceCharacter → List ℕ → List Argument → Option Keyword
+text_keyword c text arguments =
+    if is_keyword_name (name_part text)
+    then Some (record { name = name_part text; line = c.line; column = c.column; arguments = if has_parentheses text then Some arguments else None })
+    else None
 
--- the keyword that stands there, if its name is one
 unfoldable pub keyword_of : List SourceCharacter → Option Keyword
 keyword_of [] = None
-keyword_of (c ∷ cs) =
-    if is_keyword_name (name_part (bytes (c ∷ cs)))
-    then Some (record { name = name_part (bytes (c ∷ cs)); line = c.line; column = c.column; arguments = arguments_of (bytes (c ∷ cs)) })
-    else None
+keyword_of (c ∷ cs) = text_keyword c (bytes (c ∷ cs)) (map argument_of (arguments_in (bytes (c ∷ cs))))
 
 -- the keywords of joined lines
 unfoldable pub keywords_of : List Line → List Keyword

@@ -5,7 +5,7 @@ ghost use Rattle.dds_source.specs.Faults.{first_after};
 ghost use Rattle.dds_source.specs.Entries.{when};
 ghost use Rattle.dds_source.specs.KeywordTexts.{keywords_in, bytes, is_keyword_name, name_part, has_parentheses, is_unfinished};
 ghost use Rattle.dds_source.specs.Continuation.{joined_text, goes_on};
-ghost use Rattle.dds_source.specs.Reading.{fault_at, keyword_faults, keyword_of, keywords_of, last_begun, unfinished_at, sign_faults, joined_faults};
+ghost use Rattle.dds_source.specs.Reading.{text_faults, text_keyword, keyword_faults, keyword_of, keywords_of, last_begun, unfinished_at, sign_faults, joined_faults};
 
 use crate::argument_texts::arguments;
 use crate::arguments::Arguments;
@@ -82,7 +82,6 @@ fn text_keywords(
 }
 
 /// Adds the keyword that stands there, if its name is one, and notes what is wrong with it.
-#[tactic(auto, using(crate::proofs::FaultLemmas::first_after_append), unfolding(crate::specs::Reading::keyword_of, crate::specs::Reading::keyword_faults))]
 fn read_keyword(
     alloc: Global,
     characters: &[SourceCharacter],
@@ -93,20 +92,25 @@ fn read_keyword(
     ensures keywords { OnOk result (keywords.new ≡ keywords.old ++ filter_map keyword_of (characters.now ∷ [])) }
     ensures faults { OnOk result (first.new.fault ≡ first_after first.old.fault (keyword_faults characters.now)) }
 {
-    let begin = characters[0];
     let text = bytes(alloc, characters)?;
     let (arguments, is_bad) = arguments(alloc, &text)?;
-    first.note_if(!is_keyword_name(name_part(&text)), begin.fault(DdsCause::BadName));
+    note_keyword(characters[0], &text, is_bad, first);
+    keywords.push_some(keyword(characters[0], &text, arguments))
+}
+
+/// Notes what is wrong with a keyword.
+#[tactic(auto, using(crate::proofs::FaultLemmas::first_after_append))]
+fn note_keyword(begin: SourceCharacter, text: &[u8], is_bad: bool, first: &mut FirstFault)
+    ensures { first.new.fault ≡ first_after first.old.fault (text_faults begin text.now is_bad) }
+{
+    first.note_if(!is_keyword_name(name_part(text)), begin.fault(DdsCause::BadName));
     first.note_if(is_bad, begin.fault(DdsCause::BadNumber));
-    first.note_if(is_unfinished(&text), begin.fault(DdsCause::UnfinishedText));
-    keywords.push_some(keyword(begin, &text, arguments))
+    first.note_if(is_unfinished(text), begin.fault(DdsCause::UnfinishedText));
 }
 
 /// The keyword of a text, if its name is one.
 fn keyword(begin: SourceCharacter, text: &[u8], arguments: Arguments) -> Option<Keyword>
-    ensures { result ≡ (if is_keyword_name (name_part text.now)
-        then Some (record { name = name_part text.now; line = begin.line; column = begin.column; arguments = if has_parentheses text.now then Some arguments else None })
-        else None) }
+    ensures { result ≡ text_keyword begin text.now arguments }
 {
     let name = keyword_name(name_part(text))?;
     Some(Keyword {

@@ -1,5 +1,5 @@
 //! Numbers in positions: pushed to the right, perhaps with a sign.
-ghost use Rattle.std.specs.Prelude.{◌≡◌, ℕ, ◌+◌, ◌*◌, ◌^◌, ◌<◌, ◌≤◌, Bool, length, IsTrue};
+ghost use Rattle.std.specs.Prelude.{◌≡◌, ℕ, ◌+◌, ◌*◌, ◌^◌, ◌<◌, ◌≤◌, Bool, length, IsTrue, IfSome};
 ghost use Rattle.std.specs.Option.{option_map};
 ghost use Rattle.std.specs.List.{list_all};
 ghost use Rattle.dds_source.specs.Characters.{is_digit};
@@ -69,7 +69,8 @@ pub(crate) fn from_first(text: &[u8]) -> &[u8]
 /// Blanks, and digits to the last position.
 pub(crate) fn unsigned_entry(text: &[u8]) -> Option<u32>
     requires { length text.now ≤ 5 }
-    ensures { result ≡ unsigned_entry text.now }
+    ensures bound { IfSome result (λ number. number < 10 ^ length text.now) }
+    ensures value { result ≡ unsigned_entry text.now }
 {
     let digits = from_first(text);
     if are_digits(digits) {

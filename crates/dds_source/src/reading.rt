@@ -1,5 +1,5 @@
 //! A whole source: its lines, its specifications, and its first fault.
-ghost use Rattle.std.specs.Prelude.{◌≡◌, ◌<◌, ◌++◌, ◌∷◌, [], Bool, length, None, IfOk, OnOk, IfErr, flat_map};
+ghost use Rattle.std.specs.Prelude.{◌≡◌, ◌<◌, ◌++◌, ◌∷◌, [], Bool, ◌&&◌, ◌||◌, ◌==◌, length, None, IfOk, OnOk, IfErr, flat_map};
 ghost use Rattle.dds_source.specs.Faults.{first_after, IsFirst};
 ghost use Rattle.dds_source.specs.Lines.{at, has_entries, counted_lines};
 ghost use Rattle.dds_source.specs.Continuation.{joined};
@@ -55,16 +55,17 @@ fn joined_source(alloc: Global, lines: &[Line], first: &mut FirstFault) -> Resul
         let (together, after) = rest.split_at(joined_len(rest));
         let keywords = joined_keywords(alloc, together, first)?;
         extend(&mut source, has_record, &together[0], keywords)?;
-        has_record = has_record || begins_record(&together[0]);
+        has_record = has_come(has_record, &together[0]);
         rest = after;
     }
     Ok(source)
 }
 
-fn begins_record(line: &Line) -> bool
-    ensures { result ≡ (has_entries line.now && (at line.now 17 == 82)) }
+/// Whether a record format has come with this line or before.
+fn has_come(has_record: bool, line: &Line) -> bool
+    ensures { result ≡ (has_record || (has_entries line.now && (at line.now 17 == 82))) }
 {
-    line.has_entries() && line.at(17) == b'R'
+    has_record || (line.has_entries() && line.at(17) == b'R')
 }
 
 /// Adds what a line and its keywords add, where a record format has come or not.

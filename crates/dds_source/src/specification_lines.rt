@@ -43,7 +43,10 @@ impl Line {
     fn decimals(&self) -> Option<u8>
         ensures { result ≡ unsigned_entry (entry self.now 36 37) }
     {
-        unsigned_entry(self.entry(36, 37)).map(|decimals| decimals as u8)
+        match unsigned_entry(self.entry(36, 37)) {
+            Some(decimals) => Some(decimals as u8),
+            None => None,
+        }
     }
 }
 
