@@ -25,3 +25,6 @@ pub use reading::read_source;
 pub use specifications::{
     Columns, LengthEntry, NameEntry, Source, Specification, SpecificationKind, Specifications,
 };
+
+#[cfg(test)]
+mod tests;
