@@ -18,11 +18,11 @@ AreJoined lines n = (k : ℕ) → suc k < n → is_continued_by (get_or lines k 
 -- one more does
 pub AreJoined-more : (lines : List Line) (n : ℕ) → 0 < n → AreJoined lines n → is_continued_by (get_or lines (n - 1) no_line) (get_or lines n no_line) ≡ true → AreJoined lines (n + 1)
 AreJoined-more lines n some h step k below = elim (cases_lt (suc k) n) [
-  inl lt ↦ h k lt
+  | inl lt ↦ h k lt
   | inr le ↦
-    let last : n ≡ suc k = omega arith in
-    let front : n - 1 ≡ k = omega arith in
-    rw (front, last) at step
+      let last : n ≡ suc k = omega arith in
+      let front : n - 1 ≡ k = omega arith in
+      rw (front, last) at step
 ]
 
 -- lines that are joined, up to one that isn't

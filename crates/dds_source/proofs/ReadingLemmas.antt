@@ -143,10 +143,10 @@ has_record-with_keywords ks (s ∷ t ∷ ss) = ap (λ (b : Bool). is_record s.ki
 pub has_record-extended : (source : Source) (line : Line) (ks : List Keyword) → has_record (extended source line ks).specifications ≡ (has_record source.specifications || (has_entries line && (at line 17 == 82)))
 unfolding extended specification_of
 has_record-extended source line ks = elim (cases_Bool (has_entries line)) [
-  inl e ↦ rw e (has_record-push source.specifications (specification_of (ends_in_condition source.specifications) line ks)
-    ∙ ap (λ (b : Bool). has_record source.specifications || b) (record_first (at line 17 == 82) (at line 17 == 75) (at line 17 == 83) (at line 17 == 79) (at line 17 == 74) (ends_in_condition source.specifications)))
+  | inl e ↦ rw e (has_record-push source.specifications (specification_of (ends_in_condition source.specifications) line ks)
+      ∙ ap (λ (b : Bool). has_record source.specifications || b) (record_first (at line 17 == 82) (at line 17 == 75) (at line 17 == 83) (at line 17 == 79) (at line 17 == 74) (ends_in_condition source.specifications)))
   | inr e ↦ elim (cases_Bool (has_record source.specifications)) [
-    inl r ↦ rw (e, r) (has_record-with_keywords ks source.specifications ∙ r)
+    | inl r ↦ rw (e, r) (has_record-with_keywords ks source.specifications ∙ r)
     | inr r ↦ rw (e, r) r
   ]
 ]

@@ -112,5 +112,5 @@ word_of word =
 unfoldable pub argument_of : List ℕ → Argument
 argument_of word =
     option_map_or (λ text. arguments.Quoted text) (quoted_text word)
-        (option_map_or (λ bytes. arguments.Hexadecimal bytes) (hexadecimal_bytes word)
-            (option_map_or (λ n. arguments.Number n) (number word) (word_of word)))
+    (option_map_or (λ bytes. arguments.Hexadecimal bytes) (hexadecimal_bytes word)
+    (option_map_or (λ n. arguments.Number n) (number word) (word_of word)))

@@ -1,5 +1,5 @@
 -- Which fault of a source is its first.
-use Rattle.std.specs.Prelude.{◌≡◌, ℕ, Bool, ◌&&◌, ◌||◌, ◌==◌, nat_lt, IsTrue, List, [], ◌∷◌, Option, Some, None, All, Contains, if◌then◌else◌}
+use Rattle.std.specs.Prelude.{◌≡◌, ℕ, Bool, false, ◌&&◌, ◌||◌, ◌==◌, nat_lt, List, [], ◌∷◌, Option, Some, None, All, Contains, if◌then◌else◌}
 use Rattle.dds_source.specs.declared.faults.DdsFault.{DdsFault}
 use Rattle.dds_source.specs.declared.faults.DdsCause.{DdsCause}
 use Rattle.dds_source.specs.declared.faults.DdsCause.TheVariants as causes
@@ -46,4 +46,4 @@ first_after best (f ∷ fs) = first_after (Some (earlier best f)) fs
 -- one of the faults, and none of them is before it
 pub record IsFirst (faults : List DdsFault) (fault : DdsFault) : Type 0 where
   pub listed : Contains faults fault
-  pub none_before : All (λ other. ¬ (IsTrue (is_before other fault))) faults
+  pub none_before : All (λ other. is_before other fault ≡ false) faults

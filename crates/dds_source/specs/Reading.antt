@@ -20,7 +20,7 @@ use Rattle.dds_source.specs.declared.specifications.NameEntry.{NameEntry}
 use Rattle.dds_source.specs.declared.specifications.NameEntry.TheVariants as names
 use Rattle.dds_source.specs.Lines.{at, has_entries, counted_lines}
 use Rattle.dds_source.specs.Entries.{when, kind_of, name_of_line, name_or_blank, columns_of, line_faults}
-use Rattle.dds_source.specs.Faults.{first_after}
+use Rattle.dds_source.specs.Faults.{first_after, IsFirst}
 use Rattle.dds_source.specs.Continuation.{used, goes_on, joined, joined_text}
 use Rattle.dds_source.specs.KeywordTexts.{keywords_in, bytes, is_keyword_name, name_part, has_parentheses, is_unfinished}
 use Rattle.dds_source.specs.ArgumentTexts.{arguments_in, argument_of, is_bad_hexadecimal}
@@ -189,3 +189,8 @@ Fails (errors.Fault fault) wanted = wanted ≡ Err fault
 abbrev pub Gives : Result Source SourceError → Result Source DdsFault → Type 0
 Gives (Ok source) wanted = wanted ≡ Ok source
 Gives (Err error) wanted = Fails error wanted
+
+-- a fault that was reported is the first
+abbrev pub ReportsFirst : List DdsFault → SourceError → Type 0
+ReportsFirst faults errors.NoMemory = Unit {0}
+ReportsFirst faults (errors.Fault fault) = IsFirst faults fault

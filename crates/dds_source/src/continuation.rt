@@ -62,12 +62,20 @@ impl Line {
     fn text_start(&self, behind_plus: bool) -> usize
         ensures { result ≡ text_start behind_plus self.now }
     {
-        if behind_plus { leading_blanks(&self.keywords) } else { 0 }
+        if behind_plus {
+            leading_blanks(&self.keywords)
+        } else {
+            0
+        }
     }
 
     /// Adds its text.
     #[tactic(auto, unfolding(crate::specs::Continuation::line_text))]
-    fn push_text(&self, behind_plus: bool, text: &mut Vec<SourceCharacter>) -> Result<(), AllocError>
+    fn push_text(
+        &self,
+        behind_plus: bool,
+        text: &mut Vec<SourceCharacter>,
+    ) -> Result<(), AllocError>
         ensures { OnOk result (text.new.items ≡ text.old.items ++ line_text behind_plus self.now) }
     {
         for i in self.text_start(behind_plus)..self.text_end() {

@@ -22,7 +22,10 @@ impl Line {
         self.note_columns(first);
         first.note_if(self.is_name_wrong(), self.fault(19, DdsCause::BadName));
         first.note_if(self.is_length_wrong(), self.fault(30, DdsCause::BadNumber));
-        first.note_if(self.are_decimals_wrong(), self.fault(36, DdsCause::BadNumber));
+        first.note_if(
+            self.are_decimals_wrong(),
+            self.fault(36, DdsCause::BadNumber),
+        );
     }
 
     fn fault(&self, column: u32, cause: DdsCause) -> DdsFault
@@ -40,7 +43,10 @@ impl Line {
     {
         let mut column = 1;
         for &c in &self.entries {
-            first.note_if(!may_stand(column, c), self.fault(column, DdsCause::BadColumn));
+            first.note_if(
+                !may_stand(column, c),
+                self.fault(column, DdsCause::BadColumn),
+            );
             column += 1;
         }
     }

@@ -13,7 +13,9 @@ use crate::characters::SourceCharacter;
 use crate::continuation::joined_text;
 use crate::faults::{DdsCause, DdsFault};
 use crate::first::FirstFault;
-use crate::keyword_texts::{bytes, has_parentheses, is_keyword_name, is_unfinished, keyword_len, name_part};
+use crate::keyword_texts::{
+    bytes, has_parentheses, is_keyword_name, is_unfinished, keyword_len, name_part,
+};
 use crate::keywords::{Keyword, Keywords};
 use crate::lines::Line;
 use field_types::names::Name;
@@ -21,7 +23,11 @@ use std::alloc::{AllocError, Global};
 
 /// The keywords of joined lines; what is wrong with them is noted.
 #[tactic(auto, using(crate::proofs::FaultLemmas::first_after_append), unfolding(crate::specs::Reading::keywords_of, crate::specs::Reading::joined_faults))]
-pub(crate) fn joined_keywords(alloc: Global, lines: &[Line], first: &mut FirstFault) -> Result<Keywords, AllocError>
+pub(crate) fn joined_keywords(
+    alloc: Global,
+    lines: &[Line],
+    first: &mut FirstFault,
+) -> Result<Keywords, AllocError>
     requires { 0 < length lines.now }
     ensures keywords { IfOk result (λ keywords. keywords ≡ keywords_of lines.now) }
     ensures faults { OnOk result (first.new.fault ≡ first_after first.old.fault (joined_faults lines.now)) }
@@ -103,7 +109,10 @@ fn read_keyword(
 fn note_keyword(begin: SourceCharacter, text: &[u8], is_bad: bool, first: &mut FirstFault)
     ensures { first.new.fault ≡ first_after first.old.fault (text_faults begin text.now is_bad) }
 {
-    first.note_if(!is_keyword_name(name_part(text)), begin.fault(DdsCause::BadName));
+    first.note_if(
+        !is_keyword_name(name_part(text)),
+        begin.fault(DdsCause::BadName),
+    );
     first.note_if(is_bad, begin.fault(DdsCause::BadNumber));
     first.note_if(is_unfinished(text), begin.fault(DdsCause::UnfinishedText));
 }

@@ -124,7 +124,11 @@ fn line_feed(text: &[u8]) -> Option<usize>
 fn next_number(number: u32) -> u32
     ensures { result ≡ next_number number }
 {
-    if number == u32::MAX { number } else { number + 1 }
+    if number == u32::MAX {
+        number
+    } else {
+        number + 1
+    }
 }
 
 fn positions(text: &[u8]) -> [u8; 80]

@@ -1,25 +1,37 @@
 //! A whole source: its lines, its specifications, and its first fault.
 ghost use Rattle.std.specs.Prelude.{◌≡◌, ◌<◌, ◌++◌, ◌∷◌, [], Bool, ◌&&◌, ◌||◌, ◌==◌, length, None, IfOk, OnOk, IfErr, flat_map};
-ghost use Rattle.dds_source.specs.Faults.{first_after, IsFirst};
+ghost use Rattle.dds_source.specs.Faults.{first_after};
 ghost use Rattle.dds_source.specs.Lines.{at, has_entries, counted_lines};
 ghost use Rattle.dds_source.specs.Continuation.{joined};
 ghost use Rattle.dds_source.specs.Entries.{kind_of, name_of_line, name_or_blank, columns_of, line_faults, letter};
-ghost use Rattle.dds_source.specs.Reading.{joined_faults, has_record as has_record_in, is_record, is_condition, ends_in_condition, with_keywords, specification_of, extended, added, all_added, lacks_all, selection_faults, source_in, faults_in, source_of, Gives};
+ghost use Rattle.dds_source.specs.Reading.{joined_faults, has_record as has_record_in, is_record, is_condition, ends_in_condition, with_keywords, specification_of, extended, added, all_added, lacks_all, selection_faults, source_in, faults_in, source_of, Gives, ReportsFirst};
 
+use crate::continuation::joined_len;
 use crate::faults::{DdsCause, DdsFault, SourceError};
 use crate::first::FirstFault;
-use crate::continuation::joined_len;
 use crate::keyword_reading::joined_keywords;
 use crate::keywords::Keywords;
 use crate::lines::{Line, counted_lines};
 use crate::specifications::{Source, Specification, SpecificationKind, Specifications};
 use std::alloc::{AllocError, Global};
 
-/// Reads a source: all of it is right, or what is wrong with it first.
-#[tactic(auto, using(crate::proofs::FaultLemmas::first_after_append), unfolding(crate::specs::Reading::source_in, crate::specs::Reading::faults_in, crate::specs::Reading::source_of))]
+/// Reads a source, a text of lines of 80 positions (DDS for Physical and Logical Files).
+///
+/// Time and memory grow with the length of the text.
 pub fn read_source(alloc: Global, text: &[u8]) -> Result<Source, SourceError>
-    // The source that the text is, or its first fault.
+    // What is read is the source that the text is, and nothing is wrong with it.
+    ensures found { IfOk result (λ source. (faults_in text.now ≡ []) × (source ≡ source_in text.now)) }
+    // What is reported is one of the faults, and none of them is before it.
+    ensures first { IfErr result (ReportsFirst (faults_in text.now)) }
+    // Both in one: the source, or its first fault.
     ensures exact { Gives result (source_of text.now) }
+{
+    read(alloc, text)
+}
+
+#[tactic(auto, using(crate::proofs::FaultLemmas::first_after_append), unfolding(crate::specs::Reading::source_in, crate::specs::Reading::faults_in, crate::specs::Reading::source_of))]
+fn read(alloc: Global, text: &[u8]) -> Result<Source, SourceError>
+    ensures { Gives result (source_of text.now) }
 {
     let lines = counted_lines(alloc, text)?;
     let mut first = FirstFault::none();
@@ -41,7 +53,11 @@ fn note_lines(lines: &[Line], first: &mut FirstFault)
 }
 
 /// The source that lines are; what is wrong with its keywords is noted.
-fn joined_source(alloc: Global, lines: &[Line], first: &mut FirstFault) -> Result<Source, AllocError>
+fn joined_source(
+    alloc: Global,
+    lines: &[Line],
+    first: &mut FirstFault,
+) -> Result<Source, AllocError>
     ensures source { IfOk result (λ source. source ≡ all_added (record { file = []; specifications = [] }) (joined lines.now)) }
     ensures faults { OnOk result (first.new.fault ≡ first_after first.old.fault (flat_map joined_faults (joined lines.now))) }
 {
@@ -70,7 +86,12 @@ fn has_come(has_record: bool, line: &Line) -> bool
 
 /// Adds what a line and its keywords add, where a record format has come or not.
 #[tactic(auto, unfolding(crate::specs::Reading::extended))]
-fn extend(source: &mut Source, has_record: bool, line: &Line, keywords: Keywords) -> Result<(), AllocError>
+fn extend(
+    source: &mut Source,
+    has_record: bool,
+    line: &Line,
+    keywords: Keywords,
+) -> Result<(), AllocError>
     requires { has_record ≡ has_record_in source.old.specifications }
     ensures { OnOk result (source.new ≡ extended source.old line.now keywords) }
 {

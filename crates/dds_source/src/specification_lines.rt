@@ -15,7 +15,11 @@ use crate::specifications::{Columns, NameEntry, Specification, SpecificationKind
 impl Line {
     /// The specification that it begins, behind a condition or not.
     #[tactic(auto, unfolding(crate::specs::Reading::specification_of))]
-    pub(crate) fn specification(&self, is_behind_condition: bool, keywords: Keywords) -> Specification
+    pub(crate) fn specification(
+        &self,
+        is_behind_condition: bool,
+        keywords: Keywords,
+    ) -> Specification
         ensures { result ≡ specification_of is_behind_condition self.now keywords }
     {
         Specification {
@@ -106,7 +110,9 @@ impl Keywords {
     fn has_all(&self) -> bool
         ensures { result ≡ list_any (λ k. pointwise nat_eq k.name (codes "ALL")) self.now }
     {
-        self.as_slice().iter().any(|keyword| keyword.name.as_bytes() == b"ALL".as_slice())
+        self.as_slice()
+            .iter()
+            .any(|keyword| keyword.name.as_bytes() == b"ALL".as_slice())
     }
 }
 

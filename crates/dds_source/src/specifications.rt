@@ -118,7 +118,10 @@ impl Specifications {
     }
 }
 
-fn extend_last(specifications: &mut Vec<Specification>, keywords: Keywords) -> Result<(), AllocError>
+fn extend_last(
+    specifications: &mut Vec<Specification>,
+    keywords: Keywords,
+) -> Result<(), AllocError>
     ensures { OnOk result (specifications.new.items ≡ with_keywords keywords specifications.old.items) }
 {
     let len = specifications.len();

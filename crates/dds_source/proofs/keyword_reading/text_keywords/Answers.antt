@@ -11,16 +11,16 @@ use Rattle.dds_source.proofs.keyword_reading.text_keywords.Goals as goal
 pub loop-rest-preserved : goal.loop-rest-preserved
 loop-rest-preserved c =
     let cut : keywords_in c.loop-rest.rest.now ≡ c.split_at.result.0.now ∷ keywords_in c.split_at.result.1.now =
-        rw (c.split_at.ensures.front, c.split_at.ensures.back) (c.keyword_len-len.ensures.keyword (omega arith)) in
+    rw (c.split_at.ensures.front, c.split_at.ensures.back) (c.keyword_len-len.ensures.keyword (omega arith)) in
     let some : 0 < length c.split_at.result.0.now = omega arith in
     let rest : List (List SourceCharacter) = keywords_in c.split_at.result.1.now in
     record {
       read = read_first keyword_of c.split_at.result.0.now rest c.loop-rest.keywords c.read_keyword.new.keywords _ c.in_ok-read_keyword.ensures.keywords
-        (sym (ap (λ (ks : List (List SourceCharacter)). c.loop-rest.keywords ++ filter_map keyword_of ks) cut) ∙ c.loop-rest.invariant.read);
+          (sym (ap (λ (ks : List (List SourceCharacter)). c.loop-rest.keywords ++ filter_map keyword_of ks) cut) ∙ c.loop-rest.invariant.read);
       begun = begun_first c.split_at.result.0.now rest (record { byte = 0; line = 0; column = 0 }) c.loop-rest.begun _ some
-        (sym (ap (λ (ks : List (List SourceCharacter)). last_begun c.loop-rest.begun ks) cut) ∙ c.loop-rest.invariant.begun);
+          (sym (ap (λ (ks : List (List SourceCharacter)). last_begun c.loop-rest.begun ks) cut) ∙ c.loop-rest.invariant.begun);
       noted = noted_first keyword_faults c.split_at.result.0.now rest c.loop-rest.first.fault c.read_keyword.new.first.fault _ c.in_ok-read_keyword.ensures.faults
-        (sym (ap (λ (ks : List (List SourceCharacter)). first_after c.loop-rest.first.fault (flat_map keyword_faults ks)) cut) ∙ c.loop-rest.invariant.noted);
+          (sym (ap (λ (ks : List (List SourceCharacter)). first_after c.loop-rest.first.fault (flat_map keyword_faults ks)) cut) ∙ c.loop-rest.invariant.noted);
     }
 
 pub returns-clause-keywords : goal.returns-clause-keywords

@@ -19,6 +19,6 @@ returns c =
     let fits : SFits w128 c.signed.result = search rules in
     let unsigned : is_unsigned c.args.word.now ≡ true = grind arith in
     let number : c.decimal_after-number.result ≡ decimal (before_first (λ c. c == 46) c.args.word.now ++ after_first (λ c. c == 46) c.args.word.now) =
-        c.decimal_after-number.ensures.value ∙ rw (c.decimal.ensures.value, c.whole_part-whole.ensures, c.fraction_part-fraction.ensures)
-        (sym (decimal_after-append 0 (before_first (λ c. c == 46) c.args.word.now) (after_first (λ c. c == 46) c.args.word.now))) in
+    c.decimal_after-number.ensures.value ∙ rw (c.decimal.ensures.value, c.whole_part-whole.ensures, c.fraction_part-fraction.ensures)
+    (sym (decimal_after-append 0 (before_first (λ c. c == 46) c.args.word.now) (after_first (λ c. c == 46) c.args.word.now))) in
     rw (to_z-of_z, c.signed.ensures, number, c.fraction_part-fraction.ensures) (sym (number_of_is c.args.negative c.args.word.now unsigned))

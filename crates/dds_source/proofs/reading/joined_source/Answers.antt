@@ -19,11 +19,11 @@ loop-rest-preserved c =
     let more : c.extend.new.source ≡ added c.loop-rest.source c.split_at.result.0.now = new ∙ rw c.in_ok-keywords.ensures.keywords (added_first c.loop-rest.source c.split_at.result.0.now no_line some) in
     record {
       record_known = c.has_come-has_record.ensures
-        ∙ ap (λ (b : Bool). b || (has_entries line && (at line 17 == 82))) c.loop-rest.invariant.record_known
-        ∙ sym (has_record-extended c.loop-rest.source line c.in_ok-keywords.keywords)
-        ∙ ap (λ (s : Source). has_record s.specifications) (sym new);
+          ∙ ap (λ (b : Bool). b || (has_entries line && (at line 17 == 82))) c.loop-rest.invariant.record_known
+          ∙ sym (has_record-extended c.loop-rest.source line c.in_ok-keywords.keywords)
+          ∙ ap (λ (s : Source). has_record s.specifications) (sym new);
       read = ap (λ (s : Source). all_added s (joined c.split_at.result.1.now)) more
-        ∙ sym (ap (λ (gs : List (List Line)). all_added c.loop-rest.source gs) cut) ∙ c.loop-rest.invariant.read;
+          ∙ sym (ap (λ (gs : List (List Line)). all_added c.loop-rest.source gs) cut) ∙ c.loop-rest.invariant.read;
       noted = noted_first joined_faults c.split_at.result.0.now (joined c.split_at.result.1.now) c.loop-rest.first.fault c.joined_keywords.new.first.fault _ c.in_ok-keywords.ensures.faults
-        (sym (ap (λ (gs : List (List Line)). first_after c.loop-rest.first.fault (flat_map joined_faults gs)) cut) ∙ c.loop-rest.invariant.noted);
+          (sym (ap (λ (gs : List (List Line)). first_after c.loop-rest.first.fault (flat_map joined_faults gs)) cut) ∙ c.loop-rest.invariant.noted);
     }
