@@ -4,3 +4,6 @@ pub mod NumberLemmas
 pub mod KeywordLemmas
 pub mod ContinuationLemmas
 pub mod ReadingLemmas
+pub mod LiteralLemmas
+pub mod WrittenLemmas
+pub mod ColumnLemmas

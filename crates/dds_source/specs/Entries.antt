@@ -35,7 +35,7 @@ is_kind c = (c == 82) || (c == 75) || (c == 83) || (c == 79) || (c == 74)
 -- A may stand in 6, the letter of a kind in 17, R in 29, nothing in those that stay blank; the other positions have rules of their own
 abbrev pub may_stand : ℕ → ℕ → Bool
 may_stand column c =
-    is_blank c || not (stays_blank column || (column == 6) || (column == 17) || (column == 29))
+    not (stays_blank column || (column == 6) || (column == 17) || (column == 29)) || is_blank c
     || ((column == 6) && (c == 65)) || ((column == 17) && is_kind c) || ((column == 29) && (c == 82))
 
 -- the faults of the characters from a column on

@@ -7,3 +7,4 @@ pub mod Continuation
 pub mod KeywordTexts
 pub mod ArgumentTexts
 pub mod Reading
+pub mod Written

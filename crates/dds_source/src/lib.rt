@@ -11,6 +11,7 @@ mod first;
 mod keyword_reading;
 mod keyword_texts;
 pub mod keywords;
+pub mod laws;
 mod lines;
 mod number_literals;
 mod numbers;
