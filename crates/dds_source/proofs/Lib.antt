@@ -7,3 +7,4 @@ pub mod ReadingLemmas
 pub mod LiteralLemmas
 pub mod WrittenLemmas
 pub mod ColumnLemmas
+pub mod LawLemmas
