@@ -1,6 +1,5 @@
 -- One line in its columns.
-use Rattle.std.proofs.Common.{◌≡◌, ℕ, zero, suc, ◌+◌, ◌-◌, ◌<◌, ◌≤◌, Bool, true, false, not, ◌&&◌, ◌||◌, ◌==◌, List, [], ◌∷◌, ◌++◌, length, take, drop, map, replicate, get_or, Option, Some, None, refl, sym, ap, ◌∙◌, arith}
-use Rattle.std.specs.List.{list_all}
+use Rattle.std.proofs.Common.{◌≡◌, ℕ, Bool, true, false, not, ◌&&◌, ◌||◌, ◌==◌, List, [], ◌∷◌, ◌++◌, length, map, replicate, get_or, Option, Some, refl, arith}
 use Rattle.std.specs.Option.{is_none}
 use Rattle.std.specs.Bool.{if◌then◌else◌}
 use Rattle.dds_source.specs.declared.lines.Line.{Line}
@@ -9,10 +8,9 @@ use Rattle.dds_source.specs.declared.specifications.Specification.{Specification
 use Rattle.dds_source.specs.declared.specifications.SpecificationKind.{SpecificationKind}
 use Rattle.dds_source.specs.declared.specifications.SpecificationKind.TheVariants as kinds
 use Rattle.dds_source.specs.declared.specifications.NameEntry.{NameEntry}
-use Rattle.dds_source.specs.declared.specifications.NameEntry.TheVariants as names
 use Rattle.dds_source.specs.declared.specifications.LengthEntry.{LengthEntry}
 use Rattle.dds_source.specs.Characters.{is_blank, are_blanks, folded}
-use Rattle.dds_source.specs.Lines.{positions, line_of, at, entry, counts, has_entries}
+use Rattle.dds_source.specs.Lines.{positions, line_of, counts, has_entries}
 use Rattle.dds_source.specs.Numbers.{unsigned_entry, signed_entry}
 use Rattle.dds_source.specs.Entries.{when, name_entry, letter, name_or_blank, column_faults, columns_of, line_faults}
 use Rattle.dds_source.specs.Continuation.{goes_on, joined_text, line_text}
@@ -114,12 +112,12 @@ made number kind is_reference t u name named size size' scale scale' e i j = rw 
 
 reads_says : (number : ℕ) (kind : WrittenKind) (is_reference : Bool) (a0 a1 a2 a3 a4 a5 a6 a7 a8 a9 b0 b1 b2 b3 b4 t c0 c1 u : ℕ) (named : NameEntry) (size : Option LengthEntry) (scale : Option ℕ) → Entries is_reference (a0 ∷ a1 ∷ a2 ∷ a3 ∷ a4 ∷ a5 ∷ a6 ∷ a7 ∷ a8 ∷ a9 ∷ []) (b0 ∷ b1 ∷ b2 ∷ b3 ∷ b4 ∷ []) (c0 ∷ c1 ∷ []) named size scale
     → specification_of false (line_in_columns number (columns_text (kind_letter kind) (a0 ∷ a1 ∷ a2 ∷ a3 ∷ a4 ∷ a5 ∷ a6 ∷ a7 ∷ a8 ∷ a9 ∷ []) (if is_reference then 82 else 32) (b0 ∷ b1 ∷ b2 ∷ b3 ∷ b4 ∷ []) t (c0 ∷ c1 ∷ []) u)) [] ≡ (let s : Specification = record {
-    line = number;
-    kind = kind_said kind;
-    name = named;
-    columns = record { reference = is_reference; length = size; data_type = letter t; decimals = scale; usage = letter u };
-    keywords = [];
-  } in s)
+      line = number;
+      kind = kind_said kind;
+      name = named;
+      columns = record { reference = is_reference; length = size; data_type = letter t; decimals = scale; usage = letter u };
+      keywords = [];
+    } in s)
 unfolding specification_of columns_of
 reads_says number a_record true a0 a1 a2 a3 a4 a5 a6 a7 a8 a9 b0 b1 b2 b3 b4 t c0 c1 u named size scale e = made number kinds.Record true t u _ named _ size _ scale (e.name false) e.length_said e.decimals_said
 reads_says number a_record false a0 a1 a2 a3 a4 a5 a6 a7 a8 a9 b0 b1 b2 b3 b4 t c0 c1 u named size scale e = made number kinds.Record false t u _ named _ size _ scale (e.name false) e.length_said e.decimals_said
@@ -148,5 +146,5 @@ pub line_reads : (number : ℕ) (kind : WrittenKind) (is_reference : Bool) (name
 line_reads number kind is_reference name digits decimals t u named size scale i j k =
     with_ten (λ n. Entries is_reference n digits decimals named size scale → Reads number kind is_reference t u (columns_text (kind_letter kind) n (if is_reference then 82 else 32) digits t decimals u) named size scale)
     (λ a0 a1 a2 a3 a4 a5 a6 a7 a8 a9. with_five (λ l. Entries is_reference (a0 ∷ a1 ∷ a2 ∷ a3 ∷ a4 ∷ a5 ∷ a6 ∷ a7 ∷ a8 ∷ a9 ∷ []) l decimals named size scale → Reads number kind is_reference t u (columns_text (kind_letter kind) (a0 ∷ a1 ∷ a2 ∷ a3 ∷ a4 ∷ a5 ∷ a6 ∷ a7 ∷ a8 ∷ a9 ∷ []) (if is_reference then 82 else 32) l t decimals u) named size scale)
-      (λ b0 b1 b2 b3 b4. with_two (λ d. Entries is_reference (a0 ∷ a1 ∷ a2 ∷ a3 ∷ a4 ∷ a5 ∷ a6 ∷ a7 ∷ a8 ∷ a9 ∷ []) (b0 ∷ b1 ∷ b2 ∷ b3 ∷ b4 ∷ []) d named size scale → Reads number kind is_reference t u (columns_text (kind_letter kind) (a0 ∷ a1 ∷ a2 ∷ a3 ∷ a4 ∷ a5 ∷ a6 ∷ a7 ∷ a8 ∷ a9 ∷ []) (if is_reference then 82 else 32) (b0 ∷ b1 ∷ b2 ∷ b3 ∷ b4 ∷ []) t d u) named size scale)
-        (λ c0 c1. reads number kind is_reference a0 a1 a2 a3 a4 a5 a6 a7 a8 a9 b0 b1 b2 b3 b4 t c0 c1 u named size scale) decimals k) digits j) name i
+    (λ b0 b1 b2 b3 b4. with_two (λ d. Entries is_reference (a0 ∷ a1 ∷ a2 ∷ a3 ∷ a4 ∷ a5 ∷ a6 ∷ a7 ∷ a8 ∷ a9 ∷ []) (b0 ∷ b1 ∷ b2 ∷ b3 ∷ b4 ∷ []) d named size scale → Reads number kind is_reference t u (columns_text (kind_letter kind) (a0 ∷ a1 ∷ a2 ∷ a3 ∷ a4 ∷ a5 ∷ a6 ∷ a7 ∷ a8 ∷ a9 ∷ []) (if is_reference then 82 else 32) (b0 ∷ b1 ∷ b2 ∷ b3 ∷ b4 ∷ []) t d u) named size scale)
+    (λ c0 c1. reads number kind is_reference a0 a1 a2 a3 a4 a5 a6 a7 a8 a9 b0 b1 b2 b3 b4 t c0 c1 u named size scale) decimals k) digits j) name i

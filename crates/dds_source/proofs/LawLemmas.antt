@@ -1,25 +1,22 @@
 -- A source in columns, line after line.
-use Rattle.std.proofs.Common.{◌≡◌, ℕ, zero, suc, ◌+◌, ◌-◌, ◌<◌, ◌≤◌, Bool, true, false, not, ◌&&◌, ◌||◌, ◌==◌, List, [], ◌∷◌, ◌++◌, length, take, drop, map, filter, replicate, get_or, Option, Some, None, Result, Ok, Err, refl, sym, ap, ◌∙◌, arith, length-append}
-use Rattle.std.specs.List.{list_all, flat_map, filter_map, slice_split, onto_first}
+use Rattle.std.proofs.Common.{◌≡◌, ℕ, zero, suc, ◌-◌, ◌≤◌, Bool, true, false, not, ◌&&◌, ◌==◌, List, [], ◌∷◌, ◌++◌, length, map, filter, replicate, get_or, Option, Ok, refl, sym, ap, ◌∙◌, arith, length-append}
+use Rattle.std.specs.List.{list_all, flat_map, slice_split, onto_first}
 use Rattle.std.specs.Bool.{if◌then◌else◌}
 use Rattle.std.proofs.lemmas.List.{append_assoc, append-nil, length-replicate}
 use Rattle.field_types.specs.SystemName.{is_name, begins_name, continues_name}
 use Rattle.dds_source.specs.declared.lines.Line.{Line}
-use Rattle.dds_source.specs.declared.faults.DdsFault.{DdsFault}
-use Rattle.dds_source.specs.declared.keywords.Keyword.{Keyword}
 use Rattle.dds_source.specs.declared.specifications.Specification.{Specification}
 use Rattle.dds_source.specs.declared.specifications.Source.{Source}
 use Rattle.dds_source.specs.declared.specifications.NameEntry.TheVariants as names
-use Rattle.dds_source.specs.Characters.{is_blank, are_blanks, is_digit, is_letter, is_small_letter, folded}
-use Rattle.dds_source.specs.Faults.{first_after}
+use Rattle.dds_source.specs.Characters.{is_blank, is_digit, is_small_letter, folded}
 use Rattle.dds_source.specs.Lines.{positions, line_of, next_number, numbered, counts, counted_lines, has_entries}
-use Rattle.dds_source.specs.Entries.{name_entry, letter, line_faults}
-use Rattle.dds_source.specs.Continuation.{goes_on, is_continued_by, joined, joined_text}
+use Rattle.dds_source.specs.Entries.{letter, line_faults}
+use Rattle.dds_source.specs.Continuation.{goes_on, joined, joined_text}
 use Rattle.dds_source.specs.KeywordTexts.{keywords_in}
-use Rattle.dds_source.specs.Reading.{keyword_faults, keywords_of, last_begun, sign_faults, joined_faults, is_condition, is_selection, ends_in_condition, has_record, specification_of, extended, added, all_added, selection_faults, source_in, faults_in, source_of, source_unless}
-use Rattle.dds_source.specs.Written.{WrittenKind, a_record, a_field, a_key, Written, Fits, AllFit, is_letter_or_blank, kind_letter, kind_said, left, right, columns_text, line_written, text_written, length_said, number_said, columns_said, letter_said, said}
+use Rattle.dds_source.specs.Reading.{keywords_of, joined_faults, is_condition, is_selection, ends_in_condition, specification_of, extended, added, all_added, selection_faults, source_in, faults_in, source_of}
+use Rattle.dds_source.specs.Written.{WrittenKind, a_record, a_field, a_key, Written, Fits, AllFit, is_letter_or_blank, kind_letter, kind_said, left, right, line_written, text_written, length_said, number_said, columns_said, letter_said, said}
 use Rattle.dds_source.proofs.WrittenLemmas.{name_entry-left, unsigned_entry-right, signed_entry-right, length_is_right, decimals_are_right, letter_is}
-use Rattle.dds_source.proofs.ColumnLemmas.{line_in_columns, Entries, Reads, line_reads}
+use Rattle.dds_source.proofs.ColumnLemmas.{line_in_columns, Reads, line_reads}
 
 -- Which characters are in columns: no line feed, and no small letter.
 
@@ -89,14 +86,14 @@ line_plain w f =
     let start : List ℕ = replicate 5 32 ++ 65 ∷ replicate 10 32 in
     plain_append (start ++ kind ++ size ++ scale) usage
     (plain_append (start ++ kind ++ size) scale
-      (plain_append (start ++ kind) size
-        (plain_append start kind refl
-          (plain_more (kind_letter w.kind) (32 ∷ left 10 w.name) (kind_is_plain w.kind)
-            (plain_append w.name (replicate (10 - length w.name) 32) (name_plain w.name f.named) (blanks_are_plain (10 - length w.name)))))
-        (plain_more (if w.is_reference then 82 else 32) (right 5 w.digits) (reference_is_plain w.is_reference)
-          (plain_append (replicate (5 - length w.digits) 32) w.digits (blanks_are_plain (5 - length w.digits)) (weaker is_digit w.digits digit_is_plain f.are_digits))))
-      (plain_more w.data_type (right 2 w.decimals) (letter_is_plain w.data_type f.data_type)
-        (plain_append (replicate (2 - length w.decimals) 32) w.decimals (blanks_are_plain (2 - length w.decimals)) (weaker is_digit w.decimals digit_is_plain f.are_decimals))))
+    (plain_append (start ++ kind) size
+    (plain_append start kind refl
+    (plain_more (kind_letter w.kind) (32 ∷ left 10 w.name) (kind_is_plain w.kind)
+    (plain_append w.name (replicate (10 - length w.name) 32) (name_plain w.name f.named) (blanks_are_plain (10 - length w.name)))))
+    (plain_more (if w.is_reference then 82 else 32) (right 5 w.digits) (reference_is_plain w.is_reference)
+    (plain_append (replicate (5 - length w.digits) 32) w.digits (blanks_are_plain (5 - length w.digits)) (weaker is_digit w.digits digit_is_plain f.are_digits))))
+    (plain_more w.data_type (right 2 w.decimals) (letter_is_plain w.data_type f.data_type)
+    (plain_append (replicate (2 - length w.decimals) 32) w.decimals (blanks_are_plain (2 - length w.decimals)) (weaker is_digit w.decimals digit_is_plain f.are_decimals))))
     (plain_more w.usage (replicate 6 32) (letter_is_plain w.usage f.usage) refl)
 
 folded_plain : (cs : List ℕ) → are_plain cs ≡ true → map folded cs ≡ cs

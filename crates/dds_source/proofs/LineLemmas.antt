@@ -1,16 +1,16 @@
 -- Cutting a text into lines, and a line into positions.
-use Rattle.std.proofs.Common.{◌≡◌, ℕ, suc, ◌+◌, ◌-◌, ◌<◌, ◌≤◌, Bool, true, false, cond, nat_lt, List, [], ◌∷◌, ◌++◌, length, take, drop, map, replicate, set, get_or, Option, Some, None, refl, sym, ap, ◌∙◌, arith, rules, length-take, length-drop, length-append, subst}
+use Rattle.std.proofs.Common.{◌≡◌, ℕ, ◌+◌, ◌-◌, ◌<◌, ◌≤◌, Bool, nat_lt, List, [], ◌∷◌, ◌++◌, length, take, drop, map, replicate, set, get_or, Option, Some, None, refl, sym, ap, ◌∙◌, arith, length-take, length-drop}
 use Rattle.std.proofs.Common.{filter, ◌==◌, Bor}
 use Rattle.dds_source.specs.declared.lines.Line.{Line}
-use Rattle.dds_source.specs.Lines.{positions, line_of, next_number, counts, numbered, counted_lines}
+use Rattle.dds_source.specs.Lines.{positions, line_of, next_number, counts, numbered}
 use Rattle.dds_source.specs.Characters.{folded}
-use Rattle.std.specs.List.{slice_split, position, position_or_len, before_first, after_first}
-use Rattle.std.proofs.lemmas.Option.{cond_some, none-some}
+use Rattle.std.specs.List.{slice_split, position, position_or_len}
+use Rattle.std.proofs.lemmas.Option.{cond_some}
 use Rattle.std.proofs.lemmas.Bool.{cases_Bool}
 use Rattle.std.proofs.Common.{MatchOption, inl, inr}
 use Rattle.std.proofs.lemmas.List.{take_all, take_rest, map_more, append_assoc, drop_more, append-nil, set_at, get_or_at, length-map, drop-replicate}
 use Rattle.std.proofs.lemmas.List.Splits.{slice_split_first, slice_split_none}
-use Rattle.std.proofs.lemmas.List.Sums.{fails_before_first, prefix_len-le-length}
+use Rattle.std.proofs.lemmas.List.Sums.{fails_before_first}
 
 -- where an element passes, the first part ends there, and the rest is cut
 pub slice_split-at : (p : ℕ → Bool) (xs : List ℕ) (end : ℕ) → position p xs ≡ Some end

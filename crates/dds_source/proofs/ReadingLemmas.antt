@@ -1,5 +1,5 @@
 -- What is read and noted, one piece after another.
-use Rattle.std.proofs.Common.{◌≡◌, ℕ, zero, suc, ◌+◌, ◌-◌, ◌<◌, ◌≤◌, Bool, true, false, cond, not, ◌&&◌, ◌||◌, ◌==◌, nat_le, IsTrue, IsSome, IfSome, OnOk, List, [], ◌∷◌, ◌++◌, length, take, drop, set, get_or, map, Option, Some, None, Result, Ok, Err, refl, sym, ap, ◌∙◌, arith, inl, inr}
+use Rattle.std.proofs.Common.{◌≡◌, ℕ, zero, suc, ◌+◌, ◌<◌, Bool, true, false, ◌&&◌, ◌||◌, ◌==◌, nat_le, IsSome, IfSome, List, [], ◌∷◌, ◌++◌, length, drop, set, get_or, map, Option, Some, None, refl, sym, ap, ◌∙◌, arith, inl, inr}
 use Rattle.std.specs.List.{list_all, list_any, flat_map, filter_map, cons_option}
 use Rattle.std.specs.Bool.{if◌then◌else◌}
 use Rattle.std.proofs.lemmas.Bool.{cases_Bool}
@@ -11,17 +11,16 @@ use Rattle.dds_source.specs.declared.characters.SourceCharacter.{SourceCharacter
 use Rattle.dds_source.specs.declared.faults.DdsFault.{DdsFault}
 use Rattle.dds_source.specs.declared.keywords.Keyword.{Keyword}
 use Rattle.dds_source.specs.declared.specifications.Specification.{Specification}
-use Rattle.dds_source.specs.declared.specifications.SpecificationKind.{SpecificationKind}
 use Rattle.dds_source.specs.declared.specifications.SpecificationKind.TheVariants as kinds
 use Rattle.dds_source.specs.declared.specifications.Source.{Source}
 use Rattle.dds_source.specs.Characters.{is_letter, is_digit}
 use Rattle.dds_source.specs.Faults.{first_after}
-use Rattle.dds_source.specs.Entries.{when, kind_of}
+use Rattle.dds_source.specs.Entries.{when}
 use Rattle.dds_source.specs.Lines.{at, has_entries}
 use Rattle.dds_source.specs.Continuation.{goes_on}
 use Rattle.dds_source.specs.KeywordTexts.{keywords_in, is_keyword_name, bytes}
 use Rattle.dds_source.specs.ArgumentTexts.{arguments_in, argument_of, is_bad_hexadecimal}
-use Rattle.dds_source.specs.Reading.{text_faults, text_keyword, keyword_of, keyword_faults, keywords_of, last_begun, unfinished_at, sign_faults, is_record, is_condition, ends_in_condition, has_record, with_keywords, specification_of, extended, added, all_added}
+use Rattle.dds_source.specs.Reading.{text_faults, text_keyword, keyword_of, keyword_faults, keywords_of, last_begun, unfinished_at, sign_faults, is_record, is_condition, ends_in_condition, has_record, with_keywords, specification_of, extended, added}
 use Rattle.dds_source.proofs.FaultLemmas.{first_after_append}
 
 -- Noting the faults of one thing after another.

@@ -1,17 +1,14 @@
 -- Lines in their columns, written and read.
-use Rattle.std.proofs.Common.{◌≡◌, ℕ, zero, suc, ◌+◌, ◌-◌, ◌<◌, ◌≤◌, Bool, true, false, not, ◌&&◌, ◌||◌, ◌==◌, List, [], ◌∷◌, ◌++◌, length, take, drop, map, replicate, Option, Some, None, refl, sym, ap, ◌∙◌, arith, inl, inr, length-append, one-add}
+use Rattle.std.proofs.Common.{◌≡◌, ℕ, zero, suc, ◌-◌, Bool, true, false, not, ◌&&◌, ◌==◌, List, [], ◌∷◌, ◌++◌, length, drop, replicate, Some, refl, ap, ◌∙◌, arith, inl, inr, one-add}
 use Rattle.std.specs.List.{list_all, before_first}
 use Rattle.std.specs.Option.{is_none, option_map}
-use Rattle.std.specs.Bool.{if◌then◌else◌}
 use Rattle.std.proofs.lemmas.Bool.{cases_Bool}
 use Rattle.std.proofs.Math.Bool.{and-false}
-use Rattle.std.proofs.lemmas.List.{drop_at, length-replicate}
+use Rattle.std.proofs.lemmas.List.{drop_at}
 use Rattle.field_types.specs.SystemName.{is_name, begins_name, continues_name}
-use Rattle.dds_source.specs.declared.specifications.NameEntry.{NameEntry}
 use Rattle.dds_source.specs.declared.specifications.NameEntry.TheVariants as names
-use Rattle.dds_source.specs.declared.specifications.LengthEntry.{LengthEntry}
 use Rattle.dds_source.specs.declared.specifications.LengthEntry.TheVariants.{Exactly}
-use Rattle.dds_source.specs.Characters.{is_blank, are_blanks, is_digit, is_letter, is_small_letter, folded}
+use Rattle.dds_source.specs.Characters.{is_blank, are_blanks, is_digit}
 use Rattle.dds_source.specs.Numbers.{decimal, from_first, are_digits, unsigned_entry, after_sign, signed_entry}
 use Rattle.dds_source.specs.Entries.{name_entry, letter}
 use Rattle.dds_source.specs.Written.{left, right, number_said, length_said, letter_said, is_letter_or_blank}

@@ -1,6 +1,6 @@
 -- How keywords go on from line to line.
 -- (DDS for Physical and Logical Files, "Continuation lines": + and - as the last character.)
-use Rattle.std.specs.Prelude.{ℕ, ◌+◌, ◌-◌, Bool, true, false, not, ◌&&◌, ◌||◌, ◌==◌, List, [], ◌∷◌, ◌++◌, length, slice_index, slice_range, if◌then◌else◌}
+use Rattle.std.specs.Prelude.{ℕ, ◌+◌, ◌-◌, Bool, false, not, ◌&&◌, ◌||◌, ◌==◌, List, [], ◌∷◌, ◌++◌, length, slice_index, slice_range, if◌then◌else◌}
 use Rattle.std.specs.List.{onto_first, prefix_len, suffix_len}
 use Rattle.dds_source.specs.declared.lines.Line.{Line}
 use Rattle.dds_source.specs.declared.characters.SourceCharacter.{SourceCharacter}

@@ -1,13 +1,11 @@
 -- What the entries of a line are, position by position, and what is wrong with them.
 -- (DDS for Physical and Logical Files, "Positions 1 through 44".)
-use Rattle.std.specs.Prelude.{ℕ, ◌+◌, ◌-◌, Bool, not, ◌&&◌, ◌||◌, ◌==◌, nat_le, nat_eq, List, [], ◌∷◌, ◌++◌, length, drop, Option, Some, None, is_none, if◌then◌else◌, codes}
-use Rattle.std.specs.List.{before_first, position_or_len}
-use Rattle.std.specs.Option.{option_and_then}
+use Rattle.std.specs.Prelude.{ℕ, ◌+◌, Bool, not, ◌&&◌, ◌||◌, ◌==◌, nat_le, nat_eq, List, [], ◌∷◌, ◌++◌, length, drop, Option, Some, None, is_none, if◌then◌else◌, codes}
+use Rattle.std.specs.List.{before_first}
 use lib.Pointwise.{pointwise}
 use Rattle.field_types.specs.SystemName.{is_name}
 use Rattle.dds_source.specs.declared.lines.Line.{Line}
 use Rattle.dds_source.specs.declared.faults.DdsFault.{DdsFault}
-use Rattle.dds_source.specs.declared.faults.DdsCause.{DdsCause}
 use Rattle.dds_source.specs.declared.faults.DdsCause.TheVariants.{BadColumn, BadName, BadNumber}
 use Rattle.dds_source.specs.declared.specifications.SpecificationKind.{SpecificationKind}
 use Rattle.dds_source.specs.declared.specifications.SpecificationKind.TheVariants as kinds

@@ -1,7 +1,7 @@
 -- Where the keywords of a text begin and end.
 -- (DDS for Physical and Logical Files, "Syntax rules for DDS keywords and parameter values".)
 use Rattle.std.specs.Prelude.{ℕ, ◌+◌, ◌-◌, Bool, false, not, ◌&&◌, ◌||◌, ◌==◌, nat_le, List, [], ◌∷◌, ◌++◌, length, map, if◌then◌else◌}
-use Rattle.std.specs.List.{list_all, before_first, after_first, list_any}
+use Rattle.std.specs.List.{list_all, before_first, list_any}
 use Rattle.dds_source.specs.declared.characters.SourceCharacter.{SourceCharacter}
 use Rattle.dds_source.specs.declared.characters.Place.{Place}
 use Rattle.dds_source.specs.Characters.{is_blank, is_digit, is_letter}

@@ -1,12 +1,11 @@
 -- What a text of lines means: its specifications, and all that is wrong with it.
 -- (DDS for Physical and Logical Files, "DDS for physical and logical files: Positional entries" and "Keyword entries".)
-use Rattle.std.specs.Prelude.{◌≡◌, ℕ, ◌+◌, ◌-◌, Bool, true, false, not, ◌&&◌, ◌||◌, nat_eq, List, [], ◌∷◌, ◌++◌, map, flat_map, Option, Some, None, Result, Ok, Err, if◌then◌else◌, codes}
+use Rattle.std.specs.Prelude.{◌≡◌, ℕ, ◌+◌, Bool, true, false, not, ◌&&◌, nat_eq, List, [], ◌∷◌, ◌++◌, map, flat_map, Option, Some, None, Result, Ok, Err, if◌then◌else◌, codes}
 use Rattle.std.specs.List.{list_any, filter_map}
 use lib.Pointwise.{pointwise}
 use Rattle.dds_source.specs.declared.lines.Line.{Line}
 use Rattle.dds_source.specs.declared.characters.SourceCharacter.{SourceCharacter}
 use Rattle.dds_source.specs.declared.faults.DdsFault.{DdsFault}
-use Rattle.dds_source.specs.declared.faults.DdsCause.{DdsCause}
 use Rattle.dds_source.specs.declared.faults.DdsCause.TheVariants.{BadName, BadNumber, UnfinishedText}
 use Rattle.dds_source.specs.declared.faults.SourceError.{SourceError}
 use Rattle.dds_source.specs.declared.faults.SourceError.TheVariants as errors

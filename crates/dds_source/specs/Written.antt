@@ -1,6 +1,6 @@
 -- Sources that are written out: lines in their columns, and literals in apostrophes.
 -- (DDS for Physical and Logical Files, "Positions 1 through 44".)
-use Rattle.std.specs.Prelude.{◌≡◌, ℕ, ◌+◌, ◌-◌, ◌≤◌, Bool, true, false, ◌||◌, ◌==◌, List, [], ◌∷◌, ◌++◌, length, replicate, flat_map, Option, Some, None, if◌then◌else◌}
+use Rattle.std.specs.Prelude.{◌≡◌, ℕ, ◌-◌, ◌≤◌, Bool, true, ◌||◌, ◌==◌, List, [], ◌∷◌, ◌++◌, length, replicate, flat_map, Option, Some, None, if◌then◌else◌}
 use Rattle.std.specs.List.{list_all}
 use Rattle.field_types.specs.SystemName.{is_name}
 use Rattle.dds_source.specs.declared.specifications.Specification.{Specification}

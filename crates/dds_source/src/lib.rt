@@ -28,4 +28,6 @@ pub use specifications::{
 };
 
 #[cfg(test)]
+mod test_rows;
+#[cfg(test)]
 mod tests;

@@ -1,4 +1,4 @@
-use Rattle.std.proofs.Common.{◌≡◌, ◌-◌, ℕ, arith, sym, ◌∙◌}
+use Rattle.std.proofs.Common.{◌≡◌, ◌-◌, arith, sym, ◌∙◌}
 use Rattle.dds_source.proofs.ContinuationLemmas.{AreJoined-more, joined-first}
 use Rattle.dds_source.proofs.continuation.joined_len.Goals as goal
 

@@ -1,4 +1,4 @@
-use Rattle.std.proofs.Common.{◌≡◌, true, sym, ◌∙◌, IsSome, refl}
+use Rattle.std.proofs.Common.{◌≡◌, true, sym, ◌∙◌}
 use Rattle.dds_source.specs.KeywordTexts.{is_keyword_name}
 use Rattle.dds_source.proofs.ReadingLemmas.{is_name-keyword, some_is}
 use Rattle.dds_source.proofs.keyword_reading.keyword_name.Goals as goal

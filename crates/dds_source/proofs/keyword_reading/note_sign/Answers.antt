@@ -1,4 +1,4 @@
-use Rattle.std.proofs.Common.{◌≡◌, ◌-◌, suc, length, sym, ap, ◌∙◌, arith}
+use Rattle.std.proofs.Common.{◌≡◌, ◌-◌, suc, length, arith}
 use Rattle.dds_source.proofs.ReadingLemmas.{sign_faults-last}
 use Rattle.dds_source.proofs.ContinuationLemmas.{no_line}
 use Rattle.dds_source.proofs.keyword_reading.note_sign.Goals as goal

@@ -1,9 +1,8 @@
-use Rattle.std.proofs.Common.{◌≡◌, ◌<◌, ◌++◌, [], length, Option, sym, ap, ◌∙◌, arith}
+use Rattle.std.proofs.Common.{◌≡◌, ◌<◌, ◌++◌, [], length, Option, ap, ◌∙◌, arith}
 use Rattle.std.specs.List.{cons_option}
 use Rattle.std.proofs.lemmas.Result.{on_ok_weaker}
 use Rattle.dds_source.specs.declared.keywords.Keyword.{Keyword}
-use Rattle.dds_source.specs.Faults.{first_after}
-use Rattle.dds_source.specs.Reading.{keyword_of, keyword_faults}
+use Rattle.dds_source.specs.Reading.{keyword_of}
 use Rattle.dds_source.proofs.ReadingLemmas.{keyword_faults_is, keyword_of_is}
 use Rattle.dds_source.proofs.keyword_reading.read_keyword.Goals as goal
 

@@ -1,5 +1,4 @@
-use Rattle.std.proofs.Common.{◌≡◌, ◌<◌, ℕ, true, length, get_or, arith, rules, sym, ◌∙◌, ap}
-use Rattle.dds_source.specs.Characters.{is_blank}
+use Rattle.std.proofs.Common.{arith, sym, ◌∙◌}
 use Rattle.dds_source.proofs.KeywordLemmas.{keywords_in-blank, keywords_in-at_blank, keywords_in-at_close, keywords_in-at_end}
 use Rattle.dds_source.proofs.keyword_texts.keyword_len.Goals as goal
 

@@ -1,6 +1,5 @@
-use Rattle.std.proofs.Common.{◌≡◌, ℕ, ◌+◌, ◌++◌, length, filter}
-use Rattle.std.specs.List.{slice_split}
-use Rattle.dds_source.specs.Lines.{counts, numbered, counted_lines}
+use Rattle.std.proofs.Common.{◌≡◌, ◌++◌}
+use Rattle.dds_source.specs.Lines.{counted_lines}
 use Rattle.dds_source.proofs.LineLemmas.{lines_left, size_left}
 use Rattle.dds_source.proofs.lines.counted_lines.Given as goal
 

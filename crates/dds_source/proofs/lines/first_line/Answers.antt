@@ -1,4 +1,4 @@
-use Rattle.std.proofs.Common.{rules, sym, ◌∙◌}
+use Rattle.std.proofs.Common.{sym}
 use Rattle.dds_source.proofs.LineLemmas.{slice_split-at, slice_split-uncut}
 use Rattle.dds_source.proofs.lines.first_line.Goals as goal
 

@@ -1,4 +1,4 @@
-use Rattle.std.proofs.Common.{◌≡◌, ◌<◌, length, map, take, drop, ◌++◌, get_or, arith, rules, ap}
+use Rattle.std.proofs.Common.{arith, rules}
 use Rattle.dds_source.specs.Characters.{folded}
 use Rattle.dds_source.proofs.LineLemmas.{fold_more}
 use Rattle.dds_source.proofs.lines.fold.Goals as goal

@@ -1,4 +1,3 @@
-use Rattle.std.proofs.Common.{rules}
 use Rattle.dds_source.specs.Lines.{positions}
 use Rattle.dds_source.proofs.LineLemmas.{padded_is}
 use Rattle.dds_source.proofs.lines.positions.Goals as goal

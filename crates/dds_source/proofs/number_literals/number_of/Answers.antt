@@ -1,10 +1,10 @@
-use Rattle.std.proofs.Common.{◌≡◌, ◌==◌, ◌≤◌, ◌+◌, ◌++◌, true, length, sym, ap, ◌∙◌, arith, rules, refl, Some}
+use Rattle.std.proofs.Common.{◌≡◌, ◌==◌, ◌≤◌, ◌+◌, ◌++◌, true, length, sym, ◌∙◌, arith, rules}
 use Rattle.std.proofs.lemmas.Int.{to_z-of_z}
 use Rattle.std.specs.List.{before_first, after_first}
 use mir.Syntax.{w128}
 use mir.Val.{SFits}
 use Rattle.dds_source.specs.Numbers.{decimal}
-use Rattle.dds_source.specs.ArgumentTexts.{is_unsigned, signed}
+use Rattle.dds_source.specs.ArgumentTexts.{is_unsigned}
 use Rattle.dds_source.proofs.NumberLemmas.{pow_below, decimal_after-append, number_of_is}
 use Rattle.dds_source.proofs.number_literals.number_of.Goals as goal
 

@@ -1,4 +1,4 @@
-use Rattle.std.proofs.Common.{ℕ, ◌≤◌, ◌<◌, ◌^◌, ◌*◌, ◌+◌, length, sym, ◌∙◌, arith, rules}
+use Rattle.std.proofs.Common.{◌≤◌, ◌<◌, ◌^◌, ◌+◌, length, sym, ◌∙◌, arith}
 use Rattle.dds_source.proofs.NumberLemmas.{pow_below, bound_more, digits_more, decimal_more}
 use Rattle.dds_source.proofs.numbers.decimal_after.Goals as goal
 

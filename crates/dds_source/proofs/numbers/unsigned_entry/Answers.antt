@@ -1,4 +1,4 @@
-use Rattle.std.proofs.Common.{◌≤◌, ◌^◌, length, arith}
+use Rattle.std.proofs.Common.{length, arith}
 use Rattle.dds_source.proofs.NumberLemmas.{pow_below}
 use Rattle.dds_source.proofs.numbers.unsigned_entry.Goals as goal
 

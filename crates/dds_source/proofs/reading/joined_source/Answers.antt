@@ -1,11 +1,11 @@
-use Rattle.std.proofs.Common.{◌≡◌, ◌<◌, ◌&&◌, ◌||◌, ◌==◌, Bool, List, ◌∷◌, length, get_or, Option, sym, ap, ◌∙◌, arith}
+use Rattle.std.proofs.Common.{◌≡◌, ◌<◌, ◌&&◌, ◌||◌, ◌==◌, Bool, List, ◌∷◌, length, get_or, sym, ap, ◌∙◌, arith}
 use Rattle.std.specs.List.{flat_map}
 use Rattle.dds_source.specs.declared.lines.Line.{Line}
 use Rattle.dds_source.specs.declared.specifications.Source.{Source}
 use Rattle.dds_source.specs.Faults.{first_after}
 use Rattle.dds_source.specs.Lines.{at, has_entries}
 use Rattle.dds_source.specs.Continuation.{joined}
-use Rattle.dds_source.specs.Reading.{all_added, added, extended, has_record, keywords_of, joined_faults}
+use Rattle.dds_source.specs.Reading.{all_added, added, extended, has_record, joined_faults}
 use Rattle.dds_source.proofs.ContinuationLemmas.{no_line}
 use Rattle.dds_source.proofs.ReadingLemmas.{noted_first, added_first, has_record-extended}
 use Rattle.dds_source.proofs.reading.joined_source.Goals as goal

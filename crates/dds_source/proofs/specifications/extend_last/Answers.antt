@@ -1,4 +1,4 @@
-use Rattle.std.proofs.Common.{◌≡◌, ◌-◌, ◌++◌, suc, set, length, sym, ap, ◌∙◌, arith}
+use Rattle.std.proofs.Common.{◌≡◌, ◌-◌, ◌++◌, suc, set, length, ap, ◌∙◌, arith}
 use Rattle.dds_source.specs.declared.specifications.Specification.{Specification}
 use Rattle.std.proofs.lemmas.Result.{on_ok_weaker}
 use Rattle.dds_source.proofs.ReadingLemmas.{with_keywords-last}

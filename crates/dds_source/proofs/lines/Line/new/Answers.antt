@@ -1,4 +1,4 @@
-use Rattle.std.proofs.Common.{◌≡◌, ◌≤◌, length, take, drop, sym, arith, rules, length-take-le, refl, ◌∙◌, ap}
+use Rattle.std.proofs.Common.{◌≡◌, ◌≤◌, length, sym, arith, length-take-le, ◌∙◌, ap}
 use Rattle.dds_source.specs.Lines.{positions}
 use Rattle.dds_source.proofs.LineLemmas.{line_is}
 use Rattle.dds_source.proofs.lines.Line.new.Goals as goal

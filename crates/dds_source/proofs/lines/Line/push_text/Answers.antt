@@ -1,5 +1,4 @@
-use Rattle.std.proofs.Common.{◌≤◌, length, arith, rules}
-use Rattle.dds_source.specs.Continuation.{line_text}
+use Rattle.std.proofs.Common.{◌≤◌, length, arith}
 use Rattle.dds_source.proofs.ContinuationLemmas.{placed_more}
 use Rattle.dds_source.proofs.lines.Line.push_text.Goals as goal
 
