@@ -1,0 +1,21 @@
+-- What is a sorted list of entries, and what do an insert and a removal make of it?
+-- Source: IBM i, Database Programming (Access paths).
+use Rattle.std.specs.Prelude.{ℕ, Bool, List, ◌∷◌, ◌++◌, filter}
+use Rattle.std.specs.Ordering.{is_lt, is_gt, is_ne}
+use Rattle.key_pages.specs.declared.entries.Entry.{Entry}
+use Rattle.key_pages.specs.Order.{entry_cmp}
+
+-- the entries in order, whether ties fall, and for how many inserts there is memory
+pub record EntryList : Type 0 where
+  pub entries : List Entry
+  pub falling : Bool
+  pub spare : ℕ
+
+-- the lesser entries, this one, the greater ones
+abbrev pub with_entry : Bool → Entry → List Entry → List Entry
+with_entry falling entry entries =
+    filter (λ other. is_lt (entry_cmp falling other entry)) entries ++ entry ∷ filter (λ other. is_gt (entry_cmp falling other entry)) entries
+
+-- the other entries
+abbrev pub without_entry : Bool → Entry → List Entry → List Entry
+without_entry falling entry entries = filter (λ other. is_ne (entry_cmp falling other entry)) entries

@@ -1,0 +1,6 @@
+pub mod Order
+pub mod EntryList
+pub mod Position
+pub mod Walk
+pub mod StepBound
+pub mod Search

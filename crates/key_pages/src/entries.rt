@@ -1,0 +1,46 @@
+//! An entry of an access path, and the order of entries. Lists of them are in `list.rt`.
+
+ghost use Rattle.std.specs.Prelude.{◌≡◌, length, IfOk, IfErr};
+ghost use Rattle.std.specs.List.Sorted.{IsSearchInRange};
+ghost use Rattle.key_pages.specs.Order.{entry_cmp, IsInOrder};
+ghost use Rattle.key_pages.specs.Search.{IsAt, IsGapFor};
+
+use crate::keys::Key;
+use std::cmp::Ordering;
+
+/// What an access path has of a record: its key, the number of its record format within the file, and its relative
+/// record number.
+#[derive(Drop)]
+pub struct Entry {
+    pub key: Key,
+    pub format: u16,
+    pub rrn: u32,
+}
+
+/// By key, then by format, then by ties.
+pub(crate) fn compare(entry: &Entry, key: &[u8], format: u16, rrn: u32, falling: bool) -> Ordering
+    ensures { result ≡ entry_cmp falling entry.now (record { key = key.now; format = format; rrn = rrn }) }
+{
+    let ties = if falling {
+        rrn.cmp(&entry.rrn)
+    } else {
+        entry.rrn.cmp(&rrn)
+    };
+    entry
+        .key
+        .bytes()
+        .cmp(&key)
+        .then(entry.format.cmp(&format).then(ties))
+}
+
+/// Where the entry is, or where it would go.
+pub(crate) fn find(entries: &[Entry], entry: &Entry, falling: bool) -> Result<usize, usize>
+    requires { IsInOrder falling entries.now }
+    ensures within { IsSearchInRange result (length entries.now) }
+    ensures found { IfOk result (IsAt falling entry.now entries.now) }
+    ensures absent { IfErr result (IsGapFor falling entry.now entries.now) }
+{
+    entries.binary_search_by(|other| {
+        compare(other, entry.key.bytes(), entry.format, entry.rrn, falling)
+    })
+}

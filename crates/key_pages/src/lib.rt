@@ -1,0 +1,19 @@
+//! A sorted list of access path entries that never needs memory to change. Read `list.rt` first.
+#![tactic(auto)]
+
+mod counting;
+mod entries;
+mod keys;
+mod laws;
+mod list;
+mod positions;
+mod search;
+#[cfg(test)]
+mod tests;
+
+pub use counting::Steps;
+pub use entries::Entry;
+pub use keys::Key;
+pub use laws::{insertion, one_order, removal, walk_backward, walk_forward};
+pub use list::Pages;
+pub use positions::Position;

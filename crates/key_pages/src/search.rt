@@ -1,0 +1,48 @@
+//! A binary search for the place of a position in a sorted list.
+
+ghost use Rattle.std.specs.Prelude.{◌≡◌, ◌≤◌, ◌+◌, ◌*◌, ◌-◌, ◌^◌, true, false, length};
+ghost use Rattle.std.specs.List.{AllWithin};
+ghost use Rattle.key_pages.specs.Order.{IsInOrder};
+ghost use Rattle.key_pages.specs.Position.{side_of};
+ghost use Rattle.key_pages.specs.Search.{is_passed};
+
+use crate::counting::Steps;
+use crate::entries::Entry;
+use crate::positions::{self, Position};
+use std::cmp::Ordering;
+use std::sync::ledger::Ledger;
+
+/// How many entries lie before the position, or with `itself` also on it.
+pub(crate) fn place<L: Ledger>(
+    entries: &[Entry],
+    falling: bool,
+    from: &Position<'_>,
+    itself: bool,
+    steps: &mut Steps<L>,
+) -> usize
+    requires { IsInOrder falling entries.now }
+    ensures within { result ≤ length entries.now }
+    ensures passed { AllWithin (λ entry. is_passed itself (side_of falling from.now entry) ≡ true) entries.now 0 result }
+    ensures ahead { AllWithin (λ entry. is_passed itself (side_of falling from.now entry) ≡ false) entries.now result (length entries.now) }
+    ensures cost { 2 ^ (steps.new - steps.old) ≤ 2 * length entries.now + 1 }
+    ensures rises { steps.old ≤ steps.new }
+{
+    let mut low = 0;
+    let mut high = entries.len();
+    while low < high {
+        let middle = low + (high - low) / 2;
+        let side = positions::side(from, &entries[middle], falling, steps);
+        if is_passed(side, itself) {
+            low = middle + 1;
+        } else {
+            high = middle;
+        }
+    }
+    low
+}
+
+fn is_passed(side: Ordering, itself: bool) -> bool
+    ensures { result ≡ is_passed itself side }
+{
+    if itself { side.is_le() } else { side.is_lt() }
+}

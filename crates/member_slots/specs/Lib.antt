@@ -1,0 +1,4 @@
+pub mod Member
+pub mod Members
+pub mod Entries
+pub mod Changes
