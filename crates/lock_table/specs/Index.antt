@@ -1,0 +1,36 @@
+-- How a table finds the locks of one open: the second list that it keeps, of the locks that end at a next read.
+use Rattle.std.specs.Ordering.{nat_cmp, ordering_then}
+use Rattle.std.specs.Prelude.{◌≡◌, ℕ, ◌≤◌, List, length, map, filter}
+use Rattle.std.specs.declared.cmp.Ordering.{Ordering}
+use Rattle.lock_table.specs.declared.lock.Lock.{Lock}
+use Rattle.lock_table.specs.declared.lock.OpenLock.{OpenLock}
+use Rattle.lock_table.specs.declared.lock.Reach.TheVariants.{Open}
+use Rattle.lock_table.specs.Lock.{is_open}
+use Rattle.lock_table.specs.Table.{Locks, IsTable, in_order}
+
+-- by holder, then by record and kind
+abbrev pub open_cmp : OpenLock → OpenLock → Ordering
+open_cmp a b =
+    ordering_then (nat_cmp a.job b.job)
+    (ordering_then (nat_cmp a.opened b.opened)
+    (ordering_then (nat_cmp a.member b.member)
+    (ordering_then (nat_cmp a.rrn b.rrn) (nat_cmp a.kind.0 b.kind.0))))
+
+-- the lock without its reach
+abbrev pub open_part : Lock → OpenLock
+open_part lock = record { job = lock.job; opened = lock.opened; member = lock.member; rrn = lock.rrn; kind = lock.kind }
+
+-- the lock of which that is left
+abbrev pub whole_lock : OpenLock → Lock
+whole_lock part = record { member = part.member; rrn = part.rrn; job = part.job; opened = part.opened; kind = part.kind; reach = Open }
+
+-- the locks that end at a next read, by holder
+abbrev pub open_locks : List Lock → List OpenLock
+open_locks held = in_order open_cmp (map open_part (filter (λ lock. is_open lock.reach) held))
+
+-- the two lists agree, and each has the room that the table shows
+pub record IsIndexed (by_record : List Lock) (by_open : List OpenLock) (room record_capacity open_capacity : ℕ) : Type 0 where
+  pub table : IsTable (record { held = by_record; room = room })
+  pub indexed : by_open ≡ open_locks by_record
+  pub record_room : room ≤ record_capacity
+  pub open_room : room ≤ open_capacity

@@ -1,0 +1,54 @@
+//! Lists in strict order: where an item is put in, where it is taken out, and which run of locks a record has.
+ghost use Rattle.std.specs.List.Sorted.{IsStrictlySortedBy};
+ghost use Rattle.std.specs.Ordering.{is_eq};
+ghost use Rattle.std.specs.Prelude.{◌≡◌, ◌<◌, ◌==◌, not, filter, vec_len, vec_capacity};
+ghost use Rattle.lock_table.specs.Lock.{is_on, lock_cmp};
+ghost use Rattle.lock_table.specs.Table.{with_item};
+
+use crate::lock::Lock;
+
+/// Puts the item in its place, unless it is there. There is room, so no memory is taken.
+pub fn put_in<T: Ord + Drop>(items: &mut Vec<T>, item: T)
+    requires ordered { IsStrictlySortedBy T.cmp items.old.items }
+    requires room { vec_len items.old < vec_capacity items.old }
+    ensures items { items.new.items ≡ with_item T.cmp item items.old.items }
+    ensures capacity { vec_capacity items.new ≡ vec_capacity items.old }
+{
+    if let Err(place) = items.binary_search(&item) {
+        match items.insert(place, item) {
+            Ok(()) => {}
+            Err(_) => unreachable!(),
+        }
+    }
+}
+
+/// Takes the item out, where it is there.
+pub fn take_out<T: Ord + Drop>(items: &mut Vec<T>, item: &T)
+    requires { IsStrictlySortedBy T.cmp items.old.items }
+    ensures items { items.new.items ≡ filter (λ x. not (is_eq (T.cmp x item.now))) items.old.items }
+    ensures capacity { vec_capacity items.new ≡ vec_capacity items.old }
+{
+    if let Ok(place) = items.binary_search(item) {
+        items.remove(place);
+    }
+}
+
+/// The locks on a record, which stand side by side.
+pub fn locks_on(locks: &[Lock], member: u32, rrn: u32) -> &[Lock]
+    requires { IsStrictlySortedBy lock_cmp locks.now }
+    ensures { result.now ≡ filter (is_on member rrn) locks.now }
+{
+    let start = locks.partition_point(|lock| (lock.member, lock.rrn) < (member, rrn));
+    let end = locks.partition_point(|lock| (lock.member, lock.rrn) <= (member, rrn));
+    &locks[start..end]
+}
+
+/// The locks on the records of a member, which stand side by side.
+pub fn locks_in(locks: &[Lock], member: u32) -> &[Lock]
+    requires { IsStrictlySortedBy lock_cmp locks.now }
+    ensures { result.now ≡ filter (λ lock. lock.member == member) locks.now }
+{
+    let start = locks.partition_point(|lock| lock.member < member);
+    let end = locks.partition_point(|lock| lock.member <= member);
+    &locks[start..end]
+}
