@@ -159,6 +159,7 @@ module _ {X : Type 0} {R : X → X → Ordering} (o : IsTotalOrder R) (same : (x
         | Greater ↦ λ e. step y (with_item R x ys) ∙ ap (h y) (fold-with_item F h step twice swap x ys) ∙ swap y x (F ys) ∙ sym (ap (h x) (step y ys))
       ] refl
 
+module _ {X : Type 0} {R : X → X → Ordering} (o : IsTotalOrder R) where
   not_it : (x : X) (ys : List X) → AllByRecursion (λ z. R x z ≡ Less) ys → AllByRecursion (λ z. not (is_eq (R z x)) ≡ true) ys
   not_it x [] h = tt
   not_it x (y ∷ ys) h = (ap (λ r. not (is_eq r)) (Greater-back o x y h.0), not_it x ys h.1)

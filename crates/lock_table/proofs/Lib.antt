@@ -1,3 +1,6 @@
 pub mod InOrder
 pub mod Kept
 pub mod Locks
+pub mod Searched
+pub mod Runs
+pub mod Releases

@@ -1,6 +1,6 @@
 -- How a table finds the locks of one open: the second list that it keeps, of the locks that end at a next read.
 use Rattle.std.specs.Ordering.{nat_cmp, ordering_then}
-use Rattle.std.specs.Prelude.{◌≡◌, ℕ, ◌≤◌, List, length, map, filter}
+use Rattle.std.specs.Prelude.{◌≡◌, ℕ, ◌<◌, ◌≤◌, ◌==◌, ◌&&◌, Bool, true, false, List, length, map, filter, slice_index_or}
 use Rattle.std.specs.declared.cmp.Ordering.{Ordering}
 use Rattle.lock_table.specs.declared.lock.Lock.{Lock}
 use Rattle.lock_table.specs.declared.lock.OpenLock.{OpenLock}
@@ -27,6 +27,18 @@ whole_lock part = record { member = part.member; rrn = part.rrn; job = part.job;
 -- the locks that end at a next read, by holder
 abbrev pub open_locks : List Lock → List OpenLock
 open_locks held = in_order open_cmp (map open_part (filter (λ lock. is_open lock.reach) held))
+
+-- it is of a lock of this open
+abbrev pub is_part_of : ℕ → ℕ → OpenLock → Bool
+is_part_of job opened part = (part.job == job) && (part.opened == opened)
+
+-- the items from the place start up to the place end pass the test, and no others do
+pub record IsRun {X : Type 0} (test : X → Bool) (items : List X) (start end : ℕ) : Type 0 where
+  pub ordered : start ≤ end
+  pub within : end ≤ length items
+  pub before : (k : ℕ) (d : X) → k < start → test (slice_index_or items k d) ≡ false
+  pub inside : (k : ℕ) (d : X) → start ≤ k → k < end → test (slice_index_or items k d) ≡ true
+  pub after : (k : ℕ) (d : X) → end ≤ k → k < length items → test (slice_index_or items k d) ≡ false
 
 -- the two lists agree, and each has the room that the table shows
 pub record IsIndexed (by_record : List Lock) (by_open : List OpenLock) (room record_capacity open_capacity : ℕ) : Type 0 where

@@ -25,6 +25,10 @@ abbrev pub is_open : Reach → Bool
 is_open Open = true
 is_open Boundary = false
 
+-- the lock is on a record of this member
+abbrev pub is_in : ℕ → Lock → Bool
+is_in member lock = lock.member == member
+
 -- the lock is on this record
 abbrev pub is_on : ℕ → ℕ → Lock → Bool
 is_on member rrn lock = (lock.member == member) && (lock.rrn == rrn)

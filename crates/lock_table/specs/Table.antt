@@ -8,7 +8,7 @@ use Rattle.std.specs.Option.{option_map_or}
 use Rattle.lock_table.specs.declared.lock.LockKind.{LockKind}
 use Rattle.lock_table.specs.declared.lock.Lock.{Lock}
 use Rattle.lock_table.specs.declared.lock.Reach.TheVariants.{Open, Boundary}
-use Rattle.lock_table.specs.Lock.{blocks, Clashes, is_open, is_of_open, is_of_open_on, is_of_record, is_of_group, is_on, bound, lock_cmp}
+use Rattle.lock_table.specs.Lock.{blocks, Clashes, is_open, is_of_open, is_of_open_on, is_of_record, is_of_group, is_in, is_on, bound, lock_cmp}
 
 -- the locks that are held, each once and in order, and how many may be held without more memory
 pub record Locks : Type 0 where
@@ -87,4 +87,4 @@ asked_lock job opened member rrn kind = record { member = member; rrn = rrn; job
 
 -- a lock on a record of the member that some job keeps to its boundary
 abbrev pub is_boundary_in : ℕ → Lock → Bool
-is_boundary_in member lock = (lock.member == member) && not (is_open lock.reach)
+is_boundary_in member lock = is_in member lock && not (is_open lock.reach)

@@ -1,11 +1,12 @@
 //! Lists in strict order: where an item is put in, where it is taken out, and which run of locks a record has.
 ghost use Rattle.std.specs.List.Sorted.{IsStrictlySortedBy};
 ghost use Rattle.std.specs.Ordering.{is_eq};
-ghost use Rattle.std.specs.Prelude.{◌≡◌, ◌<◌, ◌==◌, not, filter, vec_len, vec_capacity};
-ghost use Rattle.lock_table.specs.Lock.{is_on, lock_cmp};
+ghost use Rattle.std.specs.Prelude.{◌≡◌, ◌<◌, not, filter, vec_len, vec_capacity};
+ghost use Rattle.lock_table.specs.Lock.{is_in, is_on, lock_cmp};
 ghost use Rattle.lock_table.specs.Table.{with_item};
+ghost use Rattle.lock_table.specs.Index.{IsRun, is_part_of, open_cmp};
 
-use crate::lock::Lock;
+use crate::lock::{Lock, OpenLock};
 
 /// Puts the item in its place, unless it is there. There is room, so no memory is taken.
 pub fn put_in<T: Ord + Drop>(items: &mut Vec<T>, item: T)
@@ -38,17 +39,51 @@ pub fn locks_on(locks: &[Lock], member: u32, rrn: u32) -> &[Lock]
     requires { IsStrictlySortedBy lock_cmp locks.now }
     ensures { result.now ≡ filter (is_on member rrn) locks.now }
 {
+    let (start, end) = run_on(locks, member, rrn);
+    &locks[start..end]
+}
+
+fn run_on(locks: &[Lock], member: u32, rrn: u32) -> (usize, usize)
+    requires { IsStrictlySortedBy lock_cmp locks.now }
+    ensures { IsRun (is_on member rrn) locks.now result.0 result.1 }
+{
     let start = locks.partition_point(|lock| (lock.member, lock.rrn) < (member, rrn));
     let end = locks.partition_point(|lock| (lock.member, lock.rrn) <= (member, rrn));
-    &locks[start..end]
+    (start, end)
 }
 
 /// The locks on the records of a member, which stand side by side.
 pub fn locks_in(locks: &[Lock], member: u32) -> &[Lock]
     requires { IsStrictlySortedBy lock_cmp locks.now }
-    ensures { result.now ≡ filter (λ lock. lock.member == member) locks.now }
+    ensures { result.now ≡ filter (is_in member) locks.now }
+{
+    let (start, end) = run_in(locks, member);
+    &locks[start..end]
+}
+
+fn run_in(locks: &[Lock], member: u32) -> (usize, usize)
+    requires { IsStrictlySortedBy lock_cmp locks.now }
+    ensures { IsRun (is_in member) locks.now result.0 result.1 }
 {
     let start = locks.partition_point(|lock| lock.member < member);
     let end = locks.partition_point(|lock| lock.member <= member);
+    (start, end)
+}
+
+/// The locks of an open that end at its next read, which stand side by side.
+pub fn locks_of(locks: &[OpenLock], job: u32, opened: u32) -> &[OpenLock]
+    requires { IsStrictlySortedBy open_cmp locks.now }
+    ensures { result.now ≡ filter (is_part_of job opened) locks.now }
+{
+    let (start, end) = run_of(locks, job, opened);
     &locks[start..end]
+}
+
+fn run_of(locks: &[OpenLock], job: u32, opened: u32) -> (usize, usize)
+    requires { IsStrictlySortedBy open_cmp locks.now }
+    ensures { IsRun (is_part_of job opened) locks.now result.0 result.1 }
+{
+    let start = locks.partition_point(|lock| (lock.job, lock.opened) < (job, opened));
+    let end = locks.partition_point(|lock| (lock.job, lock.opened) <= (job, opened));
+    (start, end)
 }

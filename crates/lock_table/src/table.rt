@@ -1,14 +1,14 @@
 //! The table of all record locks. Its locks stand in one list by record, where a request looks for a clash, and those
 //! that end at a next read stand in a second list by open, where their release looks for them. The searches in the two
 //! lists are in sorted.rt.
-ghost use Rattle.std.specs.List.{All, list_any};
+ghost use Rattle.std.specs.List.{All, Contains, list_any};
 ghost use Rattle.std.specs.Prelude.{true, ◌≡◌, ℕ, ◌+◌, ◌<◌, ◌≤◌, ◌&&◌, ◌↔◌, IsOk, IsErrOf, OnOk, OnErr, IfSome, IfNone, Some, None, Err, [], length, filter};
 ghost use Rattle.lock_table.specs.Lock.{Clashes, is_open, is_on, is_of_open, is_of_open_on, is_of_record, is_of_group};
 ghost use Rattle.lock_table.specs.Table.{IsTable, IsOneOf, without_lock, spare, holding, reserved, with_lock, asked_lock, blocker, least_job, kept_to_boundary, freed, is_boundary_in};
 
 use crate::fault::{InUse, LockFault};
 use crate::lock::{Lock, LockKind, OpenLock, Reach};
-use crate::sorted::{locks_in, locks_on, put_in, take_out};
+use crate::sorted::{locks_in, locks_of, locks_on, put_in, take_out};
 use std::alloc::Global;
 use std::marker::Model;
 
@@ -200,18 +200,8 @@ impl LockTable {
         ensures some { IfSome result (λ lock. IsOneOf (is_of_open job opened) lock self.now.held) }
         ensures none { IfNone result (filter (is_of_open job opened) self.now.held ≡ []) }
     {
-        let end = self
-            .by_open
-            .partition_point(|lock| (lock.job, lock.opened) <= (job, opened));
-        if end == 0 {
-            return None;
-        }
-        let last = self.by_open[end - 1];
-        if last.job == job && last.opened == opened {
-            Some(last.whole_lock())
-        } else {
-            None
-        }
+        let last = locks_of(&self.by_open, job, opened).last()?;
+        Some(last.whole_lock())
     }
 
     fn open_lock_on(&self, job: u32, opened: u32, member: u32, rrn: u32) -> Option<Lock>
@@ -236,8 +226,12 @@ impl LockTable {
 
     // Takes a lock that is held out of both lists.
     fn free(&mut self, lock: Lock)
-        requires { is_open lock.reach ≡ true }
-        ensures { self.new ≡ holding (without_lock lock self.old.held) self.old }
+        requires there { Contains self.old.held lock }
+        requires ends { is_open lock.reach ≡ true }
+        ensures held { self.new ≡ holding (without_lock lock self.old.held) self.old }
+        ensures fewer { length self.new.held < length self.old.held }
+        ensures room { 1 ≤ spare self.new }
+        ensures alone { All (λ other. Clashes lock other → ⊥) self.new.held }
     {
         take_out(&mut self.by_record, &lock);
         take_out(&mut self.by_open, &lock.open_part());
