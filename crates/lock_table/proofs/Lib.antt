@@ -4,3 +4,5 @@ pub mod Locks
 pub mod Searched
 pub mod Runs
 pub mod Releases
+pub mod Indexed
+pub mod Orders

@@ -49,9 +49,9 @@ pub lock_cmp-total : IsTotalOrder lock_cmp
 lock_cmp-total =
     then_total (on_total (λ (l : Lock). l.member) nat_cmp_total)
     (then_total (on_total (λ (l : Lock). l.rrn) nat_cmp_total)
-     (then_total (on_total (λ (l : Lock). l.job) nat_cmp_total)
-      (then_total (on_total (λ (l : Lock). l.opened) nat_cmp_total)
-       (then_total (on_total (λ (l : Lock). l.kind.0) nat_cmp_total) (on_total (λ (l : Lock). reach_number l.reach) nat_cmp_total)))))
+    (then_total (on_total (λ (l : Lock). l.job) nat_cmp_total)
+    (then_total (on_total (λ (l : Lock). l.opened) nat_cmp_total)
+    (then_total (on_total (λ (l : Lock). l.kind.0) nat_cmp_total) (on_total (λ (l : Lock). reach_number l.reach) nat_cmp_total)))))
 
 pub lock_cmp-same : (a b : Lock) → lock_cmp a b ≡ Equal → a ≡ b
 lock_cmp-same a b h =
@@ -74,8 +74,8 @@ pub open_cmp-total : IsTotalOrder open_cmp
 open_cmp-total =
     then_total (on_total (λ (l : OpenLock). l.job) nat_cmp_total)
     (then_total (on_total (λ (l : OpenLock). l.opened) nat_cmp_total)
-     (then_total (on_total (λ (l : OpenLock). l.member) nat_cmp_total)
-      (then_total (on_total (λ (l : OpenLock). l.rrn) nat_cmp_total) (on_total (λ (l : OpenLock). l.kind.0) nat_cmp_total))))
+    (then_total (on_total (λ (l : OpenLock). l.member) nat_cmp_total)
+    (then_total (on_total (λ (l : OpenLock). l.rrn) nat_cmp_total) (on_total (λ (l : OpenLock). l.kind.0) nat_cmp_total))))
 
 pub open_cmp-same : (a b : OpenLock) → open_cmp a b ≡ Equal → a ≡ b
 open_cmp-same a b h =
@@ -100,11 +100,11 @@ entered-twice lock ys = elim (is_open lock.reach) as (λ b. cond b (with_item op
 entered-swap : (a b : Lock) (ys : List OpenLock) → entered a (entered b ys) ≡ entered b (entered a ys)
 entered-swap a b ys = swapped (is_open a.reach) (is_open b.reach)
   where
-  swapped : (p q : Bool) → cond p (with_item open_cmp (open_part a) (cond q (with_item open_cmp (open_part b) ys) ys)) (cond q (with_item open_cmp (open_part b) ys) ys) ≡ cond q (with_item open_cmp (open_part b) (cond p (with_item open_cmp (open_part a) ys) ys)) (cond p (with_item open_cmp (open_part a) ys) ys)
-  swapped true true = with_item-swap open_cmp-total open_cmp-same (open_part a) (open_part b) ys
-  swapped true false = refl
-  swapped false true = refl
-  swapped false false = refl
+    swapped : (p q : Bool) → cond p (with_item open_cmp (open_part a) (cond q (with_item open_cmp (open_part b) ys) ys)) (cond q (with_item open_cmp (open_part b) ys) ys) ≡ cond q (with_item open_cmp (open_part b) (cond p (with_item open_cmp (open_part a) ys) ys)) (cond p (with_item open_cmp (open_part a) ys) ys)
+    swapped true true = with_item-swap open_cmp-total open_cmp-same (open_part a) (open_part b) ys
+    swapped true false = refl
+    swapped false true = refl
+    swapped false false = refl
 
 -- one more lock
 pub open_locks-with_lock : (lock : Lock) (held : List Lock) → open_locks (with_lock lock held) ≡ cond (is_open lock.reach) (with_item open_cmp (open_part lock) (open_locks held)) (open_locks held)

@@ -76,14 +76,14 @@ module _ (job opened member rrn : ℕ) where
 blocks_back : (a b : Lock) → blocks b.job b.member b.rrn b.kind a ≡ blocks a.job a.member a.rrn a.kind b
 blocks_back a b = flipped a.member b.member a.rrn b.rrn a.job b.job (is_update a.kind) (is_update b.kind)
   where
-  flipped : (m n r s j k : ℕ) (p q : Bool) → (((m == n) && (r == s)) && (not (j == k) && (p || q))) ≡ (((n == m) && (s == r)) && (not (k == j) && (q || p)))
-  flipped m n r s j k p q = grind (arith, nat_tests)
+    flipped : (m n r s j k : ℕ) (p q : Bool) → (((m == n) && (r == s)) && (not (j == k) && (p || q))) ≡ (((n == m) && (s == r)) && (not (k == j) && (q || p)))
+    flipped m n r s j k p q = grind (arith, nat_tests)
 
 not_own : (a : Lock) → blocks a.job a.member a.rrn a.kind a ≡ false
 not_own a = own a.job (is_on a.member a.rrn a) (is_update a.kind || is_update a.kind)
   where
-  own : (j : ℕ) (p q : Bool) → (p && (not (j == j) && q)) ≡ false
-  own j p q = grind (arith, nat_tests)
+    own : (j : ℕ) (p q : Bool) → (p && (not (j == j) && q)) ≡ false
+    own j p q = grind (arith, nat_tests)
 
 pub Clashes-back : (a b : Lock) → (Clashes a b → ⊥) → Clashes b a → ⊥
 Clashes-back a b h k = h (subst (λ t. IsTrue t) (blocks_back a b) k)
@@ -108,7 +108,7 @@ IsTable-filter p held room t =
       ordered = IsStrictlySortedBy-filter lock_cmp p held t.ordered;
       compatible = AreCompatible-filter p held t.compatible;
       fits = omega (arith, t.fits);
-      within = t.within
+      within = t.within;
     }
 
 pub IsTable-with_lock : (lock : Lock) (held : List Lock) (room : ℕ) → IsTable (record { held = held; room = room }) → length (with_lock lock held) ≤ room → All (λ other. Clashes lock other → ⊥) held → IsTable (record { held = with_lock lock held; room = room })

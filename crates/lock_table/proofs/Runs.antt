@@ -52,7 +52,7 @@ module _ {X : Type 0} (test below upto : X → Bool) (wider : (x : X) → below 
         within = within;
         before = λ k d l. is (get_or items k d) ∙ and_not (upto (get_or items k d)) (below (get_or items k d)) (s.0 k d (omega arith) l);
         inside = λ k d l m. is (get_or items k d) ∙ and_both (upto (get_or items k d)) (below (get_or items k d)) (e.0 k d (omega arith) m) (s.1 k d l (omega arith));
-        after = λ k d l m. is (get_or items k d) ∙ and_neither (upto (get_or items k d)) (below (get_or items k d)) (e.1 k d l m)
+        after = λ k d l m. is (get_or items k d) ∙ and_neither (upto (get_or items k d)) (below (get_or items k d)) (e.1 k d l m);
       }
 
 -- before a member, a record and an open, and up to its end

@@ -45,11 +45,11 @@ module _ {X : Type 0} {R : X → X → Ordering} (o : IsTotalOrder R) where
     filter-failed le found =
         let at : IsPartitionPoint (λ y. R y x ≡ Less) (λ y. R y x ≡ Greater) xs i = subst (λ zs. IsPartitionPoint (λ y. R y x ≡ Less) (λ y. R y x ≡ Greater) zs i) is (found (subst (IsNonDecreasingBy (λ y. ordering_index (R y x))) (sym is) (search_rises x xs s))) in
         let other : All (λ y. not (is_eq (R y x)) ≡ true) xs =
-            λ k d l.
-              elim (before_or_from k i) [
-                | inl before ↦ ap (λ r. not (is_eq r)) (at.0 k d (omega arith) before)
-                | inr from ↦ ap (λ r. not (is_eq r)) (at.1 k d from l)
-              ]
+        λ k d l.
+        elim (before_or_from k i) [
+          | inl before ↦ ap (λ r. not (is_eq r)) (at.0 k d (omega arith) before)
+          | inr from ↦ ap (λ r. not (is_eq r)) (at.1 k d from l)
+        ]
         in
         filter-all (λ y. not (is_eq (R y x))) xs (recursion_from_All _ xs other)
 

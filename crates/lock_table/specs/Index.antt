@@ -1,6 +1,6 @@
 -- How a table finds the locks of one open: the second list that it keeps, of the locks that end at a next read.
-use Rattle.std.specs.Ordering.{nat_cmp, ordering_then}
-use Rattle.std.specs.Prelude.{◌≡◌, ℕ, ◌<◌, ◌≤◌, ◌==◌, ◌&&◌, Bool, true, false, List, length, map, filter, slice_index_or}
+use Rattle.std.specs.Ordering.{is_eq, nat_cmp, ordering_then}
+use Rattle.std.specs.Prelude.{◌≡◌, ℕ, ◌<◌, ◌≤◌, ◌==◌, ◌&&◌, Bool, true, false, not, List, length, map, filter, slice_index_or}
 use Rattle.std.specs.declared.cmp.Ordering.{Ordering}
 use Rattle.lock_table.specs.declared.lock.Lock.{Lock}
 use Rattle.lock_table.specs.declared.lock.OpenLock.{OpenLock}
@@ -27,6 +27,10 @@ whole_lock part = record { member = part.member; rrn = part.rrn; job = part.job;
 -- the locks that end at a next read, by holder
 abbrev pub open_locks : List Lock → List OpenLock
 open_locks held = in_order open_cmp (map open_part (filter (λ lock. is_open lock.reach) held))
+
+-- all but this lock
+abbrev pub without_open_lock : OpenLock → List OpenLock → List OpenLock
+without_open_lock gone parts = filter (λ part. not (is_eq (open_cmp part gone))) parts
 
 -- it is of a lock of this open
 abbrev pub is_part_of : ℕ → ℕ → OpenLock → Bool

@@ -56,6 +56,20 @@ pub enum Reach {
     Boundary,
 }
 
+impl Reach {
+    ghost use Rattle.lock_table.specs.Lock.{is_open};
+
+    /// Whether the lock ends at the next read through its open.
+    pub fn is_open(self) -> bool
+        ensures { result ≡ is_open self }
+    {
+        match self {
+            Reach::Open => true,
+            Reach::Boundary => false,
+        }
+    }
+}
+
 /// A record lock.
 #[derive(Clone, Copy, PartialEq, Eq, PartialOrd, Ord)]
 pub struct Lock {

@@ -1,18 +1,20 @@
 //! Lists in strict order: where an item is put in, where it is taken out, and which run of locks a record has.
 ghost use Rattle.std.specs.List.Sorted.{IsStrictlySortedBy};
 ghost use Rattle.std.specs.Ordering.{is_eq};
+ghost use Rattle.std.specs.declared.cmp.Ordering.{Ordering};
 ghost use Rattle.std.specs.Prelude.{◌≡◌, ◌<◌, not, filter, vec_len, vec_capacity};
 ghost use Rattle.lock_table.specs.Lock.{is_in, is_on, lock_cmp};
-ghost use Rattle.lock_table.specs.Table.{with_item};
-ghost use Rattle.lock_table.specs.Index.{IsRun, is_part_of, open_cmp};
+ghost use Rattle.lock_table.specs.Table.{with_item, with_lock, without_lock};
+ghost use Rattle.lock_table.specs.Index.{IsRun, without_open_lock, is_part_of, open_cmp};
 
 use crate::lock::{Lock, OpenLock};
 
-/// Puts the item in its place, unless it is there. There is room, so no memory is taken.
-pub fn put_in<T: Ord + Drop>(items: &mut Vec<T>, item: T)
+// Puts the item in its place, unless it is there. There is room, so no memory is taken. The clause speaks of any order
+// that answers as the items' own.
+fn put_in<T: Ord + Drop>(items: &mut Vec<T>, item: T)
     requires ordered { IsStrictlySortedBy T.cmp items.old.items }
     requires room { vec_len items.old < vec_capacity items.old }
-    ensures items { items.new.items ≡ with_item T.cmp item items.old.items }
+    ensures items { (R : T → T → Ordering) → ((a b : T) → T.cmp a b ≡ R a b) → items.new.items ≡ with_item R item items.old.items }
     ensures capacity { vec_capacity items.new ≡ vec_capacity items.old }
 {
     if let Err(place) = items.binary_search(&item) {
@@ -23,15 +25,53 @@ pub fn put_in<T: Ord + Drop>(items: &mut Vec<T>, item: T)
     }
 }
 
-/// Takes the item out, where it is there.
-pub fn take_out<T: Ord + Drop>(items: &mut Vec<T>, item: &T)
+// Takes the item out, where it is there.
+fn take_out<T: Ord + Drop>(items: &mut Vec<T>, item: &T)
     requires { IsStrictlySortedBy T.cmp items.old.items }
-    ensures items { items.new.items ≡ filter (λ x. not (is_eq (T.cmp x item.now))) items.old.items }
+    ensures items { (R : T → T → Ordering) → ((a b : T) → T.cmp a b ≡ R a b) → items.new.items ≡ filter (λ x. not (is_eq (R x item.now))) items.old.items }
     ensures capacity { vec_capacity items.new ≡ vec_capacity items.old }
 {
     if let Ok(place) = items.binary_search(item) {
         items.remove(place);
     }
+}
+
+/// Puts the lock in its place, unless it is there.
+pub fn put_lock(locks: &mut Vec<Lock>, lock: Lock)
+    requires ordered { IsStrictlySortedBy lock_cmp locks.old.items }
+    requires room { vec_len locks.old < vec_capacity locks.old }
+    ensures items { locks.new.items ≡ with_lock lock locks.old.items }
+    ensures capacity { vec_capacity locks.new ≡ vec_capacity locks.old }
+{
+    put_in(locks, lock);
+}
+
+/// Takes the lock out, where it is there.
+pub fn take_lock(locks: &mut Vec<Lock>, lock: &Lock)
+    requires { IsStrictlySortedBy lock_cmp locks.old.items }
+    ensures items { locks.new.items ≡ without_lock lock.now locks.old.items }
+    ensures capacity { vec_capacity locks.new ≡ vec_capacity locks.old }
+{
+    take_out(locks, lock);
+}
+
+/// Puts the lock in its place by open, unless it is there.
+pub fn put_open_lock(locks: &mut Vec<OpenLock>, lock: OpenLock)
+    requires ordered { IsStrictlySortedBy open_cmp locks.old.items }
+    requires room { vec_len locks.old < vec_capacity locks.old }
+    ensures items { locks.new.items ≡ with_item open_cmp lock locks.old.items }
+    ensures capacity { vec_capacity locks.new ≡ vec_capacity locks.old }
+{
+    put_in(locks, lock);
+}
+
+/// Takes the lock out of its place by open, where it is there.
+pub fn take_open_lock(locks: &mut Vec<OpenLock>, lock: &OpenLock)
+    requires { IsStrictlySortedBy open_cmp locks.old.items }
+    ensures items { locks.new.items ≡ without_open_lock lock.now locks.old.items }
+    ensures capacity { vec_capacity locks.new ≡ vec_capacity locks.old }
+{
+    take_out(locks, lock);
 }
 
 /// The locks on a record, which stand side by side.

@@ -8,7 +8,9 @@ ghost use Rattle.lock_table.specs.Table.{IsTable, IsOneOf, without_lock, spare, 
 
 use crate::fault::{InUse, LockFault};
 use crate::lock::{Lock, LockKind, OpenLock, Reach};
-use crate::sorted::{locks_in, locks_of, locks_on, put_in, take_out};
+use crate::sorted::{
+    locks_in, locks_of, locks_on, put_lock, put_open_lock, take_lock, take_open_lock,
+};
 use std::alloc::Global;
 use std::marker::Model;
 
@@ -153,7 +155,7 @@ impl LockTable {
         ensures { self.new ≡ holding (freed (is_of_group job) self.old.held) self.old }
     {
         self.by_record
-            .retain(|lock| lock.job != job || lock.reach == Reach::Open);
+            .retain(|lock| lock.job != job || lock.reach.is_open());
     }
 
     /// What the job holds on a record.
@@ -167,11 +169,11 @@ impl LockTable {
         let locks = self.on_record(member, rrn);
         Held {
             by_open: locks.iter().any(|lock| {
-                lock.reach == Reach::Open && lock.job == job && lock.opened == opened
+                lock.reach.is_open() && lock.job == job && lock.opened == opened
             }),
             to_boundary: locks
                 .iter()
-                .any(|lock| lock.reach == Reach::Boundary && lock.job == job),
+                .any(|lock| !lock.reach.is_open() && lock.job == job),
         }
     }
 
@@ -182,7 +184,7 @@ impl LockTable {
     {
         let mut least = None;
         for lock in locks_in(&self.by_record, member) {
-            if lock.reach == Reach::Boundary {
+            if !lock.reach.is_open() {
                 least = Some(least.map_or(lock.job, |job: u32| job.min(lock.job)));
             }
         }
@@ -210,7 +212,7 @@ impl LockTable {
     {
         self.on_record(member, rrn)
             .iter()
-            .find(|lock| { lock.reach == Reach::Open && lock.job == job && lock.opened == opened })
+            .find(|lock| { lock.reach.is_open() && lock.job == job && lock.opened == opened })
             .copied()
     }
 
@@ -220,7 +222,7 @@ impl LockTable {
     {
         self.on_record(member, rrn)
             .iter()
-            .find(|lock| lock.reach == Reach::Open && lock.job == job)
+            .find(|lock| lock.reach.is_open() && lock.job == job)
             .copied()
     }
 
@@ -233,8 +235,8 @@ impl LockTable {
         ensures room { 1 ≤ spare self.new }
         ensures alone { All (λ other. Clashes lock other → ⊥) self.new.held }
     {
-        take_out(&mut self.by_record, &lock);
-        take_out(&mut self.by_open, &lock.open_part());
+        take_lock(&mut self.by_record, &lock);
+        take_open_lock(&mut self.by_open, &lock.open_part());
     }
 
     // Puts a lock that clashes with none into the list by record, and into the list by open where it ends at a read.
@@ -243,9 +245,9 @@ impl LockTable {
         requires alone { All (λ other. Clashes lock other → ⊥) self.old.held }
         ensures { self.new ≡ holding (with_lock lock self.old.held) self.old }
     {
-        put_in(&mut self.by_record, lock);
-        if lock.reach == Reach::Open {
-            put_in(&mut self.by_open, lock.open_part());
+        put_lock(&mut self.by_record, lock);
+        if lock.reach.is_open() {
+            put_open_lock(&mut self.by_open, lock.open_part());
         }
     }
 }

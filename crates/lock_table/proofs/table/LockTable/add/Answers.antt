@@ -1,0 +1,1 @@
+use Rattle.lock_table.proofs.table.LockTable.add.Goals as goal
