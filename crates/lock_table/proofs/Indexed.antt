@@ -5,7 +5,7 @@ use Rattle.std.specs.List.Sorted.{IsStrictlySortedBy}
 use Rattle.std.specs.Ordering.{is_eq}
 use Rattle.std.specs.declared.cmp.Ordering.{Ordering}
 use Rattle.std.specs.declared.cmp.Ordering.TheVariants.{Less, Equal, Greater}
-use Rattle.std.proofs.lemmas.List.Elements.{recursion_from_All}
+use Rattle.std.proofs.lemmas.List.Elements.{All-nil}
 use Rattle.std.proofs.lemmas.Cmp.{tied_itself}
 use Rattle.lock_table.specs.declared.lock.Reach.{Reach}
 use Rattle.lock_table.specs.declared.lock.Reach.TheVariants.{Open, Boundary}
@@ -114,3 +114,14 @@ module _ (held : List Lock) (by_open : List OpenLock) (room capacity open_capaci
     record_room = rw c h.record_room;
     open_room = h.open_room;
   }
+
+pub IsIndexed-empty : (held : List Lock) (by_open : List OpenLock) (capacity open_capacity : ℕ) → held ≡ [] → by_open ≡ [] → IsIndexed held by_open 0 capacity open_capacity
+unfolding IsStrictlySortedBy
+IsIndexed-empty held by_open capacity open_capacity none no_open =
+    rw (none, no_open)
+    (record {
+       table = record { ordered = tt; compatible = All-nil _; fits = omega arith; within = omega arith };
+       indexed = refl;
+       record_room = omega arith;
+       open_room = omega arith
+     })

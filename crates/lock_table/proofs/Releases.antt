@@ -118,3 +118,11 @@ IsTable-with_lock lock held room t fits alone = record {
   fits = fits;
   within = t.within;
 }
+
+-- ---- what is left when a lock has gone
+module _ (lock : Lock) (held : List Lock) (room : ℕ) (t : IsTable (record { held = held; room = room })) (c : Contains held lock) where
+  pub spare-without_lock : 1 ≤ room - length (without_lock lock held)
+  spare-without_lock = let fewer : length (without_lock lock held) < length held = length-without_lock lock held c in omega (arith, t.fits)
+
+  pub alone-without_lock : All (λ other. Clashes lock other → ⊥) (without_lock lock held)
+  alone-without_lock = All-filter (λ l. not (is_eq (lock_cmp l lock))) (λ other. Clashes lock other → ⊥) held (All-contains (λ a. All (λ b. Clashes a b → ⊥) held) held lock t.compatible c)

@@ -1,37 +1,39 @@
 -- Both lists lose the lock.
-use Rattle.std.proofs.Common.{◌≡◌, ◌<◌, ◌≤◌, List, length, rules, subst, sym, ap, ◌∙◌, arith}
+use Rattle.std.proofs.Common.{◌≡◌, ◌<◌, ◌≤◌, List, length, refl, subst, sym, ap, ◌∙◌, arith}
 use Rattle.std.specs.List.{All, Contains}
 use Rattle.std.specs.Ordering.{is_eq}
 use Rattle.std.proofs.lemmas.List.Elements.{All-filter, All-contains}
 use Rattle.lock_table.specs.declared.lock.Lock.{Lock}
 use Rattle.lock_table.specs.Lock.{Clashes, lock_cmp}
-use Rattle.lock_table.specs.Table.{Locks, spare, without_lock}
-use Rattle.lock_table.specs.Index.{open_part}
+use Rattle.lock_table.specs.Table.{Locks, spare, holding, without_lock}
+use Rattle.lock_table.specs.Index.{open_part, without_open_lock}
 use Rattle.lock_table.proofs.Indexed.{open_ordered, IsIndexed-free}
-use Rattle.lock_table.proofs.Orders.{IsStrictlySortedBy-alike, filter-alike}
-use Rattle.lock_table.proofs.Releases.{length-without_lock}
+use Rattle.lock_table.proofs.Releases.{length-without_lock, spare-without_lock, alone-without_lock}
 use Rattle.lock_table.proofs.table.LockTable.free.Goals as goal
 
-pub take_out-requires : goal.take_out-requires
-take_out-requires c = IsStrictlySortedBy-alike (λ a b. search rules) _ c.self.invariant.table.ordered
+pub take_lock-requires : goal.take_lock-requires
+take_lock-requires c = c.self.invariant.table.ordered
 
-pub take_out-requires-2 : goal.take_out-requires-2
-take_out-requires-2 c = open_ordered _ _ _ _ _ c.self.invariant
+pub take_open_lock-requires : goal.take_open_lock-requires
+take_open_lock-requires c = open_ordered _ _ _ _ _ c.self.invariant
 
 pub invariant_of-self : goal.invariant_of-self
 invariant_of-self c =
-    IsIndexed-free _ _ _ _ _ c.self.invariant _ _ _ _ c.args.lock c.take_out.ensures.capacity c.take_out-2.ensures.capacity c.requires.ends
-    (c.take_out.ensures.items ∙ filter-alike (λ a b. search rules) c.args.lock c.self.inside.by_record.items)
-    ?
+    IsIndexed-free _ _ _ _ _ c.self.invariant _ _ _ _ c.args.lock c.take_lock.ensures.capacity c.take_open_lock.ensures.capacity c.requires.ends
+    c.take_lock.ensures.items
+    (c.take_open_lock.ensures.items ∙ ap (λ part. without_open_lock part c.self.inside.by_open.items) c.open_part.ensures)
 
 pub returns-clause-held : goal.returns-clause-held
-returns-clause-held c = ?
+returns-clause-held c = rw (c.take_lock.ensures.items, ← c.self.view_is) refl
+
+there : (t u : Locks) (lock : Lock) → t ≡ u → Contains u.held lock → Contains t.held lock
+there t u lock e h = subst (λ v. Contains v.held lock) (sym e) h
 
 pub returns-clause-fewer : goal.returns-clause-fewer
-returns-clause-fewer c = ?
+returns-clause-fewer c = rw (c.take_lock.ensures.items, ← c.self.view_is) (length-without_lock c.args.lock c.self.inside.by_record.items (there _ _ c.args.lock c.self.view_is c.requires.there))
 
 pub returns-clause-room : goal.returns-clause-room
-returns-clause-room c = ?
+returns-clause-room c = rw (c.take_lock.ensures.items) (spare-without_lock c.args.lock c.self.inside.by_record.items c.self.inside.room c.self.invariant.table (there _ _ c.args.lock c.self.view_is c.requires.there))
 
 pub returns-clause-alone : goal.returns-clause-alone
-returns-clause-alone c = ?
+returns-clause-alone c = rw (c.take_lock.ensures.items) (alone-without_lock c.args.lock c.self.inside.by_record.items c.self.inside.room c.self.invariant.table (there _ _ c.args.lock c.self.view_is c.requires.there))

@@ -1,4 +1,4 @@
-use Rattle.std.proofs.Common.{not, rules, sym, ap, ◌∙◌}
+use Rattle.std.proofs.Common.{not, rules, sym, ap, refl, ◌∙◌}
 use Rattle.std.proofs.lemmas.Fn.{filter_same}
 use Rattle.lock_table.specs.Lock.{is_of_group}
 use Rattle.lock_table.specs.Table.{freed}
@@ -9,4 +9,4 @@ pub invariant_of-self : goal.invariant_of-self
 invariant_of-self c = IsIndexed-release_group _ _ _ _ _ c.self.invariant c.args.job _ _ c.retain.ensures.capacity (filter_same _ (λ l. not (is_of_group c.args.job l)) _ (λ x b f' k. search rules) _ _ c.retain.ensures.filtered)
 
 pub returns : goal.returns
-returns c = ?
+returns c = rw (filter_same _ (λ l. not (is_of_group c.args.job l)) _ (λ x b f' k. search rules) _ _ c.retain.ensures.filtered, ← c.self.view_is) refl
