@@ -111,7 +111,7 @@ module _ {X : Type 0} {R : X → X → Ordering} (o : IsTotalOrder R) where
           | Greater ↦ λ e. sym (swap_below y x (Less-back x y e) xs)
         ] refl
 
-each-filter : {X : Type 0} (P : X → Type 0) (p : X → Bool) (xs : List X) → AllByRecursion P xs → AllByRecursion P (filter p xs)
+pub each-filter : {X : Type 0} (P : X → Type 0) (p : X → Bool) (xs : List X) → AllByRecursion P xs → AllByRecursion P (filter p xs)
 each-filter P p [] h = tt
 each-filter P p (x ∷ xs) h = elim (p x) as (λ b. AllByRecursion P (cond b (x ∷ filter p xs) (filter p xs))) [ true ↦ (h.0, each-filter P p xs h.1) | false ↦ each-filter P p xs h.1 ]
 

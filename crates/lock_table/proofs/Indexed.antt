@@ -120,8 +120,8 @@ unfolding IsStrictlySortedBy
 IsIndexed-empty held by_open capacity open_capacity none no_open =
     rw (none, no_open)
     (record {
-       table = record { ordered = tt; compatible = All-nil _; fits = omega arith; within = omega arith };
-       indexed = refl;
-       record_room = omega arith;
-       open_room = omega arith
-     })
+      table = record { ordered = tt; compatible = All-nil _; fits = omega arith; within = omega arith };
+      indexed = refl;
+      record_room = omega arith;
+      open_room = omega arith;
+    })

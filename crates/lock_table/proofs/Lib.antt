@@ -6,3 +6,4 @@ pub mod Runs
 pub mod Releases
 pub mod Indexed
 pub mod Orders
+pub mod Found

@@ -41,8 +41,18 @@ freed-without_lock gone lock held h = filter-wider (λ l. not (gone l)) (λ l. n
 pub freed-none : (gone : Lock → Bool) (held : List Lock) → filter gone held ≡ [] → freed gone held ≡ held
 freed-none gone held h = filter-contrary gone held h
 
+and_false : (b : Bool) → (b && false) ≡ false
+and_false true = refl
+and_false false = refl
+
 -- ---- one of the open's locks is kept to the boundary
 module _ (job opened member rrn : ℕ) where
+  bound_is_out : (lock : Lock) → is_of_open_on job opened member rrn (bound lock) ≡ false
+  bound_is_out lock = and_false (is_on member rrn (bound lock))
+
+  bound_stays : (lock : Lock) → kept job opened member rrn (bound lock) ≡ bound lock
+  bound_stays lock = ap (λ b. cond b (bound (bound lock)) (bound lock)) (bound_is_out lock)
+
   kept-cons : (lock : Lock) (held : List Lock) → kept_to_boundary job opened member rrn (lock ∷ held) ≡ with_lock (kept job opened member rrn lock) (kept_to_boundary job opened member rrn held)
   kept-cons lock held = refl
 
@@ -57,6 +67,7 @@ module _ (job opened member rrn : ℕ) where
   kept-step lock held s c h =
       let e : kept job opened member rrn lock ≡ bound lock = ap (λ b. cond b (bound lock) lock) h in
       kept-with_lock (bound lock) (without_lock lock held)
+      ∙ ap (λ l. with_lock l (kept_to_boundary job opened member rrn (without_lock lock held))) (bound_stays lock)
       ∙ ap (λ l. with_lock l (kept_to_boundary job opened member rrn (without_lock lock held))) (sym e)
       ∙ sym (kept-with_lock lock (without_lock lock held))
       ∙ ap (kept_to_boundary job opened member rrn) (with_item-filter lock_cmp-total lock held c.0 s c.1 c.2)
@@ -68,7 +79,7 @@ module _ (job opened member rrn : ℕ) where
   kept-falls lock held s c h =
       let t : Lock → Bool = is_of_open_on job opened member rrn in
       let q : Lock → Bool = λ l. not (is_eq (lock_cmp l lock)) in
-      let one : filter (is_of_open_on job opened member rrn) (with_lock (bound lock) (without_lock lock held)) ≡ filter (is_of_open_on job opened member rrn) (without_lock lock held) = filter-with_item lock_cmp-total lock_cmp-same (is_of_open_on job opened member rrn) (bound lock) (without_lock lock held) (IsStrictlySortedBy-filter lock_cmp (λ l. not (is_eq (lock_cmp l lock))) held s) in
+      let one : filter (is_of_open_on job opened member rrn) (with_lock (bound lock) (without_lock lock held)) ≡ filter (is_of_open_on job opened member rrn) (without_lock lock held) = filter-with_item lock_cmp-total lock_cmp-same (is_of_open_on job opened member rrn) (bound lock) (without_lock lock held) (IsStrictlySortedBy-filter lock_cmp (λ l. not (is_eq (lock_cmp l lock))) held s) ∙ ap (λ b. cond b (with_lock (bound lock) (filter (is_of_open_on job opened member rrn) (without_lock lock held))) (filter (is_of_open_on job opened member rrn) (without_lock lock held))) (bound_is_out lock) in
       let two : filter (is_of_open_on job opened member rrn) (without_lock lock held) ≡ without_lock lock (filter (is_of_open_on job opened member rrn) held) = filter-swap (is_of_open_on job opened member rrn) (λ l. not (is_eq (lock_cmp l lock))) held in
       rw (one, two) (length-without_lock lock (filter (is_of_open_on job opened member rrn) held) (filter-has (is_of_open_on job opened member rrn) lock held c h))
 

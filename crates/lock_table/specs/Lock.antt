@@ -33,9 +33,13 @@ is_in member lock = lock.member == member
 abbrev pub is_on : ℕ → ℕ → Lock → Bool
 is_on member rrn lock = (lock.member == member) && (lock.rrn == rrn)
 
--- a lock of another job on this record, where one of the two kinds is UPDATE
+-- a lock of another job, where one of the two kinds is UPDATE
+abbrev pub is_against : ℕ → LockKind → Lock → Bool
+is_against job kind lock = not (lock.job == job) && (is_update lock.kind || is_update kind)
+
+-- such a lock on this record
 abbrev pub blocks : ℕ → ℕ → ℕ → LockKind → Lock → Bool
-blocks job member rrn kind lock = is_on member rrn lock && (not (lock.job == job) && (is_update lock.kind || is_update kind))
+blocks job member rrn kind lock = is_on member rrn lock && is_against job kind lock
 
 -- two locks that may not be held together
 abbrev pub Clashes : Lock → Lock → Type 0
@@ -45,17 +49,29 @@ Clashes a b = IsTrue (blocks a.job a.member a.rrn a.kind b)
 abbrev pub is_of_open : ℕ → ℕ → Lock → Bool
 is_of_open job opened lock = is_open lock.reach && ((lock.job == job) && (lock.opened == opened))
 
--- a lock of this open on this record that ends at its next read
+-- such a lock on this record
 abbrev pub is_of_open_on : ℕ → ℕ → ℕ → ℕ → Lock → Bool
-is_of_open_on job opened member rrn lock = is_of_open job opened lock && is_on member rrn lock
+is_of_open_on job opened member rrn lock = is_on member rrn lock && is_of_open job opened lock
 
--- a lock on this record, of any open of the job, that ends at that open's next read
+-- a lock of any open of the job that ends at that open's next read
+abbrev pub is_of_job : ℕ → Lock → Bool
+is_of_job job lock = is_open lock.reach && (lock.job == job)
+
+-- such a lock on this record
 abbrev pub is_of_record : ℕ → ℕ → ℕ → Lock → Bool
-is_of_record job member rrn lock = is_open lock.reach && ((lock.job == job) && is_on member rrn lock)
+is_of_record job member rrn lock = is_on member rrn lock && is_of_job job lock
 
 -- a lock that the job keeps to its boundary
 abbrev pub is_of_group : ℕ → Lock → Bool
 is_of_group job lock = not (is_open lock.reach) && (lock.job == job)
+
+-- such a lock on this record
+abbrev pub is_of_group_on : ℕ → ℕ → ℕ → Lock → Bool
+is_of_group_on job member rrn lock = is_on member rrn lock && is_of_group job lock
+
+-- a lock on a record of this member that some job keeps to its boundary
+abbrev pub is_boundary_in : ℕ → Lock → Bool
+is_boundary_in member lock = is_in member lock && not (is_open lock.reach)
 
 -- the same lock, kept to the boundary
 abbrev pub bound : Lock → Lock

@@ -8,7 +8,7 @@ use Rattle.std.specs.Option.{option_map_or}
 use Rattle.lock_table.specs.declared.lock.LockKind.{LockKind}
 use Rattle.lock_table.specs.declared.lock.Lock.{Lock}
 use Rattle.lock_table.specs.declared.lock.Reach.TheVariants.{Open, Boundary}
-use Rattle.lock_table.specs.Lock.{blocks, Clashes, is_open, is_of_open, is_of_open_on, is_of_record, is_of_group, is_in, is_on, bound, lock_cmp}
+use Rattle.lock_table.specs.Lock.{blocks, Clashes, is_of_open_on, bound, lock_cmp}
 
 -- the locks that are held, each once and in order, and how many may be held without more memory
 pub record Locks : Type 0 where
@@ -84,7 +84,3 @@ reserved more t = record { held = t.held; room = max t.room (length t.held + mor
 -- the lock that a request puts on a record
 abbrev pub asked_lock : ℕ → ℕ → ℕ → ℕ → LockKind → Lock
 asked_lock job opened member rrn kind = record { member = member; rrn = rrn; job = job; opened = opened; kind = kind; reach = Open }
-
--- a lock on a record of the member that some job keeps to its boundary
-abbrev pub is_boundary_in : ℕ → Lock → Bool
-is_boundary_in member lock = is_in member lock && not (is_open lock.reach)

@@ -1,6 +1,7 @@
 //! The record locks of all jobs.
 #![tactic(auto)]
 
+mod chosen;
 mod fault;
 mod levels;
 mod lock;

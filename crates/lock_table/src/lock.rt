@@ -93,7 +93,7 @@ pub struct OpenLock {
 }
 
 impl Lock {
-    ghost use Rattle.lock_table.specs.Lock.{bound};
+    ghost use Rattle.lock_table.specs.Lock.{bound, is_against, is_of_group, is_of_job, is_of_open};
     ghost use Rattle.lock_table.specs.Index.{open_part};
 
     /// The same lock, kept to the boundary.
@@ -104,6 +104,34 @@ impl Lock {
             reach: Reach::Boundary,
             ..*self
         }
+    }
+
+    /// Whether a lock of this kind by this job clashes with it on one record.
+    pub fn is_against(&self, job: u32, kind: LockKind) -> bool
+        ensures { result ≡ is_against job kind self.now }
+    {
+        self.job != job && self.kind.clashes_with(kind)
+    }
+
+    /// Whether it ends at the next read through this open.
+    pub fn is_of_open(&self, job: u32, opened: u32) -> bool
+        ensures { result ≡ is_of_open job opened self.now }
+    {
+        self.reach.is_open() && self.job == job && self.opened == opened
+    }
+
+    /// Whether it ends at the next read through some open of the job.
+    pub fn is_of_job(&self, job: u32) -> bool
+        ensures { result ≡ is_of_job job self.now }
+    {
+        self.reach.is_open() && self.job == job
+    }
+
+    /// Whether the job keeps it to its boundary.
+    pub fn is_of_group(&self, job: u32) -> bool
+        ensures { result ≡ is_of_group job self.now }
+    {
+        !self.reach.is_open() && self.job == job
     }
 
     /// The lock without its reach.

@@ -3,9 +3,12 @@
 //! lists are in sorted.rt.
 ghost use Rattle.std.specs.List.{All, Contains, list_any};
 ghost use Rattle.std.specs.Prelude.{true, ◌≡◌, ℕ, ◌+◌, ◌<◌, ◌≤◌, ◌&&◌, ◌↔◌, IsOk, IsErrOf, OnOk, OnErr, IfSome, IfNone, Some, None, Err, [], length, filter};
-ghost use Rattle.lock_table.specs.Lock.{Clashes, is_open, is_on, is_of_open, is_of_open_on, is_of_record, is_of_group};
-ghost use Rattle.lock_table.specs.Table.{IsTable, IsOneOf, without_lock, spare, holding, reserved, with_lock, asked_lock, blocker, least_job, kept_to_boundary, freed, is_boundary_in};
+ghost use Rattle.lock_table.specs.Lock.{Clashes, is_open, is_on, is_of_open, is_of_open_on, is_of_record, is_of_group, is_of_group_on, is_boundary_in};
+ghost use Rattle.lock_table.specs.Table.{IsTable, IsOneOf, without_lock, spare, holding, reserved, with_lock, asked_lock, blocker, least_job, kept_to_boundary, freed};
 
+use crate::chosen::{
+    least_job_to_boundary, lock_against, lock_of_group, lock_of_job, lock_of_open,
+};
 use crate::fault::{InUse, LockFault};
 use crate::lock::{Lock, LockKind, OpenLock, Reach};
 use crate::sorted::{
@@ -83,10 +86,8 @@ impl LockTable {
     pub fn clash(&self, job: u32, member: u32, rrn: u32, kind: LockKind) -> Option<u32>
         ensures { result ≡ blocker job member rrn kind self.now.held }
     {
-        self.on_record(member, rrn)
-            .iter()
-            .find(|lock| lock.job != job && lock.kind.clashes_with(kind))
-            .map(|lock| lock.job)
+        let lock = lock_against(self.on_record(member, rrn), job, kind)?;
+        Some(lock.job)
     }
 
     /// Locks a record for this open of the job, to its next read.
@@ -154,26 +155,21 @@ impl LockTable {
     pub fn release_group(&mut self, job: u32)
         ensures { self.new ≡ holding (freed (is_of_group job) self.old.held) self.old }
     {
-        self.by_record
-            .retain(|lock| lock.job != job || lock.reach.is_open());
+        self.by_record.retain(|lock| !lock.is_of_group(job));
     }
 
     /// What the job holds on a record.
     pub fn held(&self, job: u32, opened: u32, member: u32, rrn: u32) -> Held
-        ensures by_open { result.by_open ≡ list_any (λ lock. is_of_open job opened lock && is_on member rrn lock) self.now.held }
-        ensures to_boundary { result.to_boundary ≡ list_any (λ lock. is_of_group job lock && is_on member rrn lock) self.now.held }
+        ensures by_open { result.by_open ≡ list_any (is_of_open_on job opened member rrn) self.now.held }
+        ensures to_boundary { result.to_boundary ≡ list_any (is_of_group_on job member rrn) self.now.held }
 
         // No two locks that are held clash, and no more than the most are held.
         ensures table { IsTable self.now }
     {
         let locks = self.on_record(member, rrn);
         Held {
-            by_open: locks.iter().any(|lock| {
-                lock.reach.is_open() && lock.job == job && lock.opened == opened
-            }),
-            to_boundary: locks
-                .iter()
-                .any(|lock| !lock.reach.is_open() && lock.job == job),
+            by_open: lock_of_open(locks, job, opened).is_some(),
+            to_boundary: lock_of_group(locks, job).is_some(),
         }
     }
 
@@ -182,13 +178,7 @@ impl LockTable {
     pub fn boundary_in(&self, member: u32) -> Option<u32>
         ensures { result ≡ least_job (filter (is_boundary_in member) self.now.held) }
     {
-        let mut least = None;
-        for lock in locks_in(&self.by_record, member) {
-            if !lock.reach.is_open() {
-                least = Some(least.map_or(lock.job, |job: u32| job.min(lock.job)));
-            }
-        }
-        least
+        least_job_to_boundary(locks_in(&self.by_record, member))
     }
 
     fn on_record(&self, member: u32, rrn: u32) -> &[Lock]
@@ -210,20 +200,14 @@ impl LockTable {
         ensures some { IfSome result (λ lock. IsOneOf (is_of_open_on job opened member rrn) lock self.now.held) }
         ensures none { IfNone result (filter (is_of_open_on job opened member rrn) self.now.held ≡ []) }
     {
-        self.on_record(member, rrn)
-            .iter()
-            .find(|lock| { lock.reach.is_open() && lock.job == job && lock.opened == opened })
-            .copied()
+        lock_of_open(self.on_record(member, rrn), job, opened).copied()
     }
 
     fn job_lock_on(&self, job: u32, member: u32, rrn: u32) -> Option<Lock>
         ensures some { IfSome result (λ lock. IsOneOf (is_of_record job member rrn) lock self.now.held) }
         ensures none { IfNone result (filter (is_of_record job member rrn) self.now.held ≡ []) }
     {
-        self.on_record(member, rrn)
-            .iter()
-            .find(|lock| lock.reach.is_open() && lock.job == job)
-            .copied()
+        lock_of_job(self.on_record(member, rrn), job).copied()
     }
 
     // Takes a lock that is held out of both lists.

@@ -30,7 +30,7 @@ invariant_of-self c =
     IsIndexed-add _ _ _ _ _ c.self.invariant _ _ _ _ c.args.lock c.put_lock.ensures.capacity c.put_open_lock.ensures.capacity
     (room_left _ _ c.self.view_is c.requires.room) (alone _ _ c.args.lock c.self.view_is c.requires.alone) c.put_lock.ensures.items
     (c.put_open_lock.ensures.items ∙ ap (λ part. with_item open_cmp part c.self.inside.by_open.items) c.open_part.ensures
-     ∙ ap (λ b. cond b (with_item open_cmp (open_part c.args.lock) c.self.inside.by_open.items) c.self.inside.by_open.items) c.if-is_open.ensures)
+    ∙ ap (λ b. cond b (with_item open_cmp (open_part c.args.lock) c.self.inside.by_open.items) c.self.inside.by_open.items) c.if-is_open.ensures)
 
 pub invariant_of-self-else-is_open : goal.invariant_of-self-else-is_open
 invariant_of-self-else-is_open c =
