@@ -1,20 +1,26 @@
 -- What is found among the locks of a record, and which job is the least.
-use Rattle.std.proofs.Common.{◌≡◌, ℕ, ◌+◌, ◌<◌, ◌≤◌, Bool, true, false, not, ◌&&◌, ◌||◌, ◌==◌, cond, min, Option, None, Some, is_some, List, [], ◌∷◌, ◌++◌, length, get_or, take, refl, sym, ap, ◌∙◌, zero, suc, arith, subst}
-use Rattle.std.specs.List.{filter, find, All, AllByRecursion, Contains, list_any}
+use Rattle.std.proofs.Common.{◌-◌, map, Bor, append-nil, ◌≡◌, ℕ, ◌+◌, ◌<◌, ◌≤◌, Bool, true, false, not, ◌&&◌, ◌||◌, ◌==◌, cond, min, Option, None, Some, is_some, List, [], ◌∷◌, ◌++◌, length, get_or, take, refl, sym, ap, ◌∙◌, zero, suc, arith, subst}
+use Rattle.std.specs.Prelude.{IfSome, IfNone}
+use Rattle.std.specs.List.{slice_get, filter, find, All, AllByRecursion, Contains, list_any}
 use Rattle.std.specs.List.Sorted.{IsStrictlySortedBy}
 use Rattle.std.specs.Option.{option_map, option_map_or, option_copied}
 use Rattle.std.specs.Ordering.{nat_cmp, ordering_then}
 use Rattle.std.specs.declared.cmp.Ordering.{Ordering}
 use Rattle.std.specs.declared.cmp.Ordering.TheVariants.{Less}
 use Rattle.std.proofs.lemmas.Bool.Decides.{nat_tests}
-use Rattle.std.proofs.lemmas.List.Elements.{recursion_from_All, filter_passes}
+use Rattle.std.proofs.lemmas.List.Elements.{recursion_from_All, All-from_recursion, All-weaker, All-filter, All-map, All-contains, All-contains_itself, filter_passes, filter_more}
+use Rattle.std.proofs.lemmas.Option.{slice_get_within, slice_get-get_or, get_or_from_slice_get}
 use Rattle.std.proofs.lemmas.List.Kept.{IsStrictlySortedBy-filter}
 use Rattle.lock_table.specs.declared.lock.LockKind.{LockKind}
 use Rattle.lock_table.specs.declared.lock.Lock.{Lock}
-use Rattle.lock_table.specs.Lock.{is_on, is_against, lock_cmp}
+use Rattle.lock_table.specs.Lock.{Clashes, blocks, is_on, is_open, is_of_open, is_against, lock_cmp}
 use Rattle.lock_table.specs.Table.{IsOneOf, least_job, blocker}
+use Rattle.lock_table.specs.declared.lock.OpenLock.{OpenLock}
+use Rattle.lock_table.specs.Index.{is_part_of, open_cmp, open_locks, open_part, whole_lock}
 use Rattle.lock_table.proofs.InOrder.{each-filter}
-use Rattle.lock_table.proofs.Kept.{filter-filter, filter-none}
+use Rattle.lock_table.proofs.Indexed.{whole_lock-open_part}
+use Rattle.lock_table.proofs.Locks.{open_cmp-same}
+use Rattle.lock_table.proofs.Kept.{filter-filter, filter-none, none-filter, list_any-filter, list_any-map, list_any-in_order, All-in_order}
 
 module _ {X : Type 0} where
   pub find-filter : (q t : X → Bool) (xs : List X) → find t (filter q xs) ≡ find (λ x. q x && t x) xs
@@ -86,4 +92,87 @@ pub least_job-push : (locks : List Lock) (lock : Lock) → least_job (locks ++ l
 least_job-push [] lock = refl
 least_job-push (first ∷ locks) lock = ap (λ r. Some (option_map_or (min first.job) r first.job)) (least_job-push locks lock) ∙ ap Some (lesser_of first.job lock.job (least_job locks))
 
--- nobody blocks where no lock is against the request
+-- the answer of a look for what blocks
+pub blocker-run : (job member rrn : ℕ) (kind : LockKind) (held locks : List Lock) (found : Option Lock) → IsStrictlySortedBy lock_cmp held → locks ≡ filter (is_on member rrn) held → found ≡ find (is_against job kind) locks → option_map (λ (l : Lock). l.job) found ≡ blocker job member rrn kind held
+blocker-run job member rrn kind held locks found s run f = ap (option_map (λ (l : Lock). l.job)) (f ∙ ap (find (is_against job kind)) run) ∙ sym (blocker-found job member rrn kind held s)
+
+-- nobody blocks: no lock clashes
+none_least : (locks : List Lock) → least_job locks ≡ None → locks ≡ []
+none_least [] h = refl
+none_least (lock ∷ locks) h = absurd (cc)
+
+each_out : (t : Lock → Bool) (held : List Lock) → filter t held ≡ [] → AllByRecursion (λ l. t l ≡ true → ⊥) held
+each_out t [] h = tt
+each_out t (lock ∷ held) none =
+    elim (t lock) as (λ b. t lock ≡ b → cond b (lock ∷ filter t held) (filter t held) ≡ [] → AllByRecursion (λ l. t l ≡ true → ⊥) (lock ∷ held)) [
+      | true ↦ λ e h. absurd (cc)
+      | false ↦ λ e h. (λ k. absurd (cc), each_out t held h)
+    ] refl none
+
+pub alone-from_blocker : (lock : Lock) (held : List Lock) → blocker lock.job lock.member lock.rrn lock.kind held ≡ None → All (λ other. Clashes lock other → ⊥) held
+alone-from_blocker lock held h =
+    All-weaker (λ l. blocks lock.job lock.member lock.rrn lock.kind l ≡ true → ⊥) (λ other. Clashes lock other → ⊥) (λ l f k. f k) held
+    (All-from_recursion _ held (each_out (blocks lock.job lock.member lock.rrn lock.kind) held (none_least _ h)))
+
+-- ---- the locks of an open
+whole_held : (held : List Lock) → All (λ part. Contains held (whole_lock part)) (open_locks held)
+whole_held held =
+    let ends : All (λ l. is_open l.reach ≡ true) (filter (λ l. is_open l.reach) held) = filter_passes (λ l. is_open l.reach) held in
+    let itself : All (Contains held) (filter (λ l. is_open l.reach) held) = All-filter (λ l. is_open l.reach) (Contains held) held (All-contains_itself held) in
+    All-in_order open_cmp (λ part. Contains held (whole_lock part)) (map open_part (filter (λ l. is_open l.reach) held))
+    (All-map (λ part. Contains held (whole_lock part)) open_part (filter (λ l. is_open l.reach) held)
+     (λ k d l. subst (Contains held) (sym (whole_lock-open_part _ (ends k d l))) (itself k d l)))
+
+module _ (job opened : ℕ) (held : List Lock) (run : List OpenLock) (is : run ≡ filter (is_part_of job opened) (open_locks held)) where
+  pub IsOneOf-open : (part : OpenLock) → slice_get run (length run - 1) ≡ Some part → IsOneOf (is_of_open job opened) (whole_lock part) held
+  IsOneOf-open part h =
+      let within : length run - 1 < length run = slice_get_within run (length run - 1) part h in
+      let there : Contains run part = (length run - 1, within, get_or_from_slice_get run (length run - 1) part part h) in
+      record {
+        there = All-contains (λ p. Contains held (whole_lock p)) run part (subst (All (λ p. Contains held (whole_lock p))) (sym is) (All-filter (is_part_of job opened) (λ p. Contains held (whole_lock p)) (open_locks held) (whole_held held))) there;
+        passes = All-contains (λ p. is_part_of job opened p ≡ true) run part (subst (All (λ p. is_part_of job opened p ≡ true)) (sym is) (filter_passes (is_part_of job opened) (open_locks held))) there
+      }
+
+  empty_run : (xs : List OpenLock) → slice_get xs (length xs - 1) ≡ None → xs ≡ []
+  empty_run [] h = refl
+  empty_run (x ∷ xs) h = absurd (let e : slice_get (x ∷ xs) (length (x ∷ xs) - 1) ≡ Some (get_or (x ∷ xs) (length (x ∷ xs) - 1) x) = slice_get-get_or (x ∷ xs) (length (x ∷ xs) - 1) x (omega arith) in cc)
+
+  pub none_of_open : slice_get run (length run - 1) ≡ None → filter (is_of_open job opened) held ≡ []
+  none_of_open h =
+      filter-none (is_of_open job opened) held
+      (sym (list_any-filter (λ l. is_open l.reach) (λ l. is_part_of job opened (open_part l)) held)
+       ∙ sym (list_any-map (is_part_of job opened) open_part (filter (λ l. is_open l.reach) held))
+       ∙ sym (list_any-in_order open_cmp open_cmp-same (is_part_of job opened) (map open_part (filter (λ l. is_open l.reach) held)))
+       ∙ none-filter (is_part_of job opened) (open_locks held) (sym is ∙ empty_run run h))
+
+some_copied : {X : Type 0} (found : Option (Bor X)) → is_some found ≡ is_some (option_copied found)
+some_copied None = refl
+some_copied (Some x) = refl
+
+-- ---- what a look among the locks of a record answers
+module _ (q t : Lock → Bool) (held locks : List Lock) where
+  pub any-run : (found : Option (Bor Lock)) → locks ≡ filter q held → option_copied found ≡ find t locks → is_some found ≡ list_any (λ l. q l && t l) held
+  any-run found run h = some_copied found ∙ ap is_some (h ∙ ap (find t) run) ∙ is_some-find t (filter q held) ∙ list_any-filter q t held
+
+  module _ (found : Option Lock) (run : locks ≡ filter q held) (h : found ≡ find t locks) where
+    pub run-some : IfSome found (λ lock. IsOneOf (λ l. q l && t l) lock held)
+    run-some = some found refl
+      where
+      some : (o : Option Lock) → o ≡ found → IfSome o (λ lock. IsOneOf (λ l. q l && t l) lock held)
+      some None e = tt
+      some (Some lock) e = IsOneOf-found q t held lock (sym (e ∙ h ∙ ap (find t) run))
+
+    pub run-none : IfNone found (filter (λ l. q l && t l) held ≡ [])
+    run-none = none found refl
+      where
+      none : (o : Option Lock) → o ≡ found → IfNone o (filter (λ l. q l && t l) held ≡ [])
+      none None e = none-found q t held (sym (e ∙ h ∙ ap (find t) run))
+      none (Some lock) e = tt
+
+-- ---- one lock more is looked at
+more : (t : Lock → Bool) (seen : List Lock) (lock : Lock) (least : Option ℕ) → least ≡ least_job seen → (b : Bool) → least_job (seen ++ cond b (lock ∷ []) []) ≡ cond b (Some (option_map_or (λ j. min j lock.job) least lock.job)) least
+more t seen lock least is true = least_job-push seen lock ∙ ap (λ r. Some (option_map_or (λ j. min j lock.job) r lock.job)) (sym is)
+more t seen lock least is false = ap least_job (append-nil seen) ∙ sym is
+
+pub least_job-more : (t : Lock → Bool) (locks : List Lock) (i : ℕ) (d : Lock) (least : Option ℕ) → i < length locks → least ≡ least_job (filter t (take i locks)) → cond (t (get_or locks i d)) (Some (option_map_or (λ j. min j (get_or locks i d).job) least (get_or locks i d).job)) least ≡ least_job (filter t (take (i + 1) locks))
+least_job-more t locks i d least l is = sym (ap least_job (filter_more t locks i d l) ∙ more t (filter t (take i locks)) (get_or locks i d) least is (t (get_or locks i d)))

@@ -1,7 +1,7 @@
 //! Which lock of a run of locks is looked for.
 ghost use Rattle.std.specs.List.{find};
 ghost use Rattle.std.specs.Option.{option_copied, option_map_or};
-ghost use Rattle.std.specs.Prelude.{◌≡◌, not, min, Some, filter};
+ghost use Rattle.std.specs.Prelude.{◌≡◌, not, min, if◌then◌else◌, Some, filter};
 ghost use Rattle.lock_table.specs.Lock.{is_against, is_of_group, is_of_job, is_of_open, is_open};
 ghost use Rattle.lock_table.specs.Table.{least_job};
 
@@ -41,18 +41,19 @@ pub fn least_job_to_boundary(locks: &[Lock]) -> Option<u32>
 {
     let mut least = None;
     for lock in locks {
-        if !lock.reach.is_open() {
-            least = lesser(least, lock.job);
-        }
+        least = lesser(least, lock);
     }
     least
 }
 
-fn lesser(least: Option<u32>, job: u32) -> Option<u32>
-    ensures { result ≡ Some (option_map_or (λ other. min other job) least job) }
+fn lesser(least: Option<u32>, lock: &Lock) -> Option<u32>
+    ensures { result ≡ (if not (is_open lock.now.reach) then Some (option_map_or (λ job. min job lock.now.job) least lock.now.job) else least) }
 {
+    if lock.reach.is_open() {
+        return least;
+    }
     match least {
-        None => Some(job),
-        Some(other) => Some(other.min(job)),
+        None => Some(lock.job),
+        Some(job) => Some(job.min(lock.job)),
     }
 }

@@ -182,7 +182,8 @@ impl LockTable {
     }
 
     fn on_record(&self, member: u32, rrn: u32) -> &[Lock]
-        ensures { result.now ≡ filter (is_on member rrn) self.now.held }
+        ensures table { IsTable self.now }
+        ensures locks { result.now ≡ filter (is_on member rrn) self.now.held }
     {
         locks_on(&self.by_record, member, rrn)
     }
