@@ -13,7 +13,7 @@ use Rattle.std.proofs.lemmas.List.Kept.{IsStrictlySortedBy-filter}
 use Rattle.lock_table.specs.declared.lock.LockKind.{LockKind}
 use Rattle.lock_table.specs.declared.lock.Lock.{Lock}
 use Rattle.lock_table.specs.Lock.{blocks, Clashes, is_open, is_of_open, is_of_open_on, is_on, is_update, bound, lock_cmp}
-use Rattle.lock_table.specs.Table.{Locks, IsTable, AreCompatible, IsOneOf, with_item, in_order, with_lock, without_lock, freed, kept, kept_to_boundary}
+use Rattle.lock_table.specs.Table.{Locks, holding, IsTable, AreCompatible, IsOneOf, with_item, in_order, with_lock, without_lock, freed, kept, kept_to_boundary}
 use Rattle.lock_table.proofs.InOrder.{with_item-filter, with_item-twice, with_item-swap, filter-with_item, fold-with_item, IsStrictlySortedBy-with_item, in_order-sorted}
 use Rattle.lock_table.proofs.Kept.{filter-wider, filter-swap, filter-contrary, filter-has, length-filter-≤, length-filter-<, map-untouched, All-with_item}
 use Rattle.lock_table.proofs.Locks.{lock_cmp-total, lock_cmp-same}
@@ -137,3 +137,49 @@ module _ (lock : Lock) (held : List Lock) (room : ℕ) (t : IsTable (record { he
 
   pub alone-without_lock : All (λ other. Clashes lock other → ⊥) (without_lock lock held)
   alone-without_lock = All-filter (λ l. not (is_eq (lock_cmp l lock))) (λ other. Clashes lock other → ⊥) held (All-contains (λ a. All (λ b. Clashes a b → ⊥) held) held lock t.compatible c)
+
+-- a table by its locks and its room
+abbrev locks_of : List Lock → ℕ → Locks
+locks_of held room = record { held = held; room = room }
+
+locks_of_same : (xs ys : List Lock) (m n : ℕ) → xs ≡ ys → m ≡ n → locks_of xs m ≡ locks_of ys n
+locks_of_same xs ys m n e f = cc
+
+pub holding-is : (t u : Locks) (held : List Lock) → t.held ≡ held → t.room ≡ u.room → t ≡ holding held u
+holding-is t u held e f = locks_of_same t.held held t.room u.room e f
+
+-- ---- a step and the end of a release
+pub record IsLeft (gone : Lock → Bool) (t start : Locks) : Type 0 where
+  pub same : freed gone t.held ≡ freed gone start.held
+  pub room : t.room ≡ start.room
+
+pub IsLeft-step : (gone : Lock → Bool) (t start now : Locks) (lock : Lock) → IsLeft gone t start → IsOneOf gone lock t.held → now ≡ holding (without_lock lock t.held) t → IsLeft gone now start
+IsLeft-step gone t start now lock left one is = record {
+  same = ap (λ (u : Locks). freed gone u.held) is ∙ freed-without_lock gone lock t.held one.passes ∙ left.same;
+  room = ap (λ (u : Locks). u.room) is ∙ left.room
+}
+
+pub IsLeft-end : (gone : Lock → Bool) (t start : Locks) → IsLeft gone t start → filter gone t.held ≡ [] → t ≡ holding (freed gone start.held) start
+IsLeft-end gone t start left none = holding-is t start (freed gone start.held) (sym (freed-none gone t.held none) ∙ left.same) left.room
+
+-- ---- a step and the end of keeping locks to the boundary
+module _ (job opened member rrn : ℕ) where
+  pub record IsKept (t start : Locks) : Type 0 where
+    pub same : kept_to_boundary job opened member rrn t.held ≡ kept_to_boundary job opened member rrn start.held
+    pub room : t.room ≡ start.room
+
+  module _ (t start freed_once now : Locks) (lock bound_lock : Lock) (table : IsTable t) (one : IsOneOf (is_of_open_on job opened member rrn) lock t.held) (free : freed_once ≡ holding (without_lock lock t.held) t) (to : bound_lock ≡ bound lock) (add : now ≡ holding (with_lock bound_lock freed_once.held) freed_once) where
+    now_is : now ≡ holding (with_lock (bound lock) (without_lock lock t.held)) t
+    now_is = add ∙ ap (λ (l : Lock). holding (with_lock l freed_once.held) freed_once) to ∙ ap (λ (u : Locks). holding (with_lock (bound lock) u.held) u) free
+
+    pub IsKept-step : IsKept t start → IsKept now start
+    IsKept-step kept_so = record {
+      same = ap (λ (u : Locks). kept_to_boundary job opened member rrn u.held) now_is ∙ kept-step job opened member rrn lock t.held table.ordered one.there one.passes ∙ kept_so.same;
+      room = ap (λ (u : Locks). u.room) now_is ∙ kept_so.room
+    }
+
+    pub kept_falls : length (filter (is_of_open_on job opened member rrn) now.held) < length (filter (is_of_open_on job opened member rrn) t.held)
+    kept_falls = rw now_is (kept-falls job opened member rrn lock t.held table.ordered one.there one.passes)
+
+  pub IsKept-end : (t start : Locks) → IsTable t → IsKept t start → filter (is_of_open_on job opened member rrn) t.held ≡ [] → t ≡ holding (kept_to_boundary job opened member rrn start.held) start
+  IsKept-end t start table kept_so none = holding-is t start (kept_to_boundary job opened member rrn start.held) (sym (kept-none job opened member rrn t.held table.ordered none) ∙ kept_so.same) kept_so.room

@@ -198,6 +198,7 @@ impl LockTable {
     }
 
     fn open_lock_on(&self, job: u32, opened: u32, member: u32, rrn: u32) -> Option<Lock>
+        ensures table { IsTable self.now }
         ensures some { IfSome result (λ lock. IsOneOf (is_of_open_on job opened member rrn) lock self.now.held) }
         ensures none { IfNone result (filter (is_of_open_on job opened member rrn) self.now.held ≡ []) }
     {
