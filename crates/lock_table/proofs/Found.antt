@@ -121,7 +121,7 @@ whole_held held =
     let itself : All (Contains held) (filter (λ l. is_open l.reach) held) = All-filter (λ l. is_open l.reach) (Contains held) held (All-contains_itself held) in
     All-in_order open_cmp (λ part. Contains held (whole_lock part)) (map open_part (filter (λ l. is_open l.reach) held))
     (All-map (λ part. Contains held (whole_lock part)) open_part (filter (λ l. is_open l.reach) held)
-     (λ k d l. subst (Contains held) (sym (whole_lock-open_part _ (ends k d l))) (itself k d l)))
+    (λ k d l. subst (Contains held) (sym (whole_lock-open_part _ (ends k d l))) (itself k d l)))
 
 module _ (job opened : ℕ) (held : List Lock) (run : List OpenLock) (is : run ≡ filter (is_part_of job opened) (open_locks held)) where
   pub IsOneOf-open : (part : OpenLock) → slice_get run (length run - 1) ≡ Some part → IsOneOf (is_of_open job opened) (whole_lock part) held
@@ -130,7 +130,7 @@ module _ (job opened : ℕ) (held : List Lock) (run : List OpenLock) (is : run �
       let there : Contains run part = (length run - 1, within, get_or_from_slice_get run (length run - 1) part part h) in
       record {
         there = All-contains (λ p. Contains held (whole_lock p)) run part (subst (All (λ p. Contains held (whole_lock p))) (sym is) (All-filter (is_part_of job opened) (λ p. Contains held (whole_lock p)) (open_locks held) (whole_held held))) there;
-        passes = All-contains (λ p. is_part_of job opened p ≡ true) run part (subst (All (λ p. is_part_of job opened p ≡ true)) (sym is) (filter_passes (is_part_of job opened) (open_locks held))) there
+        passes = All-contains (λ p. is_part_of job opened p ≡ true) run part (subst (All (λ p. is_part_of job opened p ≡ true)) (sym is) (filter_passes (is_part_of job opened) (open_locks held))) there;
       }
 
   empty_run : (xs : List OpenLock) → slice_get xs (length xs - 1) ≡ None → xs ≡ []
@@ -141,9 +141,9 @@ module _ (job opened : ℕ) (held : List Lock) (run : List OpenLock) (is : run �
   none_of_open h =
       filter-none (is_of_open job opened) held
       (sym (list_any-filter (λ l. is_open l.reach) (λ l. is_part_of job opened (open_part l)) held)
-       ∙ sym (list_any-map (is_part_of job opened) open_part (filter (λ l. is_open l.reach) held))
-       ∙ sym (list_any-in_order open_cmp open_cmp-same (is_part_of job opened) (map open_part (filter (λ l. is_open l.reach) held)))
-       ∙ none-filter (is_part_of job opened) (open_locks held) (sym is ∙ empty_run run h))
+      ∙ sym (list_any-map (is_part_of job opened) open_part (filter (λ l. is_open l.reach) held))
+      ∙ sym (list_any-in_order open_cmp open_cmp-same (is_part_of job opened) (map open_part (filter (λ l. is_open l.reach) held)))
+      ∙ none-filter (is_part_of job opened) (open_locks held) (sym is ∙ empty_run run h))
 
 some_copied : {X : Type 0} (found : Option (Bor X)) → is_some found ≡ is_some (option_copied found)
 some_copied None = refl
@@ -158,16 +158,16 @@ module _ (q t : Lock → Bool) (held locks : List Lock) where
     pub run-some : IfSome found (λ lock. IsOneOf (λ l. q l && t l) lock held)
     run-some = some found refl
       where
-      some : (o : Option Lock) → o ≡ found → IfSome o (λ lock. IsOneOf (λ l. q l && t l) lock held)
-      some None e = tt
-      some (Some lock) e = IsOneOf-found q t held lock (sym (e ∙ h ∙ ap (find t) run))
+        some : (o : Option Lock) → o ≡ found → IfSome o (λ lock. IsOneOf (λ l. q l && t l) lock held)
+        some None e = tt
+        some (Some lock) e = IsOneOf-found q t held lock (sym (e ∙ h ∙ ap (find t) run))
 
     pub run-none : IfNone found (filter (λ l. q l && t l) held ≡ [])
     run-none = none found refl
       where
-      none : (o : Option Lock) → o ≡ found → IfNone o (filter (λ l. q l && t l) held ≡ [])
-      none None e = none-found q t held (sym (e ∙ h ∙ ap (find t) run))
-      none (Some lock) e = tt
+        none : (o : Option Lock) → o ≡ found → IfNone o (filter (λ l. q l && t l) held ≡ [])
+        none None e = none-found q t held (sym (e ∙ h ∙ ap (find t) run))
+        none (Some lock) e = tt
 
 -- ---- one lock more is looked at
 more : (t : Lock → Bool) (seen : List Lock) (lock : Lock) (least : Option ℕ) → least ≡ least_job seen → (b : Bool) → least_job (seen ++ cond b (lock ∷ []) []) ≡ cond b (Some (option_map_or (λ j. min j lock.job) least lock.job)) least

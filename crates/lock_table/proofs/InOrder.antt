@@ -11,7 +11,7 @@ use Rattle.std.proofs.lemmas.Map.Keys.{sorted_head, sorted_tail, Less-from_sorte
 use Rattle.lock_table.specs.Table.{with_item, in_order}
 
 module _ {X : Type 0} {R : X → X → Ordering} (o : IsTotalOrder R) where
-  Greater-back : (x y : X) → R x y ≡ Less → R y x ≡ Greater
+  pub Greater-back : (x y : X) → R x y ≡ Less → R y x ≡ Greater
   Greater-back x y h = o.antisymm y x ∙ ap ordering_reverse h
 
   Less-back : (x y : X) → R x y ≡ Greater → R y x ≡ Less

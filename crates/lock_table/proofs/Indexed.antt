@@ -1,6 +1,6 @@
 -- The two lists of a table keep agreeing.
 use Rattle.std.proofs.Common.{◌≡◌, ℕ, ◌+◌, ◌-◌, ◌<◌, ◌≤◌, Bool, true, false, not, cond, List, [], ◌∷◌, length, map, suc, ◌&&◌, ◌==◌, refl, sym, ap, ◌∙◌, arith, subst}
-use Rattle.std.specs.List.{filter, All}
+use Rattle.std.specs.List.{filter, All, Contains}
 use Rattle.std.specs.List.Sorted.{IsStrictlySortedBy}
 use Rattle.std.specs.Ordering.{is_eq}
 use Rattle.std.specs.declared.cmp.Ordering.{Ordering}
@@ -11,13 +11,13 @@ use Rattle.lock_table.specs.declared.lock.Reach.{Reach}
 use Rattle.lock_table.specs.declared.lock.Reach.TheVariants.{Open, Boundary}
 use Rattle.lock_table.specs.declared.lock.Lock.{Lock}
 use Rattle.lock_table.specs.declared.lock.OpenLock.{OpenLock}
-use Rattle.lock_table.specs.Lock.{Clashes, is_open, is_of_group, lock_cmp}
+use Rattle.lock_table.specs.Lock.{Clashes, bound, is_open, is_of_group, lock_cmp}
 use Rattle.lock_table.specs.Table.{IsTable, with_item, with_lock, without_lock, freed}
 use Rattle.lock_table.specs.Index.{IsIndexed, open_cmp, open_part, whole_lock, open_locks}
 use Rattle.lock_table.proofs.InOrder.{IsStrictlySortedBy-in_order, filter-all}
 use Rattle.lock_table.proofs.Kept.{length-in_order, length-filter-≤, length-with_item}
 use Rattle.lock_table.proofs.Locks.{lock_cmp-total, lock_cmp-same, open_cmp-total, open_cmp-same, open_locks-with_lock, open_locks-filter}
-use Rattle.lock_table.proofs.Releases.{IsTable-filter, IsTable-with_lock}
+use Rattle.lock_table.proofs.Releases.{length-without_lock, alone-without_lock, IsTable-filter, IsTable-with_lock}
 
 length-map : {X Y : Type 0} (f : X → Y) (xs : List X) → length (map f xs) ≡ length xs
 length-map f [] = refl
@@ -88,16 +88,36 @@ module _ (held : List Lock) (by_open : List OpenLock) (room capacity open_capaci
       open_room = rw d h.open_room;
     }
 
+    kept_table : Contains held lock → now_held ≡ with_lock (bound lock) (without_lock lock held) → IsTable (record { held = now_held; room = room })
+    kept_table there now =
+        let fewer : length (without_lock lock held) < length held = length-without_lock lock held there in
+        let longer : length (with_lock (bound lock) (without_lock lock held)) ≤ length (without_lock lock held) + 1 = length-with_item lock_cmp (bound lock) (without_lock lock held) in
+        subst (λ xs. IsTable (record { held = xs; room = room })) (sym now)
+        (IsTable-with_lock (bound lock) (without_lock lock held) room (IsTable-filter (λ l. not (is_eq (lock_cmp l lock))) held room h.table) (omega (arith, longer, fewer, h.table.fits)) (alone-without_lock lock held room h.table there))
+
+    pub IsIndexed-keep : is_open lock.reach ≡ true → Contains held lock → now_held ≡ with_lock (bound lock) (without_lock lock held) → now_open ≡ filter (λ y. not (is_eq (open_cmp y (open_part lock)))) by_open → IsNow
+    IsIndexed-keep ends there now now_by_open = record {
+      table = kept_table there now;
+      indexed = now_by_open
+          ∙ ap (filter (λ y. not (is_eq (open_cmp y (open_part lock))))) h.indexed
+          ∙ sym (open_locks-filter (λ l. not (is_eq (lock_cmp l lock))) (λ y. not (is_eq (open_cmp y (open_part lock)))) (λ l. same_part lock l ends) held)
+          ∙ sym (open_locks-with_lock (bound lock) (without_lock lock held))
+          ∙ ap open_locks (sym now);
+      record_room = rw c h.record_room;
+      open_room = rw d h.open_room;
+    }
+
     added_table : 1 ≤ room - length held → All (λ other. Clashes lock other → ⊥) held → now_held ≡ with_lock lock held → IsTable (record { held = now_held; room = room })
     added_table spare alone now =
         let longer : length (with_lock lock held) ≤ length held + 1 = length-with_item lock_cmp lock held in
         subst (λ xs. IsTable (record { held = xs; room = room })) (sym now) (IsTable-with_lock lock held room h.table (omega (arith, longer, h.table.fits)) alone)
 
-    pub IsIndexed-add : 1 ≤ room - length held → All (λ other. Clashes lock other → ⊥) held → now_held ≡ with_lock lock held → now_open ≡ cond (is_open lock.reach) (with_item open_cmp (open_part lock) by_open) by_open → IsNow
-    IsIndexed-add spare alone now now_by_open = record {
+    pub IsIndexed-add : 1 ≤ room - length held → is_open lock.reach ≡ true → All (λ other. Clashes lock other → ⊥) held → now_held ≡ with_lock lock held → now_open ≡ with_item open_cmp (open_part lock) by_open → IsNow
+    IsIndexed-add spare ends alone now now_by_open = record {
       table = added_table spare alone now;
       indexed = now_by_open
-          ∙ ap (λ ys. cond (is_open lock.reach) (with_item open_cmp (open_part lock) ys) ys) h.indexed
+          ∙ ap (with_item open_cmp (open_part lock)) h.indexed
+          ∙ ap (λ b. cond b (with_item open_cmp (open_part lock) (open_locks held)) (open_locks held)) (sym ends)
           ∙ sym (open_locks-with_lock lock held)
           ∙ ap open_locks (sym now);
       record_room = rw c h.record_room;

@@ -7,3 +7,4 @@ pub mod Releases
 pub mod Indexed
 pub mod Orders
 pub mod Found
+pub mod Bound

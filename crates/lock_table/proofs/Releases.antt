@@ -132,9 +132,6 @@ IsTable-with_lock lock held room t fits alone = record {
 
 -- ---- what is left when a lock has gone
 module _ (lock : Lock) (held : List Lock) (room : ℕ) (t : IsTable (record { held = held; room = room })) (c : Contains held lock) where
-  pub spare-without_lock : 1 ≤ room - length (without_lock lock held)
-  spare-without_lock = let fewer : length (without_lock lock held) < length held = length-without_lock lock held c in omega (arith, t.fits)
-
   pub alone-without_lock : All (λ other. Clashes lock other → ⊥) (without_lock lock held)
   alone-without_lock = All-filter (λ l. not (is_eq (lock_cmp l lock))) (λ other. Clashes lock other → ⊥) held (All-contains (λ a. All (λ b. Clashes a b → ⊥) held) held lock t.compatible c)
 
@@ -156,7 +153,7 @@ pub record IsLeft (gone : Lock → Bool) (t start : Locks) : Type 0 where
 pub IsLeft-step : (gone : Lock → Bool) (t start now : Locks) (lock : Lock) → IsLeft gone t start → IsOneOf gone lock t.held → now ≡ holding (without_lock lock t.held) t → IsLeft gone now start
 IsLeft-step gone t start now lock left one is = record {
   same = ap (λ (u : Locks). freed gone u.held) is ∙ freed-without_lock gone lock t.held one.passes ∙ left.same;
-  room = ap (λ (u : Locks). u.room) is ∙ left.room
+  room = ap (λ (u : Locks). u.room) is ∙ left.room;
 }
 
 pub IsLeft-end : (gone : Lock → Bool) (t start : Locks) → IsLeft gone t start → filter gone t.held ≡ [] → t ≡ holding (freed gone start.held) start
@@ -168,18 +165,15 @@ module _ (job opened member rrn : ℕ) where
     pub same : kept_to_boundary job opened member rrn t.held ≡ kept_to_boundary job opened member rrn start.held
     pub room : t.room ≡ start.room
 
-  module _ (t start freed_once now : Locks) (lock bound_lock : Lock) (table : IsTable t) (one : IsOneOf (is_of_open_on job opened member rrn) lock t.held) (free : freed_once ≡ holding (without_lock lock t.held) t) (to : bound_lock ≡ bound lock) (add : now ≡ holding (with_lock bound_lock freed_once.held) freed_once) where
-    now_is : now ≡ holding (with_lock (bound lock) (without_lock lock t.held)) t
-    now_is = add ∙ ap (λ (l : Lock). holding (with_lock l freed_once.held) freed_once) to ∙ ap (λ (u : Locks). holding (with_lock (bound lock) u.held) u) free
-
+  module _ (t start now : Locks) (lock : Lock) (table : IsTable t) (one : IsOneOf (is_of_open_on job opened member rrn) lock t.held) (is : now ≡ holding (with_lock (bound lock) (without_lock lock t.held)) t) where
     pub IsKept-step : IsKept t start → IsKept now start
     IsKept-step kept_so = record {
-      same = ap (λ (u : Locks). kept_to_boundary job opened member rrn u.held) now_is ∙ kept-step job opened member rrn lock t.held table.ordered one.there one.passes ∙ kept_so.same;
-      room = ap (λ (u : Locks). u.room) now_is ∙ kept_so.room
+      same = ap (λ (u : Locks). kept_to_boundary job opened member rrn u.held) is ∙ kept-step job opened member rrn lock t.held table.ordered one.there one.passes ∙ kept_so.same;
+      room = ap (λ (u : Locks). u.room) is ∙ kept_so.room;
     }
 
     pub kept_falls : length (filter (is_of_open_on job opened member rrn) now.held) < length (filter (is_of_open_on job opened member rrn) t.held)
-    kept_falls = rw now_is (kept-falls job opened member rrn lock t.held table.ordered one.there one.passes)
+    kept_falls = rw is (kept-falls job opened member rrn lock t.held table.ordered one.there one.passes)
 
   pub IsKept-end : (t start : Locks) → IsTable t → IsKept t start → filter (is_of_open_on job opened member rrn) t.held ≡ [] → t ≡ holding (kept_to_boundary job opened member rrn start.held) start
   IsKept-end t start table kept_so none = holding-is t start (kept_to_boundary job opened member rrn start.held) (sym (kept-none job opened member rrn t.held table.ordered none) ∙ kept_so.same) kept_so.room

@@ -2,6 +2,7 @@
 use Rattle.std.specs.Ordering.{is_eq, nat_cmp, ordering_then}
 use Rattle.std.specs.Prelude.{◌≡◌, ℕ, ◌<◌, ◌≤◌, ◌==◌, ◌&&◌, Bool, true, false, not, List, length, map, filter, slice_index_or}
 use Rattle.std.specs.declared.cmp.Ordering.{Ordering}
+use Rattle.std.specs.declared.cmp.Ordering.TheVariants.{Equal}
 use Rattle.lock_table.specs.declared.lock.Lock.{Lock}
 use Rattle.lock_table.specs.declared.lock.OpenLock.{OpenLock}
 use Rattle.lock_table.specs.declared.lock.Reach.TheVariants.{Open}
@@ -35,6 +36,11 @@ without_open_lock gone parts = filter (λ part. not (is_eq (open_cmp part gone))
 -- it is of a lock of this open
 abbrev pub is_part_of : ℕ → ℕ → OpenLock → Bool
 is_part_of job opened part = (part.job == job) && (part.opened == opened)
+
+-- the item stands at this place, as the order R tells items apart
+pub record IsAt {X : Type 0} (R : X → X → Ordering) (item : X) (items : List X) (place : ℕ) : Type 0 where
+  pub within : place < length items
+  pub at : (d : X) → R (slice_index_or items place d) item ≡ Equal
 
 -- the items from the place start up to the place end pass the test, and no others do
 pub record IsRun {X : Type 0} (test : X → Bool) (items : List X) (start end : ℕ) : Type 0 where

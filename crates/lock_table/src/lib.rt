@@ -1,4 +1,5 @@
-//! The record locks of all jobs.
+//! The record locks of all jobs: who holds which record of which member, in which kind, and how long. The table is in
+//! table.rt, a lock in lock.rt, and what each call asks for at each level of commitment control in levels.rt.
 #![tactic(auto)]
 
 mod chosen;
@@ -7,6 +8,8 @@ mod levels;
 mod lock;
 mod sorted;
 mod table;
+#[cfg(test)]
+mod tests;
 
 pub use commit_level::Level;
 pub use fault::{InUse, LockFault};

@@ -1,11 +1,12 @@
 //! Lists in strict order: where an item is put in, where it is taken out, and which run of locks a record has.
+ghost use Rattle.std.specs.List.{Contains};
 ghost use Rattle.std.specs.List.Sorted.{IsStrictlySortedBy};
 ghost use Rattle.std.specs.Ordering.{is_eq};
 ghost use Rattle.std.specs.declared.cmp.Ordering.{Ordering};
-ghost use Rattle.std.specs.Prelude.{◌≡◌, ◌<◌, not, filter, vec_len, vec_capacity};
-ghost use Rattle.lock_table.specs.Lock.{is_in, is_on, lock_cmp};
+ghost use Rattle.std.specs.Prelude.{true, IsTrue, IfSome, IfNone, ◌≡◌, ◌↔◌, length, slice_index_or, ◌<◌, not, filter, vec_len, vec_capacity};
+ghost use Rattle.lock_table.specs.Lock.{bound, is_open, is_in, is_on, lock_cmp};
 ghost use Rattle.lock_table.specs.Table.{with_item, with_lock, without_lock};
-ghost use Rattle.lock_table.specs.Index.{IsRun, without_open_lock, is_part_of, open_cmp};
+ghost use Rattle.lock_table.specs.Index.{IsAt, IsRun, without_open_lock, is_part_of, open_cmp};
 
 use crate::lock::{Lock, OpenLock};
 
@@ -36,6 +37,18 @@ fn take_out<T: Ord + Drop>(items: &mut Vec<T>, item: &T)
     }
 }
 
+// Where the item is, `None` where it isn't there.
+fn place_of<T: Ord>(items: &[T], item: &T) -> Option<usize>
+    requires { IsStrictlySortedBy T.cmp items.now }
+    ensures found { (R : T → T → Ordering) → ((a b : T) → T.cmp a b ≡ R a b) → IfSome result (IsAt R item.now items.now) }
+    ensures none { (R : T → T → Ordering) → ((a b : T) → T.cmp a b ≡ R a b) → IfNone result (filter (λ x. not (is_eq (R x item.now))) items.now ≡ items.now) }
+{
+    match items.binary_search(item) {
+        Ok(place) => Some(place),
+        Err(_) => None,
+    }
+}
+
 /// Puts the lock in its place, unless it is there.
 pub fn put_lock(locks: &mut Vec<Lock>, lock: Lock)
     requires ordered { IsStrictlySortedBy lock_cmp locks.old.items }
@@ -53,6 +66,42 @@ pub fn take_lock(locks: &mut Vec<Lock>, lock: &Lock)
     ensures capacity { vec_capacity locks.new ≡ vec_capacity locks.old }
 {
     take_out(locks, lock);
+}
+
+/// Keeps a lock that is there to the boundary, where it stands. Behind it can stand
+/// the same lock, kept already: then it goes.
+pub fn keep_lock(locks: &mut Vec<Lock>, lock: &Lock)
+    requires ordered { IsStrictlySortedBy lock_cmp locks.old.items }
+    requires there { Contains locks.old.items lock.now }
+    requires ends { is_open lock.now.reach ≡ true }
+    ensures items { locks.new.items ≡ with_lock (bound lock.now) (without_lock lock.now locks.old.items) }
+    ensures capacity { vec_capacity locks.new ≡ vec_capacity locks.old }
+{
+    let place = lock_place(locks, lock);
+    let kept = lock.to_boundary();
+    if stands_at(locks, place + 1, &kept) {
+        locks.remove(place);
+    } else {
+        locks[place] = kept;
+    }
+}
+
+fn lock_place(locks: &[Lock], lock: &Lock) -> usize
+    requires ordered { IsStrictlySortedBy lock_cmp locks.now }
+    requires there { Contains locks.now lock.now }
+    ensures within { result < length locks.now }
+    ensures at { slice_index_or locks.now result lock.now ≡ lock.now }
+{
+    let Some(place) = place_of(locks, lock) else {
+        unreachable!()
+    };
+    place
+}
+
+fn stands_at(locks: &[Lock], place: usize, lock: &Lock) -> bool
+    ensures { IsTrue result ↔ ((place < length locks.now) × (slice_index_or locks.now place lock.now ≡ lock.now)) }
+{
+    place < locks.len() && locks[place] == *lock
 }
 
 /// Puts the lock in its place by open, unless it is there.

@@ -3,7 +3,7 @@
 //! lists are in sorted.rt.
 ghost use Rattle.std.specs.List.{All, Contains, list_any};
 ghost use Rattle.std.specs.Prelude.{true, ◌≡◌, ℕ, ◌+◌, ◌<◌, ◌≤◌, ◌&&◌, ◌↔◌, IsOk, IsErrOf, OnOk, OnErr, IfSome, IfNone, Some, None, Err, [], length, filter};
-ghost use Rattle.lock_table.specs.Lock.{Clashes, is_open, is_on, is_of_open, is_of_open_on, is_of_record, is_of_group, is_of_group_on, is_boundary_in};
+ghost use Rattle.lock_table.specs.Lock.{Clashes, bound, is_open, is_on, is_of_open, is_of_open_on, is_of_record, is_of_group, is_of_group_on, is_boundary_in};
 ghost use Rattle.lock_table.specs.Table.{IsTable, IsOneOf, without_lock, spare, holding, reserved, with_lock, asked_lock, blocker, least_job, kept_to_boundary, freed};
 
 use crate::chosen::{
@@ -12,7 +12,7 @@ use crate::chosen::{
 use crate::fault::{InUse, LockFault};
 use crate::lock::{Lock, LockKind, OpenLock, Reach};
 use crate::sorted::{
-    locks_in, locks_of, locks_on, put_lock, put_open_lock, take_lock, take_open_lock,
+    keep_lock, locks_in, locks_of, locks_on, put_lock, put_open_lock, take_lock, take_open_lock,
 };
 use std::alloc::Global;
 use std::marker::Model;
@@ -128,8 +128,7 @@ impl LockTable {
         ensures { self.new ≡ holding (kept_to_boundary job opened member rrn self.old.held) self.old }
     {
         while let Some(lock) = self.open_lock_on(job, opened, member, rrn) {
-            self.free(lock);
-            self.add(lock.to_boundary());
+            self.keep(lock);
         }
     }
 
@@ -212,28 +211,35 @@ impl LockTable {
         lock_of_job(self.on_record(member, rrn), job).copied()
     }
 
-    // Takes a lock that is held out of both lists.
+    // Takes a lock that is held, and ends at a read, out of both lists.
     fn free(&mut self, lock: Lock)
         requires there { Contains self.old.held lock }
         requires ends { is_open lock.reach ≡ true }
         ensures held { self.new ≡ holding (without_lock lock self.old.held) self.old }
         ensures fewer { length self.new.held < length self.old.held }
-        ensures room { 1 ≤ spare self.new }
-        ensures alone { All (λ other. Clashes lock other → ⊥) self.new.held }
     {
         take_lock(&mut self.by_record, &lock);
         take_open_lock(&mut self.by_open, &lock.open_part());
     }
 
-    // Puts a lock that clashes with none into the list by record, and into the list by open where it ends at a read.
+    // Keeps a lock that is held, and ends at a read, to the boundary.
+    fn keep(&mut self, lock: Lock)
+        requires there { Contains self.old.held lock }
+        requires ends { is_open lock.reach ≡ true }
+        ensures { self.new ≡ holding (with_lock (bound lock) (without_lock lock self.old.held)) self.old }
+    {
+        keep_lock(&mut self.by_record, &lock);
+        take_open_lock(&mut self.by_open, &lock.open_part());
+    }
+
+    // Puts a lock that ends at a read, and clashes with none, into both lists.
     fn add(&mut self, lock: Lock)
         requires room { 1 ≤ spare self.old }
+        requires ends { is_open lock.reach ≡ true }
         requires alone { All (λ other. Clashes lock other → ⊥) self.old.held }
         ensures { self.new ≡ holding (with_lock lock self.old.held) self.old }
     {
         put_lock(&mut self.by_record, lock);
-        if lock.reach.is_open() {
-            put_open_lock(&mut self.by_open, lock.open_part());
-        }
+        put_open_lock(&mut self.by_open, lock.open_part());
     }
 }

@@ -1,4 +1,4 @@
--- Both lists gain the lock, the second where it ends at a read.
+-- Both lists gain the lock.
 use Rattle.std.proofs.Common.{◌≡◌, ◌<◌, ◌≤◌, ◌-◌, true, cond, length, rules, arith, refl, sym, ap, ◌∙◌, subst}
 use Rattle.std.specs.List.{All}
 use Rattle.lock_table.specs.declared.lock.Lock.{Lock}
@@ -28,12 +28,5 @@ put_open_lock-requires-clause-room c =
 pub invariant_of-self : goal.invariant_of-self
 invariant_of-self c =
     IsIndexed-add _ _ _ _ _ c.self.invariant _ _ _ _ c.args.lock c.put_lock.ensures.capacity c.put_open_lock.ensures.capacity
-    (room_left _ _ c.self.view_is c.requires.room) (alone _ _ c.args.lock c.self.view_is c.requires.alone) c.put_lock.ensures.items
-    (c.put_open_lock.ensures.items ∙ ap (λ part. with_item open_cmp part c.self.inside.by_open.items) c.open_part.ensures
-    ∙ ap (λ b. cond b (with_item open_cmp (open_part c.args.lock) c.self.inside.by_open.items) c.self.inside.by_open.items) c.if-is_open.ensures)
-
-pub invariant_of-self-else-is_open : goal.invariant_of-self-else-is_open
-invariant_of-self-else-is_open c =
-    IsIndexed-add _ _ _ _ _ c.self.invariant _ _ _ _ c.args.lock c.put_lock.ensures.capacity refl
-    (room_left _ _ c.self.view_is c.requires.room) (alone _ _ c.args.lock c.self.view_is c.requires.alone) c.put_lock.ensures.items
-    (ap (λ b. cond b (with_item open_cmp (open_part c.args.lock) c.self.inside.by_open.items) c.self.inside.by_open.items) c.if-is_open.ensures)
+    (room_left _ _ c.self.view_is c.requires.room) c.requires.ends (alone _ _ c.args.lock c.self.view_is c.requires.alone) c.put_lock.ensures.items
+    (c.put_open_lock.ensures.items ∙ ap (λ part. with_item open_cmp part c.self.inside.by_open.items) c.open_part.ensures)

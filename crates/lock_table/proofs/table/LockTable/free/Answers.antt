@@ -8,7 +8,7 @@ use Rattle.lock_table.specs.Lock.{Clashes, lock_cmp}
 use Rattle.lock_table.specs.Table.{Locks, spare, holding, without_lock}
 use Rattle.lock_table.specs.Index.{open_part, without_open_lock}
 use Rattle.lock_table.proofs.Indexed.{open_ordered, IsIndexed-free}
-use Rattle.lock_table.proofs.Releases.{length-without_lock, spare-without_lock, alone-without_lock}
+use Rattle.lock_table.proofs.Releases.{length-without_lock}
 use Rattle.lock_table.proofs.table.LockTable.free.Goals as goal
 
 pub take_lock-requires : goal.take_lock-requires
@@ -31,9 +31,3 @@ there t u lock e h = subst (λ v. Contains v.held lock) (sym e) h
 
 pub returns-clause-fewer : goal.returns-clause-fewer
 returns-clause-fewer c = rw (c.take_lock.ensures.items, ← c.self.view_is) (length-without_lock c.args.lock c.self.inside.by_record.items (there _ _ c.args.lock c.self.view_is c.requires.there))
-
-pub returns-clause-room : goal.returns-clause-room
-returns-clause-room c = rw (c.take_lock.ensures.items) (spare-without_lock c.args.lock c.self.inside.by_record.items c.self.inside.room c.self.invariant.table (there _ _ c.args.lock c.self.view_is c.requires.there))
-
-pub returns-clause-alone : goal.returns-clause-alone
-returns-clause-alone c = rw (c.take_lock.ensures.items) (alone-without_lock c.args.lock c.self.inside.by_record.items c.self.inside.room c.self.invariant.table (there _ _ c.args.lock c.self.view_is c.requires.there))

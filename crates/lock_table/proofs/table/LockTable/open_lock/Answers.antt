@@ -19,8 +19,8 @@ returns c =
     let one : IsOneOf (is_of_open c.args.job c.args.opened) (whole_lock c.in_ok-last.last.now) c.self.inside.by_record.items = IsOneOf-open c.args.job c.args.opened c.self.inside.by_record.items c.locks_of.result.now run c.in_ok-last.last.now (sym c.in_ok-last.ensures.value) in
     record {
       some = subst (λ (t : Locks). IsOneOf (is_of_open c.args.job c.args.opened) c.whole_lock.result t.held) c.self.view_is
-      (subst (λ (lock : Lock). IsOneOf (is_of_open c.args.job c.args.opened) lock c.self.inside.by_record.items) (sym c.whole_lock.ensures) one);
-      none = tt
+          (subst (λ (lock : Lock). IsOneOf (is_of_open c.args.job c.args.opened) lock c.self.inside.by_record.items) (sym c.whole_lock.ensures) one);
+      none = tt;
     }
 
 pub returns-in_err-last : goal.returns-in_err-last
