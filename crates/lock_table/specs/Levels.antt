@@ -1,7 +1,7 @@
 -- Which lock each call asks for and which locks it releases, at each level of commitment control.
 -- (Db2 for i, "Commitment Control", lock levels and record locks; "Database Programming", record locks.)
 -- The level is that of the open through which a call is made, and None where it isn't under commitment.
-use Rattle.std.specs.Prelude.{Bool, true, false, Option, None, Some}
+use Rattle.std.specs.Prelude.{ℕ, Bool, ◌&&◌, ◌||◌, true, false, Option, None, Some}
 use Rattle.commit_level.specs.declared.Level.{Level}
 use Rattle.commit_level.specs.declared.Level.TheVariants.{Chg, Cs, All}
 use Rattle.lock_table.specs.declared.lock.Reach.TheVariants.{Open, Boundary}
@@ -11,7 +11,8 @@ use Rattle.lock_table.specs.declared.levels.Wanted.{Wanted}
 use Rattle.lock_table.specs.declared.levels.OpenLocks.{OpenLocks}
 use Rattle.lock_table.specs.declared.levels.OpenLocks.TheVariants.{Stay, OfOpen, OfRecord, OfCommitted, OfJob}
 use Rattle.lock_table.specs.declared.levels.Freed.{Freed}
-use Rattle.lock_table.specs.Lock.{read_kind, update_kind}
+use Rattle.lock_table.specs.declared.lock.Lock.{Lock}
+use Rattle.lock_table.specs.Lock.{is_of_group, is_of_job, is_of_open, is_of_record, read_kind, update_kind}
 
 -- the four locks that a record may get
 abbrev read_open : Option Wanted
@@ -65,3 +66,16 @@ released Commit = at_level (with_boundary OfCommitted) (with_boundary OfCommitte
 released Rollback = at_level (with_boundary OfJob) (with_boundary OfJob) (with_boundary OfJob) (with_boundary OfJob)
 released EndCommitment = at_level (with_boundary Stay) (with_boundary Stay) (with_boundary Stay) (with_boundary Stay)
 released EndJob = at_level (with_boundary OfJob) (with_boundary OfJob) (with_boundary OfJob) (with_boundary OfJob)
+
+-- ---- the locks that a call of the job through this open, on this record, releases
+module _ (job opened member rrn : ℕ) (is_committed : ℕ → Bool) where
+  abbrev pub is_open_released : OpenLocks → Lock → Bool
+  is_open_released Stay lock = false
+  is_open_released OfOpen lock = is_of_open job opened lock
+  is_open_released OfRecord lock = is_of_record job member rrn lock
+  is_open_released OfCommitted lock = is_of_job job lock && is_committed lock.opened
+  is_open_released OfJob lock = is_of_job job lock
+
+  -- is_committed says which opens of the job are under commitment
+  abbrev pub is_released : Freed → Lock → Bool
+  is_released what lock = is_open_released what.open_locks lock || (what.boundary_locks && is_of_group job lock)

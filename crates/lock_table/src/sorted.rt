@@ -68,8 +68,8 @@ pub fn take_lock(locks: &mut Vec<Lock>, lock: &Lock)
     take_out(locks, lock);
 }
 
-/// Keeps a lock that is there to the boundary, where it stands. Behind it can stand
-/// the same lock, kept already: then it goes.
+/// Keeps a lock that is there to the boundary, where it stands. Where the same lock, kept already, stands behind it, it
+/// goes.
 pub fn keep_lock(locks: &mut Vec<Lock>, lock: &Lock)
     requires ordered { IsStrictlySortedBy lock_cmp locks.old.items }
     requires there { Contains locks.old.items lock.now }

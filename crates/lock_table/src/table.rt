@@ -104,6 +104,7 @@ impl LockTable {
     ) -> Result<(), InUse>
         requires { 1 ≤ spare self.old }
         ensures granted { OnOk result (self.new ≡ holding (with_lock (asked_lock job opened member rrn kind) self.old.held) self.old) }
+        ensures ok { IsOk result ↔ (blocker job member rrn kind self.old.held ≡ None) }
         ensures in_use { (holder : ℕ) → (result ≡ Err (record { job = holder })) ↔ (blocker job member rrn kind self.old.held ≡ Some holder) }
         ensures refused { OnErr result (self.new ≡ self.old) }
     {
