@@ -1,8 +1,8 @@
 -- A lock is kept to the boundary where it stands: only the same lock, kept already, can stand right behind it.
-use Rattle.std.proofs.Common.{add-one, ◌≡◌, ℕ, ◌+◌, ◌-◌, ◌<◌, ◌≤◌, Bool, true, false, not, cond, List, [], ◌∷◌, ◌++◌, length, get_or, set, take, drop, refl, sym, ap, ◌∙◌, zero, suc, arith, subst}
-use Rattle.std.specs.List.{filter, remove, All, Contains}
+use Rattle.std.proofs.Common.{add-one, ◌≡◌, ℕ, ◌+◌, ◌<◌, true, List, [], ◌∷◌, length, get_or, set, refl, sym, ap, ◌∙◌, zero, suc, arith, subst}
+use Rattle.std.specs.List.{remove}
 use Rattle.std.specs.List.Sorted.{IsStrictlySortedBy}
-use Rattle.std.specs.Ordering.{is_eq, nat_cmp, ordering_then}
+use Rattle.std.specs.Ordering.{nat_cmp, ordering_then}
 use Rattle.std.specs.declared.cmp.Ordering.{Ordering}
 use Rattle.std.specs.declared.cmp.Ordering.TheVariants.{Less, Equal, Greater}
 use Rattle.std.proofs.lemmas.Bool.Decides.{nat_tests}
@@ -13,7 +13,7 @@ use Rattle.lock_table.specs.declared.lock.Reach.{Reach}
 use Rattle.lock_table.specs.declared.lock.Reach.TheVariants.{Open, Boundary}
 use Rattle.lock_table.specs.declared.lock.Lock.{Lock}
 use Rattle.lock_table.specs.Lock.{is_open, bound, lock_cmp, reach_number}
-use Rattle.lock_table.specs.Table.{with_item, with_lock, without_lock}
+use Rattle.lock_table.specs.Table.{with_lock, without_lock}
 use Rattle.lock_table.proofs.InOrder.{Greater-back, filter-found}
 use Rattle.lock_table.proofs.Locks.{lock_cmp-total, lock_cmp-same}
 

@@ -1,5 +1,5 @@
 -- The two lists of a table keep agreeing.
-use Rattle.std.proofs.Common.{◌≡◌, ℕ, ◌+◌, ◌-◌, ◌<◌, ◌≤◌, Bool, true, false, not, cond, List, [], ◌∷◌, length, map, suc, ◌&&◌, ◌==◌, refl, sym, ap, ◌∙◌, arith, subst}
+use Rattle.std.proofs.Common.{◌≡◌, ℕ, ◌+◌, ◌-◌, ◌<◌, ◌≤◌, true, not, cond, List, [], ◌∷◌, length, map, suc, ◌&&◌, ◌==◌, refl, sym, ap, ◌∙◌, arith, subst}
 use Rattle.std.specs.List.{filter, All, Contains}
 use Rattle.std.specs.List.Sorted.{IsStrictlySortedBy}
 use Rattle.std.specs.Ordering.{is_eq}
@@ -14,7 +14,7 @@ use Rattle.lock_table.specs.declared.lock.OpenLock.{OpenLock}
 use Rattle.lock_table.specs.Lock.{Clashes, bound, is_open, is_of_group, lock_cmp}
 use Rattle.lock_table.specs.Table.{IsTable, with_item, with_lock, without_lock, freed}
 use Rattle.lock_table.specs.Index.{IsIndexed, open_cmp, open_part, whole_lock, open_locks}
-use Rattle.lock_table.proofs.InOrder.{IsStrictlySortedBy-in_order, filter-all}
+use Rattle.lock_table.proofs.InOrder.{IsStrictlySortedBy-in_order}
 use Rattle.lock_table.proofs.Kept.{length-in_order, length-filter-≤, length-with_item}
 use Rattle.lock_table.proofs.Locks.{lock_cmp-total, lock_cmp-same, open_cmp-total, open_cmp-same, open_locks-with_lock, open_locks-filter}
 use Rattle.lock_table.proofs.Releases.{length-without_lock, alone-without_lock, IsTable-filter, IsTable-with_lock}

@@ -1,8 +1,7 @@
 -- The two orders of locks, and the list by open beside the list by record.
-use Rattle.std.proofs.Common.{◌≡◌, ℕ, ◌+◌, ◌<◌, ◌≤◌, Bool, true, false, not, ◌&&◌, ◌||◌, cond, List, [], ◌∷◌, length, get_or, map, refl, sym, ap, ◌∙◌, arith, subst}
+use Rattle.std.proofs.Common.{◌≡◌, ℕ, Bool, true, false, cond, List, [], ◌∷◌, map, refl, sym, ap, ◌∙◌, arith}
 use Rattle.std.specs.Cmp.{IsTotalOrder}
-use Rattle.std.specs.List.{filter, All, Contains, list_any}
-use Rattle.std.specs.List.Sorted.{IsStrictlySortedBy}
+use Rattle.std.specs.List.{filter}
 use Rattle.std.specs.Ordering.{nat_cmp, ordering_then}
 use Rattle.std.specs.declared.cmp.Ordering.{Ordering}
 use Rattle.std.specs.declared.cmp.Ordering.TheVariants.{Less, Equal, Greater}
@@ -13,11 +12,10 @@ use Rattle.lock_table.specs.declared.lock.Reach.{Reach}
 use Rattle.lock_table.specs.declared.lock.Reach.TheVariants.{Open, Boundary}
 use Rattle.lock_table.specs.declared.lock.Lock.{Lock}
 use Rattle.lock_table.specs.declared.lock.OpenLock.{OpenLock}
-use Rattle.lock_table.specs.Lock.{blocks, Clashes, is_open, lock_cmp, reach_number}
-use Rattle.lock_table.specs.Table.{with_item, in_order, with_lock, AreCompatible}
-use Rattle.lock_table.specs.Index.{open_cmp, open_part, whole_lock, open_locks}
+use Rattle.lock_table.specs.Lock.{is_open, lock_cmp, reach_number}
+use Rattle.lock_table.specs.Table.{with_item, in_order, with_lock}
+use Rattle.lock_table.specs.Index.{open_cmp, open_part, open_locks}
 use Rattle.lock_table.proofs.InOrder.{with_item-twice, with_item-swap, filter-in_order, fold-with_item}
-use Rattle.lock_table.proofs.Kept.{length-in_order, length-filter-≤}
 
 then_equal : (a b : Ordering) → ordering_then a b ≡ Equal → (a ≡ Equal) × (b ≡ Equal)
 then_equal Less b h = absurd (cc)

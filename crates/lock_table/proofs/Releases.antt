@@ -1,19 +1,17 @@
 -- What one lock more or less does to a table, and to what is left to release.
-use Rattle.std.proofs.Common.{◌≡◌, ℕ, ◌+◌, ◌-◌, ◌<◌, ◌≤◌, Bool, true, false, not, ◌&&◌, ◌||◌, ◌==◌, cond, List, [], ◌∷◌, length, get_or, map, refl, sym, ap, ◌∙◌, arith, subst}
+use Rattle.std.proofs.Common.{◌≡◌, ℕ, ◌<◌, ◌≤◌, Bool, true, false, not, ◌&&◌, ◌||◌, ◌==◌, cond, List, [], ◌∷◌, length, get_or, refl, sym, ap, ◌∙◌, arith, subst}
 use Rattle.std.specs.Prelude.{IsTrue}
-use Rattle.std.specs.List.{filter, All, Contains, list_any}
+use Rattle.std.specs.List.{filter, All, Contains}
 use Rattle.std.specs.List.Sorted.{IsStrictlySortedBy}
 use Rattle.std.specs.Ordering.{is_eq}
-use Rattle.std.specs.declared.cmp.Ordering.{Ordering}
 use Rattle.std.specs.declared.cmp.Ordering.TheVariants.{Less, Equal, Greater}
 use Rattle.std.proofs.lemmas.Bool.Decides.{nat_tests}
 use Rattle.std.proofs.lemmas.Cmp.{tied_itself}
-use Rattle.std.proofs.lemmas.List.Elements.{All-filter, All-weaker, All-cons, All-contains}
+use Rattle.std.proofs.lemmas.List.Elements.{All-filter, All-weaker, All-contains}
 use Rattle.std.proofs.lemmas.List.Kept.{IsStrictlySortedBy-filter}
-use Rattle.lock_table.specs.declared.lock.LockKind.{LockKind}
 use Rattle.lock_table.specs.declared.lock.Lock.{Lock}
-use Rattle.lock_table.specs.Lock.{blocks, Clashes, is_open, is_of_open, is_of_open_on, is_on, is_update, bound, lock_cmp}
-use Rattle.lock_table.specs.Table.{Locks, holding, IsTable, AreCompatible, IsOneOf, with_item, in_order, with_lock, without_lock, freed, kept, kept_to_boundary}
+use Rattle.lock_table.specs.Lock.{blocks, Clashes, is_of_open_on, is_on, is_update, bound, lock_cmp}
+use Rattle.lock_table.specs.Table.{Locks, holding, IsTable, AreCompatible, IsOneOf, in_order, with_lock, without_lock, freed, kept, kept_to_boundary}
 use Rattle.lock_table.proofs.InOrder.{with_item-filter, with_item-twice, with_item-swap, filter-with_item, fold-with_item, IsStrictlySortedBy-with_item, in_order-sorted}
 use Rattle.lock_table.proofs.Kept.{filter-wider, filter-swap, filter-contrary, filter-has, length-filter-≤, length-filter-<, map-untouched, All-with_item}
 use Rattle.lock_table.proofs.Locks.{lock_cmp-total, lock_cmp-same}

@@ -1,5 +1,5 @@
 -- Runs: where the items of a list in order that pass a test stand side by side.
-use Rattle.std.proofs.Common.{◌≡◌, ℕ, ◌-◌, ◌<◌, ◌≤◌, Bool, true, false, not, ◌&&◌, ◌==◌, ◌⊎◌, inl, inr, List, [], ◌∷◌, length, get_or, take, drop, refl, sym, ap, ◌∙◌, arith}
+use Rattle.std.proofs.Common.{◌≡◌, ℕ, ◌-◌, ◌<◌, ◌≤◌, Bool, true, false, not, ◌&&◌, ◌==◌, ◌⊎◌, inl, inr, List, [], ◌∷◌, length, get_or, take, drop, refl, sym, ◌∙◌, arith}
 use Rattle.std.specs.List.{filter}
 use Rattle.std.specs.List.Sorted.{IsPartitionPoint, IsStrictlySortedBy, IsPartitionedBy}
 use Rattle.std.specs.Ordering.{nat_cmp, ordering_then, is_lt, is_le}

@@ -7,7 +7,7 @@ use Rattle.lock_table.specs.declared.lock.Lock.{Lock}
 use Rattle.lock_table.specs.declared.lock.OpenLock.{OpenLock}
 use Rattle.lock_table.specs.declared.lock.Reach.TheVariants.{Open}
 use Rattle.lock_table.specs.Lock.{is_open}
-use Rattle.lock_table.specs.Table.{Locks, IsTable, in_order}
+use Rattle.lock_table.specs.Table.{IsTable, in_order}
 
 -- by holder, then by record and kind
 abbrev pub open_cmp : OpenLock → OpenLock → Ordering

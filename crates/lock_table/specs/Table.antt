@@ -2,12 +2,12 @@
 use Rattle.std.specs.List.{All, Contains}
 use Rattle.std.specs.List.Sorted.{IsStrictlySortedBy}
 use Rattle.std.specs.Ordering.{is_eq, match_ordering}
-use Rattle.std.specs.Prelude.{◌≡◌, ℕ, ◌-◌, ◌≤◌, Bool, true, false, not, ◌&&◌, ◌==◌, ◌+◌, cond, min, max, Option, None, Some, List, [], ◌∷◌, length, map, filter}
+use Rattle.std.specs.Prelude.{◌≡◌, ℕ, ◌-◌, ◌≤◌, Bool, true, not, ◌+◌, cond, min, max, Option, None, Some, List, [], ◌∷◌, length, map, filter}
 use Rattle.std.specs.declared.cmp.Ordering.{Ordering}
 use Rattle.std.specs.Option.{option_map_or}
 use Rattle.lock_table.specs.declared.lock.LockKind.{LockKind}
 use Rattle.lock_table.specs.declared.lock.Lock.{Lock}
-use Rattle.lock_table.specs.declared.lock.Reach.TheVariants.{Open, Boundary}
+use Rattle.lock_table.specs.declared.lock.Reach.TheVariants.{Open}
 use Rattle.lock_table.specs.Lock.{blocks, Clashes, is_of_open_on, bound, lock_cmp}
 
 -- the locks that are held, each once and in order, and how many may be held without more memory

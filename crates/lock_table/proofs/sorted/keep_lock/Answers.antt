@@ -1,5 +1,5 @@
 -- Behind the lock stands itself, kept already, or it is changed in place.
-use Rattle.std.proofs.Common.{◌≡◌, ◌+◌, ◌<◌, false, true, List, length, get_or, refl, sym, ap, subst, ◌∙◌}
+use Rattle.std.proofs.Common.{◌≡◌, ◌+◌, ◌<◌, false, true, List, length, get_or, refl, sym, subst, ◌∙◌}
 use Rattle.lock_table.specs.declared.lock.Lock.{Lock}
 use Rattle.lock_table.proofs.Bound.{kept-removed, kept-set}
 use Rattle.lock_table.proofs.sorted.keep_lock.Goals as goal

@@ -1,5 +1,5 @@
 -- The lock is there, so the search finds it.
-use Rattle.std.proofs.Common.{◌≡◌, ◌<◌, List, length, rules, ap, sym, arith}
+use Rattle.std.proofs.Common.{◌≡◌, ◌<◌, length, rules, ap, arith}
 use Rattle.lock_table.specs.Lock.{lock_cmp}
 use Rattle.lock_table.specs.Table.{without_lock}
 use Rattle.lock_table.specs.Index.{IsAt}

@@ -1,1 +1,0 @@
-use Rattle.lock_table.proofs.sorted.stands_at.Goals as goal

@@ -1,10 +1,10 @@
 -- Both lists gain the lock.
-use Rattle.std.proofs.Common.{◌≡◌, ◌<◌, ◌≤◌, ◌-◌, true, cond, length, rules, arith, refl, sym, ap, ◌∙◌, subst}
+use Rattle.std.proofs.Common.{◌≡◌, ◌≤◌, ◌-◌, length, arith, sym, ap, ◌∙◌, subst}
 use Rattle.std.specs.List.{All}
 use Rattle.lock_table.specs.declared.lock.Lock.{Lock}
-use Rattle.lock_table.specs.Lock.{Clashes, is_open}
+use Rattle.lock_table.specs.Lock.{Clashes}
 use Rattle.lock_table.specs.Table.{Locks, spare, with_item}
-use Rattle.lock_table.specs.Index.{open_cmp, open_part}
+use Rattle.lock_table.specs.Index.{open_cmp}
 use Rattle.lock_table.proofs.Indexed.{open_ordered, open_fits, IsIndexed-add}
 use Rattle.lock_table.proofs.table.LockTable.add.Goals as goal
 

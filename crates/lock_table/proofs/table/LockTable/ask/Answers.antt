@@ -1,5 +1,5 @@
 -- No job blocks the request, so no lock clashes.
-use Rattle.std.proofs.Common.{sym, ◌∙◌}
+use Rattle.std.proofs.Common.{sym}
 use Rattle.lock_table.specs.Table.{asked_lock}
 use Rattle.lock_table.proofs.Found.{alone-from_blocker}
 use Rattle.lock_table.proofs.table.LockTable.ask.Goals as goal

@@ -1,4 +1,4 @@
-use Rattle.std.proofs.Common.{◌≡◌, not, List, sym, ap, subst, ◌∙◌}
+use Rattle.std.proofs.Common.{not, List, ap, ◌∙◌}
 use Rattle.std.specs.List.{filter}
 use Rattle.lock_table.specs.declared.lock.Lock.{Lock}
 use Rattle.lock_table.specs.Lock.{is_in, is_open}

@@ -1,12 +1,9 @@
 -- Both lists lose the lock.
-use Rattle.std.proofs.Common.{◌≡◌, ◌<◌, ◌≤◌, List, length, refl, subst, sym, ap, ◌∙◌, arith}
-use Rattle.std.specs.List.{All, Contains}
-use Rattle.std.specs.Ordering.{is_eq}
-use Rattle.std.proofs.lemmas.List.Elements.{All-filter, All-contains}
+use Rattle.std.proofs.Common.{◌≡◌, refl, subst, sym, ap, ◌∙◌}
+use Rattle.std.specs.List.{Contains}
 use Rattle.lock_table.specs.declared.lock.Lock.{Lock}
-use Rattle.lock_table.specs.Lock.{Clashes, lock_cmp}
-use Rattle.lock_table.specs.Table.{Locks, spare, holding, without_lock}
-use Rattle.lock_table.specs.Index.{open_part, without_open_lock}
+use Rattle.lock_table.specs.Table.{Locks}
+use Rattle.lock_table.specs.Index.{without_open_lock}
 use Rattle.lock_table.proofs.Indexed.{open_ordered, IsIndexed-free}
 use Rattle.lock_table.proofs.Releases.{length-without_lock}
 use Rattle.lock_table.proofs.table.LockTable.free.Goals as goal

@@ -1,9 +1,5 @@
-use Rattle.std.proofs.Common.{◌≡◌, Bool, Option, None, Some, is_some, List, refl, sym, ap, subst, ◌∙◌}
-use Rattle.std.specs.List.{filter, find, list_any}
-use Rattle.std.specs.Option.{option_copied}
-use Rattle.lock_table.specs.declared.lock.Lock.{Lock}
+use Rattle.std.proofs.Common.{◌∙◌}
 use Rattle.lock_table.specs.Lock.{is_on, is_of_open, is_of_group}
-use Rattle.lock_table.specs.Table.{IsTable}
 use Rattle.lock_table.proofs.Found.{any-run}
 use Rattle.lock_table.proofs.table.LockTable.held.Goals as goal
 

@@ -1,5 +1,3 @@
-use Rattle.std.proofs.Common.{arith, ◌∙◌, sym, ap}
-use Rattle.lock_table.specs.Index.{open_locks}
 use Rattle.lock_table.proofs.Indexed.{IsIndexed-empty}
 use Rattle.lock_table.proofs.table.LockTable.new.Goals as goal
 

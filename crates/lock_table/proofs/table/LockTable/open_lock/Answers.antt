@@ -1,6 +1,6 @@
 -- The last of the open's run in the list by open, which has just the locks that end at a read.
-use Rattle.std.proofs.Common.{◌≡◌, ◌-◌, None, Some, List, [], length, sym, ap, subst, ◌∙◌}
-use Rattle.std.specs.List.{filter, slice_get}
+use Rattle.std.proofs.Common.{◌≡◌, [], sym, ap, subst, ◌∙◌}
+use Rattle.std.specs.List.{filter}
 use Rattle.std.specs.List.Sorted.{IsStrictlySortedBy}
 use Rattle.lock_table.specs.declared.lock.Lock.{Lock}
 use Rattle.lock_table.specs.Lock.{is_of_open}

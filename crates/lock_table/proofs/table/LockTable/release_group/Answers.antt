@@ -1,7 +1,6 @@
-use Rattle.std.proofs.Common.{not, rules, sym, ap, refl, ◌∙◌}
+use Rattle.std.proofs.Common.{not, rules, refl}
 use Rattle.std.proofs.lemmas.Fn.{filter_same}
 use Rattle.lock_table.specs.Lock.{is_of_group}
-use Rattle.lock_table.specs.Table.{freed}
 use Rattle.lock_table.proofs.Indexed.{IsIndexed-release_group}
 use Rattle.lock_table.proofs.table.LockTable.release_group.Goals as goal
 
