@@ -1,5 +1,5 @@
 -- A job that runs stands in the list of jobs, and to set it anew there is to change it.
-use Rattle.std.proofs.Common.{◌≡◌, ℕ, ◌+◌, ◌-◌, ◌<◌, Bool, true, false, if◌then◌else◌, ◌==◌, IsTrue, List, [], ◌∷◌, ◌++◌, Option, Some, None, Result, Ok, Err, OnOk, length, slice_get, slice_set, get_or, zero, suc, refl, sym, ◌∙◌, ap, subst, arith}
+use Rattle.std.proofs.Common.{◌≡◌, ℕ, ◌-◌, ◌<◌, true, false, if◌then◌else◌, ◌==◌, IsTrue, List, [], ◌∷◌, ◌++◌, Some, None, Result, Ok, Err, OnOk, length, slice_get, slice_set, get_or, zero, suc, refl, sym, ◌∙◌, ap, arith}
 use Rattle.std.specs.declared.alloc.AllocError.{AllocError}
 use Rattle.std.proofs.lemmas.Option.{slice_get-get_or}
 use Rattle.library_model.specs.declared.state.Job.{Job}

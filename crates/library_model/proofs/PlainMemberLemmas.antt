@@ -1,7 +1,6 @@
 -- Where a number's item stands in a list of numbered items that is searched from the front.
-use Rattle.std.proofs.Common.{◌≡◌, ◌≢◌, ℕ, ◌+◌, ◌-◌, ◌<◌, ◌≤◌, Bool, true, false, if◌then◌else◌, ◌==◌, List, [], ◌∷◌, ◌++◌, Option, Some, None, length, slice_get, slice_set, get_or, zero, suc, refl, sym, ◌∙◌, ap, subst, arith, eqb, ltb, leb, take, drop}
+use Rattle.std.proofs.Common.{◌≡◌, ◌≢◌, ℕ, ◌<◌, ◌≤◌, true, false, List, [], ◌∷◌, Some, None, length, slice_get, slice_set, get_or, zero, suc, refl, arith}
 use Rattle.std.specs.List.{insert}
-use Rattle.std.proofs.lemmas.Grind.{common_steps}
 use Rattle.std.proofs.lemmas.Bool.Decides.{nat_tests}
 use Rattle.member_slots.specs.Members.{Numbered, item_at, with_item, put_item}
 use Rattle.library_model.specs.PlainLists.{is_number_at}

@@ -15,7 +15,9 @@ ghost use Rattle.library_model.specs.Step.{step, MayAnswer, is_running, needs_me
 
 use crate::plain_members::PlainMembers;
 use crate::replies::{LimitKind, Missing, RecordRead, Reply};
-use crate::requests::{ChainRecord, ChainTo, CreatePhysicalFile, OpenFile, OpenOption, Request, WriteRecord};
+use crate::requests::{
+    ChainRecord, ChainTo, CreatePhysicalFile, OpenFile, OpenOption, Request, WriteRecord,
+};
 use crate::sources::Sources;
 use crate::state::{File, Job, MemberName, MemberNames, Open, Opens};
 use crate::value_lists::Values;
