@@ -1,15 +1,11 @@
 -- A library stays lawful: what each request does keeps its files' and opens' members there.
-use Rattle.std.proofs.Common.{◌≡◌, ◌≢◌, ℕ, ◌+◌, ◌-◌, ◌<◌, ◌≤◌, Bool, true, false, List, [], ◌∷◌, ◌++◌, Option, Some, None, length, slice_get, slice_set, if◌then◌else◌, nat_eq, ◌==◌, IsSome, IsTrue, get_or, unwrap_or, Result, Ok, Err, OnOk, subst, refl, sym, ◌∙◌, ap, arith, rules, zero, suc}
-use Rattle.std.proofs.lemmas.Grind.{common_steps}
-use Rattle.std.specs.declared.alloc.AllocError.{AllocError}
-use Rattle.std.proofs.lemmas.Option.{slice_get-get_or}
-use Rattle.library_model.specs.Step.{is_running}
+use Rattle.std.proofs.Common.{◌≡◌, ◌≢◌, ℕ, ◌+◌, ◌-◌, ◌<◌, true, false, List, [], ◌∷◌, ◌++◌, Option, Some, None, slice_get, if◌then◌else◌, nat_eq, ◌==◌, IsSome, unwrap_or, subst, refl, ◌∙◌, ap, arith, rules, zero, suc}
 use Rattle.std.proofs.lemmas.Bool.Decides.{nat_tests}
 use Rattle.std.specs.List.{AllByRecursion}
 use Rattle.std.specs.Option.{option_map}
 use Rattle.std.specs.Cmp.Lexicographic.{pointwise}
-use Rattle.member_slots.specs.Member.{MemberState, empty_member, appended}
-use Rattle.member_slots.specs.Members.{Numbered, NumberedMembers, item_at, put_item, with_item, member_at, member_of, put_member, with_member}
+use Rattle.member_slots.specs.Member.{MemberState, empty_member}
+use Rattle.member_slots.specs.Members.{NumberedMembers, item_at, with_item, member_at, member_of, put_member, with_member}
 use Rattle.plain_format.specs.Packing.{record_length}
 use Rattle.library_model.specs.declared.state.File.{File}
 use Rattle.library_model.specs.declared.state.MemberName.{MemberName}
@@ -18,7 +14,7 @@ use Rattle.library_model.specs.declared.state.Job.{Job}
 use Rattle.library_model.specs.State.{State, file_named, member_named, open_named, job_at, opens_of, job_changed, new_job}
 use Rattle.library_model.specs.OpenFile.{with_open}
 use Rattle.library_core.specs.Lawful.{HasMember, FileHolds, OpensMember, OpenHolds, IsLibrary}
-use Rattle.library_core.proofs.MemberLemmas.{item_at-put_item_other, item_at-put_item_same, item_at-with_item_other, item_at-with_item_same}
+use Rattle.library_core.proofs.MemberLemmas.{item_at-put_item_other, item_at-put_item_same}
 
 pub AllByRecursion-each : {X : Type 0} (P Q : X → Type 0) (xs : List X) → ((x : X) → P x → Q x) → AllByRecursion P xs → AllByRecursion Q xs
 AllByRecursion-each P Q [] each all = tt

@@ -1,6 +1,5 @@
 -- What a step leaves of the jobs, and which replies it gives.
-use Rattle.std.proofs.Common.{◌≡◌, ℕ, ◌+◌, ◌-◌, Bool, true, false, ◌&&◌, not, if◌then◌else◌, ◌==◌, IsTrue, List, [], ◌∷◌, ◌++◌, Option, Some, None, Result, Ok, Err, zero, suc, slice_get, inl, inr, ◌⊎◌, refl, sym, ◌∙◌, ap, subst, arith, rules}
-use Rattle.std.proofs.lemmas.Grind.{common_steps}
+use Rattle.std.proofs.Common.{◌≡◌, ℕ, ◌-◌, true, false, ◌&&◌, not, if◌then◌else◌, ◌==◌, IsTrue, List, [], ◌∷◌, None, Result, Ok, Err, zero, suc, slice_get, inl, inr, refl, ◌∙◌, ap, subst, arith}
 use Rattle.std.proofs.lemmas.Bool.Decides.{nat_tests}
 use Rattle.library_model.specs.declared.state.Job.{Job}
 use Rattle.library_model.specs.declared.requests.Request.{Request}
