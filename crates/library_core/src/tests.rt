@@ -12,7 +12,10 @@ use field_types::texts::Text;
 use field_types::values::{Dec, Value};
 use library_model::plain::PlainLibrary;
 use library_model::replies::{Missing, Reply};
-use library_model::requests::{AccessPath, ChainRecord, ChainTo, CreatePhysicalFile, EndJob, EndReason, LockOption, OpenFile, OpenOption, Request, WriteRecord};
+use library_model::requests::{
+    AccessPath, ChainRecord, ChainTo, CreatePhysicalFile, EndJob, EndReason, LockOption, OpenFile,
+    OpenOption, Request, WriteRecord,
+};
 use library_model::sources::{NamedSource, Sources};
 use library_model::value_lists::GivenValues;
 use std::alloc::Global;
@@ -56,12 +59,16 @@ enum Answer {
 }
 
 const ABC: &[u8] = b"\xC1\xC2\xC3";
+
 const HELLO: &[u8] = b"\xC8\xC5\xD3\xD3\xD6";
+
 const HELLOS: &[u8] = b"\xC8\xC5\xD3\xD3\xD6\xE2";
+
 const FIRST: RecordFault = RecordFault::BadField {
     field: 1,
     cause: ValueFault::TooWide,
 };
+
 const KIND: RecordFault = RecordFault::BadField {
     field: 1,
     cause: ValueFault::WrongKind,
@@ -71,23 +78,50 @@ const ROWS: [(Ask, Answer); 22] = [
     (Ask::Create("CUST", "CUST"), Answer::Done),
     (Ask::Create("CUST", "CUST"), Answer::NameExists("CUST")),
     (Ask::Create("ITEM", "NONE"), Answer::NoSuchName("NONE")),
-    (Ask::Open("CUST", "CUST", "CUST", OpenOption::All), Answer::Done),
-    (Ask::Open("CUST", "CUST", "CUST", OpenOption::All), Answer::NameExists("CUST")),
-    (Ask::Open("ITEM", "ITEM", "ITEM", OpenOption::All), Answer::NoSuchName("ITEM")),
-    (Ask::Open("OTHER", "CUST", "MISS", OpenOption::All), Answer::NoSuchName("MISS")),
+    (
+        Ask::Open("CUST", "CUST", "CUST", OpenOption::All),
+        Answer::Done,
+    ),
+    (
+        Ask::Open("CUST", "CUST", "CUST", OpenOption::All),
+        Answer::NameExists("CUST"),
+    ),
+    (
+        Ask::Open("ITEM", "ITEM", "ITEM", OpenOption::All),
+        Answer::NoSuchName("ITEM"),
+    ),
+    (
+        Ask::Open("OTHER", "CUST", "MISS", OpenOption::All),
+        Answer::NoSuchName("MISS"),
+    ),
     (Ask::Write("CUST", 1, Given::Chars(ABC)), Answer::Added(1)),
-    (Ask::Chain("CUST", 1), Answer::Record(1, b"\xC1\xC2\xC3\x40\x40")),
+    (
+        Ask::Chain("CUST", 1),
+        Answer::Record(1, b"\xC1\xC2\xC3\x40\x40"),
+    ),
     (Ask::Chain("CUST", 2), Answer::NotFound),
     (Ask::Chain("CUST", 0), Answer::NotFound),
     (Ask::Chain("CUST", 4_294_967_295), Answer::NotFound),
     (Ask::Write("CUST", 1, Given::Chars(HELLO)), Answer::Added(2)),
     (Ask::Chain("CUST", 2), Answer::Record(2, HELLO)),
-    (Ask::Write("CUST", 1, Given::Chars(HELLOS)), Answer::BadValue(FIRST)),
-    (Ask::Write("CUST", 2, Given::Chars(ABC)), Answer::BadValue(RecordFault::Count)),
+    (
+        Ask::Write("CUST", 1, Given::Chars(HELLOS)),
+        Answer::BadValue(FIRST),
+    ),
+    (
+        Ask::Write("CUST", 2, Given::Chars(ABC)),
+        Answer::BadValue(RecordFault::Count),
+    ),
     (Ask::Write("CUST", 1, Given::Number), Answer::BadValue(KIND)),
     (Ask::Write("CUST", 1, Given::Nothing), Answer::Added(3)),
-    (Ask::Chain("CUST", 3), Answer::Record(3, b"\x40\x40\x40\x40\x40")),
-    (Ask::Open("READ", "CUST", "CUST", OpenOption::Input), Answer::Done),
+    (
+        Ask::Chain("CUST", 3),
+        Answer::Record(3, b"\x40\x40\x40\x40\x40"),
+    ),
+    (
+        Ask::Open("READ", "CUST", "CUST", OpenOption::Input),
+        Answer::Done,
+    ),
     (Ask::Write("READ", 1, Given::Chars(ABC)), Answer::WrongOpen),
     (Ask::Chain("NONE", 1), Answer::NoSuchName("NONE")),
 ];
@@ -226,7 +260,10 @@ fn calls_are_answered(rt: HostRuntime) {
         let reply = ask_library(&mut library, job, &sources, &request);
         assert!(rt; is_answer(&reply, *answer), "row {row}");
         let reply = ask_plain(&mut plain, other, &sources, &request);
-        assert!(rt; is_answer(&reply, *answer), "row {row} of the plain program");
+        assert!(rt;
+            is_answer(&reply, *answer),
+            "row {row} of the plain program"
+        );
     }
     let end = Request::EndJob(EndJob {
         reason: EndReason::Normal,
@@ -235,6 +272,9 @@ fn calls_are_answered(rt: HostRuntime) {
     let reply = call(&mut library, job, 0, &sources, &end);
     assert!(rt; is_answer(&reply, Answer::Done), "the end");
     let reply = plain.step(&sources, other, &end);
-    assert!(rt; is_answer(&reply, Answer::Done), "the end of the plain program");
+    assert!(rt;
+        is_answer(&reply, Answer::Done),
+        "the end of the plain program"
+    );
     let _ = library.into_store();
 }
