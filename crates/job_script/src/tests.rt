@@ -1,11 +1,7 @@
-//! Inputs that are read, and inputs with the line at which each is at fault; a job run to its end on made-up replies.
-use crate::asks::{JobState, next};
+//! Inputs that are read, and inputs with the line at which each is at fault.
 use crate::input::{InputError, read_input};
 use crate::scripts::Scripts;
 use field_types::names::Name;
-use field_types::values::Value;
-use library_model::replies::Reply;
-use library_model::requests::{ChainTo, EndReason, Request};
 use std::alloc::{AllocError, Global};
 use std::process::Abort;
 use std::test::Fail;
@@ -112,29 +108,35 @@ const FAULTS: [(usize, &str, u32); 69] = [
     (9, "//END\n", 10),
 ];
 
-/// A line of the first input, and what may stand there in its place.
-const VARIANTS: [(usize, &str); 15] = [
-    (1, "//DDS \t CUST \t"),
+/// A line of the first input, and what may stand there in its place without a fault.
+const VARIANTS: [(usize, &str, u32); 15] = [
+    (1, "//DDS \t CUST \t", 0),
     (
         2,
         "01000a          r custr                                                         PAST 80",
+        0,
     ),
-    (2, "     A* a comment\n\n     A          R CUSTR\r\nzzzzzz"),
-    (3, "                  name       00005a"),
-    (3, "\t    A\t           NAME           5A\r"),
-    (4, "//JOB\t@J_.9"),
-    (7, "WRITE OPNID(CUST) VAL('')"),
-    (7, "WRITE OPNID(CUST) VAL('it''s')"),
-    (7, "WRITE OPNID(CUST) VAL('''''''''''')"),
-    (7, "WRITE OPNID(CUST) VAL(X'')"),
-    (7, "WRITE OPNID(CUST) VAL(X'00fFA1b2C3')"),
-    (7, "CHAIN OPNID(CUST) RRN(0) LCK(*NO)"),
-    (8, "CHAIN OPNID(CUST) RRN(4294967295) LCK(*NO)"),
+    (
+        2,
+        "     A* a comment\n\n     A          R CUSTR\r\nzzzzzz",
+        0,
+    ),
+    (3, "                  name       00005a", 0),
+    (3, "\t    A\t           NAME           5A\r", 0),
+    (4, "//JOB\t@J_.9", 0),
+    (7, "WRITE OPNID(CUST) VAL('')", 0),
+    (7, "WRITE OPNID(CUST) VAL('it''s')", 0),
+    (7, "WRITE OPNID(CUST) VAL('''''''''''')", 0),
+    (7, "WRITE OPNID(CUST) VAL(X'')", 0),
+    (7, "WRITE OPNID(CUST) VAL(X'00fFA1b2C3')", 0),
+    (7, "CHAIN OPNID(CUST) RRN(0) LCK(*NO)", 0),
+    (8, "CHAIN OPNID(CUST) RRN(4294967295) LCK(*NO)", 0),
     (
         8,
         "WRITE OPNID(CUST) VAL('^[]~`')\nWRITE OPNID(CUST) VAL(')')",
+        0,
     ),
-    (9, "//END"),
+    (9, "//END", 0),
 ];
 
 /// The line at fault, 0 where there is none.
@@ -162,24 +164,27 @@ fn with_line(alloc: Global, place: usize, text: &str) -> Result<String, AllocErr
     Ok(input)
 }
 
+/// Each row in place of its line has its fault.
+fn faults_agree(
+    rt: &impl Abort,
+    alloc: Global,
+    rows: &[(usize, &'static str, u32)],
+) -> Result<(), AllocError> {
+    for (place, text, line) in rows {
+        let input = with_line(alloc, *place, text)?;
+        assert_eq!(rt;
+            fault_of(alloc, input.as_str())?,
+            *line,
+            "line {place} as {text:?}"
+        );
+    }
+    Ok(())
+}
+
 #[test]
 fn faults_have_their_lines(rt: HostRuntime) -> Result<(), Fail> {
-    for (place, text, line) in FAULTS {
-        let input = with_line(rt.alloc(), place, text)?;
-        assert_eq!(rt;
-            fault_of(rt.alloc(), input.as_str())?,
-            line,
-            "line {place} as {text:?}"
-        );
-    }
-    for (place, text) in VARIANTS {
-        let input = with_line(rt.alloc(), place, text)?;
-        assert_eq!(rt;
-            fault_of(rt.alloc(), input.as_str())?,
-            0,
-            "line {place} as {text:?}"
-        );
-    }
+    faults_agree(&rt, rt.alloc(), &FAULTS)?;
+    faults_agree(&rt, rt.alloc(), &VARIANTS)?;
     Ok(())
 }
 
@@ -268,59 +273,6 @@ fn first_input_is_read(rt: HostRuntime) -> Result<(), Fail> {
                 assert_eq!(rt; text.as_bytes(), lines.as_slice());
             }
         },
-    }
-    Ok(())
-}
-
-/// What a request is, in a few letters, with the number that it carries.
-fn summary(request: &Request) -> (&'static str, u32) {
-    match request {
-        Request::CreatePhysicalFile(_) => ("CRTPF", 0),
-        Request::OpenFile(_) => ("OPNDBF", 0),
-        Request::Write(args) => match args.values.as_slice() {
-            [Some(Value::Chars(text))] if text.as_bytes() == [0xC1, 0xC2, 0xC3].as_slice() => {
-                ("WRITE", 0)
-            }
-            _ => ("other WRITE", 0),
-        },
-        Request::Chain(args) => match args.to {
-            ChainTo::RecordNumber(rrn) => ("CHAIN", rrn),
-            ChainTo::Key(_) => ("CHAIN KEY", 0),
-        },
-        Request::EndJob(args) => match args.reason {
-            EndReason::Normal => ("*NORMAL", args.line),
-            EndReason::Escape => ("*ESCAPE", args.line),
-            EndReason::History => ("*HISTORY", args.line),
-            _ => ("other ENDJOB", args.line),
-        },
-        _ => ("other", 0),
-    }
-}
-
-#[test]
-fn jobs_ask_for_their_statements(rt: HostRuntime) -> Result<(), Fail> {
-    let scripts = first_scripts(&rt, rt.alloc())?;
-    for script in scripts.scripts.as_slice() {
-        let mut state = JobState::new();
-        let replies = [
-            None,
-            Some(Reply::Done),
-            Some(Reply::Done),
-            Some(Reply::Added { rrn: 1 }),
-        ];
-        let wanted = [("CRTPF", 0), ("OPNDBF", 0), ("WRITE", 0), ("CHAIN", 1)];
-        for (reply, asked) in replies.iter().zip(wanted) {
-            let request = next(rt.alloc(), script, &mut state, reply.as_ref(), false)?;
-            assert_eq!(rt; summary(&request), asked);
-        }
-        let mut again = state;
-        let request = next(rt.alloc(), script, &mut again, Some(&Reply::NotFound), true)?;
-        assert_eq!(rt; summary(&request), ("*ESCAPE", 8));
-        let request = next(rt.alloc(), script, &mut state, Some(&Reply::Done), true)?;
-        assert_eq!(rt; summary(&request), ("*NORMAL", 0));
-        let mut begun = JobState::new();
-        let request = next(rt.alloc(), script, &mut begun, None, true)?;
-        assert_eq!(rt; summary(&request), ("*HISTORY", 0));
     }
     Ok(())
 }
