@@ -50,6 +50,14 @@ impl Keywords {
         Ok(())
     }
 
+    /// Adds more at the end.
+    pub fn append(&mut self, keywords: Keywords) -> Result<(), AllocError>
+        ensures { OnOk result (self.new ≡ self.old ++ keywords) }
+    {
+        let Keywords { items: mut more } = keywords;
+        self.items.append(&mut more)
+    }
+
     pub fn as_slice(&self) -> &[Keyword]
         ensures { result.now ≡ self.now }
     {

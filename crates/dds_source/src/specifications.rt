@@ -1,5 +1,6 @@
 //! Specifications: a line of a source with its entries, and all keywords that belong to it.
 ghost use Rattle.std.specs.Prelude.{◌≡◌, [], ◌∷◌, ◌++◌, OnOk};
+ghost use Rattle.dds_source.specs.Reading.{with_keywords};
 
 use crate::keywords::Keywords;
 use field_types::names::Name;
@@ -103,11 +104,32 @@ impl Specifications {
         Ok(())
     }
 
+    /// Adds keywords to the last one.
+    pub(crate) fn extend_last(&mut self, keywords: Keywords) -> Result<(), AllocError>
+        ensures { OnOk result (self.new ≡ with_keywords keywords self.old) }
+    {
+        extend_last(&mut self.items, keywords)
+    }
+
     pub fn as_slice(&self) -> &[Specification]
         ensures { result.now ≡ self.now }
     {
         self.items.as_slice()
     }
+}
+
+fn extend_last(
+    specifications: &mut Vec<Specification>,
+    keywords: Keywords,
+) -> Result<(), AllocError>
+    ensures { OnOk result (specifications.new.items ≡ with_keywords keywords specifications.old.items) }
+{
+    let len = specifications.len();
+    if len == 0 {
+        return Ok(());
+    }
+    let last = &mut specifications[len - 1];
+    last.keywords.append(keywords)
 }
 
 /// A source as it was read.

@@ -9,6 +9,7 @@ mod opening;
 mod reading;
 
 pub use fault::{LogFault, StoreFault};
+pub use layout::MAX_BLOCK;
 pub use log::{Log, format};
 pub use opening::open;
 pub use reading::one_reading;

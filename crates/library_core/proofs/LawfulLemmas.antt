@@ -1,15 +1,11 @@
 -- A library stays lawful: what each request does keeps its files' and opens' members there.
-use Rattle.std.proofs.Common.{◌≡◌, ◌≢◌, ℕ, ◌+◌, ◌-◌, ◌<◌, ◌≤◌, Bool, true, false, List, [], ◌∷◌, ◌++◌, Option, Some, None, length, slice_get, slice_set, if◌then◌else◌, nat_eq, ◌==◌, IsSome, IsTrue, get_or, unwrap_or, Result, Ok, Err, OnOk, subst, refl, sym, ◌∙◌, ap, arith, rules, zero, suc}
-use Rattle.std.proofs.lemmas.Grind.{common_steps}
-use Rattle.std.specs.declared.alloc.AllocError.{AllocError}
-use Rattle.std.proofs.lemmas.Option.{slice_get-get_or}
-use Rattle.library_model.specs.Step.{is_running}
+use Rattle.std.proofs.Common.{◌≡◌, ◌≢◌, ℕ, ◌+◌, ◌-◌, ◌<◌, true, false, List, [], ◌∷◌, ◌++◌, Option, Some, None, slice_get, if◌then◌else◌, nat_eq, ◌==◌, IsSome, unwrap_or, subst, refl, ◌∙◌, ap, arith, rules, zero, suc}
 use Rattle.std.proofs.lemmas.Bool.Decides.{nat_tests}
 use Rattle.std.specs.List.{AllByRecursion}
 use Rattle.std.specs.Option.{option_map}
 use Rattle.std.specs.Cmp.Lexicographic.{pointwise}
-use Rattle.member_slots.specs.Member.{MemberState, empty_member, appended}
-use Rattle.member_slots.specs.Members.{Numbered, NumberedMembers, item_at, put_item, with_item, member_at, member_of, put_member, with_member}
+use Rattle.member_slots.specs.Member.{MemberState, empty_member}
+use Rattle.member_slots.specs.Members.{NumberedMembers, item_at, with_item, member_at, member_of, put_member, with_member}
 use Rattle.plain_format.specs.Packing.{record_length}
 use Rattle.library_model.specs.declared.state.File.{File}
 use Rattle.library_model.specs.declared.state.MemberName.{MemberName}
@@ -18,7 +14,7 @@ use Rattle.library_model.specs.declared.state.Job.{Job}
 use Rattle.library_model.specs.State.{State, file_named, member_named, open_named, job_at, opens_of, job_changed, new_job}
 use Rattle.library_model.specs.OpenFile.{with_open}
 use Rattle.library_core.specs.Lawful.{HasMember, FileHolds, OpensMember, OpenHolds, IsLibrary}
-use Rattle.library_core.proofs.MemberLemmas.{item_at-put_item_other, item_at-put_item_same, item_at-with_item_other, item_at-with_item_same}
+use Rattle.library_core.proofs.MemberLemmas.{item_at-put_item_other, item_at-put_item_same}
 
 pub AllByRecursion-each : {X : Type 0} (P Q : X → Type 0) (xs : List X) → ((x : X) → P x → Q x) → AllByRecursion P xs → AllByRecursion Q xs
 AllByRecursion-each P Q [] each all = tt
@@ -124,12 +120,6 @@ IsLibrary-new_job s name lawful = record {
   numbers = lawful.numbers;
 }
 
--- the jobs with a job set anew at its place
-pub slice_set-job_changed : (jobs : List Job) (place : ℕ) (change : Job → Job) (job : Job) → slice_get jobs place ≡ Some job → slice_set jobs place (change job) ≡ job_changed place change jobs
-slice_set-job_changed [] place change job there = refl
-slice_set-job_changed (first ∷ jobs) zero change job there = cc
-slice_set-job_changed (first ∷ jobs) (suc place) change job there = ap (λ rest. first ∷ rest) (slice_set-job_changed jobs place change job there)
-
 -- what holds of each file holds of the one that is found
 pub file_named-each : (P : File → Type 0) (name : List ℕ) (files : List File) (file : File) → AllByRecursion P files → file_named name files ≡ Some file → P file
 file_named-each P name [] file all found = absurd cc
@@ -195,31 +185,6 @@ record_length-HasMember members number len has =
       | None ↦ λ e. absurd cc
       | Some m ↦ λ e. cc
     ] has
-
-in_range : (jobs : List Job) (place : ℕ) → IsTrue (is_running (slice_get jobs place)) → place < length jobs
-in_range [] place h = absurd cc
-in_range (job ∷ jobs) zero h = omega arith
-in_range (job ∷ jobs) (suc place) h = omega (arith, in_range jobs place h)
-
--- a job that runs stands in the list of jobs
-pub slice_get-is_running : (jobs : List Job) (number : ℕ) (first : Job) → IsTrue (is_running (job_at number jobs)) → slice_get jobs (number - 1) ≡ Some (get_or jobs (number - 1) first)
-slice_get-is_running jobs number first running =
-    elim (number == 0) as (λ b. IsTrue (is_running (if b then None else slice_get jobs (number - 1))) → slice_get jobs (number - 1) ≡ Some (get_or jobs (number - 1) first)) [
-      | true ↦ λ h. absurd cc
-      | false ↦ λ h. slice_get-get_or jobs (number - 1) first (in_range jobs (number - 1) h)
-    ] running
-
--- a job that runs, set anew in the list of jobs
-pub slice_set-running : (items now : List Job) (number : ℕ) (change : Job → Job) (job : Job) → items ≡ now → IsTrue (is_running (job_at number now)) → job ≡ get_or items (number - 1) job → slice_set items (number - 1) (change job) ≡ job_changed (number - 1) change now
-slice_set-running items now number change job shown running here =
-    let runs : IsTrue (is_running (job_at number items)) = rw shown running in
-    let there = slice_get-is_running items number job runs in
-    slice_set-job_changed items (number - 1) change job (there ∙ ap (λ j. Some j) (sym here)) ∙ ap (job_changed (number - 1) change) shown
-
-pub slice_set-opened : (r : Result (Unit {0}) AllocError) (items now : List Job) (number : ℕ) (job : Job) (opened : Open) (opens : List Open) → items ≡ now → IsTrue (is_running (job_at number now)) → job ≡ get_or items (number - 1) job → OnOk r (opens ≡ job.opens ++ opened ∷ []) → OnOk r (slice_set items (number - 1) (record { name = job.name; ended = job.ended; opens = opens }) ≡ job_changed (number - 1) (with_open opened) now)
-slice_set-opened (Err e) items now number job opened opens shown running here pushed = tt
-slice_set-opened (Ok u) items now number job opened opens shown running here pushed =
-    rw pushed (slice_set-running items now number (with_open opened) job shown running here)
 
 -- a new file with one new member
 pub IsLibrary-created : (s : State) (file : File) (name : List ℕ) → IsLibrary s → file.members ≡ record { name = name; number = s.next_member } ∷ [] → IsLibrary (record s { files = s.files ++ file ∷ []; members = put_member s.next_member (empty_member (record_length file.format.fields)) s.members; next_member = s.next_member + 1 })

@@ -1,5 +1,5 @@
 -- No step shows entries of the journal yet.
-use Rattle.std.proofs.Common.{◌≡◌, ℕ, Bool, true, false, IsTrue, List, Option, Some, None, Result, Ok, Err, refl, sym, subst, arith, rules}
+use Rattle.std.proofs.Common.{◌≡◌, ℕ, IsTrue, List, Result, Ok, Err, refl, sym, subst, arith, rules}
 use Rattle.field_types.specs.declared.faults.RecordFault.{RecordFault}
 use Rattle.library_model.specs.declared.requests.Request.{Request}
 use Rattle.library_model.specs.declared.requests.Request.TheVariants as request
@@ -7,22 +7,16 @@ use Rattle.library_model.specs.declared.requests.CreatePhysicalFile.{CreatePhysi
 use Rattle.library_model.specs.declared.requests.OpenFile.{OpenFile}
 use Rattle.library_model.specs.declared.requests.WriteRecord.{WriteRecord}
 use Rattle.library_model.specs.declared.requests.ChainRecord.{ChainRecord}
-use Rattle.library_model.specs.declared.requests.ChainTo.{ChainTo}
-use Rattle.library_model.specs.declared.requests.ChainTo.TheVariants.{Key, RecordNumber}
 use Rattle.library_model.specs.declared.replies.Reply.{Reply}
-use Rattle.library_model.specs.declared.replies.Reply.TheVariants.{NameExists, LimitReached, NoSuchName, WrongOpen, MemberFull, NotFound}
-use Rattle.library_model.specs.declared.replies.LimitKind.TheVariants.{Files, MemberNumbers, Opens}
-use Rattle.library_model.specs.declared.replies.Missing.TheVariants.{Name}
 use Rattle.library_model.specs.declared.replies.RecordRead.{RecordRead}
 use Rattle.library_model.specs.declared.plans.NewFile.{NewFile}
 use Rattle.library_model.specs.declared.plans.NewRecord.{NewRecord}
 use Rattle.library_model.specs.declared.sources.NamedSource.{NamedSource}
 use Rattle.library_model.specs.State.{State}
-use Rattle.library_model.specs.Refusals.{◌>>=◌, found, refuse_if}
 use Rattle.library_model.specs.CreatePhysicalFile.{create_plan, create_of_plan}
 use Rattle.library_model.specs.OpenFile.{open_plan, open_of_plan}
-use Rattle.library_model.specs.WriteRecord.{write_plan, write_of_plan, packed, named_or}
-use Rattle.library_model.specs.ChainRecord.{chain_plan, read_reply, number_asked}
+use Rattle.library_model.specs.WriteRecord.{write_plan, write_of_plan, packed}
+use Rattle.library_model.specs.ChainRecord.{chain_plan, read_reply}
 use Rattle.library_model.specs.Built.{is_built_reply}
 use Rattle.library_model.specs.Step.{step}
 

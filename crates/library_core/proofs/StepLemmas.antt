@@ -1,6 +1,5 @@
 -- What a step leaves of the jobs, and which replies it gives.
-use Rattle.std.proofs.Common.{◌≡◌, ℕ, ◌+◌, ◌-◌, Bool, true, false, ◌&&◌, not, if◌then◌else◌, ◌==◌, IsTrue, List, [], ◌∷◌, ◌++◌, Option, Some, None, Result, Ok, Err, zero, suc, slice_get, refl, sym, ◌∙◌, ap, subst, arith, rules}
-use Rattle.std.proofs.lemmas.Grind.{common_steps}
+use Rattle.std.proofs.Common.{◌≡◌, ℕ, ◌-◌, true, false, ◌&&◌, not, if◌then◌else◌, ◌==◌, IsTrue, List, [], ◌∷◌, None, Result, Ok, Err, zero, suc, slice_get, inl, inr, refl, ◌∙◌, ap, subst, arith}
 use Rattle.std.proofs.lemmas.Bool.Decides.{nat_tests}
 use Rattle.library_model.specs.declared.state.Job.{Job}
 use Rattle.library_model.specs.declared.requests.Request.{Request}
@@ -19,7 +18,7 @@ use Rattle.library_model.specs.WriteRecord.{write_plan, write_of_plan}
 use Rattle.library_model.specs.declared.plans.Stop.{Stop}
 use Rattle.library_model.specs.declared.plans.Stop.TheVariants.{Refused}
 use Rattle.library_model.specs.Answers.{Answers}
-use Rattle.library_model.specs.Step.{step, is_running, runs_after}
+use Rattle.library_model.specs.Step.{step, MayAnswer, is_running, runs_after, needs_memory}
 
 -- a change that leaves whether a job runs leaves it at each place
 pub is_running-job_changed : (change : Job → Job) → ((job : Job) → (change job).ended ≡ job.ended) → (place at : ℕ) (jobs : List Job) → is_running (slice_get (job_changed place change jobs) at) ≡ is_running (slice_get jobs at)
@@ -83,3 +82,13 @@ pub Answers-refused : (old new : State) (stop : Stop) (reply : Reply) (wanted : 
 Answers-refused old new stop reply wanted answers is =
     let refused : (new ≡ old) × ((old, reply) ≡ wanted) = subst (λ (s : Stop). Answers old new (Err s) wanted) is answers in
     ap (λ (s : State). (s, reply)) refused.0 ∙ refused.1
+
+-- a job that asks for something else than its end runs on
+pub runs-on : (job : ℕ) (r : Request) (jobs : List Job) → needs_memory r ≡ true → runs_after job r jobs job ≡ is_running (job_at job jobs)
+runs-on job (request.EndJob args) jobs other = absurd cc
+runs-on job _ jobs other = refl
+
+pub answered-runs-on : (sources : List NamedSource) (old new : State) (job : ℕ) (r : Request) (reply : Reply) → IsTrue (is_running (job_at job old.jobs)) → needs_memory r ≡ true → MayAnswer sources old job r reply new → IsTrue (is_running (job_at job new.jobs))
+answered-runs-on sources old new job r reply running other (inl answered) =
+    rw (answered-runs sources old new job r reply running answered job, runs-on job r old.jobs other) running
+answered-runs-on sources old new job r reply running other (inr unchanged) = rw unchanged.0 running

@@ -8,6 +8,8 @@ mod create_physical_file;
 mod jobs;
 pub mod library;
 mod open_file;
+#[cfg(test)]
+mod tests;
 mod write_record;
 
 pub use library_model::calls::Call;

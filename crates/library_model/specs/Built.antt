@@ -1,5 +1,5 @@
 -- Which requests the library answers so far: CRTPF, OPNDBF without commitment, WRITE at the end, CHAIN without a lock, ENDJOB.
-use Rattle.std.specs.Prelude.{Bool, true, false, ◌&&◌, not, Option, Some, None}
+use Rattle.std.specs.Prelude.{Bool, true, false, ◌&&◌, not}
 use Rattle.std.specs.Option.{is_none}
 use Rattle.library_model.specs.declared.requests.Request.{Request}
 use Rattle.library_model.specs.declared.requests.Request.TheVariants.{CreatePhysicalFile, OpenFile, Write, Chain, EndJob}

@@ -10,3 +10,4 @@ pub mod EndJob
 pub mod Built
 pub mod Step
 pub mod History
+pub mod PlainLists

@@ -1,5 +1,5 @@
 -- OPNDBF: an open of a member under a name of the job's own. (CL reference, OPNDBF; Database Programming, "Opening a database file".)
-use Rattle.std.specs.Prelude.{ℕ, nat_le, Result, Ok, Err, List, [], ◌∷◌, ◌++◌, length}
+use Rattle.std.specs.Prelude.{ℕ, nat_le, Result, Ok, Err, [], ◌∷◌, ◌++◌, length}
 use Rattle.std.specs.Option.{is_some}
 use Rattle.library_model.specs.declared.requests.OpenFile.{OpenFile}
 use Rattle.library_model.specs.declared.state.Open.{Open}

@@ -1,7 +1,6 @@
 -- What a library is: its files in order of creation, its members by number, and the jobs that have begun.
 -- (Database Programming, "Setting up physical files" and "Opening a database file".)
-use Rattle.std.specs.Prelude.{ℕ, zero, suc, ◌+◌, ◌-◌, Bool, true, false, if◌then◌else◌, ◌==◌, Option, Some, None, List, [], ◌∷◌, ◌++◌, length, map, slice_get}
-use Rattle.std.specs.Option.{unwrap_or, option_map}
+use Rattle.std.specs.Prelude.{ℕ, zero, suc, ◌-◌, false, if◌then◌else◌, ◌==◌, Option, Some, None, List, [], ◌∷◌, ◌++◌, map, slice_get}
 use Rattle.member_slots.specs.Members.{NumberedMembers}
 use Rattle.library_model.specs.declared.state.File.{File}
 use Rattle.library_model.specs.declared.state.MemberName.{MemberName}

@@ -1,5 +1,5 @@
 -- WRITE: a record added past the last place of the member. (Database Programming, "Adding database records".)
-use Rattle.std.specs.Prelude.{ℕ, ◌+◌, Bool, true, false, not, Option, Some, None, Result, Ok, Err, List, [], ◌∷◌, length}
+use Rattle.std.specs.Prelude.{ℕ, ◌+◌, Bool, true, false, not, Option, Some, None, Result, Ok, Err, List, length}
 use Rattle.member_slots.specs.Member.{is_full, appended}
 use Rattle.member_slots.specs.Members.{member_of, with_member}
 use Rattle.field_types.specs.declared.faults.RecordFault.{RecordFault}

@@ -3,6 +3,8 @@
 #![tactic(auto)]
 
 pub mod calls;
+pub mod plain;
+mod plain_members;
 pub mod plans;
 pub mod replies;
 pub mod requests;

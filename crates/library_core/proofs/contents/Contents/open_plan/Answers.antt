@@ -1,4 +1,4 @@
-use Rattle.std.proofs.Common.{◌≡◌, ◌∙◌, Some, rules}
+use Rattle.std.proofs.Common.{◌≡◌, Some, rules}
 use Rattle.library_model.specs.State.{file_named, member_named}
 use Rattle.library_core.proofs.LawfulLemmas.{OpensMember-named}
 use Rattle.library_core.proofs.contents.Contents.open_plan.Goals as goal

@@ -1,4 +1,4 @@
-use Rattle.library_core.proofs.LawfulLemmas.{slice_set-opened}
+use Rattle.library_model.proofs.JobLemmas.{slice_set-opened}
 use Rattle.library_core.proofs.jobs.Jobs.add_open.Goals as goal
 
 pub returns-clause-added : goal.returns-clause-added

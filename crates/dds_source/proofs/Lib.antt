@@ -1,0 +1,10 @@
+pub mod LineLemmas
+pub mod FaultLemmas
+pub mod NumberLemmas
+pub mod KeywordLemmas
+pub mod ContinuationLemmas
+pub mod ReadingLemmas
+pub mod LiteralLemmas
+pub mod WrittenLemmas
+pub mod ColumnLemmas
+pub mod LawLemmas

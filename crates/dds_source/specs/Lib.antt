@@ -1,0 +1,10 @@
+pub mod Characters
+pub mod Lines
+pub mod Entries
+pub mod Numbers
+pub mod Faults
+pub mod Continuation
+pub mod KeywordTexts
+pub mod ArgumentTexts
+pub mod Reading
+pub mod Written

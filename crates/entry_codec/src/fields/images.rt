@@ -1,0 +1,48 @@
+//! Which images the journal keeps, in one byte.
+ghost use Rattle.std.specs.Prelude.{◌≡◌, IfOk, length};
+ghost use Rattle.entry_codec.specs.Spelling.{images_field};
+ghost use Rattle.entry_codec.specs.Reading.{Gives, images_at};
+ghost use Rattle.entry_codec.specs.Writing.{HasRoom, Appends};
+
+use crate::kinds::Images;
+use crate::parts::put_bytes;
+use crate::unread::Unread;
+use std::alloc::{AllocError, Global};
+
+const AFTER: u8 = 1;
+
+const BOTH: u8 = 2;
+
+pub fn length(_images: &Images) -> usize
+    ensures { result ≡ length (images_field _images.now) }
+{
+    1
+}
+
+pub fn put(images: &Images, out: &mut Vec<u8>)
+    requires { HasRoom out.old (images_field images.now) }
+    ensures { Appends out.old out.new (images_field images.now) }
+{
+    let flag = match images {
+        Images::After => AFTER,
+        Images::Both => BOTH,
+    };
+    put_bytes(out, &[flag]);
+}
+
+#[tactic(auto, unfolding(crate::specs::Reading::images_at))]
+pub fn take(_alloc: Global, bytes: &[u8]) -> Result<(Images, &[u8]), Unread>
+    ensures { Gives (λ x. (x.0, x.1.now)) result (images_at bytes.now) }
+{
+    match bytes {
+        [AFTER, rest @ ..] => Ok((Images::After, rest)),
+        [BOTH, rest @ ..] => Ok((Images::Both, rest)),
+        _ => Err(Unread::NotSpelled),
+    }
+}
+
+pub fn copied(images: &Images, _alloc: Global) -> Result<Images, AllocError>
+    ensures { IfOk result (λ x. x ≡ images.now) }
+{
+    Ok(*images)
+}

@@ -1,0 +1,44 @@
+//! The source of a file: its length, and its bytes.
+ghost use Rattle.std.specs.Prelude.{◌≡◌, ◌<◌, ◌^◌, IfOk, length};
+ghost use Rattle.entry_codec.specs.Spelling.{source_field};
+ghost use Rattle.entry_codec.specs.Reading.{Gives, source_at};
+ghost use Rattle.entry_codec.specs.Writing.{HasRoom, Appends};
+
+use crate::fields::number4;
+use crate::parts::{front, put_bytes};
+use crate::source::Source;
+use crate::unread::Unread;
+use std::alloc::{AllocError, Global};
+
+pub fn length(source: &Source) -> usize
+    requires { length (source_field source.now) < 2 ^ 32 }
+    ensures { result ≡ length (source_field source.now) }
+{
+    let bytes = source.as_bytes();
+    number4::length(&(bytes.len() as u32)) + bytes.len()
+}
+
+pub fn put(source: &Source, out: &mut Vec<u8>)
+    requires room { HasRoom out.old (source_field source.now) }
+    requires fits { length (source_field source.now) < 2 ^ 32 }
+    ensures { Appends out.old out.new (source_field source.now) }
+{
+    let bytes = source.as_bytes();
+    number4::put(&(bytes.len() as u32), out);
+    put_bytes(out, bytes);
+}
+
+#[tactic(auto, unfolding(crate::specs::Reading::source_at))]
+pub fn take(alloc: Global, bytes: &[u8]) -> Result<(Source, &[u8]), Unread>
+    ensures { Gives (λ x. (x.0, x.1.now)) result (source_at bytes.now) }
+{
+    let (length, rest) = number4::take(alloc, bytes)?;
+    let (source, rest) = front(rest, length as usize)?;
+    Ok((Source::from_slice(alloc, source)?, rest))
+}
+
+pub fn copied(source: &Source, alloc: Global) -> Result<Source, AllocError>
+    ensures { IfOk result (λ s. s ≡ source.now) }
+{
+    source.copied(alloc)
+}

@@ -1,0 +1,46 @@
+//! What an entry names: a group, a member, a record. The rules stand in `specs/Placing.antt`.
+ghost use Rattle.std.specs.Prelude.{◌≡◌};
+ghost use Rattle.entry_codec.specs.Placing.{is_placed_at};
+
+/// What an entry of a kind has to name.
+#[derive(Clone, Copy)]
+pub enum Place {
+    /// Neither a group nor a member.
+    Library,
+    /// A member, and no record.
+    Member,
+    /// A record, outside every group.
+    Slot,
+    /// A record, in a group or in none.
+    Record,
+    /// A group or none, and no member.
+    Commitment,
+    /// The group that begins here.
+    CycleStart,
+    /// The group that ends here.
+    CycleEnd,
+}
+
+/// Whether an entry at this place names the group, the member and the record that it has to.
+pub fn is_placed_at(
+    place: Place,
+    sequence: u64,
+    group: Option<u64>,
+    member: Option<u32>,
+    rrn: Option<u32>,
+) -> bool
+    ensures { result ≡ is_placed_at place sequence group member rrn }
+{
+    let in_library = member.is_none() && rrn.is_none();
+    let in_member = matches!(member, Some(1..)) && rrn.is_none();
+    let at_record = matches!(member, Some(1..)) && matches!(rrn, Some(1..));
+    match place {
+        Place::Library => group.is_none() && in_library,
+        Place::Member => group.is_none() && in_member,
+        Place::Slot => group.is_none() && at_record,
+        Place::Record => !matches!(group, Some(0)) && at_record,
+        Place::Commitment => !matches!(group, Some(0)) && in_library,
+        Place::CycleStart => matches!(group, Some(own @ 1..) if own == sequence) && in_library,
+        Place::CycleEnd => matches!(group, Some(1..)) && in_library,
+    }
+}

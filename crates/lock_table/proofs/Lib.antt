@@ -1,0 +1,10 @@
+pub mod InOrder
+pub mod Kept
+pub mod Locks
+pub mod Searched
+pub mod Runs
+pub mod Releases
+pub mod Indexed
+pub mod Orders
+pub mod Found
+pub mod Bound

@@ -1,0 +1,4 @@
+pub mod Lock
+pub mod Table
+pub mod Index
+pub mod Levels

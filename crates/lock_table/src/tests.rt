@@ -1,0 +1,212 @@
+//! The locks that worked schedules leave, through the public calls.
+use crate::{
+    Call, InUse, Level, LockFault, LockKind, LockTable, MOST_LOCKS, OpenLocks, Reach, asked,
+    released,
+};
+use std::process::Abort;
+use std::test::Fail;
+
+/// The member of every lock here.
+const MEMBER: u32 = 1;
+
+#[derive(Clone, Copy)]
+enum Step {
+    /// A request of a job through one of its opens for a record, and the job that it is refused by.
+    Ask(u32, u32, u32, LockKind, Option<u32>),
+    Keep(u32, u32, u32),
+    ReleaseOpen(u32, u32),
+    ReleaseRecord(u32, u32),
+    ReleaseGroup(u32),
+}
+
+/// What the jobs 1 and 2 hold on the records 1 to 3 of each: 1 and 2 where the open of that number has a lock that ends
+/// at its next read, and 4 where the job has one to its boundary.
+type Holdings = [u8; 6];
+
+/// Two jobs outside commitment. Job 1 reads record 3 for update. Job 2 reads 1, 2 and, refused, 3 for update, then 3 for
+/// input. Job 1 unlocks, and job 2 reads 3 for update.
+const OUTSIDE_COMMITMENT: [(Step, Holdings); 8] = [
+    (
+        Step::Ask(1, 1, 3, LockKind::UPDATE, None),
+        [0, 0, 1, 0, 0, 0],
+    ),
+    (
+        Step::Ask(2, 1, 1, LockKind::UPDATE, None),
+        [0, 0, 1, 1, 0, 0],
+    ),
+    (Step::ReleaseOpen(2, 1), [0, 0, 1, 0, 0, 0]),
+    (
+        Step::Ask(2, 1, 2, LockKind::UPDATE, None),
+        [0, 0, 1, 0, 1, 0],
+    ),
+    (
+        Step::Ask(2, 1, 3, LockKind::UPDATE, Some(1)),
+        [0, 0, 1, 0, 1, 0],
+    ),
+    (Step::ReleaseOpen(2, 1), [0, 0, 1, 0, 0, 0]),
+    (Step::ReleaseOpen(1, 1), [0, 0, 0, 0, 0, 0]),
+    (
+        Step::Ask(2, 1, 3, LockKind::UPDATE, None),
+        [0, 0, 0, 0, 0, 1],
+    ),
+];
+
+/// Locks of every kind and reach, taken and released in turn.
+const MIXED: [(Step, Holdings); 17] = [
+    (Step::Ask(1, 1, 1, LockKind::READ, None), [1, 0, 0, 0, 0, 0]),
+    (Step::Ask(2, 1, 1, LockKind::READ, None), [1, 0, 0, 1, 0, 0]),
+    (
+        Step::Ask(2, 2, 1, LockKind::UPDATE, Some(1)),
+        [1, 0, 0, 1, 0, 0],
+    ),
+    (
+        Step::Ask(1, 1, 1, LockKind::UPDATE, Some(2)),
+        [1, 0, 0, 1, 0, 0],
+    ),
+    (Step::ReleaseOpen(2, 1), [1, 0, 0, 0, 0, 0]),
+    (
+        Step::Ask(1, 2, 1, LockKind::UPDATE, None),
+        [3, 0, 0, 0, 0, 0],
+    ),
+    (
+        Step::Ask(2, 1, 1, LockKind::READ, Some(1)),
+        [3, 0, 0, 0, 0, 0],
+    ),
+    (Step::Keep(1, 2, 1), [5, 0, 0, 0, 0, 0]),
+    (Step::ReleaseOpen(1, 2), [5, 0, 0, 0, 0, 0]),
+    (Step::ReleaseRecord(1, 1), [4, 0, 0, 0, 0, 0]),
+    (Step::Ask(1, 1, 2, LockKind::READ, None), [4, 1, 0, 0, 0, 0]),
+    (Step::Ask(2, 1, 2, LockKind::READ, None), [4, 1, 0, 0, 1, 0]),
+    (Step::Ask(1, 1, 2, LockKind::READ, None), [4, 1, 0, 0, 1, 0]),
+    (Step::ReleaseGroup(1), [0, 1, 0, 0, 1, 0]),
+    (
+        Step::Ask(2, 1, 1, LockKind::UPDATE, None),
+        [0, 1, 0, 1, 1, 0],
+    ),
+    (Step::ReleaseRecord(2, 2), [0, 1, 0, 1, 0, 0]),
+    (Step::ReleaseOpen(2, 1), [0, 1, 0, 0, 0, 0]),
+];
+
+fn ask(rt: &impl Abort, table: &mut LockTable, request: (u32, u32, u32, LockKind)) -> Option<u32> {
+    assert!(rt; table.reserve(1).is_ok());
+    let (job, opened, rrn, kind) = request;
+    match table.ask(job, opened, MEMBER, rrn, kind) {
+        Ok(()) => None,
+        Err(InUse { job }) => Some(job),
+    }
+}
+
+fn take(rt: &impl Abort, table: &mut LockTable, step: Step) {
+    match step {
+        Step::Ask(job, opened, rrn, kind, refused_by) => {
+            assert_eq!(rt; ask(rt, table, (job, opened, rrn, kind)), refused_by);
+        }
+        Step::Keep(job, opened, rrn) => table.keep_to_boundary(job, opened, MEMBER, rrn),
+        Step::ReleaseOpen(job, opened) => table.release_open(job, opened),
+        Step::ReleaseRecord(job, rrn) => table.release_record(job, MEMBER, rrn),
+        Step::ReleaseGroup(job) => table.release_group(job),
+    }
+}
+
+fn holding(table: &LockTable, job: u32, rrn: u32) -> u8 {
+    let first = table.held(job, 1, MEMBER, rrn);
+    let second = table.held(job, 2, MEMBER, rrn);
+    let by_first = if first.by_open { 1u8 } else { 0 };
+    let by_second = if second.by_open { 2u8 } else { 0 };
+    let to_boundary = if first.to_boundary { 4u8 } else { 0 };
+    by_first | by_second | to_boundary
+}
+
+fn holdings(table: &LockTable) -> Holdings {
+    [
+        holding(table, 1, 1),
+        holding(table, 1, 2),
+        holding(table, 1, 3),
+        holding(table, 2, 1),
+        holding(table, 2, 2),
+        holding(table, 2, 3),
+    ]
+}
+
+fn run(rt: &impl Abort, table: &mut LockTable, schedule: &[(Step, Holdings)]) {
+    for (i, (step, wanted)) in schedule.iter().enumerate() {
+        take(rt, table, *step);
+        assert_eq!(rt; holdings(table), *wanted, "step {i}");
+    }
+}
+
+#[test]
+fn schedules_leave_their_locks(rt: HostRuntime) {
+    run(&rt, &mut LockTable::new(rt.alloc()), &OUTSIDE_COMMITMENT);
+    run(&rt, &mut LockTable::new(rt.alloc()), &MIXED);
+}
+
+/// What job 1 holds on the records 1 to 4 after each of four reads, at each level: N nothing, R a READ lock, U an UPDATE
+/// lock.
+const READS: [(Level, Call, [u8; 4]); 12] = [
+    (Level::Chg, Call::InputRead, *b"NNNN"),
+    (Level::Chg, Call::InputRead, *b"NNNN"),
+    (Level::Chg, Call::UpdateRead, *b"NNUN"),
+    (Level::Chg, Call::UpdateRead, *b"NNNU"),
+    (Level::Cs, Call::InputRead, *b"RNNN"),
+    (Level::Cs, Call::InputRead, *b"NRNN"),
+    (Level::Cs, Call::UpdateRead, *b"NNUN"),
+    (Level::Cs, Call::UpdateRead, *b"NNNU"),
+    (Level::All, Call::InputRead, *b"RNNN"),
+    (Level::All, Call::InputRead, *b"RRNN"),
+    (Level::All, Call::UpdateRead, *b"RRUN"),
+    (Level::All, Call::UpdateRead, *b"RRUU"),
+];
+
+/// A read of job 1 through its open 1 that is OK.
+fn read(rt: &impl Abort, table: &mut LockTable, level: Level, call: Call, rrn: u32) {
+    if released(call, Some(level)).open_locks == OpenLocks::OfOpen {
+        table.release_open(1, 1);
+    }
+    if let Some(wanted) = asked(call, Some(level)) {
+        assert_eq!(rt; ask(rt, table, (1, 1, rrn, wanted.kind)), None);
+        if wanted.reach == Reach::Boundary {
+            table.keep_to_boundary(1, 1, MEMBER, rrn);
+        }
+    }
+}
+
+/// Which lock of job 1 job 2 finds on the record.
+fn letter(table: &LockTable, rrn: u32) -> u8 {
+    if table.clash(2, MEMBER, rrn, LockKind::READ).is_some() {
+        b'U'
+    } else if table.clash(2, MEMBER, rrn, LockKind::UPDATE).is_some() {
+        b'R'
+    } else {
+        b'N'
+    }
+}
+
+#[test]
+fn reads_at_each_level(rt: HostRuntime) {
+    let mut table = LockTable::new(rt.alloc());
+    for (i, (level, call, wanted)) in READS.iter().enumerate() {
+        let rrn = (i % 4) as u32 + 1;
+        if rrn == 1 {
+            table.release_open(1, 1);
+            table.release_group(1);
+        }
+        read(&rt, &mut table, *level, *call, rrn);
+        let found = [
+            letter(&table, 1),
+            letter(&table, 2),
+            letter(&table, 3),
+            letter(&table, 4),
+        ];
+        assert_eq!(rt; found, *wanted, "read {i}");
+    }
+    assert_eq!(rt; table.boundary_in(MEMBER), Some(1));
+    assert_eq!(rt; table.boundary_in(2), None);
+}
+
+#[test]
+fn room_for_the_most_locks(rt: HostRuntime) {
+    let mut table = LockTable::new(rt.alloc());
+    assert!(rt; matches!(table.reserve(MOST_LOCKS + 1), Err(LockFault::Full)));
+    assert!(rt; table.reserve(MOST_LOCKS).is_ok());
+}
