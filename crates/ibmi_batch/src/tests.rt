@@ -4,7 +4,7 @@ use crate::status::Status;
 use std::alloc::{AllocError, Global};
 use std::process::Abort;
 use std::test::Fail;
-use store_model::{MemorySink, MemorySource, MemoryStore, StepClock};
+use store_model::{Failed, MemorySink, MemorySource, MemoryStore, Sink, StepClock};
 
 /// The first input: a file is created, opened, written and read.
 const FIRST: &str = "\
@@ -248,5 +248,51 @@ fn inputs_have_at_most_16_mebibytes(rt: HostRuntime) -> Result<(), Fail> {
     );
     assert_eq!(rt; status.number(), 3);
     assert_eq!(rt; out.bytes().len(), 0);
+    Ok(())
+}
+
+/// A sink that takes at most 16 bytes in a call.
+#[derive(Drop)]
+struct Narrow {
+    sink: MemorySink,
+}
+
+impl Sink for Narrow {
+    ghost use Rattle.std.specs.Prelude.{[]};
+
+    ghost tells = { ⊥ };
+
+    ghost taken = { λ _. [] };
+
+    ghost faults = { λ s. s.sink.calls.faults };
+
+    fn write(&mut self, bytes: &[u8]) -> Result<usize, Failed> {
+        let count = bytes.len().min(16);
+        self.sink.write(&bytes[..count])
+    }
+}
+
+#[test]
+fn fault_in_the_middle_leaves_the_first_part(rt: HostRuntime) -> Result<(), Fail> {
+    let alloc = rt.alloc();
+    let words = words_of(alloc, RUN)?;
+    let mut input = MemorySource::over(alloc, FIRST.as_bytes())?;
+    let mut out = Narrow {
+        sink: MemorySink::new(alloc),
+    };
+    out.sink.fail_at(4);
+    let (status, _, _) = run_alone(
+        alloc,
+        words.as_slice(),
+        MemoryStore::new(alloc),
+        &mut input,
+        &mut out,
+        StepClock::new(),
+    );
+    assert_eq!(rt; status.number(), 8);
+    assert_eq!(rt;
+        out.sink.bytes(),
+        b"HISTORY\n1 J1 0 CRTPF FILE(CUST) SRC(CUST) => OK\n".as_slice()
+    );
     Ok(())
 }
