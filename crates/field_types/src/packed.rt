@@ -1,0 +1,66 @@
+//! Packed decimal: two digits a byte, and the sign in the last half byte. Its rule stands in `specs/Packed.antt`.
+ghost use Rattle.std.specs.Prelude.{◌≡◌, ℕ, ◌*◌, ◌-◌, ◌<◌, ◌≤◌, ◌&&◌, ◌==◌, true, length, unsigned_abs};
+ghost use Rattle.field_types.specs.FieldTypes.{packed_width};
+ghost use Rattle.field_types.specs.Digits.{number_in, digits_in, low_half, last_byte, is_minus, signed, sign_of, is_negative};
+ghost use Rattle.field_types.specs.Packed.{is_digit_pair, is_digit_sign, is_packed, is_spare_clear, packed_digits, packed_bytes};
+ghost use Rattle.field_types.specs.FirstBad.{TellsFirstBad};
+
+use crate::decimals::{high_half, is_sign, is_minus, low_half, sign_of, signed};
+
+/// The first byte that no packed number of so many digits has there.
+pub fn first_bad(digits: usize, image: &[u8]) -> Option<usize>
+    requires { length image.now ≡ packed_width digits }
+    ensures { TellsFirstBad (λ bytes. (length bytes == length image.now) && (is_packed bytes && is_spare_clear digits bytes)) image.now result }
+{
+    if digits % 2 == 0 && high_half(image[0]) != 0 {
+        return Some(0);
+    }
+    let (last, front) = image.split_last()?;
+    match front.iter().position(|&byte| !is_digit_pair(byte)) {
+        None if !is_digit_sign(*last) => Some(front.len()),
+        place => place,
+    }
+}
+
+/// The number that stands there.
+pub fn number(image: &[u8]) -> i128
+    requires packed { is_packed image.now ≡ true }
+    requires short { length image.now ≤ 16 }
+    ensures { result ≡ signed (is_minus (low_half (last_byte image.now))) (number_in 10 (packed_digits image.now)) }
+{
+    let (last, front) = (image[image.len() - 1], &image[..image.len() - 1]);
+    let mut magnitude = 0;
+    for &byte in front {
+        magnitude = magnitude * 100 + u128::from(10 * high_half(byte) + low_half(byte));
+    }
+    magnitude = magnitude * 10 + u128::from(high_half(last));
+    signed(is_minus(low_half(last)), magnitude)
+}
+
+/// Writes a number that fits.
+pub fn write(units: i128, into: &mut [u8])
+    requires { 0 < length into.old }
+    ensures { into.new ≡ packed_bytes (digits_in 10 (2 * length into.old - 1) (unsigned_abs units)) (sign_of (is_negative units)) }
+{
+    let mut rest = units.unsigned_abs();
+    let mut at = into.len() - 1;
+    into[at] = 16 * (rest % 10) as u8 + sign_of(units);
+    rest /= 10;
+    while at > 0 {
+        at -= 1;
+        into[at] = 16 * (rest / 10 % 10) as u8 + (rest % 10) as u8;
+        rest /= 100;
+    }
+}
+
+fn is_digit_pair(byte: u8) -> bool
+    ensures { result ≡ is_digit_pair byte }
+{
+    high_half(byte) < 10 && low_half(byte) < 10
+}
+
+fn is_digit_sign(byte: u8) -> bool
+    ensures { result ≡ is_digit_sign byte }
+{
+    high_half(byte) < 10 && is_sign(low_half(byte))
+}
