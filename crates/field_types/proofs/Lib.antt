@@ -1,1 +1,4 @@
 pub mod NameLemmas
+pub mod DigitLemmas
+pub mod FirstBadLemmas
+pub mod EndsLemmas

@@ -1,5 +1,5 @@
 //! Packed decimal: two digits a byte, and the sign in the last half byte. Its rule stands in `specs/Packed.antt`.
-ghost use Rattle.std.specs.Prelude.{◌≡◌, ℕ, ◌*◌, ◌-◌, ◌<◌, ◌≤◌, ◌&&◌, ◌==◌, true, length, unsigned_abs};
+ghost use Rattle.std.specs.Prelude.{◌≡◌, ℕ, ◌*◌, ◌-◌, ◌<◌, ◌≤◌, ◌&&◌, ◌==◌, not, position, true, length, unsigned_abs};
 ghost use Rattle.field_types.specs.FieldTypes.{packed_width};
 ghost use Rattle.field_types.specs.Digits.{number_in, digits_in, low_half, last_byte, is_minus, signed, sign_of, is_negative};
 ghost use Rattle.field_types.specs.Packed.{is_digit_pair, is_digit_sign, is_packed, is_spare_clear, packed_digits, packed_bytes};
@@ -9,17 +9,15 @@ use crate::decimals::{high_half, is_sign, is_minus, low_half, sign_of, signed};
 
 /// The first byte that no packed number of so many digits has there.
 pub fn first_bad(digits: usize, image: &[u8]) -> Option<usize>
-    requires { length image.now ≡ packed_width digits }
+    requires some { 1 ≤ digits }
+    requires room { length image.now ≡ packed_width digits }
     ensures { TellsFirstBad (λ bytes. (length bytes == length image.now) && (is_packed bytes && is_spare_clear digits bytes)) image.now result }
 {
     if digits % 2 == 0 && high_half(image[0]) != 0 {
         return Some(0);
     }
     let (last, front) = image.split_last()?;
-    match front.iter().position(|&byte| !is_digit_pair(byte)) {
-        None if !is_digit_sign(*last) => Some(front.len()),
-        place => place,
-    }
+    first_failing(front).or((!is_digit_sign(*last)).then_some(front.len()))
 }
 
 /// The number that stands there.
@@ -51,6 +49,12 @@ pub fn write(units: i128, into: &mut [u8])
         into[at] = 16 * (rest / 10 % 10) as u8 + (rest % 10) as u8;
         rest /= 100;
     }
+}
+
+fn first_failing(front: &[u8]) -> Option<usize>
+    ensures { result ≡ position (λ byte. not (is_digit_pair byte)) front.now }
+{
+    front.iter().position(|&byte| !is_digit_pair(byte))
 }
 
 fn is_digit_pair(byte: u8) -> bool

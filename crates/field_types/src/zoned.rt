@@ -1,5 +1,5 @@
 //! Zoned decimal: one byte a digit. Its rule stands in `specs/Zoned.antt`; `packed.rt` is built alike.
-ghost use Rattle.std.specs.Prelude.{◌≡◌, ℕ, ◌<◌, ◌≤◌, ◌&&◌, ◌==◌, true, map, length, unsigned_abs};
+ghost use Rattle.std.specs.Prelude.{◌≡◌, ◌<◌, ◌≤◌, ◌&&◌, ◌==◌, not, map, position, length, unsigned_abs};
 ghost use Rattle.field_types.specs.Digits.{number_in, digits_in, high_half, low_half, last_byte, is_minus, signed, sign_of, is_negative};
 ghost use Rattle.field_types.specs.Zoned.{is_zone_digit, is_signed_digit, is_zoned, zoned_bytes};
 ghost use Rattle.field_types.specs.FirstBad.{TellsFirstBad};
@@ -12,10 +12,7 @@ pub fn first_bad(image: &[u8]) -> Option<usize>
     ensures { TellsFirstBad (λ bytes. (length bytes == length image.now) && is_zoned bytes) image.now result }
 {
     let (last, front) = image.split_last()?;
-    match front.iter().position(|&byte| !is_zone_digit(byte)) {
-        None if !is_signed_digit(*last) => Some(front.len()),
-        place => place,
-    }
+    first_failing(front).or((!is_signed_digit(*last)).then_some(front.len()))
 }
 
 /// The number that stands there.
@@ -41,6 +38,12 @@ pub fn write(units: i128, into: &mut [u8])
         rest /= 10;
         zone = 15;
     }
+}
+
+fn first_failing(front: &[u8]) -> Option<usize>
+    ensures { result ≡ position (λ byte. not (is_zone_digit byte)) front.now }
+{
+    front.iter().position(|&byte| !is_zone_digit(byte))
 }
 
 fn is_zone_digit(byte: u8) -> bool
