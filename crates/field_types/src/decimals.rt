@@ -1,5 +1,6 @@
 //! Digits, half bytes and signs, of which zoned and packed numbers are made, and the scaling of a number.
-ghost use Rattle.std.specs.Prelude.{◌≡◌, ℕ, ◌*◌, ◌<◌, ◌≤◌, ◌^◌, map, length, IfOk, unsigned_abs};
+ghost use Rattle.std.specs.Prelude.{◌≡◌, ℕ, ◌*◌, ◌<◌, ◌≤◌, ◌^◌, map, length, ◌%◌, ◌/◌, IfOk, unsigned_abs};
+ghost use Rattle.std.specs.Option.{SomeIff};
 ghost use Rattle.std.specs.Result.{result_err};
 ghost use Rattle.field_types.specs.Digits.{number_in, high_half, low_half, is_minus, is_sign, sign_of, signed, is_negative};
 ghost use Rattle.field_types.specs.FieldBytes.{units_at, number_fault, Rescaled};
@@ -43,7 +44,13 @@ pub fn sign_of(units: i128) -> u8
     ensures value { result ≡ sign_of (is_negative units) }
     ensures bound { result < 16 }
 {
-    if units < 0 { 0xD } else { 0xF }
+    if is_negative(units) { 0xD } else { 0xF }
+}
+
+fn is_negative(units: i128) -> bool
+    ensures { result ≡ is_negative units }
+{
+    units < 0
 }
 
 /// The number with its sign.
@@ -79,21 +86,35 @@ pub fn units_at(number: Dec, digits: u32, decimals: u8) -> Result<i128, ValueFau
     if magnitude >= 10u128.pow(digits) {
         return Err(ValueFault::TooWide);
     }
-    Ok(signed(number.units < 0, magnitude))
+    Ok(signed(is_negative(number.units), magnitude))
 }
 
-/// The magnitude with so many digits behind the point in place of `scale`.
+/// The magnitude with `decimals` digits behind the point in place of `scale`.
 fn scaled(magnitude: u128, scale: u8, decimals: u8) -> Result<u128, ValueFault>
     requires { decimals ≤ MOST_DIGITS }
     ensures { Rescaled magnitude scale decimals result }
 {
     if scale <= decimals {
-        let power = 10u128.pow(u32::from(decimals - scale));
-        return magnitude.checked_mul(power).ok_or(ValueFault::TooWide);
+        widened(magnitude, decimals - scale).ok_or(ValueFault::TooWide)
+    } else {
+        narrowed(magnitude, scale - decimals).ok_or(ValueFault::TooManyDecimals)
     }
-    match 10u128.checked_pow(u32::from(scale - decimals)) {
-        Some(power) if magnitude % power == 0 => Ok(magnitude / power),
-        None if magnitude == 0 => Ok(0),
-        _ => Err(ValueFault::TooManyDecimals),
-    }
+}
+
+/// The magnitude with so many digits more; `None` where it leaves its type.
+fn widened(magnitude: u128, digits: u8) -> Option<u128>
+    requires { digits ≤ MOST_DIGITS }
+    ensures { SomeIff result (magnitude * 10 ^ digits < 2 ^ 128) (magnitude * 10 ^ digits) }
+{
+    magnitude.checked_mul(10u128.pow(u32::from(digits)))
+}
+
+/// The magnitude with so many digits less; `None` where one of them isn't 0.
+fn narrowed(magnitude: u128, digits: u8) -> Option<u128>
+    ensures { SomeIff result (magnitude % 10 ^ digits ≡ 0) (magnitude / 10 ^ digits) }
+{
+    let Some(power) = 10u128.checked_pow(u32::from(digits)) else {
+        return (magnitude == 0).then_some(0);
+    };
+    (magnitude % power == 0).then_some(magnitude / power)
 }
