@@ -1,5 +1,5 @@
 //! Where the digits of a number leave a range: of a year, a month or an hour, and of a binary number.
-ghost use Rattle.std.specs.Prelude.{◌≡◌, ℕ, ◌<◌, ◌≤◌, ◌^◌, map, length};
+ghost use Rattle.std.specs.Prelude.{◌≡◌, ℕ, ◌<◌, ◌≤◌, ◌^◌, ◌+◌, ◌&&◌, nat_le, nat_lt, map, length};
 ghost use Rattle.field_types.specs.Bounds.{spells_between, digit_from};
 ghost use Rattle.field_types.specs.FirstBad.{TellsFirstBad};
 
@@ -9,6 +9,7 @@ pub fn first_outside(base: u64, low: u64, high: u64, zero: u8, bytes: &[u8]) -> 
     requires base { 2 ≤ base }
     requires order { low ≤ high }
     requires reached { high < base ^ length bytes.now }
+    requires few { length bytes.now ≤ 8 }
     requires fits { base ^ length bytes.now ≤ 2 ^ 64 }
     ensures { TellsFirstBad (spells_between base low high (length bytes.now)) (map (digit_from zero) bytes.now) result }
 {
@@ -18,10 +19,17 @@ pub fn first_outside(base: u64, low: u64, high: u64, zero: u8, bytes: &[u8]) -> 
         let digit = byte.wrapping_sub(zero);
         worth /= u128::from(base);
         least += u128::from(digit) * worth;
-        let reaches = least <= u128::from(high) && least + worth > u128::from(low);
-        if u64::from(digit) >= base || !reaches {
+        if u64::from(digit) >= base || !meets(least, worth, low, high) {
             return Some(at);
         }
     }
     None
+}
+
+/// Whether one of the numbers from `least` on, `worth` in number, is from `low` to `high`.
+fn meets(least: u128, worth: u128, low: u64, high: u64) -> bool
+    requires { least + worth < 2 ^ 128 }
+    ensures { result ≡ (nat_le least high && nat_lt low (least + worth)) }
+{
+    least <= u128::from(high) && u128::from(low) < least + worth
 }
