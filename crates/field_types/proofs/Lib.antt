@@ -5,3 +5,5 @@ pub mod EndsLemmas
 pub mod ScaleLemmas
 pub mod WriteLemmas
 pub mod BoundsLemmas
+pub mod PackedLemmas
+pub mod BinaryLemmas

@@ -1,6 +1,6 @@
 -- Binary: a two's complement number, the high byte first, that stays within its decimal digits.
 -- (DDS for Physical and Logical Files, "Data type", B.)
-use Rattle.std.specs.Prelude.{ℕ, ◌-◌, ◌*◌, ◌^◌, Bool, ◌&&◌, nat_lt, ℤ, pos, ◌-ℤ◌, unsigned_abs, Option, Some, None, List, length, if◌then◌else◌}
+use Rattle.std.specs.Prelude.{ℕ, ◌-◌, ◌*◌, ◌^◌, Bool, ◌&&◌, nat_lt, ℤ, pos, neg_ℤ, unsigned_abs, Option, Some, None, List, length, if◌then◌else◌}
 use Rattle.std.specs.List.{list_all}
 use Rattle.field_types.specs.Digits.{number_in, digits_in, is_negative}
 
@@ -9,7 +9,7 @@ is_byte b = nat_lt b 256
 
 -- the number that n bytes are in two's complement
 abbrev pub twos_complement : ℕ → ℕ → ℤ
-twos_complement n number = if nat_lt (2 * number) (256 ^ n) then pos number else pos number -ℤ pos (256 ^ n)
+twos_complement n number = if nat_lt (2 * number) (256 ^ n) then pos number else neg_ℤ (pos (256 ^ n - number))
 
 -- the number that stands in a binary field of so many digits
 abbrev pub binary_number : ℕ → List ℕ → Option ℤ

@@ -26,13 +26,12 @@ pub fn first_bad(digits: u32, image: &[u8]) -> Option<usize>
     ensures { TellsFirstBad (λ bytes. (length bytes == length image.now) && is_some (binary_number digits bytes)) image.now result }
 {
     // With the sign's bit turned the bytes count from the least number up to the greatest.
-    let mut bytes = [0; 8];
-    let turned = &mut bytes[..image.len()];
-    turned.copy_from_slice(image);
-    turned[0] ^= 0x80;
+    let mut turned = [0; 8];
+    turned[..image.len()].copy_from_slice(image);
+    turned[0] = turned[0].wrapping_add(0x80);
     let middle = 1 << (8 * image.len() - 1);
     let most = 10u64.pow(digits) - 1;
-    bounds::first_outside(256, middle - most, middle + most, 0, turned)
+    bounds::first_outside(256, middle - most, middle + most, 0, &turned[..image.len()])
 }
 
 /// The number that stands there.

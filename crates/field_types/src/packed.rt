@@ -1,5 +1,5 @@
 //! Packed decimal: two digits a byte, and the sign in the last half byte. Its rule stands in `specs/Packed.antt`.
-ghost use Rattle.std.specs.Prelude.{◌≡◌, ℕ, ◌*◌, ◌-◌, ◌<◌, ◌≤◌, ◌&&◌, ◌==◌, not, position, true, length, unsigned_abs};
+ghost use Rattle.std.specs.Prelude.{◌≡◌, ℕ, ◌*◌, ◌-◌, ◌<◌, ◌≤◌, ◌&&◌, ◌==◌, not, position, length, unsigned_abs};
 ghost use Rattle.field_types.specs.FieldTypes.{packed_width};
 ghost use Rattle.field_types.specs.Digits.{number_in, digits_in, low_half, last_byte, is_minus, signed, sign_of, is_negative};
 ghost use Rattle.field_types.specs.Packed.{is_digit_pair, is_digit_sign, is_packed, is_spare_clear, packed_digits, packed_bytes};
@@ -13,7 +13,7 @@ pub fn first_bad(digits: usize, image: &[u8]) -> Option<usize>
     requires room { length image.now ≡ packed_width digits }
     ensures { TellsFirstBad (λ bytes. (length bytes == length image.now) && (is_packed bytes && is_spare_clear digits bytes)) image.now result }
 {
-    if digits % 2 == 0 && high_half(image[0]) != 0 {
+    if !is_spare_clear(digits, image) {
         return Some(0);
     }
     let (last, front) = image.split_last()?;
@@ -22,11 +22,13 @@ pub fn first_bad(digits: usize, image: &[u8]) -> Option<usize>
 
 /// The number that stands there.
 pub fn number(image: &[u8]) -> i128
-    requires packed { is_packed image.now ≡ true }
-    requires short { length image.now ≤ 16 }
+    requires some { 0 < length image.now }
+    requires few { length image.now ≤ 16 }
     ensures { result ≡ signed (is_minus (low_half (last_byte image.now))) (number_in 10 (packed_digits image.now)) }
 {
-    let (last, front) = (image[image.len() - 1], &image[..image.len() - 1]);
+    let at_last = image.len() - 1;
+    let last = image[at_last];
+    let front = &image[..at_last];
     let mut magnitude = 0;
     for &byte in front {
         magnitude = magnitude * 100 + u128::from(10 * high_half(byte) + low_half(byte));
@@ -49,6 +51,13 @@ pub fn write(units: i128, into: &mut [u8])
         into[at] = 16 * (rest / 10 % 10) as u8 + (rest % 10) as u8;
         rest /= 100;
     }
+}
+
+fn is_spare_clear(digits: usize, image: &[u8]) -> bool
+    requires { 0 < length image.now }
+    ensures { result ≡ is_spare_clear digits image.now }
+{
+    digits % 2 == 1 || high_half(image[0]) == 0
 }
 
 fn first_failing(front: &[u8]) -> Option<usize>

@@ -1,0 +1,128 @@
+-- What follows of two's complement: against the words of `byteorder`, and with the sign's bit turned.
+use Rattle.std.proofs.Common.{◌≡◌, ◌≢◌, ℕ, zero, suc, ◌+◌, ◌-◌, ◌*◌, ◌/◌, ◌%◌, ◌^◌, ◌<◌, ◌≤◌, Bool, true, false, not, cond, ◌&&◌, ◌==◌, nat_lt, nat_le, Option, Some, None, is_some, ◌⊎◌, inl, inr, ℤ, pos, negsuc, neg_ℤ, ◌-ℤ◌, unsigned_abs, List, [], ◌∷◌, ◌++◌, length, take, drop, map, set, get_or, Fits, w8, refl, sym, ◌∙◌, ap, subst, arith, lit<}
+use Rattle.std.specs.List.{list_all}
+use Rattle.std.specs.Int.{w64, bytes_high_first, cast_unsigned}
+use Rattle.std.proofs.lemmas.List.{drop_all, length-drop}
+use Rattle.std.proofs.lemmas.Nat.{pow-add}
+use Rattle.std.proofs.lemmas.Bool.{and_parts, and_from, eqb-true, eq-eqb, ne_eqb, ltb-true, lt-ltb, le-ltb, cases_lt, cases_eq, cases_Bool}
+use Rattle.std.proofs.Math.Nat.{pow-suc, pow-zero, one-le-pow, div-one, div-add-mod, mul-le-mul_right, mod-eq_of_lt}
+use Rattle.std.proofs.Math.Seq.{drop-cons}
+use Rattle.byteorder.specs.Endian as endian
+use Rattle.field_types.specs.FieldTypes.{is_between, binary_width}
+use Rattle.field_types.specs.Digits.{number_in, digits_in, is_negative}
+use Rattle.field_types.specs.Binary.{is_byte, twos_complement, binary_number, binary_bytes}
+use Rattle.field_types.specs.Bounds.{spells_between, digit_from}
+use Rattle.field_types.specs.FirstBad.{IsFirstBad, TellsFirstBad}
+use Rattle.field_types.proofs.DigitLemmas.{number_in-lt, digits_in-above}
+use Rattle.field_types.proofs.BoundsLemmas.{is_between-from, is_between-parts}
+use Rattle.field_types.proofs.FirstBadLemmas.{IsFirstBad-head}
+
+-- two's complement of the bytes from place i on, by the words of `byteorder`
+big_from-number_in : (i n : ℕ) (xs : List ℕ) → i + n ≡ length xs → endian.big_from i n xs ≡ number_in 256 (drop i xs)
+big_from-number_in i zero xs e = rw (drop_all i xs (omega arith)) refl
+big_from-number_in i (suc n) xs e =
+    let lt : i < length xs = omega arith in
+    let rest : endian.big_from (suc i) n xs ≡ number_in 256 (drop (suc i) xs) = big_from-number_in (suc i) n xs (omega arith) in
+    let long : length (drop (suc i) xs) ≡ n = length-drop (suc i) xs ∙ omega arith in
+    rw (drop-cons xs i 0 lt, long, rest) refl
+
+pub big_number-number_in : (xs : List ℕ) → endian.big_number (length xs) xs ≡ number_in 256 xs
+big_number-number_in xs = big_from-number_in 0 (length xs) xs (omega arith)
+
+pub bytes_high_first-digits_in : (n x : ℕ) → bytes_high_first n x ≡ digits_in 256 n x
+bytes_high_first-digits_in zero x = refl
+bytes_high_first-digits_in (suc zero) x = rw (div-one x) refl
+bytes_high_first-digits_in (suc (suc n)) x = ap (λ w. x / 256 ^ suc n % 256 ∷ w) (bytes_high_first-digits_in (suc n) x)
+
+pub bytes-bits : (n : ℕ) → 256 ^ n ≡ 2 ^ (8 * n)
+bytes-bits zero = refl
+bytes-bits (suc n) =
+    let more : 8 * suc n ≡ 8 * n + 8 = omega arith in
+    rw (pow-suc 256 n, more, pow-add 2 (8 * n) 8, bytes-bits n) refl
+
+pub middle-bits : (n : ℕ) → 1 ≤ n → 256 ^ n ≡ 2 * 2 ^ (8 * n - 1)
+middle-bits n some =
+    let more : 8 * n ≡ suc (8 * n - 1) = omega arith in
+    bytes-bits n ∙ ap (λ k. 2 ^ k) more ∙ pow-suc 2 (8 * n - 1) ∙ omega arith
+
+sub-below : (x n : ℕ) → x < n → pos x -ℤ pos n ≡ neg_ℤ (pos (n - x))
+sub-below x zero lt = absurd (omega arith)
+sub-below x (suc m) lt =
+    let less : suc m - x ≡ suc (suc m - suc x) = omega arith in
+    rw (lt-ltb x (suc m) lt, less) refl
+
+pub twos_complement-same : (n x : ℕ) → 1 ≤ n → x < 256 ^ n → endian.twos_complement n x ≡ twos_complement n x
+twos_complement-same n x some lt =
+    let middle : 256 ^ n ≡ 2 * 2 ^ (8 * n - 1) = middle-bits n some in
+    elim (cases_lt x (2 ^ (8 * n - 1))) [
+      inl low ↦ (let small : 2 * x < 256 ^ n = omega arith in rw (lt-ltb x (2 ^ (8 * n - 1)) low, lt-ltb (2 * x) (256 ^ n) small) refl)
+    | inr high ↦ (let great : 256 ^ n ≤ 2 * x = omega arith in
+        rw (le-ltb x (2 ^ (8 * n - 1)) high, le-ltb (2 * x) (256 ^ n) great, ← bytes-bits n) (sub-below x (256 ^ n) lt))
+    ]
+
+digits_in-mod : (n x : ℕ) → digits_in 256 n (x % 256 ^ n) ≡ digits_in 256 n x
+digits_in-mod n x =
+    let split : x / 256 ^ n * 256 ^ n + x % 256 ^ n ≡ x = (omega (arith, div-add-mod x (256 ^ n))) in
+    sym (digits_in-above 256 n (x / 256 ^ n) (x % 256 ^ n) (lit< tt)) ∙ ap (digits_in 256 n) split
+
+-- the low bytes of a 64 bit number are its field's bytes
+pub bytes-written : (n : ℕ) (z : ℤ) → 1 ≤ n → n ≤ 8 → 2 * unsigned_abs z < 256 ^ n → bytes_high_first n (cast_unsigned w64 z % 2 ^ (8 * n)) ≡ binary_bytes n z
+bytes-written n (pos k) some few small = rw (← bytes-bits n) (bytes_high_first-digits_in n (k % 256 ^ n) ∙ digits_in-mod n k)
+bytes-written n (negsuc k) some few small =
+    let split : 256 ^ 8 ≡ 256 ^ (8 - n) * 256 ^ n = ap (λ e. 256 ^ e) (let e : 8 ≡ (8 - n) + n = omega arith in e) ∙ pow-add 256 (8 - n) n in
+    let pos_power : 1 ≤ 256 ^ (8 - n) = one-le-pow (8 - n) 256 (lit< tt) in
+    let one_less : 256 ^ (8 - n) ≡ (256 ^ (8 - n) - 1) + 1 = omega arith in
+    let product : 256 ^ (8 - n) * 256 ^ n ≡ (256 ^ (8 - n) - 1) * 256 ^ n + 256 ^ n = ap (λ a. a * 256 ^ n) one_less ∙ omega arith in
+    let whole : 2 ^ 64 - suc k ≡ (256 ^ (8 - n) - 1) * 256 ^ n + (256 ^ n - suc k) = omega (arith, split, product) in
+    rw (← bytes-bits n) (bytes_high_first-digits_in n ((2 ^ 64 - suc k) % 256 ^ n) ∙ digits_in-mod n (2 ^ 64 - suc k) ∙ ap (digits_in 256 n) whole ∙ digits_in-above 256 n (256 ^ (8 - n) - 1) (256 ^ n - suc k) (lit< tt))
+
+-- n bytes of a binary number
+abbrev pub binaries : ℕ → ℕ → List ℕ → Bool
+binaries digits n w = (length w == n) && (list_all is_byte w && nat_lt (unsigned_abs (twos_complement (length w) (number_in 256 w))) (10 ^ digits))
+
+is_some-cond : {A : Type 0} (b : Bool) (x : A) → is_some (cond b (Some x) None) ≡ b
+is_some-cond true x = refl
+is_some-cond false x = refl
+
+pub binaries-same : (digits n : ℕ) (w : List ℕ) → binaries digits n w ≡ ((length w == n) && is_some (binary_number digits w))
+binaries-same digits n w = ap (λ b. (length w == n) && b) (sym (is_some-cond (list_all is_byte w && nat_lt (unsigned_abs (twos_complement (length w) (number_in 256 w))) (10 ^ digits)) (twos_complement (length w) (number_in 256 w))))
+
+-- the sign's bit turned
+abbrev pub turned : ℕ → ℕ
+turned b = (b + 128) % 256
+
+both-true : (a b : Bool) → (a ≡ true → b ≡ true) → (b ≡ true → a ≡ true) → a ≡ b
+both-true true true f g = refl
+both-true true false f g = sym (f refl)
+both-true false true f g = g refl
+both-true false false f g = refl
+
+low-half : (digits p b n half : ℕ) → b < 128 → n < p → half ≡ 128 * p → 0 < 10 ^ digits →
+  is_between (half - (10 ^ digits - 1)) (half + (10 ^ digits - 1)) ((b + 128) * p + n) ≡ nat_lt (unsigned_abs (cond (nat_lt (2 * (b * p + n)) (256 * p)) (pos (b * p + n)) (neg_ℤ (pos (256 * p - (b * p + n)))))) (10 ^ digits)
+low-half digits p b n half lt below middle some =
+    let wide : (b + 1) * p ≤ 128 * p = mul-le-mul_right p (let le : b + 1 ≤ 128 = omega arith in le) in
+    let small : 2 * (b * p + n) < 256 * p = omega arith in
+    rw (lt-ltb (2 * (b * p + n)) (256 * p) small)
+    (both-true (is_between (half - (10 ^ digits - 1)) (half + (10 ^ digits - 1)) ((b + 128) * p + n)) (nat_lt (b * p + n) (10 ^ digits))
+      (λ h. lt-ltb (b * p + n) (10 ^ digits) (let range = is_between-parts (half - (10 ^ digits - 1)) (half + (10 ^ digits - 1)) ((b + 128) * p + n) h in omega (arith, range.1)))
+      (λ h. is_between-from (half - (10 ^ digits - 1)) (half + (10 ^ digits - 1)) ((b + 128) * p + n) (omega arith) (let lt10 : b * p + n < 10 ^ digits = ltb-true (b * p + n) (10 ^ digits) h in omega arith)))
+
+unsigned_abs-neg : (n : ℕ) → unsigned_abs (neg_ℤ (pos n)) ≡ n
+unsigned_abs-neg zero = refl
+unsigned_abs-neg (suc n) = refl
+
+high-half : (digits p e n half : ℕ) → e < 128 → n < p → half ≡ 128 * p → 0 < 10 ^ digits →
+  is_between (half - (10 ^ digits - 1)) (half + (10 ^ digits - 1)) (e * p + n) ≡ nat_lt (unsigned_abs (cond (nat_lt (2 * ((e + 128) * p + n)) (256 * p)) (pos ((e + 128) * p + n)) (neg_ℤ (pos (256 * p - ((e + 128) * p + n)))))) (10 ^ digits)
+high-half digits p e n half lt below middle some =
+    let wide : (e + 1) * p ≤ 128 * p = mul-le-mul_right p (let le : e + 1 ≤ 128 = omega arith in le) in
+    let great : 256 * p ≤ 2 * ((e + 128) * p + n) = omega arith in
+    rw (le-ltb (2 * ((e + 128) * p + n)) (256 * p) great, unsigned_abs-neg (256 * p - ((e + 128) * p + n)))
+    (both-true (is_between (half - (10 ^ digits - 1)) (half + (10 ^ digits - 1)) (e * p + n)) (nat_lt (256 * p - ((e + 128) * p + n)) (10 ^ digits))
+      (λ h. lt-ltb (256 * p - ((e + 128) * p + n)) (10 ^ digits) (let range = is_between-parts (half - (10 ^ digits - 1)) (half + (10 ^ digits - 1)) (e * p + n) h in omega (arith, range.0)))
+      (λ h. is_between-from (half - (10 ^ digits - 1)) (half + (10 ^ digits - 1)) (e * p + n)
+        (let lt10 : 256 * p - ((e + 128) * p + n) < 10 ^ digits = ltb-true (256 * p - ((e + 128) * p + n)) (10 ^ digits) h in omega arith) (omega arith)))
+
+-- with the first byte turned a number of the field lies between the least and the greatest
+turned-test : (digits m half b : ℕ) → b < 256 → half ≡ 128 * 256 ^ m → (w : List ℕ) →
+  spells_between 256 (half - (10 ^ digits - 1)) (half + (10 ^ digits - 1)) (suc m) (turned b ∷ w) ≡ binaries digits (suc m) (b ∷ w)
+turned-test digits m half b byte middle w = ?

@@ -1,0 +1,16 @@
+use Rattle.std.proofs.Common.{◌≡◌, ◌+◌, ◌*◌, ◌^◌, ◌<◌, ◌≤◌, ◌-◌, ℕ, Bool, length, map, get_or, arith, rules, sym, ap, ◌∙◌, lit<}
+use Rattle.std.proofs.Math.Nat.{pow-le-pow_right}
+use Rattle.field_types.specs.Digits.{number_in, high_half, low_half, is_minus, signed, last_byte}
+use Rattle.field_types.proofs.PackedLemmas.{last_byte-get_or}
+use Rattle.field_types.proofs.zoned.number.Goals as goal
+
+pub signed-requires : goal.signed-requires
+signed-requires c =
+    let small : 10 ^ length c.args.image.now ≤ 10 ^ 31 = pow-le-pow_right (lit< tt) c.requires.few in
+    omega (arith, small, c.number.ensures.bound)
+
+pub returns : goal.returns
+returns c =
+    let last : last_byte c.args.image.now ≡ get_or c.args.image.now (length c.args.image.now - 1) 0 = last_byte-get_or c.args.image.now (length c.args.image.now - 1) (omega arith) in
+    let sign : c.is_minus.result ≡ is_minus (high_half (last_byte c.args.image.now)) = c.is_minus.ensures ∙ ap is_minus (c.high_half.ensures.value ∙ ap high_half (sym last)) in
+    c.signed.ensures ∙ ap (λ b. signed b c.number.result) sign ∙ ap (signed (is_minus (high_half (last_byte c.args.image.now)))) c.number.ensures.value
