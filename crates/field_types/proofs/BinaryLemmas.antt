@@ -1,11 +1,11 @@
 -- What follows of two's complement: against the words of `byteorder`, and with the sign's bit turned.
-use Rattle.std.proofs.Common.{◌≡◌, ◌≢◌, ℕ, zero, suc, ◌+◌, ◌-◌, ◌*◌, ◌/◌, ◌%◌, ◌^◌, ◌<◌, ◌≤◌, Bool, true, false, not, cond, ◌&&◌, ◌==◌, nat_lt, nat_le, Option, Some, None, is_some, ◌⊎◌, inl, inr, ℤ, pos, negsuc, neg_ℤ, ◌-ℤ◌, unsigned_abs, List, [], ◌∷◌, ◌++◌, length, take, drop, map, set, get_or, Fits, w8, refl, sym, ◌∙◌, ap, subst, arith, lit<}
+use Rattle.std.proofs.Common.{◌≡◌, ◌≢◌, ℕ, zero, suc, ◌+◌, ◌-◌, ◌*◌, ◌/◌, ◌%◌, ◌^◌, ◌<◌, ◌≤◌, Bool, true, false, not, cond, ◌&&◌, ◌==◌, nat_lt, nat_le, Option, Some, None, is_some, ◌⊎◌, inl, inr, ℤ, pos, negsuc, neg_ℤ, ◌-ℤ◌, unsigned_abs, List, [], ◌∷◌, ◌++◌, length, take, drop, map, set, get_or, Fits, FitsSigned, w8, refl, sym, ◌∙◌, ap, subst, arith, lit<}
 use Rattle.std.specs.List.{list_all}
 use Rattle.std.specs.Int.{w64, bytes_high_first, cast_unsigned}
 use Rattle.std.proofs.lemmas.List.{drop_all, length-drop}
 use Rattle.std.proofs.lemmas.Nat.{pow-add}
-use Rattle.std.proofs.lemmas.Bool.{and_parts, and_from, eqb-true, eq-eqb, ne_eqb, ltb-true, lt-ltb, le-ltb, cases_lt, cases_eq, cases_Bool}
-use Rattle.std.proofs.Math.Nat.{pow-suc, pow-zero, one-le-pow, div-one, div-add-mod, mul-le-mul_right, mod-eq_of_lt}
+use Rattle.std.proofs.lemmas.Bool.{and_parts, and_from, eqb-true, eq-eqb, ne_eqb, ltb-true, lt-ltb, le-ltb, cases_lt, cases_eq}
+use Rattle.std.proofs.Math.Nat.{pow-suc, pow-zero, one-le-pow, div-one, div-add-mod, mul-le-mul_right, mod-lt, mul_comm, suc-add, pow-le-pow_right}
 use Rattle.std.proofs.Math.Seq.{drop-cons}
 use Rattle.byteorder.specs.Endian as endian
 use Rattle.field_types.specs.FieldTypes.{is_between, binary_width}
@@ -122,7 +122,66 @@ high-half digits p e n half lt below middle some =
       (λ h. is_between-from (half - (10 ^ digits - 1)) (half + (10 ^ digits - 1)) (e * p + n)
         (let lt10 : 256 * p - ((e + 128) * p + n) < 10 ^ digits = ltb-true (256 * p - ((e + 128) * p + n)) (10 ^ digits) h in omega arith) (omega arith)))
 
+turned-core : (digits m half b n : ℕ) → b < 256 → n < 256 ^ m → half ≡ 128 * 256 ^ m →
+  is_between (half - (10 ^ digits - 1)) (half + (10 ^ digits - 1)) (turned b * 256 ^ m + n) ≡ nat_lt (unsigned_abs (cond (nat_lt (2 * (b * 256 ^ m + n)) (256 * 256 ^ m)) (pos (b * 256 ^ m + n)) (neg_ℤ (pos (256 * 256 ^ m - (b * 256 ^ m + n)))))) (10 ^ digits)
+turned-core digits m half b n byte below middle =
+    let some : 0 < 10 ^ digits = one-le-pow digits 10 (lit< tt) in
+    elim (cases_lt b 128) [
+      inl low ↦ (let up : turned b ≡ b + 128 = omega arith in rw up (low-half digits (256 ^ m) b n half low below middle some))
+    | inr high ↦ (let down : turned b ≡ b - 128 = omega arith in
+        let back : b ≡ (b - 128) + 128 = omega arith in
+        let less : b - 128 < 128 = omega arith in
+        let core = high-half digits (256 ^ m) (b - 128) n half less below middle some in
+        rw down (rw (← back) at core))
+    ]
+
+turned-same : (digits m half b : ℕ) → b < 256 → half ≡ 128 * 256 ^ m → (w : List ℕ) → length w ≡ m → (bytes : Bool) → list_all is_byte w ≡ bytes →
+  spells_between 256 (half - (10 ^ digits - 1)) (half + (10 ^ digits - 1)) (suc m) (turned b ∷ w) ≡ binaries digits (suc m) (b ∷ w)
+turned-same digits m half b byte middle w same false e =
+    rw (eq-eqb (suc (length w)) (suc m) (ap suc same), lt-ltb (turned b) 256 (mod-lt (b + 128) (lit< tt)), lt-ltb b 256 byte, e) refl
+turned-same digits m half b byte middle w same true e =
+    let below : number_in 256 w < 256 ^ m = rw same at (number_in-lt 256 w (lit< tt) e) in
+    rw (eq-eqb (suc (length w)) (suc m) (ap suc same), lt-ltb (turned b) 256 (mod-lt (b + 128) (lit< tt)), lt-ltb b 256 byte, e, same, pow-suc 256 m, mul_comm (256 ^ m) 256)
+    (turned-core digits m half b (number_in 256 w) byte below middle)
+
 -- with the first byte turned a number of the field lies between the least and the greatest
 turned-test : (digits m half b : ℕ) → b < 256 → half ≡ 128 * 256 ^ m → (w : List ℕ) →
   spells_between 256 (half - (10 ^ digits - 1)) (half + (10 ^ digits - 1)) (suc m) (turned b ∷ w) ≡ binaries digits (suc m) (b ∷ w)
-turned-test digits m half b byte middle w = ?
+turned-test digits m half b byte middle w =
+    elim (cases_eq (length w) m) [
+      inl same ↦ turned-same digits m half b byte middle w same (list_all is_byte w) refl
+    | inr other ↦ (let differ : suc (length w) ≡ suc m → ⊥ = λ (e : suc (length w) ≡ suc m). other (omega arith) in rw (ne_eqb (suc (length w)) (suc m) differ) refl)
+    ]
+
+turned_twice : (b : ℕ) → b < 256 → turned (turned b) ≡ b
+turned_twice b lt = omega arith
+
+-- the first byte of an image turned
+abbrev pub turned_front : List ℕ → List ℕ
+turned_front [] = []
+turned_front (b ∷ bs) = turned b ∷ bs
+
+-- what is told of the turned image is told of the image
+pub TellsFirstBad-turned : (digits half : ℕ) (image : List ℕ) (m : ℕ) (place : Option ℕ) → length image ≡ suc m → get_or image 0 0 < 256 → half ≡ 128 * 256 ^ m →
+  TellsFirstBad (spells_between 256 (half - (10 ^ digits - 1)) (half + (10 ^ digits - 1)) (suc m)) (turned_front image) place → TellsFirstBad (binaries digits (suc m)) image place
+TellsFirstBad-turned digits half [] m place long byte middle h = absurd (omega arith)
+TellsFirstBad-turned digits half (b ∷ bs) m None long byte middle h = sym (turned-test digits m half b byte middle bs) ∙ h
+TellsFirstBad-turned digits half (b ∷ bs) m (Some zero) long byte middle h =
+    elim h.rest as (λ r. spells_between 256 (half - (10 ^ digits - 1)) (half + (10 ^ digits - 1)) (suc m) r ≡ true → IsFirstBad (binaries digits (suc m)) (b ∷ bs) 0) [
+      [] ↦ λ good. ?
+    | x ∷ xs ↦ λ good. ?
+    ] h.good
+TellsFirstBad-turned digits half (b ∷ bs) m (Some (suc k)) long byte middle h = record {
+    within = h.within;
+    rest = h.rest;
+    good = sym (turned-test digits m half b byte middle (take k bs ++ h.rest)) ∙ h.good;
+    bad = λ other e. h.bad other (rw (suc-add k 1) (turned-test digits m half b byte middle (take (k + 1) bs ++ other) ∙ (rw (suc-add k 1) at e)));
+  }
+
+pub all-bytes : (xs : List ℕ) → ((i : ℕ) → Fits w8 (get_or xs i 0)) → list_all is_byte xs ≡ true
+all-bytes [] h = refl
+all-bytes (x ∷ xs) h = and_from (nat_lt x 256) (list_all is_byte xs) (lt-ltb x 256 (let byte : x < 256 = omega (arith, h 0) in byte)) (all-bytes xs (λ i. h (suc i)))
+
+pub fits-half : (z : ℤ) (n : ℕ) → n ≤ 8 → 2 * unsigned_abs z < 256 ^ n → FitsSigned w64 z
+fits-half (pos k) n le h = (let power : 256 ^ n ≤ 256 ^ 8 = pow-le-pow_right (lit< tt) le in record { sfits = omega arith })
+fits-half (negsuc k) n le h = (let power : 256 ^ n ≤ 256 ^ 8 = pow-le-pow_right (lit< tt) le in record { sfits = omega arith })

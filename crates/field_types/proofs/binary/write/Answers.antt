@@ -1,8 +1,18 @@
-use Rattle.field_types.proofs.BinaryLemmas.{bytes-written}
+use Rattle.std.proofs.Common.{◌≡◌, ◌++◌, [], ◌∙◌, ap, length, drop, arith, rules, FitsSigned}
+use Rattle.std.specs.Int.{w64, w128}
+use Rattle.std.proofs.lemmas.Int.{to_z-of_z}
+use Rattle.std.proofs.lemmas.List.{drop_all}
+use Rattle.field_types.proofs.BinaryLemmas.{bytes-written, fits-half}
 use Rattle.field_types.proofs.binary.write.Goals as goal
 
 pub overflow_cast-units : goal.overflow_cast-units
-overflow_cast-units c = ?
+overflow_cast-units c =
+    let wide : FitsSigned w128 c.args.units = c.ranges.units in
+    rw (to_z-of_z w128 c.args.units) (fits-half c.args.units (length c.args.into.now) c.requires.most c.requires.fits)
 
 pub returns : goal.returns
-returns c = ?
+returns c =
+    let wide : FitsSigned w128 c.args.units = c.ranges.units in
+    let narrow : FitsSigned w64 c.args.units = fits-half c.args.units (length c.args.into.now) c.requires.most c.requires.fits in
+    let given = simp to_z-of_z at c.write_int.ensures in
+    ?
