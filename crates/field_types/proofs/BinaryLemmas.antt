@@ -4,7 +4,7 @@ use Rattle.std.specs.List.{list_all}
 use Rattle.std.specs.Int.{w64, bytes_high_first, cast_unsigned}
 use Rattle.std.proofs.lemmas.List.{drop_all, length-drop}
 use Rattle.std.proofs.lemmas.Nat.{pow-add}
-use Rattle.std.proofs.lemmas.Bool.{and_parts, and_from, eqb-true, eq-eqb, ne_eqb, ltb-true, lt-ltb, le-ltb, cases_lt, cases_eq}
+use Rattle.std.proofs.lemmas.Bool.{and_parts, and_from, eqb-true, eq-eqb, ne_eqb, ltb-true, lt-ltb, le-ltb, le-leb, lt-leb, cases_lt, cases_eq}
 use Rattle.std.proofs.Math.Nat.{pow-suc, pow-zero, one-le-pow, div-one, div-add-mod, mul-le-mul_right, mod-lt, mul_comm, suc-add, pow-le-pow_right}
 use Rattle.std.proofs.Math.Seq.{drop-cons}
 use Rattle.byteorder.specs.Endian as endian
@@ -168,8 +168,13 @@ TellsFirstBad-turned digits half [] m place long byte middle h = absurd (omega a
 TellsFirstBad-turned digits half (b ∷ bs) m None long byte middle h = sym (turned-test digits m half b byte middle bs) ∙ h
 TellsFirstBad-turned digits half (b ∷ bs) m (Some zero) long byte middle h =
     elim h.rest as (λ r. spells_between 256 (half - (10 ^ digits - 1)) (half + (10 ^ digits - 1)) (suc m) r ≡ true → IsFirstBad (binaries digits (suc m)) (b ∷ bs) 0) [
-      [] ↦ λ good. ?
-    | x ∷ xs ↦ λ good. ?
+      [] ↦ λ good.
+        (let none : 0 ≡ suc m = eqb-true 0 (suc m) (and_parts (0 == suc m) true (and_parts ((0 == suc m) && true) (is_between (half - (10 ^ digits - 1)) (half + (10 ^ digits - 1)) 0) good).0).0 in absurd (omega arith))
+    | x ∷ xs ↦ λ good.
+        (let front = (and_parts ((suc (length xs) == suc m) && (nat_lt x 256 && list_all (λ d. nat_lt d 256) xs)) (is_between (half - (10 ^ digits - 1)) (half + (10 ^ digits - 1)) (x * 256 ^ length xs + number_in 256 xs)) good).0 in
+         let digit : x < 256 = ltb-true x 256 (and_parts (nat_lt x 256) (list_all (λ d. nat_lt d 256) xs) (and_parts (suc (length xs) == suc m) (nat_lt x 256 && list_all (λ d. nat_lt d 256) xs) front).1).0 in
+         let there : binaries digits (suc m) (turned x ∷ xs) ≡ true = sym (turned-test digits m half (turned x) (mod-lt (x + 128) (lit< tt)) middle xs) ∙ rw (turned_twice x digit) good in
+         IsFirstBad-head (binaries digits (suc m)) b bs (turned x ∷ xs) there (λ other e. h.bad other (turned-test digits m half b byte middle other ∙ e)))
     ] h.good
 TellsFirstBad-turned digits half (b ∷ bs) m (Some (suc k)) long byte middle h = record {
     within = h.within;
@@ -185,3 +190,31 @@ all-bytes (x ∷ xs) h = and_from (nat_lt x 256) (list_all is_byte xs) (lt-ltb x
 pub fits-half : (z : ℤ) (n : ℕ) → n ≤ 8 → 2 * unsigned_abs z < 256 ^ n → FitsSigned w64 z
 fits-half (pos k) n le h = (let power : 256 ^ n ≤ 256 ^ 8 = pow-le-pow_right (lit< tt) le in record { sfits = omega arith })
 fits-half (negsuc k) n le h = (let power : 256 ^ n ≤ 256 ^ 8 = pow-le-pow_right (lit< tt) le in record { sfits = omega arith })
+
+-- the numbers of so many digits take less than half of those of the bytes
+pub binary-room : (digits : ℕ) → digits ≤ 18 → 2 * 10 ^ digits ≤ 256 ^ binary_width digits
+binary-room digits le =
+    elim (cases_lt 4 digits) [
+      inr four ↦ (let power : 10 ^ digits ≤ 10 ^ 4 = pow-le-pow_right (lit< tt) four in rw (le-leb digits 4 four) (omega arith))
+    | inl more ↦ elim (cases_lt 9 digits) [
+        inr nine ↦ (let power : 10 ^ digits ≤ 10 ^ 9 = pow-le-pow_right (lit< tt) nine in rw (lt-leb digits 4 more, le-leb digits 9 nine) (omega arith))
+      | inl most ↦ (let power : 10 ^ digits ≤ 10 ^ 18 = pow-le-pow_right (lit< tt) le in rw (lt-leb digits 4 more, lt-leb digits 9 most) (omega arith))
+      ]
+    ]
+
+pub binary_width-cases : (digits : ℕ) → (binary_width digits ≡ 2) ⊎ ((binary_width digits ≡ 4) ⊎ (binary_width digits ≡ 8))
+binary_width-cases digits =
+    elim (cases_lt 4 digits) [
+      inr four ↦ inl (rw (le-leb digits 4 four) refl)
+    | inl more ↦ elim (cases_lt 9 digits) [
+        inr nine ↦ inr (inl (rw (lt-leb digits 4 more, le-leb digits 9 nine) refl))
+      | inl most ↦ inr (inr (rw (lt-leb digits 4 more, lt-leb digits 9 most) refl))
+      ]
+    ]
+
+pub binary_width-bounds : (digits : ℕ) → (2 ≤ binary_width digits) × (binary_width digits ≤ 8)
+binary_width-bounds digits =
+    elim (binary_width-cases digits) [
+      inl two ↦ (omega arith, omega arith)
+    | inr more ↦ elim more [ inl four ↦ (omega arith, omega arith) | inr eight ↦ (omega arith, omega arith) ]
+    ]

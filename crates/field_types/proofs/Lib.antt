@@ -7,3 +7,4 @@ pub mod WriteLemmas
 pub mod BoundsLemmas
 pub mod PackedLemmas
 pub mod BinaryLemmas
+pub mod MomentLemmas
