@@ -3,10 +3,10 @@ use Rattle.std.proofs.Common.{◌≡◌, ◌≢◌, ℕ, zero, suc, ◌+◌, ◌
 use Rattle.std.specs.List.{list_all}
 use Rattle.std.specs.Int.{w64, bytes_high_first, cast_unsigned}
 use Rattle.std.proofs.lemmas.List.{drop_all, length-drop}
-use Rattle.std.proofs.lemmas.Nat.{pow-add}
+use Rattle.std.proofs.lemmas.Nat.{pow-add, one_shl}
 use Rattle.std.proofs.lemmas.Bool.{and_parts, and_from, eqb-true, eq-eqb, ne_eqb, ltb-true, lt-ltb, le-ltb, le-leb, lt-leb, cases_lt, cases_eq}
 use Rattle.std.proofs.Math.Nat.{pow-suc, pow-zero, one-le-pow, div-one, div-add-mod, mul-le-mul_right, mod-lt, mul_comm, suc-add, pow-le-pow_right}
-use Rattle.std.proofs.Math.Seq.{drop-cons}
+use Rattle.std.proofs.Math.Seq.{drop-cons, take-append_seam}
 use Rattle.byteorder.specs.Endian as endian
 use Rattle.field_types.specs.FieldTypes.{is_between, binary_width}
 use Rattle.field_types.specs.Digits.{number_in, digits_in, is_negative}
@@ -15,7 +15,7 @@ use Rattle.field_types.specs.Bounds.{spells_between, digit_from}
 use Rattle.field_types.specs.FirstBad.{IsFirstBad, TellsFirstBad}
 use Rattle.field_types.proofs.DigitLemmas.{number_in-lt, digits_in-above}
 use Rattle.field_types.proofs.BoundsLemmas.{is_between-from, is_between-parts}
-use Rattle.field_types.proofs.FirstBadLemmas.{IsFirstBad-head}
+use Rattle.field_types.proofs.FirstBadLemmas.{IsFirstBad-head, TellsFirstBad-same}
 
 -- two's complement of the bytes from place i on, by the words of `byteorder`
 big_from-number_in : (i n : ℕ) (xs : List ℕ) → i + n ≡ length xs → endian.big_from i n xs ≡ number_in 256 (drop i xs)
@@ -218,3 +218,45 @@ binary_width-bounds digits =
       inl two ↦ (omega arith, omega arith)
     | inr more ↦ elim more [ inl four ↦ (omega arith, omega arith) | inr eight ↦ (omega arith, omega arith) ]
     ]
+
+pub turned_front-length : (image : List ℕ) → length (turned_front image) ≡ length image
+turned_front-length [] = refl
+turned_front-length (b ∷ bs) = refl
+
+-- the array whose front is the image with its first byte turned
+pub turned-array : (image self rest : List ℕ) → self ≡ image → 0 < length image → take (length image) (set (self ++ rest) 0 ((get_or (self ++ rest) 0 0 + 128) % 256)) ≡ turned_front image
+turned-array [] self rest e some = absurd (omega arith)
+turned-array (b ∷ bs) self rest e some = rw e (ap (λ w. turned b ∷ w) (take-append_seam bs rest))
+
+digits-zero : (xs : List ℕ) → list_all is_byte xs ≡ true → map (digit_from 0) xs ≡ xs
+digits-zero [] h = refl
+digits-zero (x ∷ xs) h =
+    let parts : (nat_lt x 256 ≡ true) × (list_all is_byte xs ≡ true) = and_parts (nat_lt x 256) (list_all is_byte xs) h in
+    let byte : x < 256 = ltb-true x 256 parts.0 in
+    let same : (x + 256) % 256 ≡ x = omega arith in
+    rw (same, digits-zero xs parts.1) refl
+
+turned_front-bytes : (xs : List ℕ) → list_all is_byte xs ≡ true → list_all is_byte (turned_front xs) ≡ true
+turned_front-bytes [] h = refl
+turned_front-bytes (x ∷ xs) h =
+    and_from (nat_lt (turned x) 256) (list_all is_byte xs) (lt-ltb (turned x) 256 (mod-lt (x + 128) (lit< tt))) (and_parts (nat_lt x 256) (list_all is_byte xs) h).1
+
+-- the number in the middle of those of n bytes
+pub middle-shift : (n : ℕ) → 1 ≤ n → n ≤ 8 → (1 * 2 ^ (8 * n - 1)) % 2 ^ 64 ≡ 2 ^ (8 * n - 1)
+middle-shift n some few = one_shl (8 * n - 1) 64 (omega arith)
+
+middle-power : (m : ℕ) → 2 ^ (8 * suc m - 1) ≡ 128 * 256 ^ m
+middle-power m =
+    let more : 8 * suc m - 1 ≡ 8 * m + 7 = omega arith in
+    rw (more, pow-add 2 (8 * m) 7, bytes-bits m) (omega arith)
+
+pub IsFirstBad-binary : (digits : ℕ) (image digits_turned : List ℕ) (middle most : ℕ) (place : Option ℕ) →
+  TellsFirstBad (spells_between 256 (middle - most) (middle + most) (length digits_turned)) (map (digit_from 0) digits_turned) place →
+  0 < length image → ((i : ℕ) → Fits w8 (get_or image i 0)) → digits_turned ≡ turned_front image → middle ≡ 2 ^ (8 * length image - 1) → most ≡ 10 ^ digits - 1 →
+  TellsFirstBad (λ bytes. (length bytes == length image) && is_some (binary_number digits bytes)) image place
+IsFirstBad-binary digits [] digits_turned middle most place h some bytes same half ten = absurd (omega arith)
+IsFirstBad-binary digits (b ∷ bs) digits_turned middle most place h some bytes same half ten =
+    let all : list_all is_byte (b ∷ bs) ≡ true = all-bytes (b ∷ bs) bytes in
+    let there = rw (same, digits-zero (turned_front (b ∷ bs)) (turned_front-bytes (b ∷ bs) all), ten) at h in
+    TellsFirstBad-same (binaries digits (suc (length bs))) (λ w. (length w == suc (length bs)) && is_some (binary_number digits w)) (b ∷ bs) place (binaries-same digits (suc (length bs)))
+    (TellsFirstBad-turned digits middle (b ∷ bs) (length bs) place refl (ltb-true b 256 (and_parts (nat_lt b 256) (list_all is_byte bs) all).0) (half ∙ middle-power (length bs)) there)

@@ -8,3 +8,4 @@ pub mod BoundsLemmas
 pub mod PackedLemmas
 pub mod BinaryLemmas
 pub mod MomentLemmas
+pub mod DateLemmas
