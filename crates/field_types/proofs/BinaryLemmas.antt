@@ -257,6 +257,8 @@ pub IsFirstBad-binary : (digits : ℕ) (image digits_turned : List ℕ) (middle 
 IsFirstBad-binary digits [] digits_turned middle most place h some bytes same half ten = absurd (omega arith)
 IsFirstBad-binary digits (b ∷ bs) digits_turned middle most place h some bytes same half ten =
     let all : list_all is_byte (b ∷ bs) ≡ true = all-bytes (b ∷ bs) bytes in
-    let there = rw (same, digits-zero (turned_front (b ∷ bs)) (turned_front-bytes (b ∷ bs) all), ten) at h in
+    let one = subst (λ (w : List ℕ). TellsFirstBad (spells_between 256 (middle - most) (middle + most) (length w)) (map (digit_from 0) w) place) same h in
+    let two = subst (λ (w : List ℕ). TellsFirstBad (spells_between 256 (middle - most) (middle + most) (suc (length bs))) w place) (digits-zero (turned_front (b ∷ bs)) (turned_front-bytes (b ∷ bs) all)) one in
+    let there = subst (λ (k : ℕ). TellsFirstBad (spells_between 256 (middle - k) (middle + k) (suc (length bs))) (turned_front (b ∷ bs)) place) ten two in
     TellsFirstBad-same (binaries digits (suc (length bs))) (λ w. (length w == suc (length bs)) && is_some (binary_number digits w)) (b ∷ bs) place (binaries-same digits (suc (length bs)))
     (TellsFirstBad-turned digits middle (b ∷ bs) (length bs) place refl (ltb-true b 256 (and_parts (nat_lt b 256) (list_all is_byte bs) all).0) (half ∙ middle-power (length bs)) there)

@@ -51,7 +51,7 @@ pub ten : (P : List ℕ → Type 0) → ((a b c d e f g h i j : ℕ) → P (a �
 ten P all (a ∷ b ∷ c ∷ d ∷ e ∷ f ∷ g ∷ h ∷ i ∷ j ∷ []) long = all a b c d e f g h i j
 ten P all _ long = absurd (omega arith)
 
-two : (P : List ℕ → Type 0) → ((a b : ℕ) → P (a ∷ b ∷ [])) → (text : List ℕ) → length text ≡ 2 → P text
+pub two : (P : List ℕ → Type 0) → ((a b : ℕ) → P (a ∷ b ∷ [])) → (text : List ℕ) → length text ≡ 2 → P text
 two P all (a ∷ b ∷ []) long = all a b
 two P all _ long = absurd (omega arith)
 

@@ -1,8 +1,9 @@
 -- Where bytes stop being the beginning of a list that passes a test: byte by byte, and part by part.
-use Rattle.std.proofs.Common.{◌≡◌, ℕ, zero, suc, ◌+◌, ◌-◌, ◌<◌, ◌≤◌, Bool, true, false, not, cond, ◌&&◌, ◌==◌, nat_lt, Option, Some, None, List, [], ◌∷◌, ◌++◌, length, take, drop, refl, sym, ◌∙◌, ap, arith, length-append, add-one, append_assoc, position, option_map, if◌then◌else◌}
+use Rattle.std.proofs.Common.{◌≡◌, ℕ, zero, suc, ◌+◌, ◌-◌, ◌<◌, ◌≤◌, Bool, true, false, not, cond, ◌&&◌, ◌==◌, nat_lt, Option, Some, None, List, [], ◌∷◌, ◌++◌, length, take, drop, refl, sym, ◌∙◌, ap, arith, length-append, add-one, append_assoc, position, option_map, if◌then◌else◌, subst, ◌⊎◌, inl, inr, Result, Ok, Err, is_ok}
+use Rattle.std.specs.Result.{result_err}
 use Rattle.std.specs.List.{list_all, prefix_len, position_or_len}
-use Rattle.std.proofs.lemmas.List.{take-append-le, length-take-le}
-use Rattle.std.proofs.lemmas.Bool.{and_parts, and_from, eqb-true, eq-eqb, ltb-true, ltb-false, lt-ltb, le-ltb}
+use Rattle.std.proofs.lemmas.List.{take-append-le, length-take-le, take-append-drop}
+use Rattle.std.proofs.lemmas.Bool.{and_parts, and_from, eqb-true, eq-eqb, ltb-true, ltb-false, lt-ltb, le-ltb, cases_Bool}
 use Rattle.std.proofs.lemmas.Bool.Decides.{nat_tests}
 use Rattle.std.proofs.Math.Nat.{suc-add, zero-add, sub-zero}
 use Rattle.field_types.specs.Digits.{ends_pass}
@@ -87,3 +88,19 @@ position-first_failing test [] = refl
 position-first_failing test (x ∷ xs) =
     let rest : cond (nat_lt (position_or_len (λ b. not (test b)) xs) (length xs)) (Some (position_or_len (λ b. not (test b)) xs)) None ≡ first_failing test xs = position-first_failing test xs in
     rw (not_not (test x)) (shift (test x) (position_or_len (λ b. not (test b)) xs) (length xs) ∙ rw rest refl)
+
+-- a call that ends with the place
+pub TellsFirstBad-err : {T : Type 0} (test : List ℕ → Bool) (bytes : List ℕ) (r : Result T ℕ) (at : ℕ) → r ≡ Err at → IsFirstBad test bytes at → TellsFirstBad test bytes (result_err r)
+TellsFirstBad-err {T = T} test bytes r at e h = subst (λ (s : Result T ℕ). TellsFirstBad test bytes (result_err s)) (sym e) h
+
+-- bytes that have a first bad place do not pass
+pub IsFirstBad-false : (test : List ℕ → Bool) (bytes : List ℕ) (at : ℕ) → IsFirstBad test bytes at → test bytes ≡ false
+IsFirstBad-false test bytes at h =
+    elim (cases_Bool (test bytes)) [
+      inl passes ↦ absurd (h.bad (drop (at + 1) bytes) (rw (take-append-drop (at + 1) bytes) passes))
+    | inr fails ↦ fails
+    ]
+
+pub TellsFirstBad-is_ok : {T : Type 0} (test : List ℕ → Bool) (bytes : List ℕ) (r : Result T ℕ) → TellsFirstBad test bytes (result_err r) → is_ok r ≡ test bytes
+TellsFirstBad-is_ok test bytes (Ok x) h = sym h
+TellsFirstBad-is_ok test bytes (Err at) h = sym (IsFirstBad-false test bytes at h)

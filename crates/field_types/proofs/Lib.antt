@@ -9,3 +9,5 @@ pub mod PackedLemmas
 pub mod BinaryLemmas
 pub mod MomentLemmas
 pub mod DateLemmas
+pub mod TimeLemmas
+pub mod StampLemmas

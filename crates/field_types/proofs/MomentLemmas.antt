@@ -1,10 +1,11 @@
 -- Parts of a text: characters that spell numbers, and where a text stops being the beginning of a date or a time.
-use Rattle.std.proofs.Common.{◌≡◌, ℕ, zero, suc, ◌+◌, ◌-◌, ◌*◌, ◌/◌, ◌%◌, ◌^◌, ◌<◌, ◌≤◌, Bool, true, false, ◌&&◌, ◌==◌, nat_lt, Option, Some, None, List, [], ◌∷◌, ◌++◌, length, take, drop, map, get_or, slice_index, refl, sym, ◌∙◌, ap, subst, arith, length-append, append_assoc, lit<}
+use Rattle.std.proofs.Common.{◌≡◌, ℕ, zero, suc, ◌+◌, ◌-◌, ◌*◌, ◌/◌, ◌%◌, ◌^◌, ◌<◌, ◌≤◌, Bool, true, false, ◌&&◌, ◌==◌, nat_lt, Option, Some, None, List, [], ◌∷◌, ◌++◌, length, take, drop, map, get_or, slice_index, Fits, w8, refl, sym, ◌∙◌, ap, subst, arith, length-append, append_assoc, lit<}
 use Rattle.std.specs.List.{list_all}
 use Rattle.std.proofs.lemmas.List.{length-map, length-take-le, length-drop, take-append-drop}
 use Rattle.std.proofs.lemmas.List.{append-nil}
 use Rattle.std.proofs.lemmas.Bool.{and_parts, and_from, eqb-true, eq-eqb, ltb-true, lt-ltb}
 use Rattle.std.proofs.Math.Seq.{drop-cons}
+use Rattle.std.proofs.Math.Nat.{add-sub_cancel_left}
 use Rattle.field_types.specs.FieldTypes.{is_between}
 use Rattle.field_types.specs.Digits.{number_in, low_half, high_half}
 use Rattle.field_types.specs.Zoned.{is_zone_digit}
@@ -12,6 +13,7 @@ use Rattle.field_types.specs.Binary.{is_byte}
 use Rattle.field_types.specs.Bounds.{spells_between, digit_from}
 use Rattle.field_types.specs.Moments.{spells, spells_in, spelled}
 use Rattle.field_types.specs.FirstBad.{IsFirstBad, TellsFirstBad, IsBadPart, part}
+use Rattle.field_types.proofs.BinaryLemmas.{all-bytes}
 use Rattle.field_types.proofs.FirstBadLemmas.{IsFirstBad-head, IsFirstBad-after, IsFirstBad-piece}
 
 -- a byte is a digit in zone F where it is 0 to 9 above the digit 0
@@ -148,3 +150,34 @@ IsFirstBad-mark test i mark text lt other asks rest good =
     let there : IsFirstBad test (take i text ++ (get_or text i 0 ∷ drop (suc i) text)) (length (take i text) + 0) = IsFirstBad-after test (take i text) (get_or text i 0 ∷ drop (suc i) text) 0 inner in
     let place : length (take i text) + 0 ≡ i = omega arith in
     subst (λ (k : ℕ). IsFirstBad test text k) place (subst (λ (w : List ℕ). IsFirstBad test w (length (take i text) + 0)) split there)
+
+bytes-drop : (k : ℕ) (xs : List ℕ) → list_all is_byte xs ≡ true → list_all is_byte (drop k xs) ≡ true
+bytes-drop zero xs h = h
+bytes-drop (suc k) [] h = refl
+bytes-drop (suc k) (x ∷ xs) h = bytes-drop k xs (and_parts (nat_lt x 256) (list_all is_byte xs) h).1
+
+part-bytes : (i n : ℕ) (text : List ℕ) → ((k : ℕ) → Fits w8 (get_or text k 0)) → list_all is_byte (part i n text) ≡ true
+part-bytes i n text h = bytes-take n (drop i text) (bytes-drop i text (all-bytes text h))
+
+pub part-length : (i n : ℕ) (text : List ℕ) → i + n ≤ length text → length (part i n text) ≡ n
+part-length i n text le = (let behind : length (drop i text) ≡ length text - i = length-drop i text in length-take-le n (drop i text) (omega arith))
+
+part-told : (low high i n : ℕ) (text here : List ℕ) (place : Option ℕ) → here ≡ part i n text → i + n ≤ length text → ((k : ℕ) → Fits w8 (get_or text k 0)) →
+  TellsFirstBad (spells_between 10 low high (length here)) (map (digit_from 240) here) place → TellsFirstBad (spells_in low high n) (part i n text) place
+part-told low high i n text here place same le bytes h =
+    let one = subst (λ (w : List ℕ). TellsFirstBad (spells_between 10 low high (length w)) (map (digit_from 240) w) place) same h in
+    let two = subst (λ (m : ℕ). TellsFirstBad (spells_between 10 low high m) (map (digit_from 240) (part i n text)) place) (part-length i n text le) one in
+    TellsFirstBad-spelled low high n (part i n text) place (part-bytes i n text bytes) two
+
+-- the first bad place of the digits is that of the part
+pub IsBadPart-spelled : (low high i n : ℕ) (text here : List ℕ) (k : ℕ) → here ≡ part i n text → i + n ≤ length text → ((j : ℕ) → Fits w8 (get_or text j 0)) →
+  IsFirstBad (spells_between 10 low high (length here)) (map (digit_from 240) here) k → IsBadPart (spells_in low high n) i n text (i + k)
+IsBadPart-spelled low high i n text here k same le bytes h = record { inner = k; place = refl; bad = part-told low high i n text here (Some k) same le bytes h }
+
+-- the part spells a number
+pub spells-part : (low high i n : ℕ) (text here : List ℕ) → here ≡ part i n text → i + n ≤ length text → ((j : ℕ) → Fits w8 (get_or text j 0)) →
+  spells_between 10 low high (length here) (map (digit_from 240) here) ≡ true → spells low high (part i n text) ≡ true
+spells-part low high i n text here same le bytes h = (and_parts (length (part i n text) == n) (spells low high (part i n text)) (part-told low high i n text here None same le bytes h)).1
+
+pub part-range : (i n : ℕ) (text : List ℕ) → take (i + n - i) (drop i text) ≡ part i n text
+part-range i n text = ap (λ k. take k (drop i text)) (add-sub_cancel_left i n)

@@ -57,10 +57,22 @@ pub fn timestamp(text: &[u8]) -> Result<(), usize>
 {
     date(&text[..10])?;
     mark(text, 10, HYPHEN)?;
-    time(&text[11..19]).map_err(|at| 11 + at)?;
+    time_at(text, 11)?;
     mark(text, 19, PERIOD)?;
     number(text, 20, 6, 0, 999_999)?;
     Ok(())
+}
+
+/// Whether a time stands from `from` on, or else the first byte with which none begins there.
+fn time_at(text: &[u8], from: usize) -> Result<(), usize>
+    requires { from + 8 ≤ length text.now }
+    ensures there { OnOk result (is_time (part from 8 text.now) ≡ true) }
+    ensures bad { IfErr result (IsBadPart is_time from 8 text.now) }
+{
+    match time(&text[from..from + 8]) {
+        Ok(()) => Ok(()),
+        Err(at) => Err(from + at),
+    }
 }
 
 /// The number in the `width` characters from `from` on, or else the first of them with which none from `low` to
