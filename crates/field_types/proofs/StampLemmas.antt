@@ -89,10 +89,10 @@ pub timestamp-fraction : (text : List ℕ) → length text ≡ 26 → (at : ℕ)
 timestamp-fraction = twenty_six (λ text. (at : ℕ) → is_date (part 0 10 text) ≡ true → slice_index text 10 ≡ 0x60 → is_time (part 11 8 text) ≡ true → slice_index text 19 ≡ 0x4B → IsBadPart (spells_in 0 999999 6) 20 6 text at → IsFirstBad is_timestamp text at)
     (λ a b c d e f g h i j k l m n o p q r s t u v w x y z at day hyphen clock period bad.
       IsFirstBad-part is_timestamp (spells_in 0 999999 6) 20 6 (a ∷ b ∷ c ∷ d ∷ e ∷ f ∷ g ∷ h ∷ i ∷ j ∷ k ∷ l ∷ m ∷ n ∷ o ∷ p ∷ q ∷ r ∷ s ∷ t ∷ u ∷ v ∷ w ∷ x ∷ y ∷ z ∷ []) at (omega arith)
-      (λ w t. (let p = timestamp-parts (a ∷ b ∷ c ∷ d ∷ e ∷ f ∷ g ∷ h ∷ i ∷ j ∷ k ∷ l ∷ m ∷ n ∷ o ∷ p ∷ q ∷ r ∷ s ∷ t ∷ w) t in let lw : suc (suc (suc (suc (suc (suc (suc (suc (suc (suc (suc (suc (suc (suc (suc (suc (suc (suc (suc (suc (length w)))))))))))))))))))) ≡ 26 = p.long in front-spells 0 999999 6 w (omega arith) p.fraction))
-      (λ p t. (let inner = in-parts 0 999999 6 p t in
+      (λ w0 t0. (let p0 = timestamp-parts (a ∷ b ∷ c ∷ d ∷ e ∷ f ∷ g ∷ h ∷ i ∷ j ∷ k ∷ l ∷ m ∷ n ∷ o ∷ p ∷ q ∷ r ∷ s ∷ t ∷ w0) t0 in let lw : suc (suc (suc (suc (suc (suc (suc (suc (suc (suc (suc (suc (suc (suc (suc (suc (suc (suc (suc (suc (length w0)))))))))))))))))))) ≡ 26 = p0.long in front-spells 0 999999 6 w0 (omega arith) p0.fraction))
+      (λ p0 t0. (let inner = in-parts 0 999999 6 p0 t0 in
         ([],
-         six (λ q. spells 0 999999 q ≡ true → is_timestamp (a ∷ b ∷ c ∷ d ∷ e ∷ f ∷ g ∷ h ∷ i ∷ j ∷ k ∷ l ∷ m ∷ n ∷ o ∷ p ∷ q ∷ r ∷ s ∷ t ∷ (q ++ [])) ≡ true)
-           (λ x y u v r s2 sp. timestamp-from (a ∷ b ∷ c ∷ d ∷ e ∷ f ∷ g ∷ h ∷ i ∷ j ∷ k ∷ l ∷ m ∷ n ∷ o ∷ p ∷ q ∷ r ∷ s ∷ t ∷ x ∷ y ∷ u ∷ v ∷ r ∷ s2 ∷ []) (record { long = refl; date = day; hyphen = hyphen; time = clock; period = period; fraction = sp }))
-           p inner.0 inner.1)))
+         six (λ q0. spells 0 999999 q0 ≡ true → is_timestamp (a ∷ b ∷ c ∷ d ∷ e ∷ f ∷ g ∷ h ∷ i ∷ j ∷ k ∷ l ∷ m ∷ n ∷ o ∷ p ∷ q ∷ r ∷ s ∷ t ∷ (q0 ++ [])) ≡ true)
+           (λ x0 x1 x2 x3 x4 x5 sp. timestamp-from (a ∷ b ∷ c ∷ d ∷ e ∷ f ∷ g ∷ h ∷ i ∷ j ∷ k ∷ l ∷ m ∷ n ∷ o ∷ p ∷ q ∷ r ∷ s ∷ t ∷ x0 ∷ x1 ∷ x2 ∷ x3 ∷ x4 ∷ x5 ∷ []) (record { long = refl; date = day; hyphen = hyphen; time = clock; period = period; fraction = sp }))
+           p0 inner.0 inner.1)))
       bad)
