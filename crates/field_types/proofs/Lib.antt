@@ -11,3 +11,4 @@ pub mod MomentLemmas
 pub mod DateLemmas
 pub mod TimeLemmas
 pub mod StampLemmas
+pub mod FieldLemmas

@@ -1,6 +1,6 @@
 //! Fields: a value is put into its place in a record, and taken out of it again.
 //! Each kind of field has a file of its own: `zoned.rt`, `packed.rt`, `binary.rt` and `moments.rt`.
-ghost use Rattle.std.specs.Prelude.{◌≡◌, ◌↔◌, ℕ, Ok, Err, length, is_some, IfOk, OnOk, OnErr, IsErrOf, MatchOption, IsTrue};
+ghost use Rattle.std.specs.Prelude.{◌≡◌, ◌↔◌, ℕ, true, length, is_some, IfOk, OnOk, OnErr, IsErrOf};
 ghost use Rattle.std.specs.Result.{result_err};
 ghost use Rattle.field_types.specs.FieldTypes.{IsFieldType, width, is_numeric, is_moment_kind};
 ghost use Rattle.field_types.specs.FirstBad.{TellsFirstBad};
@@ -48,6 +48,7 @@ pub fn width(t: &FieldType) -> usize
 }
 
 /// Puts a value into its field.
+#[tactic(auto, unfolding(crate::specs::FieldBytes::written))]
 pub fn put(t: &FieldType, v: &Value, into: &mut [u8]) -> Result<(), ValueFault>
     requires allowed { IsFieldType t.now }
     requires room { length into.old ≡ width t.now }
@@ -69,16 +70,9 @@ pub fn take(alloc: Global, t: &FieldType, image: &[u8]) -> Result<Value, ImageFa
     ensures value { IfOk result (λ v. stands t.now v image.now) }
     ensures bad { (at : ℕ) → IsErrOf result (ImageFault.BadImage (record { at = at })) ↔ IsBadAt t.now image.now at }
 {
-    if let Some(at) = first_bad(t, image) {
-        return Err(ImageFault::BadImage(BadImage { at }));
-    }
-    match t.kind {
-        Kind::Zoned => Ok(decimal(zoned::number(image), t)),
-        Kind::Packed => Ok(decimal(packed::number(image), t)),
-        Kind::Binary => Ok(decimal(i128::from(binary::number(image)), t)),
-        Kind::Char | Kind::Date | Kind::Time | Kind::Stamp => {
-            Ok(Value::Chars(Text::from_slice(alloc, image)?))
-        }
+    match first_bad(t, image) {
+        Some(at) => Err(ImageFault::BadImage(BadImage { at })),
+        None => Ok(value(alloc, t, image)?),
     }
 }
 
@@ -99,6 +93,24 @@ pub fn first_bad(t: &FieldType, image: &[u8]) -> Option<usize>
     }
 }
 
+/// The value that stands in the field.
+fn value(alloc: Global, t: &FieldType, image: &[u8]) -> Result<Value, AllocError>
+    requires allowed { IsFieldType t.now }
+    requires room { length image.now ≡ width t.now }
+    requires there { is_some (held t.now image.now) ≡ true }
+    ensures { IfOk result (λ v. stands t.now v image.now) }
+{
+    match t.kind {
+        Kind::Zoned => Ok(decimal(zoned::number(image), t)),
+        Kind::Packed => Ok(decimal(packed::number(image), t)),
+        Kind::Binary => Ok(decimal(i128::from(binary::number(image)), t)),
+        Kind::Char | Kind::Date | Kind::Time | Kind::Stamp => {
+            Ok(Value::Chars(Text::from_slice(alloc, image)?))
+        }
+    }
+}
+
+#[tactic(auto, unfolding(crate::specs::FieldBytes::fault_of))]
 fn put_text(t: &FieldType, text: &[u8], into: &mut [u8]) -> Result<(), ValueFault>
     requires { length into.old ≡ width t.now }
     ensures written { OnOk result (into.new ≡ filled (width t.now) text.now) }
@@ -120,6 +132,7 @@ fn put_text(t: &FieldType, text: &[u8], into: &mut [u8]) -> Result<(), ValueFaul
     Ok(())
 }
 
+#[tactic(auto, unfolding(crate::specs::FieldBytes::fault_of, crate::specs::FieldBytes::written))]
 fn put_number(t: &FieldType, number: Dec, into: &mut [u8]) -> Result<(), ValueFault>
     requires allowed { IsFieldType t.now }
     requires room { length into.old ≡ width t.now }
