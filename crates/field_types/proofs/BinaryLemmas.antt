@@ -55,9 +55,9 @@ pub twos_complement-same : (n x : ℕ) → 1 ≤ n → x < 256 ^ n → endian.tw
 twos_complement-same n x some lt =
     let middle : 256 ^ n ≡ 2 * 2 ^ (8 * n - 1) = middle-bits n some in
     elim (cases_lt x (2 ^ (8 * n - 1))) [
-      inl low ↦ (let small : 2 * x < 256 ^ n = omega arith in rw (lt-ltb x (2 ^ (8 * n - 1)) low, lt-ltb (2 * x) (256 ^ n) small) refl)
-    | inr high ↦ (let great : 256 ^ n ≤ 2 * x = omega arith in
-        rw (le-ltb x (2 ^ (8 * n - 1)) high, le-ltb (2 * x) (256 ^ n) great, ← bytes-bits n) (sub-below x (256 ^ n) lt))
+      | inl low ↦ (let small : 2 * x < 256 ^ n = omega arith in rw (lt-ltb x (2 ^ (8 * n - 1)) low, lt-ltb (2 * x) (256 ^ n) small) refl)
+      | inr high ↦ (let great : 256 ^ n ≤ 2 * x = omega arith in
+          rw (le-ltb x (2 ^ (8 * n - 1)) high, le-ltb (2 * x) (256 ^ n) great, ← bytes-bits n) (sub-below x (256 ^ n) lt))
     ]
 
 digits_in-mod : (n x : ℕ) → digits_in 256 n (x % 256 ^ n) ≡ digits_in 256 n x
@@ -98,45 +98,45 @@ both-true false true f g = g refl
 both-true false false f g = refl
 
 low-half : (digits p b n half : ℕ) → b < 128 → n < p → half ≡ 128 * p → 0 < 10 ^ digits →
-  is_between (half - (10 ^ digits - 1)) (half + (10 ^ digits - 1)) ((b + 128) * p + n) ≡ nat_lt (unsigned_abs (cond (nat_lt (2 * (b * p + n)) (256 * p)) (pos (b * p + n)) (neg_ℤ (pos (256 * p - (b * p + n)))))) (10 ^ digits)
+    is_between (half - (10 ^ digits - 1)) (half + (10 ^ digits - 1)) ((b + 128) * p + n) ≡ nat_lt (unsigned_abs (cond (nat_lt (2 * (b * p + n)) (256 * p)) (pos (b * p + n)) (neg_ℤ (pos (256 * p - (b * p + n)))))) (10 ^ digits)
 low-half digits p b n half lt below middle some =
     let wide : (b + 1) * p ≤ 128 * p = mul-le-mul_right p (let le : b + 1 ≤ 128 = omega arith in le) in
     let small : 2 * (b * p + n) < 256 * p = omega arith in
     rw (lt-ltb (2 * (b * p + n)) (256 * p) small)
     (both-true (is_between (half - (10 ^ digits - 1)) (half + (10 ^ digits - 1)) ((b + 128) * p + n)) (nat_lt (b * p + n) (10 ^ digits))
-      (λ h. lt-ltb (b * p + n) (10 ^ digits) (let range = is_between-parts (half - (10 ^ digits - 1)) (half + (10 ^ digits - 1)) ((b + 128) * p + n) h in omega (arith, range.1)))
-      (λ h. is_between-from (half - (10 ^ digits - 1)) (half + (10 ^ digits - 1)) ((b + 128) * p + n) (omega arith) (let lt10 : b * p + n < 10 ^ digits = ltb-true (b * p + n) (10 ^ digits) h in omega arith)))
+    (λ h. lt-ltb (b * p + n) (10 ^ digits) (let range = is_between-parts (half - (10 ^ digits - 1)) (half + (10 ^ digits - 1)) ((b + 128) * p + n) h in omega (arith, range.1)))
+    (λ h. is_between-from (half - (10 ^ digits - 1)) (half + (10 ^ digits - 1)) ((b + 128) * p + n) (omega arith) (let lt10 : b * p + n < 10 ^ digits = ltb-true (b * p + n) (10 ^ digits) h in omega arith)))
 
 unsigned_abs-neg : (n : ℕ) → unsigned_abs (neg_ℤ (pos n)) ≡ n
 unsigned_abs-neg zero = refl
 unsigned_abs-neg (suc n) = refl
 
 high-half : (digits p e n half : ℕ) → e < 128 → n < p → half ≡ 128 * p → 0 < 10 ^ digits →
-  is_between (half - (10 ^ digits - 1)) (half + (10 ^ digits - 1)) (e * p + n) ≡ nat_lt (unsigned_abs (cond (nat_lt (2 * ((e + 128) * p + n)) (256 * p)) (pos ((e + 128) * p + n)) (neg_ℤ (pos (256 * p - ((e + 128) * p + n)))))) (10 ^ digits)
+    is_between (half - (10 ^ digits - 1)) (half + (10 ^ digits - 1)) (e * p + n) ≡ nat_lt (unsigned_abs (cond (nat_lt (2 * ((e + 128) * p + n)) (256 * p)) (pos ((e + 128) * p + n)) (neg_ℤ (pos (256 * p - ((e + 128) * p + n)))))) (10 ^ digits)
 high-half digits p e n half lt below middle some =
     let wide : (e + 1) * p ≤ 128 * p = mul-le-mul_right p (let le : e + 1 ≤ 128 = omega arith in le) in
     let great : 256 * p ≤ 2 * ((e + 128) * p + n) = omega arith in
     rw (le-ltb (2 * ((e + 128) * p + n)) (256 * p) great, unsigned_abs-neg (256 * p - ((e + 128) * p + n)))
     (both-true (is_between (half - (10 ^ digits - 1)) (half + (10 ^ digits - 1)) (e * p + n)) (nat_lt (256 * p - ((e + 128) * p + n)) (10 ^ digits))
-      (λ h. lt-ltb (256 * p - ((e + 128) * p + n)) (10 ^ digits) (let range = is_between-parts (half - (10 ^ digits - 1)) (half + (10 ^ digits - 1)) (e * p + n) h in omega (arith, range.0)))
-      (λ h. is_between-from (half - (10 ^ digits - 1)) (half + (10 ^ digits - 1)) (e * p + n)
-        (let lt10 : 256 * p - ((e + 128) * p + n) < 10 ^ digits = ltb-true (256 * p - ((e + 128) * p + n)) (10 ^ digits) h in omega arith) (omega arith)))
+    (λ h. lt-ltb (256 * p - ((e + 128) * p + n)) (10 ^ digits) (let range = is_between-parts (half - (10 ^ digits - 1)) (half + (10 ^ digits - 1)) (e * p + n) h in omega (arith, range.0)))
+    (λ h. is_between-from (half - (10 ^ digits - 1)) (half + (10 ^ digits - 1)) (e * p + n)
+    (let lt10 : 256 * p - ((e + 128) * p + n) < 10 ^ digits = ltb-true (256 * p - ((e + 128) * p + n)) (10 ^ digits) h in omega arith) (omega arith)))
 
 turned-core : (digits m half b n : ℕ) → b < 256 → n < 256 ^ m → half ≡ 128 * 256 ^ m →
-  is_between (half - (10 ^ digits - 1)) (half + (10 ^ digits - 1)) (turned b * 256 ^ m + n) ≡ nat_lt (unsigned_abs (cond (nat_lt (2 * (b * 256 ^ m + n)) (256 * 256 ^ m)) (pos (b * 256 ^ m + n)) (neg_ℤ (pos (256 * 256 ^ m - (b * 256 ^ m + n)))))) (10 ^ digits)
+    is_between (half - (10 ^ digits - 1)) (half + (10 ^ digits - 1)) (turned b * 256 ^ m + n) ≡ nat_lt (unsigned_abs (cond (nat_lt (2 * (b * 256 ^ m + n)) (256 * 256 ^ m)) (pos (b * 256 ^ m + n)) (neg_ℤ (pos (256 * 256 ^ m - (b * 256 ^ m + n)))))) (10 ^ digits)
 turned-core digits m half b n byte below middle =
     let some : 0 < 10 ^ digits = one-le-pow digits 10 (lit< tt) in
     elim (cases_lt b 128) [
-      inl low ↦ (let up : turned b ≡ b + 128 = omega arith in rw up (low-half digits (256 ^ m) b n half low below middle some))
-    | inr high ↦ (let down : turned b ≡ b - 128 = omega arith in
-        let back : b ≡ (b - 128) + 128 = omega arith in
-        let less : b - 128 < 128 = omega arith in
-        let core = high-half digits (256 ^ m) (b - 128) n half less below middle some in
-        rw down (rw (← back) at core))
+      | inl low ↦ (let up : turned b ≡ b + 128 = omega arith in rw up (low-half digits (256 ^ m) b n half low below middle some))
+      | inr high ↦ (let down : turned b ≡ b - 128 = omega arith in
+          let back : b ≡ (b - 128) + 128 = omega arith in
+          let less : b - 128 < 128 = omega arith in
+          let core = high-half digits (256 ^ m) (b - 128) n half less below middle some in
+          rw down (rw (← back) at core))
     ]
 
 turned-same : (digits m half b : ℕ) → b < 256 → half ≡ 128 * 256 ^ m → (w : List ℕ) → length w ≡ m → (bytes : Bool) → list_all is_byte w ≡ bytes →
-  spells_between 256 (half - (10 ^ digits - 1)) (half + (10 ^ digits - 1)) (suc m) (turned b ∷ w) ≡ binaries digits (suc m) (b ∷ w)
+    spells_between 256 (half - (10 ^ digits - 1)) (half + (10 ^ digits - 1)) (suc m) (turned b ∷ w) ≡ binaries digits (suc m) (b ∷ w)
 turned-same digits m half b byte middle w same false e =
     rw (eq-eqb (suc (length w)) (suc m) (ap suc same), lt-ltb (turned b) 256 (mod-lt (b + 128) (lit< tt)), lt-ltb b 256 byte, e) refl
 turned-same digits m half b byte middle w same true e =
@@ -146,11 +146,11 @@ turned-same digits m half b byte middle w same true e =
 
 -- with the first byte turned a number of the field lies between the least and the greatest
 turned-test : (digits m half b : ℕ) → b < 256 → half ≡ 128 * 256 ^ m → (w : List ℕ) →
-  spells_between 256 (half - (10 ^ digits - 1)) (half + (10 ^ digits - 1)) (suc m) (turned b ∷ w) ≡ binaries digits (suc m) (b ∷ w)
+    spells_between 256 (half - (10 ^ digits - 1)) (half + (10 ^ digits - 1)) (suc m) (turned b ∷ w) ≡ binaries digits (suc m) (b ∷ w)
 turned-test digits m half b byte middle w =
     elim (cases_eq (length w) m) [
-      inl same ↦ turned-same digits m half b byte middle w same (list_all is_byte w) refl
-    | inr other ↦ (let differ : suc (length w) ≡ suc m → ⊥ = λ (e : suc (length w) ≡ suc m). other (omega arith) in rw (ne_eqb (suc (length w)) (suc m) differ) refl)
+      | inl same ↦ turned-same digits m half b byte middle w same (list_all is_byte w) refl
+      | inr other ↦ (let differ : suc (length w) ≡ suc m → ⊥ = λ (e : suc (length w) ≡ suc m). other (omega arith) in rw (ne_eqb (suc (length w)) (suc m) differ) refl)
     ]
 
 turned_twice : (b : ℕ) → b < 256 → turned (turned b) ≡ b
@@ -163,25 +163,25 @@ turned_front (b ∷ bs) = turned b ∷ bs
 
 -- what is told of the turned image is told of the image
 pub TellsFirstBad-turned : (digits half : ℕ) (image : List ℕ) (m : ℕ) (place : Option ℕ) → length image ≡ suc m → get_or image 0 0 < 256 → half ≡ 128 * 256 ^ m →
-  TellsFirstBad (spells_between 256 (half - (10 ^ digits - 1)) (half + (10 ^ digits - 1)) (suc m)) (turned_front image) place → TellsFirstBad (binaries digits (suc m)) image place
+    TellsFirstBad (spells_between 256 (half - (10 ^ digits - 1)) (half + (10 ^ digits - 1)) (suc m)) (turned_front image) place → TellsFirstBad (binaries digits (suc m)) image place
 TellsFirstBad-turned digits half [] m place long byte middle h = absurd (omega arith)
 TellsFirstBad-turned digits half (b ∷ bs) m None long byte middle h = sym (turned-test digits m half b byte middle bs) ∙ h
 TellsFirstBad-turned digits half (b ∷ bs) m (Some zero) long byte middle h =
     elim h.rest as (λ r. spells_between 256 (half - (10 ^ digits - 1)) (half + (10 ^ digits - 1)) (suc m) r ≡ true → IsFirstBad (binaries digits (suc m)) (b ∷ bs) 0) [
-      [] ↦ λ good.
-        (let none : 0 ≡ suc m = eqb-true 0 (suc m) (and_parts (0 == suc m) true (and_parts ((0 == suc m) && true) (is_between (half - (10 ^ digits - 1)) (half + (10 ^ digits - 1)) 0) good).0).0 in absurd (omega arith))
-    | x ∷ xs ↦ λ good.
-        (let front = (and_parts ((suc (length xs) == suc m) && (nat_lt x 256 && list_all (λ d. nat_lt d 256) xs)) (is_between (half - (10 ^ digits - 1)) (half + (10 ^ digits - 1)) (x * 256 ^ length xs + number_in 256 xs)) good).0 in
-         let digit : x < 256 = ltb-true x 256 (and_parts (nat_lt x 256) (list_all (λ d. nat_lt d 256) xs) (and_parts (suc (length xs) == suc m) (nat_lt x 256 && list_all (λ d. nat_lt d 256) xs) front).1).0 in
-         let there : binaries digits (suc m) (turned x ∷ xs) ≡ true = sym (turned-test digits m half (turned x) (mod-lt (x + 128) (lit< tt)) middle xs) ∙ rw (turned_twice x digit) good in
-         IsFirstBad-head (binaries digits (suc m)) b bs (turned x ∷ xs) there (λ other e. h.bad other (turned-test digits m half b byte middle other ∙ e)))
+      | [] ↦ λ good.
+          (let none : 0 ≡ suc m = eqb-true 0 (suc m) (and_parts (0 == suc m) true (and_parts ((0 == suc m) && true) (is_between (half - (10 ^ digits - 1)) (half + (10 ^ digits - 1)) 0) good).0).0 in absurd (omega arith))
+      | x ∷ xs ↦ λ good.
+          (let front = (and_parts ((suc (length xs) == suc m) && (nat_lt x 256 && list_all (λ d. nat_lt d 256) xs)) (is_between (half - (10 ^ digits - 1)) (half + (10 ^ digits - 1)) (x * 256 ^ length xs + number_in 256 xs)) good).0 in
+          let digit : x < 256 = ltb-true x 256 (and_parts (nat_lt x 256) (list_all (λ d. nat_lt d 256) xs) (and_parts (suc (length xs) == suc m) (nat_lt x 256 && list_all (λ d. nat_lt d 256) xs) front).1).0 in
+          let there : binaries digits (suc m) (turned x ∷ xs) ≡ true = sym (turned-test digits m half (turned x) (mod-lt (x + 128) (lit< tt)) middle xs) ∙ rw (turned_twice x digit) good in
+          IsFirstBad-head (binaries digits (suc m)) b bs (turned x ∷ xs) there (λ other e. h.bad other (turned-test digits m half b byte middle other ∙ e)))
     ] h.good
 TellsFirstBad-turned digits half (b ∷ bs) m (Some (suc k)) long byte middle h = record {
-    within = h.within;
-    rest = h.rest;
-    good = sym (turned-test digits m half b byte middle (take k bs ++ h.rest)) ∙ h.good;
-    bad = λ other e. h.bad other (rw (suc-add k 1) (turned-test digits m half b byte middle (take (k + 1) bs ++ other) ∙ (rw (suc-add k 1) at e)));
-  }
+  within = h.within;
+  rest = h.rest;
+  good = sym (turned-test digits m half b byte middle (take k bs ++ h.rest)) ∙ h.good;
+  bad = λ other e. h.bad other (rw (suc-add k 1) (turned-test digits m half b byte middle (take (k + 1) bs ++ other) ∙ (rw (suc-add k 1) at e)));
+}
 
 pub all-bytes : (xs : List ℕ) → ((i : ℕ) → Fits w8 (get_or xs i 0)) → list_all is_byte xs ≡ true
 all-bytes [] h = refl
@@ -195,28 +195,28 @@ fits-half (negsuc k) n le h = (let power : 256 ^ n ≤ 256 ^ 8 = pow-le-pow_righ
 pub binary-room : (digits : ℕ) → digits ≤ 18 → 2 * 10 ^ digits ≤ 256 ^ binary_width digits
 binary-room digits le =
     elim (cases_lt 4 digits) [
-      inr four ↦ (let power : 10 ^ digits ≤ 10 ^ 4 = pow-le-pow_right (lit< tt) four in rw (le-leb digits 4 four) (omega arith))
-    | inl more ↦ elim (cases_lt 9 digits) [
-        inr nine ↦ (let power : 10 ^ digits ≤ 10 ^ 9 = pow-le-pow_right (lit< tt) nine in rw (lt-leb digits 4 more, le-leb digits 9 nine) (omega arith))
-      | inl most ↦ (let power : 10 ^ digits ≤ 10 ^ 18 = pow-le-pow_right (lit< tt) le in rw (lt-leb digits 4 more, lt-leb digits 9 most) (omega arith))
+      | inr four ↦ (let power : 10 ^ digits ≤ 10 ^ 4 = pow-le-pow_right (lit< tt) four in rw (le-leb digits 4 four) (omega arith))
+      | inl more ↦ elim (cases_lt 9 digits) [
+        | inr nine ↦ (let power : 10 ^ digits ≤ 10 ^ 9 = pow-le-pow_right (lit< tt) nine in rw (lt-leb digits 4 more, le-leb digits 9 nine) (omega arith))
+        | inl most ↦ (let power : 10 ^ digits ≤ 10 ^ 18 = pow-le-pow_right (lit< tt) le in rw (lt-leb digits 4 more, lt-leb digits 9 most) (omega arith))
       ]
     ]
 
 pub binary_width-cases : (digits : ℕ) → (binary_width digits ≡ 2) ⊎ ((binary_width digits ≡ 4) ⊎ (binary_width digits ≡ 8))
 binary_width-cases digits =
     elim (cases_lt 4 digits) [
-      inr four ↦ inl (rw (le-leb digits 4 four) refl)
-    | inl more ↦ elim (cases_lt 9 digits) [
-        inr nine ↦ inr (inl (rw (lt-leb digits 4 more, le-leb digits 9 nine) refl))
-      | inl most ↦ inr (inr (rw (lt-leb digits 4 more, lt-leb digits 9 most) refl))
+      | inr four ↦ inl (rw (le-leb digits 4 four) refl)
+      | inl more ↦ elim (cases_lt 9 digits) [
+        | inr nine ↦ inr (inl (rw (lt-leb digits 4 more, le-leb digits 9 nine) refl))
+        | inl most ↦ inr (inr (rw (lt-leb digits 4 more, lt-leb digits 9 most) refl))
       ]
     ]
 
 pub binary_width-bounds : (digits : ℕ) → (2 ≤ binary_width digits) × (binary_width digits ≤ 8)
 binary_width-bounds digits =
     elim (binary_width-cases digits) [
-      inl two ↦ (omega arith, omega arith)
-    | inr more ↦ elim more [ inl four ↦ (omega arith, omega arith) | inr eight ↦ (omega arith, omega arith) ]
+      | inl two ↦ (omega arith, omega arith)
+      | inr more ↦ elim more [ inl four ↦ (omega arith, omega arith) | inr eight ↦ (omega arith, omega arith) ]
     ]
 
 pub turned_front-length : (image : List ℕ) → length (turned_front image) ≡ length image
@@ -251,9 +251,9 @@ middle-power m =
     rw (more, pow-add 2 (8 * m) 7, bytes-bits m) (omega arith)
 
 pub IsFirstBad-binary : (digits : ℕ) (image digits_turned : List ℕ) (middle most : ℕ) (place : Option ℕ) →
-  TellsFirstBad (spells_between 256 (middle - most) (middle + most) (length digits_turned)) (map (digit_from 0) digits_turned) place →
-  0 < length image → ((i : ℕ) → Fits w8 (get_or image i 0)) → digits_turned ≡ turned_front image → middle ≡ 2 ^ (8 * length image - 1) → most ≡ 10 ^ digits - 1 →
-  TellsFirstBad (λ bytes. (length bytes == length image) && is_some (binary_number digits bytes)) image place
+    TellsFirstBad (spells_between 256 (middle - most) (middle + most) (length digits_turned)) (map (digit_from 0) digits_turned) place →
+    0 < length image → ((i : ℕ) → Fits w8 (get_or image i 0)) → digits_turned ≡ turned_front image → middle ≡ 2 ^ (8 * length image - 1) → most ≡ 10 ^ digits - 1 →
+    TellsFirstBad (λ bytes. (length bytes == length image) && is_some (binary_number digits bytes)) image place
 IsFirstBad-binary digits [] digits_turned middle most place h some bytes same half ten = absurd (omega arith)
 IsFirstBad-binary digits (b ∷ bs) digits_turned middle most place h some bytes same half ten =
     let all : list_all is_byte (b ∷ bs) ≡ true = all-bytes (b ∷ bs) bytes in

@@ -33,39 +33,40 @@ pub reaches-some : (base low high least n : ℕ) → 0 < base → low ≤ high �
 reaches-some base low high least n pos order below room =
     let some : 0 < base ^ n = one-le-pow n base pos in
     let fits : low - least < base ^ n = omega arith in
-    let number : number_in base (digits_in base n (low - least)) ≡ low - least = number_in-digits_in_all base n (low - least) pos fits in
-    ( digits_in base n (low - least)
-    , and_from (length (digits_in base n (low - least)) == n) (list_all (λ d. nat_lt d base) (digits_in base n (low - least)) && is_between low high (least + number_in base (digits_in base n (low - least))))
-      (eq-eqb (length (digits_in base n (low - least))) n (length-digits_in base n (low - least)))
-      (and_from (list_all (λ d. nat_lt d base) (digits_in base n (low - least))) (is_between low high (least + number_in base (digits_in base n (low - least)))) (are_digits_in base n (low - least) pos)
-        (rw number (is_between-from low high (least + (low - least)) (omega arith) (omega arith)))) )
+    let number : number_in base (digits_in base n (low - least)) ≡ low - least = number_in-digits_in_all base n (low - least) pos fits in (
+      digits_in base n (low - least),
+      and_from (length (digits_in base n (low - least)) == n) (list_all (λ d. nat_lt d base) (digits_in base n (low - least)) && is_between low high (least + number_in base (digits_in base n (low - least))))
+          (eq-eqb (length (digits_in base n (low - least))) n (length-digits_in base n (low - least)))
+          (and_from (list_all (λ d. nat_lt d base) (digits_in base n (low - least))) (is_between low high (least + number_in base (digits_in base n (low - least)))) (are_digits_in base n (low - least) pos)
+          (rw number (is_between-from low high (least + (low - least)) (omega arith) (omega arith)))),
+    )
 
 -- behind a digit
 pub reaches-behind : (base low high least n d : ℕ) → d < base → (w : List ℕ) → reaches base low high (least + d * base ^ n) n w ≡ reaches base low high least (suc n) (d ∷ w)
 reaches-behind base low high least n d lt w =
     elim (cases_eq (length w) n) [
-      inl same ↦
-        (let sum : least + d * base ^ n + number_in base w ≡ least + (d * base ^ length w + number_in base w) = rw same (omega arith) in
-         rw (eq-eqb (length w) n same, eq-eqb (suc (length w)) (suc n) (ap suc same), lt-ltb d base lt, sum) refl)
-    | inr other ↦ rw (ne_eqb (length w) n other, ne_eqb (suc (length w)) (suc n) (λ e. other (omega arith))) refl
+      | inl same ↦
+          (let sum : least + d * base ^ n + number_in base w ≡ least + (d * base ^ length w + number_in base w) = rw same (omega arith) in
+          rw (eq-eqb (length w) n same, eq-eqb (suc (length w)) (suc n) (ap suc same), lt-ltb d base lt, sum) refl)
+      | inr other ↦ rw (ne_eqb (length w) n other, ne_eqb (suc (length w)) (suc n) (λ e. other (omega arith))) refl
     ]
 
 -- where no digits go on, the digit is bad
 pub reaches-bad : (base low high least n d : ℕ) (ds : List ℕ) → 0 < base → low ≤ high → least ≤ high → low < least + base ^ suc n →
-  (base ≤ d) ⊎ ((high < least + d * base ^ n) ⊎ (least + d * base ^ n + base ^ n ≤ low)) → IsFirstBad (reaches base low high least (suc n)) (d ∷ ds) 0
+    (base ≤ d) ⊎ ((high < least + d * base ^ n) ⊎ (least + d * base ^ n + base ^ n ≤ low)) → IsFirstBad (reaches base low high least (suc n)) (d ∷ ds) 0
 reaches-bad base low high least n d ds pos order below room why =
     let some : (w : List ℕ) × (reaches base low high least (suc n) w ≡ true) = reaches-some base low high least (suc n) pos order below room in
     IsFirstBad-head (reaches base low high least (suc n)) d ds some.0 some.1 (λ other h.
-      (let parts : ((suc (length other) == suc n) ≡ true) × (((nat_lt d base && list_all (λ e. nat_lt e base) other) && is_between low high (least + (d * base ^ length other + number_in base other))) ≡ true) =
-          and_parts (suc (length other) == suc n) ((nat_lt d base && list_all (λ e. nat_lt e base) other) && is_between low high (least + (d * base ^ length other + number_in base other))) h in
-       let long : length other ≡ n = (let e : suc (length other) ≡ suc n = eqb-true (suc (length other)) (suc n) parts.0 in omega arith) in
-       let inner : ((nat_lt d base && list_all (λ e. nat_lt e base) other) ≡ true) × (is_between low high (least + (d * base ^ length other + number_in base other)) ≡ true) =
-          and_parts (nat_lt d base && list_all (λ e. nat_lt e base) other) (is_between low high (least + (d * base ^ length other + number_in base other))) parts.1 in
-       let digits : (nat_lt d base ≡ true) × (list_all (λ e. nat_lt e base) other ≡ true) = and_parts (nat_lt d base) (list_all (λ e. nat_lt e base) other) inner.0 in
-       let digit : d < base = ltb-true d base digits.0 in
-       let rest : number_in base other < base ^ n = rw long at (number_in-lt base other pos digits.1) in
-       let range : (low ≤ least + (d * base ^ n + number_in base other)) × (least + (d * base ^ n + number_in base other) ≤ high) = rw long at (is_between-parts low high (least + (d * base ^ length other + number_in base other)) inner.1) in
-       elim why [ inl wide ↦ absurd (omega arith) | inr outside ↦ elim outside [ inl over ↦ absurd (omega arith) | inr under ↦ absurd (omega arith) ] ]))
+    (let parts : ((suc (length other) == suc n) ≡ true) × (((nat_lt d base && list_all (λ e. nat_lt e base) other) && is_between low high (least + (d * base ^ length other + number_in base other))) ≡ true) =
+    and_parts (suc (length other) == suc n) ((nat_lt d base && list_all (λ e. nat_lt e base) other) && is_between low high (least + (d * base ^ length other + number_in base other))) h in
+    let long : length other ≡ n = (let e : suc (length other) ≡ suc n = eqb-true (suc (length other)) (suc n) parts.0 in omega arith) in
+    let inner : ((nat_lt d base && list_all (λ e. nat_lt e base) other) ≡ true) × (is_between low high (least + (d * base ^ length other + number_in base other)) ≡ true) =
+    and_parts (nat_lt d base && list_all (λ e. nat_lt e base) other) (is_between low high (least + (d * base ^ length other + number_in base other))) parts.1 in
+    let digits : (nat_lt d base ≡ true) × (list_all (λ e. nat_lt e base) other ≡ true) = and_parts (nat_lt d base) (list_all (λ e. nat_lt e base) other) inner.0 in
+    let digit : d < base = ltb-true d base digits.0 in
+    let rest : number_in base other < base ^ n = rw long at (number_in-lt base other pos digits.1) in
+    let range : (low ≤ least + (d * base ^ n + number_in base other)) × (least + (d * base ^ n + number_in base other) ≤ high) = rw long at (is_between-parts low high (least + (d * base ^ length other + number_in base other)) inner.1) in
+    elim why [ inl wide ↦ absurd (omega arith) | inr outside ↦ elim outside [ inl over ↦ absurd (omega arith) | inr under ↦ absurd (omega arith) ] ]))
 
 shifted : (at : ℕ) (place : Option ℕ) → option_map (λ k. at + k) (option_map suc place) ≡ option_map (λ k. at + 1 + k) place
 shifted at None = refl
@@ -81,21 +82,21 @@ tells-start base low high n all place h = rw (unshifted place) (TellsFirstBad-sa
 
 -- what is told behind a digit is told before it
 pub tells-turn : (test : List ℕ → Bool) (base low high least n at d : ℕ) (all : List ℕ) → at < n → d < base → drop at all ≡ d ∷ drop (at + 1) all →
-  ((place : Option ℕ) → TellsFirstBad (reaches base low high least (n - at)) (drop at all) place → TellsFirstBad test all (option_map (λ k. at + k) place)) →
-  (place : Option ℕ) → TellsFirstBad (reaches base low high (least + d * base ^ (n - (at + 1))) (n - (at + 1))) (drop (at + 1) all) place → TellsFirstBad test all (option_map (λ k. at + 1 + k) place)
+    ((place : Option ℕ) → TellsFirstBad (reaches base low high least (n - at)) (drop at all) place → TellsFirstBad test all (option_map (λ k. at + k) place)) →
+    (place : Option ℕ) → TellsFirstBad (reaches base low high (least + d * base ^ (n - (at + 1))) (n - (at + 1))) (drop (at + 1) all) place → TellsFirstBad test all (option_map (λ k. at + 1 + k) place)
 tells-turn test base low high least n at d all lt digit split tells place h =
     let longer : n - at ≡ suc (n - (at + 1)) = omega arith in
     let front : TellsFirstBad (reaches base low high least (suc (n - (at + 1)))) (d ∷ drop (at + 1) all) (option_map suc place) =
-      TellsFirstBad-behind (reaches base low high least (suc (n - (at + 1)))) d (drop (at + 1) all) place
-      (TellsFirstBad-same (reaches base low high (least + d * base ^ (n - (at + 1))) (n - (at + 1))) (λ w. reaches base low high least (suc (n - (at + 1))) (d ∷ w)) (drop (at + 1) all) place
-        (reaches-behind base low high least (n - (at + 1)) d digit) h) in
+    TellsFirstBad-behind (reaches base low high least (suc (n - (at + 1)))) d (drop (at + 1) all) place
+    (TellsFirstBad-same (reaches base low high (least + d * base ^ (n - (at + 1))) (n - (at + 1))) (λ w. reaches base low high least (suc (n - (at + 1))) (d ∷ w)) (drop (at + 1) all) place
+    (reaches-behind base low high least (n - (at + 1)) d digit) h) in
     rw (← shifted at place) (tells (option_map suc place) (rw (longer, split) front))
 
 -- the digit that is read is bad
 pub tells-bad : (test : List ℕ → Bool) (base low high least n at d : ℕ) (all : List ℕ) → at < n → 0 < base → low ≤ high → least ≤ high → low < least + base ^ (n - at) → drop at all ≡ d ∷ drop (at + 1) all →
-  (base ≤ d) ⊎ ((high < least + d * base ^ (n - (at + 1))) ⊎ (least + d * base ^ (n - (at + 1)) + base ^ (n - (at + 1)) ≤ low)) →
-  ((place : Option ℕ) → TellsFirstBad (reaches base low high least (n - at)) (drop at all) place → TellsFirstBad test all (option_map (λ k. at + k) place)) →
-  TellsFirstBad test all (Some at)
+    (base ≤ d) ⊎ ((high < least + d * base ^ (n - (at + 1))) ⊎ (least + d * base ^ (n - (at + 1)) + base ^ (n - (at + 1)) ≤ low)) →
+    ((place : Option ℕ) → TellsFirstBad (reaches base low high least (n - at)) (drop at all) place → TellsFirstBad test all (option_map (λ k. at + k) place)) →
+    TellsFirstBad test all (Some at)
 tells-bad test base low high least n at d all lt pos order below room split why tells =
     let longer : n - at ≡ suc (n - (at + 1)) = omega arith in
     let room_there : low < least + base ^ suc (n - (at + 1)) = rw longer at room in
@@ -105,8 +106,8 @@ tells-bad test base low high least n at d all lt pos order below room split why 
 
 -- each digit was read
 pub tells-end : (test : List ℕ → Bool) (base low high least n at : ℕ) (all : List ℕ) → n ≤ at → length all ≤ at → least ≤ high → low < least + base ^ (n - at) →
-  ((place : Option ℕ) → TellsFirstBad (reaches base low high least (n - at)) (drop at all) place → TellsFirstBad test all (option_map (λ k. at + k) place)) →
-  TellsFirstBad test all None
+    ((place : Option ℕ) → TellsFirstBad (reaches base low high least (n - at)) (drop at all) place → TellsFirstBad test all (option_map (λ k. at + k) place)) →
+    TellsFirstBad test all None
 tells-end test base low high least n at all le short below room tells =
     let none : n - at ≡ 0 = omega arith in
     let one : base ^ (n - at) ≡ 1 = rw none (pow-zero base) in

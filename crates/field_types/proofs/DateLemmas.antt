@@ -72,52 +72,55 @@ pub date-year : (text : List ℕ) → length text ≡ 10 → (at : ℕ) → IsBa
 date-year text long at h =
     IsFirstBad-part is_date (spells_in 1 9999 4) 0 4 text at (omega arith)
     (λ w e. (let p = date-parts w e in let lw : length w ≡ 10 = p.long in front-spells 1 9999 4 w (omega arith) p.year))
-    (λ p e. (let inner = in-parts 1 9999 4 p e in
-      (96 ∷ 240 ∷ 241 ∷ 96 ∷ 240 ∷ 241 ∷ [],
-       four (λ q. spells 1 9999 q ≡ true → is_date (q ++ (96 ∷ 240 ∷ 241 ∷ 96 ∷ 240 ∷ 241 ∷ [])) ≡ true)
-         (λ a b c d s. date-from (a ∷ b ∷ c ∷ d ∷ 96 ∷ 240 ∷ 241 ∷ 96 ∷ 240 ∷ 241 ∷ []) (record { long = refl; year = s; first_hyphen = refl; month = refl; second_hyphen = refl; day = first-day (spelled (a ∷ b ∷ c ∷ d ∷ [])) 1 }))
-         p inner.0 inner.1)))
+    (λ p e. (let inner = in-parts 1 9999 4 p e in (
+      96 ∷ 240 ∷ 241 ∷ 96 ∷ 240 ∷ 241 ∷ [],
+      four (λ q. spells 1 9999 q ≡ true → is_date (q ++ (96 ∷ 240 ∷ 241 ∷ 96 ∷ 240 ∷ 241 ∷ [])) ≡ true)
+          (λ a b c d s. date-from (a ∷ b ∷ c ∷ d ∷ 96 ∷ 240 ∷ 241 ∷ 96 ∷ 240 ∷ 241 ∷ []) (record { long = refl; year = s; first_hyphen = refl; month = refl; second_hyphen = refl; day = first-day (spelled (a ∷ b ∷ c ∷ d ∷ [])) 1 }))
+          p inner.0 inner.1,
+    )))
     h
 
 pub date-first_hyphen : (text : List ℕ) → length text ≡ 10 → spells 1 9999 (part 0 4 text) ≡ true → (slice_index text 4 ≡ 0x60 → ⊥) → IsFirstBad is_date text 4
 date-first_hyphen = ten (λ text. spells 1 9999 (part 0 4 text) ≡ true → (slice_index text 4 ≡ 0x60 → ⊥) → IsFirstBad is_date text 4)
     (λ a b c d e f g h i j year other.
-      IsFirstBad-mark is_date 4 0x60 (a ∷ b ∷ c ∷ d ∷ e ∷ f ∷ g ∷ h ∷ i ∷ j ∷ []) (omega arith) other
-      (λ w t. (date-parts (a ∷ b ∷ c ∷ d ∷ w) t).first_hyphen)
-      (96 ∷ 240 ∷ 241 ∷ 96 ∷ 240 ∷ 241 ∷ [])
-      (date-from (a ∷ b ∷ c ∷ d ∷ 96 ∷ 240 ∷ 241 ∷ 96 ∷ 240 ∷ 241 ∷ []) (record { long = refl; year = year; first_hyphen = refl; month = refl; second_hyphen = refl; day = first-day (spelled (a ∷ b ∷ c ∷ d ∷ [])) 1 })))
+    IsFirstBad-mark is_date 4 0x60 (a ∷ b ∷ c ∷ d ∷ e ∷ f ∷ g ∷ h ∷ i ∷ j ∷ []) (omega arith) other
+    (λ w t. (date-parts (a ∷ b ∷ c ∷ d ∷ w) t).first_hyphen)
+    (96 ∷ 240 ∷ 241 ∷ 96 ∷ 240 ∷ 241 ∷ [])
+    (date-from (a ∷ b ∷ c ∷ d ∷ 96 ∷ 240 ∷ 241 ∷ 96 ∷ 240 ∷ 241 ∷ []) (record { long = refl; year = year; first_hyphen = refl; month = refl; second_hyphen = refl; day = first-day (spelled (a ∷ b ∷ c ∷ d ∷ [])) 1 })))
 
 pub date-month : (text : List ℕ) → length text ≡ 10 → (at : ℕ) → spells 1 9999 (part 0 4 text) ≡ true → slice_index text 4 ≡ 0x60 → IsBadPart (spells_in 1 12 2) 5 2 text at → IsFirstBad is_date text at
 date-month = ten (λ text. (at : ℕ) → spells 1 9999 (part 0 4 text) ≡ true → slice_index text 4 ≡ 0x60 → IsBadPart (spells_in 1 12 2) 5 2 text at → IsFirstBad is_date text at)
     (λ a b c d e f g h i j at year hyphen bad.
-      IsFirstBad-part is_date (spells_in 1 12 2) 5 2 (a ∷ b ∷ c ∷ d ∷ e ∷ f ∷ g ∷ h ∷ i ∷ j ∷ []) at (omega arith)
-      (λ w t. (let p = date-parts (a ∷ b ∷ c ∷ d ∷ e ∷ w) t in let lw : suc (suc (suc (suc (suc (length w))))) ≡ 10 = p.long in front-spells 1 12 2 w (omega arith) p.month))
-      (λ p t. (let inner = in-parts 1 12 2 p t in
-        (96 ∷ 240 ∷ 241 ∷ [],
-         two (λ q. spells 1 12 q ≡ true → is_date (a ∷ b ∷ c ∷ d ∷ e ∷ (q ++ (96 ∷ 240 ∷ 241 ∷ []))) ≡ true)
-           (λ x y s. date-from (a ∷ b ∷ c ∷ d ∷ e ∷ x ∷ y ∷ 96 ∷ 240 ∷ 241 ∷ []) (record { long = refl; year = year; first_hyphen = hyphen; month = s; second_hyphen = refl; day = first-day (spelled (a ∷ b ∷ c ∷ d ∷ [])) (spelled (x ∷ y ∷ [])) }))
-           p inner.0 inner.1)))
-      bad)
+    IsFirstBad-part is_date (spells_in 1 12 2) 5 2 (a ∷ b ∷ c ∷ d ∷ e ∷ f ∷ g ∷ h ∷ i ∷ j ∷ []) at (omega arith)
+    (λ w t. (let p = date-parts (a ∷ b ∷ c ∷ d ∷ e ∷ w) t in let lw : suc (suc (suc (suc (suc (length w))))) ≡ 10 = p.long in front-spells 1 12 2 w (omega arith) p.month))
+    (λ p t. (let inner = in-parts 1 12 2 p t in (
+      96 ∷ 240 ∷ 241 ∷ [],
+      two (λ q. spells 1 12 q ≡ true → is_date (a ∷ b ∷ c ∷ d ∷ e ∷ (q ++ (96 ∷ 240 ∷ 241 ∷ []))) ≡ true)
+          (λ x y s. date-from (a ∷ b ∷ c ∷ d ∷ e ∷ x ∷ y ∷ 96 ∷ 240 ∷ 241 ∷ []) (record { long = refl; year = year; first_hyphen = hyphen; month = s; second_hyphen = refl; day = first-day (spelled (a ∷ b ∷ c ∷ d ∷ [])) (spelled (x ∷ y ∷ [])) }))
+          p inner.0 inner.1,
+    )))
+    bad)
 
 pub date-second_hyphen : (text : List ℕ) → length text ≡ 10 → spells 1 9999 (part 0 4 text) ≡ true → slice_index text 4 ≡ 0x60 → spells 1 12 (part 5 2 text) ≡ true → (slice_index text 7 ≡ 0x60 → ⊥) → IsFirstBad is_date text 7
 date-second_hyphen = ten (λ text. spells 1 9999 (part 0 4 text) ≡ true → slice_index text 4 ≡ 0x60 → spells 1 12 (part 5 2 text) ≡ true → (slice_index text 7 ≡ 0x60 → ⊥) → IsFirstBad is_date text 7)
     (λ a b c d e f g h i j year hyphen month other.
-      IsFirstBad-mark is_date 7 0x60 (a ∷ b ∷ c ∷ d ∷ e ∷ f ∷ g ∷ h ∷ i ∷ j ∷ []) (omega arith) other
-      (λ w t. (date-parts (a ∷ b ∷ c ∷ d ∷ e ∷ f ∷ g ∷ w) t).second_hyphen)
-      (96 ∷ 240 ∷ 241 ∷ [])
-      (date-from (a ∷ b ∷ c ∷ d ∷ e ∷ f ∷ g ∷ 96 ∷ 240 ∷ 241 ∷ []) (record { long = refl; year = year; first_hyphen = hyphen; month = month; second_hyphen = refl; day = first-day (spelled (a ∷ b ∷ c ∷ d ∷ [])) (spelled (f ∷ g ∷ [])) })))
+    IsFirstBad-mark is_date 7 0x60 (a ∷ b ∷ c ∷ d ∷ e ∷ f ∷ g ∷ h ∷ i ∷ j ∷ []) (omega arith) other
+    (λ w t. (date-parts (a ∷ b ∷ c ∷ d ∷ e ∷ f ∷ g ∷ w) t).second_hyphen)
+    (96 ∷ 240 ∷ 241 ∷ [])
+    (date-from (a ∷ b ∷ c ∷ d ∷ e ∷ f ∷ g ∷ 96 ∷ 240 ∷ 241 ∷ []) (record { long = refl; year = year; first_hyphen = hyphen; month = month; second_hyphen = refl; day = first-day (spelled (a ∷ b ∷ c ∷ d ∷ [])) (spelled (f ∷ g ∷ [])) })))
 
 pub date-day : (text : List ℕ) → length text ≡ 10 → (at : ℕ) → spells 1 9999 (part 0 4 text) ≡ true → slice_index text 4 ≡ 0x60 → spells 1 12 (part 5 2 text) ≡ true → slice_index text 7 ≡ 0x60 →
-  IsBadPart (spells_in 1 (days_in_month (spelled (part 0 4 text)) (spelled (part 5 2 text))) 2) 8 2 text at → IsFirstBad is_date text at
+    IsBadPart (spells_in 1 (days_in_month (spelled (part 0 4 text)) (spelled (part 5 2 text))) 2) 8 2 text at → IsFirstBad is_date text at
 date-day = ten (λ text. (at : ℕ) → spells 1 9999 (part 0 4 text) ≡ true → slice_index text 4 ≡ 0x60 → spells 1 12 (part 5 2 text) ≡ true → slice_index text 7 ≡ 0x60 →
     IsBadPart (spells_in 1 (days_in_month (spelled (part 0 4 text)) (spelled (part 5 2 text))) 2) 8 2 text at → IsFirstBad is_date text at)
     (λ a b c d e f g h i j at year hyphen month second bad.
-      IsFirstBad-part is_date (spells_in 1 (days_in_month (spelled (a ∷ b ∷ c ∷ d ∷ [])) (spelled (f ∷ g ∷ []))) 2) 8 2 (a ∷ b ∷ c ∷ d ∷ e ∷ f ∷ g ∷ h ∷ i ∷ j ∷ []) at (omega arith)
-      (λ w t. (let p = date-parts (a ∷ b ∷ c ∷ d ∷ e ∷ f ∷ g ∷ h ∷ w) t in let lw : suc (suc (suc (suc (suc (suc (suc (suc (length w)))))))) ≡ 10 = p.long in
-        front-spells 1 (days_in_month (spelled (a ∷ b ∷ c ∷ d ∷ [])) (spelled (f ∷ g ∷ []))) 2 w (omega arith) p.day))
-      (λ p t. (let inner = in-parts 1 (days_in_month (spelled (a ∷ b ∷ c ∷ d ∷ [])) (spelled (f ∷ g ∷ []))) 2 p t in
-        ([],
-         two (λ q. spells 1 (days_in_month (spelled (a ∷ b ∷ c ∷ d ∷ [])) (spelled (f ∷ g ∷ []))) q ≡ true → is_date (a ∷ b ∷ c ∷ d ∷ e ∷ f ∷ g ∷ h ∷ (q ++ [])) ≡ true)
-           (λ x y s. date-from (a ∷ b ∷ c ∷ d ∷ e ∷ f ∷ g ∷ h ∷ x ∷ y ∷ []) (record { long = refl; year = year; first_hyphen = hyphen; month = month; second_hyphen = second; day = s }))
-           p inner.0 inner.1)))
-      bad)
+    IsFirstBad-part is_date (spells_in 1 (days_in_month (spelled (a ∷ b ∷ c ∷ d ∷ [])) (spelled (f ∷ g ∷ []))) 2) 8 2 (a ∷ b ∷ c ∷ d ∷ e ∷ f ∷ g ∷ h ∷ i ∷ j ∷ []) at (omega arith)
+    (λ w t. (let p = date-parts (a ∷ b ∷ c ∷ d ∷ e ∷ f ∷ g ∷ h ∷ w) t in let lw : suc (suc (suc (suc (suc (suc (suc (suc (length w)))))))) ≡ 10 = p.long in
+    front-spells 1 (days_in_month (spelled (a ∷ b ∷ c ∷ d ∷ [])) (spelled (f ∷ g ∷ []))) 2 w (omega arith) p.day))
+    (λ p t. (let inner = in-parts 1 (days_in_month (spelled (a ∷ b ∷ c ∷ d ∷ [])) (spelled (f ∷ g ∷ []))) 2 p t in (
+      [],
+      two (λ q. spells 1 (days_in_month (spelled (a ∷ b ∷ c ∷ d ∷ [])) (spelled (f ∷ g ∷ []))) q ≡ true → is_date (a ∷ b ∷ c ∷ d ∷ e ∷ f ∷ g ∷ h ∷ (q ++ [])) ≡ true)
+          (λ x y s. date-from (a ∷ b ∷ c ∷ d ∷ e ∷ f ∷ g ∷ h ∷ x ∷ y ∷ []) (record { long = refl; year = year; first_hyphen = hyphen; month = month; second_hyphen = second; day = s }))
+          p inner.0 inner.1,
+    )))
+    bad)

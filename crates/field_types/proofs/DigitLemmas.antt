@@ -85,7 +85,7 @@ digits_in-above base (suc n) high low pos =
     let rest : digits_in base n ((high * base) * base ^ n + low) ≡ digits_in base n low = digits_in-above base n (high * base) low pos in
     let turned : digits_in base n (low + (high * base) * base ^ n) ≡ digits_in base n low = ap (digits_in base n) (let e : low + (high * base) * base ^ n ≡ (high * base) * base ^ n + low = omega arith in e) ∙ rest in
     let head : (low + (high * base) * base ^ n) / base ^ n % base ≡ low / base ^ n % base =
-      ap (λ k. k % base) (add-mul-div_right low (high * base) some) ∙ add-mul-mod_self_right (low / base ^ n) high base in
+    ap (λ k. k % base) (add-mul-div_right low (high * base) some) ∙ add-mul-mod_self_right (low / base ^ n) high base in
     rw moved (rw (head, turned) refl)
 
 -- the digits of the number that digits are

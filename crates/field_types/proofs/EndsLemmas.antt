@@ -58,7 +58,7 @@ at_last test final y last true f e = e
 at_last test final y last false f e = IsFirstBad-head (passes test final 1) last [] (y ∷ []) f (λ other h. let there : final last ≡ true = only-last test final last other h in cc)
 
 at_head : (test final : ℕ → Bool) (x y b : ℕ) (bs : List ℕ) (n : ℕ) (good : Bool) (place : Option ℕ) → test x ≡ true → final y ≡ true → test b ≡ good →
-  TellsFirstBad (passes test final (suc n)) bs place → TellsFirstBad (passes test final (suc (suc n))) (b ∷ bs) (cond good (option_map suc place) (Some 0))
+    TellsFirstBad (passes test final (suc n)) bs place → TellsFirstBad (passes test final (suc (suc n))) (b ∷ bs) (cond good (option_map suc place) (Some 0))
 at_head test final x y b bs n true place t f e h =
     TellsFirstBad-behind (passes test final (suc (suc n))) b bs place
     (TellsFirstBad-same (passes test final (suc n)) (λ w. passes test final (suc (suc n)) (b ∷ w)) bs place (passes-behind test final b n e) h)
@@ -71,7 +71,7 @@ or_place true o p = or_suc o p
 or_place false o p = refl
 
 tells : (test final : ℕ → Bool) (x y : ℕ) (front : List ℕ) (last : ℕ) → test x ≡ true → final y ≡ true →
-  TellsFirstBad (passes test final (suc (length front))) (front ++ last ∷ []) (option_or (first_failing test front) (cond (final last) None (Some (length front))))
+    TellsFirstBad (passes test final (suc (length front))) (front ++ last ∷ []) (option_or (first_failing test front) (cond (final last) None (Some (length front))))
 tells test final x y [] last t f = at_last test final y last (final last) f refl
 tells test final x y (b ∷ bs) last t f =
     rw (last_suc (final last) (length bs), or_place (test b) (first_failing test bs) (cond (final last) None (Some (length bs))))
@@ -83,12 +83,12 @@ turned false n = refl
 
 -- the first byte of the front that does not pass, or else the last byte
 pub TellsFirstBad-ends : (test final : ℕ → Bool) (x y : ℕ) (image front : List ℕ) (last : ℕ) → test x ≡ true → final y ≡ true → image ≡ front ++ last ∷ [] →
-  TellsFirstBad (passes test final (length image)) image (option_or (position (λ b. not (test b)) front) (cond (not (final last)) (Some (length front)) None))
+    TellsFirstBad (passes test final (length image)) image (option_or (position (λ b. not (test b)) front) (cond (not (final last)) (Some (length front)) None))
 TellsFirstBad-ends test final x y image front last t f e =
     let long : suc (length front) ≡ length image = omega (arith, ap length e, length-append front (last ∷ [])) in
     let all : TellsFirstBad (passes test final (suc (length front))) (front ++ last ∷ []) (option_or (first_failing test front) (cond (final last) None (Some (length front)))) = tells test final x y front last t f in
     let here = subst (λ (n : ℕ). TellsFirstBad (passes test final n) (front ++ last ∷ []) (option_or (first_failing test front) (cond (final last) None (Some (length front))))) long all in
     let there = subst (λ (w : List ℕ). TellsFirstBad (passes test final (length image)) w (option_or (first_failing test front) (cond (final last) None (Some (length front))))) (sym e) here in
     let place : option_or (position (λ b. not (test b)) front) (cond (not (final last)) (Some (length front)) None) ≡ option_or (first_failing test front) (cond (final last) None (Some (length front))) =
-      ap (λ o. option_or o (cond (not (final last)) (Some (length front)) None)) (position-first_failing test front) ∙ ap (λ p. option_or (first_failing test front) p) (turned (final last) (length front)) in
+    ap (λ o. option_or o (cond (not (final last)) (Some (length front)) None)) (position-first_failing test front) ∙ ap (λ p. option_or (first_failing test front) p) (turned (final last) (length front)) in
     subst (λ (p : Option ℕ). TellsFirstBad (passes test final (length image)) image p) (sym place) there

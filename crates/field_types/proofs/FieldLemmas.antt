@@ -81,8 +81,8 @@ as-field t kind e = ap (λ (k : Kind). field k t.length t.decimals) e
 
 -- what a reader of one kind tells is what the field tells
 told : (t : FieldType) (kind : Kind) (image : List ℕ) (place : Option ℕ) (test : ℕ → List ℕ → Bool) → t.kind ≡ kind → length image ≡ width_of kind t.length →
-  ((w : List ℕ) → test (width_of kind t.length) w ≡ is_some (held (field kind t.length t.decimals) w)) →
-  TellsFirstBad (test (length image)) image place → TellsFirstBad (λ w. is_some (held t w)) image place
+    ((w : List ℕ) → test (width_of kind t.length) w ≡ is_some (held (field kind t.length t.decimals) w)) →
+    TellsFirstBad (test (length image)) image place → TellsFirstBad (λ w. is_some (held t w)) image place
 told t kind image place test is long same h =
     let there = subst (λ (n : ℕ). TellsFirstBad (test n) image place) long h in
     subst (λ (s : FieldType). TellsFirstBad (λ w. is_some (held s w)) image place) (sym (as-field t kind is))
@@ -96,15 +96,15 @@ told-char t image kind long =
     subst (λ (s : FieldType). is_some (held s image) ≡ true) (sym (as-field t Char kind)) (held-char t.length t.decimals image (long ∙ width-kind t Char kind))
 
 pub told-zoned : (t : FieldType) (image : List ℕ) (place : Option ℕ) → t.kind ≡ Zoned → length image ≡ width t →
-  TellsFirstBad (λ w. (length w == length image) && is_zoned w) image place → TellsFirstBad (λ w. is_some (held t w)) image place
+    TellsFirstBad (λ w. (length w == length image) && is_zoned w) image place → TellsFirstBad (λ w. is_some (held t w)) image place
 told-zoned t image place kind long = told t Zoned image place (λ n w. (length w == n) && is_zoned w) kind (long ∙ width-kind t Zoned kind) (held-zoned t.length t.decimals)
 
 pub told-packed : (t : FieldType) (image : List ℕ) (place : Option ℕ) → t.kind ≡ Packed → length image ≡ width t →
-  TellsFirstBad (λ w. (length w == length image) && (is_packed w && is_spare_clear t.length w)) image place → TellsFirstBad (λ w. is_some (held t w)) image place
+    TellsFirstBad (λ w. (length w == length image) && (is_packed w && is_spare_clear t.length w)) image place → TellsFirstBad (λ w. is_some (held t w)) image place
 told-packed t image place kind long = told t Packed image place (λ n w. (length w == n) && (is_packed w && is_spare_clear t.length w)) kind (long ∙ width-kind t Packed kind) (held-packed t.length t.decimals)
 
 pub told-binary : (t : FieldType) (image : List ℕ) (place : Option ℕ) → t.kind ≡ Binary → length image ≡ width t →
-  TellsFirstBad (λ w. (length w == length image) && is_some (binary_number t.length w)) image place → TellsFirstBad (λ w. is_some (held t w)) image place
+    TellsFirstBad (λ w. (length w == length image) && is_some (binary_number t.length w)) image place → TellsFirstBad (λ w. is_some (held t w)) image place
 told-binary t image place kind long = told t Binary image place (λ n w. (length w == n) && is_some (binary_number t.length w)) kind (long ∙ width-kind t Binary kind) (held-binary t.length t.decimals)
 
 -- the length of a date, time or timestamp
@@ -112,7 +112,7 @@ pub moment-length : (t : FieldType) (kind : Kind) → IsFieldType t → t.kind �
 moment-length t kind allowed e = subst (λ (k : Kind). IsTrue (is_allowed k t.length t.decimals)) e allowed
 
 told-moment : (t : FieldType) (kind : Kind) (n : ℕ) (image : List ℕ) (place : Option ℕ) (test : List ℕ → Bool) → t.kind ≡ kind → t.length ≡ n →
-  ((w : List ℕ) → test w ≡ is_some (held (field kind n t.decimals) w)) → TellsFirstBad test image place → TellsFirstBad (λ w. is_some (held t w)) image place
+    ((w : List ℕ) → test w ≡ is_some (held (field kind n t.decimals) w)) → TellsFirstBad test image place → TellsFirstBad (λ w. is_some (held t w)) image place
 told-moment t kind n image place test is long same h =
     subst (λ (s : FieldType). TellsFirstBad (λ w. is_some (held s w)) image place) (sym (as-field t kind is ∙ ap (λ (m : ℕ). field kind m t.decimals) long))
     (TellsFirstBad-same test (λ w. is_some (held (field kind n t.decimals) w)) image place same h)
@@ -148,8 +148,8 @@ unfolding held
 number-binary n d w = some-number (length w == binary_width n) (list_all is_byte w && nat_lt (unsigned_abs (twos_complement (length w) (number_in 256 w))) (10 ^ n)) (decimal d) (twos_complement (length w) (number_in 256 w))
 
 stands-number : (t : FieldType) (kind : Kind) (image : List ℕ) (number : ℤ) → t.kind ≡ kind →
-  (is_some (held (field kind t.length t.decimals) image) ≡ true → held (field kind t.length t.decimals) image ≡ Some (decimal t.decimals number)) →
-  is_some (held t image) ≡ true → stands t (decimal t.decimals number) image
+    (is_some (held (field kind t.length t.decimals) image) ≡ true → held (field kind t.length t.decimals) image ≡ Some (decimal t.decimals number)) →
+    is_some (held t image) ≡ true → stands t (decimal t.decimals number) image
 stands-number t kind image number is value h =
     subst (λ (s : FieldType). held s image ≡ Some (decimal t.decimals number)) (sym (as-field t kind is))
     (value (subst (λ (s : FieldType). is_some (held s image) ≡ true) (as-field t kind is) h))
@@ -190,14 +190,14 @@ stands-text t image e h = text-field t.kind t.length t.decimals image e h
 before : (test : List ℕ → Bool) (bytes : List ℕ) (at other : ℕ) → IsFirstBad test bytes at → IsFirstBad test bytes other → at < other → ⊥
 before test bytes at other one two lt =
     let split : take (at + 1) bytes ++ drop (at + 1) (take other bytes) ≡ take other bytes =
-      ap (λ w. w ++ drop (at + 1) (take other bytes)) (sym (take-take (at + 1) other bytes (omega arith))) ∙ take-append-drop (at + 1) (take other bytes) in
+    ap (λ w. w ++ drop (at + 1) (take other bytes)) (sym (take-take (at + 1) other bytes (omega arith))) ∙ take-append-drop (at + 1) (take other bytes) in
     one.bad (drop (at + 1) (take other bytes) ++ two.rest) (rw (← append_assoc (take (at + 1) bytes) (drop (at + 1) (take other bytes)) two.rest, split) two.good)
 
 pub IsFirstBad-one : (test : List ℕ → Bool) (bytes : List ℕ) (at other : ℕ) → IsFirstBad test bytes at → IsFirstBad test bytes other → at ≡ other
 IsFirstBad-one test bytes at other one two =
     elim (cases_order at other) [
-      inl same ↦ same
-    | inr apart ↦ elim apart [ inl lt ↦ absurd (before test bytes at other one two lt) | inr gt ↦ absurd (before test bytes other at two one gt) ]
+      | inl same ↦ same
+      | inr apart ↦ elim apart [ inl lt ↦ absurd (before test bytes at other one two lt) | inr gt ↦ absurd (before test bytes other at two one gt) ]
     ]
 
 -- the place that a fault names
@@ -208,14 +208,16 @@ place_of (Err (BadImage bad)) = bad.at
 
 pub names-bad : (t : FieldType) (image : List ℕ) (at : ℕ) → IsBadAt t image at → (other : ℕ) → (◌≡◌ {A = Result Value ImageFault} (Err (BadImage (record { at = at }))) (Err (BadImage (record { at = other })))) ↔ IsBadAt t image other
 unfolding place_of
-names-bad t image at h other =
-    ( (λ e. subst (λ (k : ℕ). IsBadAt t image k) (ap place_of e) h)
-    , (λ bad. ap (λ (k : ℕ). Err (BadImage (record { at = k }))) (IsFirstBad-one (λ w. is_some (held t w)) image at other h bad)) )
+names-bad t image at h other = (
+  (λ e. subst (λ (k : ℕ). IsBadAt t image k) (ap place_of e) h),
+  (λ bad. ap (λ (k : ℕ). Err (BadImage (record { at = k }))) (IsFirstBad-one (λ w. is_some (held t w)) image at other h bad)),
+)
 
 pub names-none : (t : FieldType) (image : List ℕ) (r : Result Value ImageFault) → is_some (held t image) ≡ true → ((other : ℕ) → r ≡ Err (BadImage (record { at = other })) → ⊥) → (other : ℕ) → (r ≡ Err (BadImage (record { at = other }))) ↔ IsBadAt t image other
-names-none t image r there none other =
-    ( (λ e. absurd (none other e))
-    , (λ bad. absurd (let fails : is_some (held t image) ≡ false = IsFirstBad-false (λ w. is_some (held t w)) image other bad in both_ways (is_some (held t image)) fails there)) )
+names-none t image r there none other = (
+  (λ e. absurd (none other e)),
+  (λ bad. absurd (let fails : is_some (held t image) ≡ false = IsFirstBad-false (λ w. is_some (held t w)) image other bad in both_ways (is_some (held t image)) fails there)),
+)
 
 no-fault : (more wide : Bool) → None ≡ cond more (Some TooManyDecimals) (cond wide (Some TooWide) None) → wide ≡ false
 no-fault true wide h = cc

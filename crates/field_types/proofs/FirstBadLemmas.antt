@@ -16,11 +16,11 @@ IsFirstBad-head test x xs rest good bad = record { within = omega arith; rest = 
 -- the place is behind the first byte
 pub IsFirstBad-behind : (test : List ℕ → Bool) (x : ℕ) (xs : List ℕ) (k : ℕ) → IsFirstBad (λ w. test (x ∷ w)) xs k → IsFirstBad test (x ∷ xs) (suc k)
 IsFirstBad-behind test x xs k h = record {
-    within = let lt : k < length xs = h.within in omega arith;
-    rest = h.rest;
-    good = h.good;
-    bad = λ other e. h.bad other (rw (suc-add k 1) at e);
-  }
+  within = let lt : k < length xs = h.within in omega arith;
+  rest = h.rest;
+  good = h.good;
+  bad = λ other e. h.bad other (rw (suc-add k 1) at e);
+}
 
 -- what is told of the bytes behind the first one
 pub TellsFirstBad-behind : (test : List ℕ → Bool) (x : ℕ) (xs : List ℕ) (place : Option ℕ) → TellsFirstBad (λ w. test (x ∷ w)) xs place → TellsFirstBad test (x ∷ xs) (option_map suc place)
@@ -36,11 +36,11 @@ IsFirstBad-after test (x ∷ front) xs k h =
 -- two tests that agree
 pub IsFirstBad-same : (one two : List ℕ → Bool) (xs : List ℕ) (k : ℕ) → ((w : List ℕ) → one w ≡ two w) → IsFirstBad one xs k → IsFirstBad two xs k
 IsFirstBad-same one two xs k same h = record {
-    within = h.within;
-    rest = h.rest;
-    good = sym (same (take k xs ++ h.rest)) ∙ h.good;
-    bad = λ other e. h.bad other (same (take (k + 1) xs ++ other) ∙ e);
-  }
+  within = h.within;
+  rest = h.rest;
+  good = sym (same (take k xs ++ h.rest)) ∙ h.good;
+  bad = λ other e. h.bad other (same (take (k + 1) xs ++ other) ∙ e);
+}
 
 pub TellsFirstBad-same : (one two : List ℕ → Bool) (xs : List ℕ) (place : Option ℕ) → ((w : List ℕ) → one w ≡ two w) → TellsFirstBad one xs place → TellsFirstBad two xs place
 TellsFirstBad-same one two xs None same h = sym (same xs) ∙ h
@@ -53,9 +53,9 @@ take-beyond (suc n) (x ∷ a) b h = ap (λ w. x ∷ w) (take-beyond n a b (omega
 
 -- a first part that each list that passes begins with, and that goes on to one that passes
 pub IsFirstBad-piece : (test piece : List ℕ → Bool) (xs ys : List ℕ) (k : ℕ) →
-  ((w : List ℕ) → test w ≡ true → piece (take (length xs) w) ≡ true) →
-  ((p : List ℕ) → piece p ≡ true → (rest : List ℕ) × (test (p ++ rest) ≡ true)) →
-  IsFirstBad piece xs k → IsFirstBad test (xs ++ ys) k
+    ((w : List ℕ) → test w ≡ true → piece (take (length xs) w) ≡ true) →
+    ((p : List ℕ) → piece p ≡ true → (rest : List ℕ) × (test (p ++ rest) ≡ true)) →
+    IsFirstBad piece xs k → IsFirstBad test (xs ++ ys) k
 IsFirstBad-piece test piece xs ys k asks goes h =
     let lt : k < length xs = h.within in
     let more : (rest : List ℕ) × (test ((take k xs ++ h.rest) ++ rest) ≡ true) = goes (take k xs ++ h.rest) h.good in
@@ -67,7 +67,7 @@ IsFirstBad-piece test piece xs ys k asks goes h =
       rest = h.rest ++ more.0;
       good = rw (front, ← append_assoc (take k xs) h.rest more.0) more.1;
       bad = λ other e. h.bad (take (length xs - length (take (k + 1) xs)) other)
-        (rw (← take-beyond (length xs) (take (k + 1) xs) other short) (asks (take (k + 1) xs ++ other) (rw longer at e)));
+          (rw (← take-beyond (length xs) (take (k + 1) xs) other short) (asks (take (k + 1) xs ++ other) (rw longer at e)));
     }
 
 -- the first byte that does not pass
@@ -97,8 +97,8 @@ TellsFirstBad-err {T = T} test bytes r at e h = subst (λ (s : Result T ℕ). Te
 pub IsFirstBad-false : (test : List ℕ → Bool) (bytes : List ℕ) (at : ℕ) → IsFirstBad test bytes at → test bytes ≡ false
 IsFirstBad-false test bytes at h =
     elim (cases_Bool (test bytes)) [
-      inl passes ↦ absurd (h.bad (drop (at + 1) bytes) (rw (take-append-drop (at + 1) bytes) passes))
-    | inr fails ↦ fails
+      | inl passes ↦ absurd (h.bad (drop (at + 1) bytes) (rw (take-append-drop (at + 1) bytes) passes))
+      | inr fails ↦ fails
     ]
 
 pub TellsFirstBad-is_ok : {T : Type 0} (test : List ℕ → Bool) (bytes : List ℕ) (r : Result T ℕ) → TellsFirstBad test bytes (result_err r) → is_ok r ≡ test bytes

@@ -49,7 +49,7 @@ written-above (d ∷ ds) h =
 
 -- bytes that are digits, and more digits behind them
 decode : (xs r : List ℕ) → list_all is_byte xs ≡ true → list_all (λ d. nat_lt d 10) (map (digit_from 240) xs ++ r) ≡ true →
-  (list_all is_zone_digit (xs ++ map above r) ≡ true) × (map low_half (xs ++ map above r) ≡ map (digit_from 240) xs ++ r)
+    (list_all is_zone_digit (xs ++ map above r) ≡ true) × (map low_half (xs ++ map above r) ≡ map (digit_from 240) xs ++ r)
 decode [] r bytes h = written-above r h
 decode (x ∷ xs) r bytes h =
     let byte : (nat_lt x 256 ≡ true) × (list_all is_byte xs ≡ true) = and_parts (nat_lt x 256) (list_all is_byte xs) bytes in
@@ -80,12 +80,12 @@ spells-digits low high n w h =
 spells-bytes : (low high n : ℕ) (xs r : List ℕ) → list_all is_byte xs ≡ true → spells_between 10 low high n (map (digit_from 240) xs ++ r) ≡ true → spells_in low high n (xs ++ map above r) ≡ true
 spells-bytes low high n xs r bytes h =
     let outer : (((length (map (digit_from 240) xs ++ r) == n) && list_all (λ d. nat_lt d 10) (map (digit_from 240) xs ++ r)) ≡ true) × (is_between low high (number_in 10 (map (digit_from 240) xs ++ r)) ≡ true) =
-      and_parts ((length (map (digit_from 240) xs ++ r) == n) && list_all (λ d. nat_lt d 10) (map (digit_from 240) xs ++ r)) (is_between low high (number_in 10 (map (digit_from 240) xs ++ r))) h in
+    and_parts ((length (map (digit_from 240) xs ++ r) == n) && list_all (λ d. nat_lt d 10) (map (digit_from 240) xs ++ r)) (is_between low high (number_in 10 (map (digit_from 240) xs ++ r))) h in
     let inner : ((length (map (digit_from 240) xs ++ r) == n) ≡ true) × (list_all (λ d. nat_lt d 10) (map (digit_from 240) xs ++ r) ≡ true) =
-      and_parts (length (map (digit_from 240) xs ++ r) == n) (list_all (λ d. nat_lt d 10) (map (digit_from 240) xs ++ r)) outer.0 in
+    and_parts (length (map (digit_from 240) xs ++ r) == n) (list_all (λ d. nat_lt d 10) (map (digit_from 240) xs ++ r)) outer.0 in
     let there : (list_all is_zone_digit (xs ++ map above r) ≡ true) × (map low_half (xs ++ map above r) ≡ map (digit_from 240) xs ++ r) = decode xs r bytes inner.1 in
     let long : length (xs ++ map above r) ≡ n =
-      sym (length-map (xs ++ map above r) low_half) ∙ ap length there.1 ∙ eqb-true (length (map (digit_from 240) xs ++ r)) n inner.0 in
+    sym (length-map (xs ++ map above r) low_half) ∙ ap length there.1 ∙ eqb-true (length (map (digit_from 240) xs ++ r)) n inner.0 in
     let range : is_between low high (spelled (xs ++ map above r)) ≡ true = subst (λ (e : List ℕ). is_between low high (number_in 10 e) ≡ true) (sym there.1) outer.1 in
     and_from (length (xs ++ map above r) == n) (spells low high (xs ++ map above r)) (eq-eqb (length (xs ++ map above r)) n long)
     (and_from (list_all is_zone_digit (xs ++ map above r)) (is_between low high (spelled (xs ++ map above r))) there.0 range)
@@ -108,45 +108,45 @@ digits-append (x ∷ xs) ys = ap (λ w. digit_from 240 x ∷ w) (digits-append x
 
 -- what is told of digits is told of the characters that spell them
 pub TellsFirstBad-spelled : (low high n : ℕ) (text : List ℕ) (place : Option ℕ) → list_all is_byte text ≡ true →
-  TellsFirstBad (spells_between 10 low high n) (map (digit_from 240) text) place → TellsFirstBad (spells_in low high n) text place
+    TellsFirstBad (spells_between 10 low high n) (map (digit_from 240) text) place → TellsFirstBad (spells_in low high n) text place
 TellsFirstBad-spelled low high n text None bytes h =
     rw append-nil at (spells-bytes low high n text [] bytes (rw (append-nil (map (digit_from 240) text)) h))
 TellsFirstBad-spelled low high n text (Some k) bytes h = record {
-    within = subst (λ (m : ℕ). k < m) (length-map text (digit_from 240)) h.within;
-    rest = map above h.rest;
-    good = spells-bytes low high n (take k text) h.rest (bytes-take k text bytes) (subst (λ (w : List ℕ). spells_between 10 low high n (w ++ h.rest) ≡ true) (digits-take k text) h.good);
-    bad = λ other e. h.bad (map (digit_from 240) other)
+  within = subst (λ (m : ℕ). k < m) (length-map text (digit_from 240)) h.within;
+  rest = map above h.rest;
+  good = spells-bytes low high n (take k text) h.rest (bytes-take k text bytes) (subst (λ (w : List ℕ). spells_between 10 low high n (w ++ h.rest) ≡ true) (digits-take k text) h.good);
+  bad = λ other e. h.bad (map (digit_from 240) other)
       (subst (λ (w : List ℕ). spells_between 10 low high n w ≡ true) (digits-append (take (k + 1) text) other ∙ ap (λ w. w ++ map (digit_from 240) other) (sym (digits-take (k + 1) text)))
-        (spells-digits low high n (take (k + 1) text ++ other) e));
-  }
+      (spells-digits low high n (take (k + 1) text ++ other) e));
+}
 
 three-parts : (i n : ℕ) (text : List ℕ) → text ≡ take i text ++ (part i n text ++ drop n (drop i text))
 three-parts i n text = sym (ap (λ w. take i text ++ w) (take-append-drop n (drop i text)) ∙ take-append-drop i text)
 
 -- the first bad place of a part, where each text that passes has such a part there and each such part goes on
 pub IsFirstBad-part : (test piece : List ℕ → Bool) (i n : ℕ) (text : List ℕ) (at : ℕ) → i + n ≤ length text →
-  ((w : List ℕ) → test (take i text ++ w) ≡ true → piece (take n w) ≡ true) →
-  ((p : List ℕ) → piece p ≡ true → (rest : List ℕ) × (test (take i text ++ (p ++ rest)) ≡ true)) →
-  IsBadPart piece i n text at → IsFirstBad test text at
+    ((w : List ℕ) → test (take i text ++ w) ≡ true → piece (take n w) ≡ true) →
+    ((p : List ℕ) → piece p ≡ true → (rest : List ℕ) × (test (take i text ++ (p ++ rest)) ≡ true)) →
+    IsBadPart piece i n text at → IsFirstBad test text at
 IsFirstBad-part test piece i n text at le asks goes h =
     let front : length (take i text) ≡ i = length-take-le i text (omega arith) in
     let behind : length (drop i text) ≡ length text - i = length-drop i text in
     let long : length (part i n text) ≡ n = length-take-le n (drop i text) (omega arith) in
     let inner : IsFirstBad (λ w. test (take i text ++ w)) (part i n text ++ drop n (drop i text)) h.inner =
-      IsFirstBad-piece (λ w. test (take i text ++ w)) piece (part i n text) (drop n (drop i text)) h.inner (λ w e. rw long (asks w e)) goes h.bad in
+    IsFirstBad-piece (λ w. test (take i text ++ w)) piece (part i n text) (drop n (drop i text)) h.inner (λ w e. rw long (asks w e)) goes h.bad in
     let there : IsFirstBad test (take i text ++ (part i n text ++ drop n (drop i text))) (length (take i text) + h.inner) = IsFirstBad-after test (take i text) (part i n text ++ drop n (drop i text)) h.inner inner in
     let place : length (take i text) + h.inner ≡ at = ap (λ k. k + h.inner) front ∙ sym h.place in
     subst (λ (k : ℕ). IsFirstBad test text k) place (subst (λ (w : List ℕ). IsFirstBad test w (length (take i text) + h.inner)) (sym (three-parts i n text)) there)
 
 -- a character that isn't the one that each text that passes has there
 pub IsFirstBad-mark : (test : List ℕ → Bool) (i mark : ℕ) (text : List ℕ) → i < length text → (slice_index text i ≡ mark → ⊥) →
-  ((w : List ℕ) → test (take i text ++ w) ≡ true → slice_index w 0 ≡ mark) →
-  (rest : List ℕ) → test (take i text ++ rest) ≡ true → IsFirstBad test text i
+    ((w : List ℕ) → test (take i text ++ w) ≡ true → slice_index w 0 ≡ mark) →
+    (rest : List ℕ) → test (take i text ++ rest) ≡ true → IsFirstBad test text i
 IsFirstBad-mark test i mark text lt other asks rest good =
     let front : length (take i text) ≡ i = length-take-le i text (omega arith) in
     let split : take i text ++ (get_or text i 0 ∷ drop (suc i) text) ≡ text = ap (λ w. take i text ++ w) (sym (drop-cons text i 0 lt)) ∙ take-append-drop i text in
     let inner : IsFirstBad (λ w. test (take i text ++ w)) (get_or text i 0 ∷ drop (suc i) text) 0 =
-      IsFirstBad-head (λ w. test (take i text ++ w)) (get_or text i 0) (drop (suc i) text) rest good (λ o e. other (asks (get_or text i 0 ∷ o) e)) in
+    IsFirstBad-head (λ w. test (take i text ++ w)) (get_or text i 0) (drop (suc i) text) rest good (λ o e. other (asks (get_or text i 0 ∷ o) e)) in
     let there : IsFirstBad test (take i text ++ (get_or text i 0 ∷ drop (suc i) text)) (length (take i text) + 0) = IsFirstBad-after test (take i text) (get_or text i 0 ∷ drop (suc i) text) 0 inner in
     let place : length (take i text) + 0 ≡ i = omega arith in
     subst (λ (k : ℕ). IsFirstBad test text k) place (subst (λ (w : List ℕ). IsFirstBad test w (length (take i text) + 0)) split there)
@@ -163,7 +163,7 @@ pub part-length : (i n : ℕ) (text : List ℕ) → i + n ≤ length text → le
 part-length i n text le = (let behind : length (drop i text) ≡ length text - i = length-drop i text in length-take-le n (drop i text) (omega arith))
 
 part-told : (low high i n : ℕ) (text here : List ℕ) (place : Option ℕ) → here ≡ part i n text → i + n ≤ length text → ((k : ℕ) → Fits w8 (get_or text k 0)) →
-  TellsFirstBad (spells_between 10 low high (length here)) (map (digit_from 240) here) place → TellsFirstBad (spells_in low high n) (part i n text) place
+    TellsFirstBad (spells_between 10 low high (length here)) (map (digit_from 240) here) place → TellsFirstBad (spells_in low high n) (part i n text) place
 part-told low high i n text here place same le bytes h =
     let one = subst (λ (w : List ℕ). TellsFirstBad (spells_between 10 low high (length w)) (map (digit_from 240) w) place) same h in
     let two = subst (λ (m : ℕ). TellsFirstBad (spells_between 10 low high m) (map (digit_from 240) (part i n text)) place) (part-length i n text le) one in
@@ -171,12 +171,12 @@ part-told low high i n text here place same le bytes h =
 
 -- the first bad place of the digits is that of the part
 pub IsBadPart-spelled : (low high i n : ℕ) (text here : List ℕ) (k : ℕ) → here ≡ part i n text → i + n ≤ length text → ((j : ℕ) → Fits w8 (get_or text j 0)) →
-  IsFirstBad (spells_between 10 low high (length here)) (map (digit_from 240) here) k → IsBadPart (spells_in low high n) i n text (i + k)
+    IsFirstBad (spells_between 10 low high (length here)) (map (digit_from 240) here) k → IsBadPart (spells_in low high n) i n text (i + k)
 IsBadPart-spelled low high i n text here k same le bytes h = record { inner = k; place = refl; bad = part-told low high i n text here (Some k) same le bytes h }
 
 -- the part spells a number
 pub spells-part : (low high i n : ℕ) (text here : List ℕ) → here ≡ part i n text → i + n ≤ length text → ((j : ℕ) → Fits w8 (get_or text j 0)) →
-  spells_between 10 low high (length here) (map (digit_from 240) here) ≡ true → spells low high (part i n text) ≡ true
+    spells_between 10 low high (length here) (map (digit_from 240) here) ≡ true → spells low high (part i n text) ≡ true
 spells-part low high i n text here same le bytes h = (and_parts (length (part i n text) == n) (spells low high (part i n text)) (part-told low high i n text here None same le bytes h)).1
 
 pub part-range : (i n : ℕ) (text : List ℕ) → take (i + n - i) (drop i text) ≡ part i n text

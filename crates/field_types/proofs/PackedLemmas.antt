@@ -81,17 +81,17 @@ IsFirstBad-spare digits (b ∷ bs) some h =
 
 -- none does: the other bytes decide
 pub TellsFirstBad-clear : (digits : ℕ) (image : List ℕ) (place : Option ℕ) → 0 < length image → is_spare_clear digits image ≡ true →
-  TellsFirstBad (passes is_digit_pair is_digit_sign (length image)) image place → TellsFirstBad (packs digits (length image)) image place
+    TellsFirstBad (passes is_digit_pair is_digit_sign (length image)) image place → TellsFirstBad (packs digits (length image)) image place
 TellsFirstBad-clear digits [] place some clear h = absurd (omega arith)
 TellsFirstBad-clear digits (b ∷ bs) None some clear h = packs-from digits (suc (length bs)) (b ∷ bs) h clear
 TellsFirstBad-clear digits (b ∷ bs) (Some zero) some clear h =
     IsFirstBad-head (packs digits (suc (length bs))) b bs (word 0 15 (length bs)) (packs-word digits (length bs)) (λ other e. h.bad other (packs-parts digits (suc (length bs)) (b ∷ other) e).0)
 TellsFirstBad-clear digits (b ∷ bs) (Some (suc k)) some clear h = record {
-    within = h.within;
-    rest = h.rest;
-    good = packs-from digits (suc (length bs)) (b ∷ (take k bs ++ h.rest)) h.good clear;
-    bad = λ other e. h.bad other (packs-parts digits (suc (length bs)) (take (suc k + 1) (b ∷ bs) ++ other) e).0;
-  }
+  within = h.within;
+  rest = h.rest;
+  good = packs-from digits (suc (length bs)) (b ∷ (take k bs ++ h.rest)) h.good clear;
+  bad = λ other e. h.bad other (packs-parts digits (suc (length bs)) (take (suc k + 1) (b ∷ bs) ++ other) e).0;
+}
 
 -- digits two by two stay small
 pub pairs-fit : (m i : ℕ) → m + 2 ≤ 2 * 100 ^ i → i ≤ 15 → m < 2000000000000000000000000000000

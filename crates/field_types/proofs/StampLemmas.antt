@@ -47,52 +47,55 @@ six P all _ long = absurd (omega arith)
 
 pub timestamp-date : (text : List ℕ) → length text ≡ 26 → (at : ℕ) → IsBadPart is_date 0 10 text at → IsFirstBad is_timestamp text at
 timestamp-date = twenty_six (λ text. (at : ℕ) → IsBadPart is_date 0 10 text at → IsFirstBad is_timestamp text at)
-    (λ a b c d e f g h i j k l m n o p q r s t u v w x y z at  bad.
-      IsFirstBad-part is_timestamp is_date 0 10 (a ∷ b ∷ c ∷ d ∷ e ∷ f ∷ g ∷ h ∷ i ∷ j ∷ k ∷ l ∷ m ∷ n ∷ o ∷ p ∷ q ∷ r ∷ s ∷ t ∷ u ∷ v ∷ w ∷ x ∷ y ∷ z ∷ []) at (omega arith)
-      (λ w t. (timestamp-parts (w) t).date)
-      (λ p t.
-        (96 ∷ 240 ∷ 240 ∷ 75 ∷ 240 ∷ 240 ∷ 75 ∷ 240 ∷ 240 ∷ 75 ∷ 240 ∷ 240 ∷ 240 ∷ 240 ∷ 240 ∷ 240 ∷ [],
-         ten (λ q. is_date q ≡ true → is_timestamp ((q ++ (96 ∷ 240 ∷ 240 ∷ 75 ∷ 240 ∷ 240 ∷ 75 ∷ 240 ∷ 240 ∷ 75 ∷ 240 ∷ 240 ∷ 240 ∷ 240 ∷ 240 ∷ 240 ∷ []))) ≡ true)
-           (λ x0 x1 x2 x3 x4 x5 x6 x7 x8 x9 sp. timestamp-from (x0 ∷ x1 ∷ x2 ∷ x3 ∷ x4 ∷ x5 ∷ x6 ∷ x7 ∷ x8 ∷ x9 ∷ 96 ∷ 240 ∷ 240 ∷ 75 ∷ 240 ∷ 240 ∷ 75 ∷ 240 ∷ 240 ∷ 75 ∷ 240 ∷ 240 ∷ 240 ∷ 240 ∷ 240 ∷ 240 ∷ []) (record { long = refl; date = sp; hyphen = refl; time = refl; period = refl; fraction = refl }))
-           p (date-parts p t).long t))
-      bad)
+    (λ a b c d e f g h i j k l m n o p q r s t u v w x y z at bad.
+    IsFirstBad-part is_timestamp is_date 0 10 (a ∷ b ∷ c ∷ d ∷ e ∷ f ∷ g ∷ h ∷ i ∷ j ∷ k ∷ l ∷ m ∷ n ∷ o ∷ p ∷ q ∷ r ∷ s ∷ t ∷ u ∷ v ∷ w ∷ x ∷ y ∷ z ∷ []) at (omega arith)
+    (λ w t. (timestamp-parts (w) t).date)
+    (λ p t. (
+      96 ∷ 240 ∷ 240 ∷ 75 ∷ 240 ∷ 240 ∷ 75 ∷ 240 ∷ 240 ∷ 75 ∷ 240 ∷ 240 ∷ 240 ∷ 240 ∷ 240 ∷ 240 ∷ [],
+      ten (λ q. is_date q ≡ true → is_timestamp ((q ++ (96 ∷ 240 ∷ 240 ∷ 75 ∷ 240 ∷ 240 ∷ 75 ∷ 240 ∷ 240 ∷ 75 ∷ 240 ∷ 240 ∷ 240 ∷ 240 ∷ 240 ∷ 240 ∷ []))) ≡ true)
+          (λ x0 x1 x2 x3 x4 x5 x6 x7 x8 x9 sp. timestamp-from (x0 ∷ x1 ∷ x2 ∷ x3 ∷ x4 ∷ x5 ∷ x6 ∷ x7 ∷ x8 ∷ x9 ∷ 96 ∷ 240 ∷ 240 ∷ 75 ∷ 240 ∷ 240 ∷ 75 ∷ 240 ∷ 240 ∷ 75 ∷ 240 ∷ 240 ∷ 240 ∷ 240 ∷ 240 ∷ 240 ∷ []) (record { long = refl; date = sp; hyphen = refl; time = refl; period = refl; fraction = refl }))
+          p (date-parts p t).long t,
+    ))
+    bad)
 
 pub timestamp-hyphen : (text : List ℕ) → length text ≡ 26 → is_date (part 0 10 text) ≡ true → (slice_index text 10 ≡ 0x60 → ⊥) → IsFirstBad is_timestamp text 10
 timestamp-hyphen = twenty_six (λ text. is_date (part 0 10 text) ≡ true → (slice_index text 10 ≡ 0x60 → ⊥) → IsFirstBad is_timestamp text 10)
     (λ a b c d e f g h i j k l m n o p q r s t u v w x y z day other.
-      IsFirstBad-mark is_timestamp 10 0x60 (a ∷ b ∷ c ∷ d ∷ e ∷ f ∷ g ∷ h ∷ i ∷ j ∷ k ∷ l ∷ m ∷ n ∷ o ∷ p ∷ q ∷ r ∷ s ∷ t ∷ u ∷ v ∷ w ∷ x ∷ y ∷ z ∷ []) (omega arith) other
-      (λ w t. (timestamp-parts (a ∷ b ∷ c ∷ d ∷ e ∷ f ∷ g ∷ h ∷ i ∷ j ∷ w) t).hyphen)
-      (96 ∷ 240 ∷ 240 ∷ 75 ∷ 240 ∷ 240 ∷ 75 ∷ 240 ∷ 240 ∷ 75 ∷ 240 ∷ 240 ∷ 240 ∷ 240 ∷ 240 ∷ 240 ∷ [])
-      (timestamp-from (a ∷ b ∷ c ∷ d ∷ e ∷ f ∷ g ∷ h ∷ i ∷ j ∷ 96 ∷ 240 ∷ 240 ∷ 75 ∷ 240 ∷ 240 ∷ 75 ∷ 240 ∷ 240 ∷ 75 ∷ 240 ∷ 240 ∷ 240 ∷ 240 ∷ 240 ∷ 240 ∷ []) (record { long = refl; date = day; hyphen = refl; time = refl; period = refl; fraction = refl })))
+    IsFirstBad-mark is_timestamp 10 0x60 (a ∷ b ∷ c ∷ d ∷ e ∷ f ∷ g ∷ h ∷ i ∷ j ∷ k ∷ l ∷ m ∷ n ∷ o ∷ p ∷ q ∷ r ∷ s ∷ t ∷ u ∷ v ∷ w ∷ x ∷ y ∷ z ∷ []) (omega arith) other
+    (λ w t. (timestamp-parts (a ∷ b ∷ c ∷ d ∷ e ∷ f ∷ g ∷ h ∷ i ∷ j ∷ w) t).hyphen)
+    (96 ∷ 240 ∷ 240 ∷ 75 ∷ 240 ∷ 240 ∷ 75 ∷ 240 ∷ 240 ∷ 75 ∷ 240 ∷ 240 ∷ 240 ∷ 240 ∷ 240 ∷ 240 ∷ [])
+    (timestamp-from (a ∷ b ∷ c ∷ d ∷ e ∷ f ∷ g ∷ h ∷ i ∷ j ∷ 96 ∷ 240 ∷ 240 ∷ 75 ∷ 240 ∷ 240 ∷ 75 ∷ 240 ∷ 240 ∷ 75 ∷ 240 ∷ 240 ∷ 240 ∷ 240 ∷ 240 ∷ 240 ∷ []) (record { long = refl; date = day; hyphen = refl; time = refl; period = refl; fraction = refl })))
 
 pub timestamp-time : (text : List ℕ) → length text ≡ 26 → (at : ℕ) → is_date (part 0 10 text) ≡ true → slice_index text 10 ≡ 0x60 → IsBadPart is_time 11 8 text at → IsFirstBad is_timestamp text at
 timestamp-time = twenty_six (λ text. (at : ℕ) → is_date (part 0 10 text) ≡ true → slice_index text 10 ≡ 0x60 → IsBadPart is_time 11 8 text at → IsFirstBad is_timestamp text at)
     (λ a b c d e f g h i j k l m n o p q r s t u v w x y z at day hyphen bad.
-      IsFirstBad-part is_timestamp is_time 11 8 (a ∷ b ∷ c ∷ d ∷ e ∷ f ∷ g ∷ h ∷ i ∷ j ∷ k ∷ l ∷ m ∷ n ∷ o ∷ p ∷ q ∷ r ∷ s ∷ t ∷ u ∷ v ∷ w ∷ x ∷ y ∷ z ∷ []) at (omega arith)
-      (λ w t. (timestamp-parts (a ∷ b ∷ c ∷ d ∷ e ∷ f ∷ g ∷ h ∷ i ∷ j ∷ k ∷ w) t).time)
-      (λ p t.
-        (75 ∷ 240 ∷ 240 ∷ 240 ∷ 240 ∷ 240 ∷ 240 ∷ [],
-         eight (λ q. is_time q ≡ true → is_timestamp (a ∷ b ∷ c ∷ d ∷ e ∷ f ∷ g ∷ h ∷ i ∷ j ∷ k ∷ (q ++ (75 ∷ 240 ∷ 240 ∷ 240 ∷ 240 ∷ 240 ∷ 240 ∷ []))) ≡ true)
-           (λ x0 x1 x2 x3 x4 x5 x6 x7 sp. timestamp-from (a ∷ b ∷ c ∷ d ∷ e ∷ f ∷ g ∷ h ∷ i ∷ j ∷ k ∷ x0 ∷ x1 ∷ x2 ∷ x3 ∷ x4 ∷ x5 ∷ x6 ∷ x7 ∷ 75 ∷ 240 ∷ 240 ∷ 240 ∷ 240 ∷ 240 ∷ 240 ∷ []) (record { long = refl; date = day; hyphen = hyphen; time = sp; period = refl; fraction = refl }))
-           p (time-parts p t).long t))
-      bad)
+    IsFirstBad-part is_timestamp is_time 11 8 (a ∷ b ∷ c ∷ d ∷ e ∷ f ∷ g ∷ h ∷ i ∷ j ∷ k ∷ l ∷ m ∷ n ∷ o ∷ p ∷ q ∷ r ∷ s ∷ t ∷ u ∷ v ∷ w ∷ x ∷ y ∷ z ∷ []) at (omega arith)
+    (λ w t. (timestamp-parts (a ∷ b ∷ c ∷ d ∷ e ∷ f ∷ g ∷ h ∷ i ∷ j ∷ k ∷ w) t).time)
+    (λ p t. (
+      75 ∷ 240 ∷ 240 ∷ 240 ∷ 240 ∷ 240 ∷ 240 ∷ [],
+      eight (λ q. is_time q ≡ true → is_timestamp (a ∷ b ∷ c ∷ d ∷ e ∷ f ∷ g ∷ h ∷ i ∷ j ∷ k ∷ (q ++ (75 ∷ 240 ∷ 240 ∷ 240 ∷ 240 ∷ 240 ∷ 240 ∷ []))) ≡ true)
+          (λ x0 x1 x2 x3 x4 x5 x6 x7 sp. timestamp-from (a ∷ b ∷ c ∷ d ∷ e ∷ f ∷ g ∷ h ∷ i ∷ j ∷ k ∷ x0 ∷ x1 ∷ x2 ∷ x3 ∷ x4 ∷ x5 ∷ x6 ∷ x7 ∷ 75 ∷ 240 ∷ 240 ∷ 240 ∷ 240 ∷ 240 ∷ 240 ∷ []) (record { long = refl; date = day; hyphen = hyphen; time = sp; period = refl; fraction = refl }))
+          p (time-parts p t).long t,
+    ))
+    bad)
 
 pub timestamp-period : (text : List ℕ) → length text ≡ 26 → is_date (part 0 10 text) ≡ true → slice_index text 10 ≡ 0x60 → is_time (part 11 8 text) ≡ true → (slice_index text 19 ≡ 0x4B → ⊥) → IsFirstBad is_timestamp text 19
 timestamp-period = twenty_six (λ text. is_date (part 0 10 text) ≡ true → slice_index text 10 ≡ 0x60 → is_time (part 11 8 text) ≡ true → (slice_index text 19 ≡ 0x4B → ⊥) → IsFirstBad is_timestamp text 19)
     (λ a b c d e f g h i j k l m n o p q r s t u v w x y z day hyphen clock other.
-      IsFirstBad-mark is_timestamp 19 0x4B (a ∷ b ∷ c ∷ d ∷ e ∷ f ∷ g ∷ h ∷ i ∷ j ∷ k ∷ l ∷ m ∷ n ∷ o ∷ p ∷ q ∷ r ∷ s ∷ t ∷ u ∷ v ∷ w ∷ x ∷ y ∷ z ∷ []) (omega arith) other
-      (λ w t. (timestamp-parts (a ∷ b ∷ c ∷ d ∷ e ∷ f ∷ g ∷ h ∷ i ∷ j ∷ k ∷ l ∷ m ∷ n ∷ o ∷ p ∷ q ∷ r ∷ s ∷ w) t).period)
-      (75 ∷ 240 ∷ 240 ∷ 240 ∷ 240 ∷ 240 ∷ 240 ∷ [])
-      (timestamp-from (a ∷ b ∷ c ∷ d ∷ e ∷ f ∷ g ∷ h ∷ i ∷ j ∷ k ∷ l ∷ m ∷ n ∷ o ∷ p ∷ q ∷ r ∷ s ∷ 75 ∷ 240 ∷ 240 ∷ 240 ∷ 240 ∷ 240 ∷ 240 ∷ []) (record { long = refl; date = day; hyphen = hyphen; time = clock; period = refl; fraction = refl })))
+    IsFirstBad-mark is_timestamp 19 0x4B (a ∷ b ∷ c ∷ d ∷ e ∷ f ∷ g ∷ h ∷ i ∷ j ∷ k ∷ l ∷ m ∷ n ∷ o ∷ p ∷ q ∷ r ∷ s ∷ t ∷ u ∷ v ∷ w ∷ x ∷ y ∷ z ∷ []) (omega arith) other
+    (λ w t. (timestamp-parts (a ∷ b ∷ c ∷ d ∷ e ∷ f ∷ g ∷ h ∷ i ∷ j ∷ k ∷ l ∷ m ∷ n ∷ o ∷ p ∷ q ∷ r ∷ s ∷ w) t).period)
+    (75 ∷ 240 ∷ 240 ∷ 240 ∷ 240 ∷ 240 ∷ 240 ∷ [])
+    (timestamp-from (a ∷ b ∷ c ∷ d ∷ e ∷ f ∷ g ∷ h ∷ i ∷ j ∷ k ∷ l ∷ m ∷ n ∷ o ∷ p ∷ q ∷ r ∷ s ∷ 75 ∷ 240 ∷ 240 ∷ 240 ∷ 240 ∷ 240 ∷ 240 ∷ []) (record { long = refl; date = day; hyphen = hyphen; time = clock; period = refl; fraction = refl })))
 
 pub timestamp-fraction : (text : List ℕ) → length text ≡ 26 → (at : ℕ) → is_date (part 0 10 text) ≡ true → slice_index text 10 ≡ 0x60 → is_time (part 11 8 text) ≡ true → slice_index text 19 ≡ 0x4B → IsBadPart (spells_in 0 999999 6) 20 6 text at → IsFirstBad is_timestamp text at
 timestamp-fraction = twenty_six (λ text. (at : ℕ) → is_date (part 0 10 text) ≡ true → slice_index text 10 ≡ 0x60 → is_time (part 11 8 text) ≡ true → slice_index text 19 ≡ 0x4B → IsBadPart (spells_in 0 999999 6) 20 6 text at → IsFirstBad is_timestamp text at)
     (λ a b c d e f g h i j k l m n o p q r s t u v w x y z at day hyphen clock period bad.
-      IsFirstBad-part is_timestamp (spells_in 0 999999 6) 20 6 (a ∷ b ∷ c ∷ d ∷ e ∷ f ∷ g ∷ h ∷ i ∷ j ∷ k ∷ l ∷ m ∷ n ∷ o ∷ p ∷ q ∷ r ∷ s ∷ t ∷ u ∷ v ∷ w ∷ x ∷ y ∷ z ∷ []) at (omega arith)
-      (λ w0 t0. (let p0 = timestamp-parts (a ∷ b ∷ c ∷ d ∷ e ∷ f ∷ g ∷ h ∷ i ∷ j ∷ k ∷ l ∷ m ∷ n ∷ o ∷ p ∷ q ∷ r ∷ s ∷ t ∷ w0) t0 in let lw : suc (suc (suc (suc (suc (suc (suc (suc (suc (suc (suc (suc (suc (suc (suc (suc (suc (suc (suc (suc (length w0)))))))))))))))))))) ≡ 26 = p0.long in front-spells 0 999999 6 w0 (omega arith) p0.fraction))
-      (λ p0 t0. (let inner = in-parts 0 999999 6 p0 t0 in
-        ([],
-         six (λ q0. spells 0 999999 q0 ≡ true → is_timestamp (a ∷ b ∷ c ∷ d ∷ e ∷ f ∷ g ∷ h ∷ i ∷ j ∷ k ∷ l ∷ m ∷ n ∷ o ∷ p ∷ q ∷ r ∷ s ∷ t ∷ (q0 ++ [])) ≡ true)
-           (λ x0 x1 x2 x3 x4 x5 sp. timestamp-from (a ∷ b ∷ c ∷ d ∷ e ∷ f ∷ g ∷ h ∷ i ∷ j ∷ k ∷ l ∷ m ∷ n ∷ o ∷ p ∷ q ∷ r ∷ s ∷ t ∷ x0 ∷ x1 ∷ x2 ∷ x3 ∷ x4 ∷ x5 ∷ []) (record { long = refl; date = day; hyphen = hyphen; time = clock; period = period; fraction = sp }))
-           p0 inner.0 inner.1)))
-      bad)
+    IsFirstBad-part is_timestamp (spells_in 0 999999 6) 20 6 (a ∷ b ∷ c ∷ d ∷ e ∷ f ∷ g ∷ h ∷ i ∷ j ∷ k ∷ l ∷ m ∷ n ∷ o ∷ p ∷ q ∷ r ∷ s ∷ t ∷ u ∷ v ∷ w ∷ x ∷ y ∷ z ∷ []) at (omega arith)
+    (λ w0 t0. (let p0 = timestamp-parts (a ∷ b ∷ c ∷ d ∷ e ∷ f ∷ g ∷ h ∷ i ∷ j ∷ k ∷ l ∷ m ∷ n ∷ o ∷ p ∷ q ∷ r ∷ s ∷ t ∷ w0) t0 in let lw : suc (suc (suc (suc (suc (suc (suc (suc (suc (suc (suc (suc (suc (suc (suc (suc (suc (suc (suc (suc (length w0)))))))))))))))))))) ≡ 26 = p0.long in front-spells 0 999999 6 w0 (omega arith) p0.fraction))
+    (λ p0 t0. (let inner = in-parts 0 999999 6 p0 t0 in (
+      [],
+      six (λ q0. spells 0 999999 q0 ≡ true → is_timestamp (a ∷ b ∷ c ∷ d ∷ e ∷ f ∷ g ∷ h ∷ i ∷ j ∷ k ∷ l ∷ m ∷ n ∷ o ∷ p ∷ q ∷ r ∷ s ∷ t ∷ (q0 ++ [])) ≡ true)
+          (λ x0 x1 x2 x3 x4 x5 sp. timestamp-from (a ∷ b ∷ c ∷ d ∷ e ∷ f ∷ g ∷ h ∷ i ∷ j ∷ k ∷ l ∷ m ∷ n ∷ o ∷ p ∷ q ∷ r ∷ s ∷ t ∷ x0 ∷ x1 ∷ x2 ∷ x3 ∷ x4 ∷ x5 ∷ []) (record { long = refl; date = day; hyphen = hyphen; time = clock; period = period; fraction = sp }))
+          p0 inner.0 inner.1,
+    )))
+    bad)

@@ -19,7 +19,7 @@ zoned-more (suc n) d sign zone m first later =
 
 -- a digit more of a zoned number
 pub zoned_bytes-before : (old : List ℕ) (at n m sign zone : ℕ) → at < length old → (n ≡ 0 → zone ≡ sign) → (0 < n → zone ≡ 15) →
-  set (take (suc at) old ++ zoned_bytes (digits_in 10 n m) sign) at (16 * zone + m / 10 ^ n % 10) ≡ take at old ++ zoned_bytes (digits_in 10 (suc n) m) sign
+    set (take (suc at) old ++ zoned_bytes (digits_in 10 n m) sign) at (16 * zone + m / 10 ^ n % 10) ≡ take at old ++ zoned_bytes (digits_in 10 (suc n) m) sign
 zoned_bytes-before old at n m sign zone lt first later =
     set-before old (zoned_bytes (digits_in 10 n m) sign) at (16 * zone + m / 10 ^ n % 10) lt
     ∙ ap (λ w. take at old ++ w) (sym (zoned-more n (m / 10 ^ n % 10) sign zone m first later))
@@ -34,15 +34,15 @@ digits-less m n =
 
 -- two digits more of a packed number
 pub packed_bytes-before : (old : List ℕ) (at n m sign : ℕ) → at < length old →
-  set (take (suc at) old ++ packed_bytes (digits_in 10 n m) sign) at (16 * (m / 10 ^ n / 10 % 10) + m / 10 ^ n % 10) ≡ take at old ++ packed_bytes (digits_in 10 (suc (suc n)) m) sign
+    set (take (suc at) old ++ packed_bytes (digits_in 10 n m) sign) at (16 * (m / 10 ^ n / 10 % 10) + m / 10 ^ n % 10) ≡ take at old ++ packed_bytes (digits_in 10 (suc (suc n)) m) sign
 packed_bytes-before old at n m sign lt =
     rw (digit-less m n) (set-before old (packed_bytes (digits_in 10 n m) sign) at (16 * (m / 10 ^ suc n % 10) + m / 10 ^ n % 10) lt)
 
 -- one turn of the loop that writes a zoned number: the byte
 pub zoned-turn : (old into : List ℕ) (at rest zone m sign : ℕ) → 0 < at → at ≤ length old →
-  into ≡ take at old ++ zoned_bytes (digits_in 10 (length old - at) m) sign → rest ≡ m / 10 ^ (length old - at) →
-  (at ≡ length old → zone ≡ sign) → (at < length old → zone ≡ 15) →
-  set into (at - 1) (16 * zone + rest % 10) ≡ take (at - 1) old ++ zoned_bytes (digits_in 10 (length old - (at - 1)) m) sign
+    into ≡ take at old ++ zoned_bytes (digits_in 10 (length old - at) m) sign → rest ≡ m / 10 ^ (length old - at) →
+    (at ≡ length old → zone ≡ sign) → (at < length old → zone ≡ 15) →
+    set into (at - 1) (16 * zone + rest % 10) ≡ take (at - 1) old ++ zoned_bytes (digits_in 10 (length old - (at - 1)) m) sign
 zoned-turn old into zero rest zone m sign some le there left first later = absurd (omega arith)
 zoned-turn old into (suc at) rest zone m sign some le there left first later =
     let less : suc at - 1 ≡ at = omega arith in
@@ -58,8 +58,8 @@ zoned-left n at rest m some le left =
 
 -- one turn of the loop that writes a packed number
 pub packed-turn : (old into : List ℕ) (at rest m sign : ℕ) → 0 < at → at < length old →
-  into ≡ take at old ++ packed_bytes (digits_in 10 (2 * (length old - at) - 1) m) sign → rest ≡ m / 10 ^ (2 * (length old - at) - 1) →
-  set into (at - 1) (16 * (rest / 10 % 10) + rest % 10) ≡ take (at - 1) old ++ packed_bytes (digits_in 10 (2 * (length old - (at - 1)) - 1) m) sign
+    into ≡ take at old ++ packed_bytes (digits_in 10 (2 * (length old - at) - 1) m) sign → rest ≡ m / 10 ^ (2 * (length old - at) - 1) →
+    set into (at - 1) (16 * (rest / 10 % 10) + rest % 10) ≡ take (at - 1) old ++ packed_bytes (digits_in 10 (2 * (length old - (at - 1)) - 1) m) sign
 packed-turn old into zero rest m sign some le there left = absurd (omega arith)
 packed-turn old into (suc at) rest m sign some le there left =
     let less : suc at - 1 ≡ at = omega arith in

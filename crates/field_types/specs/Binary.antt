@@ -14,8 +14,8 @@ twos_complement n number = if nat_lt (2 * number) (256 ^ n) then pos number else
 -- the number that stands in a binary field of so many digits
 abbrev pub binary_number : ℕ → List ℕ → Option ℤ
 binary_number digits image =
-  let number = twos_complement (length image) (number_in 256 image) in
-  if list_all is_byte image && nat_lt (unsigned_abs number) (10 ^ digits) then Some number else None
+    let number = twos_complement (length image) (number_in 256 image) in
+    if list_all is_byte image && nat_lt (unsigned_abs number) (10 ^ digits) then Some number else None
 
 -- the n bytes of a number in two's complement
 abbrev pub binary_bytes : ℕ → ℤ → List ℕ

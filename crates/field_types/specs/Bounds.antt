@@ -7,7 +7,7 @@ use Rattle.field_types.specs.Digits.{number_in}
 -- n digits that are a number from low to high
 abbrev pub spells_between : ℕ → ℕ → ℕ → ℕ → List ℕ → Bool
 spells_between base low high n digits =
-  (length digits == n) && list_all (λ d. nat_lt d base) digits && is_between low high (number_in base digits)
+    (length digits == n) && list_all (λ d. nat_lt d base) digits && is_between low high (number_in base digits)
 
 -- how far a byte is above the digit 0, round the end of a byte
 abbrev pub digit_from : ℕ → ℕ → ℕ

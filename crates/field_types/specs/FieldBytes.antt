@@ -66,14 +66,14 @@ is_too_wide digits units = nat_le (10 ^ digits) (unsigned_abs units)
 -- why a text can't stand in a field that has texts
 abbrev pub text_fault : Kind → ℕ → List ℕ → Option ValueFault
 text_fault kind width text =
-  if nat_lt width (length text) then Some TooWide
-  else (if is_moment_kind kind && not (is_moment kind text) then Some BadDate else None)
+    if nat_lt width (length text) then Some TooWide
+    else (if is_moment_kind kind && not (is_moment kind text) then Some BadDate else None)
 
 -- why a number can't stand in a field that has numbers
 abbrev pub number_fault : ℕ → ℕ → Dec → Option ValueFault
 number_fault digits decimals n =
-  if has_more_decimals decimals n then Some TooManyDecimals
-  else (if is_too_wide digits (units_at decimals n) then Some TooWide else None)
+    if has_more_decimals decimals n then Some TooManyDecimals
+    else (if is_too_wide digits (units_at decimals n) then Some TooWide else None)
 
 -- why a value can't stand in a field: the first reason, in the order that is kept
 unfoldable pub fault_of : FieldType → Value → Option ValueFault

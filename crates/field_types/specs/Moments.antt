@@ -15,8 +15,8 @@ is_leap_year year = (year % 4 == 0) && (not (year % 100 == 0) || (year % 400 == 
 
 abbrev pub days_in_month : ℕ → ℕ → ℕ
 days_in_month year month =
-  if month == 2 then (if is_leap_year year then 29 else 28)
-  else (if (month == 4) || (month == 6) || (month == 9) || (month == 11) then 30 else 31)
+    if month == 2 then (if is_leap_year year then 29 else 28)
+    else (if (month == 4) || (month == 6) || (month == 9) || (month == 11) then 30 else 31)
 
 -- the number of a text's digits
 abbrev pub spelled : List ℕ → ℕ
@@ -40,20 +40,20 @@ has_period i text = slice_index text i == 0x4B
 -- yyyy-mm-dd
 abbrev pub is_date : List ℕ → Bool
 is_date text =
-  (length text == 10) && spells 1 9999 (part 0 4 text) && has_hyphen 4 text && spells 1 12 (part 5 2 text) && has_hyphen 7 text
-  && spells 1 (days_in_month (spelled (part 0 4 text)) (spelled (part 5 2 text))) (part 8 2 text)
+    (length text == 10) && spells 1 9999 (part 0 4 text) && has_hyphen 4 text && spells 1 12 (part 5 2 text) && has_hyphen 7 text
+    && spells 1 (days_in_month (spelled (part 0 4 text)) (spelled (part 5 2 text))) (part 8 2 text)
 
 -- hh.mm.ss
 abbrev pub is_time : List ℕ → Bool
 is_time text =
-  (length text == 8) && spells 0 23 (part 0 2 text) && has_period 2 text && spells 0 59 (part 3 2 text) && has_period 5 text
-  && spells 0 59 (part 6 2 text)
+    (length text == 8) && spells 0 23 (part 0 2 text) && has_period 2 text && spells 0 59 (part 3 2 text) && has_period 5 text
+    && spells 0 59 (part 6 2 text)
 
 -- yyyy-mm-dd-hh.mm.ss.mmmmmm
 abbrev pub is_timestamp : List ℕ → Bool
 is_timestamp text =
-  (length text == 26) && is_date (part 0 10 text) && has_hyphen 10 text && is_time (part 11 8 text) && has_period 19 text
-  && spells 0 999999 (part 20 6 text)
+    (length text == 26) && is_date (part 0 10 text) && has_hyphen 10 text && is_time (part 11 8 text) && has_period 19 text
+    && spells 0 999999 (part 20 6 text)
 
 -- the text is a date, time or timestamp, as the field's kind asks
 abbrev pub is_moment : Kind → List ℕ → Bool

@@ -29,8 +29,8 @@ packed_digits (b ∷ c ∷ bs) = high_half b ∷ low_half b ∷ packed_digits (c
 -- the number that stands in a packed field of so many digits
 abbrev pub packed_number : ℕ → List ℕ → Option ℤ
 packed_number digits image =
-  if is_packed image && is_spare_clear digits image
-  then Some (signed (is_minus (low_half (last_byte image))) (number_in 10 (packed_digits image))) else None
+    if is_packed image && is_spare_clear digits image
+    then Some (signed (is_minus (low_half (last_byte image))) (number_in 10 (packed_digits image))) else None
 
 -- digits, odd in number, and a sign behind them
 abbrev pub packed_bytes : List ℕ → ℕ → List ℕ

@@ -18,7 +18,7 @@ is_zoned image = ends_pass is_zone_digit is_signed_digit image
 -- the number that stands in a zoned field
 abbrev pub zoned_number : List ℕ → Option ℤ
 zoned_number image =
-  if is_zoned image then Some (signed (is_minus (high_half (last_byte image))) (number_in 10 (map low_half image))) else None
+    if is_zoned image then Some (signed (is_minus (high_half (last_byte image))) (number_in 10 (map low_half image))) else None
 
 -- digits under a sign
 abbrev pub zoned_bytes : List ℕ → ℕ → List ℕ

@@ -1,6 +1,6 @@
 //! Fields: a value is put into its place in a record, and taken out of it again.
 //! Each kind of field has a file of its own: `zoned.rt`, `packed.rt`, `binary.rt` and `moments.rt`.
-ghost use Rattle.std.specs.Prelude.{◌≡◌, ◌↔◌, ℕ, true, length, is_some, IfOk, OnOk, OnErr, IsErrOf};
+ghost use Rattle.std.specs.Prelude.{◌≡◌, ◌↔◌, ℕ, true, length, is_some, IfOk, OnOk, OnErr, IsErrOf, IsTrue};
 ghost use Rattle.std.specs.Result.{result_err};
 ghost use Rattle.field_types.specs.FieldTypes.{IsFieldType, width, is_numeric, is_moment_kind};
 ghost use Rattle.field_types.specs.FirstBad.{TellsFirstBad};
@@ -32,6 +32,22 @@ impl From<AllocError> for ImageFault {
 
     fn from(_: AllocError) -> ImageFault {
         ImageFault::NoMemory
+    }
+}
+
+/// Whether a data description can give a field this length and these decimals.
+pub fn is_allowed(t: &FieldType) -> bool
+    ensures { IsTrue result ↔ IsFieldType t.now }
+{
+    let decimals = t.decimals;
+    match t.kind {
+        Kind::Char => (1..=32766).contains(&t.length) && decimals == 0,
+        Kind::Zoned | Kind::Packed => (1..=31).contains(&t.length)
+            && u16::from(decimals) <= t.length,
+        Kind::Binary => (1..=18).contains(&t.length) && u16::from(decimals) <= t.length,
+        Kind::Date => t.length == 10 && decimals == 0,
+        Kind::Time => t.length == 8 && decimals == 0,
+        Kind::Stamp => t.length == 26 && decimals == 0,
     }
 }
 

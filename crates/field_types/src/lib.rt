@@ -10,6 +10,8 @@ pub mod kinds;
 mod moments;
 pub mod names;
 mod packed;
+#[cfg(test)]
+mod tests;
 pub mod texts;
 pub mod values;
 mod zoned;

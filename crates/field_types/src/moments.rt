@@ -4,12 +4,14 @@ ghost use Rattle.std.specs.Result.{result_err};
 ghost use Rattle.field_types.specs.Moments.{spelled, spells, spells_in, is_date, is_time, is_timestamp, is_moment, days_in_month};
 ghost use Rattle.field_types.specs.FirstBad.{part, TellsFirstBad, IsBadPart};
 
-use crate::{bounds, decimals};
 use crate::kinds::Kind;
+use crate::{bounds, decimals};
 use jiff::civil;
 
 const HYPHEN: u8 = 0x60;
+
 const PERIOD: u8 = 0x4B;
+
 const ZERO: u8 = 0xF0;
 
 /// Whether the text is a date, a time or a timestamp, as the kind says.

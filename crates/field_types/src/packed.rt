@@ -5,7 +5,7 @@ ghost use Rattle.field_types.specs.Digits.{number_in, digits_in, low_half, last_
 ghost use Rattle.field_types.specs.Packed.{is_digit_pair, is_digit_sign, is_packed, is_spare_clear, packed_digits, packed_bytes};
 ghost use Rattle.field_types.specs.FirstBad.{TellsFirstBad};
 
-use crate::decimals::{high_half, is_sign, is_minus, low_half, sign_of, signed};
+use crate::decimals::{high_half, is_minus, is_sign, low_half, sign_of, signed};
 
 /// The first byte that no packed number of so many digits has there.
 pub fn first_bad(digits: usize, image: &[u8]) -> Option<usize>

@@ -40,13 +40,13 @@ returns-then-from-base c =
     let i = c.loop-at.invariant in
     let power : c.loop-at.worth / c.from-worth.result ≡ c.args.base ^ (length c.args.bytes.now - (c.loop-at.at + 1)) = rw (c.from-worth.ensures, i.power) (power-next c.args.base (length c.args.bytes.now) c.loop-at.at (omega arith) c.loop-at-test.true) in
     let split : drop c.loop-at.at (map (digit_from c.args.zero) c.args.bytes.now) ≡ c.from-in-loop-at.result ∷ drop (c.loop-at.at + 1) (map (digit_from c.args.zero) c.args.bytes.now) =
-      rw c.from-in-loop-at.ensures (drop-map_cons (digit_from c.args.zero) c.args.bytes.now c.loop-at.at c.loop-at-test.true) in
+    rw c.from-in-loop-at.ensures (drop-map_cons (digit_from c.args.zero) c.args.bytes.now c.loop-at.at c.loop-at-test.true) in
     let same : c.from-in-loop-at-2.result ≡ c.from-in-loop-at.result = c.from-in-loop-at-2.ensures ∙ sym c.from-in-loop-at.ensures in
     let why : (c.args.base ≤ c.from-in-loop-at.result) ⊎ ((c.args.high < c.loop-at.least + c.from-in-loop-at.result * (c.loop-at.worth / c.from-worth.result)) ⊎ (c.loop-at.least + c.from-in-loop-at.result * (c.loop-at.worth / c.from-worth.result) + c.loop-at.worth / c.from-worth.result ≤ c.args.low)) =
-      elim c.then-from-base.branch [
-        then-from-base-via-then-from-base w ↦ inl (omega (arith, w.if-from-base.true, same))
+    elim c.then-from-base.branch [
+      | then-from-base-via-then-from-base w ↦ inl (omega (arith, w.if-from-base.true, same))
       | then-from-base-via-else-from-base+then-not-meets w ↦ inr (why-not (c.loop-at.least + c.from-in-loop-at.result * (c.loop-at.worth / c.from-worth.result)) (c.loop-at.worth / c.from-worth.result) c.args.low c.args.high (sym w.meets.ensures ∙ w.if-not-meets.true))
-      ] in
+    ] in
     tells-bad (spells_between c.args.base c.args.low c.args.high (length c.args.bytes.now)) c.args.base c.args.low c.args.high c.loop-at.least (length c.args.bytes.now) c.loop-at.at c.from-in-loop-at.result (map (digit_from c.args.zero) c.args.bytes.now)
     c.loop-at-test.true (omega arith) c.requires.order i.below (rw i.power at i.above) split (rw power at why) i.tells
 
@@ -55,7 +55,7 @@ loop-at-preserved c =
     let i = c.loop-at.invariant in
     let power : c.loop-at.worth / c.from-worth.result ≡ c.args.base ^ (length c.args.bytes.now - (c.loop-at.at + 1)) = rw (c.from-worth.ensures, i.power) (power-next c.args.base (length c.args.bytes.now) c.loop-at.at (omega arith) c.loop-at-test.true) in
     let split : drop c.loop-at.at (map (digit_from c.args.zero) c.args.bytes.now) ≡ c.from-in-loop-at.result ∷ drop (c.loop-at.at + 1) (map (digit_from c.args.zero) c.args.bytes.now) =
-      rw c.from-in-loop-at.ensures (drop-map_cons (digit_from c.args.zero) c.args.bytes.now c.loop-at.at c.loop-at-test.true) in
+    rw c.from-in-loop-at.ensures (drop-map_cons (digit_from c.args.zero) c.args.bytes.now c.loop-at.at c.loop-at-test.true) in
     let same : c.from-in-loop-at-2.result ≡ c.from-in-loop-at.result = c.from-in-loop-at-2.ensures ∙ sym c.from-in-loop-at.ensures in
     let digit : c.from-in-loop-at.result < c.args.base = omega (arith, c.if-from-base.false, same) in
     let parts = and_parts (nat_le (c.loop-at.least + c.from-in-loop-at.result * (c.loop-at.worth / c.from-worth.result)) c.args.high) (nat_lt c.args.low (c.loop-at.least + c.from-in-loop-at.result * (c.loop-at.worth / c.from-worth.result) + c.loop-at.worth / c.from-worth.result)) (sym c.meets.ensures ∙ c.if-not-meets.false) in
@@ -64,7 +64,7 @@ loop-at-preserved c =
       below = leb-true _ _ parts.0;
       above = ltb-true _ _ parts.1;
       tells = rw power (tells-turn (spells_between c.args.base c.args.low c.args.high (length c.args.bytes.now)) c.args.base c.args.low c.args.high c.loop-at.least (length c.args.bytes.now) c.loop-at.at c.from-in-loop-at.result (map (digit_from c.args.zero) c.args.bytes.now)
-        c.loop-at-test.true digit split i.tells);
+          c.loop-at-test.true digit split i.tells);
     }
 
 pub returns : goal.returns

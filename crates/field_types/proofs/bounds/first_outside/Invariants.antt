@@ -10,5 +10,5 @@ invariant-loop-at l = record {
   below : l.least ≤ l.high;
   above : l.low < l.least + l.worth;
   tells : (place : Option ℕ) → TellsFirstBad (reaches l.base l.low l.high l.least (length l.bytes - l.at)) (drop l.at (map (digit_from l.zero) l.bytes)) place
-    → TellsFirstBad (spells_between l.base l.low l.high (length l.bytes)) (map (digit_from l.zero) l.bytes) (option_map (λ k. l.at + k) place);
+      → TellsFirstBad (spells_between l.base l.low l.high (length l.bytes)) (map (digit_from l.zero) l.bytes) (option_map (λ k. l.at + k) place);
 }

@@ -14,7 +14,7 @@ returns-in_err-magnitude-clause-refused c =
     let fits : FitsSigned w128 c.args.number.units = search rules in
     let magnitude : c.unsigned_abs.result ≡ unsigned_abs c.args.number.units = simp to_z-of_z at c.unsigned_abs.ensures.value in
     let why : Rescaled (unsigned_abs c.args.number.units) c.args.number.scale c.args.decimals (Err c.in_err-magnitude.field-0.0) =
-      subst (λ (m : ℕ). Rescaled m c.args.number.scale c.args.decimals (Err c.in_err-magnitude.field-0.0)) magnitude c.in_err-magnitude.ensures in
+    subst (λ (m : ℕ). Rescaled m c.args.number.scale c.args.decimals (Err c.in_err-magnitude.field-0.0)) magnitude c.in_err-magnitude.ensures in
     rw (p.1, p.2) (sym (number_fault-Err c.args.digits c.args.decimals c.args.number c.in_err-magnitude.field-0.0 c.requires.digits why))
 
 pub pow-requires : goal.pow-requires

@@ -20,4 +20,4 @@ returns c =
     let place : c.or.result ≡ option_or (position (λ b. not (is_digit_pair b)) front) (cond (not (is_digit_sign last)) (Some (length front)) None) = search rules in
     TellsFirstBad-clear c.args.digits c.args.image.now c.or.result some (sym c.is_spare_clear.ensures ∙ c.if-not-is_spare_clear.false)
     (subst (λ (p : Option ℕ). TellsFirstBad (passes is_digit_pair is_digit_sign (length c.args.image.now)) c.args.image.now p) (sym place)
-      (TellsFirstBad-ends is_digit_pair is_digit_sign 0 15 c.args.image.now front last refl refl parts))
+    (TellsFirstBad-ends is_digit_pair is_digit_sign 0 15 c.args.image.now front last refl refl parts))

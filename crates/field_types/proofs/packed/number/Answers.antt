@@ -12,7 +12,7 @@ pub loop-byte-preserved : goal.loop-byte-preserved
 loop-byte-preserved c =
     let i = c.loop-byte.invariant in
     let digits : c.from.result ≡ 10 * high_half (get_or (take (length c.args.image.now - 1) c.args.image.now) c.loop-byte.byte-index 0) + low_half (get_or (take (length c.args.image.now - 1) c.args.image.now) c.loop-byte.byte-index 0) =
-      rw (c.high_half.ensures.value, c.low_half.ensures.value) at c.from.ensures in
+    rw (c.high_half.ensures.value, c.low_half.ensures.value) at c.from.ensures in
     let more = number_in-halves_pair (take (length c.args.image.now - 1) c.args.image.now) c.loop-byte.byte-index c.loop-byte-test.true in
     record {
       value = rw (digits, i.value) (sym more);

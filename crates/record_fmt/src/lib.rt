@@ -1,0 +1,7 @@
+//! Record formats: their fields in order, and the bytes of a record.
+#![tactic(auto)]
+
+pub mod formats;
+pub mod records;
+
+pub use field_types::faults::RecordFault;
