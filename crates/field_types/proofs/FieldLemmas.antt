@@ -47,31 +47,31 @@ some-whole true false x h = refl
 some-whole false true x h = absurd (let e : false ≡ true = h refl in cc)
 some-whole false false x h = refl
 
-held-char : (n d : ℕ) (w : List ℕ) → length w ≡ n → is_some (held (field Char n d) w) ≡ true
+pub held-char : (n d : ℕ) (w : List ℕ) → length w ≡ n → is_some (held (field Char n d) w) ≡ true
 unfolding held
 held-char n d w long = rw (eq-eqb (length w) n long) refl
 
-held-zoned : (n d : ℕ) (w : List ℕ) → ((length w == n) && is_zoned w) ≡ is_some (held (field Zoned n d) w)
+pub held-zoned : (n d : ℕ) (w : List ℕ) → ((length w == n) && is_zoned w) ≡ is_some (held (field Zoned n d) w)
 unfolding held
 held-zoned n d w = some-mapped (length w == n) (is_zoned w) (decimal d) (signed (is_minus (high_half (last_byte w))) (number_in 10 (map low_half w)))
 
-held-packed : (n d : ℕ) (w : List ℕ) → ((length w == packed_width n) && (is_packed w && is_spare_clear n w)) ≡ is_some (held (field Packed n d) w)
+pub held-packed : (n d : ℕ) (w : List ℕ) → ((length w == packed_width n) && (is_packed w && is_spare_clear n w)) ≡ is_some (held (field Packed n d) w)
 unfolding held
 held-packed n d w = some-mapped (length w == packed_width n) (is_packed w && is_spare_clear n w) (decimal d) (signed (is_minus (low_half (last_byte w))) (number_in 10 (packed_digits w)))
 
-held-binary : (n d : ℕ) (w : List ℕ) → ((length w == binary_width n) && is_some (binary_number n w)) ≡ is_some (held (field Binary n d) w)
+pub held-binary : (n d : ℕ) (w : List ℕ) → ((length w == binary_width n) && is_some (binary_number n w)) ≡ is_some (held (field Binary n d) w)
 unfolding held
 held-binary n d w = some-option (length w == binary_width n) (decimal d) (binary_number n w)
 
-held-date : (d : ℕ) (w : List ℕ) → is_date w ≡ is_some (held (field Date 10 d) w)
+pub held-date : (d : ℕ) (w : List ℕ) → is_date w ≡ is_some (held (field Date 10 d) w)
 unfolding held
 held-date d w = some-whole (length w == 10) (is_date w) (Chars w) (λ e. eq-eqb (length w) 10 (date-parts w e).long)
 
-held-time : (d : ℕ) (w : List ℕ) → is_time w ≡ is_some (held (field Time 8 d) w)
+pub held-time : (d : ℕ) (w : List ℕ) → is_time w ≡ is_some (held (field Time 8 d) w)
 unfolding held
 held-time d w = some-whole (length w == 8) (is_time w) (Chars w) (λ e. eq-eqb (length w) 8 (time-parts w e).long)
 
-held-timestamp : (d : ℕ) (w : List ℕ) → is_timestamp w ≡ is_some (held (field Stamp 26 d) w)
+pub held-timestamp : (d : ℕ) (w : List ℕ) → is_timestamp w ≡ is_some (held (field Stamp 26 d) w)
 unfolding held
 held-timestamp d w = some-whole (length w == 26) (is_timestamp w) (Chars w) (λ e. eq-eqb (length w) 26 (timestamp-parts w e).long)
 

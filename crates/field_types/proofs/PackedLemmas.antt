@@ -69,7 +69,7 @@ clear-word : (digits n : ℕ) → is_spare_clear digits (word 0 15 n) ≡ true
 clear-word digits zero = or-true (digits % 2 == 1)
 clear-word digits (suc n) = or-true (digits % 2 == 1)
 
-packs-word : (digits n : ℕ) → packs digits (suc n) (word 0 15 n) ≡ true
+pub packs-word : (digits n : ℕ) → packs digits (suc n) (word 0 15 n) ≡ true
 packs-word digits n = packs-from digits (suc n) (word 0 15 n) (passes-word is_digit_pair is_digit_sign 0 15 n refl refl) (clear-word digits n)
 
 -- a digit stands in the spare half byte

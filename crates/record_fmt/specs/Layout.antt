@@ -1,13 +1,13 @@
 -- Where the fields of a record lie: one behind the other, from its first byte on.
 -- (DDS for Physical and Logical Files, record format; Database Programming, record formats.)
 use Rattle.std.specs.Prelude.{◌≡◌, ℕ, ◌+◌, ◌≤◌, Bool, true, ◌&&◌, ◌==◌, List, [], ◌∷◌, length}
-use Rattle.std.specs.List.{sum_by}
 use Rattle.field_types.specs.FieldTypes.{is_allowed, width}
 use Rattle.record_fmt.specs.declared.formats.Field.{Field}
 
 -- the bytes of a record
 abbrev pub record_length : List Field → ℕ
-record_length fields = sum_by (λ f. width f.ty) fields
+record_length [] = 0
+record_length (f ∷ fs) = width f.ty + record_length fs
 
 -- whether the fields have types that a data description can give, and lie one behind the other from start on
 abbrev pub lies_from : ℕ → List Field → Bool

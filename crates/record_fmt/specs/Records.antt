@@ -1,6 +1,8 @@
 -- The bytes of a record: which image is written for a list of values, and which values an image stands for.
 -- (DDS for Physical and Logical Files, "Data type"; Database Programming, record formats.)
 use Rattle.std.specs.Prelude.{◌≡◌, ℕ, ◌+◌, Bool, ◌==◌, Option, Some, None, is_some, Result, Ok, Err, List, [], ◌∷◌, ◌++◌, length, take, drop, if◌then◌else◌}
+use Rattle.std.specs.Prelude.{Vec, ◌<◌, ◌^◌}
+use Rattle.std.specs.Global.{Global}
 use Rattle.field_types.specs.declared.values.Value.{Value}
 use Rattle.field_types.specs.declared.faults.ValueFault.{ValueFault}
 use Rattle.field_types.specs.declared.faults.RecordFault.{RecordFault}
@@ -56,7 +58,17 @@ abbrev pub IsRecordBadAt : List Field → List ℕ → ℕ → Type 0
 IsRecordBadAt fields image at = IsFirstBad (λ bytes. is_some (record_held fields bytes)) image at
 
 -- what packing answers: the image, the fault, or want of memory
-abbrev pub Packs : Result (List ℕ) RecordFault → Result (List ℕ) PackFault → Type 0
-Packs wanted (Ok image) = wanted ≡ Ok image
+abbrev pub Packs : Result (List ℕ) RecordFault → Result (Vec ℕ Global) PackFault → Type 0
+Packs wanted (Ok image) = wanted ≡ Ok image.items
 Packs wanted (Err pack_faults.NoMemory) = Unit {0}
 Packs wanted (Err (pack_faults.Refused fault)) = wanted ≡ Err fault
+
+-- a fault of a field's bytes, where the field lies from a place of the record on
+abbrev pub moved : ImageFault → ℕ → ImageFault
+moved (image_faults.BadImage bad) from = image_faults.BadImage (record { at = from + bad.at })
+moved image_faults.NoMemory from = image_faults.NoMemory
+
+-- the moved place is one of a slice
+abbrev pub BadFits : ImageFault → ℕ → Type 0
+BadFits (image_faults.BadImage bad) from = from + bad.at < 2 ^ 64
+BadFits image_faults.NoMemory from = Unit {0}

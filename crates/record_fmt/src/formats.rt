@@ -73,7 +73,7 @@ pub struct Fields {
 }
 
 impl Model for Fields {
-    ghost use Rattle.std.specs.Prelude.{List, ◌×◌};
+    ghost use Rattle.std.specs.Prelude.{List, ◌≡◌};
     ghost use Rattle.record_fmt.specs.declared.formats.Field.{Field};
     ghost use Rattle.record_fmt.specs.Layout.{IsLaidOut, record_length};
 

@@ -1,10 +1,9 @@
 //! The bytes of a record: packed from the values of its fields, and unpacked again. Their meaning stands in `specs/Records.antt`.
-ghost use Rattle.std.specs.Prelude.{◌≡◌, ℕ, ◌++◌, Some, length, IfOk, IfErr, OnOk, IsErrOf};
-ghost use Rattle.std.specs.Result.{result_err};
+ghost use Rattle.std.specs.Prelude.{◌≡◌, ◌+◌, ◌++◌, ℕ, Some, None, length, IfOk, IsErrOf};
 ghost use Rattle.field_types.specs.FieldTypes.{IsFieldType, width};
 ghost use Rattle.field_types.specs.FieldBytes.{written, fault_of};
 ghost use Rattle.record_fmt.specs.Layout.{record_length};
-ghost use Rattle.record_fmt.specs.Records.{record_written, record_held, Packs, IsRecordBadAt};
+ghost use Rattle.record_fmt.specs.Records.{record_written, record_held, Packs, IsRecordBadAt, moved, BadFits};
 
 use crate::formats::{Format, PackFault};
 use field_types::faults::{BadImage, RecordFault, ValueFault};
@@ -16,7 +15,7 @@ use std::alloc::{AllocError, Global};
 impl Format {
     /// The image of a record with these values, one for each field.
     pub fn pack(&self, alloc: Global, values: &[Value]) -> Result<Vec<u8>, PackFault>
-        ensures { Packs (record_written self.now.fields values.now) (result_map (λ v. v.items) result) }
+        ensures { Packs (record_written self.now.fields values.now) result }
     {
         let fields = self.fields.as_slice();
         if values.len() != fields.len() {
@@ -47,7 +46,7 @@ impl Format {
         for field in fields {
             let to = from + fields::width(&field.ty);
             match fields::take(alloc, &field.ty, &image[from..to]) {
-                Ok(value) => values.push(value)?,
+                Ok(value) => values.push(value).map_err(AllocError::from)?,
                 Err(fault) => return Err(in_record(fault, from)),
             }
             from = to;
@@ -69,6 +68,8 @@ fn push_value(image: &mut Vec<u8>, ty: &FieldType, value: &Value) -> Result<Opti
 
 /// A fault of a field's bytes, at its place in the record.
 fn in_record(fault: ImageFault, from: usize) -> ImageFault
+    requires { BadFits fault from }
+    ensures { result ≡ moved fault from }
 {
     match fault {
         ImageFault::BadImage(bad) => ImageFault::BadImage(BadImage { at: from + bad.at }),
