@@ -1,7 +1,7 @@
 -- What follows of the fields of a record, taken one behind the other.
 use Rattle.std.proofs.Common.{◌≡◌, ℕ, zero, suc, ◌+◌, ◌-◌, ◌<◌, ◌≤◌, Bool, true, false, ◌&&◌, ◌||◌, ◌==◌, nat_le, IsTrue, Option, Some, None, is_some, Result, Ok, Err, List, [], ◌∷◌, ◌++◌, length, take, drop, replicate, get_or, refl, sym, ◌∙◌, ap, subst, arith, append_assoc, append-nil, length-append, add-one, add-zero, cond, lit<, ◌⊎◌, inl, inr, ◌^◌, ◌*◌, ◌/◌, ◌↔◌}
-use Rattle.std.proofs.lemmas.List.{take-append-le, take-append-drop, take_all, drop_all, length-take-le, length-drop, take_more, length-replicate}
-use Rattle.std.proofs.lemmas.Bool.{and_parts, and_from, eqb-true, eq-eqb, leb-true, lt-ltb, cases_Bool}
+use Rattle.std.proofs.lemmas.List.{take-append-le, take-append-drop, take_all, drop_all, length-take-le, length-drop, length-take, take_more, length-replicate}
+use Rattle.std.proofs.lemmas.Bool.{and_parts, and_from, eqb-true, eq-eqb, leb-true, lt-ltb, ne_eqb, cases_Bool}
 use Rattle.std.proofs.Math.Seq.{drop-cons, take-append_seam, drop-append_seam, take-add}
 use Rattle.field_types.specs.declared.kinds.Kind.{Kind}
 use Rattle.field_types.specs.declared.kinds.Kind.TheVariants.{Char, Zoned, Packed, Binary, Date, Time, Stamp}
@@ -26,7 +26,7 @@ use Rattle.field_types.specs.declared.fields.ImageFault.{ImageFault}
 use Rattle.field_types.specs.declared.fields.ImageFault.TheVariants as image_faults
 use Rattle.record_fmt.specs.declared.formats.Field.{Field}
 use Rattle.record_fmt.specs.Layout.{record_length, lies_from, IsLaidOut}
-use Rattle.record_fmt.specs.Records.{behind, field_before, fields_written, both, fields_held, record_held, IsRecordBadAt, moved, BadFits}
+use Rattle.record_fmt.specs.Records.{behind, field_before, fields_written, both, fields_held, record_held, record_written, IsRecordBadAt, moved, BadFits}
 
 -- values and those behind them
 abbrev pub appended : Option (List Value) → Option (List Value) → Option (List Value)
@@ -254,14 +254,37 @@ pub BadFits-field : (t : FieldType) (bytes : List ℕ) (from : ℕ) (fault : Ima
 BadFits-field t bytes from (image_faults.BadImage bad) told fits = (let there : IsBadAt t bytes bad.at = (told bad.at).0 refl in let within : bad.at < length bytes = there.within in omega arith)
 BadFits-field t bytes from image_faults.NoMemory told fits = tt
 
-pub IsRecordBadAt-moved : (fs : List Field) (i : ℕ) (f : Field) (image : List ℕ) (from : ℕ) (vs : List Value) (fault : ImageFault) → lies_from 0 fs ≡ true → i < length fs → f ≡ get_or fs i f →
-  from ≡ record_length (take i fs) → from + width f.ty ≤ length image → fields_held (take i fs) (take from image) ≡ Some vs →
-  ((at : ℕ) → (◌≡◌ {A = Result Value ImageFault} (Err fault) (Err (image_faults.BadImage (record { at = at })))) ↔ IsBadAt f.ty (part from (width f.ty) image) at) →
+fault_place : ImageFault → ℕ
+fault_place (image_faults.BadImage bad) = bad.at
+fault_place image_faults.NoMemory = 0
+
+pub IsRecordBadAt-moved : (fs : List Field) (i : ℕ) (f : Field) (image bytes : List ℕ) (from : ℕ) (vs : List Value) (fault : ImageFault) → lies_from 0 fs ≡ true → i < length fs → f ≡ get_or fs i f →
+  from ≡ record_length (take i fs) → from + width f.ty ≤ length image → fields_held (take i fs) (take from image) ≡ Some vs → bytes ≡ part from (width f.ty) image →
+  ((at : ℕ) → (◌≡◌ {A = Result Value ImageFault} (Err fault) (Err (image_faults.BadImage (record { at = at })))) ↔ IsBadAt f.ty bytes at) →
   (at : ℕ) → moved fault from ≡ image_faults.BadImage (record { at = at }) → IsRecordBadAt fs image at
-IsRecordBadAt-moved fs i f image from vs (image_faults.BadImage bad) lies lt is place le before told at e =
-    let same : from + bad.at ≡ at = cc in
-    subst (λ (n : ℕ). IsRecordBadAt fs image n) same (IsRecordBadAt-field fs i f image from bad.at vs lies lt is place le before ((told bad.at).0 refl))
-IsRecordBadAt-moved fs i f image from vs image_faults.NoMemory lies lt is place le before told at e = cc
+unfolding fault_place
+IsRecordBadAt-moved fs i f image bytes from vs (image_faults.BadImage bad) lies lt is place le before same told at e =
+    subst (λ (n : ℕ). IsRecordBadAt fs image n) (ap fault_place e)
+    (IsRecordBadAt-field fs i f image from bad.at vs lies lt is place le before (subst (λ (b : List ℕ). IsBadAt f.ty b bad.at) same ((told bad.at).0 refl)))
+IsRecordBadAt-moved fs i f image bytes from vs image_faults.NoMemory lies lt is place le before same told at e = cc
+
+-- a field lies within its record
+pub field-room : (fs : List Field) (i : ℕ) (f : Field) (image : List ℕ) (from : ℕ) → i < length fs → f ≡ get_or fs i f → from ≡ record_length (take i fs) → length image ≡ record_length fs → from + width f.ty ≤ length image
+field-room fs i f image from lt is place long =
+    let more = record_length-more fs i f lt is in
+    let within = record_length-take fs (i + 1) in
+    omega (arith, more, within)
+
+pub slice-short : (n from : ℕ) (image : List ℕ) → length (take n (drop from image)) ≤ length image
+slice-short n from image = simp (length-take, length-drop) (omega arith)
+
+pub record_written-fields : (fs : List Field) (vs : List Value) → length vs ≡ length fs → record_written fs vs ≡ fields_written 1 fs vs
+unfolding record_written
+record_written-fields fs vs same = rw (eq-eqb (length vs) (length fs) same) refl
+
+pub record_written-count : (fs : List Field) (vs : List Value) → (length vs ≡ length fs → ⊥) → record_written fs vs ≡ Err Count
+unfolding record_written
+record_written-count fs vs other = rw (ne_eqb (length vs) (length fs) other) refl
 
 pub record_held-whole : (fs : List Field) (i : ℕ) (image : List ℕ) (from : ℕ) (vs : List Value) → length fs ≤ i → length image ≡ record_length fs → from ≡ record_length (take i fs) → fields_held (take i fs) (take from image) ≡ Some vs → record_held fs image ≡ Some vs
 unfolding record_held

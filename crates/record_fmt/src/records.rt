@@ -1,5 +1,5 @@
 //! The bytes of a record: packed from the values of its fields, and unpacked again. Their meaning stands in `specs/Records.antt`.
-ghost use Rattle.std.specs.Prelude.{◌≡◌, ◌+◌, ◌++◌, ℕ, Some, None, length, IfOk, IsErrOf};
+ghost use Rattle.std.specs.Prelude.{◌≡◌, ◌+◌, ◌++◌, ℕ, Some, None, length, IfOk, OnOk, IsErrOf, ◌∷◌, []};
 ghost use Rattle.field_types.specs.FieldTypes.{IsFieldType, width};
 ghost use Rattle.field_types.specs.FieldBytes.{written, fault_of};
 ghost use Rattle.record_fmt.specs.Layout.{record_length};
@@ -46,7 +46,7 @@ impl Format {
         for field in fields {
             let to = from + fields::width(&field.ty);
             match fields::take(alloc, &field.ty, &image[from..to]) {
-                Ok(value) => values.push(value).map_err(AllocError::from)?,
+                Ok(value) => add(&mut values, value)?,
                 Err(fault) => return Err(in_record(fault, from)),
             }
             from = to;
@@ -64,6 +64,13 @@ fn push_value(image: &mut Vec<u8>, ty: &FieldType, value: &Value) -> Result<Opti
     let from = image.len();
     image.resize(from + fields::width(ty), 0)?;
     Ok(fields::put(ty, value, &mut image[from..]).err())
+}
+
+fn add(values: &mut Vec<Value>, value: Value) -> Result<(), AllocError>
+    ensures { OnOk result (values.new.items ≡ values.old.items ++ value ∷ []) }
+{
+    values.push(value)?;
+    Ok(())
 }
 
 /// A fault of a field's bytes, at its place in the record.
