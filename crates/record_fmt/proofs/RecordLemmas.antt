@@ -79,8 +79,8 @@ take-take_drop : (n m : ℕ) (xs : List ℕ) → take (n + m) xs ≡ take n xs +
 take-take_drop n m xs = take-add n m xs
 
 pub fields_held-more : (fs : List Field) (i : ℕ) (f : Field) (image : List ℕ) (from : ℕ) (vs : List Value) (v : Value) → i < length fs → f ≡ get_or fs i f →
-  from ≡ record_length (take i fs) → from + width f.ty ≤ length image → fields_held (take i fs) (take from image) ≡ Some vs → held f.ty (part from (width f.ty) image) ≡ Some v →
-  fields_held (take (i + 1) fs) (take (from + width f.ty) image) ≡ Some (vs ++ v ∷ [])
+    from ≡ record_length (take i fs) → from + width f.ty ≤ length image → fields_held (take i fs) (take from image) ≡ Some vs → held f.ty (part from (width f.ty) image) ≡ Some v →
+    fields_held (take (i + 1) fs) (take (from + width f.ty) image) ≡ Some (vs ++ v ∷ [])
 fields_held-more fs i f image from vs v lt is place le before there =
     let split : take (i + 1) fs ≡ take i fs ++ f ∷ [] = take_more fs i f lt ∙ ap (λ (g : Field). take i fs ++ g ∷ []) (sym is) in
     let front : length (take from image) ≡ record_length (take i fs) = length-take-le from image (omega arith) ∙ place in
@@ -117,17 +117,17 @@ split-values : (vs : List Value) (i : ℕ) (v : Value) → i < length vs → v �
 split-values vs i v lt is = drop-cons vs i v lt ∙ ap (λ (w : Value). w ∷ drop (suc i) vs) (sym is)
 
 pub goes_on-here : (image : List ℕ) (i : ℕ) (fs : List Field) (vs : List Value) (f : Field) (v : Value) → i < length fs → f ≡ get_or fs i f → i < length vs → v ≡ get_or vs i v →
-  goes_on image i fs vs ≡ behind image (field_before (i + 1) (fault_of f.ty v) (written f.ty v) (fields_written (i + 1 + 1) (drop (i + 1) fs) (drop (i + 1) vs)))
+    goes_on image i fs vs ≡ behind image (field_before (i + 1) (fault_of f.ty v) (written f.ty v) (fields_written (i + 1 + 1) (drop (i + 1) fs) (drop (i + 1) vs)))
 goes_on-here image i fs vs f v lf isf lv isv = rw (split-fields fs i f lf isf, split-values vs i v lv isv, add-one i) refl
 
 pub goes_on-more : (image : List ℕ) (i : ℕ) (fs : List Field) (vs : List Value) (f : Field) (v : Value) → i < length fs → f ≡ get_or fs i f → i < length vs → v ≡ get_or vs i v →
-  fault_of f.ty v ≡ None → goes_on (image ++ written f.ty v) (i + 1) fs vs ≡ goes_on image i fs vs
+    fault_of f.ty v ≡ None → goes_on (image ++ written f.ty v) (i + 1) fs vs ≡ goes_on image i fs vs
 goes_on-more image i fs vs f v lf isf lv isv none =
     sym (behind-behind image (written f.ty v) (fields_written (i + 1 + 1) (drop (i + 1) fs) (drop (i + 1) vs)))
     ∙ sym (goes_on-here image i fs vs f v lf isf lv isv ∙ ap (λ (o : Option ValueFault). behind image (field_before (i + 1) o (written f.ty v) (fields_written (i + 1 + 1) (drop (i + 1) fs) (drop (i + 1) vs)))) none)
 
 pub goes_on-fault : (image : List ℕ) (i : ℕ) (fs : List Field) (vs : List Value) (f : Field) (v : Value) (cause : ValueFault) → i < length fs → f ≡ get_or fs i f → i < length vs → v ≡ get_or vs i v →
-  fault_of f.ty v ≡ Some cause → goes_on image i fs vs ≡ Err (BadField (i + 1) cause)
+    fault_of f.ty v ≡ Some cause → goes_on image i fs vs ≡ Err (BadField (i + 1) cause)
 goes_on-fault image i fs vs f v cause lf isf lv isv some =
     goes_on-here image i fs vs f v lf isf lv isv ∙ ap (λ (o : Option ValueFault). behind image (field_before (i + 1) o (written f.ty v) (fields_written (i + 1 + 1) (drop (i + 1) fs) (drop (i + 1) vs)))) some
 
@@ -153,18 +153,18 @@ lies-more start (g ∷ gs) f lies place allowed =
 
 pub IsLaidOut-more : (fs : List Field) (f : Field) → IsLaidOut fs → length fs < 1000 → record_length fs + width f.ty ≤ 32766 → f.offset ≡ record_length fs → IsFieldType f.ty → IsLaidOut (fs ++ f ∷ [])
 IsLaidOut-more fs f laid few narrow place allowed = record {
-    few = rw (length-append fs (f ∷ [])) (omega arith);
-    narrow = rw (record_length-append fs (f ∷ [])) (omega arith);
-    lies = lies-more 0 fs f laid.lies (place ∙ omega arith) allowed;
-  }
+  few = rw (length-append fs (f ∷ [])) (omega arith);
+  narrow = rw (record_length-append fs (f ∷ [])) (omega arith);
+  lies = lies-more 0 fs f laid.lies (place ∙ omega arith) allowed;
+}
 
 -- an image of a field is as wide as the field
 pub held-length : (t : FieldType) (bytes : List ℕ) → is_some (held t bytes) ≡ true → length bytes ≡ width t
 unfolding held
 held-length t bytes h =
     elim (cases_Bool (length bytes == width t)) [
-      inl same ↦ eqb-true (length bytes) (width t) same
-    | inr other ↦ absurd (let none : false ≡ true = rw other at h in cc)
+      | inl same ↦ eqb-true (length bytes) (width t) same
+      | inr other ↦ absurd (let none : false ≡ true = rw other at h in cc)
     ]
 
 -- some image stands in each field
@@ -177,10 +177,10 @@ example-of Packed n d h =
 example-of Binary n d h =
     let some : 0 < 10 ^ n = one-le-pow n 10 (lit< tt) in
     elim (binary_width-cases n) [
-      inl two ↦ (0 ∷ 0 ∷ [], sym (held-binary n d (0 ∷ 0 ∷ [])) ∙ rw (two, lt-ltb 0 (10 ^ n) some) refl)
-    | inr more ↦ elim more [
-        inl four ↦ (0 ∷ 0 ∷ 0 ∷ 0 ∷ [], sym (held-binary n d (0 ∷ 0 ∷ 0 ∷ 0 ∷ [])) ∙ rw (four, lt-ltb 0 (10 ^ n) some) refl)
-      | inr eight ↦ (0 ∷ 0 ∷ 0 ∷ 0 ∷ 0 ∷ 0 ∷ 0 ∷ 0 ∷ [], sym (held-binary n d (0 ∷ 0 ∷ 0 ∷ 0 ∷ 0 ∷ 0 ∷ 0 ∷ 0 ∷ [])) ∙ rw (eight, lt-ltb 0 (10 ^ n) some) refl)
+      | inl two ↦ (0 ∷ 0 ∷ [], sym (held-binary n d (0 ∷ 0 ∷ [])) ∙ rw (two, lt-ltb 0 (10 ^ n) some) refl)
+      | inr more ↦ elim more [
+        | inl four ↦ (0 ∷ 0 ∷ 0 ∷ 0 ∷ [], sym (held-binary n d (0 ∷ 0 ∷ 0 ∷ 0 ∷ [])) ∙ rw (four, lt-ltb 0 (10 ^ n) some) refl)
+        | inr eight ↦ (0 ∷ 0 ∷ 0 ∷ 0 ∷ 0 ∷ 0 ∷ 0 ∷ 0 ∷ [], sym (held-binary n d (0 ∷ 0 ∷ 0 ∷ 0 ∷ 0 ∷ 0 ∷ 0 ∷ 0 ∷ [])) ∙ rw (eight, lt-ltb 0 (10 ^ n) some) refl)
       ]
     ]
 example-of Date n d h =
@@ -190,9 +190,10 @@ example-of Time n d h =
     let eight : n ≡ 8 = eqb-true n 8 (and_parts (n == 8) (d == 0) h).0 in
     (240 ∷ 240 ∷ 75 ∷ 240 ∷ 240 ∷ 75 ∷ 240 ∷ 240 ∷ [], rw eight (sym (held-time d (240 ∷ 240 ∷ 75 ∷ 240 ∷ 240 ∷ 75 ∷ 240 ∷ 240 ∷ []))))
 example-of Stamp n d h =
-    let twenty_six : n ≡ 26 = eqb-true n 26 (and_parts (n == 26) (d == 0) h).0 in
-    (240 ∷ 240 ∷ 240 ∷ 241 ∷ 96 ∷ 240 ∷ 241 ∷ 96 ∷ 240 ∷ 241 ∷ 96 ∷ 240 ∷ 240 ∷ 75 ∷ 240 ∷ 240 ∷ 75 ∷ 240 ∷ 240 ∷ 75 ∷ 240 ∷ 240 ∷ 240 ∷ 240 ∷ 240 ∷ 240 ∷ [],
-     rw twenty_six (sym (held-timestamp d (240 ∷ 240 ∷ 240 ∷ 241 ∷ 96 ∷ 240 ∷ 241 ∷ 96 ∷ 240 ∷ 241 ∷ 96 ∷ 240 ∷ 240 ∷ 75 ∷ 240 ∷ 240 ∷ 75 ∷ 240 ∷ 240 ∷ 75 ∷ 240 ∷ 240 ∷ 240 ∷ 240 ∷ 240 ∷ 240 ∷ []))))
+    let twenty_six : n ≡ 26 = eqb-true n 26 (and_parts (n == 26) (d == 0) h).0 in (
+      240 ∷ 240 ∷ 240 ∷ 241 ∷ 96 ∷ 240 ∷ 241 ∷ 96 ∷ 240 ∷ 241 ∷ 96 ∷ 240 ∷ 240 ∷ 75 ∷ 240 ∷ 240 ∷ 75 ∷ 240 ∷ 240 ∷ 75 ∷ 240 ∷ 240 ∷ 240 ∷ 240 ∷ 240 ∷ 240 ∷ [],
+      rw twenty_six (sym (held-timestamp d (240 ∷ 240 ∷ 240 ∷ 241 ∷ 96 ∷ 240 ∷ 241 ∷ 96 ∷ 240 ∷ 241 ∷ 96 ∷ 240 ∷ 240 ∷ 75 ∷ 240 ∷ 240 ∷ 75 ∷ 240 ∷ 240 ∷ 75 ∷ 240 ∷ 240 ∷ 240 ∷ 240 ∷ 240 ∷ 240 ∷ []))),
+    )
 
 both-some : (v : Option Value) (o : Option (List Value)) → is_some (both v o) ≡ true → is_some v ≡ true
 both-some None o h = h
@@ -230,7 +231,7 @@ lies-drop start (f ∷ fs) (suc i) lies = lies-drop (start + width f.ty) fs i (a
 
 -- where a field's bytes go wrong the record's do
 pub IsRecordBadAt-field : (fs : List Field) (i : ℕ) (f : Field) (image : List ℕ) (from k : ℕ) (vs : List Value) → lies_from 0 fs ≡ true → i < length fs → f ≡ get_or fs i f →
-  from ≡ record_length (take i fs) → from + width f.ty ≤ length image → fields_held (take i fs) (take from image) ≡ Some vs → IsBadAt f.ty (part from (width f.ty) image) k → IsRecordBadAt fs image (from + k)
+    from ≡ record_length (take i fs) → from + width f.ty ≤ length image → fields_held (take i fs) (take from image) ≡ Some vs → IsBadAt f.ty (part from (width f.ty) image) k → IsRecordBadAt fs image (from + k)
 unfolding record_held
 IsRecordBadAt-field fs i f image from k vs lies lt is place le before bad =
     let split : fs ≡ take i fs ++ f ∷ drop (suc i) fs = sym (take-append-drop i fs) ∙ ap (λ (gs : List Field). take i fs ++ gs) (split-fields fs i f lt is) in
@@ -239,14 +240,16 @@ IsRecordBadAt-field fs i f image from k vs lies lt is place le before bad =
     let rest : (bytes : List ℕ) × (is_some (fields_held (drop (suc i) fs) bytes) ≡ true) = examples later.0 (drop (suc i) fs) later.1 in
     IsFirstBad-part (λ bytes. is_some (fields_held fs bytes)) (λ bytes. is_some (held f.ty bytes)) from (width f.ty) image (from + k) le
     (λ w e. both-some (held f.ty (take (width f.ty) w)) (fields_held (drop (suc i) fs) (drop (width f.ty) w))
-      (sym (appended-some vs (fields_held (f ∷ drop (suc i) fs) w))
-        ∙ sym (ap is_some (fields_held-append (take i fs) (f ∷ drop (suc i) fs) (take from image) w front ∙ ap (λ (o : Option (List Value)). appended o (fields_held (f ∷ drop (suc i) fs) w)) before))
-        ∙ subst (λ (gs : List Field). is_some (fields_held gs (take from image ++ w)) ≡ true) split e))
-    (λ p e. (rest.0,
+    (sym (appended-some vs (fields_held (f ∷ drop (suc i) fs) w))
+    ∙ sym (ap is_some (fields_held-append (take i fs) (f ∷ drop (suc i) fs) (take from image) w front ∙ ap (λ (o : Option (List Value)). appended o (fields_held (f ∷ drop (suc i) fs) w)) before))
+    ∙ subst (λ (gs : List Field). is_some (fields_held gs (take from image ++ w)) ≡ true) split e))
+    (λ p e. (
+      rest.0,
       subst (λ (gs : List Field). is_some (fields_held gs (take from image ++ (p ++ rest.0))) ≡ true) (sym split)
-      (ap is_some (fields_held-append (take i fs) (f ∷ drop (suc i) fs) (take from image) (p ++ rest.0) front ∙ ap (λ (o : Option (List Value)). appended o (fields_held (f ∷ drop (suc i) fs) (p ++ rest.0))) before)
-        ∙ appended-some vs (fields_held (f ∷ drop (suc i) fs) (p ++ rest.0))
-        ∙ both-fields f (drop (suc i) fs) p rest.0 e rest.1)))
+          (ap is_some (fields_held-append (take i fs) (f ∷ drop (suc i) fs) (take from image) (p ++ rest.0) front ∙ ap (λ (o : Option (List Value)). appended o (fields_held (f ∷ drop (suc i) fs) (p ++ rest.0))) before)
+          ∙ appended-some vs (fields_held (f ∷ drop (suc i) fs) (p ++ rest.0))
+          ∙ both-fields f (drop (suc i) fs) p rest.0 e rest.1),
+    ))
     (record { inner = k; place = refl; bad = bad })
 
 -- a fault of a field's bytes lies within the record
@@ -259,9 +262,9 @@ fault_place (image_faults.BadImage bad) = bad.at
 fault_place image_faults.NoMemory = 0
 
 pub IsRecordBadAt-moved : (fs : List Field) (i : ℕ) (f : Field) (image bytes : List ℕ) (from : ℕ) (vs : List Value) (fault : ImageFault) → lies_from 0 fs ≡ true → i < length fs → f ≡ get_or fs i f →
-  from ≡ record_length (take i fs) → from + width f.ty ≤ length image → fields_held (take i fs) (take from image) ≡ Some vs → bytes ≡ part from (width f.ty) image →
-  ((at : ℕ) → (◌≡◌ {A = Result Value ImageFault} (Err fault) (Err (image_faults.BadImage (record { at = at })))) ↔ IsBadAt f.ty bytes at) →
-  (at : ℕ) → moved fault from ≡ image_faults.BadImage (record { at = at }) → IsRecordBadAt fs image at
+    from ≡ record_length (take i fs) → from + width f.ty ≤ length image → fields_held (take i fs) (take from image) ≡ Some vs → bytes ≡ part from (width f.ty) image →
+    ((at : ℕ) → (◌≡◌ {A = Result Value ImageFault} (Err fault) (Err (image_faults.BadImage (record { at = at })))) ↔ IsBadAt f.ty bytes at) →
+    (at : ℕ) → moved fault from ≡ image_faults.BadImage (record { at = at }) → IsRecordBadAt fs image at
 unfolding fault_place
 IsRecordBadAt-moved fs i f image bytes from vs (image_faults.BadImage bad) lies lt is place le before same told at e =
     subst (λ (n : ℕ). IsRecordBadAt fs image n) (ap fault_place e)

@@ -3,8 +3,8 @@ ghost use Rattle.std.specs.Prelude.{◌≡◌, ◌+◌, ◌<◌, ◌≤◌, [], 
 ghost use Rattle.field_types.specs.FieldTypes.{IsFieldType, width};
 ghost use Rattle.record_fmt.specs.Layout.{record_length, IsLaidOut};
 
-use field_types::fields;
 use field_types::faults::RecordFault;
+use field_types::fields;
 use field_types::kinds::FieldType;
 use field_types::names::Name;
 use field_types::texts::Text;
@@ -96,7 +96,13 @@ impl Fields {
     }
 
     /// Adds a field behind the others.
-    pub fn push(&mut self, name: Name, ty: FieldType, default: Value, text: Text) -> Result<(), AllocError>
+    pub fn push(
+        &mut self,
+        name: Name,
+        ty: FieldType,
+        default: Value,
+        text: Text,
+    ) -> Result<(), AllocError>
         requires allowed { IsFieldType ty }
         requires few { length self.old < MOST_FIELDS }
         requires narrow { record_length self.old + width ty ≤ MOST_BYTES }

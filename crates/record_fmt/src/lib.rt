@@ -5,3 +5,6 @@ pub mod formats;
 pub mod records;
 
 pub use field_types::faults::RecordFault;
+
+#[cfg(test)]
+mod tests;

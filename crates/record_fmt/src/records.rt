@@ -56,7 +56,11 @@ impl Format {
 }
 
 /// Adds a field's bytes at the end of an image, or says why it refuses its value.
-fn push_value(image: &mut Vec<u8>, ty: &FieldType, value: &Value) -> Result<Option<ValueFault>, AllocError>
+fn push_value(
+    image: &mut Vec<u8>,
+    ty: &FieldType,
+    value: &Value,
+) -> Result<Option<ValueFault>, AllocError>
     requires { IsFieldType ty.now }
     ensures fault { IfOk result (λ fault. fault ≡ fault_of ty.now value.now) }
     ensures written { IfOk result (λ fault. fault ≡ None → image.new.items ≡ image.old.items ++ written ty.now value.now) }

@@ -30,7 +30,7 @@ returns-in-Some c =
     ∙ record_written-fields c.as_slice-fields.result.now c.args.values.now same
     ∙ sym c.loop-i.invariant
     ∙ goes_on-fault c.loop-i.image.items c.loop-i.i c.as_slice-fields.result.now c.args.values.now (get_or c.as_slice-fields.result.now c.loop-i.i c.index-fields-i.result) c.index-values-i.result c.in-Some.cause
-      c.loop-i-test.true (ap (get_or c.as_slice-fields.result.now c.loop-i.i) c.index-fields-i.is) within c.index-values-i.is (sym given ∙ c.in-Some.is)
+    c.loop-i-test.true (ap (get_or c.as_slice-fields.result.now c.loop-i.i) c.index-fields-i.is) within c.index-values-i.is (sym given ∙ c.in-Some.is)
 
 pub loop-i-preserved : goal.loop-i-preserved
 loop-i-preserved c =
@@ -39,7 +39,7 @@ loop-i-preserved c =
     let within : c.loop-i.i < length c.args.values.now = omega arith in
     ap (λ (image : List ℕ). goes_on image (c.loop-i.i + 1) c.as_slice-fields.result.now c.args.values.now) (c.in_ok-cause.ensures.written none)
     ∙ goes_on-more c.loop-i.image.items c.loop-i.i c.as_slice-fields.result.now c.args.values.now (get_or c.as_slice-fields.result.now c.loop-i.i c.index-fields-i.result) c.index-values-i.result
-      c.loop-i-test.true (ap (get_or c.as_slice-fields.result.now c.loop-i.i) c.index-fields-i.is) within c.index-values-i.is (sym c.in_ok-cause.ensures.fault ∙ none)
+    c.loop-i-test.true (ap (get_or c.as_slice-fields.result.now c.loop-i.i) c.index-fields-i.is) within c.index-values-i.is (sym c.in_ok-cause.ensures.fault ∙ none)
     ∙ c.loop-i.invariant
 
 pub returns : goal.returns

@@ -44,11 +44,11 @@ returns-in-Err-clause-bad c =
     let room = field-room c.as_slice-fields.result.now c.loop-field.field-index c.field-item.result c.args.image.now c.loop-field.from c.loop-field-test.true is c.loop-field.invariant.place long in
     let wide : c.loop-field.from + c.width.result - c.loop-field.from ≡ width c.field-item.result.ty = omega (arith, c.width.ensures) in
     λ at e.
-      (let inner : c.in_record.result ≡ BadImage (record { at = at }) = cc in
-       subst (λ (fs : List Field). IsRecordBadAt fs c.args.image.now at) c.as_slice-fields.ensures.fields
-       (IsRecordBadAt-moved c.as_slice-fields.result.now c.loop-field.field-index c.field-item.result c.args.image.now
-         (take (c.loop-field.from + c.width.result - c.loop-field.from) (drop c.loop-field.from c.args.image.now)) c.loop-field.from c.loop-field.values.items c.in-Err.fault laid.lies c.loop-field-test.true is c.loop-field.invariant.place room c.loop-field.invariant.held
-         (ap (λ (n : ℕ). take n (drop c.loop-field.from c.args.image.now)) wide) c.in-Err.ensures.bad at (sym c.in_record.ensures ∙ inner)))
+    (let inner : c.in_record.result ≡ BadImage (record { at = at }) = cc in
+    subst (λ (fs : List Field). IsRecordBadAt fs c.args.image.now at) c.as_slice-fields.ensures.fields
+    (IsRecordBadAt-moved c.as_slice-fields.result.now c.loop-field.field-index c.field-item.result c.args.image.now
+    (take (c.loop-field.from + c.width.result - c.loop-field.from) (drop c.loop-field.from c.args.image.now)) c.loop-field.from c.loop-field.values.items c.in-Err.fault laid.lies c.loop-field-test.true is c.loop-field.invariant.place room c.loop-field.invariant.held
+    (ap (λ (n : ℕ). take n (drop c.loop-field.from c.args.image.now)) wide) c.in-Err.ensures.bad at (sym c.in_record.ensures ∙ inner)))
 
 pub loop-field-preserved : goal.loop-field-preserved
 loop-field-preserved c =
@@ -58,9 +58,9 @@ loop-field-preserved c =
     let wide : c.loop-field.from + c.width.result - c.loop-field.from ≡ width c.field-item.result.ty = omega (arith, c.width.ensures) in
     let more = record_length-more c.as_slice-fields.result.now c.loop-field.field-index c.field-item.result c.loop-field-test.true is in
     let there : held c.field-item.result.ty (part c.loop-field.from (width c.field-item.result.ty) c.args.image.now) ≡ Some c.in-Ok.value =
-      subst (λ (n : ℕ). held c.field-item.result.ty (take n (drop c.loop-field.from c.args.image.now)) ≡ Some c.in-Ok.value) wide c.in-Ok.ensures.value in
+    subst (λ (n : ℕ). held c.field-item.result.ty (take n (drop c.loop-field.from c.args.image.now)) ≡ Some c.in-Ok.value) wide c.in-Ok.ensures.value in
     let step = fields_held-more c.as_slice-fields.result.now c.loop-field.field-index c.field-item.result c.args.image.now c.loop-field.from c.loop-field.values.items c.in-Ok.value
-      c.loop-field-test.true is c.loop-field.invariant.place room c.loop-field.invariant.held there in
+    c.loop-field-test.true is c.loop-field.invariant.place room c.loop-field.invariant.held there in
     record {
       place = omega (arith, more, c.width.ensures, c.loop-field.invariant.place);
       held = (let given = c.in_ok-add-in-Ok.ensures in rw (c.width.ensures, given) step);
