@@ -182,12 +182,12 @@ sign-small false = lit< tt
 spare-written : (n m s : ℕ) → m < 10 ^ n → s < 16 → is_spare_clear n (packed_bytes (digits_in 10 (suc (n / 2 + n / 2)) m) s) ≡ true
 spare-written n m s small lt =
     elim (cases_lt 0 (n % 2)) [
-      inl odd ↦ odd-clear n (packed_bytes (digits_in 10 (suc (n / 2 + n / 2)) m) s) (omega arith)
-    | inr even ↦
-        (let double : n / 2 + n / 2 ≡ n = omega arith in
-         let none : m / 10 ^ (n / 2 + n / 2) % 10 ≡ 0 = rw double (ap (λ (k : ℕ). k % 10) (div-eq_of_lt small)) in
-         subst (λ (k : ℕ). is_spare_clear n (packed_bytes (k ∷ digits_in 10 (n / 2 + n / 2) m) s) ≡ true) (sym none)
-         (clear-first n (digits_in 10 (n / 2 + n / 2) m) s lt (are_digits_in 10 (n / 2 + n / 2) m (lit< tt))))
+      | inl odd ↦ odd-clear n (packed_bytes (digits_in 10 (suc (n / 2 + n / 2)) m) s) (omega arith)
+      | inr even ↦
+          (let double : n / 2 + n / 2 ≡ n = omega arith in
+          let none : m / 10 ^ (n / 2 + n / 2) % 10 ≡ 0 = rw double (ap (λ (k : ℕ). k % 10) (div-eq_of_lt small)) in
+          subst (λ (k : ℕ). is_spare_clear n (packed_bytes (k ∷ digits_in 10 (n / 2 + n / 2) m) s) ≡ true) (sym none)
+          (clear-first n (digits_in 10 (n / 2 + n / 2) m) s lt (are_digits_in 10 (n / 2 + n / 2) m (lit< tt))))
     ]
 
 packed-stands : (n d : ℕ) (z : ℤ) (w : List ℕ) (s m : ℕ) → length w ≡ packed_width n → is_packed w ≡ true → is_spare_clear n w ≡ true → low_half (last_byte w) ≡ s → number_in 10 (packed_digits w) ≡ m → signed (is_minus s) m ≡ z → stands (field Packed n d) (decimal d z) w
@@ -203,8 +203,8 @@ packed-written n d z small =
     let wide : unsigned_abs z < 10 ^ suc (n / 2 + n / 2) = (let power : 10 ^ n ≤ 10 ^ suc (n / 2 + n / 2) = pow-le-pow_right (lit< tt) (let le : n ≤ suc (n / 2 + n / 2) = omega arith in le) in omega arith) in
     subst (λ (k : ℕ). stands (field Packed n d) (decimal d z) (packed_bytes (digits_in 10 k (unsigned_abs z)) (sign_of (is_negative z)))) (sym count)
     (packed-stands n d z (packed_bytes (digits_in 10 (suc (n / 2 + n / 2)) (unsigned_abs z)) (sign_of (is_negative z))) (sign_of (is_negative z)) (unsigned_abs z)
-      (h.long ∙ sym (add-one (n / 2))) h.packed (spare-written n (unsigned_abs z) (sign_of (is_negative z)) small (sign-small (is_negative z))) h.sign
-      (ap (number_in 10) h.digits ∙ number_in-digits_in_all 10 (suc (n / 2 + n / 2)) (unsigned_abs z) (lit< tt) wide) (sign-read z))
+    (h.long ∙ sym (add-one (n / 2))) h.packed (spare-written n (unsigned_abs z) (sign_of (is_negative z)) small (sign-small (is_negative z))) h.sign
+    (ap (number_in 10) h.digits ∙ number_in-digits_in_all 10 (suc (n / 2 + n / 2)) (unsigned_abs z) (lit< tt) wide) (sign-read z))
 
 -- two's complement is read as it is written
 twos-read : (w : ℕ) (z : ℤ) → 2 * unsigned_abs z < 256 ^ w → twos_complement w (cond (is_negative z) (256 ^ w - unsigned_abs z) (unsigned_abs z)) ≡ z
