@@ -1,15 +1,15 @@
 -- What follows of two's complement: against the words of `byteorder`, and with the sign's bit turned.
-use Rattle.std.proofs.Common.{◌≡◌, ◌≢◌, ℕ, zero, suc, ◌+◌, ◌-◌, ◌*◌, ◌/◌, ◌%◌, ◌^◌, ◌<◌, ◌≤◌, Bool, true, false, not, cond, ◌&&◌, ◌==◌, nat_lt, nat_le, Option, Some, None, is_some, ◌⊎◌, inl, inr, ℤ, pos, negsuc, neg_ℤ, ◌-ℤ◌, unsigned_abs, List, [], ◌∷◌, ◌++◌, length, take, drop, map, set, get_or, Fits, FitsSigned, w8, refl, sym, ◌∙◌, ap, subst, arith, lit<}
+use Rattle.std.proofs.Common.{◌≡◌, ℕ, zero, suc, ◌+◌, ◌-◌, ◌*◌, ◌/◌, ◌%◌, ◌^◌, ◌<◌, ◌≤◌, Bool, true, false, cond, ◌&&◌, ◌==◌, nat_lt, Option, Some, None, is_some, ◌⊎◌, inl, inr, ℤ, pos, negsuc, neg_ℤ, ◌-ℤ◌, unsigned_abs, List, [], ◌∷◌, ◌++◌, length, take, drop, map, set, get_or, Fits, FitsSigned, w8, refl, sym, ◌∙◌, ap, subst, arith, lit<}
 use Rattle.std.specs.List.{list_all}
 use Rattle.std.specs.Int.{w64, bytes_high_first, cast_unsigned}
 use Rattle.std.proofs.lemmas.List.{drop_all, length-drop}
 use Rattle.std.proofs.lemmas.Nat.{pow-add, one_shl}
 use Rattle.std.proofs.lemmas.Bool.{and_parts, and_from, eqb-true, eq-eqb, ne_eqb, ltb-true, lt-ltb, le-ltb, le-leb, lt-leb, cases_lt, cases_eq}
-use Rattle.std.proofs.Math.Nat.{pow-suc, pow-zero, one-le-pow, div-one, div-add-mod, mul-le-mul_right, mod-lt, mul_comm, suc-add, pow-le-pow_right}
+use Rattle.std.proofs.Math.Nat.{pow-suc, one-le-pow, div-one, div-add-mod, mul-le-mul_right, mod-lt, mul_comm, suc-add, pow-le-pow_right}
 use Rattle.std.proofs.Math.Seq.{drop-cons, take-append_seam}
 use Rattle.byteorder.specs.Endian as endian
 use Rattle.field_types.specs.FieldTypes.{is_between, binary_width}
-use Rattle.field_types.specs.Digits.{number_in, digits_in, is_negative}
+use Rattle.field_types.specs.Digits.{number_in, digits_in}
 use Rattle.field_types.specs.Binary.{is_byte, twos_complement, binary_number, binary_bytes}
 use Rattle.field_types.specs.Bounds.{spells_between, digit_from}
 use Rattle.field_types.specs.FirstBad.{IsFirstBad, TellsFirstBad}

@@ -1,9 +1,7 @@
 -- Where a text stops being the beginning of a date.
-use Rattle.std.proofs.Common.{◌≡◌, ℕ, zero, suc, ◌+◌, ◌-◌, ◌<◌, ◌≤◌, Bool, true, false, ◌&&◌, ◌||◌, ◌==◌, nat_le, List, [], ◌∷◌, ◌++◌, length, take, drop, slice_index, refl, sym, ◌∙◌, ap, arith, cond}
-use Rattle.std.specs.List.{list_all}
+use Rattle.std.proofs.Common.{◌≡◌, ℕ, suc, ◌≤◌, true, ◌||◌, ◌==◌, List, [], ◌∷◌, ◌++◌, length, take, slice_index, refl, arith, cond}
 use Rattle.std.proofs.lemmas.List.{length-take-le}
 use Rattle.std.proofs.lemmas.Bool.{and_parts, and_from, eqb-true, eq-eqb, le-leb, cond_both}
-use Rattle.field_types.specs.FieldTypes.{is_between}
 use Rattle.field_types.specs.Moments.{spells, spells_in, spelled, is_date, days_in_month, is_leap_year}
 use Rattle.field_types.specs.FirstBad.{IsFirstBad, IsBadPart, part}
 use Rattle.field_types.proofs.MomentLemmas.{IsFirstBad-part, IsFirstBad-mark}

@@ -1,11 +1,11 @@
 -- What follows of digits, and of the number that they are.
-use Rattle.std.proofs.Common.{◌≡◌, ℕ, zero, suc, ◌+◌, ◌-◌, ◌*◌, ◌/◌, ◌%◌, ◌^◌, ◌<◌, ◌≤◌, Bool, true, false, ◌&&◌, nat_lt, List, [], ◌∷◌, ◌++◌, length, take, drop, map, get_or, refl, sym, ◌∙◌, ap, arith, length-append, length-take-le, add-one, lit<}
+use Rattle.std.proofs.Common.{◌≡◌, ℕ, zero, suc, ◌+◌, ◌*◌, ◌/◌, ◌%◌, ◌^◌, ◌<◌, ◌≤◌, true, nat_lt, List, [], ◌∷◌, ◌++◌, length, take, map, get_or, refl, sym, ◌∙◌, ap, arith, length-append, length-take-le, lit<}
 use Rattle.std.proofs.lemmas.List.{length-map, map_more}
 use Rattle.std.specs.List.{list_all}
-use Rattle.std.proofs.Math.Nat.{pow-suc, pow-zero, mul-one, zero-mul, zero-add, mul-le-mul_right, mul-add-div_right, mod-eq_of_lt, div-eq_of_lt, mul-add-mod_self_right, mod-lt, div-add-mod, div-div-eq-div-mul, one-le-pow, mul-div_left, mod-one, add-mul-mod_self_left, add-mul-div_right, add-mul-mod_self_right, pow-le-pow_right}
+use Rattle.std.proofs.Math.Nat.{pow-suc, pow-zero, mul-le-mul_right, mul-add-div_right, mod-eq_of_lt, div-eq_of_lt, mod-lt, div-add-mod, one-le-pow, mod-one, add-mul-mod_self_left, add-mul-div_right, add-mul-mod_self_right, pow-le-pow_right}
 use Rattle.std.proofs.lemmas.Nat.{pow-add}
 use Rattle.std.proofs.lemmas.Bool.{ltb-true, lt-ltb, and_parts, and_from}
-use Rattle.field_types.specs.Digits.{number_in, digits_in, low_half, high_half}
+use Rattle.field_types.specs.Digits.{number_in, digits_in, low_half}
 
 pub number_in-append : (base : ℕ) (xs ys : List ℕ) → number_in base (xs ++ ys) ≡ number_in base xs * base ^ length ys + number_in base ys
 number_in-append base [] ys = omega arith

@@ -1,10 +1,10 @@
 -- Where bytes stop being the beginning of a list whose bytes pass one test and whose last byte passes another.
-use Rattle.std.proofs.Common.{◌≡◌, ℕ, zero, suc, ◌+◌, ◌<◌, ◌≤◌, Bool, true, false, not, cond, ◌&&◌, ◌||◌, ◌==◌, Option, Some, None, List, [], ◌∷◌, ◌++◌, length, take, refl, sym, ◌∙◌, ap, subst, arith, length-append, add-one, position, option_map, if◌then◌else◌}
+use Rattle.std.proofs.Common.{◌≡◌, ℕ, zero, suc, Bool, true, false, not, cond, ◌&&◌, ◌==◌, Option, Some, None, List, [], ◌∷◌, ◌++◌, length, refl, sym, ◌∙◌, ap, subst, arith, length-append, position, option_map}
 use Rattle.std.specs.Option.{option_or}
-use Rattle.std.proofs.lemmas.Bool.{and_parts, and_from, eqb-true, eq-eqb, ne_eqb}
+use Rattle.std.proofs.lemmas.Bool.{and_parts, and_from, eqb-true, eq-eqb}
 use Rattle.std.proofs.lemmas.Bool.Decides.{nat_tests}
 use Rattle.field_types.specs.Digits.{ends_pass}
-use Rattle.field_types.specs.FirstBad.{IsFirstBad, TellsFirstBad}
+use Rattle.field_types.specs.FirstBad.{TellsFirstBad}
 use Rattle.field_types.proofs.FirstBadLemmas.{IsFirstBad-head, TellsFirstBad-behind, TellsFirstBad-same, first_failing, position-first_failing}
 
 -- n bytes that pass

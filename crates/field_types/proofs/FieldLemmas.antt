@@ -1,5 +1,5 @@
 -- What stands in a field, kind by kind, and what of a number's field follows from its faults.
-use Rattle.std.proofs.Common.{◌≡◌, ℕ, zero, suc, ◌+◌, ◌-◌, ◌*◌, ◌/◌, ◌%◌, ◌^◌, ◌<◌, ◌≤◌, ◌↔◌, Bool, true, false, not, cond, ◌&&◌, ◌==◌, nat_lt, nat_le, IsTrue, Option, Some, None, is_some, option_map, Result, Ok, Err, ◌⊎◌, inl, inr, ℤ, pos, unsigned_abs, List, [], ◌∷◌, ◌++◌, length, take, drop, map, refl, sym, ◌∙◌, ap, subst, arith, append_assoc}
+use Rattle.std.proofs.Common.{◌≡◌, ℕ, ◌+◌, ◌*◌, ◌^◌, ◌<◌, ◌≤◌, ◌↔◌, Bool, true, false, cond, ◌&&◌, ◌==◌, nat_lt, IsTrue, Option, Some, None, is_some, option_map, Result, Ok, Err, inl, inr, ℤ, unsigned_abs, List, ◌++◌, length, take, drop, map, refl, sym, ◌∙◌, ap, subst, arith, append_assoc}
 use Rattle.std.specs.List.{list_all}
 use Rattle.std.proofs.lemmas.List.{take-append-drop, take-take}
 use Rattle.std.proofs.lemmas.Bool.{and_parts, eqb-true, eq-eqb, leb-false, cases_order, both_ways}
@@ -8,17 +8,16 @@ use Rattle.field_types.specs.declared.kinds.Kind.TheVariants.{Char, Zoned, Packe
 use Rattle.field_types.specs.declared.kinds.FieldType.{FieldType}
 use Rattle.field_types.specs.declared.values.Dec.{Dec}
 use Rattle.field_types.specs.declared.values.Value.{Value}
-use Rattle.field_types.specs.declared.values.Value.TheVariants.{Chars, Number}
+use Rattle.field_types.specs.declared.values.Value.TheVariants.{Chars}
 use Rattle.field_types.specs.declared.fields.ImageFault.{ImageFault}
 use Rattle.field_types.specs.declared.fields.ImageFault.TheVariants.{BadImage, NoMemory}
-use Rattle.field_types.specs.declared.faults.ValueFault.{ValueFault}
 use Rattle.field_types.specs.declared.faults.ValueFault.TheVariants.{TooManyDecimals, TooWide}
 use Rattle.field_types.specs.FieldTypes.{IsFieldType, is_allowed, is_numeric, width, width_of, packed_width, binary_width}
 use Rattle.field_types.specs.Digits.{number_in, signed, is_minus, high_half, low_half, last_byte}
-use Rattle.field_types.specs.Zoned.{is_zoned, zoned_number}
-use Rattle.field_types.specs.Packed.{is_packed, is_spare_clear, packed_number, packed_digits}
+use Rattle.field_types.specs.Zoned.{is_zoned}
+use Rattle.field_types.specs.Packed.{is_packed, is_spare_clear, packed_digits}
 use Rattle.field_types.specs.Binary.{is_byte, binary_number, twos_complement}
-use Rattle.field_types.specs.Moments.{is_date, is_time, is_timestamp, is_moment}
+use Rattle.field_types.specs.Moments.{is_date, is_time, is_timestamp}
 use Rattle.field_types.specs.FirstBad.{IsFirstBad, TellsFirstBad}
 use Rattle.field_types.specs.FieldBytes.{held, stands, IsBadAt, decimal, units_at, number_fault, has_more_decimals, is_too_wide}
 use Rattle.field_types.proofs.FirstBadLemmas.{TellsFirstBad-same, IsFirstBad-false}

@@ -1,12 +1,11 @@
 -- Where bytes stop being the beginning of a list that passes a test: byte by byte, and part by part.
-use Rattle.std.proofs.Common.{◌≡◌, ℕ, zero, suc, ◌+◌, ◌-◌, ◌<◌, ◌≤◌, Bool, true, false, not, cond, ◌&&◌, ◌==◌, nat_lt, Option, Some, None, List, [], ◌∷◌, ◌++◌, length, take, drop, refl, sym, ◌∙◌, ap, arith, length-append, add-one, append_assoc, position, option_map, if◌then◌else◌, subst, ◌⊎◌, inl, inr, Result, Ok, Err, is_ok}
+use Rattle.std.proofs.Common.{◌≡◌, ℕ, zero, suc, ◌+◌, ◌-◌, ◌<◌, ◌≤◌, Bool, true, false, not, cond, nat_lt, Option, Some, None, List, [], ◌∷◌, ◌++◌, length, take, drop, refl, sym, ◌∙◌, ap, arith, length-append, append_assoc, position, option_map, if◌then◌else◌, subst, inl, inr, Result, Ok, Err, is_ok}
 use Rattle.std.specs.Result.{result_err}
-use Rattle.std.specs.List.{list_all, prefix_len, position_or_len}
+use Rattle.std.specs.List.{position_or_len}
 use Rattle.std.proofs.lemmas.List.{take-append-le, length-take-le, take-append-drop}
-use Rattle.std.proofs.lemmas.Bool.{and_parts, and_from, eqb-true, eq-eqb, ltb-true, ltb-false, lt-ltb, le-ltb, cases_Bool}
+use Rattle.std.proofs.lemmas.Bool.{cases_Bool}
 use Rattle.std.proofs.lemmas.Bool.Decides.{nat_tests}
 use Rattle.std.proofs.Math.Nat.{suc-add, zero-add, sub-zero}
-use Rattle.field_types.specs.Digits.{ends_pass}
 use Rattle.field_types.specs.FirstBad.{IsFirstBad, TellsFirstBad}
 
 -- no list that passes begins with the first byte

@@ -1,5 +1,5 @@
 -- Parts of a text: characters that spell numbers, and where a text stops being the beginning of a date or a time.
-use Rattle.std.proofs.Common.{◌≡◌, ℕ, zero, suc, ◌+◌, ◌-◌, ◌*◌, ◌/◌, ◌%◌, ◌^◌, ◌<◌, ◌≤◌, Bool, true, false, ◌&&◌, ◌==◌, nat_lt, Option, Some, None, List, [], ◌∷◌, ◌++◌, length, take, drop, map, get_or, slice_index, Fits, w8, refl, sym, ◌∙◌, ap, subst, arith, length-append, append_assoc, lit<}
+use Rattle.std.proofs.Common.{◌≡◌, ℕ, zero, suc, ◌+◌, ◌-◌, ◌/◌, ◌%◌, ◌<◌, ◌≤◌, Bool, true, ◌&&◌, ◌==◌, nat_lt, Option, Some, None, List, [], ◌∷◌, ◌++◌, length, take, drop, map, get_or, slice_index, Fits, w8, refl, sym, ◌∙◌, ap, subst, arith}
 use Rattle.std.specs.List.{list_all}
 use Rattle.std.proofs.lemmas.List.{length-map, length-take-le, length-drop, take-append-drop}
 use Rattle.std.proofs.lemmas.List.{append-nil}
@@ -7,7 +7,7 @@ use Rattle.std.proofs.lemmas.Bool.{and_parts, and_from, eqb-true, eq-eqb, ltb-tr
 use Rattle.std.proofs.Math.Seq.{drop-cons}
 use Rattle.std.proofs.Math.Nat.{add-sub_cancel_left}
 use Rattle.field_types.specs.FieldTypes.{is_between}
-use Rattle.field_types.specs.Digits.{number_in, low_half, high_half}
+use Rattle.field_types.specs.Digits.{number_in, low_half}
 use Rattle.field_types.specs.Zoned.{is_zone_digit}
 use Rattle.field_types.specs.Binary.{is_byte}
 use Rattle.field_types.specs.Bounds.{spells_between, digit_from}

@@ -1,15 +1,15 @@
 -- A magnitude under other decimals: exact or not, and what that says of a field.
-use Rattle.std.proofs.Common.{◌≡◌, ℕ, zero, suc, ◌+◌, ◌-◌, ◌*◌, ◌/◌, ◌%◌, ◌^◌, ◌<◌, ◌≤◌, Bool, true, false, not, cond, ◌==◌, nat_le, Option, Some, None, Result, Ok, Err, ℤ, pos, negsuc, neg_ℤ, unsigned_abs, refl, sym, ◌∙◌, ap, subst, arith, lit<, if◌then◌else◌, ok_or}
+use Rattle.std.proofs.Common.{◌≡◌, ℕ, zero, suc, ◌+◌, ◌-◌, ◌*◌, ◌/◌, ◌%◌, ◌^◌, ◌<◌, ◌≤◌, Bool, true, false, cond, ◌==◌, nat_le, Option, Some, None, Err, unsigned_abs, refl, sym, ◌∙◌, ap, arith, lit<, ok_or}
 use Rattle.std.specs.Option.{SomeIff}
 use Rattle.std.specs.Bool.{then_some}
 use Rattle.std.proofs.lemmas.Nat.{pow-add}
-use Rattle.std.proofs.lemmas.Bool.{eqb-true, eqb-false, eq-eqb, ne_eqb, le-leb, lt-leb}
+use Rattle.std.proofs.lemmas.Bool.{eqb-true, eqb-false, eq-eqb, ne_eqb, le-leb}
 use Rattle.std.proofs.Math.Nat.{one-le-pow, pow-le-pow_right, mul-div_left, mul-mod_left, mul_assoc, dvd_of_mod-eq-zero, mod-eq-zero_of_dvd, dvd_of_mul-dvd-mul_right, le_of_dvd, div-mul_cancel, zero-mod, zero-div}
 use Rattle.field_types.specs.declared.faults.ValueFault.{ValueFault}
 use Rattle.field_types.specs.declared.faults.ValueFault.TheVariants.{WrongKind, TooManyDecimals, TooWide, BadDate, ReadOnlyField}
 use Rattle.field_types.specs.declared.values.Dec.{Dec}
 use Rattle.field_types.specs.Digits.{signed, is_negative}
-use Rattle.field_types.specs.FieldBytes.{Rescaled, units_at, number_fault, has_more_decimals, is_too_wide}
+use Rattle.field_types.specs.FieldBytes.{Rescaled, units_at, number_fault}
 
 pub some-power : (n : ℕ) → 0 < 10 ^ n
 some-power n = one-le-pow n 10 (lit< tt)

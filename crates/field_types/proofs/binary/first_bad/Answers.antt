@@ -1,8 +1,7 @@
-use Rattle.std.proofs.Common.{◌≡◌, ◌+◌, ◌-◌, ◌*◌, ◌%◌, ◌^◌, ◌<◌, ◌≤◌, ◌++◌, ◌∷◌, [], ℕ, length, take, drop, set, get_or, arith, lit<, sym, ap, ◌∙◌}
+use Rattle.std.proofs.Common.{◌-◌, ◌*◌, ◌^◌, ◌≤◌, ◌∷◌, [], length, drop, arith, lit<, ap}
 use Rattle.std.proofs.Math.Nat.{pow-le-pow_right}
-use Rattle.field_types.specs.FieldTypes.{binary_width}
 use Rattle.field_types.proofs.ScaleLemmas.{some-power}
-use Rattle.field_types.proofs.BinaryLemmas.{binary-room, binary_width-bounds, middle-bits, middle-shift, turned-array, turned_front, turned_front-length, IsFirstBad-binary}
+use Rattle.field_types.proofs.BinaryLemmas.{binary-room, binary_width-bounds, middle-bits, middle-shift, turned-array, turned_front-length, IsFirstBad-binary}
 use Rattle.field_types.proofs.binary.first_bad.Goals as goal
 
 pub overflow_sub-most : goal.overflow_sub-most

@@ -1,4 +1,4 @@
-use Rattle.std.proofs.Common.{◌≡◌, ◌<◌, ◌^◌, ◌∙◌, ap, length, arith, rules, FitsSigned, lit<}
+use Rattle.std.proofs.Common.{◌<◌, ◌^◌, ◌∙◌, ap, length, rules, FitsSigned, lit<}
 use Rattle.std.specs.Int.{w64}
 use Rattle.std.proofs.lemmas.Int.{to_z-of_z}
 use Rattle.byteorder.specs.Endian as endian

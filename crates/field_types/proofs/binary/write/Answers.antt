@@ -1,4 +1,4 @@
-use Rattle.std.proofs.Common.{◌≡◌, ◌*◌, ◌%◌, ◌^◌, ◌∙◌, ap, length, drop, arith, rules, FitsSigned}
+use Rattle.std.proofs.Common.{◌*◌, ◌%◌, ◌^◌, ◌∙◌, length, arith, FitsSigned}
 use Rattle.std.specs.Int.{w64, w128, bytes_high_first, cast_unsigned}
 use Rattle.std.proofs.lemmas.Int.{to_z-of_z}
 use Rattle.std.proofs.lemmas.List.{drop_all, append-nil}

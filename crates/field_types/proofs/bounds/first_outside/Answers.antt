@@ -1,4 +1,4 @@
-use Rattle.std.proofs.Common.{◌≡◌, ◌+◌, ◌-◌, ◌*◌, ◌/◌, ◌^◌, ◌<◌, ◌≤◌, ◌∷◌, ◌⊎◌, ◌&&◌, inl, inr, nat_le, nat_lt, false, true, ℕ, length, drop, map, get_or, arith, sym, ◌∙◌}
+use Rattle.std.proofs.Common.{◌≡◌, ◌+◌, ◌-◌, ◌*◌, ◌/◌, ◌^◌, ◌<◌, ◌≤◌, ◌∷◌, ◌⊎◌, inl, inr, nat_le, nat_lt, length, drop, map, arith, sym, ◌∙◌}
 use Rattle.std.proofs.Math.Nat.{sub-zero, zero-add}
 use Rattle.std.proofs.lemmas.List.{length-map}
 use Rattle.std.proofs.lemmas.Bool.{and_parts, leb-true, ltb-true}

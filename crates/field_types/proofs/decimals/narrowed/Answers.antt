@@ -1,4 +1,4 @@
-use Rattle.std.proofs.Common.{◌≡◌, ◌^◌, ◌<◌, ◌==◌, refl, arith}
+use Rattle.std.proofs.Common.{◌^◌, ◌<◌, ◌==◌, refl, arith}
 use Rattle.field_types.proofs.ScaleLemmas.{some-power, SomeIff-high_power}
 use Rattle.field_types.proofs.decimals.narrowed.Goals as goal
 

@@ -1,4 +1,4 @@
-use Rattle.std.proofs.Common.{◌≡◌, ◌+◌, ◌*◌, ◌<◌, ◌≤◌, ℕ, map, take, length, arith, ◌∙◌, sym, ap}
+use Rattle.std.proofs.Common.{◌≡◌, map, take, arith, ap}
 use Rattle.std.proofs.lemmas.List.{take_all}
 use Rattle.field_types.specs.Digits.{number_in, low_half}
 use Rattle.field_types.proofs.DigitLemmas.{number_in-halves, number_in-halves_take, number_in-halves_more}

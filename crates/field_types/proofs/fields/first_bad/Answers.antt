@@ -1,5 +1,4 @@
-use Rattle.std.proofs.Common.{◌≡◌, ℕ, Option, List, length, ◌==◌, ◌&&◌, is_some, subst}
-use Rattle.field_types.specs.Moments.{is_date, is_time, is_timestamp}
+use Rattle.std.proofs.Common.{ℕ, length, ◌==◌, ◌&&◌, is_some, subst}
 use Rattle.field_types.specs.Binary.{binary_number}
 use Rattle.field_types.specs.Packed.{is_packed, is_spare_clear}
 use Rattle.field_types.specs.FirstBad.{TellsFirstBad}

@@ -1,4 +1,4 @@
-use Rattle.std.proofs.Common.{◌≡◌, ◌∙◌, Err}
+use Rattle.std.proofs.Common.{◌≡◌, Err}
 use Rattle.field_types.specs.declared.fields.ImageFault.TheVariants.{NoMemory}
 use Rattle.std.proofs.lemmas.Result.{err_from_is_err_and}
 use Rattle.field_types.proofs.FieldLemmas.{names-bad, names-none}

@@ -1,8 +1,7 @@
-use Rattle.std.proofs.Common.{◌≡◌, FitsSigned, ℤ, rules, subst, sym, ◌∙◌, false, refl, inl, inr}
+use Rattle.std.proofs.Common.{◌≡◌, FitsSigned, rules, subst, sym, ◌∙◌, false, refl, inl, inr}
 use Rattle.std.specs.Int.{w64, w128}
 use Rattle.std.proofs.lemmas.Int.{to_z-of_z}
 use Rattle.field_types.specs.declared.values.Value.{Value}
-use Rattle.field_types.specs.declared.values.Value.TheVariants.{Chars}
 use Rattle.field_types.specs.FieldTypes.{is_numeric}
 use Rattle.field_types.specs.FieldBytes.{stands, decimal}
 use Rattle.field_types.proofs.FieldLemmas.{stands-zoned, stands-packed, stands-binary, stands-text}

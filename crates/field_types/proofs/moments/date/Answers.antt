@@ -1,4 +1,4 @@
-use Rattle.std.proofs.Common.{◌≡◌, ℕ, subst, arith}
+use Rattle.std.proofs.Common.{◌≡◌, ℕ, subst}
 use Rattle.std.proofs.lemmas.Result.{err_from_is_err_and}
 use Rattle.field_types.specs.Moments.{is_date, spells_in, spelled, days_in_month}
 use Rattle.field_types.specs.FirstBad.{IsBadPart, part}

@@ -1,4 +1,4 @@
-use Rattle.std.proofs.Common.{◌≡◌, ◌∙◌}
+use Rattle.std.proofs.Common.{◌∙◌}
 use Rattle.field_types.specs.Moments.{is_date, is_time, is_timestamp}
 use Rattle.field_types.proofs.FirstBadLemmas.{TellsFirstBad-is_ok}
 use Rattle.field_types.proofs.moments.is_moment.Goals as goal

@@ -1,5 +1,5 @@
 use Rattle.field_types.proofs.MomentLemmas.{IsBadPart-spelled, spells-part, part-range}
-use Rattle.std.proofs.Common.{◌≡◌, ◌∙◌, ◌+◌, ◌-◌, ap, take, drop, map}
+use Rattle.std.proofs.Common.{◌∙◌, ◌+◌, ◌-◌, ap, take, drop, map}
 use Rattle.field_types.specs.Digits.{number_in, low_half}
 use Rattle.field_types.proofs.moments.number.Goals as goal
 

@@ -1,7 +1,5 @@
-use Rattle.std.proofs.Common.{◌≡◌, ℕ, arith, refl}
 use Rattle.std.proofs.lemmas.Result.{err_from_is_err_and}
 use Rattle.field_types.specs.Moments.{is_time}
-use Rattle.field_types.specs.FirstBad.{IsBadPart}
 use Rattle.field_types.proofs.FirstBadLemmas.{TellsFirstBad-err}
 use Rattle.field_types.proofs.TimeLemmas.{time-hour, time-first_period, time-minute, time-second_period, time-second}
 use Rattle.field_types.proofs.moments.time.Goals as goal

@@ -1,6 +1,6 @@
-use Rattle.std.proofs.Common.{◌≡◌, ◌+◌, ◌-◌, List, ℕ, ap, subst, sym, ◌∙◌, take, drop, refl, true}
+use Rattle.std.proofs.Common.{List, ℕ, ap, subst, sym, ◌∙◌, refl}
 use Rattle.field_types.specs.Moments.{is_time}
-use Rattle.field_types.specs.FirstBad.{IsFirstBad, part}
+use Rattle.field_types.specs.FirstBad.{IsFirstBad}
 use Rattle.field_types.proofs.MomentLemmas.{part-range}
 use Rattle.field_types.proofs.moments.time_at.Goals as goal
 

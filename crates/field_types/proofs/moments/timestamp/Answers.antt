@@ -1,7 +1,6 @@
-use Rattle.std.proofs.Common.{◌≡◌, ℕ, arith, refl}
+use Rattle.std.proofs.Common.{arith}
 use Rattle.std.proofs.lemmas.Result.{err_from_is_err_and}
 use Rattle.field_types.specs.Moments.{is_timestamp}
-use Rattle.field_types.specs.FirstBad.{IsBadPart}
 use Rattle.field_types.proofs.FirstBadLemmas.{TellsFirstBad-err}
 use Rattle.field_types.proofs.StampLemmas.{timestamp-date, timestamp-hyphen, timestamp-time, timestamp-period, timestamp-fraction}
 use Rattle.field_types.proofs.moments.timestamp.Goals as goal

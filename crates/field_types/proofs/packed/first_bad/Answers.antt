@@ -1,7 +1,7 @@
-use Rattle.std.proofs.Common.{refl, rules, ◌≡◌, ◌<◌, ◌++◌, ◌∷◌, [], List, ℕ, Option, Some, None, true, false, not, cond, position, length, subst, sym, ◌∙◌, arith}
+use Rattle.std.proofs.Common.{refl, rules, ◌≡◌, ◌<◌, ◌++◌, ◌∷◌, [], ℕ, Option, Some, None, not, cond, position, length, subst, sym, ◌∙◌, arith}
 use Rattle.std.specs.Option.{option_or}
 use Rattle.field_types.specs.FirstBad.{TellsFirstBad}
-use Rattle.field_types.specs.Packed.{is_digit_pair, is_digit_sign, is_spare_clear}
+use Rattle.field_types.specs.Packed.{is_digit_pair, is_digit_sign}
 use Rattle.field_types.proofs.EndsLemmas.{passes, TellsFirstBad-ends}
 use Rattle.field_types.proofs.PackedLemmas.{IsFirstBad-spare, TellsFirstBad-clear}
 use Rattle.field_types.proofs.packed.first_bad.Goals as goal

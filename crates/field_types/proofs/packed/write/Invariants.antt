@@ -1,4 +1,4 @@
-use Rattle.std.proofs.Common.{◌≡◌, ◌+◌, ◌-◌, ◌*◌, ◌/◌, ◌^◌, ◌<◌, ◌≤◌, ◌++◌, length, take, unsigned_abs}
+use Rattle.std.proofs.Common.{◌≡◌, ◌-◌, ◌*◌, ◌/◌, ◌^◌, ◌<◌, ◌++◌, length, take, unsigned_abs}
 use Rattle.field_types.specs.Digits.{digits_in, sign_of, is_negative}
 use Rattle.field_types.specs.Packed.{packed_bytes}
 use Rattle.field_types.proofs.packed.write.Given as goal

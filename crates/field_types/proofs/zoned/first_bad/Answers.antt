@@ -1,4 +1,4 @@
-use Rattle.std.proofs.Common.{refl, rules, ◌≡◌, ◌++◌, ◌∷◌, [], List, ℕ, Option, Some, None, not, cond, position, length, subst, sym}
+use Rattle.std.proofs.Common.{refl, rules, ◌≡◌, ◌++◌, ◌∷◌, [], ℕ, Option, Some, None, not, cond, position, length, subst, sym}
 use Rattle.std.specs.Option.{option_or}
 use Rattle.field_types.specs.FirstBad.{TellsFirstBad}
 use Rattle.field_types.specs.Zoned.{is_zone_digit, is_signed_digit}

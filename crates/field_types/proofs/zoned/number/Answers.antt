@@ -1,8 +1,8 @@
-use Rattle.std.proofs.Common.{◌≡◌, ◌+◌, ◌*◌, ◌^◌, ◌<◌, ◌≤◌, ◌-◌, ℕ, Bool, length, map, get_or, arith, rules, sym, ap, ◌∙◌, lit<, FitsSigned}
+use Rattle.std.proofs.Common.{◌≡◌, ◌^◌, ◌≤◌, ◌-◌, length, get_or, arith, rules, sym, ap, ◌∙◌, lit<, FitsSigned}
 use Rattle.std.specs.Int.{w128}
 use Rattle.std.proofs.lemmas.Int.{to_z-of_z}
 use Rattle.std.proofs.Math.Nat.{pow-le-pow_right}
-use Rattle.field_types.specs.Digits.{number_in, high_half, low_half, is_minus, signed, last_byte}
+use Rattle.field_types.specs.Digits.{high_half, is_minus, signed, last_byte}
 use Rattle.field_types.proofs.PackedLemmas.{last_byte-get_or}
 use Rattle.field_types.proofs.zoned.number.Goals as goal
 

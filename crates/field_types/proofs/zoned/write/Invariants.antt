@@ -1,4 +1,4 @@
-use Rattle.std.proofs.Common.{◌≡◌, ◌+◌, ◌-◌, ◌/◌, ◌^◌, ◌<◌, ◌≤◌, ◌++◌, length, take, unsigned_abs}
+use Rattle.std.proofs.Common.{◌≡◌, ◌-◌, ◌/◌, ◌^◌, ◌<◌, ◌≤◌, ◌++◌, length, take, unsigned_abs}
 use Rattle.field_types.specs.Digits.{digits_in, sign_of, is_negative}
 use Rattle.field_types.specs.Zoned.{zoned_bytes}
 use Rattle.field_types.proofs.zoned.write.Given as goal
