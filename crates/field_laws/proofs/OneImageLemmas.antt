@@ -10,15 +10,15 @@ use Rattle.field_types.specs.declared.kinds.FieldType.{FieldType}
 use Rattle.field_types.specs.declared.values.Dec.{Dec}
 use Rattle.field_types.specs.declared.values.Value.{Value}
 use Rattle.field_types.specs.declared.values.Value.TheVariants.{Chars, Number}
-use Rattle.field_types.specs.FieldTypes.{IsFieldType, packed_width, binary_width}
-use Rattle.field_types.specs.Digits.{number_in, digits_in, is_digit, high_half, low_half, is_minus, is_sign, sign_of, signed, is_negative, last_byte, ends_pass}
-use Rattle.field_types.specs.Zoned.{is_zone_digit, is_signed_digit, is_zoned, zoned_bytes}
-use Rattle.field_types.specs.Packed.{is_digit_pair, is_digit_sign, is_packed, is_spare_clear, packed_digits, packed_bytes}
-use Rattle.field_types.specs.Binary.{is_byte, twos_complement, binary_number, binary_bytes}
-use Rattle.field_types.specs.Moments.{is_date, is_time, is_timestamp}
-use Rattle.field_types.specs.FieldBytes.{held, stands, decimal, written, filled, units_at, number_written}
-use Rattle.field_types.proofs.DigitLemmas.{digits_in-number_in, number_in-lt}
-use Rattle.field_types.proofs.FieldLemmas.{field}
+use Rattle.field_values.specs.FieldTypes.{IsFieldType, packed_width, binary_width}
+use Rattle.field_values.specs.Digits.{number_in, digits_in, is_digit, high_half, low_half, is_minus, is_sign, sign_of, signed, is_negative, last_byte, ends_pass}
+use Rattle.field_values.specs.Zoned.{is_zone_digit, is_signed_digit, is_zoned, zoned_bytes}
+use Rattle.field_values.specs.Packed.{is_digit_pair, is_digit_sign, is_packed, is_spare_clear, packed_digits, packed_bytes}
+use Rattle.field_values.specs.Binary.{is_byte, twos_complement, binary_number, binary_bytes}
+use Rattle.field_values.specs.Moments.{is_date, is_time, is_timestamp}
+use Rattle.field_values.specs.FieldBytes.{held, stands, decimal, written, filled, units_at, number_written}
+use Rattle.field_values.proofs.DigitLemmas.{digits_in-number_in, number_in-lt}
+use Rattle.field_values.proofs.FieldLemmas.{field}
 use Rattle.field_laws.specs.WrittenForm.{is_written_sign, has_written_form}
 
 join-halves : (b : ℕ) → 16 * high_half b + low_half b ≡ b

@@ -13,19 +13,19 @@ use Rattle.field_types.specs.declared.values.Value.{Value}
 use Rattle.field_types.specs.declared.values.Value.TheVariants.{Chars, Number}
 use Rattle.field_types.specs.declared.faults.ValueFault.{ValueFault}
 use Rattle.field_types.specs.declared.faults.ValueFault.TheVariants.{WrongKind, TooManyDecimals, TooWide, BadDate}
-use Rattle.field_types.specs.FieldTypes.{IsFieldType, is_allowed, is_between, is_numeric, packed_width, binary_width}
-use Rattle.field_types.specs.Digits.{number_in, digits_in, is_digit, high_half, low_half, is_minus, is_sign, sign_of, signed, is_negative, last_byte, ends_pass}
-use Rattle.field_types.specs.Zoned.{is_zone_digit, is_signed_digit, is_zoned, zoned_bytes}
-use Rattle.field_types.specs.Packed.{is_digit_pair, is_digit_sign, is_packed, is_spare_clear, packed_digits, packed_bytes}
-use Rattle.field_types.specs.Binary.{is_byte, twos_complement, binary_number, binary_bytes}
-use Rattle.field_types.specs.Moments.{is_moment, is_date, is_time, is_timestamp}
-use Rattle.field_types.specs.FieldBytes.{held, stands, decimal, written, as_held, fault_of, filled, units_at, has_more_decimals, is_too_wide, number_written, text_fault, number_fault}
-use Rattle.field_types.proofs.DigitLemmas.{length-digits_in, number_in-digits_in_all, are_digits_in}
-use Rattle.field_types.proofs.BinaryLemmas.{binary-room}
-use Rattle.field_types.proofs.DateLemmas.{date-parts}
-use Rattle.field_types.proofs.TimeLemmas.{time-parts}
-use Rattle.field_types.proofs.StampLemmas.{timestamp-parts}
-use Rattle.field_types.proofs.FieldLemmas.{field, held-char, held-zoned, held-packed, held-binary, held-date, held-time, held-timestamp, stands-zoned, stands-packed, stands-binary, stands-text}
+use Rattle.field_values.specs.FieldTypes.{IsFieldType, is_allowed, is_between, is_numeric, packed_width, binary_width}
+use Rattle.field_values.specs.Digits.{number_in, digits_in, is_digit, high_half, low_half, is_minus, is_sign, sign_of, signed, is_negative, last_byte, ends_pass}
+use Rattle.field_values.specs.Zoned.{is_zone_digit, is_signed_digit, is_zoned, zoned_bytes}
+use Rattle.field_values.specs.Packed.{is_digit_pair, is_digit_sign, is_packed, is_spare_clear, packed_digits, packed_bytes}
+use Rattle.field_values.specs.Binary.{is_byte, twos_complement, binary_number, binary_bytes}
+use Rattle.field_values.specs.Moments.{is_moment, is_date, is_time, is_timestamp}
+use Rattle.field_values.specs.FieldBytes.{held, stands, decimal, written, as_held, fault_of, filled, units_at, has_more_decimals, is_too_wide, number_written, text_fault, number_fault}
+use Rattle.field_values.proofs.DigitLemmas.{length-digits_in, number_in-digits_in_all, are_digits_in}
+use Rattle.field_values.proofs.BinaryLemmas.{binary-room}
+use Rattle.field_values.proofs.DateLemmas.{date-parts}
+use Rattle.field_values.proofs.TimeLemmas.{time-parts}
+use Rattle.field_values.proofs.StampLemmas.{timestamp-parts}
+use Rattle.field_values.proofs.FieldLemmas.{field, held-char, held-zoned, held-packed, held-binary, held-date, held-time, held-timestamp, stands-zoned, stands-packed, stands-binary, stands-text}
 
 -- a sign that is written, and the digit beside it
 halves-of : (high low : ℕ) → low < 16 → (high_half (16 * high + low) ≡ high) × (low_half (16 * high + low) ≡ low)

@@ -3,8 +3,8 @@
 use Rattle.std.specs.Prelude.{ℕ, Bool, true, not, ◌||◌, ◌&&◌, ◌==◌, List, map}
 use Rattle.field_types.specs.declared.kinds.Kind.{Kind}
 use Rattle.field_types.specs.declared.kinds.Kind.TheVariants.{Char, Zoned, Packed, Binary, Date, Time, Stamp}
-use Rattle.field_types.specs.Digits.{number_in, high_half, low_half, last_byte}
-use Rattle.field_types.specs.Packed.{packed_digits}
+use Rattle.field_values.specs.Digits.{number_in, high_half, low_half, last_byte}
+use Rattle.field_values.specs.Packed.{packed_digits}
 
 -- F, or D where the number isn't 0
 abbrev pub is_written_sign : ℕ → ℕ → Bool

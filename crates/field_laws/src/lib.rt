@@ -4,8 +4,8 @@
 ghost use Rattle.std.specs.Prelude.{◌≡◌, ℕ, List, None, IsTrue};
 ghost use Rattle.field_types.specs.declared.kinds.FieldType.{FieldType};
 ghost use Rattle.field_types.specs.declared.values.Value.{Value};
-ghost use Rattle.field_types.specs.FieldTypes.{IsFieldType};
-ghost use Rattle.field_types.specs.FieldBytes.{fault_of, stands, written, as_held};
+ghost use Rattle.field_values.specs.FieldTypes.{IsFieldType};
+ghost use Rattle.field_values.specs.FieldBytes.{fault_of, stands, written, as_held};
 ghost use Rattle.field_laws.specs.WrittenForm.{has_written_form};
 
 /// What is written for a value that its field doesn't refuse stands for that value as the field holds it:

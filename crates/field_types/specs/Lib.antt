@@ -1,10 +1,1 @@
 pub mod SystemName
-pub mod FieldTypes
-pub mod Digits
-pub mod Bounds
-pub mod FirstBad
-pub mod Zoned
-pub mod Packed
-pub mod Binary
-pub mod Moments
-pub mod FieldBytes

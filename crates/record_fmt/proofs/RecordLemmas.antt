@@ -10,20 +10,20 @@ use Rattle.field_types.specs.declared.values.Value.{Value}
 use Rattle.field_types.specs.declared.faults.ValueFault.{ValueFault}
 use Rattle.field_types.specs.declared.faults.RecordFault.{RecordFault}
 use Rattle.field_types.specs.declared.faults.RecordFault.TheVariants.{Count, BadField}
-use Rattle.field_types.specs.FieldTypes.{IsFieldType, is_allowed, width}
-use Rattle.field_types.specs.FieldBytes.{held, written, fault_of, IsBadAt}
-use Rattle.field_types.specs.FirstBad.{IsFirstBad, IsBadPart, part}
-use Rattle.field_types.proofs.MomentLemmas.{IsFirstBad-part}
-use Rattle.field_types.proofs.FieldLemmas.{field, held-char, held-zoned, held-packed, held-binary, held-date, held-time, held-timestamp}
-use Rattle.field_types.proofs.EndsLemmas.{word, passes-word}
-use Rattle.field_types.proofs.PackedLemmas.{packs, packs-word}
-use Rattle.field_types.proofs.BinaryLemmas.{binary_width-cases}
-use Rattle.field_types.specs.Zoned.{is_zone_digit, is_signed_digit}
-use Rattle.field_types.specs.FieldTypes.{binary_width, packed_width, is_between}
-use Rattle.field_types.specs.Binary.{binary_number}
+use Rattle.field_values.specs.FieldTypes.{IsFieldType, is_allowed, width}
+use Rattle.field_values.specs.FieldBytes.{held, written, fault_of, IsBadAt}
+use Rattle.field_values.specs.FirstBad.{IsFirstBad, IsBadPart, part}
+use Rattle.field_values.proofs.MomentLemmas.{IsFirstBad-part}
+use Rattle.field_values.proofs.FieldLemmas.{field, held-char, held-zoned, held-packed, held-binary, held-date, held-time, held-timestamp}
+use Rattle.field_values.proofs.EndsLemmas.{word, passes-word}
+use Rattle.field_values.proofs.PackedLemmas.{packs, packs-word}
+use Rattle.field_values.proofs.BinaryLemmas.{binary_width-cases}
+use Rattle.field_values.specs.Zoned.{is_zone_digit, is_signed_digit}
+use Rattle.field_values.specs.FieldTypes.{binary_width, packed_width, is_between}
+use Rattle.field_values.specs.Binary.{binary_number}
 use Rattle.std.proofs.Math.Nat.{one-le-pow}
-use Rattle.field_types.specs.declared.fields.ImageFault.{ImageFault}
-use Rattle.field_types.specs.declared.fields.ImageFault.TheVariants as image_faults
+use Rattle.field_values.specs.declared.fields.ImageFault.{ImageFault}
+use Rattle.field_values.specs.declared.fields.ImageFault.TheVariants as image_faults
 use Rattle.record_fmt.specs.declared.formats.Field.{Field}
 use Rattle.record_fmt.specs.Layout.{record_length, lies_from, IsLaidOut}
 use Rattle.record_fmt.specs.Records.{behind, field_before, fields_written, both, fields_held, record_held, record_written, IsRecordBadAt, moved, BadFits}

@@ -1,7 +1,7 @@
 -- Where the fields of a record lie: one behind the other, from its first byte on.
 -- (DDS for Physical and Logical Files, record format; Database Programming, record formats.)
 use Rattle.std.specs.Prelude.{◌≡◌, ℕ, ◌+◌, ◌≤◌, Bool, true, ◌&&◌, ◌==◌, List, [], ◌∷◌, length}
-use Rattle.field_types.specs.FieldTypes.{is_allowed, width}
+use Rattle.field_values.specs.FieldTypes.{is_allowed, width}
 use Rattle.record_fmt.specs.declared.formats.Field.{Field}
 
 -- the bytes of a record

@@ -7,11 +7,11 @@ use Rattle.field_types.specs.declared.values.Value.{Value}
 use Rattle.field_types.specs.declared.faults.ValueFault.{ValueFault}
 use Rattle.field_types.specs.declared.faults.RecordFault.{RecordFault}
 use Rattle.field_types.specs.declared.faults.RecordFault.TheVariants.{Count, BadField}
-use Rattle.field_types.specs.declared.fields.ImageFault.{ImageFault}
-use Rattle.field_types.specs.declared.fields.ImageFault.TheVariants as image_faults
-use Rattle.field_types.specs.FieldTypes.{width}
-use Rattle.field_types.specs.FieldBytes.{held, written, fault_of}
-use Rattle.field_types.specs.FirstBad.{IsFirstBad}
+use Rattle.field_values.specs.declared.fields.ImageFault.{ImageFault}
+use Rattle.field_values.specs.declared.fields.ImageFault.TheVariants as image_faults
+use Rattle.field_values.specs.FieldTypes.{width}
+use Rattle.field_values.specs.FieldBytes.{held, written, fault_of}
+use Rattle.field_values.specs.FirstBad.{IsFirstBad}
 use Rattle.record_fmt.specs.declared.formats.Field.{Field}
 use Rattle.record_fmt.specs.declared.formats.PackFault.{PackFault}
 use Rattle.record_fmt.specs.declared.formats.PackFault.TheVariants as pack_faults

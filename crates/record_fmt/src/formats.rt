@@ -1,10 +1,10 @@
 //! A record format: its name and its fields, which lie one behind the other. `records.rt` packs and unpacks.
 ghost use Rattle.std.specs.Prelude.{◌≡◌, ◌+◌, ◌<◌, ◌≤◌, [], ◌∷◌, ◌++◌, length, OnOk, OnErr, IfOk};
-ghost use Rattle.field_types.specs.FieldTypes.{IsFieldType, width};
+ghost use Rattle.field_values.specs.FieldTypes.{IsFieldType, width};
 ghost use Rattle.record_fmt.specs.Layout.{record_length, IsLaidOut};
 
 use field_types::faults::RecordFault;
-use field_types::fields;
+use field_values::fields;
 use field_types::kinds::FieldType;
 use field_types::names::Name;
 use field_types::texts::Text;

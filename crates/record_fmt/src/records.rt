@@ -1,13 +1,13 @@
 //! The bytes of a record: packed from the values of its fields, and unpacked again. Their meaning stands in `specs/Records.antt`.
 ghost use Rattle.std.specs.Prelude.{◌≡◌, ◌+◌, ◌++◌, ℕ, Some, None, length, IfOk, OnOk, IsErrOf, ◌∷◌, []};
-ghost use Rattle.field_types.specs.FieldTypes.{IsFieldType, width};
-ghost use Rattle.field_types.specs.FieldBytes.{written, fault_of};
+ghost use Rattle.field_values.specs.FieldTypes.{IsFieldType, width};
+ghost use Rattle.field_values.specs.FieldBytes.{written, fault_of};
 ghost use Rattle.record_fmt.specs.Layout.{record_length};
 ghost use Rattle.record_fmt.specs.Records.{record_written, record_held, Packs, IsRecordBadAt, moved, BadFits};
 
 use crate::formats::{Format, PackFault};
 use field_types::faults::{BadImage, RecordFault, ValueFault};
-use field_types::fields::{self, ImageFault};
+use field_values::fields::{self, ImageFault};
 use field_types::kinds::FieldType;
 use field_types::values::Value;
 use std::alloc::{AllocError, Global};

@@ -2,7 +2,7 @@
 use crate::RecordFault;
 use crate::formats::{Fields, Format, PackFault};
 use field_types::faults::{BadImage, ValueFault};
-use field_types::fields::ImageFault;
+use field_values::fields::ImageFault;
 use field_types::kinds::{FieldType, Kind};
 use field_types::names::Name;
 use field_types::texts::Text;

@@ -1,5 +1,5 @@
 use Rattle.std.proofs.Common.{◌≡◌, ◌+◌, ◌<◌, ◌≤◌, ◌∙◌, ◌++◌, ◌∷◌, [], List, length, refl, sym, ap, subst, arith}
-use Rattle.field_types.specs.FieldTypes.{width}
+use Rattle.field_values.specs.FieldTypes.{width}
 use Rattle.record_fmt.specs.declared.formats.Field.{Field}
 use Rattle.record_fmt.specs.Layout.{IsLaidOut, record_length}
 use Rattle.record_fmt.proofs.RecordLemmas.{IsLaidOut-more, record_length-append}

@@ -1,6 +1,6 @@
 use Rattle.std.proofs.Common.{◌≡◌, ◌+◌, ◌<◌, ◌∙◌, ◌++◌, ℕ, List, Option, Some, None, length, get_or, arith, sym, ap, subst, rules}
-use Rattle.field_types.specs.FieldTypes.{IsFieldType}
-use Rattle.field_types.specs.FieldBytes.{fault_of, written}
+use Rattle.field_values.specs.FieldTypes.{IsFieldType}
+use Rattle.field_values.specs.FieldBytes.{fault_of, written}
 use Rattle.field_types.specs.declared.values.Value.{Value}
 use Rattle.record_fmt.specs.declared.formats.Field.{Field}
 use Rattle.record_fmt.specs.Layout.{IsLaidOut}

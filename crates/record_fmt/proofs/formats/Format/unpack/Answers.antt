@@ -1,9 +1,9 @@
 use Rattle.std.proofs.Common.{◌≡◌, ◌+◌, ◌-◌, ◌*◌, ◌<◌, ◌≤◌, ◌^◌, ◌∙◌, ◌++◌, ◌∷◌, [], ℕ, List, Option, Some, Result, Err, length, take, drop, get_or, arith, sym, ap, subst, rules}
-use Rattle.field_types.specs.FieldTypes.{IsFieldType, width}
-use Rattle.field_types.specs.FieldBytes.{held, IsBadAt}
-use Rattle.field_types.specs.FirstBad.{part}
+use Rattle.field_values.specs.FieldTypes.{IsFieldType, width}
+use Rattle.field_values.specs.FieldBytes.{held, IsBadAt}
+use Rattle.field_values.specs.FirstBad.{part}
 use Rattle.field_types.specs.declared.values.Value.{Value}
-use Rattle.field_types.specs.declared.fields.ImageFault.TheVariants.{BadImage}
+use Rattle.field_values.specs.declared.fields.ImageFault.TheVariants.{BadImage}
 use Rattle.record_fmt.specs.declared.formats.Field.{Field}
 use Rattle.record_fmt.specs.Layout.{IsLaidOut, record_length}
 use Rattle.record_fmt.specs.Records.{fields_held, record_held, IsRecordBadAt, moved}
