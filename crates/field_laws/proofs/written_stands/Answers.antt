@@ -1,0 +1,5 @@
+use Rattle.field_laws.proofs.WrittenLemmas.{stands-written}
+use Rattle.field_laws.proofs.written_stands.Goals as goal
+
+pub returns : goal.returns
+returns c = stands-written

@@ -1,0 +1,13 @@
+pub mod DigitLemmas
+pub mod FirstBadLemmas
+pub mod EndsLemmas
+pub mod ScaleLemmas
+pub mod WriteLemmas
+pub mod BoundsLemmas
+pub mod PackedLemmas
+pub mod BinaryLemmas
+pub mod MomentLemmas
+pub mod DateLemmas
+pub mod TimeLemmas
+pub mod StampLemmas
+pub mod FieldLemmas

@@ -1,0 +1,9 @@
+pub mod FieldTypes
+pub mod Digits
+pub mod Bounds
+pub mod FirstBad
+pub mod Zoned
+pub mod Packed
+pub mod Binary
+pub mod Moments
+pub mod FieldBytes

@@ -1,0 +1,10 @@
+//! Record formats: their fields in order, and the bytes of a record.
+#![tactic(auto)]
+
+pub mod formats;
+pub mod records;
+
+pub use field_types::faults::RecordFault;
+
+#[cfg(test)]
+mod tests;

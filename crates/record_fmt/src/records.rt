@@ -1,0 +1,89 @@
+//! The bytes of a record: packed from the values of its fields, and unpacked again. Their meaning stands in `specs/Records.antt`.
+ghost use Rattle.std.specs.Prelude.{◌≡◌, ◌+◌, ◌++◌, ℕ, Some, None, length, IfOk, OnOk, IsErrOf, ◌∷◌, []};
+ghost use Rattle.field_values.specs.FieldTypes.{IsFieldType, width};
+ghost use Rattle.field_values.specs.FieldBytes.{written, fault_of};
+ghost use Rattle.record_fmt.specs.Layout.{record_length};
+ghost use Rattle.record_fmt.specs.Records.{record_written, record_held, Packs, IsRecordBadAt, moved, BadFits};
+
+use crate::formats::{Format, PackFault};
+use field_types::faults::{BadImage, RecordFault, ValueFault};
+use field_values::fields::{self, ImageFault};
+use field_types::kinds::FieldType;
+use field_types::values::Value;
+use std::alloc::{AllocError, Global};
+
+impl Format {
+    /// The image of a record with these values, one for each field.
+    pub fn pack(&self, alloc: Global, values: &[Value]) -> Result<Vec<u8>, PackFault>
+        ensures { Packs (record_written self.now.fields values.now) result }
+    {
+        let fields = self.fields.as_slice();
+        if values.len() != fields.len() {
+            return Err(PackFault::Refused(RecordFault::Count));
+        }
+        let mut image = Vec::with_capacity(alloc, self.length() as usize)?;
+        for i in 0..fields.len() {
+            if let Some(cause) = push_value(&mut image, &fields[i].ty, &values[i])? {
+                return Err(PackFault::Refused(RecordFault::BadField {
+                    field: i as u16 + 1,
+                    cause,
+                }));
+            }
+        }
+        Ok(image)
+    }
+
+    /// The values that stand in a record's image, one for each field.
+    pub fn unpack(&self, alloc: Global, image: &[u8]) -> Result<Vec<Value>, ImageFault>
+        requires { length image.now ≡ record_length self.now.fields }
+        ensures values { IfOk result (λ v. record_held self.now.fields image.now ≡ Some v.items) }
+        // Nothing stands there, and it is the first byte that shows it. Where something stands, this never comes.
+        ensures bad { (at : ℕ) → IsErrOf result (ImageFault.BadImage (record { at = at })) → IsRecordBadAt self.now.fields image.now at }
+    {
+        let fields = self.fields.as_slice();
+        let mut values = Vec::with_capacity(alloc, fields.len())?;
+        let mut from = 0;
+        for field in fields {
+            let to = from + fields::width(&field.ty);
+            match fields::take(alloc, &field.ty, &image[from..to]) {
+                Ok(value) => add(&mut values, value)?,
+                Err(fault) => return Err(in_record(fault, from)),
+            }
+            from = to;
+        }
+        Ok(values)
+    }
+}
+
+/// Adds a field's bytes at the end of an image, or says why it refuses its value.
+fn push_value(
+    image: &mut Vec<u8>,
+    ty: &FieldType,
+    value: &Value,
+) -> Result<Option<ValueFault>, AllocError>
+    requires { IsFieldType ty.now }
+    ensures fault { IfOk result (λ fault. fault ≡ fault_of ty.now value.now) }
+    ensures written { IfOk result (λ fault. fault ≡ None → image.new.items ≡ image.old.items ++ written ty.now value.now) }
+{
+    let from = image.len();
+    image.resize(from + fields::width(ty), 0)?;
+    Ok(fields::put(ty, value, &mut image[from..]).err())
+}
+
+fn add(values: &mut Vec<Value>, value: Value) -> Result<(), AllocError>
+    ensures { OnOk result (values.new.items ≡ values.old.items ++ value ∷ []) }
+{
+    values.push(value)?;
+    Ok(())
+}
+
+/// A fault of a field's bytes, at its place in the record.
+fn in_record(fault: ImageFault, from: usize) -> ImageFault
+    requires { BadFits fault from }
+    ensures { result ≡ moved fault from }
+{
+    match fault {
+        ImageFault::BadImage(bad) => ImageFault::BadImage(BadImage { at: from + bad.at }),
+        ImageFault::NoMemory => ImageFault::NoMemory,
+    }
+}
