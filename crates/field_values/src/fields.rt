@@ -6,11 +6,11 @@ ghost use Rattle.field_values.specs.FieldTypes.{IsFieldType, width, is_numeric, 
 ghost use Rattle.field_values.specs.FirstBad.{TellsFirstBad};
 ghost use Rattle.field_values.specs.FieldBytes.{held, stands, written, filled, decimal, fault_of, IsBadAt};
 
+use crate::{binary, decimals, moments, packed, zoned};
 use field_types::faults::{BadImage, ValueFault};
 use field_types::kinds::{FieldType, Kind};
 use field_types::texts::Text;
 use field_types::values::{Dec, Value};
-use crate::{binary, decimals, moments, packed, zoned};
 use std::alloc::{AllocError, Global};
 
 /// The blank, which fills a character field.

@@ -4,8 +4,8 @@ ghost use Rattle.std.specs.Result.{result_err};
 ghost use Rattle.field_values.specs.Moments.{spelled, spells, spells_in, is_date, is_time, is_timestamp, is_moment, days_in_month};
 ghost use Rattle.field_values.specs.FirstBad.{part, TellsFirstBad, IsBadPart};
 
-use field_types::kinds::Kind;
 use crate::{bounds, decimals};
+use field_types::kinds::Kind;
 use jiff::civil;
 
 const HYPHEN: u8 = 0x60;

@@ -1,8 +1,8 @@
 //! Fields by hand: what is written for numbers, what images stand for, and where they stop to.
 ghost use Rattle.field_values.specs.FieldTypes.{IsFieldType};
 
-use field_types::faults::{BadImage, ValueFault};
 use crate::fields::{ImageFault, is_allowed, put, take, width};
+use field_types::faults::{BadImage, ValueFault};
 use field_types::kinds::{FieldType, Kind};
 use field_types::texts::Text;
 use field_types::values::{Dec, Value};

@@ -8,9 +8,8 @@ use anyhow::Result;
 use ibmi_batch::batch::program;
 use ibmi_batch::status::Status;
 use outside::{StandardInput, StandardOutput, SystemClock};
-use std::env;
-use std::io;
 use std::process::ExitCode;
+use std::{env, io};
 use store_model::{MemoryStore, OpenGate};
 
 fn main(rt: HostRuntime) -> Result<ExitCode> {

@@ -4,11 +4,11 @@ ghost use Rattle.field_values.specs.FieldTypes.{IsFieldType, width};
 ghost use Rattle.record_fmt.specs.Layout.{record_length, IsLaidOut};
 
 use field_types::faults::RecordFault;
-use field_values::fields;
 use field_types::kinds::FieldType;
 use field_types::names::Name;
 use field_types::texts::Text;
 use field_types::values::Value;
+use field_values::fields;
 use std::alloc::{AllocError, AllocFailed, Global};
 use std::marker::Model;
 

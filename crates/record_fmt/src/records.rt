@@ -7,9 +7,9 @@ ghost use Rattle.record_fmt.specs.Records.{record_written, record_held, Packs, I
 
 use crate::formats::{Format, PackFault};
 use field_types::faults::{BadImage, RecordFault, ValueFault};
-use field_values::fields::{self, ImageFault};
 use field_types::kinds::FieldType;
 use field_types::values::Value;
+use field_values::fields::{self, ImageFault};
 use std::alloc::{AllocError, Global};
 
 impl Format {

@@ -2,11 +2,11 @@
 use crate::RecordFault;
 use crate::formats::{Fields, Format, PackFault};
 use field_types::faults::{BadImage, ValueFault};
-use field_values::fields::ImageFault;
 use field_types::kinds::{FieldType, Kind};
 use field_types::names::Name;
 use field_types::texts::Text;
 use field_types::values::{Dec, Value};
+use field_values::fields::ImageFault;
 use std::alloc::{AllocError, Global};
 use std::test::Fail;
 
