@@ -11,4 +11,4 @@ spells_between base low high n digits =
 
 -- how far a byte is above the digit 0, round the end of a byte
 abbrev pub digit_from : ℕ → ℕ → ℕ
-digit_from zero byte = (byte + (256 - zero)) % 256
+digit_from nought byte = (byte + (256 - nought)) % 256
