@@ -109,8 +109,8 @@ pub fn first_bad(t: &FieldType, image: &[u8]) -> Option<usize>
     }
 }
 
-/// The value that stands in the field.
-fn value(alloc: Global, t: &FieldType, image: &[u8]) -> Result<Value, AllocError>
+/// The value that stands in a field in which one stands, as `first_bad` tells.
+pub fn value(alloc: Global, t: &FieldType, image: &[u8]) -> Result<Value, AllocError>
     requires allowed { IsFieldType t.now }
     requires room { length image.now ≡ width t.now }
     requires there { is_some (held t.now image.now) ≡ true }

@@ -33,12 +33,19 @@ impl Format {
         Ok(image)
     }
 
+    /// The first byte with which no record of the format begins; `None` where the image is a record's.
+    pub fn first_bad(&self, image: &[u8]) -> Option<usize>
+        requires { length image.now ≡ record_length self.now.fields }
+        ensures { TellsFirstBad (λ bytes. is_some (record_held self.now.fields bytes)) image.now result }
+    {
+        todo
+    }
+
     /// The values that stand in a record's image, one for each field.
     pub fn unpack(&self, alloc: Global, image: &[u8]) -> Result<Vec<Value>, ImageFault>
         requires { length image.now ≡ record_length self.now.fields }
         ensures values { IfOk result (λ v. record_held self.now.fields image.now ≡ Some v.items) }
-        // Nothing stands there, and it is the first byte that shows it. Where something stands, this never comes.
-        ensures bad { (at : ℕ) → IsErrOf result (ImageFault.BadImage (record { at = at })) → IsRecordBadAt self.now.fields image.now at }
+        ensures bad { (at : ℕ) → IsErrOf result (ImageFault.BadImage (record { at = at })) ↔ IsRecordBadAt self.now.fields image.now at }
     {
         let fields = self.fields.as_slice();
         let mut values = Vec::with_capacity(alloc, fields.len())?;
