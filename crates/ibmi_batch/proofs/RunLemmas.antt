@@ -1,6 +1,6 @@
 -- What an input's reading says of its scripts, and what a session's listing says of the run.
 use Rattle.std.proofs.Common.{◌≡◌, ◌⊎◌, inl, inr, ℕ, ◌+◌, ◌-◌, ◌<◌, ◌≤◌, Bool, true, false, unwrap_or, Option, Some, None, List, [], ◌∷◌, ◌++◌, length, slice_get, zero, suc, refl, sym, ◌∙◌, ap, subst, arith, rules}
-use Rattle.plain_format.specs.Lines.{lines_of}
+use Rattle.text_lines.specs.Lines.{lines_of}
 use Rattle.plain_format.specs.declared.formats.Field.{Field}
 use Rattle.job_script.specs.declared.scripts.Statement.{Statement}
 use Rattle.job_script.specs.declared.scripts.Scripts.{Scripts}
@@ -8,7 +8,7 @@ use Rattle.job_script.specs.Input.{Spells, IsBareJob, IsSourceJob, Reads, IsInpu
 use Rattle.job_runner.specs.Asked.{script_of}
 use Rattle.ibmi_batch.specs.declared.status.Status.{Status}
 use Rattle.ibmi_batch.specs.declared.status.Status.TheVariants.{Done, Words, ReadFault, TooLong, Script, NotALibrary, Damaged, StoreFault, WriteFault, NoMemory, JobsEnded, Exists}
-use Rattle.ibmi_batch.specs.Outcome.{InputFor, ListsFor, WrittenFor}
+use Rattle.ibmi_batch.specs.Outcome.{InputFor, IsRead, ListsFor, WrittenFor}
 
 -- as many statements as lines that spell them
 length-Spells : (file : List ℕ) (fields : List Field) (place number : ℕ) (lines : List (List ℕ)) (script : List Statement) → Spells file fields place number lines script → length script ≡ length lines
@@ -32,31 +32,31 @@ short-Reads lines scripts (inr (inr source)) job =
     subst (λ s. length (script_of s.scripts job) ≤ 100000) (sym source.says) (one_script source.script (job - 1) (omega (arith, its, source.few)))
 
 -- a session's statuses come from an input
-pub InputFor-Lists : (status : Status) (tells : Type 0) (scripts : Scripts) (input old new : List ℕ) → ListsFor status tells scripts old new → Reads (lines_of input) scripts → length input ≤ 16777216 → InputFor status input
-InputFor-Lists Done tells scripts input old new lists reads within = ((scripts, reads), within)
-InputFor-Lists JobsEnded tells scripts input old new lists reads within = ((scripts, reads), within)
-InputFor-Lists WriteFault tells scripts input old new lists reads within = ((scripts, reads), within)
-InputFor-Lists NoMemory tells scripts input old new lists reads within = tt
-InputFor-Lists Words tells scripts input old new lists reads within = tt
-InputFor-Lists ReadFault tells scripts input old new lists reads within = tt
-InputFor-Lists TooLong tells scripts input old new lists reads within = absurd lists
-InputFor-Lists (Script line) tells scripts input old new lists reads within = absurd lists
-InputFor-Lists NotALibrary tells scripts input old new lists reads within = tt
-InputFor-Lists (Damaged area at) tells scripts input old new lists reads within = tt
-InputFor-Lists StoreFault tells scripts input old new lists reads within = tt
-InputFor-Lists Exists tells scripts input old new lists reads within = tt
+pub InputFor-Lists : (status : Status) (scripts : Scripts) (sink_tells : Type 0) (input old new : List ℕ) → ListsFor status scripts sink_tells old new → Reads (lines_of input) scripts → length input ≤ 16777216 → InputFor status input
+InputFor-Lists Done scripts sink_tells input old new lists reads short = ((scripts, reads), short)
+InputFor-Lists JobsEnded scripts sink_tells input old new lists reads short = ((scripts, reads), short)
+InputFor-Lists WriteFault scripts sink_tells input old new lists reads short = ((scripts, reads), short)
+InputFor-Lists NoMemory scripts sink_tells input old new lists reads short = tt
+InputFor-Lists Words scripts sink_tells input old new lists reads short = tt
+InputFor-Lists ReadFault scripts sink_tells input old new lists reads short = tt
+InputFor-Lists TooLong scripts sink_tells input old new lists reads short = absurd lists
+InputFor-Lists (Script line) scripts sink_tells input old new lists reads short = absurd lists
+InputFor-Lists NotALibrary scripts sink_tells input old new lists reads short = tt
+InputFor-Lists (Damaged area at) scripts sink_tells input old new lists reads short = tt
+InputFor-Lists StoreFault scripts sink_tells input old new lists reads short = tt
+InputFor-Lists Exists scripts sink_tells input old new lists reads short = tt
 
--- what a session writes is what the input's run writes
-pub WrittenFor-Lists : (status : Status) (tells : Type 0) (scripts : Scripts) (input old new : List ℕ) → ListsFor status tells scripts old new → Reads (lines_of input) scripts → tells → WrittenFor status input old new
-WrittenFor-Lists Done tells scripts input old new lists reads told = (scripts, reads, lists told)
-WrittenFor-Lists JobsEnded tells scripts input old new lists reads told = (scripts, reads, lists told)
-WrittenFor-Lists WriteFault tells scripts input old new lists reads told = (scripts, reads, lists told)
-WrittenFor-Lists NoMemory tells scripts input old new lists reads told = lists told
-WrittenFor-Lists Words tells scripts input old new lists reads told = absurd lists
-WrittenFor-Lists ReadFault tells scripts input old new lists reads told = absurd lists
-WrittenFor-Lists TooLong tells scripts input old new lists reads told = absurd lists
-WrittenFor-Lists (Script line) tells scripts input old new lists reads told = absurd lists
-WrittenFor-Lists NotALibrary tells scripts input old new lists reads told = absurd lists
-WrittenFor-Lists (Damaged area at) tells scripts input old new lists reads told = absurd lists
-WrittenFor-Lists StoreFault tells scripts input old new lists reads told = absurd lists
-WrittenFor-Lists Exists tells scripts input old new lists reads told = absurd lists
+-- what a session does is what the input's run does
+pub WrittenFor-Lists : (status : Status) (scripts : Scripts) (source_tells sink_tells : Type 0) (input old new : List ℕ) → ListsFor status scripts sink_tells old new → IsRead source_tells input scripts → WrittenFor status source_tells sink_tells input old new
+WrittenFor-Lists Done scripts source_tells sink_tells input old new lists read = (scripts, read, lists)
+WrittenFor-Lists JobsEnded scripts source_tells sink_tells input old new lists read = (scripts, read, lists)
+WrittenFor-Lists WriteFault scripts source_tells sink_tells input old new lists read = (scripts, read, lists)
+WrittenFor-Lists NoMemory scripts source_tells sink_tells input old new lists read = lists
+WrittenFor-Lists Words scripts source_tells sink_tells input old new lists read = absurd lists
+WrittenFor-Lists ReadFault scripts source_tells sink_tells input old new lists read = absurd lists
+WrittenFor-Lists TooLong scripts source_tells sink_tells input old new lists read = absurd lists
+WrittenFor-Lists (Script line) scripts source_tells sink_tells input old new lists read = absurd lists
+WrittenFor-Lists NotALibrary scripts source_tells sink_tells input old new lists read = absurd lists
+WrittenFor-Lists (Damaged area at) scripts source_tells sink_tells input old new lists read = absurd lists
+WrittenFor-Lists StoreFault scripts source_tells sink_tells input old new lists read = absurd lists
+WrittenFor-Lists Exists scripts source_tells sink_tells input old new lists read = absurd lists

@@ -1,6 +1,7 @@
--- What holds at each status of a run: its cause, what was read, and what was written. (Our own.)
+-- What holds at each status of a run: its cause, what was read, what the jobs did, and what was written. (Our own.)
+-- Sources and sinks may tell what they have left and taken; what the jobs did is said whether they tell it or not.
 use Rattle.std.specs.Prelude.{◌≡◌, ◌⊎◌, ℕ, ◌<◌, ◌≤◌, Bool, true, false, IsTrue, List, [], ◌++◌, length, take}
-use Rattle.plain_format.specs.Lines.{lines_of}
+use Rattle.text_lines.specs.Lines.{lines_of}
 use Rattle.library_model.specs.State.{State}
 use Rattle.library_model.specs.declared.calls.Call.{Call}
 use Rattle.job_script.specs.declared.scripts.Scripts.{Scripts}
@@ -29,7 +30,7 @@ CauseFor _ source_rose sink_rose = Unit {0}
 -- what the input is: too long, at fault in that line first, or an input
 abbrev pub InputFor : Status → List ℕ → Type 0
 InputFor TooLong input = 16777216 < length input
-InputFor (Script line) input = IsFirstFault (lines_of input) line
+InputFor (Script line) input = IsFirstFault (lines_of input) line × (length input ≤ 16777216)
 InputFor Done input = IsInput (lines_of input) × (length input ≤ 16777216)
 InputFor JobsEnded input = IsInput (lines_of input) × (length input ≤ 16777216)
 InputFor WriteFault input = IsInput (lines_of input) × (length input ≤ 16777216)
@@ -43,45 +44,53 @@ LeftFor JobsEnded left = left ≡ []
 LeftFor WriteFault left = left ≡ []
 LeftFor _ left = Unit {0}
 
--- a legal history of the jobs of these scripts, in which each job's calls are all that its script asks, and its listing
-pub record Listed (scripts : Scripts) (old new : List ℕ) (early : Bool) : Type 0 where
+-- the scripts are what an input says: the one that the source had, where the source tells it
+pub record IsRead (source_tells : Type 0) (input : List ℕ) (scripts : Scripts) : Type 0 where
+  pub bytes : List ℕ
+  pub whole : source_tells → input ≡ bytes
+  pub short : length bytes ≤ 16777216
+  pub says : Reads (lines_of bytes) scripts
+
+-- the calls are a legal history of the jobs of these scripts, in which each job's calls are all that its script asks
+pub record IsWholeRun (scripts : Scripts) (calls : List Call) : Type 0 where
   pub state : State
-  pub calls : List Call
   pub run : IsRun scripts state calls
   pub ended : (job : ℕ) → 1 ≤ job → job ≤ length scripts.scripts → IsTrue (has_ended job calls)
+
+-- such a history, and its listing was written
+pub record Listed (scripts : Scripts) (sink_tells : Type 0) (old new : List ℕ) (early : Bool) : Type 0 where
+  pub calls : List Call
+  pub run : IsWholeRun scripts calls
   pub ends : has_early_end calls ≡ early
-  pub written : new ≡ old ++ listing scripts.names calls
+  pub written : sink_tells → new ≡ old ++ listing scripts.names calls
 
--- the same, of which the first part of the listing was written
-pub record ListedInPart (scripts : Scripts) (old new : List ℕ) : Type 0 where
-  pub state : State
+-- such a history, and the first part of its listing was written
+pub record ListedInPart (scripts : Scripts) (sink_tells : Type 0) (old new : List ℕ) : Type 0 where
   pub calls : List Call
-  pub run : IsRun scripts state calls
-  pub ended : (job : ℕ) → 1 ≤ job → job ≤ length scripts.scripts → IsTrue (has_ended job calls)
-  pub part : ℕ
-  pub written : new ≡ old ++ take part (listing scripts.names calls)
+  pub run : IsWholeRun scripts calls
+  pub written : sink_tells → (part : ℕ) × (new ≡ old ++ take part (listing scripts.names calls))
 
--- what a session writes at a status, to a sink that tells what it takes
-abbrev pub ListsFor : Status → Type 0 → Scripts → (old new : List ℕ) → Type 0
-ListsFor Done tells scripts old new = tells → Listed scripts old new false
-ListsFor JobsEnded tells scripts old new = tells → Listed scripts old new true
-ListsFor WriteFault tells scripts old new = tells → ListedInPart scripts old new
-ListsFor NoMemory tells scripts old new = tells → new ≡ old
-ListsFor _ tells scripts old new = ⊥
+-- what a session has done at a status, and what it has written, where the sink tells what it takes
+abbrev pub ListsFor : Status → Scripts → (sink_tells : Type 0) → (old new : List ℕ) → Type 0
+ListsFor Done scripts sink_tells old new = Listed scripts sink_tells old new false
+ListsFor JobsEnded scripts sink_tells old new = Listed scripts sink_tells old new true
+ListsFor WriteFault scripts sink_tells old new = ListedInPart scripts sink_tells old new
+ListsFor NoMemory scripts sink_tells old new = sink_tells → new ≡ old
+ListsFor _ scripts sink_tells old new = ⊥
 
--- what the input says, and its listing
-abbrev pub RanWhole : (input old new : List ℕ) → Bool → Type 0
-RanWhole input old new early = (scripts : Scripts) × Reads (lines_of input) scripts × Listed scripts old new early
+-- the jobs of the input ran to their ends, and what was written is the listing, or its first part
+abbrev pub RanWhole : (source_tells sink_tells : Type 0) → (input old new : List ℕ) → Bool → Type 0
+RanWhole source_tells sink_tells input old new early = (scripts : Scripts) × IsRead source_tells input scripts × Listed scripts sink_tells old new early
 
-abbrev pub RanInPart : (input old new : List ℕ) → Type 0
-RanInPart input old new = (scripts : Scripts) × Reads (lines_of input) scripts × ListedInPart scripts old new
+abbrev pub RanInPart : (source_tells sink_tells : Type 0) → (input old new : List ℕ) → Type 0
+RanInPart source_tells sink_tells input old new = (scripts : Scripts) × IsRead source_tells input scripts × ListedInPart scripts sink_tells old new
 
--- what was written behind what the sink had taken: the listing, a part of it, or nothing
-abbrev pub WrittenFor : Status → (input old new : List ℕ) → Type 0
-WrittenFor Done input old new = RanWhole input old new false
-WrittenFor JobsEnded input old new = RanWhole input old new true
-WrittenFor WriteFault input old new = RanInPart input old new
-WrittenFor _ input old new = new ≡ old
+-- what a run has done at a status, and what it has written behind what the sink had taken: else nothing
+abbrev pub WrittenFor : Status → (source_tells sink_tells : Type 0) → (input old new : List ℕ) → Type 0
+WrittenFor Done source_tells sink_tells input old new = RanWhole source_tells sink_tells input old new false
+WrittenFor JobsEnded source_tells sink_tells input old new = RanWhole source_tells sink_tells input old new true
+WrittenFor WriteFault source_tells sink_tells input old new = RanInPart source_tells sink_tells input old new
+WrittenFor _ source_tells sink_tells input old new = sink_tells → new ≡ old
 
 -- the statuses of an input that is in order, where no fault comes
 abbrev pub IsOrderly : Status → Type 0

@@ -2,7 +2,7 @@
 ghost use Rattle.std.specs.Prelude.{◌≡◌, ◌≤◌, ◌++◌, [], ℕ, true, IsTrue, length, map, string_bytes};
 ghost use Rattle.store_model.specs.Faults.{Rose};
 ghost use Rattle.job_script.specs.Input.{IsInput};
-ghost use Rattle.plain_format.specs.Lines.{lines_of};
+ghost use Rattle.text_lines.specs.Lines.{lines_of};
 ghost use Rattle.job_runner.specs.Ended.{has_ended, has_early_end, ends_early};
 ghost use Rattle.ibmi_batch.specs.Words.{are_run_words};
 ghost use Rattle.ibmi_batch.specs.Outcome.{WordsFor, CauseFor, InputFor, LeftFor, WrittenFor, IsOrderly, ListsFor};
@@ -25,7 +25,6 @@ const MOST_INPUT: usize = 16_777_216;
 
 /// Does what the words say. The runtime and the gate are for the jobs' threads, and the store for the journal; none of
 /// them is used yet.
-#[allow(unused_variables)]
 pub fn program<
     R: Threads + Wait + Sync,
     S: Store + Send,
@@ -47,7 +46,7 @@ pub fn program<
     ensures cause { CauseFor result.0 (Rose (I.faults input.old) (I.faults input.new)) (Rose (O.faults out.old) (O.faults out.new)) }
     ensures input { I.tells → InputFor result.0 (I.left input.old) }
     ensures left { I.tells → LeftFor result.0 (I.left input.new) }
-    ensures written { I.tells → O.tells → WrittenFor result.0 (I.left input.old) (O.taken out.old) (O.taken out.new) }
+    ensures written { WrittenFor result.0 (I.tells) (O.tells) (I.left input.old) (O.taken out.old) (O.taken out.new) }
     ensures complete { I.tells → are_run_words (map string_bytes words.now) ≡ true → IsInput (lines_of (I.left input.old)) → length (I.left input.old) ≤ 16777216 → (Rose (I.faults input.old) (I.faults input.new) → ⊥) → (Rose (O.faults out.old) (O.faults out.new) → ⊥) → IsOrderly result.0 }
     ensures store { result.1 ≡ store }
 {
@@ -67,7 +66,7 @@ pub fn run_alone<S: Store, I: Source, O: Sink, C: Clock>(
     ensures cause { CauseFor result.0 (Rose (I.faults input.old) (I.faults input.new)) (Rose (O.faults out.old) (O.faults out.new)) }
     ensures input { I.tells → InputFor result.0 (I.left input.old) }
     ensures left { I.tells → LeftFor result.0 (I.left input.new) }
-    ensures written { I.tells → O.tells → WrittenFor result.0 (I.left input.old) (O.taken out.old) (O.taken out.new) }
+    ensures written { WrittenFor result.0 (I.tells) (O.tells) (I.left input.old) (O.taken out.old) (O.taken out.new) }
     ensures complete { I.tells → are_run_words (map string_bytes words.now) ≡ true → IsInput (lines_of (I.left input.old)) → length (I.left input.old) ≤ 16777216 → (Rose (I.faults input.old) (I.faults input.new) → ⊥) → (Rose (O.faults out.old) (O.faults out.new) → ⊥) → IsOrderly result.0 }
     ensures store { result.1 ≡ store }
 {
@@ -98,15 +97,14 @@ fn run_session<S: Store, O: Sink, C: Clock>(
     out: &mut O,
 ) -> (Status, S, C)
     requires { session.calls ≡ [] }
-    ensures lists { ListsFor result.0 (O.tells) session.scripts (O.taken out.old) (O.taken out.new) }
+    ensures lists { ListsFor result.0 session.scripts (O.tells) (O.taken out.old) (O.taken out.new) }
     ensures cause { CauseFor result.0 ⊥ (Rose (O.faults out.old) (O.faults out.new)) }
     ensures store { result.1 ≡ session.library.store }
 {
-    let ran = session.run_in_order();
-    let status = if ran == Ran::Done {
-        write_listing(alloc, &session, out)
-    } else {
-        Status::NoMemory
+    let status = match session.run_in_order() {
+        Ran::Done => write_listing(alloc, &session, out),
+        Ran::Stopped => Status::StoreFault,
+        Ran::NoMemory => Status::NoMemory,
     };
     let (store, clock) = session.into_parts();
     (status, store, clock)
@@ -119,7 +117,7 @@ fn write_listing<S: Store, O: Sink, C: Clock>(
     out: &mut O,
 ) -> Status
     requires { (job : ℕ) → 1 ≤ job → job ≤ length session.now.scripts.scripts → IsTrue (has_ended job session.now.calls) }
-    ensures lists { ListsFor result (O.tells) session.now.scripts (O.taken out.old) (O.taken out.new) }
+    ensures lists { ListsFor result session.now.scripts (O.tells) (O.taken out.old) (O.taken out.new) }
     ensures cause { CauseFor result ⊥ (Rose (O.faults out.old) (O.faults out.new)) }
 {
     let calls = session.history();

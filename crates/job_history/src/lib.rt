@@ -3,5 +3,7 @@
 
 mod counting;
 pub mod history;
+#[cfg(test)]
+mod tests;
 
 pub use library_model::calls::Call;

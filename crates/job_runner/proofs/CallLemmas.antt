@@ -11,8 +11,8 @@ use Rattle.library_model.specs.declared.requests.Request.{Request}
 use Rattle.library_model.specs.declared.requests.EndReason.TheVariants.{Escape}
 use Rattle.library_model.specs.declared.replies.Reply.{Reply}
 use Rattle.library_model.specs.declared.sources.NamedSource.{NamedSource}
-use Rattle.library_model.specs.State.{State}
-use Rattle.library_model.specs.Step.{MayAnswer}
+use Rattle.library_model.specs.State.{State, job_at}
+use Rattle.library_model.specs.Step.{MayAnswer, is_running}
 use Rattle.library_model.specs.History.{Runs}
 use Rattle.library_model.specs.Built.{is_built}
 use Rattle.job_history.specs.Counting.{is_end_job, is_end_request, is_full}
@@ -71,10 +71,11 @@ asks-within script place (Some reply) full request =
       | false ↦ λ goes_on. place-within script place (asks_statement-some (slice_get script place) full goes_on)
     ] request
 
-pub Runs-append : (sources : List NamedSource) (s mid t : State) (calls : List Call) (call : Call) → Runs sources s calls mid → MayAnswer sources mid call.job call.request call.reply t → Runs sources s (calls ++ call ∷ []) t
-Runs-append sources s mid t [] call runs answers = (t, subst (λ (m : State). MayAnswer sources m call.job call.request call.reply t) runs answers, refl)
-Runs-append sources s mid t (first ∷ calls) call runs answers =
-    (runs.0, runs.1, Runs-append sources runs.0 mid t calls call runs.2 answers)
+pub Runs-append : (sources : List NamedSource) (s mid t : State) (calls : List Call) (call : Call) → Runs sources s calls mid → IsTrue (is_running (job_at call.job mid.jobs)) → MayAnswer sources mid call.job call.request call.reply t → Runs sources s (calls ++ call ∷ []) t
+Runs-append sources s mid t [] call runs running answers =
+    (subst (λ (m : State). IsTrue (is_running (job_at call.job m.jobs))) runs running, t, subst (λ (m : State). MayAnswer sources m call.job call.request call.reply t) runs answers, refl)
+Runs-append sources s mid t (first ∷ calls) call runs running answers =
+    (runs.0, runs.1, runs.2, Runs-append sources runs.1 mid t calls call runs.3 running answers)
 
 pub AreAsked-append : (scripts : List (List Statement)) (before calls : List Call) (call : Call) → AreAsked scripts before calls → call.request ≡ asked scripts call.job (before ++ calls) → AreAsked scripts before (calls ++ call ∷ [])
 AreAsked-append scripts before [] call all asks_it = (rw append-nil at asks_it, tt)

@@ -96,11 +96,22 @@ runs_after-other : (job : ℕ) (r : Request) (jobs : List Job) (other : ℕ) →
 runs_after-other job (request.EndJob args) jobs other apart = grind (arith, nat_tests)
 runs_after-other job _ jobs other apart = refl
 
+-- the place of a job, by its number
+place-before : (scripts : Scripts) (old : State) (calls : List Call) (kept : List Place) (job : ℕ) (place : Place) → IsSession scripts old calls kept → 1 ≤ job → slice_get kept (job - 1) ≡ Some place → IsPlace scripts.scripts old.jobs calls job place
+place-before scripts old calls kept job place is from here =
+    let number : job - 1 + 1 ≡ job = omega arith in
+    subst (λ n. IsPlace scripts.scripts old.jobs calls n place) number (is.places (job - 1) place here)
+
+-- a job that hasn't ended runs in the library
+runs-still : (scripts : Scripts) (old : State) (calls : List Call) (kept : List Place) (job : ℕ) (place : Place) → IsSession scripts old calls kept → 1 ≤ job → slice_get kept (job - 1) ≡ Some place → place.ended ≡ false → IsTrue (is_running (job_at job old.jobs))
+runs-still scripts old calls kept job place is from here runs =
+    let before = place-before scripts old calls kept job place is from here in
+    rw (before.running, runs) refl
+
 kept-own : (scripts : Scripts) (old new : State) (calls : List Call) (kept : List Place) (job : ℕ) (place : Place) (call : Call) → IsSession scripts old calls kept → 1 ≤ job → slice_get kept (job - 1) ≡ Some place → place.ended ≡ false → call.job ≡ job → call.request ≡ asked scripts.scripts job calls → ((other : ℕ) → is_running (job_at other new.jobs) ≡ runs_after job call.request old.jobs other) → (at : ℕ) (found : Place) → at ≡ job - 1 → slice_get (slice_set kept (job - 1) (record { state = place.state + 1; last = Some (length calls); ended = is_end_request call.request })) at ≡ Some found → IsPlace scripts.scripts new.jobs (calls ++ call ∷ []) (at + 1) found
 kept-own scripts old new calls kept job place call is from here runs same asks_it after at found own there =
-    let number : job - 1 + 1 ≡ job = omega arith in
-    let before : IsPlace scripts.scripts old.jobs calls job place = subst (λ n. IsPlace scripts.scripts old.jobs calls n place) number (is.places (job - 1) place here) in
-    let running : IsTrue (is_running (job_at job old.jobs)) = rw (before.running, runs) refl in
+    let before = place-before scripts old calls kept job place is from here in
+    let running = runs-still scripts old calls kept job place is from here runs in
     let later = after job ∙ runs_after-own job call.request old.jobs running in
     let moved = IsPlace-same scripts.scripts old.jobs new.jobs calls job place call before runs same asks_it later in
     let it = slice_get-slice_set_same kept (job - 1) place (record { state = place.state + 1; last = Some (length calls); ended = is_end_request call.request }) found here (rw own at there) in
@@ -126,7 +137,7 @@ kept-places scripts old new calls kept job place call is from here runs same ask
 pub IsSession-called : (scripts : Scripts) (old new : State) (calls : List Call) (kept : List Place) (job : ℕ) (place : Place) (call : Call) → IsSession scripts old calls kept → 1 ≤ job → slice_get kept (job - 1) ≡ Some place → place.ended ≡ false → call.job ≡ job → call.request ≡ asked scripts.scripts job calls → MayAnswer scripts.sources old job call.request call.reply new → ((other : ℕ) → is_running (job_at other new.jobs) ≡ runs_after job call.request old.jobs other) → IsTrue (is_built_reply call.reply) → IsSession scripts new (calls ++ call ∷ []) (slice_set kept (job - 1) (record { state = place.state + 1; last = Some (length calls); ended = is_end_request call.request }))
 IsSession-called scripts old new calls kept job place call is from here runs same asks_it answers after built = record {
   run = record {
-    legal = Runs-append scripts.sources (begun empty_library scripts.names) old new calls call is.run.legal (rw same answers);
+    legal = Runs-append scripts.sources (begun empty_library scripts.names) old new calls call is.run.legal (rw same (runs-still scripts old calls kept job place is from here runs)) (rw same answers);
     asked = AreAsked-append scripts.scripts [] calls call is.run.asked (rw same asks_it);
     replies = All-push (λ (c : Call). IsTrue (is_built_reply c.reply)) calls call is.run.replies built;
   };

@@ -1,7 +1,7 @@
 //! A session: a library, the scripts of its jobs, and the history of their calls.
 ghost use Rattle.std.specs.Prelude.{◌≡◌, ◌≢◌, ℕ, ◌+◌, ◌<◌, ◌≤◌, ◌↔◌, [], ◌∷◌, ◌++◌, length, replicate, IsTrue, IfOk, IfErr, OnOk, OnErr, option_copied};
 ghost use Rattle.library_model.specs.declared.calls.Call.{Call};
-ghost use Rattle.job_runner.specs.declared.session.Stepped.TheVariants.{Called, Ended};
+ghost use Rattle.job_runner.specs.declared.session.Stepped.TheVariants.{Called, Ended, Stopped};
 ghost use Rattle.job_runner.specs.Ended.{calls_of, replies_of, has_ended};
 ghost use Rattle.job_script.specs.Asks.{last_of};
 ghost use Rattle.library_model.specs.State.{empty_library, begun};
@@ -126,6 +126,7 @@ impl<S: Store, C: Clock> Session<S, C> {
 
     /// Runs the jobs in order, each to its end.
     pub fn run_in_order(&mut self) -> Ran
+        ensures stopped { result ≢ Ran.Stopped }
         ensures done { result ≡ Ran.Done → (job : ℕ) → 1 ≤ job → job ≤ length self.new.scripts.scripts → IsTrue (has_ended job self.new.calls) }
         ensures scripts { self.new.scripts ≡ self.old.scripts }
         ensures store { self.new.library.store ≡ self.old.library.store }
@@ -144,6 +145,7 @@ impl<S: Store, C: Clock> Session<S, C> {
     fn run_job(&mut self, job: u32) -> Ran
         requires { (1 ≤ job) × (job ≤ length self.old.scripts.scripts) }
         ensures done { result ≡ Ran.Done → IsTrue (has_ended job self.new.calls) }
+        ensures stopped { result ≢ Ran.Stopped }
         ensures others { (other : ℕ) → other ≢ job → calls_of other self.new.calls ≡ calls_of other self.old.calls }
         ensures scripts { self.new.scripts ≡ self.old.scripts }
         ensures store { self.new.library.store ≡ self.old.library.store }
@@ -184,8 +186,10 @@ impl<S: Store, C: Clock> Session<S, C> {
     pub fn step_job(&mut self, job: u32) -> Stepped
         requires { (1 ≤ job) × (job ≤ length self.old.scripts.scripts) }
         ensures ended { result ≡ Ended ↔ IsTrue (has_ended job self.old.calls) }
-        ensures unchanged { result ≢ Called → self.new.calls ≡ self.old.calls }
-        ensures called { result ≡ Called → (made : Call) × (made.job ≡ job) × (self.new.calls ≡ self.old.calls ++ made ∷ []) }
+        // The library can't fail yet.
+        ensures stopped { result ≢ Stopped }
+        ensures unchanged { result ≢ Called → self.new ≡ self.old }
+        ensures called { result ≡ Called → (made : Call) × (made.job ≡ job) × C.gives self.old.clock made.moment self.new.clock × (self.new.calls ≡ self.old.calls ++ made ∷ []) }
         ensures nearer { result ≡ Called → remaining self.new.scripts.scripts job self.new.calls < remaining self.old.scripts.scripts job self.old.calls }
         ensures scripts { self.new.scripts ≡ self.old.scripts }
         ensures store { self.new.library.store ≡ self.old.library.store }

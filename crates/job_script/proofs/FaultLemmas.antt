@@ -2,7 +2,7 @@
 use Rattle.std.proofs.Common.{◌≡◌, ◌⊎◌, inl, inr, ℕ, zero, suc, ◌+◌, ◌-◌, ◌<◌, ◌≤◌, List, [], ◌∷◌, ◌++◌, length, take, drop, Option, Some, None, refl, sym, ap, ◌∙◌, subst, arith, append_assoc, option_and_then, ⊎_elim, add-one, take-append-drop, length-take-le, length-drop}
 use Rattle.std.proofs.lemmas.Option.{option_and_then_some}
 use Rattle.std.proofs.lemmas.List.{take_all}
-use Rattle.plain_format.specs.Lines.{lines_of}
+use Rattle.text_lines.specs.Lines.{lines_of}
 use Rattle.job_script.specs.declared.scripts.Scripts.{Scripts}
 use Rattle.job_script.specs.declared.reader.State.{State}
 use Rattle.job_script.specs.declared.reader.State.TheVariants.{Start}

@@ -6,7 +6,7 @@ use Rattle.std.proofs.lemmas.Option.{same_Some, option_and_then_some, cond_some}
 use Rattle.std.proofs.lemmas.List.Folds.{list_all-append}
 use Rattle.std.proofs.lemmas.List.{flat_map_more}
 use Rattle.library_model.specs.declared.requests.Request.{Request}
-use Rattle.plain_format.specs.Lines.{text_of_lines}
+use Rattle.text_lines.specs.Lines.{text_of_lines}
 use Rattle.plain_format.specs.declared.formats.Field.{Field}
 use Rattle.plain_format.specs.declared.formats.Format.{Format}
 use Rattle.plain_format.specs.PlainSource.{plain_line, with_line, finished, source_format}

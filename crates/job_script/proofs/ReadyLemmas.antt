@@ -9,10 +9,10 @@ use Rattle.std.proofs.lemmas.List.Folds.{list_all-append}
 use Rattle.field_types.specs.declared.values.Value.{Value}
 use Rattle.library_model.specs.declared.requests.Request.{Request}
 use Rattle.library_model.specs.Built.{is_built}
-use Rattle.plain_format.specs.Lines.{lines_of, text_of_lines}
+use Rattle.text_lines.specs.Lines.{lines_of, text_of_lines}
 use Rattle.plain_format.specs.PlainSource.{format_of, source_format}
 use Rattle.plain_format.specs.declared.formats.Field.{Field}
-use Rattle.plain_format.proofs.TextLemmas.{has_no_feed, lines_of-no_feed, lines_of-text}
+use Rattle.text_lines.proofs.TextLemmas.{has_no_feed, lines_of-no_feed, lines_of-text}
 use Rattle.job_script.specs.declared.scripts.Statement.{Statement}
 use Rattle.job_script.specs.declared.scripts.Scripts.{Scripts}
 use Rattle.job_script.specs.Texts.{behind}

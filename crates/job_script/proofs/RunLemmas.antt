@@ -3,7 +3,7 @@ use Rattle.std.proofs.Common.{◌≡◌, inl, inr, ℕ, ◌+◌, ◌<◌, ◌≤
 use Rattle.std.specs.List.{list_all}
 use Rattle.std.proofs.lemmas.Bool.{and_parts, not-true, cond-true, cond-false, lt-ltb}
 use Rattle.std.proofs.lemmas.Option.{option_and_then_some}
-use Rattle.plain_format.specs.Lines.{text_of_lines}
+use Rattle.text_lines.specs.Lines.{text_of_lines}
 use Rattle.plain_format.specs.declared.formats.Field.{Field}
 use Rattle.plain_format.specs.declared.formats.Format.{Format}
 use Rattle.plain_format.specs.PlainSource.{plain_line, with_line, finished, source_format}

@@ -3,7 +3,7 @@ use Rattle.std.specs.Prelude.{ℕ, Bool, if◌then◌else◌, ◌==◌, true, Op
 use Rattle.std.specs.List.{prefix_len}
 use Rattle.std.specs.Option.{is_some}
 use Rattle.std.specs.Cmp.Lexicographic.{pointwise}
-use Rattle.plain_format.specs.Lines.{is_blank, name_alone}
+use Rattle.text_lines.specs.Lines.{is_blank, name_alone}
 use Rattle.job_script.specs.Texts.{behind}
 
 abbrev pub dds_word : List ℕ

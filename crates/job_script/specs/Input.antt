@@ -3,7 +3,7 @@ use Rattle.std.specs.Prelude.{◌≡◌, ◌⊎◌, ℕ, suc, ◌+◌, ◌-◌, 
 use Rattle.std.specs.List.{list_all}
 use Rattle.library_model.specs.declared.requests.Request.{Request}
 use Rattle.library_model.specs.declared.sources.NamedSource.{NamedSource}
-use Rattle.plain_format.specs.Lines.{text_of_lines}
+use Rattle.text_lines.specs.Lines.{text_of_lines}
 use Rattle.plain_format.specs.PlainSource.{source_format}
 use Rattle.plain_format.specs.declared.formats.Field.{Field}
 use Rattle.plain_format.specs.declared.formats.Format.{Format}

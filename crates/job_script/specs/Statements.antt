@@ -9,7 +9,7 @@ use Rattle.library_model.specs.declared.requests.OpenOption.TheVariants.{All}
 use Rattle.library_model.specs.declared.requests.AccessPath.TheVariants.{File}
 use Rattle.library_model.specs.declared.requests.LockOption.TheVariants.{No}
 use Rattle.library_model.specs.declared.requests.ChainTo.TheVariants.{RecordNumber}
-use Rattle.plain_format.specs.Decimal.{is_digit, decimal_up_to}
+use Rattle.text_lines.specs.Decimal.{is_digit, decimal_up_to}
 use Rattle.plain_format.specs.declared.formats.Field.{Field}
 use Rattle.job_script.specs.Texts.{behind}
 use Rattle.job_script.specs.Literals.{values_behind}

@@ -1,12 +1,10 @@
 //! The cards of an input, by `specs/Cards.antt`.
 ghost use Rattle.std.specs.Prelude.{◌≡◌, ◌≤◌, length, option_copied};
-ghost use Rattle.std.specs.List.{prefix_len};
-ghost use Rattle.plain_format.specs.Lines.{is_blank};
 ghost use Rattle.job_script.specs.Texts.{behind};
 ghost use Rattle.job_script.specs.Cards.{card_name, name_behind_blanks, is_card, is_end};
 
 use field_types::names::Name;
-use plain_format::lines::{is_blank, name_alone};
+use text_lines::lines::{blanks_before, name_alone};
 
 /// The word of the card before a source.
 pub const DDS_WORD: &[u8] = b"//DDS";
@@ -51,11 +49,4 @@ fn name_behind_blanks(text: &[u8]) -> Option<Name>
     } else {
         name_alone(&text[blanks..])
     }
-}
-
-fn blanks_before(text: &[u8]) -> usize
-    ensures blanks { result ≡ prefix_len is_blank text.now }
-    ensures within { result ≤ length text.now }
-{
-    text.iter().take_while(|&&byte| is_blank(byte)).count()
 }

@@ -1,6 +1,6 @@
 //! An input: the job scripts that its bytes spell, or the first line that is at fault.
 ghost use Rattle.std.specs.Prelude.{◌≡◌, ◌≤◌, ℕ, List, length, IfOk, IfErr};
-ghost use Rattle.plain_format.specs.Lines.{lines_of};
+ghost use Rattle.text_lines.specs.Lines.{lines_of};
 ghost use Rattle.job_script.specs.Input.{Reads, IsInput, IsFirstFault};
 ghost use Rattle.job_script.specs.Ready.{IsReady};
 ghost use Rattle.job_script.specs.declared.scripts.Scripts.{Scripts};
@@ -8,8 +8,8 @@ ghost use Rattle.job_script.specs.declared.input.InputError.TheVariants.{NoMemor
 
 use crate::reader::{State, finish, step};
 use crate::scripts::Scripts;
-use plain_format::lines::split_line;
 use std::alloc::{AllocError, Global};
+use text_lines::lines::split_line;
 
 /// Why no scripts were read.
 #[derive(Clone, Copy)]

@@ -1,7 +1,7 @@
 //! The statements of a job, by `specs/Statements.antt`: each is spelled in one way.
 ghost use Rattle.std.specs.Prelude.{◌≡◌, ◌≤◌, ◌++◌, length, IfOk, option_copied};
 ghost use Rattle.std.specs.List.{prefix_len};
-ghost use Rattle.plain_format.specs.Decimal.{is_digit};
+ghost use Rattle.text_lines.specs.Decimal.{is_digit};
 ghost use Rattle.job_script.specs.Texts.{behind};
 ghost use Rattle.job_script.specs.Statements.{statement_of, create_line, create_request, open_line, open_request, written_in, chained_in, number_before_lock, record_number, exactly, either};
 
@@ -12,9 +12,9 @@ use library_model::requests::{
     AccessPath, ChainRecord, ChainTo, CreatePhysicalFile, LockOption, OpenFile, OpenOption,
     Request, WriteRecord,
 };
-use plain_format::decimals::{decimal, is_digit};
 use plain_format::formats::Field;
 use std::alloc::{AllocError, Global};
+use text_lines::decimals::{decimal, is_digit};
 
 /// The request of the statement at a place in the job, counted from 0, on a file with these fields.
 pub fn statement(

@@ -1,7 +1,10 @@
 //! Inputs that are read, and inputs with the line at which each is at fault.
+use crate::asks::{JobState, next};
 use crate::input::{InputError, read_input};
-use crate::scripts::Scripts;
+use crate::scripts::{Script, Scripts};
 use field_types::names::Name;
+use library_model::replies::Reply;
+use library_model::requests::Request;
 use std::alloc::{AllocError, Global};
 use std::process::Abort;
 use std::test::Fail;
@@ -274,5 +277,65 @@ fn first_input_is_read(rt: HostRuntime) -> Result<(), Fail> {
             }
         },
     }
+    Ok(())
+}
+
+/// The command of a request, and the line that the end of a job names.
+fn told(request: &Request) -> (&'static str, u32) {
+    match request {
+        Request::CreatePhysicalFile(_) => ("CRTPF", 0),
+        Request::OpenFile(_) => ("OPNDBF", 0),
+        Request::Write(_) => ("WRITE", 0),
+        Request::Chain(_) => ("CHAIN", 0),
+        Request::EndJob(args) => ("ENDJOB", args.line),
+        _ => ("", 0),
+    }
+}
+
+fn first_asked(
+    alloc: Global,
+    script: &Script,
+    state: &mut JobState,
+) -> Result<(&'static str, u32), AllocError> {
+    let request = next(alloc, script, state, None, false)?;
+    Ok(told(&request))
+}
+
+fn asked_after(
+    alloc: Global,
+    script: &Script,
+    state: &mut JobState,
+    reply: Reply,
+) -> Result<(&'static str, u32), AllocError> {
+    let request = next(alloc, script, state, Some(&reply), false)?;
+    Ok(told(&request))
+}
+
+#[test]
+fn statements_are_asked_in_order(rt: HostRuntime) -> Result<(), Fail> {
+    let alloc = rt.alloc();
+    let scripts = first_scripts(&rt, alloc)?;
+    let script = scripts.scripts.as_slice().first().ok_or("no script")?;
+    let mut state = JobState::new();
+    assert_eq!(rt; first_asked(alloc, script, &mut state)?, ("CRTPF", 0));
+    assert_eq!(rt;
+        asked_after(alloc, script, &mut state, Reply::Done)?,
+        ("OPNDBF", 0)
+    );
+    assert_eq!(rt;
+        asked_after(alloc, script, &mut state, Reply::Done)?,
+        ("WRITE", 0)
+    );
+    let mut full = state;
+    assert_eq!(rt;
+        asked_after(alloc, script, &mut state, Reply::Added { rrn: 1 })?,
+        ("CHAIN", 0)
+    );
+    assert_eq!(rt;
+        asked_after(alloc, script, &mut state, Reply::NotFound)?,
+        ("ENDJOB", 8)
+    );
+    let request = next(alloc, script, &mut full, Some(&Reply::Done), true)?;
+    assert_eq!(rt; told(&request), ("ENDJOB", 0));
     Ok(())
 }

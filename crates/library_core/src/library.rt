@@ -1,5 +1,5 @@
 //! The library over a store, and the one call on it.
-ghost use Rattle.std.specs.Prelude.{◌≡◌, ℕ, ◌+◌, ◌<◌, ◌∷◌, [], ◌++◌, length, IsTrue, IfOk, OnOk, OnErr, Err, false, true};
+ghost use Rattle.std.specs.Prelude.{◌≡◌, ℕ, ◌+◌, ◌<◌, ◌∷◌, [], ◌++◌, length, IsTrue, IfOk, OnOk, OnErr, IsErrOf};
 ghost use Rattle.library_model.specs.State.{empty_library, job_at, new_job};
 ghost use Rattle.library_model.specs.Answers.{Answers};
 ghost use Rattle.library_model.specs.Built.{is_built, is_built_reply};
@@ -79,7 +79,6 @@ pub fn call<S: Store>(
     requires running { IsTrue (is_running (job_at job library.old.state.jobs)) }
     requires built { IsTrue (is_built request.now) }
     ensures answer { MayAnswer sources.now library.old.state job request.now result library.new.state }
-    ensures exact { needs_memory request.now ≡ false → (library.new.state, result) ≡ step sources.now library.old.state job request.now }
     ensures running { (other : ℕ) → is_running (job_at other library.new.state.jobs) ≡ runs_after job request.now library.old.state.jobs other }
     ensures reply { IsTrue (is_built_reply result) }
     ensures store { library.new.store ≡ library.old.store }
@@ -93,7 +92,6 @@ impl Contents {
         requires running { IsTrue (is_running (job_at job self.old.jobs)) }
         requires built { IsTrue (is_built request.now) }
         ensures answer { MayAnswer sources.now self.old job request.now result self.new }
-        ensures exact { needs_memory request.now ≡ false → (self.new, result) ≡ step sources.now self.old job request.now }
         ensures running { (other : ℕ) → is_running (job_at other self.new.jobs) ≡ runs_after job request.now self.old.jobs other }
         ensures reply { IsTrue (is_built_reply result) }
     {
@@ -109,7 +107,7 @@ impl Contents {
         requires running { IsTrue (is_running (job_at job self.old.jobs)) }
         requires built { IsTrue (is_built request.now) }
         ensures step { Answers self.old self.new result (step sources.now self.old job request.now) }
-        ensures sure { needs_memory request.now ≡ false → result ≡ Err Stop.NoMemory → ⊥ }
+        ensures memory { IsErrOf result Stop.NoMemory → IsTrue (needs_memory request.now) }
     {
         match request {
             Request::CreatePhysicalFile(args) => self.create_physical_file(sources, args),

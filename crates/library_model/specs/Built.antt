@@ -3,7 +3,6 @@ use Rattle.std.specs.Prelude.{Bool, true, false, ◌&&◌, not}
 use Rattle.std.specs.Option.{is_none}
 use Rattle.library_model.specs.declared.requests.Request.{Request}
 use Rattle.library_model.specs.declared.requests.Request.TheVariants.{CreatePhysicalFile, OpenFile, Write, Chain, EndJob}
-use Rattle.library_model.specs.declared.calls.Call.{Call}
 use Rattle.library_model.specs.declared.replies.Reply.{Reply}
 use Rattle.library_model.specs.declared.replies.Reply.TheVariants.{Entries}
 use Rattle.library_model.specs.declared.requests.LockOption.{LockOption}
@@ -31,7 +30,3 @@ is_built _ = false
 abbrev pub is_built_reply : Reply → Bool
 is_built_reply (Entries entries) = false
 is_built_reply _ = true
-
--- a call that can be made so far
-abbrev pub is_built_call : Call → Bool
-is_built_call call = is_built call.request && is_built_reply call.reply

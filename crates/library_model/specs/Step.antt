@@ -1,5 +1,5 @@
 -- One step of the library: from its state and a job's request to the state after it and the reply. It has no choice.
-use Rattle.std.specs.Prelude.{◌≡◌, ℕ, ◌⊎◌, ◌==◌, ◌&&◌, Bool, true, false, not, List, Option, Some, None}
+use Rattle.std.specs.Prelude.{◌≡◌, ℕ, ◌⊎◌, ◌==◌, ◌&&◌, Bool, true, false, not, IsTrue, List, Option, Some, None}
 use Rattle.library_model.specs.declared.requests.Request.{Request}
 use Rattle.library_model.specs.declared.requests.Request.TheVariants.{CreatePhysicalFile, OpenFile, Write, Chain, EndJob}
 use Rattle.library_model.specs.declared.replies.Reply.{Reply}
@@ -22,15 +22,15 @@ step sources s job (Chain args) = chain_record s job args
 step sources s job (EndJob args) = end_job s job
 step sources s job _ = (s, NoMemory)
 
--- the answer is the step's, or want of memory, which changes nothing
-abbrev pub MayAnswer : List NamedSource → State → ℕ → Request → Reply → State → Type 0
-MayAnswer sources old job request reply new =
-    ((new, reply) ≡ step sources old job request) ⊎ ((new ≡ old) × (reply ≡ NoMemory))
-
--- the requests that never want memory
+-- the requests that may want memory: all but the end of a job
 abbrev pub needs_memory : Request → Bool
 needs_memory (EndJob args) = false
 needs_memory _ = true
+
+-- the answer is the step's, or want of memory, which changes nothing
+abbrev pub MayAnswer : List NamedSource → State → ℕ → Request → Reply → State → Type 0
+MayAnswer sources old job request reply new =
+    ((new, reply) ≡ step sources old job request) ⊎ ((new ≡ old) × (reply ≡ NoMemory) × IsTrue (needs_memory request))
 
 -- the job has begun and not ended
 abbrev pub is_running : Option Job → Bool

@@ -1,6 +1,6 @@
 //! The plain program: a library whose lists are searched from the front, with one function for each request. It is
 //! slow, and short enough to be read beside the definitions of the step, which it meets word for word.
-ghost use Rattle.std.specs.Prelude.{◌≡◌, ◌+◌, ◌<◌, ℕ, [], ◌∷◌, ◌++◌, length, false, IsTrue, IsOk, IfOk, OnOk, OnErr, option_map};
+ghost use Rattle.std.specs.Prelude.{◌≡◌, ◌+◌, ◌<◌, ℕ, [], ◌∷◌, ◌++◌, length, IsTrue, IfOk, OnOk, OnErr, option_map};
 ghost use Rattle.plain_format.specs.Packing.{values_of};
 ghost use Rattle.library_model.specs.State.{empty_library, file_named, member_named, open_named, job_at, opens_of, new_job, with_job};
 ghost use Rattle.library_model.specs.CreatePhysicalFile.{create_physical_file};
@@ -89,7 +89,6 @@ impl PlainLibrary {
         requires running { IsTrue (is_running (job_at job self.old.jobs)) }
         requires built { IsTrue (is_built request.now) }
         ensures answer { MayAnswer sources.now self.old job request.now result self.new }
-        ensures exact { needs_memory request.now ≡ false → (self.new, result) ≡ step sources.now self.old job request.now }
     {
         match self.perform(sources, job, request) {
             Ok(reply) => reply,
@@ -108,7 +107,7 @@ impl PlainLibrary {
         requires built { IsTrue (is_built request.now) }
         ensures step { IfOk result (λ reply. (self.new, reply) ≡ step sources.now self.old job request.now) }
         ensures unchanged { OnErr result (self.new ≡ self.old) }
-        ensures sure { needs_memory request.now ≡ false → IsOk result }
+        ensures memory { OnErr result (IsTrue (needs_memory request.now)) }
     {
         match request {
             Request::CreatePhysicalFile(args) => self.create_physical_file(sources, args),

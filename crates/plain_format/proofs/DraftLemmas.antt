@@ -8,8 +8,8 @@ use Rattle.std.proofs.lemmas.Bool.{leb-true, leb-false, le-leb, lt-leb, ne_eqb, 
 use Rattle.std.proofs.lemmas.Option.{cond_some}
 use Rattle.std.proofs.lemmas.List.Sums.{sum_by-append}
 use Rattle.std.proofs.lemmas.List.Folds.{list_any-append}
-use Rattle.plain_format.specs.Lines.{is_blank, name_alone}
-use Rattle.plain_format.specs.Decimal.{decimal_up_to}
+use Rattle.text_lines.specs.Lines.{is_blank, name_alone}
+use Rattle.text_lines.specs.Decimal.{decimal_up_to}
 use Rattle.std.specs.Cmp.Lexicographic.{pointwise}
 use Rattle.std.specs.Prelude.{nat_eq, IfSome}
 use Rattle.plain_format.specs.declared.formats.Field.{Field}

@@ -1,6 +1,4 @@
-pub mod DecimalLemmas
+pub mod ColumnLemmas
 pub mod DraftLemmas
-pub mod LineLemmas
 pub mod PackingLemmas
 pub mod SourceLemmas
-pub mod TextLemmas

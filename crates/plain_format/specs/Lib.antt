@@ -1,4 +1,2 @@
-pub mod Decimal
-pub mod Lines
 pub mod Packing
 pub mod PlainSource

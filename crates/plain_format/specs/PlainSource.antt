@@ -5,8 +5,8 @@ use Rattle.std.specs.Option.{option_map, option_and_then}
 use Rattle.std.specs.List.{list_all, list_any, prefix_len}
 use Rattle.std.specs.Cmp.Lexicographic.{pointwise}
 use Rattle.std.specs.Prelude.{nat_eq, drop, not}
-use Rattle.plain_format.specs.Lines.{lines_of, is_blank, name_alone}
-use Rattle.plain_format.specs.Decimal.{decimal_up_to}
+use Rattle.text_lines.specs.Lines.{lines_of, is_blank, name_alone}
+use Rattle.text_lines.specs.Decimal.{decimal_up_to}
 use Rattle.plain_format.specs.Packing.{record_length}
 use Rattle.plain_format.specs.declared.formats.Field.{Field}
 use Rattle.plain_format.specs.declared.formats.Format.{Format}

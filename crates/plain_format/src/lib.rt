@@ -1,10 +1,8 @@
 //! Record formats of character fields: read from the plainest sources, their images packed and unpacked.
 #![tactic(auto)]
 
-pub mod decimals;
 pub mod draft;
 pub mod formats;
-pub mod lines;
 pub mod packing;
 pub mod reading;
 #[cfg(test)]

@@ -2,16 +2,16 @@
 //! The rules stand in `specs/PlainSource.antt`; `draft.rt` puts a format together line by line.
 ghost use Rattle.std.specs.Prelude.{◌≡◌, ◌≤◌, ◌++◌, length, map, not, replicate, slice_range, take};
 ghost use Rattle.std.specs.List.{prefix_len};
-ghost use Rattle.plain_format.specs.Lines.{is_blank, name_alone};
+ghost use Rattle.text_lines.specs.Lines.{is_blank, name_alone};
 ghost use Rattle.plain_format.specs.PlainSource.{columns, folded, without_return, is_blank_at, is_skipped, has_blank_margins, entries, field_line, length_of_entry, plain_line, format_of, HasWidth, ReadsFormat};
 ghost use Rattle.plain_format.specs.declared.reading.FormatError.TheVariants.{NoMemory};
 
-use crate::decimals::decimal;
 use crate::draft::Draft;
 use crate::formats::{Field, Format};
-use crate::lines::{is_blank, name_alone, split_line};
 use field_types::names::Name;
 use std::alloc::{AllocError, Global};
+use text_lines::decimals::decimal;
+use text_lines::lines::{blanks_before, is_blank, name_alone, split_line};
 
 /// What a line of a source says.
 #[derive(Clone, Copy)]
@@ -109,14 +109,6 @@ fn length_of_entry(entry: &[u8]) -> Option<u16>
         Some(length) if length != 0 => Some(length as u16),
         _ => None,
     }
-}
-
-#[tactic(auto, using(crate::proofs::LineLemmas::counted))]
-fn blanks_before(entry: &[u8]) -> usize
-    ensures blanks { result ≡ prefix_len is_blank entry.now }
-    ensures within { result ≤ length entry.now }
-{
-    entry.iter().take_while(|&&byte| is_blank(byte)).count()
 }
 
 fn is_skipped(columns: &[u8; 80]) -> bool

@@ -1,5 +1,5 @@
 use Rattle.std.proofs.Common.{◌≡◌, ◌+◌, None, sym, ◌∙◌, subst}
-use Rattle.plain_format.specs.Lines.{lines_of}
+use Rattle.text_lines.specs.Lines.{lines_of}
 use Rattle.job_script.specs.Input.{IsFirstFault}
 use Rattle.job_script.specs.LineByLine.{step, ended}
 use Rattle.job_script.proofs.FaultLemmas.{ReadSoFar, ReadSoFar-more, IsFirstFault-line, IsFirstFault-end, IsFirstFault-input, Reads-end}

@@ -1,4 +1,4 @@
-use Rattle.plain_format.proofs.LineLemmas.{shown_columns}
+use Rattle.plain_format.proofs.ColumnLemmas.{shown_columns}
 use Rattle.plain_format.proofs.reading.filled.Goals as goal
 
 pub returns : goal.returns

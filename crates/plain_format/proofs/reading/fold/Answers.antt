@@ -1,6 +1,6 @@
 use Rattle.std.proofs.Common.{◌<◌, ◌≤◌, length, arith}
 use Rattle.plain_format.specs.PlainSource.{folded}
-use Rattle.plain_format.proofs.LineLemmas.{folded_more, folded_all}
+use Rattle.plain_format.proofs.ColumnLemmas.{folded_more, folded_all}
 use Rattle.plain_format.proofs.reading.fold.Goals as goal
 
 pub loop-i-preserved : goal.loop-i-preserved

@@ -1,4 +1,4 @@
-use Rattle.plain_format.specs.Lines.{lines_of}
+use Rattle.text_lines.specs.Lines.{lines_of}
 use Rattle.plain_format.specs.PlainSource.{format_of}
 use Rattle.plain_format.proofs.DraftLemmas.{read-ends}
 use Rattle.plain_format.proofs.reading.read_format.Goals as goal

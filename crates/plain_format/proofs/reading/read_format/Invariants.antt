@@ -1,7 +1,7 @@
 use Rattle.std.proofs.Common.{◌≡◌, length}
 use Rattle.plain_format.specs.PlainSource.{format_of, IsDraft}
 use Rattle.plain_format.proofs.DraftLemmas.{completed}
-use Rattle.plain_format.specs.Lines.{lines_of}
+use Rattle.text_lines.specs.Lines.{lines_of}
 use Rattle.plain_format.proofs.reading.read_format.Given as goal
 
 abbrev pub invariant-loop-line : goal.invariant-loop-line

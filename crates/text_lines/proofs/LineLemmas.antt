@@ -1,16 +1,13 @@
 -- Where a line ends, and what is behind it.
-use Rattle.std.proofs.Common.{◌≡◌, ℕ, ◌+◌, ◌<◌, ◌≤◌, Bool, true, false, cond, not, List, [], ◌∷◌, ◌++◌, length, take, drop, eqb, refl, ap, ◌∙◌, arith, suc, sym, length-drop, Option, Some, None, IsTrue, ◌&&◌, ◌-◌, min, replicate, ⊎_elim, subst, append-nil, map, set, get_or, length-append}
-use Rattle.std.proofs.str.Laws.{order}
+use Rattle.std.proofs.Common.{◌≡◌, ℕ, ◌+◌, ◌<◌, ◌≤◌, Bool, true, false, cond, not, List, [], ◌∷◌, length, take, drop, eqb, refl, ap, ◌∙◌, arith, suc, sym, length-drop, Option, Some, None, IsTrue, ◌&&◌, ◌-◌, subst}
 use Rattle.std.specs.Prelude.{IsSome, IfSome, ◌↔◌}
 use Rattle.std.specs.List.{position_or_len}
 use Rattle.std.proofs.lemmas.List.Sums.{prefix_len-le-length}
 use Rattle.std.proofs.lemmas.List.Folds.{length-prefix_len}
-use Rattle.std.proofs.lemmas.List.{take_all, drop_all, length-map, length-take, get_or_default, take-replicate, drop-replicate, take-append-le}
-use Rattle.std.proofs.lemmas.List.Edits.{map_over_more}
-use Rattle.std.proofs.Math.Seq.{take-length, take-append-add}
+use Rattle.std.proofs.lemmas.List.{take_all, drop_all}
 use Rattle.std.specs.List.{list_all}
 use Rattle.field_types.specs.SystemName.{is_name}
-use Rattle.plain_format.specs.Lines.{lines_of, onto_first, is_blank, word_length, name_alone}
+use Rattle.text_lines.specs.Lines.{lines_of, onto_first, is_blank, word_length, name_alone}
 
 pub ruleset counted = (length-prefix_len, prefix_len-le-length)
 
@@ -67,30 +64,3 @@ lines_of-last text n here past some =
     let behind : drop (n + 1) text ≡ [] = drop_all (n + 1) text (omega arith) in
     let cut : lines_of text ≡ take n text ∷ lines_of (drop (n + 1) text) = subst P (sym here) (lines_of-cut text some) in
     rw (rest_of n text, nothing) (cut ∙ (λ i. all i ∷ lines_of (behind i)), some)
-
--- the characters up to a place were written over, and one more is
-pub folded_more : (f : ℕ → ℕ) (xs ys : List ℕ) (i : ℕ) → i < length xs → ys ≡ map f (take i xs) ++ drop i xs → set ys i (f (get_or ys i 0)) ≡ map f (take (i + 1) xs) ++ drop (i + 1) xs
-folded_more f xs ys i within so_far =
-    let same : length ys ≡ length xs = ap length so_far ∙ simp (length-append, length-map, length-take, length-drop) (omega arith) in
-    map_over_more f xs ys i (get_or ys i 0) within so_far (get_or_default ys i 0 (get_or ys i 0) (omega arith))
-
-pub folded_all : (f : ℕ → ℕ) (xs ys : List ℕ) (i : ℕ) → length xs ≤ i → ys ≡ map f (take i xs) ++ drop i xs → ys ≡ map f xs
-folded_all f xs ys i past so_far = so_far ∙ rw (take_all i xs past, drop_all i xs past, append-nil (map f xs)) refl
-
--- the first 80 characters, with blanks behind a shorter line
-pub shown_columns : (line : List ℕ) (shown : ℕ) → shown ≡ min (length line) 80 → take shown line ++ drop shown (replicate 80 32) ≡ take 80 (line ++ replicate 80 32)
-shown_columns line shown e = ⊎_elim
-    (λ short.
-    let all : shown ≡ length line = omega arith in
-    let more : 80 ≡ length line + (80 - length line) = omega arith in
-    let room : 80 - length line ≤ 80 = omega arith in
-    let end : take (length line + (80 - length line)) (line ++ replicate 80 32) ≡ line ++ replicate (80 - length line) 32 = take-append-add line (replicate 80 32) (80 - length line) ∙ ap (λ blanks. line ++ blanks) (take-replicate {X = ℕ} (80 - length line) 80 32 room) in
-    subst (λ n. take n line ++ drop n (replicate 80 32) ≡ take 80 (line ++ replicate 80 32)) (sym all)
-    (rw (take-length line, drop-replicate {X = ℕ} (length line) 80 32)
-    (subst (λ n. line ++ replicate (80 - length line) 32 ≡ take n (line ++ replicate 80 32)) (sym more) (sym end))))
-    (λ long.
-    let all : shown ≡ 80 = omega arith in
-    let within : 80 ≤ length line = omega arith in
-    subst (λ n. take n line ++ drop n (replicate 80 32) ≡ take 80 (line ++ replicate 80 32)) (sym all)
-    (rw (take-append-le 80 line (replicate 80 32) within, drop-replicate {X = ℕ} 80 80 32, append-nil (take 80 line)) refl))
-    (order (length line) 80)

@@ -1,6 +1,6 @@
 //! Numbers spelled in decimal digits.
 ghost use Rattle.std.specs.Prelude.{◌≡◌, ◌≤◌, IfSome};
-ghost use Rattle.plain_format.specs.Decimal.{is_digit, decimal_up_to};
+ghost use Rattle.text_lines.specs.Decimal.{is_digit, decimal_up_to};
 
 /// The number that the digits spell, where there is nothing but digits and it passes no limit; 0 for no digits.
 pub fn decimal(text: &[u8], limit: u32) -> Option<u32>

@@ -2,7 +2,7 @@
 use Rattle.std.proofs.Common.{◌≡◌, ℕ, Bool, true, false, not, ◌&&◌, List, [], ◌∷◌, ◌++◌, eqb, refl, ap, ◌∙◌, append_assoc, ⊎_elim}
 use Rattle.std.specs.List.{list_all}
 use Rattle.std.proofs.lemmas.Bool.{cases_Bool, and_parts, and_from, not-true, not_from_false, cond-false, cond-true}
-use Rattle.plain_format.specs.Lines.{lines_of, onto_first, text_of_lines}
+use Rattle.text_lines.specs.Lines.{lines_of, onto_first, text_of_lines}
 
 -- whether a line has no line feed
 abbrev pub has_no_feed : List ℕ → Bool

@@ -1,7 +1,7 @@
 -- Digits one by one: each is one more, and a number that has passed the limit stays past it.
 use Rattle.std.proofs.Common.{◌≡◌, ℕ, ◌+◌, ◌-◌, ◌*◌, ◌<◌, true, false, cond, List, [], ◌∷◌, length, drop, get_or, None, refl, ap, ◌∙◌, arith, drop-cons, suc}
 use Rattle.std.proofs.lemmas.Bool.Decides.{nat_tests}
-use Rattle.plain_format.specs.Decimal.{digits_from, is_digit}
+use Rattle.text_lines.specs.Decimal.{digits_from, is_digit}
 
 -- past the limit there is no number
 pub digits_from-past : (limit n : ℕ) (digits : List ℕ) → limit < n → digits_from limit n digits ≡ None

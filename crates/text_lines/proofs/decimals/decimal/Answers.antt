@@ -1,6 +1,6 @@
 use Rattle.std.proofs.Common.{◌<◌, ◌+◌, ◌*◌, ◌-◌, get_or, sym, ◌∙◌, arith}
-use Rattle.plain_format.proofs.DecimalLemmas.{digits_from-ends}
-use Rattle.plain_format.proofs.decimals.decimal.Goals as goal
+use Rattle.text_lines.proofs.DecimalLemmas.{digits_from-ends}
+use Rattle.text_lines.proofs.decimals.decimal.Goals as goal
 
 pub returns-then-number-from-clause-spelled : goal.returns-then-number-from-clause-spelled
 returns-then-number-from-clause-spelled c =

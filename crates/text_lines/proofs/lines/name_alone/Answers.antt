@@ -1,8 +1,8 @@
 use Rattle.std.proofs.Common.{sym, ap, ◌∙◌}
 use Rattle.std.specs.List.{list_all}
-use Rattle.plain_format.specs.Lines.{is_blank}
-use Rattle.plain_format.proofs.LineLemmas.{name_alone-from, name_alone-none, rest_of}
-use Rattle.plain_format.proofs.lines.name_alone.Goals as goal
+use Rattle.text_lines.specs.Lines.{is_blank}
+use Rattle.text_lines.proofs.LineLemmas.{name_alone-from, name_alone-none, rest_of}
+use Rattle.text_lines.proofs.lines.name_alone.Goals as goal
 
 pub returns-then-is_all_blank : goal.returns-then-is_all_blank
 returns-then-is_all_blank c =

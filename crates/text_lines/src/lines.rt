@@ -1,8 +1,8 @@
 //! Lines of a text one after another, and the name that a line holds.
 ghost use Rattle.std.specs.Prelude.{◌≡◌, ◌<◌, ◌∷◌, [], length, MatchOption};
 ghost use Rattle.std.specs.Prelude.{◌==◌, ◌≤◌};
-ghost use Rattle.std.specs.List.{list_all, position_or_len};
-ghost use Rattle.plain_format.specs.Lines.{is_blank, lines_of, name_alone, word_length};
+ghost use Rattle.std.specs.List.{list_all, position_or_len, prefix_len};
+ghost use Rattle.text_lines.specs.Lines.{is_blank, lines_of, name_alone, word_length};
 
 use field_types::names::Name;
 
@@ -11,6 +11,15 @@ pub fn is_blank(byte: u8) -> bool
     ensures { result ≡ is_blank byte }
 {
     byte == b' ' || byte == b'\t'
+}
+
+/// How many blanks stand at the front of a text.
+#[tactic(auto, using(crate::proofs::LineLemmas::counted))]
+pub fn blanks_before(text: &[u8]) -> usize
+    ensures blanks { result ≡ prefix_len is_blank text.now }
+    ensures within { result ≤ length text.now }
+{
+    text.iter().take_while(|&&byte| is_blank(byte)).count()
 }
 
 /// The first line of a text without its line feed, and what is behind the line feed.

@@ -1,6 +1,6 @@
 use Rattle.std.proofs.Common.{◌<◌, length, arith, false-eqb}
-use Rattle.plain_format.proofs.LineLemmas.{lines_of-split, lines_of-last}
-use Rattle.plain_format.proofs.lines.split_line.Goals as goal
+use Rattle.text_lines.proofs.LineLemmas.{lines_of-split, lines_of-last}
+use Rattle.text_lines.proofs.lines.split_line.Goals as goal
 
 pub returns-then-end-text : goal.returns-then-end-text
 returns-then-end-text c = lines_of-split c.args.text.now c.line_length-end.result c.line_length-end.ensures.line c.if-end-text.true

@@ -1,6 +1,6 @@
 use Rattle.std.proofs.Common.{◌≡◌, ◌≤◌, drop}
-use Rattle.plain_format.specs.Decimal.{digits_from, decimal_up_to}
-use Rattle.plain_format.proofs.decimals.decimal.Given as goal
+use Rattle.text_lines.specs.Decimal.{digits_from, decimal_up_to}
+use Rattle.text_lines.proofs.decimals.decimal.Given as goal
 
 abbrev pub invariant-loop-digit : goal.invariant-loop-digit
 invariant-loop-digit l =
