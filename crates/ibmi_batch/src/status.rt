@@ -1,4 +1,6 @@
 //! What a run came to: a number for the caller, and a text beside it.
+ghost use Rattle.std.specs.Prelude.{◌≡◌};
+ghost use Rattle.ibmi_batch.specs.Outcome.{status_number};
 
 use std::fmt;
 
@@ -27,7 +29,9 @@ pub enum Status {
 
 impl Status {
     /// The number with which the process ends.
-    pub fn number(self) -> u8 {
+    pub fn number(self) -> u8
+        ensures { result ≡ status_number self }
+    {
         match self {
             Status::Done => 0,
             Status::Words => 1,

@@ -1,6 +1,7 @@
 use Rattle.std.proofs.Common.{◌≡◌, ◌≤◌, List, ℕ, length, Err, ap, sym, ◌∙◌, subst}
 use Rattle.plain_format.specs.Lines.{lines_of}
 use Rattle.job_script.specs.Input.{IsFirstFault, IsInput, Reads}
+use Rattle.job_runner.specs.Made.{AreGiven}
 use Rattle.ibmi_batch.specs.Outcome.{ListsFor}
 use Rattle.ibmi_batch.proofs.RunLemmas.{short-Reads, InputFor-Lists, WrittenFor-Lists}
 use Rattle.ibmi_batch.proofs.batch.run_alone.Goals as goal
@@ -9,7 +10,8 @@ pub returns-in-Err-Script-clause-input : goal.returns-in-Err-Script-clause-input
 returns-in-Err-Script-clause-input g c tells =
     let here = c.in-Err-Script.ensures.fault c.in-Err-Script.line (ap Err c.in-Err-Script.field-0-is) in
     let there = subst (λ bytes. IsFirstFault (lines_of bytes) c.in-Err-Script.line) (c.as_slice.ensures.value ∙ sym (c.in-Ok.ensures.whole tells)) here in
-    subst (λ line. IsFirstFault (lines_of (g.I.Source.left c.args.input.now)) line) (sym c.in-Err-Script.line-is) there
+    let within = subst (λ bytes. length bytes ≤ 16777216) (sym (c.in-Ok.ensures.whole tells)) c.in-Ok.ensures.within in
+    (subst (λ line. IsFirstFault (lines_of (g.I.Source.left c.args.input.now)) line) (sym c.in-Err-Script.line-is) there, within)
 
 pub returns-in-Err-Script-clause-complete : goal.returns-in-Err-Script-clause-complete
 returns-in-Err-Script-clause-complete g c tells run input short no_fault no_write_fault =
@@ -24,10 +26,11 @@ pub returns-in-Ok-new-clause-input : goal.returns-in-Ok-new-clause-input
 returns-in-Ok-new-clause-input g c tells =
     let reads = subst (λ bytes. Reads (lines_of bytes) c.in-Ok-read_input.scripts) (c.as_slice.ensures.value ∙ sym (c.in-Ok.ensures.whole tells)) c.in-Ok-read_input.ensures.read in
     let within = subst (λ bytes. length bytes ≤ 16777216) (sym (c.in-Ok.ensures.whole tells)) c.in-Ok.ensures.within in
-    InputFor-Lists c.run_session.result.0 g.O.Sink.tells c.in-Ok-new.session.scripts (g.I.Source.left c.args.input.now) (g.O.Sink.taken c.args.out.now) (g.O.Sink.taken c.run_session.new.out) c.run_session.ensures.lists (subst (λ scripts. Reads (lines_of (g.I.Source.left c.args.input.now)) scripts) (sym c.in-Ok-new.ensures.scripts) reads) within
+    InputFor-Lists c.run_session.result.0 g.O.Sink.tells c.in-Ok-new.session.scripts (AreGiven g.C.Clock.gives c.in-Ok-new.session.clock c.run_session.result.2) (g.I.Source.left c.args.input.now) (g.O.Sink.taken c.args.out.now) (g.O.Sink.taken c.run_session.new.out) c.run_session.ensures.lists (subst (λ scripts. Reads (lines_of (g.I.Source.left c.args.input.now)) scripts) (sym c.in-Ok-new.ensures.scripts) reads) within
 
 pub returns-in-Ok-new-clause-written : goal.returns-in-Ok-new-clause-written
 returns-in-Ok-new-clause-written g c tells told =
     let reads = subst (λ bytes. Reads (lines_of bytes) c.in-Ok-read_input.scripts) (c.as_slice.ensures.value ∙ sym (c.in-Ok.ensures.whole tells)) c.in-Ok-read_input.ensures.read in
-    let lists = subst (λ scripts. ListsFor c.run_session.result.0 g.O.Sink.tells scripts (g.O.Sink.taken c.args.out.now) (g.O.Sink.taken c.run_session.new.out)) c.in-Ok-new.ensures.scripts c.run_session.ensures.lists in
-    WrittenFor-Lists c.run_session.result.0 g.O.Sink.tells c.in-Ok-read_input.scripts (g.I.Source.left c.args.input.now) (g.O.Sink.taken c.args.out.now) (g.O.Sink.taken c.run_session.new.out) lists reads told
+    let lists = subst (λ scripts. ListsFor c.run_session.result.0 g.O.Sink.tells scripts (AreGiven g.C.Clock.gives c.in-Ok-new.session.clock c.run_session.result.2) (g.O.Sink.taken c.args.out.now) (g.O.Sink.taken c.run_session.new.out)) c.in-Ok-new.ensures.scripts c.run_session.ensures.lists in
+    let its_clock = subst (λ clock. ListsFor c.run_session.result.0 g.O.Sink.tells c.in-Ok-read_input.scripts (AreGiven g.C.Clock.gives clock c.run_session.result.2) (g.O.Sink.taken c.args.out.now) (g.O.Sink.taken c.run_session.new.out)) c.in-Ok-new.ensures.clock lists in
+    WrittenFor-Lists c.run_session.result.0 g.O.Sink.tells c.in-Ok-read_input.scripts (AreGiven g.C.Clock.gives c.args.clock c.run_session.result.2) (g.I.Source.left c.args.input.now) (g.O.Sink.taken c.args.out.now) (g.O.Sink.taken c.run_session.new.out) its_clock reads told

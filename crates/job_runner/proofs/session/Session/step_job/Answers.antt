@@ -72,7 +72,7 @@ returns-clause-ended g c =
 pub returns-clause-called : goal.returns-clause-called
 returns-clause-called g c = λ e.
     let made : Call = record { job = c.args.job; moment = c.now-moment.result; request = c.in-Ok.request; reply = c.call-reply.result } in
-    (made, refl, rw (← c.self.view_is) (rw c.reserve.ensures.unchanged at c.push.ensures.calls))
+    (made, refl, rw (← c.self.view_is) c.now-moment.ensures, rw (← c.self.view_is) (rw c.reserve.ensures.unchanged at c.push.ensures.calls))
 
 pub returns-clause-nearer : goal.returns-clause-nearer
 returns-clause-nearer g c = λ e.
