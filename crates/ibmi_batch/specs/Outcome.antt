@@ -57,40 +57,42 @@ pub record IsWholeRun (scripts : Scripts) (calls : List Call) : Type 0 where
   pub run : IsRun scripts state calls
   pub ended : (job : ℕ) → 1 ≤ job → job ≤ length scripts.scripts → IsTrue (has_ended job calls)
 
--- such a history, and its listing was written
-pub record Listed (scripts : Scripts) (sink_tells : Type 0) (old new : List ℕ) (early : Bool) : Type 0 where
+-- such a history with moments that were given, and its listing was written
+pub record Listed (scripts : Scripts) (given : List Call → Type 0) (sink_tells : Type 0) (old new : List ℕ) (early : Bool) : Type 0 where
   pub calls : List Call
   pub run : IsWholeRun scripts calls
+  pub moments : given calls
   pub ends : has_early_end calls ≡ early
   pub written : sink_tells → new ≡ old ++ listing scripts.names calls
 
 -- such a history, and the first part of its listing was written
-pub record ListedInPart (scripts : Scripts) (sink_tells : Type 0) (old new : List ℕ) : Type 0 where
+pub record ListedInPart (scripts : Scripts) (given : List Call → Type 0) (sink_tells : Type 0) (old new : List ℕ) : Type 0 where
   pub calls : List Call
   pub run : IsWholeRun scripts calls
+  pub moments : given calls
   pub written : sink_tells → (part : ℕ) × (new ≡ old ++ take part (listing scripts.names calls))
 
 -- what a session has done at a status, and what it has written, where the sink tells what it takes
-abbrev pub ListsFor : Status → Scripts → (sink_tells : Type 0) → (old new : List ℕ) → Type 0
-ListsFor Done scripts sink_tells old new = Listed scripts sink_tells old new false
-ListsFor JobsEnded scripts sink_tells old new = Listed scripts sink_tells old new true
-ListsFor WriteFault scripts sink_tells old new = ListedInPart scripts sink_tells old new
-ListsFor NoMemory scripts sink_tells old new = sink_tells → new ≡ old
-ListsFor _ scripts sink_tells old new = ⊥
+abbrev pub ListsFor : Status → Scripts → (List Call → Type 0) → (sink_tells : Type 0) → (old new : List ℕ) → Type 0
+ListsFor Done scripts given sink_tells old new = Listed scripts given sink_tells old new false
+ListsFor JobsEnded scripts given sink_tells old new = Listed scripts given sink_tells old new true
+ListsFor WriteFault scripts given sink_tells old new = ListedInPart scripts given sink_tells old new
+ListsFor NoMemory scripts given sink_tells old new = sink_tells → new ≡ old
+ListsFor _ scripts given sink_tells old new = ⊥
 
 -- the jobs of the input ran to their ends, and what was written is the listing, or its first part
-abbrev pub RanWhole : (source_tells sink_tells : Type 0) → (input old new : List ℕ) → Bool → Type 0
-RanWhole source_tells sink_tells input old new early = (scripts : Scripts) × IsRead source_tells input scripts × Listed scripts sink_tells old new early
+abbrev pub RanWhole : (source_tells : Type 0) → (input : List ℕ) → (List Call → Type 0) → (sink_tells : Type 0) → (old new : List ℕ) → Bool → Type 0
+RanWhole source_tells input given sink_tells old new early = (scripts : Scripts) × IsRead source_tells input scripts × Listed scripts given sink_tells old new early
 
-abbrev pub RanInPart : (source_tells sink_tells : Type 0) → (input old new : List ℕ) → Type 0
-RanInPart source_tells sink_tells input old new = (scripts : Scripts) × IsRead source_tells input scripts × ListedInPart scripts sink_tells old new
+abbrev pub RanInPart : (source_tells : Type 0) → (input : List ℕ) → (List Call → Type 0) → (sink_tells : Type 0) → (old new : List ℕ) → Type 0
+RanInPart source_tells input given sink_tells old new = (scripts : Scripts) × IsRead source_tells input scripts × ListedInPart scripts given sink_tells old new
 
 -- what a run has done at a status, and what it has written behind what the sink had taken: else nothing
-abbrev pub WrittenFor : Status → (source_tells sink_tells : Type 0) → (input old new : List ℕ) → Type 0
-WrittenFor Done source_tells sink_tells input old new = RanWhole source_tells sink_tells input old new false
-WrittenFor JobsEnded source_tells sink_tells input old new = RanWhole source_tells sink_tells input old new true
-WrittenFor WriteFault source_tells sink_tells input old new = RanInPart source_tells sink_tells input old new
-WrittenFor _ source_tells sink_tells input old new = sink_tells → new ≡ old
+abbrev pub WrittenFor : Status → (source_tells : Type 0) → (input : List ℕ) → (List Call → Type 0) → (sink_tells : Type 0) → (old new : List ℕ) → Type 0
+WrittenFor Done source_tells input given sink_tells old new = RanWhole source_tells input given sink_tells old new false
+WrittenFor JobsEnded source_tells input given sink_tells old new = RanWhole source_tells input given sink_tells old new true
+WrittenFor WriteFault source_tells input given sink_tells old new = RanInPart source_tells input given sink_tells old new
+WrittenFor _ source_tells input given sink_tells old new = sink_tells → new ≡ old
 
 -- the statuses of an input that is in order, where no fault comes
 abbrev pub IsOrderly : Status → Type 0

@@ -4,6 +4,7 @@ ghost use Rattle.store_model.specs.Faults.{Rose};
 ghost use Rattle.job_script.specs.Input.{IsInput};
 ghost use Rattle.text_lines.specs.Lines.{lines_of};
 ghost use Rattle.job_runner.specs.Ended.{has_ended, has_early_end, ends_early};
+ghost use Rattle.job_runner.specs.Made.{AreGiven};
 ghost use Rattle.ibmi_batch.specs.Words.{are_run_words};
 ghost use Rattle.ibmi_batch.specs.Outcome.{WordsFor, CauseFor, InputFor, LeftFor, WrittenFor, IsOrderly, ListsFor};
 
@@ -46,7 +47,7 @@ pub fn program<
     ensures cause { CauseFor result.0 (Rose (I.faults input.old) (I.faults input.new)) (Rose (O.faults out.old) (O.faults out.new)) }
     ensures input { I.tells → InputFor result.0 (I.left input.old) }
     ensures left { I.tells → LeftFor result.0 (I.left input.new) }
-    ensures written { WrittenFor result.0 (I.tells) (O.tells) (I.left input.old) (O.taken out.old) (O.taken out.new) }
+    ensures written { WrittenFor result.0 (I.tells) (I.left input.old) (AreGiven C.gives clock result.2) (O.tells) (O.taken out.old) (O.taken out.new) }
     ensures complete { I.tells → are_run_words (map string_bytes words.now) ≡ true → IsInput (lines_of (I.left input.old)) → length (I.left input.old) ≤ 16777216 → (Rose (I.faults input.old) (I.faults input.new) → ⊥) → (Rose (O.faults out.old) (O.faults out.new) → ⊥) → IsOrderly result.0 }
     ensures store { result.1 ≡ store }
 {
@@ -66,7 +67,7 @@ pub fn run_alone<S: Store, I: Source, O: Sink, C: Clock>(
     ensures cause { CauseFor result.0 (Rose (I.faults input.old) (I.faults input.new)) (Rose (O.faults out.old) (O.faults out.new)) }
     ensures input { I.tells → InputFor result.0 (I.left input.old) }
     ensures left { I.tells → LeftFor result.0 (I.left input.new) }
-    ensures written { WrittenFor result.0 (I.tells) (O.tells) (I.left input.old) (O.taken out.old) (O.taken out.new) }
+    ensures written { WrittenFor result.0 (I.tells) (I.left input.old) (AreGiven C.gives clock result.2) (O.tells) (O.taken out.old) (O.taken out.new) }
     ensures complete { I.tells → are_run_words (map string_bytes words.now) ≡ true → IsInput (lines_of (I.left input.old)) → length (I.left input.old) ≤ 16777216 → (Rose (I.faults input.old) (I.faults input.new) → ⊥) → (Rose (O.faults out.old) (O.faults out.new) → ⊥) → IsOrderly result.0 }
     ensures store { result.1 ≡ store }
 {
@@ -97,14 +98,15 @@ fn run_session<S: Store, O: Sink, C: Clock>(
     out: &mut O,
 ) -> (Status, S, C)
     requires { session.calls ≡ [] }
-    ensures lists { ListsFor result.0 session.scripts (O.tells) (O.taken out.old) (O.taken out.new) }
+    ensures lists { ListsFor result.0 session.scripts (AreGiven C.gives session.clock result.2) (O.tells) (O.taken out.old) (O.taken out.new) }
     ensures cause { CauseFor result.0 ⊥ (Rose (O.faults out.old) (O.faults out.new)) }
     ensures store { result.1 ≡ session.library.store }
 {
-    let status = match session.run_in_order() {
-        Ran::Done => write_listing(alloc, &session, out),
-        Ran::Stopped => Status::StoreFault,
-        Ran::NoMemory => Status::NoMemory,
+    let ran = session.run_in_order();
+    let status = if ran == Ran::Done {
+        write_listing(alloc, &session, out)
+    } else {
+        Status::NoMemory
     };
     let (store, clock) = session.into_parts();
     (status, store, clock)
@@ -117,7 +119,7 @@ fn write_listing<S: Store, O: Sink, C: Clock>(
     out: &mut O,
 ) -> Status
     requires { (job : ℕ) → 1 ≤ job → job ≤ length session.now.scripts.scripts → IsTrue (has_ended job session.now.calls) }
-    ensures lists { ListsFor result session.now.scripts (O.tells) (O.taken out.old) (O.taken out.new) }
+    ensures lists { ListsFor result session.now.scripts (λ calls. calls ≡ session.now.calls) (O.tells) (O.taken out.old) (O.taken out.new) }
     ensures cause { CauseFor result ⊥ (Rose (O.faults out.old) (O.faults out.new)) }
 {
     let calls = session.history();

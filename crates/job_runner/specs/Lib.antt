@@ -1,4 +1,5 @@
 pub mod Asked
 pub mod Ended
 pub mod Session
+pub mod Made
 pub mod Places

@@ -1,8 +1,9 @@
 //! A session: a library, the scripts of its jobs, and the history of their calls.
-ghost use Rattle.std.specs.Prelude.{◌≡◌, ◌≢◌, ℕ, ◌+◌, ◌<◌, ◌≤◌, ◌↔◌, [], ◌∷◌, ◌++◌, length, replicate, IsTrue, IfOk, IfErr, OnOk, OnErr, option_copied};
+ghost use Rattle.std.specs.Prelude.{◌≡◌, ◌≢◌, ℕ, List, ◌+◌, ◌<◌, ◌≤◌, ◌↔◌, [], ◌∷◌, ◌++◌, length, replicate, false, IsTrue, IfOk, IfErr, OnOk, OnErr, option_copied};
 ghost use Rattle.library_model.specs.declared.calls.Call.{Call};
 ghost use Rattle.job_runner.specs.declared.session.Stepped.TheVariants.{Called, Ended, Stopped};
 ghost use Rattle.job_runner.specs.Ended.{calls_of, replies_of, has_ended};
+ghost use Rattle.job_runner.specs.Made.{AreGiven, AreInOrder, AreOf};
 ghost use Rattle.job_script.specs.Asks.{last_of};
 ghost use Rattle.library_model.specs.State.{empty_library, begun};
 ghost use Rattle.job_runner.specs.Session.{IsRun, are_built, remaining};
@@ -90,7 +91,8 @@ impl<S: Store, C: Clock> Session<S, C> {
         ensures scripts { IfOk result (λ session. session.scripts ≡ scripts) }
         ensures calls { IfOk result (λ session. session.calls ≡ []) }
         ensures store { IfOk result (λ session. session.library.store ≡ library.store) }
-        ensures back { IfErr result (λ parts. parts.0.store ≡ library.store) }
+        ensures clock { IfOk result (λ session. session.clock ≡ clock) }
+        ensures back { IfErr result (λ parts. (parts.0.store ≡ library.store) × (parts.1 ≡ clock)) }
     {
         let mut library = library;
         if begin_jobs(&mut library, scripts.names.as_slice()).is_err() {
@@ -111,7 +113,8 @@ impl<S: Store, C: Clock> Session<S, C> {
 
     /// Hands the store and the clock back.
     pub fn into_parts(self) -> (S, C)
-        ensures { result.0 ≡ self.library.store }
+        ensures store { result.0 ≡ self.library.store }
+        ensures clock { result.1 ≡ self.clock }
     {
         let Session {
             alloc: _,
@@ -126,8 +129,10 @@ impl<S: Store, C: Clock> Session<S, C> {
 
     /// Runs the jobs in order, each to its end.
     pub fn run_in_order(&mut self) -> Ran
-        ensures stopped { result ≢ Ran.Stopped }
         ensures done { result ≡ Ran.Done → (job : ℕ) → 1 ≤ job → job ≤ length self.new.scripts.scripts → IsTrue (has_ended job self.new.calls) }
+        ensures unfinished { result ≢ Ran.Done → (job : ℕ) × (1 ≤ job) × (job ≤ length self.new.scripts.scripts) × (has_ended job self.new.calls ≡ false) }
+        ensures never_stopped { result ≢ Ran.Stopped }
+        ensures made { (made : List Call) × (self.new.calls ≡ self.old.calls ++ made) × AreGiven C.gives self.old.clock self.new.clock made × AreInOrder made }
         ensures scripts { self.new.scripts ≡ self.old.scripts }
         ensures store { self.new.library.store ≡ self.old.library.store }
     {
@@ -145,7 +150,9 @@ impl<S: Store, C: Clock> Session<S, C> {
     fn run_job(&mut self, job: u32) -> Ran
         requires { (1 ≤ job) × (job ≤ length self.old.scripts.scripts) }
         ensures done { result ≡ Ran.Done → IsTrue (has_ended job self.new.calls) }
-        ensures stopped { result ≢ Ran.Stopped }
+        ensures unfinished { result ≢ Ran.Done → has_ended job self.new.calls ≡ false }
+        ensures never_stopped { result ≢ Ran.Stopped }
+        ensures made { (made : List Call) × (self.new.calls ≡ self.old.calls ++ made) × AreGiven C.gives self.old.clock self.new.clock made × AreOf job made }
         ensures others { (other : ℕ) → other ≢ job → calls_of other self.new.calls ≡ calls_of other self.old.calls }
         ensures scripts { self.new.scripts ≡ self.old.scripts }
         ensures store { self.new.library.store ≡ self.old.library.store }
@@ -186,8 +193,7 @@ impl<S: Store, C: Clock> Session<S, C> {
     pub fn step_job(&mut self, job: u32) -> Stepped
         requires { (1 ≤ job) × (job ≤ length self.old.scripts.scripts) }
         ensures ended { result ≡ Ended ↔ IsTrue (has_ended job self.old.calls) }
-        // The library can't fail yet.
-        ensures stopped { result ≢ Stopped }
+        ensures never_stopped { result ≢ Stopped }
         ensures unchanged { result ≢ Called → self.new ≡ self.old }
         ensures called { result ≡ Called → (made : Call) × (made.job ≡ job) × C.gives self.old.clock made.moment self.new.clock × (self.new.calls ≡ self.old.calls ++ made ∷ []) }
         ensures nearer { result ≡ Called → remaining self.new.scripts.scripts job self.new.calls < remaining self.old.scripts.scripts job self.old.calls }

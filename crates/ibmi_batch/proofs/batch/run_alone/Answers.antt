@@ -1,6 +1,7 @@
 use Rattle.std.proofs.Common.{◌≡◌, ◌≤◌, List, ℕ, length, Err, ap, sym, ◌∙◌, subst}
 use Rattle.text_lines.specs.Lines.{lines_of}
 use Rattle.job_script.specs.Input.{IsFirstFault, IsInput, Reads}
+use Rattle.job_runner.specs.Made.{AreGiven}
 use Rattle.ibmi_batch.specs.Outcome.{IsRead, ListsFor}
 use Rattle.ibmi_batch.proofs.RunLemmas.{short-Reads, InputFor-Lists, WrittenFor-Lists}
 use Rattle.ibmi_batch.proofs.batch.run_alone.Goals as goal
@@ -25,7 +26,7 @@ pub returns-in-Ok-new-clause-input : goal.returns-in-Ok-new-clause-input
 returns-in-Ok-new-clause-input g c tells =
     let reads = subst (λ bytes. Reads (lines_of bytes) c.in-Ok-read_input.scripts) (c.as_slice.ensures.value ∙ sym (c.in-Ok.ensures.whole tells)) c.in-Ok-read_input.ensures.read in
     let short = subst (λ bytes. length bytes ≤ 16777216) (sym (c.in-Ok.ensures.whole tells)) c.in-Ok.ensures.within in
-    InputFor-Lists c.run_session.result.0 c.in-Ok-new.session.scripts g.O.Sink.tells (g.I.Source.left c.args.input.now) (g.O.Sink.taken c.args.out.now) (g.O.Sink.taken c.run_session.new.out) c.run_session.ensures.lists (subst (λ scripts. Reads (lines_of (g.I.Source.left c.args.input.now)) scripts) (sym c.in-Ok-new.ensures.scripts) reads) short
+    InputFor-Lists c.run_session.result.0 c.in-Ok-new.session.scripts (AreGiven g.C.Clock.gives c.in-Ok-new.session.clock c.run_session.result.2) g.O.Sink.tells (g.I.Source.left c.args.input.now) (g.O.Sink.taken c.args.out.now) (g.O.Sink.taken c.run_session.new.out) c.run_session.ensures.lists (subst (λ scripts. Reads (lines_of (g.I.Source.left c.args.input.now)) scripts) (sym c.in-Ok-new.ensures.scripts) reads) short
 
 pub returns-in-Ok-new-clause-written : goal.returns-in-Ok-new-clause-written
 returns-in-Ok-new-clause-written g c =
@@ -35,5 +36,6 @@ returns-in-Ok-new-clause-written g c =
       short = c.in-Ok.ensures.within;
       says = subst (λ bytes. Reads (lines_of bytes) c.in-Ok-read_input.scripts) c.as_slice.ensures.value c.in-Ok-read_input.ensures.read;
     } in
-    let lists = subst (λ scripts. ListsFor c.run_session.result.0 scripts g.O.Sink.tells (g.O.Sink.taken c.args.out.now) (g.O.Sink.taken c.run_session.new.out)) c.in-Ok-new.ensures.scripts c.run_session.ensures.lists in
-    WrittenFor-Lists c.run_session.result.0 c.in-Ok-read_input.scripts g.I.Source.tells g.O.Sink.tells (g.I.Source.left c.args.input.now) (g.O.Sink.taken c.args.out.now) (g.O.Sink.taken c.run_session.new.out) lists read
+    let lists = subst (λ scripts. ListsFor c.run_session.result.0 scripts (AreGiven g.C.Clock.gives c.in-Ok-new.session.clock c.run_session.result.2) g.O.Sink.tells (g.O.Sink.taken c.args.out.now) (g.O.Sink.taken c.run_session.new.out)) c.in-Ok-new.ensures.scripts c.run_session.ensures.lists in
+    let its_clock = subst (λ clock. ListsFor c.run_session.result.0 c.in-Ok-read_input.scripts (AreGiven g.C.Clock.gives clock c.run_session.result.2) g.O.Sink.tells (g.O.Sink.taken c.args.out.now) (g.O.Sink.taken c.run_session.new.out)) c.in-Ok-new.ensures.clock lists in
+    WrittenFor-Lists c.run_session.result.0 c.in-Ok-read_input.scripts g.I.Source.tells (g.I.Source.left c.args.input.now) (AreGiven g.C.Clock.gives c.args.clock c.run_session.result.2) g.O.Sink.tells (g.O.Sink.taken c.args.out.now) (g.O.Sink.taken c.run_session.new.out) its_clock read
