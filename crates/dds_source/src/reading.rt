@@ -52,7 +52,7 @@ fn note_lines(lines: &[Line], first: &mut FirstFault)
     }
 }
 
-/// The source that lines of a text with so many lines are; what is wrong with its keywords is noted.
+/// The source that lines are, in a text that ends with that line; what is wrong with its keywords is noted.
 fn joined_source(
     alloc: Global,
     lines: &[Line],
