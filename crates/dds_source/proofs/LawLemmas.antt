@@ -1,5 +1,5 @@
 -- A source in columns, line after line.
-use Rattle.std.proofs.Common.{◌≡◌, ℕ, zero, suc, ◌-◌, ◌≤◌, Bool, true, false, not, ◌&&◌, ◌==◌, List, [], ◌∷◌, ◌++◌, length, map, filter, replicate, get_or, Option, Ok, refl, sym, ap, ◌∙◌, arith, length-append}
+use Rattle.std.proofs.Common.{◌≡◌, ℕ, zero, suc, ◌-◌, ◌<◌, ◌≤◌, Bool, true, false, not, ◌&&◌, ◌==◌, List, [], ◌∷◌, ◌++◌, length, map, filter, replicate, get_or, Option, Ok, refl, sym, ap, ◌∙◌, arith, length-append}
 use Rattle.std.specs.List.{list_all, flat_map, slice_split, onto_first}
 use Rattle.std.specs.Bool.{if◌then◌else◌}
 use Rattle.std.proofs.lemmas.List.{append_assoc, append-nil, length-replicate}
@@ -9,12 +9,12 @@ use Rattle.dds_source.specs.declared.specifications.Specification.{Specification
 use Rattle.dds_source.specs.declared.specifications.Source.{Source}
 use Rattle.dds_source.specs.declared.specifications.NameEntry.TheVariants as names
 use Rattle.dds_source.specs.Characters.{is_blank, is_digit, is_small_letter, folded}
-use Rattle.dds_source.specs.Lines.{positions, line_of, next_number, numbered, counts, counted_lines, has_entries}
+use Rattle.dds_source.specs.Lines.{positions, line_of, next_number, numbered, counts, counted_lines, last_number, last_line, has_entries}
 use Rattle.dds_source.specs.Entries.{letter, line_faults}
 use Rattle.dds_source.specs.Continuation.{goes_on, joined, joined_text}
 use Rattle.dds_source.specs.KeywordTexts.{keywords_in}
 use Rattle.dds_source.specs.Reading.{keywords_of, joined_faults, is_condition, is_selection, ends_in_condition, specification_of, extended, added, all_added, selection_faults, source_in, faults_in, source_of}
-use Rattle.dds_source.specs.Written.{WrittenKind, a_record, a_field, a_key, Written, Fits, AllFit, is_letter_or_blank, kind_letter, kind_said, left, right, line_written, text_written, length_said, number_said, columns_said, letter_said, said}
+use Rattle.dds_source.specs.Written.{WrittenKind, a_record, a_field, a_key, Written, Fits, AllFit, is_letter_or_blank, kind_letter, kind_said, left, right, line_written, text_written, length_said, number_said, columns_said, letter_said, said, last_said}
 use Rattle.dds_source.proofs.WrittenLemmas.{name_entry-left, unsigned_entry-right, signed_entry-right, length_is_right, decimals_are_right, letter_is}
 use Rattle.dds_source.proofs.ColumnLemmas.{line_in_columns, Reads, line_reads}
 
@@ -237,12 +237,46 @@ no_selections : (ws : List Written) (number : ℕ) → flat_map selection_faults
 no_selections [] number = refl
 no_selections (w ∷ ws) number = rw (no_selection w.kind) (no_selections ws (next_number number))
 
-source_written : (ws : List Written) → AllFit ws → source_in (text_written ws) ≡ (let s : Source = record { file = []; specifications = said 1 ws } in s)
-unfolding source_in counted_lines
+-- The last line.
+
+last_in_line : (cs : List ℕ) (number : ℕ) → are_plain cs ≡ true → last_number number (cs ++ 10 ∷ []) ≡ number
+last_in_line [] number h = refl
+last_in_line (c ∷ []) number h =
+    let no_feed : (c == 10) ≡ false = grind arith in
+    rw no_feed refl
+last_in_line (c ∷ d ∷ cs) number h =
+    let parts = plain_parts c (d ∷ cs) h in
+    let no_feed : (c == 10) ≡ false = grind arith in
+    rw no_feed (last_in_line (d ∷ cs) number parts.1)
+
+last_behind_line : (cs rest : List ℕ) (number : ℕ) → are_plain cs ≡ true → 0 < length rest → last_number number (cs ++ 10 ∷ rest) ≡ last_number (next_number number) rest
+last_behind_line cs [] number h lt = absurd (omega arith)
+last_behind_line [] (e ∷ rest) number h lt = refl
+last_behind_line (c ∷ []) (e ∷ rest) number h lt =
+    let no_feed : (c == 10) ≡ false = grind arith in
+    rw no_feed refl
+last_behind_line (c ∷ d ∷ cs) (e ∷ rest) number h lt =
+    let parts = plain_parts c (d ∷ cs) h in
+    let no_feed : (c == 10) ≡ false = grind arith in
+    rw no_feed (last_behind_line (d ∷ cs) (e ∷ rest) number parts.1 lt)
+
+last_written : (ws : List Written) (number : ℕ) → AllFit ws → last_number number (text_written ws) ≡ last_said number ws
+last_written [] number h = refl
+last_written (w ∷ []) number h = ap (last_number number) (append-nil (line_written w ++ 10 ∷ [])) ∙ last_in_line (line_written w) number (line_plain w h.0)
+last_written (w ∷ v ∷ ws) number h =
+    let some : 0 < length (text_written (v ∷ ws)) = simp length-append (omega arith) in
+    ap (last_number number) (append_assoc (line_written w) (10 ∷ []) (text_written (v ∷ ws)))
+    ∙ last_behind_line (line_written w) (text_written (v ∷ ws)) number (line_plain w h.0) some
+    ∙ last_written (v ∷ ws) (next_number number) h.1
+
+source_written : (ws : List Written) → AllFit ws → source_in (text_written ws) ≡ (let s : Source = record { file = []; specifications = said 1 ws; last_line = last_said 1 ws } in s)
+unfolding source_in counted_lines last_line
 source_written ws h =
-    ap (λ (ls : List Line). all_added (let s : Source = record { file = []; specifications = [] } in s) (joined ls)) (counted_rows ws 1 h)
-    ∙ ap (λ (gs : List (List Line)). all_added (let s : Source = record { file = []; specifications = [] } in s) gs) (joined_rows ws 1 h)
-    ∙ added_rows ws 1 (record { file = []; specifications = [] }) h refl
+    let empty : Source = record { file = []; specifications = []; last_line = last_said 1 ws } in
+    ap (λ (n : ℕ). all_added (let s : Source = record { file = []; specifications = []; last_line = n } in s) (joined (counted_lines (text_written ws)))) (last_written ws 1 h)
+    ∙ ap (λ (ls : List Line). all_added empty (joined ls)) (counted_rows ws 1 h)
+    ∙ ap (λ (gs : List (List Line)). all_added empty gs) (joined_rows ws 1 h)
+    ∙ added_rows ws 1 empty h refl
 
 faults_written : (ws : List Written) → AllFit ws → faults_in (text_written ws) ≡ []
 unfolding faults_in counted_lines
@@ -250,6 +284,6 @@ faults_written ws h =
     rw (source_written ws h, counted_rows ws 1 h, joined_rows ws 1 h, faultless_rows ws 1 h, faultless_joined ws 1 h) (no_selections ws 1)
 
 -- a source in columns is read as it was written
-pub source_of-written : (ws : List Written) → AllFit ws → source_of (text_written ws) ≡ Ok (record { file = []; specifications = said 1 ws })
+pub source_of-written : (ws : List Written) → AllFit ws → source_of (text_written ws) ≡ Ok (record { file = []; specifications = said 1 ws; last_line = last_said 1 ws })
 unfolding source_of
 source_of-written ws h = rw (source_written ws h, faults_written ws h) refl

@@ -22,6 +22,16 @@ abbrev pub numbered : ℕ → List (List ℕ) → List Line
 numbered number [] = []
 numbered number (text ∷ texts) = line_of number text ∷ numbered (next_number number) texts
 
+-- the number of the line in which a text's last character stands, where its first one stands in the given line
+abbrev pub last_number : ℕ → List ℕ → ℕ
+last_number number [] = number
+last_number number (c ∷ []) = number
+last_number number (c ∷ d ∷ cs) = last_number (if c == 10 then next_number number else number) (d ∷ cs)
+
+-- the number of a text's last line, 1 where it has none
+unfoldable pub last_line : List ℕ → ℕ
+last_line text = last_number 1 text
+
 -- the character of a position up to 44
 abbrev pub at : Line → ℕ → ℕ
 at line column = slice_index line.entries (column - 1)

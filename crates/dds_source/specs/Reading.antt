@@ -17,7 +17,7 @@ use Rattle.dds_source.specs.declared.specifications.SpecificationKind.{Specifica
 use Rattle.dds_source.specs.declared.specifications.SpecificationKind.TheVariants as kinds
 use Rattle.dds_source.specs.declared.specifications.NameEntry.{NameEntry}
 use Rattle.dds_source.specs.declared.specifications.NameEntry.TheVariants as names
-use Rattle.dds_source.specs.Lines.{at, has_entries, counted_lines}
+use Rattle.dds_source.specs.Lines.{at, has_entries, counted_lines, last_line}
 use Rattle.dds_source.specs.Entries.{when, kind_of, name_of_line, name_or_blank, columns_of, line_faults}
 use Rattle.dds_source.specs.Faults.{first_after, IsFirst}
 use Rattle.dds_source.specs.Continuation.{used, goes_on, joined, joined_text}
@@ -163,7 +163,7 @@ selection_faults s = when (lacks_all s) (record { line = s.line; column = 19; ca
 
 -- the source that a text is
 unfoldable pub source_in : List ℕ → Source
-source_in text = all_added (record { file = []; specifications = [] }) (joined (counted_lines text))
+source_in text = all_added (record { file = []; specifications = []; last_line = last_line text }) (joined (counted_lines text))
 
 -- all that is wrong with it
 unfoldable pub faults_in : List ℕ → List DdsFault

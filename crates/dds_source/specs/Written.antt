@@ -106,6 +106,12 @@ letter_said c = if c == 32 then None else Some c
 abbrev pub columns_said : Written → Columns
 columns_said w = record { reference = w.is_reference; length = length_said w.digits; data_type = letter_said w.data_type; decimals = number_said w.decimals; usage = letter_said w.usage }
 
+-- the number of the last of lines from a number on
+abbrev pub last_said : ℕ → List Written → ℕ
+last_said number [] = number
+last_said number (w ∷ []) = number
+last_said number (w ∷ v ∷ ws) = last_said (next_number number) (v ∷ ws)
+
 -- the specifications that lines from a number on say
 abbrev pub said : ℕ → List Written → List Specification
 said number [] = []

@@ -48,6 +48,7 @@ pub(crate) fn arguments(alloc: Global, keyword: &[u8]) -> Result<(Arguments, boo
             rest = after;
         }
     }
+    arguments.shrink_to_fit();
     Ok((arguments, is_bad))
 }
 

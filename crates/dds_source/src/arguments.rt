@@ -93,6 +93,13 @@ impl Arguments {
         Ok(())
     }
 
+    /// Gives back room that holds none.
+    pub(crate) fn shrink_to_fit(&mut self)
+        ensures { self.new ≡ self.old }
+    {
+        self.items.shrink_to_fit();
+    }
+
     pub fn as_slice(&self) -> &[Argument]
         ensures { result.now ≡ self.now }
     {

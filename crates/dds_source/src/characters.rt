@@ -4,8 +4,8 @@
 #[derive(Clone, Copy)]
 pub(crate) struct SourceCharacter {
     pub(crate) byte: u8,
+    pub(crate) column: u8,
     pub(crate) line: u32,
-    pub(crate) column: u32,
 }
 
 /// Where a character stands: inside apostrophes or not, and inside how many parentheses.

@@ -82,7 +82,7 @@ impl Line {
             text.push(SourceCharacter {
                 byte: self.keywords[i],
                 line: self.number,
-                column: 45 + i as u32,
+                column: 45 + i as u8,
             })?;
         }
         Ok(())

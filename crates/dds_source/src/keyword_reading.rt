@@ -125,7 +125,7 @@ fn keyword(begin: SourceCharacter, text: &[u8], arguments: Arguments) -> Option<
     Some(Keyword {
         name,
         line: begin.line,
-        column: begin.column,
+        column: u32::from(begin.column),
         arguments: if has_parentheses(text) {
             Some(arguments)
         } else {
@@ -164,7 +164,7 @@ impl SourceCharacter {
     {
         DdsFault {
             line: self.line,
-            column: self.column,
+            column: u32::from(self.column),
             cause,
         }
     }

@@ -55,6 +55,10 @@ impl Keywords {
         ensures { OnOk result (self.new ≡ self.old ++ keywords) }
     {
         let Keywords { items: mut more } = keywords;
+        if self.items.is_empty() {
+            self.items = more;
+            return Ok(());
+        }
         self.items.append(&mut more)
     }
 

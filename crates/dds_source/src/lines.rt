@@ -1,9 +1,9 @@
 //! Lines with their numbers and positions, and which of them count.
-ghost use Rattle.std.specs.Prelude.{◌≡◌, ℕ, ◌+◌, ◌-◌, ◌<◌, ◌≤◌, ◌==◌, length, take, position, map, ◌∷◌, [], ◌++◌, filter, IfOk, OnOk, MatchOption};
+ghost use Rattle.std.specs.Prelude.{◌≡◌, ℕ, ◌+◌, ◌-◌, ◌<◌, ◌≤◌, ◌==◌, length, take, position, map, if◌then◌else◌, ◌∷◌, [], ◌++◌, filter, IfOk, OnOk, MatchOption};
 ghost use Rattle.std.specs.List.{slice_split};
 ghost use Rattle.std.specs.Str.Lines.{strip_carriage_return};
 ghost use Rattle.dds_source.specs.Characters.{is_blank, are_blanks, folded};
-ghost use Rattle.dds_source.specs.Lines.{positions, line_of, next_number, at, entry, is_comment, is_empty, counts, counted_lines, has_entries};
+ghost use Rattle.dds_source.specs.Lines.{positions, line_of, next_number, last_number, last_line, at, entry, is_comment, is_empty, counts, counted_lines, has_entries};
 
 use std::alloc::{AllocError, Global};
 
@@ -128,6 +128,33 @@ fn next_number(number: u32) -> u32
         number
     } else {
         number + 1
+    }
+}
+
+/// The number of a text's last line, 1 where it has none.
+#[tactic(auto, unfolding(crate::specs::Lines::last_line))]
+pub(crate) fn last_line(text: &[u8]) -> u32
+    ensures { result ≡ last_line text.now }
+{
+    let mut number = 1;
+    let mut rest = text;
+    while let [c, more @ ..] = rest {
+        if !more.is_empty() {
+            number = number_behind(number, *c);
+        }
+        rest = more;
+    }
+    number
+}
+
+/// The number of the line behind a character of a line.
+fn number_behind(number: u32, c: u8) -> u32
+    ensures { result ≡ (if c == 10 then next_number number else number) }
+{
+    if c == b'\n' {
+        next_number(number)
+    } else {
+        number
     }
 }
 

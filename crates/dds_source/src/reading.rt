@@ -11,7 +11,7 @@ use crate::faults::{DdsCause, DdsFault, SourceError};
 use crate::first::FirstFault;
 use crate::keyword_reading::joined_keywords;
 use crate::keywords::Keywords;
-use crate::lines::{Line, counted_lines};
+use crate::lines::{Line, counted_lines, last_line};
 use crate::specifications::{Source, Specification, SpecificationKind, Specifications};
 use std::alloc::{AllocError, Global};
 
@@ -36,7 +36,7 @@ fn read(alloc: Global, text: &[u8]) -> Result<Source, SourceError>
     let lines = counted_lines(alloc, text)?;
     let mut first = FirstFault::none();
     note_lines(&lines, &mut first);
-    let source = joined_source(alloc, &lines, &mut first)?;
+    let source = joined_source(alloc, &lines, last_line(text), &mut first)?;
     note_selections(source.specifications.as_slice(), &mut first);
     match first.fault {
         Some(fault) => Err(SourceError::Fault(fault)),
@@ -52,18 +52,20 @@ fn note_lines(lines: &[Line], first: &mut FirstFault)
     }
 }
 
-/// The source that lines are; what is wrong with its keywords is noted.
+/// The source that lines are, in a text that ends with that line; what is wrong with its keywords is noted.
 fn joined_source(
     alloc: Global,
     lines: &[Line],
+    last_line: u32,
     first: &mut FirstFault,
 ) -> Result<Source, AllocError>
-    ensures source { IfOk result (λ source. source ≡ all_added (record { file = []; specifications = [] }) (joined lines.now)) }
+    ensures source { IfOk result (λ source. source ≡ all_added (record { file = []; specifications = []; last_line = last_line }) (joined lines.now)) }
     ensures faults { OnOk result (first.new.fault ≡ first_after first.old.fault (flat_map joined_faults (joined lines.now))) }
 {
     let mut source = Source {
         file: Keywords::new(alloc),
         specifications: Specifications::new(alloc),
+        last_line,
     };
     let mut has_record = false;
     let mut rest = lines;

@@ -138,4 +138,6 @@ pub struct Source {
     /// The keywords of the file: those of lines without entries ahead of the first record format.
     pub file: Keywords,
     pub specifications: Specifications,
+    /// The number of the text's last line, 1 where it has none. A fault of the whole file stands there.
+    pub last_line: u32,
 }

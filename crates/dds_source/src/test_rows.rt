@@ -2,7 +2,7 @@
 use crate::faults::DdsCause;
 
 /// What is read, and what it says.
-pub(super) const READ: [(&str, &str, &str); 15] = [
+pub(super) const READ: [(&str, &str, &str); 17] = [
     ("nothing", "", "|"),
     (
         "comments and empty lines",
@@ -20,9 +20,9 @@ pub(super) const READ: [(&str, &str, &str); 15] = [
         " 1/45 REF(n:CUST )|3 R LONGR - - - - -;4 F LNAME R +2 - - - 4/45 REFFLD(n:NAME ) 4/58 TEXT(q:Long name );6 F CUSNO R - - - - 6/45 COLHDG(q:Cust q:No );",
     ),
     (
-        "a file keyword that is unknown",
-        "     A                                      VARLEN\n     A          R LONGR\n",
-        " 1/45 VARLEN|2 R LONGR - - - - -;",
+        "the same with a file keyword that is unknown",
+        "     A                                      VARLEN\n     A* long names\n     A          R LONGR\n     A            LNAME     R   +2          REFFLD(NAME) TEXT('Long +\n     A                                          name')\n     A            CUSNO     R               COLHDG('Cust'-\n     A                                       'No')\n",
+        " 1/45 VARLEN|3 R LONGR - - - - -;4 F LNAME R +2 - - - 4/45 REFFLD(n:NAME ) 4/58 TEXT(q:Long name );6 F CUSNO R - - - - 6/45 COLHDG(q:Cust q:No );",
     ),
     (
         "carriage returns, characters past 80, no form type",
@@ -60,6 +60,16 @@ pub(super) const READ: [(&str, &str, &str); 15] = [
         "|1 R REC - - - - -;2 F FLD - - - - - 2/45 TEXT(q:AB  CD    EF ) 8/45 COLHDG(n:A ) 9/50 DFT(d:1/0 );",
     ),
     (
+        "a sign in position 80, tabs around signs, apostrophes and digits on two lines",
+        "     A          R REC\n     A            FLD                       TEXT('abcdefghijklmnopqrstuvwxyz02'+-\n     A                                      \t 's') DFT(X'C1-\t \n     A                                      c2') TEXT(A)\n",
+        "|1 R REC - - - - -;2 F FLD - - - - - 2/45 TEXT(q:abcdefghijklmnopqrstuvwxyz02's ) 3/52 DFT(x:193,194, ) 4/50 TEXT(n:A );",
+    ),
+    (
+        "no blank between keywords",
+        "     A          R REC\n     A            FLD                       TEXT(A)COLHDG('B')DFT(1)\n",
+        "|1 R REC - - - - -;2 F FLD - - - - - 2/45 TEXT(n:A ) 2/52 COLHDG(q:B ) 2/63 DFT(d:1/0 );",
+    ),
+    (
         "a sign within",
         "     A          R REC\n     A            FLD                       TEXT('A+') DFT(-1)\n",
         "|1 R REC - - - - -;2 F FLD - - - - - 2/45 TEXT(q:A+ ) 2/56 DFT(d:-1/0 );",
@@ -77,7 +87,7 @@ pub(super) const READ: [(&str, &str, &str); 15] = [
 ];
 
 /// What is wrong, where, and why.
-pub(super) const FAULTS: [(&str, &str, u32, u32, DdsCause); 51] = [
+pub(super) const FAULTS: [(&str, &str, u32, u32, DdsCause); 62] = [
     (
         "the form type",
         "     B          R REC\n",
@@ -435,4 +445,104 @@ pub(super) const FAULTS: [(&str, &str, u32, u32, DdsCause); 51] = [
         45,
         DdsCause::BadName,
     ),
+    (
+        "*NONE for a record format",
+        "     A          R *NONE\n",
+        1,
+        19,
+        DdsCause::BadName,
+    ),
+    (
+        "*NONE and more for a key",
+        "     A          R REC\n     A          K *NONE X\n",
+        2,
+        19,
+        DdsCause::BadName,
+    ),
+    (
+        "a letter outside ASCII in a name",
+        "     A          R RéC\n",
+        1,
+        19,
+        DdsCause::BadName,
+    ),
+    (
+        "a select with ALL and a length",
+        "     A          R REC\n     A          S                1          ALL\n",
+        2,
+        19,
+        DdsCause::BadName,
+    ),
+    (
+        "a join with a type",
+        "     A          J                 A\n",
+        1,
+        19,
+        DdsCause::BadName,
+    ),
+    (
+        "a hexadecimal literal with more behind it",
+        "     A          R REC\n     A            FLD                       DFT(X'C1'A)\n",
+        2,
+        45,
+        DdsCause::BadNumber,
+    ),
+    (
+        "a hexadecimal literal that isn't closed",
+        "     A          R REC\n     A            FLD                       DFT(X'C)\n",
+        2,
+        45,
+        DdsCause::UnfinishedText,
+    ),
+    (
+        "an apostrophe that isn't closed on three lines",
+        "     A          R REC\n     A            FLD                       TEXT('A +\n     A                                      B') C(' -\n     A                                      D +\n     A                                      E\n",
+        3,
+        49,
+        DdsCause::UnfinishedText,
+    ),
+    (
+        "a minus before a record format",
+        "     A                                      UNIQUE-\n     A* comment\n     A          R REC\n",
+        1,
+        45,
+        DdsCause::UnfinishedText,
+    ),
+    (
+        "position 8 on a line that continues",
+        "     A          R REC\n     A            FLD                       TEXT(A +\n     A X                                    B) 9\n",
+        3,
+        8,
+        DdsCause::BadColumn,
+    ),
+    (
+        "a name before decimals",
+        "     A          R REC\n     A            1FLD             X2\n",
+        2,
+        19,
+        DdsCause::BadName,
+    ),
+];
+
+/// A text, and the number of its last line.
+pub(super) const LAST_LINES: [(&str, u32); 6] = [
+    ("", 1),
+    ("     A          R REC", 1),
+    ("     A          R REC\n", 1),
+    ("     A          R REC\n ", 2),
+    ("\n\n", 2),
+    (
+        "     A          R REC\n     A            FLD             A\n\n     A* the end\n",
+        4,
+    ),
+];
+
+/// Lines, columns and causes of faults, each before all that follow.
+pub(super) const RISING: [(u32, u32, DdsCause); 6] = [
+    (1, 80, DdsCause::Narrowing),
+    (2, 6, DdsCause::BadColumn),
+    (3, 19, DdsCause::BadName),
+    (3, 29, DdsCause::BadColumn),
+    (3, 45, DdsCause::BadNumber),
+    (3, 45, DdsCause::UnfinishedText),
 ];

@@ -1,6 +1,7 @@
 //! Sources that are read, and faulty ones.
 use super::*;
-use crate::test_rows::{FAULTS, READ};
+use crate::laws::{columns_are_read_back, literals_are_read_back};
+use crate::test_rows::{FAULTS, LAST_LINES, READ, RISING};
 use field_types::values::Dec;
 use std::alloc::{AllocError, Global};
 use std::test::Fail;
@@ -177,4 +178,36 @@ fn first_faults(rt: HostRuntime) {
         };
         assert!(rt; is_wanted, "at {what}");
     }
+}
+
+#[test]
+fn last_lines(rt: HostRuntime) -> Result<(), Fail> {
+    for (text, line) in LAST_LINES {
+        let source = read_source(rt.alloc(), text.as_bytes()).ok().ok_or(text)?;
+        assert_eq!(rt; source.last_line, line, "at {text:?}");
+    }
+    Ok(())
+}
+
+#[test]
+fn order_of_faults(rt: HostRuntime) {
+    for (i, first) in RISING.iter().enumerate() {
+        for (j, second) in RISING.iter().enumerate() {
+            assert_eq!(rt; fault(*first).is_before(&fault(*second)), i < j);
+        }
+    }
+}
+
+fn fault((line, column, cause): (u32, u32, DdsCause)) -> DdsFault {
+    DdsFault {
+        line,
+        column,
+        cause,
+    }
+}
+
+#[test]
+fn laws() {
+    columns_are_read_back();
+    literals_are_read_back();
 }
