@@ -5,7 +5,8 @@ use Rattle.field_types.specs.declared.values.Value.{Value}
 use Rattle.record_fmt.specs.declared.formats.Field.{Field}
 use Rattle.record_fmt.specs.Layout.{IsLaidOut}
 use Rattle.record_fmt.specs.Records.{record_written, fields_written}
-use Rattle.record_fmt.proofs.RecordLemmas.{allowed-at, goes_on, goes_on-start, goes_on-more, goes_on-fault, goes_on-end, record_written-fields, record_written-count}
+use Rattle.record_fmt.proofs.LayoutLemmas.{allowed-at}
+use Rattle.record_fmt.proofs.WrittenLemmas.{goes_on, goes_on-start, goes_on-more, goes_on-fault, goes_on-end, record_written-fields, record_written-count}
 use Rattle.record_fmt.proofs.formats.Format.pack.Goals as goal
 
 pub returns-then-values-fields : goal.returns-then-values-fields
