@@ -1,5 +1,5 @@
 -- Some image stands in each field that a data description can give.
-use Rattle.std.proofs.Common.{◌≡◌, ℕ, zero, suc, ◌+◌, ◌<◌, ◌≤◌, ◌^◌, ◌/◌, Bool, true, false, ◌&&◌, ◌==◌, nat_le, is_some, List, [], ◌∷◌, length, replicate, refl, sym, ◌∙◌, subst, arith, add-one, lit<, inl, inr}
+use Rattle.std.proofs.Common.{◌≡◌, ℕ, zero, suc, ◌<◌, ◌≤◌, ◌^◌, ◌/◌, true, false, ◌==◌, nat_le, is_some, List, [], ◌∷◌, replicate, refl, sym, ◌∙◌, subst, arith, add-one, lit<, inl, inr}
 use Rattle.std.proofs.lemmas.List.{length-replicate}
 use Rattle.std.proofs.lemmas.Bool.{and_parts, eqb-true, leb-true, lt-ltb}
 use Rattle.std.proofs.Math.Nat.{one-le-pow}

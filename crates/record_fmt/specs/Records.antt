@@ -1,6 +1,6 @@
 -- The bytes of a record: which image is written for a list of values, and which values an image stands for.
 -- (DDS for Physical and Logical Files, "Data type"; Database Programming, record formats.)
-use Rattle.std.specs.Prelude.{◌≡◌, ℕ, ◌+◌, Bool, ◌==◌, Option, Some, None, is_some, Result, Ok, Err, List, [], ◌∷◌, ◌++◌, length, take, drop, Vec, if◌then◌else◌}
+use Rattle.std.specs.Prelude.{◌≡◌, ℕ, ◌+◌, ◌==◌, Option, Some, None, is_some, Result, Ok, Err, List, [], ◌∷◌, ◌++◌, length, take, drop, Vec, if◌then◌else◌}
 use Rattle.std.specs.Global.{Global}
 use Rattle.field_types.specs.declared.values.Value.{Value}
 use Rattle.field_types.specs.declared.faults.ValueFault.{ValueFault}
@@ -12,7 +12,6 @@ use Rattle.field_values.specs.FirstBad.{IsFirstBad}
 use Rattle.record_fmt.specs.declared.formats.Field.{Field}
 use Rattle.record_fmt.specs.declared.formats.PackFault.{PackFault}
 use Rattle.record_fmt.specs.declared.formats.PackFault.TheVariants as pack_faults
-use Rattle.record_fmt.specs.Layout.{record_length}
 
 -- bytes before others, or the fault
 abbrev pub behind : List ℕ → Result (List ℕ) RecordFault → Result (List ℕ) RecordFault

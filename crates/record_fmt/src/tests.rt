@@ -178,7 +178,8 @@ fn packs(rt: HostRuntime) -> Result<(), Fail> {
         Ok(image) => assert_eq!(rt; image.as_slice(), RECORD.as_slice()),
         Err(_) => panic!(rt; "refused"),
     }
-    let count = format.pack(rt.alloc(), &values.as_slice()[..6]).err();
+    let few = values.as_slice().get(..6).ok_or("no values")?;
+    let count = format.pack(rt.alloc(), few).err();
     assert!(rt; count == Some(PackFault::Refused(RecordFault::Count)));
     Ok(())
 }

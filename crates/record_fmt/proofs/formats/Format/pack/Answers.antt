@@ -1,10 +1,7 @@
-use Rattle.std.proofs.Common.{◌≡◌, ◌+◌, ◌<◌, ◌∙◌, ◌++◌, ℕ, List, Option, Some, None, length, get_or, arith, sym, ap, subst, rules}
-use Rattle.field_values.specs.FieldTypes.{IsFieldType}
-use Rattle.field_values.specs.FieldBytes.{fault_of, written}
-use Rattle.field_types.specs.declared.values.Value.{Value}
+use Rattle.std.proofs.Common.{◌≡◌, ◌+◌, ◌<◌, ◌∙◌, ℕ, List, None, length, get_or, arith, sym, ap, subst}
 use Rattle.record_fmt.specs.declared.formats.Field.{Field}
 use Rattle.record_fmt.specs.Layout.{IsLaidOut}
-use Rattle.record_fmt.specs.Records.{record_written, fields_written}
+use Rattle.record_fmt.specs.Records.{record_written}
 use Rattle.record_fmt.proofs.LayoutLemmas.{allowed-at}
 use Rattle.record_fmt.proofs.WrittenLemmas.{goes_on, goes_on-start, goes_on-more, goes_on-fault, goes_on-end, record_written-fields, record_written-count}
 use Rattle.record_fmt.proofs.formats.Format.pack.Goals as goal

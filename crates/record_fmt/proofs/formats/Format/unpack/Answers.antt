@@ -1,4 +1,4 @@
-use Rattle.std.proofs.Common.{◌≡◌, Err, List, ℕ, is_some}
+use Rattle.std.proofs.Common.{◌≡◌, Err, is_some}
 use Rattle.field_values.specs.declared.fields.ImageFault.TheVariants.{NoMemory}
 use Rattle.std.proofs.lemmas.Result.{err_from_is_err_and}
 use Rattle.record_fmt.specs.Records.{record_held}
