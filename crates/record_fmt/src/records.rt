@@ -1,5 +1,5 @@
 //! The bytes of a record: packed from the values of its fields, and unpacked again. Their meaning stands in `specs/Records.antt`.
-ghost use Rattle.std.specs.Prelude.{◌≡◌, ◌↔◌, ℕ, ◌+◌, ◌≤◌, ◌++◌, true, Some, None, is_some, length, IfOk, IsErrOf};
+ghost use Rattle.std.specs.Prelude.{◌≡◌, ◌≢◌, ◌↔◌, ℕ, ◌+◌, ◌≤◌, ◌++◌, true, Some, None, is_some, length, IfOk, IsErrOf};
 ghost use Rattle.field_values.specs.FieldTypes.{IsFieldType, width};
 ghost use Rattle.field_values.specs.FieldBytes.{written, fault_of};
 ghost use Rattle.field_values.specs.FirstBad.{TellsFirstBad, part};
@@ -16,7 +16,8 @@ use std::alloc::{AllocError, Global};
 impl Format {
     /// The image of a record with these values, one for each field.
     pub fn pack(&self, alloc: Global, values: &[Value]) -> Result<Vec<u8>, PackFault>
-        ensures { Packs (record_written self.now.fields values.now) result }
+        ensures packed { Packs (record_written self.now.fields values.now) result }
+        ensures count { IsErrOf result (PackFault.Refused RecordFault.Count) ↔ (length values.now ≢ length self.now.fields) }
     {
         let fields = self.fields.as_slice();
         if values.len() != fields.len() {
