@@ -1,13 +1,13 @@
 -- What stands in the fields of a record, and where its bytes stop being the beginning of one.
-use Rattle.std.proofs.Common.{◌≡◌, ℕ, zero, suc, ◌+◌, ◌<◌, ◌≤◌, ◌↔◌, Bool, true, false, ◌&&◌, ◌==◌, Option, Some, None, is_some, Result, Ok, Err, List, [], ◌∷◌, ◌++◌, length, take, drop, get_or, refl, sym, ◌∙◌, ap, subst, arith, inl, inr}
+use Rattle.std.proofs.Common.{◌≡◌, ℕ, zero, suc, ◌+◌, ◌<◌, ◌≤◌, ◌↔◌, Bool, true, false, ◌==◌, Option, Some, None, is_some, Result, Ok, Err, List, [], ◌∷◌, ◌++◌, length, take, drop, get_or, refl, sym, ◌∙◌, ap, subst, arith, inl, inr}
 use Rattle.std.proofs.lemmas.List.{take-append-le, take-append-drop, take_all, drop_all, length-take-le, length-drop, take_more, drop-append-le, drop-drop}
-use Rattle.std.proofs.lemmas.Bool.{and_parts, eqb-true, cases_Bool, both_ways}
+use Rattle.std.proofs.lemmas.Bool.{eqb-true, cases_Bool, both_ways}
 use Rattle.std.proofs.Math.Seq.{take-append_seam, drop-append_seam, take-add}
 use Rattle.field_types.specs.declared.kinds.FieldType.{FieldType}
 use Rattle.field_types.specs.declared.values.Value.{Value}
 use Rattle.field_values.specs.declared.fields.ImageFault.{ImageFault}
 use Rattle.field_values.specs.declared.fields.ImageFault.TheVariants.{BadImage, NoMemory}
-use Rattle.field_values.specs.FieldTypes.{is_allowed, width}
+use Rattle.field_values.specs.FieldTypes.{width}
 use Rattle.field_values.specs.FieldBytes.{held, IsBadAt}
 use Rattle.field_values.specs.FirstBad.{IsFirstBad, part}
 use Rattle.field_values.proofs.FirstBadLemmas.{IsFirstBad-false}
@@ -16,7 +16,7 @@ use Rattle.field_values.proofs.MomentLemmas.{IsFirstBad-part}
 use Rattle.record_fmt.specs.declared.formats.Field.{Field}
 use Rattle.record_fmt.specs.Layout.{record_length, lies_from}
 use Rattle.record_fmt.specs.Records.{both, fields_held, record_held, IsRecordBadAt}
-use Rattle.record_fmt.proofs.LayoutLemmas.{IsFieldOf, field-offset, field-room, field-part, record_length-more, split-fields, lies-drop}
+use Rattle.record_fmt.proofs.LayoutLemmas.{IsFieldOf, field-offset, field-room, field-part, record_length-more, split-fields, lies-parts, lies-drop}
 use Rattle.record_fmt.proofs.ExampleLemmas.{example-of}
 
 -- values and those behind them
@@ -129,7 +129,7 @@ held-length t bytes h =
       | inr other ↦ absurd (let none : false ≡ true = rw other at h in cc)
     ]
 
--- the fields of a run hold something before others
+-- what stands in a field stands before what stands in the fields behind it
 both-fields : (f : Field) (fs : List Field) (p rest : List ℕ) → is_some (held f.ty p) ≡ true → is_some (fields_held fs rest) ≡ true → is_some (fields_held (f ∷ fs) (p ++ rest)) ≡ true
 both-fields f fs p rest h g =
     let long : length p ≡ width f.ty = held-length f.ty p h in
@@ -141,9 +141,9 @@ both-fields f fs p rest h g =
 examples : (start : ℕ) (fs : List Field) → lies_from start fs ≡ true → (bytes : List ℕ) × (is_some (fields_held fs bytes) ≡ true)
 examples start [] lies = ([], refl)
 examples start (f ∷ fs) lies =
-    let parts = and_parts ((f.offset == start) && is_allowed f.ty.kind f.ty.length f.ty.decimals) (lies_from (start + width f.ty) fs) lies in
-    let one : (bytes : List ℕ) × (is_some (held f.ty bytes) ≡ true) = example-of f.ty.kind f.ty.length f.ty.decimals (and_parts (f.offset == start) (is_allowed f.ty.kind f.ty.length f.ty.decimals) parts.0).1 in
-    let more : (bytes : List ℕ) × (is_some (fields_held fs bytes) ≡ true) = examples (start + width f.ty) fs parts.1 in
+    let parts = lies-parts start f fs lies in
+    let one : (bytes : List ℕ) × (is_some (held f.ty bytes) ≡ true) = example-of f.ty.kind f.ty.length f.ty.decimals parts.1 in
+    let more : (bytes : List ℕ) × (is_some (fields_held fs bytes) ≡ true) = examples (start + width f.ty) fs parts.2 in
     (one.0 ++ more.0, both-fields f fs one.0 more.0 one.1 more.1)
 
 -- behind good bytes a record goes on as the rest of its fields does

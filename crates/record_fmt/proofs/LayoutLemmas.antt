@@ -18,34 +18,34 @@ record_length-more fs i f lt is =
     let split : take (i + 1) fs ≡ take i fs ++ f ∷ [] = take_more fs i f lt ∙ ap (λ (g : Field). take i fs ++ g ∷ []) (sym is) in
     ap record_length split ∙ record_length-append (take i fs) (f ∷ []) ∙ (let one : record_length (f ∷ []) ≡ width f.ty = add-zero (width f.ty) in ap (λ n. record_length (take i fs) + n) one)
 
--- the record is as long as its fields
+-- the first fields are no longer than all
 pub record_length-take : (fs : List Field) (i : ℕ) → record_length (take i fs) ≤ record_length fs
 record_length-take fs i = (let whole : record_length (take i fs ++ drop i fs) ≡ record_length (take i fs) + record_length (drop i fs) = record_length-append (take i fs) (drop i fs) in omega (arith, whole, ap record_length (take-append-drop i fs)))
+
+-- the first field and those behind it
+pub lies-parts : (start : ℕ) (f : Field) (fs : List Field) → lies_from start (f ∷ fs) ≡ true → (f.offset ≡ start) × IsFieldType f.ty × (lies_from (start + width f.ty) fs ≡ true)
+lies-parts start f fs lies =
+    let all = and_parts ((f.offset == start) && is_allowed f.ty.kind f.ty.length f.ty.decimals) (lies_from (start + width f.ty) fs) lies in
+    let first = and_parts (f.offset == start) (is_allowed f.ty.kind f.ty.length f.ty.decimals) all.0 in
+    (eqb-true f.offset start first.0, first.1, all.1)
 
 -- each field has a type that a data description can give
 pub allowed-at : (start : ℕ) (fs : List Field) (i : ℕ) (f : Field) → lies_from start fs ≡ true → i < length fs → f ≡ get_or fs i f → IsFieldType f.ty
 allowed-at start [] i f lies lt is = absurd (omega arith)
-allowed-at start (g ∷ gs) zero f lies lt is =
-    let parts = and_parts ((g.offset == start) && is_allowed g.ty.kind g.ty.length g.ty.decimals) (lies_from (start + width g.ty) gs) lies in
-    subst (λ (h : Field). IsFieldType h.ty) (sym is) (and_parts (g.offset == start) (is_allowed g.ty.kind g.ty.length g.ty.decimals) parts.0).1
-allowed-at start (g ∷ gs) (suc i) f lies lt is =
-    let parts = and_parts ((g.offset == start) && is_allowed g.ty.kind g.ty.length g.ty.decimals) (lies_from (start + width g.ty) gs) lies in
-    allowed-at (start + width g.ty) gs i f parts.1 (omega arith) is
+allowed-at start (g ∷ gs) zero f lies lt is = subst (λ (h : Field). IsFieldType h.ty) (sym is) (lies-parts start g gs lies).1
+allowed-at start (g ∷ gs) (suc i) f lies lt is = allowed-at (start + width g.ty) gs i f (lies-parts start g gs lies).2 (omega arith) is
 
 -- a field begins behind those before it
 offset-at : (start : ℕ) (fs : List Field) (i : ℕ) (f : Field) → lies_from start fs ≡ true → i < length fs → f ≡ get_or fs i f → f.offset ≡ start + record_length (take i fs)
 offset-at start [] i f lies lt is = absurd (omega arith)
-offset-at start (g ∷ gs) zero f lies lt is =
-    let parts = and_parts ((g.offset == start) && is_allowed g.ty.kind g.ty.length g.ty.decimals) (lies_from (start + width g.ty) gs) lies in
-    ap (λ (h : Field). h.offset) is ∙ eqb-true g.offset start (and_parts (g.offset == start) (is_allowed g.ty.kind g.ty.length g.ty.decimals) parts.0).0 ∙ sym (add-zero start)
-offset-at start (g ∷ gs) (suc i) f lies lt is =
-    let parts = and_parts ((g.offset == start) && is_allowed g.ty.kind g.ty.length g.ty.decimals) (lies_from (start + width g.ty) gs) lies in
-    offset-at (start + width g.ty) gs i f parts.1 (omega arith) is ∙ omega arith
+offset-at start (g ∷ gs) zero f lies lt is = ap (λ (h : Field). h.offset) is ∙ (lies-parts start g gs lies).0 ∙ sym (add-zero start)
+offset-at start (g ∷ gs) (suc i) f lies lt is = offset-at (start + width g.ty) gs i f (lies-parts start g gs lies).2 (omega arith) is ∙ omega arith
 
+-- the later fields lie one behind the other too
 pub lies-drop : (start : ℕ) (fs : List Field) (i : ℕ) → lies_from start fs ≡ true → (other : ℕ) × (lies_from other (drop i fs) ≡ true)
 lies-drop start fs zero lies = (start, lies)
 lies-drop start [] (suc i) lies = (start, refl)
-lies-drop start (f ∷ fs) (suc i) lies = lies-drop (start + width f.ty) fs i (and_parts ((f.offset == start) && is_allowed f.ty.kind f.ty.length f.ty.decimals) (lies_from (start + width f.ty) fs) lies).1
+lies-drop start (f ∷ fs) (suc i) lies = lies-drop (start + width f.ty) fs i (lies-parts start f fs lies).2
 
 pub split-fields : (fs : List Field) (i : ℕ) (f : Field) → i < length fs → f ≡ get_or fs i f → drop i fs ≡ f ∷ drop (suc i) fs
 split-fields fs i f lt is = drop-cons fs i f lt ∙ ap (λ (g : Field). g ∷ drop (suc i) fs) (sym is)
@@ -74,6 +74,7 @@ pub record IsFieldOf (fs : List Field) (i : ℕ) (f : Field) (image : List ℕ) 
   pub laid : IsLaidOut fs
   pub long : length image ≡ record_length fs
 
+-- the same of a list that equals the format's fields
 pub IsFieldOf-same : (all fs : List Field) (i : ℕ) (f : Field) (image : List ℕ) → fs ≡ all → IsLaidOut all → length image ≡ record_length all → i < length fs → f ≡ get_or fs i f → IsFieldOf fs i f image
 IsFieldOf-same all fs i f image same laid long within is = record {
   within = within;
@@ -97,6 +98,7 @@ field-room {fs = fs} {i = i} {f = f} {image = image} here =
     let within = record_length-take fs (i + 1) in
     omega (arith, more, within)
 
+-- its bytes are as many as its type says
 pub field-part : {fs : List Field} {i : ℕ} {f : Field} {image : List ℕ} → IsFieldOf fs i f image → length (part f.offset (width f.ty) image) ≡ width f.ty
 field-part {f = f} {image = image} here =
     let room : f.offset + width f.ty ≤ length image = field-room here in
