@@ -1,1 +1,4 @@
-pub mod RecordLemmas
+pub mod ExampleLemmas
+pub mod HeldLemmas
+pub mod LayoutLemmas
+pub mod WrittenLemmas

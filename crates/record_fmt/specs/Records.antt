@@ -1,21 +1,17 @@
 -- The bytes of a record: which image is written for a list of values, and which values an image stands for.
 -- (DDS for Physical and Logical Files, "Data type"; Database Programming, record formats.)
-use Rattle.std.specs.Prelude.{◌≡◌, ℕ, ◌+◌, Bool, ◌==◌, Option, Some, None, is_some, Result, Ok, Err, List, [], ◌∷◌, ◌++◌, length, take, drop, if◌then◌else◌}
-use Rattle.std.specs.Prelude.{Vec, ◌<◌, ◌^◌}
+use Rattle.std.specs.Prelude.{◌≡◌, ℕ, ◌+◌, ◌==◌, Option, Some, None, is_some, Result, Ok, Err, List, [], ◌∷◌, ◌++◌, length, take, drop, Vec, if◌then◌else◌}
 use Rattle.std.specs.Global.{Global}
 use Rattle.field_types.specs.declared.values.Value.{Value}
 use Rattle.field_types.specs.declared.faults.ValueFault.{ValueFault}
 use Rattle.field_types.specs.declared.faults.RecordFault.{RecordFault}
 use Rattle.field_types.specs.declared.faults.RecordFault.TheVariants.{Count, BadField}
-use Rattle.field_values.specs.declared.fields.ImageFault.{ImageFault}
-use Rattle.field_values.specs.declared.fields.ImageFault.TheVariants as image_faults
 use Rattle.field_values.specs.FieldTypes.{width}
 use Rattle.field_values.specs.FieldBytes.{held, written, fault_of}
 use Rattle.field_values.specs.FirstBad.{IsFirstBad}
 use Rattle.record_fmt.specs.declared.formats.Field.{Field}
 use Rattle.record_fmt.specs.declared.formats.PackFault.{PackFault}
 use Rattle.record_fmt.specs.declared.formats.PackFault.TheVariants as pack_faults
-use Rattle.record_fmt.specs.Layout.{record_length}
 
 -- bytes before others, or the fault
 abbrev pub behind : List ℕ → Result (List ℕ) RecordFault → Result (List ℕ) RecordFault
@@ -62,13 +58,3 @@ abbrev pub Packs : Result (List ℕ) RecordFault → Result (Vec ℕ Global) Pac
 Packs wanted (Ok image) = wanted ≡ Ok image.items
 Packs wanted (Err pack_faults.NoMemory) = Unit {0}
 Packs wanted (Err (pack_faults.Refused fault)) = wanted ≡ Err fault
-
--- a fault of a field's bytes, where the field lies from a place of the record on
-abbrev pub moved : ImageFault → ℕ → ImageFault
-moved (image_faults.BadImage bad) from = image_faults.BadImage (record { at = from + bad.at })
-moved image_faults.NoMemory from = image_faults.NoMemory
-
--- the moved place is one of a slice
-abbrev pub BadFits : ImageFault → ℕ → Type 0
-BadFits (image_faults.BadImage bad) from = from + bad.at < 2 ^ 64
-BadFits image_faults.NoMemory from = Unit {0}

@@ -136,6 +136,20 @@ impl Fields {
     {
         self.bytes
     }
+
+    /// A copy in memory of its own.
+    pub fn copied(&self, alloc: Global) -> Result<Fields, AllocError>
+        ensures { IfOk result (λ f. f ≡ self.now) }
+    {
+        let mut fields = Vec::with_capacity(alloc, self.fields.len())?;
+        for field in self.as_slice() {
+            fields.push(field.copied(alloc)?)?;
+        }
+        Ok(Fields {
+            fields,
+            bytes: self.bytes,
+        })
+    }
 }
 
 /// A record format (DDS for Physical and Logical Files, record format level).
@@ -151,5 +165,15 @@ impl Format {
         ensures { result ≡ record_length self.now.fields }
     {
         self.fields.bytes()
+    }
+
+    /// A copy in memory of its own.
+    pub fn copied(&self, alloc: Global) -> Result<Format, AllocError>
+        ensures { IfOk result (λ f. f ≡ self.now) }
+    {
+        Ok(Format {
+            name: self.name,
+            fields: self.fields.copied(alloc)?,
+        })
     }
 }

@@ -1,11 +1,12 @@
 //! The bytes of a record: packed from the values of its fields, and unpacked again. Their meaning stands in `specs/Records.antt`.
-ghost use Rattle.std.specs.Prelude.{◌≡◌, ◌+◌, ◌++◌, ℕ, Some, None, length, IfOk, OnOk, IsErrOf, ◌∷◌, []};
+ghost use Rattle.std.specs.Prelude.{◌≡◌, ◌≢◌, ◌↔◌, ℕ, ◌+◌, ◌≤◌, ◌++◌, true, Some, None, is_some, length, IfOk, IsErrOf};
 ghost use Rattle.field_values.specs.FieldTypes.{IsFieldType, width};
 ghost use Rattle.field_values.specs.FieldBytes.{written, fault_of};
+ghost use Rattle.field_values.specs.FirstBad.{TellsFirstBad, part};
 ghost use Rattle.record_fmt.specs.Layout.{record_length};
-ghost use Rattle.record_fmt.specs.Records.{record_written, record_held, Packs, IsRecordBadAt, moved, BadFits};
+ghost use Rattle.record_fmt.specs.Records.{record_written, record_held, Packs, IsRecordBadAt};
 
-use crate::formats::{Format, PackFault};
+use crate::formats::{Field, Format, PackFault};
 use field_types::faults::{BadImage, RecordFault, ValueFault};
 use field_types::kinds::FieldType;
 use field_types::values::Value;
@@ -15,7 +16,8 @@ use std::alloc::{AllocError, Global};
 impl Format {
     /// The image of a record with these values, one for each field.
     pub fn pack(&self, alloc: Global, values: &[Value]) -> Result<Vec<u8>, PackFault>
-        ensures { Packs (record_written self.now.fields values.now) result }
+        ensures packed { Packs (record_written self.now.fields values.now) result }
+        ensures count { IsErrOf result (PackFault.Refused RecordFault.Count) ↔ (length values.now ≢ length self.now.fields) }
     {
         let fields = self.fields.as_slice();
         if values.len() != fields.len() {
@@ -38,7 +40,13 @@ impl Format {
         requires { length image.now ≡ record_length self.now.fields }
         ensures { TellsFirstBad (λ bytes. is_some (record_held self.now.fields bytes)) image.now result }
     {
-        todo
+        let fields = self.fields.as_slice();
+        for field in fields {
+            if let Some(at) = fields::first_bad(&field.ty, bytes_of(field, image)) {
+                return Some(field.offset as usize + at);
+            }
+        }
+        None
     }
 
     /// The values that stand in a record's image, one for each field.
@@ -47,19 +55,34 @@ impl Format {
         ensures values { IfOk result (λ v. record_held self.now.fields image.now ≡ Some v.items) }
         ensures bad { (at : ℕ) → IsErrOf result (ImageFault.BadImage (record { at = at })) ↔ IsRecordBadAt self.now.fields image.now at }
     {
+        match self.first_bad(image) {
+            Some(at) => Err(ImageFault::BadImage(BadImage { at })),
+            None => Ok(self.values(alloc, image)?),
+        }
+    }
+
+    /// The values that stand in an image in which one stands in each field, as `first_bad` tells.
+    fn values(&self, alloc: Global, image: &[u8]) -> Result<Vec<Value>, AllocError>
+        requires room { length image.now ≡ record_length self.now.fields }
+        requires there { is_some (record_held self.now.fields image.now) ≡ true }
+        ensures { IfOk result (λ v. record_held self.now.fields image.now ≡ Some v.items) }
+    {
         let fields = self.fields.as_slice();
         let mut values = Vec::with_capacity(alloc, fields.len())?;
-        let mut from = 0;
         for field in fields {
-            let to = from + fields::width(&field.ty);
-            match fields::take(alloc, &field.ty, &image[from..to]) {
-                Ok(value) => add(&mut values, value)?,
-                Err(fault) => return Err(in_record(fault, from)),
-            }
-            from = to;
+            values.push(fields::value(alloc, &field.ty, bytes_of(field, image))?)?;
         }
         Ok(values)
     }
+}
+
+/// The bytes of a field in a record.
+fn bytes_of<'a>(field: &Field, image: &'a [u8]) -> &'a [u8]
+    requires { field.now.offset + width field.now.ty ≤ length image.now }
+    ensures { result.now ≡ part field.now.offset (width field.now.ty) image.now }
+{
+    let from = field.offset as usize;
+    &image[from..from + fields::width(&field.ty)]
 }
 
 /// Adds a field's bytes at the end of an image, or says why it refuses its value.
@@ -75,22 +98,4 @@ fn push_value(
     let from = image.len();
     image.resize(from + fields::width(ty), 0)?;
     Ok(fields::put(ty, value, &mut image[from..]).err())
-}
-
-fn add(values: &mut Vec<Value>, value: Value) -> Result<(), AllocError>
-    ensures { OnOk result (values.new.items ≡ values.old.items ++ value ∷ []) }
-{
-    values.push(value)?;
-    Ok(())
-}
-
-/// A fault of a field's bytes, at its place in the record.
-fn in_record(fault: ImageFault, from: usize) -> ImageFault
-    requires { BadFits fault from }
-    ensures { result ≡ moved fault from }
-{
-    match fault {
-        ImageFault::BadImage(bad) => ImageFault::BadImage(BadImage { at: from + bad.at }),
-        ImageFault::NoMemory => ImageFault::NoMemory,
-    }
 }

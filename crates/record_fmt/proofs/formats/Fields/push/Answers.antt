@@ -1,8 +1,8 @@
-use Rattle.std.proofs.Common.{◌≡◌, ◌+◌, ◌<◌, ◌≤◌, ◌∙◌, ◌++◌, ◌∷◌, [], List, length, refl, sym, ap, subst, arith}
+use Rattle.std.proofs.Common.{◌≡◌, ◌+◌, ◌<◌, ◌≤◌, ◌∷◌, [], List, length, sym, subst, arith}
 use Rattle.field_values.specs.FieldTypes.{width}
 use Rattle.record_fmt.specs.declared.formats.Field.{Field}
 use Rattle.record_fmt.specs.Layout.{IsLaidOut, record_length}
-use Rattle.record_fmt.proofs.RecordLemmas.{IsLaidOut-more, record_length-append}
+use Rattle.record_fmt.proofs.LayoutLemmas.{IsLaidOut-more, record_length-append}
 use Rattle.record_fmt.proofs.formats.Fields.push.Goals as goal
 
 pub invariant_of-self-2 : goal.invariant_of-self-2

@@ -1,15 +1,13 @@
-use Rattle.std.proofs.Common.{◌≡◌, ◌+◌, ◌<◌, ◌∙◌, ◌++◌, ℕ, List, Option, Some, None, length, get_or, arith, sym, ap, subst, rules}
-use Rattle.field_values.specs.FieldTypes.{IsFieldType}
-use Rattle.field_values.specs.FieldBytes.{fault_of, written}
-use Rattle.field_types.specs.declared.values.Value.{Value}
+use Rattle.std.proofs.Common.{◌≡◌, ◌+◌, ◌<◌, ◌∙◌, ℕ, List, None, length, get_or, arith, sym, ap, subst}
 use Rattle.record_fmt.specs.declared.formats.Field.{Field}
 use Rattle.record_fmt.specs.Layout.{IsLaidOut}
-use Rattle.record_fmt.specs.Records.{record_written, fields_written}
-use Rattle.record_fmt.proofs.RecordLemmas.{allowed-at, goes_on, goes_on-start, goes_on-more, goes_on-fault, goes_on-end, record_written-fields, record_written-count}
+use Rattle.record_fmt.specs.Records.{record_written}
+use Rattle.record_fmt.proofs.LayoutLemmas.{allowed-at}
+use Rattle.record_fmt.proofs.WrittenLemmas.{goes_on, goes_on-start, goes_on-more, goes_on-fault, goes_on-end, record_written-fields, record_written-count}
 use Rattle.record_fmt.proofs.formats.Format.pack.Goals as goal
 
-pub returns-then-values-fields : goal.returns-then-values-fields
-returns-then-values-fields c =
+pub returns-then-values-fields-clause-packed : goal.returns-then-values-fields-clause-packed
+returns-then-values-fields-clause-packed c =
     sym (ap (λ (fs : List Field). record_written fs c.args.values.now) c.as_slice-fields.ensures.fields)
     ∙ record_written-count c.as_slice-fields.result.now c.args.values.now c.if-values-fields.true
 
@@ -21,8 +19,8 @@ push_value-requires c =
     let laid = subst (λ (fs : List Field). IsLaidOut fs) (sym c.as_slice-fields.ensures.fields) c.as_slice-fields.ensures.laid_out in
     allowed-at 0 c.as_slice-fields.result.now c.loop-i.i (get_or c.as_slice-fields.result.now c.loop-i.i c.index-fields-i.result) laid.lies c.loop-i-test.true (ap (get_or c.as_slice-fields.result.now c.loop-i.i) c.index-fields-i.is)
 
-pub returns-in-Some : goal.returns-in-Some
-returns-in-Some c =
+pub returns-in-Some-clause-packed : goal.returns-in-Some-clause-packed
+returns-in-Some-clause-packed c =
     let given = c.in_ok-cause.ensures.fault in
     let same : length c.args.values.now ≡ length c.as_slice-fields.result.now = c.if-values-fields.false in
     let within : c.loop-i.i < length c.args.values.now = omega arith in
@@ -42,8 +40,8 @@ loop-i-preserved c =
     c.loop-i-test.true (ap (get_or c.as_slice-fields.result.now c.loop-i.i) c.index-fields-i.is) within c.index-values-i.is (sym c.in_ok-cause.ensures.fault ∙ none)
     ∙ c.loop-i.invariant
 
-pub returns : goal.returns
-returns c =
+pub returns-clause-packed : goal.returns-clause-packed
+returns-clause-packed c =
     let same : length c.args.values.now ≡ length c.as_slice-fields.result.now = c.if-values-fields.false in
     sym (ap (λ (fs : List Field). record_written fs c.args.values.now) c.as_slice-fields.ensures.fields)
     ∙ record_written-fields c.as_slice-fields.result.now c.args.values.now same

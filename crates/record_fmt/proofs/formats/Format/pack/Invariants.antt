@@ -1,6 +1,6 @@
 use Rattle.std.proofs.Common.{◌≡◌}
 use Rattle.record_fmt.specs.Records.{fields_written}
-use Rattle.record_fmt.proofs.RecordLemmas.{goes_on}
+use Rattle.record_fmt.proofs.WrittenLemmas.{goes_on}
 use Rattle.record_fmt.proofs.formats.Format.pack.Given as goal
 
 abbrev pub invariant-loop-i : goal.invariant-loop-i
