@@ -25,7 +25,7 @@ join-halves : (b : ℕ) → 16 * high_half b + low_half b ≡ b
 join-halves b = omega arith
 
 -- a zoned image is its digits under its sign
-zoned-again : (w : List ℕ) → is_zoned w ≡ true → (zoned_bytes (map low_half w) (high_half (last_byte w)) ≡ w) × (list_all is_digit (map low_half w) ≡ true)
+pub zoned-again : (w : List ℕ) → is_zoned w ≡ true → (zoned_bytes (map low_half w) (high_half (last_byte w)) ≡ w) × (list_all is_digit (map low_half w) ≡ true)
 zoned-again [] h = cc
 zoned-again (b ∷ []) h =
     let parts : (is_digit (low_half b) ≡ true) × (is_sign (high_half b) ≡ true) = and_parts (is_digit (low_half b)) (is_sign (high_half b)) h in
@@ -41,7 +41,7 @@ zoned-again (b ∷ c ∷ bs) h =
     )
 
 -- a packed image is its digits and its sign
-packed-again : (w : List ℕ) → is_packed w ≡ true → (packed_bytes (packed_digits w) (low_half (last_byte w)) ≡ w) × (list_all is_digit (packed_digits w) ≡ true) × (length (packed_digits w) ≡ 2 * length w - 1)
+pub packed-again : (w : List ℕ) → is_packed w ≡ true → (packed_bytes (packed_digits w) (low_half (last_byte w)) ≡ w) × (list_all is_digit (packed_digits w) ≡ true) × (length (packed_digits w) ≡ 2 * length w - 1)
 packed-again [] h = cc
 packed-again (b ∷ []) h =
     let parts : (is_digit (high_half b) ≡ true) × (is_sign (low_half b) ≡ true) = and_parts (is_digit (high_half b)) (is_sign (low_half b)) h in
@@ -107,22 +107,22 @@ binary-only n w z long bytes value =
     rw (value, ← long, number) (sym same)
 
 -- a number with the field's decimals is its units
-units-same : (d : ℕ) (z : ℤ) → units_at d (record { units = z; scale = d }) ≡ z
+pub units-same : (d : ℕ) (z : ℤ) → units_at d (record { units = z; scale = d }) ≡ z
 units-same d (pos k) = ap pos (mul-div_left k (one-le-pow d 10 (lit< tt)))
 units-same d (negsuc k) = ap (λ (m : ℕ). neg_ℤ (pos m)) (mul-div_left (suc k) (one-le-pow d 10 (lit< tt)))
 
 -- what stands in a decimal field
-from-number : (a b : Bool) (d : ℕ) (z : ℤ) (v : Value) → cond a (option_map (decimal d) (cond b (Some z) None)) None ≡ Some v → (a ≡ true) × (b ≡ true) × (v ≡ decimal d z)
+pub from-number : (a b : Bool) (d : ℕ) (z : ℤ) (v : Value) → cond a (option_map (decimal d) (cond b (Some z) None)) None ≡ Some v → (a ≡ true) × (b ≡ true) × (v ≡ decimal d z)
 from-number true true d z v h = (refl, refl, cc)
 from-number true false d z v h = cc
 from-number false b d z v h = cc
 
-from-moment : (a b : Bool) (w : List ℕ) (v : Value) → cond a (cond b (Some (Chars w)) None) None ≡ Some v → (a ≡ true) × (v ≡ Chars w)
-from-moment true true w v h = (refl, cc)
+pub from-moment : (a b : Bool) (w : List ℕ) (v : Value) → cond a (cond b (Some (Chars w)) None) None ≡ Some v → (a ≡ true) × (b ≡ true) × (v ≡ Chars w)
+from-moment true true w v h = (refl, refl, cc)
 from-moment true false w v h = cc
 from-moment false b w v h = cc
 
-from-text : (a : Bool) (w : List ℕ) (v : Value) → cond a (Some (Chars w)) None ≡ Some v → (a ≡ true) × (v ≡ Chars w)
+pub from-text : (a : Bool) (w : List ℕ) (v : Value) → cond a (Some (Chars w)) None ≡ Some v → (a ≡ true) × (v ≡ Chars w)
 from-text true w v h = (refl, cc)
 from-text false w v h = cc
 
@@ -148,13 +148,13 @@ of-kind Binary n d v w h form =
     (binary-only n w (twos_complement (length w) (number_in 256 w)) (eqb-true (length w) (binary_width n) is.0) (and_parts (list_all is_byte w) (nat_lt (unsigned_abs (twos_complement (length w) (number_in 256 w))) (10 ^ n)) is.1).0 refl)
 of-kind Date n d v w h form =
     let is = from-moment (length w == n) (is_date w) w v h in
-    rw is.1 (filled-whole n w (eqb-true (length w) n is.0))
+    rw is.2 (filled-whole n w (eqb-true (length w) n is.0))
 of-kind Time n d v w h form =
     let is = from-moment (length w == n) (is_time w) w v h in
-    rw is.1 (filled-whole n w (eqb-true (length w) n is.0))
+    rw is.2 (filled-whole n w (eqb-true (length w) n is.0))
 of-kind Stamp n d v w h form =
     let is = from-moment (length w == n) (is_timestamp w) w v h in
-    rw is.1 (filled-whole n w (eqb-true (length w) n is.0))
+    rw is.2 (filled-whole n w (eqb-true (length w) n is.0))
 
 pub written-only : (t : FieldType) (v : Value) (image : List ℕ) → IsFieldType t → stands t v image → IsTrue (has_written_form t.kind image) → image ≡ written t v
 written-only t v image allowed there form = of-kind t.kind t.length t.decimals v image there form
