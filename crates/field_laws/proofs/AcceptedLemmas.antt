@@ -1,5 +1,5 @@
 -- What stands in a field isn't refused there, and is held as it is.
-use Rattle.std.proofs.Common.{◌≡◌, ℕ, suc, ◌+◌, ◌-◌, ◌*◌, ◌/◌, ◌%◌, ◌^◌, ◌<◌, ◌≤◌, Bool, true, false, not, cond, ◌&&◌, ◌||◌, ◌==◌, nat_lt, Option, Some, None, ◌⊎◌, inl, inr, ℤ, unsigned_abs, List, [], ◌∷◌, length, map, refl, sym, ◌∙◌, ap, subst, arith, lit<}
+use Rattle.std.proofs.Common.{◌≡◌, ℕ, suc, ◌+◌, ◌-◌, ◌*◌, ◌/◌, ◌%◌, ◌^◌, ◌<◌, Bool, true, false, not, cond, ◌&&◌, ◌||◌, ◌==◌, nat_lt, Option, Some, None, inl, inr, ℤ, unsigned_abs, List, [], ◌∷◌, length, map, refl, ◌∙◌, ap, subst, arith, lit<}
 use Rattle.std.specs.List.{list_all}
 use Rattle.std.proofs.lemmas.List.{length-map}
 use Rattle.std.proofs.lemmas.Bool.{and_parts, eqb-true, or_cases, cases_lt, ltb-true, le-ltb, lt-leb, not-false}
@@ -11,14 +11,14 @@ use Rattle.field_types.specs.declared.values.Dec.{Dec}
 use Rattle.field_types.specs.declared.values.Value.{Value}
 use Rattle.field_types.specs.declared.values.Value.TheVariants.{Chars, Number}
 use Rattle.field_types.specs.declared.faults.ValueFault.{ValueFault}
-use Rattle.field_types.specs.declared.faults.ValueFault.TheVariants.{WrongKind, TooManyDecimals, TooWide, BadDate}
+use Rattle.field_types.specs.declared.faults.ValueFault.TheVariants.{WrongKind, TooManyDecimals, TooWide}
 use Rattle.field_values.specs.FieldTypes.{packed_width, binary_width, is_numeric, is_moment_kind}
 use Rattle.field_values.specs.Digits.{number_in, is_digit, high_half, low_half, is_minus, is_negative, signed, last_byte}
 use Rattle.field_values.specs.Zoned.{is_zoned}
 use Rattle.field_values.specs.Packed.{is_packed, is_spare_clear, packed_digits}
 use Rattle.field_values.specs.Binary.{is_byte, twos_complement}
 use Rattle.field_values.specs.Moments.{is_moment, is_date, is_time, is_timestamp}
-use Rattle.field_values.specs.FieldBytes.{held, stands, decimal, as_held, filled, fault_of, units_at, has_more_decimals, is_too_wide, text_fault, number_fault}
+use Rattle.field_values.specs.FieldBytes.{held, stands, decimal, as_held, fault_of, units_at, has_more_decimals, is_too_wide, text_fault, number_fault}
 use Rattle.field_values.proofs.DigitLemmas.{number_in-lt}
 use Rattle.field_values.proofs.ScaleLemmas.{number_fault-Ok, unsigned_abs-signed}
 use Rattle.field_values.proofs.FieldLemmas.{field}

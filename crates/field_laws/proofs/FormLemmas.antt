@@ -1,5 +1,5 @@
 -- What is written has the sign that is written.
-use Rattle.std.proofs.Common.{◌≡◌, ℕ, zero, suc, ◌+◌, ◌-◌, ◌*◌, ◌/◌, ◌%◌, ◌^◌, ◌<◌, ◌≤◌, Bool, true, false, ◌&&◌, nat_le, IsTrue, Option, Some, None, ℤ, pos, negsuc, unsigned_abs, List, length, map, refl, sym, ◌∙◌, ap, subst, arith, lit<}
+use Rattle.std.proofs.Common.{◌≡◌, ℕ, zero, suc, ◌+◌, ◌-◌, ◌*◌, ◌/◌, ◌%◌, ◌^◌, ◌<◌, ◌≤◌, true, false, nat_le, IsTrue, Option, Some, None, ℤ, pos, negsuc, unsigned_abs, List, map, refl, sym, ◌∙◌, ap, subst, arith, lit<}
 use Rattle.std.specs.List.{list_all}
 use Rattle.std.proofs.lemmas.Bool.{and_parts, leb-true, ne_eqb}
 use Rattle.std.proofs.Math.Nat.{pow-le-pow_right}
@@ -12,7 +12,6 @@ use Rattle.field_types.specs.declared.faults.ValueFault.{ValueFault}
 use Rattle.field_types.specs.declared.faults.ValueFault.TheVariants.{WrongKind}
 use Rattle.field_values.specs.FieldTypes.{IsFieldType, is_allowed, is_between, packed_width}
 use Rattle.field_values.specs.Digits.{number_in, digits_in, is_digit, high_half, low_half, sign_of, is_negative, last_byte}
-use Rattle.field_values.specs.Zoned.{zoned_bytes}
 use Rattle.field_values.specs.Packed.{packed_digits, packed_bytes}
 use Rattle.field_values.specs.FieldBytes.{written, fault_of, units_at, number_written}
 use Rattle.field_values.proofs.DigitLemmas.{length-digits_in, number_in-digits_in_all, are_digits_in}
@@ -22,7 +21,7 @@ use Rattle.field_laws.proofs.WrittenLemmas.{low-zoned_bytes, last-zoned_bytes, s
 
 sign-form : (z : ℤ) → is_written_sign (sign_of (is_negative z)) (unsigned_abs z) ≡ true
 sign-form (pos n) = refl
-sign-form (negsuc n) = refl
+sign-form (negsuc n) = rw (ne_eqb (suc n) 0 (λ e. absurd (omega arith))) refl
 
 zoned-formed : (w : List ℕ) (s m : ℕ) → high_half (last_byte w) ≡ s → number_in 10 (map low_half w) ≡ m → is_written_sign s m ≡ true → has_written_form Zoned w ≡ true
 zoned-formed w s m last number sign = ap (λ (k : ℕ). is_written_sign k (number_in 10 (map low_half w))) last ∙ ap (λ (k : ℕ). is_written_sign s k) number ∙ sign

@@ -1,20 +1,19 @@
 -- The bytes of an image again from the digits and the sign that stand in it.
-use Rattle.std.proofs.Common.{◌≡◌, ℕ, zero, suc, ◌+◌, ◌-◌, ◌*◌, ◌/◌, ◌%◌, ◌^◌, ◌<◌, ◌≤◌, Bool, true, false, not, cond, ◌&&◌, ◌||◌, ◌==◌, nat_lt, IsTrue, Option, Some, None, option_map, ◌⊎◌, inl, inr, ℤ, pos, negsuc, neg_ℤ, unsigned_abs, List, [], ◌∷◌, ◌++◌, length, map, replicate, refl, sym, ◌∙◌, ap, subst, arith, lit<, append-nil}
+use Rattle.std.proofs.Common.{◌≡◌, ℕ, zero, suc, ◌+◌, ◌-◌, ◌*◌, ◌/◌, ◌%◌, ◌^◌, ◌<◌, ◌≤◌, Bool, true, false, not, cond, ◌&&◌, ◌==◌, nat_lt, IsTrue, Some, None, option_map, inl, inr, ℤ, pos, negsuc, neg_ℤ, unsigned_abs, List, [], ◌∷◌, length, map, refl, sym, ◌∙◌, ap, subst, arith, lit<, append-nil}
 use Rattle.std.specs.List.{list_all}
 use Rattle.std.proofs.lemmas.List.{length-map}
-use Rattle.std.proofs.lemmas.Bool.{and_parts, and_from, eqb-true, eqb-false, eq-eqb, ltb-true, lt-ltb, ltb-false, or_cases, not-true, cases_Bool}
+use Rattle.std.proofs.lemmas.Bool.{and_parts, and_from, eqb-true, eqb-false, ltb-false, or_cases, not-true, cases_Bool}
 use Rattle.std.proofs.Math.Nat.{mul-div_left, one-le-pow}
 use Rattle.field_types.specs.declared.kinds.Kind.{Kind}
 use Rattle.field_types.specs.declared.kinds.Kind.TheVariants.{Char, Zoned, Packed, Binary, Date, Time, Stamp}
 use Rattle.field_types.specs.declared.kinds.FieldType.{FieldType}
-use Rattle.field_types.specs.declared.values.Dec.{Dec}
 use Rattle.field_types.specs.declared.values.Value.{Value}
-use Rattle.field_types.specs.declared.values.Value.TheVariants.{Chars, Number}
+use Rattle.field_types.specs.declared.values.Value.TheVariants.{Chars}
 use Rattle.field_values.specs.FieldTypes.{IsFieldType, packed_width, binary_width}
-use Rattle.field_values.specs.Digits.{number_in, digits_in, is_digit, high_half, low_half, is_minus, is_sign, sign_of, signed, is_negative, last_byte, ends_pass}
-use Rattle.field_values.specs.Zoned.{is_zone_digit, is_signed_digit, is_zoned, zoned_bytes}
-use Rattle.field_values.specs.Packed.{is_digit_pair, is_digit_sign, is_packed, is_spare_clear, packed_digits, packed_bytes}
-use Rattle.field_values.specs.Binary.{is_byte, twos_complement, binary_number, binary_bytes}
+use Rattle.field_values.specs.Digits.{number_in, digits_in, is_digit, high_half, low_half, is_minus, is_sign, sign_of, signed, is_negative, last_byte}
+use Rattle.field_values.specs.Zoned.{is_zone_digit, is_zoned, zoned_bytes}
+use Rattle.field_values.specs.Packed.{is_digit_pair, is_packed, is_spare_clear, packed_digits, packed_bytes}
+use Rattle.field_values.specs.Binary.{is_byte, twos_complement}
 use Rattle.field_values.specs.Moments.{is_date, is_time, is_timestamp}
 use Rattle.field_values.specs.FieldBytes.{held, stands, decimal, written, filled, units_at, number_written}
 use Rattle.field_values.proofs.DigitLemmas.{digits_in-number_in, number_in-lt}

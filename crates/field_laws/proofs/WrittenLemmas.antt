@@ -1,5 +1,5 @@
 -- The written image of a value, kind by kind, and what stands in it.
-use Rattle.std.proofs.Common.{◌≡◌, ℕ, zero, suc, ◌+◌, ◌-◌, ◌*◌, ◌/◌, ◌%◌, ◌^◌, ◌<◌, ◌≤◌, Bool, true, false, not, cond, ◌&&◌, ◌||◌, ◌==◌, nat_lt, nat_le, IsTrue, Option, Some, None, is_some, option_map, ◌⊎◌, inl, inr, ℤ, pos, negsuc, neg_ℤ, unsigned_abs, List, [], ◌∷◌, ◌++◌, length, map, replicate, refl, sym, ◌∙◌, ap, subst, arith, lit<, append-nil, length-append, add-one}
+use Rattle.std.proofs.Common.{◌≡◌, ℕ, zero, suc, ◌+◌, ◌-◌, ◌*◌, ◌/◌, ◌%◌, ◌^◌, ◌<◌, ◌≤◌, Bool, true, false, not, cond, ◌&&◌, ◌==◌, nat_lt, nat_le, Option, Some, None, is_some, inl, inr, ℤ, pos, negsuc, unsigned_abs, List, [], ◌∷◌, length, map, replicate, refl, sym, ◌∙◌, ap, subst, arith, lit<, append-nil, length-append, add-one}
 use Rattle.std.specs.List.{list_all}
 use Rattle.std.proofs.lemmas.List.{length-replicate}
 use Rattle.std.proofs.lemmas.Bool.{and_parts, and_from, eqb-true, eq-eqb, ltb-true, ltb-false, lt-ltb, le-ltb, leb-true, leb-false, cases_lt, not-false}
@@ -18,8 +18,8 @@ use Rattle.field_values.specs.Digits.{number_in, digits_in, is_digit, high_half,
 use Rattle.field_values.specs.Zoned.{is_zone_digit, is_signed_digit, is_zoned, zoned_bytes}
 use Rattle.field_values.specs.Packed.{is_digit_pair, is_digit_sign, is_packed, is_spare_clear, packed_digits, packed_bytes}
 use Rattle.field_values.specs.Binary.{is_byte, twos_complement, binary_number, binary_bytes}
-use Rattle.field_values.specs.Moments.{is_moment, is_date, is_time, is_timestamp}
-use Rattle.field_values.specs.FieldBytes.{held, stands, decimal, written, as_held, fault_of, filled, units_at, has_more_decimals, is_too_wide, number_written, text_fault, number_fault}
+use Rattle.field_values.specs.Moments.{is_date, is_time, is_timestamp}
+use Rattle.field_values.specs.FieldBytes.{held, stands, decimal, written, as_held, fault_of, filled, units_at, has_more_decimals, is_too_wide, number_written, number_fault}
 use Rattle.field_values.proofs.DigitLemmas.{length-digits_in, number_in-digits_in_all, are_digits_in}
 use Rattle.field_values.proofs.BinaryLemmas.{binary-room}
 use Rattle.field_values.proofs.DateLemmas.{date-parts}
