@@ -1,2 +1,4 @@
 pub mod WrittenLemmas
 pub mod OneImageLemmas
+pub mod FormLemmas
+pub mod AcceptedLemmas

@@ -1,20 +1,19 @@
 -- The bytes of an image again from the digits and the sign that stand in it.
-use Rattle.std.proofs.Common.{◌≡◌, ℕ, zero, suc, ◌+◌, ◌-◌, ◌*◌, ◌/◌, ◌%◌, ◌^◌, ◌<◌, ◌≤◌, Bool, true, false, not, cond, ◌&&◌, ◌||◌, ◌==◌, nat_lt, IsTrue, Option, Some, None, option_map, ◌⊎◌, inl, inr, ℤ, pos, negsuc, neg_ℤ, unsigned_abs, List, [], ◌∷◌, ◌++◌, length, map, replicate, refl, sym, ◌∙◌, ap, subst, arith, lit<, append-nil}
+use Rattle.std.proofs.Common.{◌≡◌, ℕ, zero, suc, ◌+◌, ◌-◌, ◌*◌, ◌/◌, ◌%◌, ◌^◌, ◌<◌, ◌≤◌, Bool, true, false, not, cond, ◌&&◌, ◌==◌, nat_lt, IsTrue, Some, None, option_map, inl, inr, ℤ, pos, negsuc, neg_ℤ, unsigned_abs, List, [], ◌∷◌, length, map, refl, sym, ◌∙◌, ap, subst, arith, lit<, append-nil}
 use Rattle.std.specs.List.{list_all}
 use Rattle.std.proofs.lemmas.List.{length-map}
-use Rattle.std.proofs.lemmas.Bool.{and_parts, and_from, eqb-true, eqb-false, eq-eqb, ltb-true, lt-ltb, ltb-false, or_cases, not-true, cases_Bool}
+use Rattle.std.proofs.lemmas.Bool.{and_parts, and_from, eqb-true, eqb-false, ltb-false, or_cases, not-true, cases_Bool}
 use Rattle.std.proofs.Math.Nat.{mul-div_left, one-le-pow}
 use Rattle.field_types.specs.declared.kinds.Kind.{Kind}
 use Rattle.field_types.specs.declared.kinds.Kind.TheVariants.{Char, Zoned, Packed, Binary, Date, Time, Stamp}
 use Rattle.field_types.specs.declared.kinds.FieldType.{FieldType}
-use Rattle.field_types.specs.declared.values.Dec.{Dec}
 use Rattle.field_types.specs.declared.values.Value.{Value}
-use Rattle.field_types.specs.declared.values.Value.TheVariants.{Chars, Number}
+use Rattle.field_types.specs.declared.values.Value.TheVariants.{Chars}
 use Rattle.field_values.specs.FieldTypes.{IsFieldType, packed_width, binary_width}
-use Rattle.field_values.specs.Digits.{number_in, digits_in, is_digit, high_half, low_half, is_minus, is_sign, sign_of, signed, is_negative, last_byte, ends_pass}
-use Rattle.field_values.specs.Zoned.{is_zone_digit, is_signed_digit, is_zoned, zoned_bytes}
-use Rattle.field_values.specs.Packed.{is_digit_pair, is_digit_sign, is_packed, is_spare_clear, packed_digits, packed_bytes}
-use Rattle.field_values.specs.Binary.{is_byte, twos_complement, binary_number, binary_bytes}
+use Rattle.field_values.specs.Digits.{number_in, digits_in, is_digit, high_half, low_half, is_minus, is_sign, sign_of, signed, is_negative, last_byte}
+use Rattle.field_values.specs.Zoned.{is_zone_digit, is_zoned, zoned_bytes}
+use Rattle.field_values.specs.Packed.{is_digit_pair, is_packed, is_spare_clear, packed_digits, packed_bytes}
+use Rattle.field_values.specs.Binary.{is_byte, twos_complement}
 use Rattle.field_values.specs.Moments.{is_date, is_time, is_timestamp}
 use Rattle.field_values.specs.FieldBytes.{held, stands, decimal, written, filled, units_at, number_written}
 use Rattle.field_values.proofs.DigitLemmas.{digits_in-number_in, number_in-lt}
@@ -25,7 +24,7 @@ join-halves : (b : ℕ) → 16 * high_half b + low_half b ≡ b
 join-halves b = omega arith
 
 -- a zoned image is its digits under its sign
-zoned-again : (w : List ℕ) → is_zoned w ≡ true → (zoned_bytes (map low_half w) (high_half (last_byte w)) ≡ w) × (list_all is_digit (map low_half w) ≡ true)
+pub zoned-again : (w : List ℕ) → is_zoned w ≡ true → (zoned_bytes (map low_half w) (high_half (last_byte w)) ≡ w) × (list_all is_digit (map low_half w) ≡ true)
 zoned-again [] h = cc
 zoned-again (b ∷ []) h =
     let parts : (is_digit (low_half b) ≡ true) × (is_sign (high_half b) ≡ true) = and_parts (is_digit (low_half b)) (is_sign (high_half b)) h in
@@ -41,7 +40,7 @@ zoned-again (b ∷ c ∷ bs) h =
     )
 
 -- a packed image is its digits and its sign
-packed-again : (w : List ℕ) → is_packed w ≡ true → (packed_bytes (packed_digits w) (low_half (last_byte w)) ≡ w) × (list_all is_digit (packed_digits w) ≡ true) × (length (packed_digits w) ≡ 2 * length w - 1)
+pub packed-again : (w : List ℕ) → is_packed w ≡ true → (packed_bytes (packed_digits w) (low_half (last_byte w)) ≡ w) × (list_all is_digit (packed_digits w) ≡ true) × (length (packed_digits w) ≡ 2 * length w - 1)
 packed-again [] h = cc
 packed-again (b ∷ []) h =
     let parts : (is_digit (high_half b) ≡ true) × (is_sign (low_half b) ≡ true) = and_parts (is_digit (high_half b)) (is_sign (low_half b)) h in
@@ -107,22 +106,22 @@ binary-only n w z long bytes value =
     rw (value, ← long, number) (sym same)
 
 -- a number with the field's decimals is its units
-units-same : (d : ℕ) (z : ℤ) → units_at d (record { units = z; scale = d }) ≡ z
+pub units-same : (d : ℕ) (z : ℤ) → units_at d (record { units = z; scale = d }) ≡ z
 units-same d (pos k) = ap pos (mul-div_left k (one-le-pow d 10 (lit< tt)))
 units-same d (negsuc k) = ap (λ (m : ℕ). neg_ℤ (pos m)) (mul-div_left (suc k) (one-le-pow d 10 (lit< tt)))
 
 -- what stands in a decimal field
-from-number : (a b : Bool) (d : ℕ) (z : ℤ) (v : Value) → cond a (option_map (decimal d) (cond b (Some z) None)) None ≡ Some v → (a ≡ true) × (b ≡ true) × (v ≡ decimal d z)
+pub from-number : (a b : Bool) (d : ℕ) (z : ℤ) (v : Value) → cond a (option_map (decimal d) (cond b (Some z) None)) None ≡ Some v → (a ≡ true) × (b ≡ true) × (v ≡ decimal d z)
 from-number true true d z v h = (refl, refl, cc)
 from-number true false d z v h = cc
 from-number false b d z v h = cc
 
-from-moment : (a b : Bool) (w : List ℕ) (v : Value) → cond a (cond b (Some (Chars w)) None) None ≡ Some v → (a ≡ true) × (v ≡ Chars w)
-from-moment true true w v h = (refl, cc)
+pub from-moment : (a b : Bool) (w : List ℕ) (v : Value) → cond a (cond b (Some (Chars w)) None) None ≡ Some v → (a ≡ true) × (b ≡ true) × (v ≡ Chars w)
+from-moment true true w v h = (refl, refl, cc)
 from-moment true false w v h = cc
 from-moment false b w v h = cc
 
-from-text : (a : Bool) (w : List ℕ) (v : Value) → cond a (Some (Chars w)) None ≡ Some v → (a ≡ true) × (v ≡ Chars w)
+pub from-text : (a : Bool) (w : List ℕ) (v : Value) → cond a (Some (Chars w)) None ≡ Some v → (a ≡ true) × (v ≡ Chars w)
 from-text true w v h = (refl, cc)
 from-text false w v h = cc
 
@@ -148,13 +147,13 @@ of-kind Binary n d v w h form =
     (binary-only n w (twos_complement (length w) (number_in 256 w)) (eqb-true (length w) (binary_width n) is.0) (and_parts (list_all is_byte w) (nat_lt (unsigned_abs (twos_complement (length w) (number_in 256 w))) (10 ^ n)) is.1).0 refl)
 of-kind Date n d v w h form =
     let is = from-moment (length w == n) (is_date w) w v h in
-    rw is.1 (filled-whole n w (eqb-true (length w) n is.0))
+    rw is.2 (filled-whole n w (eqb-true (length w) n is.0))
 of-kind Time n d v w h form =
     let is = from-moment (length w == n) (is_time w) w v h in
-    rw is.1 (filled-whole n w (eqb-true (length w) n is.0))
+    rw is.2 (filled-whole n w (eqb-true (length w) n is.0))
 of-kind Stamp n d v w h form =
     let is = from-moment (length w == n) (is_timestamp w) w v h in
-    rw is.1 (filled-whole n w (eqb-true (length w) n is.0))
+    rw is.2 (filled-whole n w (eqb-true (length w) n is.0))
 
 pub written-only : (t : FieldType) (v : Value) (image : List ℕ) → IsFieldType t → stands t v image → IsTrue (has_written_form t.kind image) → image ≡ written t v
 written-only t v image allowed there form = of-kind t.kind t.length t.decimals v image there form

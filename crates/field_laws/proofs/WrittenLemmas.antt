@@ -1,5 +1,5 @@
 -- The written image of a value, kind by kind, and what stands in it.
-use Rattle.std.proofs.Common.{◌≡◌, ℕ, zero, suc, ◌+◌, ◌-◌, ◌*◌, ◌/◌, ◌%◌, ◌^◌, ◌<◌, ◌≤◌, Bool, true, false, not, cond, ◌&&◌, ◌||◌, ◌==◌, nat_lt, nat_le, IsTrue, Option, Some, None, is_some, option_map, ◌⊎◌, inl, inr, ℤ, pos, negsuc, neg_ℤ, unsigned_abs, List, [], ◌∷◌, ◌++◌, length, map, replicate, refl, sym, ◌∙◌, ap, subst, arith, lit<, append-nil, length-append, add-one}
+use Rattle.std.proofs.Common.{◌≡◌, ℕ, zero, suc, ◌+◌, ◌-◌, ◌*◌, ◌/◌, ◌%◌, ◌^◌, ◌<◌, ◌≤◌, Bool, true, false, not, cond, ◌&&◌, ◌==◌, nat_lt, nat_le, Option, Some, None, is_some, inl, inr, ℤ, pos, negsuc, unsigned_abs, List, [], ◌∷◌, length, map, replicate, refl, sym, ◌∙◌, ap, subst, arith, lit<, append-nil, length-append, add-one}
 use Rattle.std.specs.List.{list_all}
 use Rattle.std.proofs.lemmas.List.{length-replicate}
 use Rattle.std.proofs.lemmas.Bool.{and_parts, and_from, eqb-true, eq-eqb, ltb-true, ltb-false, lt-ltb, le-ltb, leb-true, leb-false, cases_lt, not-false}
@@ -18,8 +18,8 @@ use Rattle.field_values.specs.Digits.{number_in, digits_in, is_digit, high_half,
 use Rattle.field_values.specs.Zoned.{is_zone_digit, is_signed_digit, is_zoned, zoned_bytes}
 use Rattle.field_values.specs.Packed.{is_digit_pair, is_digit_sign, is_packed, is_spare_clear, packed_digits, packed_bytes}
 use Rattle.field_values.specs.Binary.{is_byte, twos_complement, binary_number, binary_bytes}
-use Rattle.field_values.specs.Moments.{is_moment, is_date, is_time, is_timestamp}
-use Rattle.field_values.specs.FieldBytes.{held, stands, decimal, written, as_held, fault_of, filled, units_at, has_more_decimals, is_too_wide, number_written, text_fault, number_fault}
+use Rattle.field_values.specs.Moments.{is_date, is_time, is_timestamp}
+use Rattle.field_values.specs.FieldBytes.{held, stands, decimal, written, as_held, fault_of, filled, units_at, has_more_decimals, is_too_wide, number_written, number_fault}
 use Rattle.field_values.proofs.DigitLemmas.{length-digits_in, number_in-digits_in_all, are_digits_in}
 use Rattle.field_values.proofs.BinaryLemmas.{binary-room}
 use Rattle.field_values.proofs.DateLemmas.{date-parts}
@@ -59,7 +59,7 @@ is_zoned-bytes d (e ∷ f ∷ ds) s sign h =
     let parts : (is_digit d ≡ true) × (list_all is_digit (e ∷ f ∷ ds) ≡ true) = and_parts (is_digit d) (list_all is_digit (e ∷ f ∷ ds)) h in
     and_from (is_zone_digit (240 + d)) (is_zoned (zoned_bytes (e ∷ f ∷ ds) s)) (zone-digit d parts.0) (is_zoned-bytes e (f ∷ ds) s sign parts.1)
 
-low-zoned_bytes : (ds : List ℕ) (s : ℕ) → list_all is_digit ds ≡ true → map low_half (zoned_bytes ds s) ≡ ds
+pub low-zoned_bytes : (ds : List ℕ) (s : ℕ) → list_all is_digit ds ≡ true → map low_half (zoned_bytes ds s) ≡ ds
 low-zoned_bytes [] s h = refl
 low-zoned_bytes (d ∷ []) s h =
     let digit : d < 10 = ltb-true d 10 (and_parts (is_digit d) true h).0 in
@@ -71,7 +71,7 @@ low-zoned_bytes (d ∷ e ∷ ds) s h =
     let low : (240 + d) % 16 ≡ d = omega arith in
     rw (low, low-zoned_bytes (e ∷ ds) s parts.1) refl
 
-last-zoned_bytes : (d : ℕ) (ds : List ℕ) (s : ℕ) → list_all is_digit (d ∷ ds) ≡ true → high_half (last_byte (zoned_bytes (d ∷ ds) s)) ≡ s
+pub last-zoned_bytes : (d : ℕ) (ds : List ℕ) (s : ℕ) → list_all is_digit (d ∷ ds) ≡ true → high_half (last_byte (zoned_bytes (d ∷ ds) s)) ≡ s
 last-zoned_bytes d [] s h = (let digit : d < 10 = ltb-true d 10 (and_parts (is_digit d) true h).0 in (halves-of s d (omega arith)).0)
 last-zoned_bytes d (e ∷ []) s h = last-zoned_bytes e [] s (and_parts (is_digit d) (list_all is_digit (e ∷ [])) h).1
 last-zoned_bytes d (e ∷ f ∷ ds) s h = last-zoned_bytes e (f ∷ ds) s (and_parts (is_digit d) (list_all is_digit (e ∷ f ∷ ds)) h).1
@@ -81,7 +81,7 @@ sign-read : (z : ℤ) → signed (is_minus (sign_of (is_negative z))) (unsigned_
 sign-read (pos n) = refl
 sign-read (negsuc n) = refl
 
-sign-is : (b : Bool) → is_sign (sign_of b) ≡ true
+pub sign-is : (b : Bool) → is_sign (sign_of b) ≡ true
 sign-is true = refl
 sign-is false = refl
 
@@ -113,11 +113,11 @@ digit-sign d s lt hd hs =
     rw (halves.0, halves.1, hd, hs) refl
 
 -- what holds of the image of k pairs of digits and one digit
-record Packs (k : ℕ) (ds : List ℕ) (s : ℕ) : Type 0 where
-  long : length (packed_bytes ds s) ≡ suc k
-  packed : is_packed (packed_bytes ds s) ≡ true
-  digits : packed_digits (packed_bytes ds s) ≡ ds
-  sign : low_half (last_byte (packed_bytes ds s)) ≡ s
+pub record Packs (k : ℕ) (ds : List ℕ) (s : ℕ) : Type 0 where
+  pub long : length (packed_bytes ds s) ≡ suc k
+  pub packed : is_packed (packed_bytes ds s) ≡ true
+  pub digits : packed_digits (packed_bytes ds s) ≡ ds
+  pub sign : low_half (last_byte (packed_bytes ds s)) ≡ s
 
 ends-cons : (test final : ℕ → Bool) (b : ℕ) (w : List ℕ) → 0 < length w → ends_pass test final (b ∷ w) ≡ (test b && ends_pass test final w)
 ends-cons test final b [] some = absurd (omega arith)
@@ -153,7 +153,7 @@ packs-one d s lt sign hd =
       sign = halves.1;
     }
 
-packs : (k : ℕ) (ds : List ℕ) (s : ℕ) → s < 16 → is_sign s ≡ true → length ds ≡ suc (k + k) → list_all is_digit ds ≡ true → Packs k ds s
+pub packs : (k : ℕ) (ds : List ℕ) (s : ℕ) → s < 16 → is_sign s ≡ true → length ds ≡ suc (k + k) → list_all is_digit ds ≡ true → Packs k ds s
 packs zero (d ∷ []) s lt sign long h = packs-one d s lt sign (and_parts (is_digit d) true h).0
 packs zero [] s lt sign long h = absurd (omega arith)
 packs zero (d ∷ e ∷ ds) s lt sign long h = absurd (omega arith)
@@ -175,7 +175,7 @@ odd-clear : (n : ℕ) (w : List ℕ) → n % 2 ≡ 1 → is_spare_clear n w ≡ 
 odd-clear n [] odd = refl
 odd-clear n (b ∷ bs) odd = rw odd refl
 
-sign-small : (b : Bool) → sign_of b < 16
+pub sign-small : (b : Bool) → sign_of b < 16
 sign-small true = lit< tt
 sign-small false = lit< tt
 
@@ -245,7 +245,7 @@ number-none true wide h = cc
 number-none false true h = cc
 number-none false false h = refl
 
-number-small : (n d : ℕ) (x : Dec) → number_fault n d x ≡ None → unsigned_abs (units_at d x) < 10 ^ n
+pub number-small : (n d : ℕ) (x : Dec) → number_fault n d x ≡ None → unsigned_abs (units_at d x) < 10 ^ n
 number-small n d x h = leb-false (10 ^ n) (unsigned_abs (units_at d x)) (number-none (has_more_decimals d x) (is_too_wide n (units_at d x)) h)
 
 text-none : (wide bad : Bool) → cond wide (Some TooWide) (cond bad (Some BadDate) None) ≡ None → (wide ≡ false) × (bad ≡ false)
@@ -256,7 +256,7 @@ text-none false false h = (refl, refl)
 filled-length : (n : ℕ) (text : List ℕ) → length text ≤ n → length (filled n text) ≡ n
 filled-length n text le = rw (length-append text (replicate (n - length text) 64), length-replicate {A = ℕ} (n - length text) 64) (omega arith)
 
-filled-same : (n : ℕ) (text : List ℕ) → length text ≡ n → filled n text ≡ text
+pub filled-same : (n : ℕ) (text : List ℕ) → length text ≡ n → filled n text ≡ text
 filled-same n text long = (let none : n - length text ≡ 0 = omega arith in rw none (append-nil text))
 
 moment-stands : (kind : Kind) (n d : ℕ) (text : List ℕ) → is_numeric kind ≡ false → length text ≡ n → is_some (held (field kind n d) text) ≡ true → stands (field kind n d) (Chars (filled n text)) (filled n text)

@@ -4,5 +4,7 @@
 pub mod faults;
 pub mod kinds;
 pub mod names;
+#[cfg(test)]
+mod tests;
 pub mod texts;
 pub mod values;

@@ -1,6 +1,6 @@
 //! Fields: a value is put into its place in a record, and taken out of it again.
 //! Each kind of field has a file of its own: `zoned.rt`, `packed.rt`, `binary.rt` and `moments.rt`.
-ghost use Rattle.std.specs.Prelude.{◌≡◌, ◌↔◌, ℕ, true, length, is_some, IfOk, OnOk, OnErr, IsErrOf, IsTrue};
+ghost use Rattle.std.specs.Prelude.{◌≡◌, ◌↔◌, ℕ, true, false, length, is_some, IfOk, OnOk, OnErr, IsErr, IsErrOf, IsTrue};
 ghost use Rattle.std.specs.Result.{result_err};
 ghost use Rattle.field_values.specs.FieldTypes.{IsFieldType, width, is_numeric, is_moment_kind};
 ghost use Rattle.field_values.specs.FirstBad.{TellsFirstBad};
@@ -85,6 +85,8 @@ pub fn take(alloc: Global, t: &FieldType, image: &[u8]) -> Result<Value, ImageFa
     requires room { length image.now ≡ width t.now }
     ensures value { IfOk result (λ v. stands t.now v image.now) }
     ensures bad { (at : ℕ) → IsErrOf result (ImageFault.BadImage (record { at = at })) ↔ IsBadAt t.now image.now at }
+    // A number takes none.
+    ensures memory { IsErrOf result ImageFault.NoMemory → is_numeric t.now.kind ≡ false }
 {
     match first_bad(t, image) {
         Some(at) => Err(ImageFault::BadImage(BadImage { at })),
@@ -114,7 +116,9 @@ pub fn value(alloc: Global, t: &FieldType, image: &[u8]) -> Result<Value, AllocE
     requires allowed { IsFieldType t.now }
     requires room { length image.now ≡ width t.now }
     requires there { is_some (held t.now image.now) ≡ true }
-    ensures { IfOk result (λ v. stands t.now v image.now) }
+    ensures value { IfOk result (λ v. stands t.now v image.now) }
+    // A number takes no memory.
+    ensures memory { IsErr result → is_numeric t.now.kind ≡ false }
 {
     match t.kind {
         Kind::Zoned => Ok(decimal(zoned::number(image), t)),

@@ -9,5 +9,7 @@ pub mod fields;
 mod moments;
 mod packed;
 #[cfg(test)]
+mod test_rows;
+#[cfg(test)]
 mod tests;
 mod zoned;

@@ -1,168 +1,22 @@
-//! Fields by hand: what is written for numbers, what images stand for, and where they stop to.
-ghost use Rattle.field_values.specs.FieldTypes.{IsFieldType};
+//! Fields by hand: what is written for values, what images stand for, and where they stop to. The rows stand in `test_rows.rt`.
+ghost use Rattle.std.specs.Prelude.{◌≡◌, length};
+ghost use Rattle.field_values.specs.FieldTypes.{IsFieldType, width};
 
-use crate::fields::{ImageFault, is_allowed, put, take, width};
+use crate::fields::{BLANK, ImageFault, first_bad, is_allowed, put, take, value, width};
+use crate::test_rows::{
+    BINARY, BINARY_IMAGES, ImageRow, MISFITS, MOMENTS, MisfitRow, MomentRow, NumberRow, PACKED,
+    PACKED_IMAGES, TEXTS, TYPES, TextRow, TypeRow, WHOLE, ZONED, ZONED_IMAGES,
+};
 use field_types::faults::{BadImage, ValueFault};
 use field_types::kinds::{FieldType, Kind};
 use field_types::texts::Text;
 use field_types::values::{Dec, Value};
+use std::alloc::{AllocError, Global};
 use std::process::Abort;
 use std::test::Fail;
 
-type Written = Result<&'static [u8], ValueFault>;
-
-/// The field's kind, length and decimals; units and scale of the number; what is written.
-const NUMBERS: [(Kind, u16, u8, i128, u8, Written); 29] = [
-    (Kind::Packed, 5, 2, -1, 2, Ok(&[0x00, 0x00, 0x1D])),
-    (Kind::Packed, 4, 0, 1234, 0, Ok(&[0x01, 0x23, 0x4F])),
-    (Kind::Zoned, 2, 0, -12, 0, Ok(&[0xF1, 0xD2])),
-    (Kind::Binary, 4, 0, -1, 0, Ok(&[0xFF, 0xFF])),
-    (Kind::Packed, 3, 0, 0, 0, Ok(&[0x00, 0x0F])),
-    (Kind::Packed, 3, 0, 1000, 0, Err(ValueFault::TooWide)),
-    (Kind::Packed, 3, 0, 15, 1, Err(ValueFault::TooManyDecimals)),
-    (
-        Kind::Packed,
-        3,
-        0,
-        1_000_005,
-        1,
-        Err(ValueFault::TooManyDecimals),
-    ),
-    (Kind::Packed, 1, 0, -9, 0, Ok(&[0x9D])),
-    (Kind::Packed, 2, 1, 99, 1, Ok(&[0x09, 0x9F])),
-    (Kind::Packed, 5, 2, 1, 0, Ok(&[0x00, 0x10, 0x0F])),
-    (Kind::Packed, 5, 2, 1230, 3, Ok(&[0x00, 0x12, 0x3F])),
-    (
-        Kind::Packed,
-        5,
-        2,
-        1235,
-        3,
-        Err(ValueFault::TooManyDecimals),
-    ),
-    (Kind::Packed, 3, 0, 0, 200, Ok(&[0x00, 0x0F])),
-    (Kind::Packed, 3, 0, 1, 200, Err(ValueFault::TooManyDecimals)),
-    (
-        Kind::Packed,
-        31,
-        0,
-        9_999_999_999_999_999_999_999_999_999_999,
-        0,
-        Ok(&[
-            0x99, 0x99, 0x99, 0x99, 0x99, 0x99, 0x99, 0x99, 0x99, 0x99, 0x99, 0x99, 0x99, 0x99,
-            0x99, 0x9F,
-        ]),
-    ),
-    (
-        Kind::Packed,
-        31,
-        0,
-        10_000_000_000_000_000_000_000_000_000_000,
-        0,
-        Err(ValueFault::TooWide),
-    ),
-    (Kind::Packed, 31, 31, i128::MAX, 0, Err(ValueFault::TooWide)),
-    (Kind::Zoned, 1, 0, 5, 0, Ok(&[0xF5])),
-    (Kind::Zoned, 3, 3, -7, 3, Ok(&[0xF0, 0xF0, 0xD7])),
-    (Kind::Binary, 1, 0, 9, 0, Ok(&[0x00, 0x09])),
-    (Kind::Binary, 1, 0, 10, 0, Err(ValueFault::TooWide)),
-    (Kind::Binary, 4, 0, -9999, 0, Ok(&[0xD8, 0xF1])),
-    (Kind::Binary, 5, 0, 10_000, 0, Ok(&[0x00, 0x00, 0x27, 0x10])),
-    (
-        Kind::Binary,
-        9,
-        0,
-        999_999_999,
-        0,
-        Ok(&[0x3B, 0x9A, 0xC9, 0xFF]),
-    ),
-    (
-        Kind::Binary,
-        10,
-        0,
-        1_000_000_000,
-        0,
-        Ok(&[0x00, 0x00, 0x00, 0x00, 0x3B, 0x9A, 0xCA, 0x00]),
-    ),
-    (
-        Kind::Binary,
-        18,
-        0,
-        999_999_999_999_999_999,
-        0,
-        Ok(&[0x0D, 0xE0, 0xB6, 0xB3, 0xA7, 0x63, 0xFF, 0xFF]),
-    ),
-    (
-        Kind::Binary,
-        18,
-        0,
-        -999_999_999_999_999_999,
-        0,
-        Ok(&[0xF2, 0x1F, 0x49, 0x4C, 0x58, 0x9C, 0x00, 0x01]),
-    ),
-    (Kind::Char, 3, 0, 1, 0, Err(ValueFault::WrongKind)),
-];
-
-/// The field's kind and length; an image; the number that stands there, or the first bad byte.
-const IMAGES: [(Kind, u16, &[u8], Result<i128, usize>); 27] = [
-    (Kind::Packed, 3, &[0x00, 0x0D], Ok(0)),
-    (Kind::Packed, 3, &[0x00, 0xAF], Err(1)),
-    (Kind::Packed, 3, &[0xA0, 0x0F], Err(0)),
-    (Kind::Packed, 3, &[0x12, 0x39], Err(1)),
-    (Kind::Packed, 3, &[0x12, 0x3A], Ok(123)),
-    (Kind::Packed, 3, &[0x12, 0x3B], Ok(-123)),
-    (Kind::Packed, 3, &[0x12, 0x3C], Ok(123)),
-    (Kind::Packed, 3, &[0x12, 0x3E], Ok(123)),
-    (Kind::Packed, 4, &[0x11, 0x23, 0x4F], Err(0)),
-    (Kind::Packed, 4, &[0x01, 0x23, 0x4F], Ok(1234)),
-    (Kind::Zoned, 2, &[0xF1, 0xA2], Ok(12)),
-    (Kind::Zoned, 2, &[0xF1, 0xB2], Ok(-12)),
-    (Kind::Zoned, 2, &[0xF1, 0xC2], Ok(12)),
-    (Kind::Zoned, 2, &[0xF1, 0xD2], Ok(-12)),
-    (Kind::Zoned, 2, &[0xF1, 0xE2], Ok(12)),
-    (Kind::Zoned, 2, &[0xF1, 0x92], Err(1)),
-    (Kind::Zoned, 2, &[0xF1, 0xFA], Err(1)),
-    (Kind::Zoned, 2, &[0xE1, 0xF2], Err(0)),
-    (Kind::Zoned, 2, &[0xFA, 0xF2], Err(0)),
-    (Kind::Binary, 4, &[0x27, 0x0F], Ok(9999)),
-    (Kind::Binary, 4, &[0x27, 0x10], Err(1)),
-    (Kind::Binary, 4, &[0x28, 0x00], Err(0)),
-    (Kind::Binary, 4, &[0xD8, 0xF0], Err(1)),
-    (Kind::Binary, 4, &[0xD7, 0xFF], Err(0)),
-    (Kind::Binary, 4, &[0x80, 0x00], Err(0)),
-    (Kind::Binary, 9, &[0x3B, 0x9A, 0xCA, 0x00], Err(2)),
-    (
-        Kind::Binary,
-        18,
-        &[0x0D, 0xE0, 0xB6, 0xB3, 0xA7, 0x64, 0x00, 0x00],
-        Err(5),
-    ),
-];
-
-/// A text in ASCII, where it is 10, 8 or 26 characters a date, time or timestamp; its first bad character.
-const MOMENTS: [(Kind, &str, Option<usize>); 21] = [
-    (Kind::Date, "2000-02-29", None),
-    (Kind::Date, "9999-12-31", None),
-    (Kind::Date, "0001-01-01", None),
-    (Kind::Date, "2023-02-29", Some(9)),
-    (Kind::Date, "1900-02-29", Some(9)),
-    (Kind::Date, "2023-02-30", Some(8)),
-    (Kind::Date, "2023-04-31", Some(9)),
-    (Kind::Date, "2023-01-40", Some(8)),
-    (Kind::Date, "2023-01-00", Some(9)),
-    (Kind::Date, "2023-13-01", Some(6)),
-    (Kind::Date, "2023-20-01", Some(5)),
-    (Kind::Date, "0000-01-01", Some(3)),
-    (Kind::Date, "2023/01-01", Some(4)),
-    (Kind::Date, "2023-01.01", Some(7)),
-    (Kind::Time, "23.59.59", None),
-    (Kind::Time, "24.00.00", Some(1)),
-    (Kind::Time, "23-00.00", Some(2)),
-    (Kind::Time, "23.60.00", Some(3)),
-    (Kind::Time, "23.59.60", Some(6)),
-    (Kind::Stamp, "2023-02-28-23.59.59.999999", None),
-    (Kind::Stamp, "2023-02-28-23.59.59.99999x", Some(25)),
-];
+/// What each byte of a field is before a value is put there.
+const OLD: u8 = 0x5A;
 
 fn field(rt: &impl Abort, kind: Kind, length: u16, decimals: u8) -> FieldType
     ensures { IsFieldType result }
@@ -176,60 +30,232 @@ fn field(rt: &impl Abort, kind: Kind, length: u16, decimals: u8) -> FieldType
     t
 }
 
-#[test]
-fn numbers(rt: HostRuntime) {
-    for (kind, length, decimals, units, scale, wanted) in NUMBERS {
-        let t = field(&rt, kind, length, decimals);
-        let mut into = [0; 32];
-        assert!(rt; width(&t) <= into.len());
-        let into = &mut into[..width(&t)];
-        let answer = put(&t, &Value::Number(Dec { units, scale }), into);
-        match wanted {
-            Ok(bytes) => assert_eq!(rt; &*into, bytes, "{units}"),
-            Err(fault) => assert!(rt; answer == Err(fault), "{units}"),
+/// The value is written so, or refused with each byte as it was.
+fn is_put(
+    rt: &impl Abort,
+    t: &FieldType,
+    value: &Value,
+    wanted: Result<&[u8], ValueFault>,
+    row: usize,
+)
+    requires { IsFieldType t.now }
+{
+    let mut into = [OLD; 32];
+    assert!(rt; width(t) <= into.len());
+    let into = &mut into[..width(t)];
+    let answer = put(t, value, into);
+    match wanted {
+        Ok(bytes) => {
+            assert!(rt; answer == Ok(()), "row {row}");
+            assert_eq!(rt; &*into, bytes, "row {row}");
+        }
+        Err(fault) => {
+            assert!(rt; answer == Err(fault), "row {row}");
+            assert!(rt; into.iter().all(|&byte| byte == OLD), "row {row}");
         }
     }
 }
 
-#[test]
-fn images(rt: HostRuntime) {
-    for (kind, length, image, wanted) in IMAGES {
-        let t = field(&rt, kind, length, 0);
-        assert_eq!(rt; image.len(), width(&t));
-        match (take(rt.alloc(), &t, image), wanted) {
-            (Ok(Value::Number(number)), Ok(units)) => assert_eq!(rt; number.units, units),
-            (Err(ImageFault::BadImage(bad)), Err(at)) => assert_eq!(rt; bad.at, at, "{image:?}"),
-            _ => panic!(rt; "{image:?}"),
+/// `take` in its two steps.
+fn take_in_steps(alloc: Global, t: &FieldType, image: &[u8]) -> Result<Value, ImageFault>
+    requires allowed { IsFieldType t.now }
+    requires room { length image.now ≡ width t.now }
+{
+    match first_bad(t, image) {
+        None => Ok(value(alloc, t, image)?),
+        Some(at) => Err(ImageFault::BadImage(BadImage { at })),
+    }
+}
+
+fn is_number(
+    rt: &impl Abort,
+    answer: Result<Value, ImageFault>,
+    wanted: Result<Dec, usize>,
+    row: usize,
+) {
+    match (answer, wanted) {
+        (Ok(Value::Number(number)), Ok(expected)) => assert!(rt; number == expected, "row {row}"),
+        (Err(ImageFault::BadImage(bad)), Err(at)) => assert_eq!(rt; bad.at, at, "row {row}"),
+        _ => panic!(rt; "row {row}"),
+    }
+}
+
+fn is_text(
+    rt: &impl Abort,
+    answer: Result<Value, ImageFault>,
+    wanted: Result<&[u8], usize>,
+    row: usize,
+) {
+    match (answer, wanted) {
+        (Ok(Value::Chars(text)), Ok(bytes)) => assert_eq!(rt; text.as_bytes(), bytes, "row {row}"),
+        (Err(ImageFault::BadImage(bad)), Err(at)) => assert_eq!(rt; bad.at, at, "row {row}"),
+        _ => panic!(rt; "row {row}"),
+    }
+}
+
+fn types_agree(rt: &impl Abort, rows: &[TypeRow]) {
+    for (row, (kind, length, decimals, wanted)) in rows.iter().enumerate() {
+        let t = FieldType {
+            kind: *kind,
+            length: *length,
+            decimals: *decimals,
+        };
+        assert_eq!(rt; is_allowed(&t), wanted.is_some(), "row {row}");
+        if let Some(bytes) = wanted {
+            assert_eq!(rt; width(&t), *bytes, "row {row}");
         }
     }
 }
 
-#[test]
-fn moments(rt: HostRuntime) -> Result<(), Fail> {
-    for (kind, text, wanted) in MOMENTS {
-        let t = field(&rt, kind, text.len() as u16, 0);
-        let bytes: Vec<u8> = text.bytes().map(ebcdic).collect(rt.alloc())?;
-        assert_eq!(rt; bytes.len(), width(&t));
-        let fault = take(rt.alloc(), &t, bytes.as_slice()).err();
-        let bad = wanted.map(|at| ImageFault::BadImage(BadImage { at }));
-        assert!(rt; fault == bad, "{text}");
-        let mut into = [0; 32];
-        assert!(rt; width(&t) <= into.len());
-        let value = Value::Chars(Text::from_vec(bytes));
-        let answer = put(&t, &value, &mut into[..width(&t)]);
-        assert!(rt;
-            answer == wanted.map_or(Ok(()), |_| Err(ValueFault::BadDate)),
-            "{text}"
-        );
+fn numbers_are_put(rt: &impl Abort, rows: &[NumberRow]) {
+    for (row, (kind, length, decimals, units, scale, wanted)) in rows.iter().enumerate() {
+        let t = field(rt, *kind, *length, *decimals);
+        let number = Dec {
+            units: *units,
+            scale: *scale,
+        };
+        is_put(rt, &t, &Value::Number(number), *wanted, row);
+    }
+}
+
+fn texts_are_put(rt: &impl Abort, alloc: Global, rows: &[TextRow]) -> Result<(), AllocError> {
+    for (row, (kind, length, text, wanted)) in rows.iter().enumerate() {
+        let t = field(rt, *kind, *length, 0);
+        let text = Text::from_slice(alloc, text)?;
+        is_put(rt, &t, &Value::Chars(text), *wanted, row);
     }
     Ok(())
 }
 
-fn ebcdic(character: u8) -> u8 {
+fn misfits_are_refused(
+    rt: &impl Abort,
+    alloc: Global,
+    rows: &[MisfitRow],
+) -> Result<(), AllocError> {
+    for (row, (kind, length, text, fault)) in rows.iter().enumerate() {
+        let t = field(rt, *kind, *length, 0);
+        let text = Text::from_vec(in_code_page(alloc, text)?);
+        is_put(rt, &t, &Value::Chars(text), Err(*fault), row);
+    }
+    Ok(())
+}
+
+fn images_are_read(rt: &impl Abort, alloc: Global, rows: &[ImageRow]) {
+    for (row, (kind, length, decimals, image, wanted)) in rows.iter().enumerate() {
+        let t = field(rt, *kind, *length, *decimals);
+        assert_eq!(rt; image.len(), width(&t), "row {row}");
+        let scale = *decimals;
+        let wanted = wanted.map(|units| Dec { units, scale });
+        is_number(rt, take(alloc, &t, image), wanted, row);
+        is_number(rt, take_in_steps(alloc, &t, image), wanted, row);
+    }
+}
+
+/// The bytes are taken as they are and put as they are, or are a fault of the image from that place on and BadDate.
+fn moment_agrees(
+    rt: &impl Abort,
+    alloc: Global,
+    kind: Kind,
+    bytes: &[u8],
+    bad: Option<usize>,
+    row: usize,
+) -> Result<(), AllocError> {
+    assert!(rt; bytes.len() <= 26, "row {row}");
+    let t = field(rt, kind, bytes.len() as u16, 0);
+    assert_eq!(rt; bytes.len(), width(&t), "row {row}");
+    let wanted = bad.map_or(Ok(bytes), |at| Err(at));
+    is_text(rt, take(alloc, &t, bytes), wanted, row);
+    is_text(rt, take_in_steps(alloc, &t, bytes), wanted, row);
+    let moment = Value::Chars(Text::from_slice(alloc, bytes)?);
+    is_put(
+        rt,
+        &t,
+        &moment,
+        wanted.map_err(|_| ValueFault::BadDate),
+        row,
+    );
+    Ok(())
+}
+
+fn moments_agree(rt: &impl Abort, alloc: Global, rows: &[MomentRow]) -> Result<(), AllocError> {
+    for (row, (kind, text, bad)) in rows.iter().enumerate() {
+        let bytes = in_code_page(alloc, text)?;
+        moment_agrees(rt, alloc, *kind, bytes.as_slice(), *bad, row)?;
+    }
+    Ok(())
+}
+
+/// A blank in place of any character is the first bad one.
+fn blanks_are_bad(
+    rt: &impl Abort,
+    alloc: Global,
+    rows: &[(Kind, &'static str)],
+) -> Result<(), AllocError> {
+    for (kind, text) in rows {
+        for place in 0..text.len() {
+            let mut bytes = in_code_page(alloc, text)?;
+            if let Some(character) = bytes.get_mut(place) {
+                *character = BLANK;
+            }
+            moment_agrees(rt, alloc, *kind, bytes.as_slice(), Some(place), place)?;
+        }
+    }
+    Ok(())
+}
+
+/// The characters in code page 037: digits, A to I, and the marks of dates and times; a blank for all others.
+fn in_code_page(alloc: Global, text: &str) -> Result<Vec<u8>, AllocError> {
+    text.bytes().map(coded).collect(alloc)
+}
+
+fn coded(character: u8) -> u8 {
     match character {
         b'0'..=b'9' => character + 0xC0,
+        b'A'..=b'I' => character + 0x80,
         b'-' => 0x60,
         b'.' => 0x4B,
-        _ => 0x40,
+        _ => BLANK,
     }
+}
+
+#[test]
+fn types(rt: HostRuntime) {
+    types_agree(&rt, &TYPES);
+}
+
+#[test]
+fn numbers(rt: HostRuntime) {
+    numbers_are_put(&rt, &ZONED);
+    numbers_are_put(&rt, &PACKED);
+    numbers_are_put(&rt, &BINARY);
+}
+
+#[test]
+fn texts(rt: HostRuntime) -> Result<(), Fail> {
+    texts_are_put(&rt, rt.alloc(), &TEXTS)?;
+    misfits_are_refused(&rt, rt.alloc(), &MISFITS)?;
+    Ok(())
+}
+
+#[test]
+fn characters(rt: HostRuntime) {
+    let t = field(&rt, Kind::Char, 3, 0);
+    let image = [0xC1, 0x40, 0x00];
+    assert_eq!(rt; image.len(), width(&t));
+    is_text(&rt, take(rt.alloc(), &t, &image), Ok(&image), 0);
+    is_text(&rt, take_in_steps(rt.alloc(), &t, &image), Ok(&image), 1);
+}
+
+#[test]
+fn images(rt: HostRuntime) {
+    images_are_read(&rt, rt.alloc(), &ZONED_IMAGES);
+    images_are_read(&rt, rt.alloc(), &PACKED_IMAGES);
+    images_are_read(&rt, rt.alloc(), &BINARY_IMAGES);
+}
+
+#[test]
+fn moments(rt: HostRuntime) -> Result<(), Fail> {
+    moments_agree(&rt, rt.alloc(), &MOMENTS)?;
+    blanks_are_bad(&rt, rt.alloc(), &WHOLE)?;
+    Ok(())
 }
