@@ -14,39 +14,36 @@ use std::{env, io};
 use store_model::{MemoryStore, OpenGate};
 
 fn main(rt: HostRuntime) -> Result<ExitCode> {
-    let status = match words(&rt) {
-        Ok(words) => run(&rt, words.as_slice())?,
-        Err(error) if error.kind() == ErrorKind::OutOfMemory => Status::NoMemory,
-        Err(_) => Status::Words,
+    let words: Vec<String> = match env::args(&rt) {
+        Ok(words) => words.skip(1).collect(rt.alloc())?,
+        Err(error) => return Ok(end(&rt, without_words(&error))),
     };
-    report(&rt, status);
-    Ok(ExitCode::from(status.number()))
-}
-
-/// The words of the command line behind the program's name. A word that is no text is an error.
-fn words(rt: &(impl Env + Alloc)) -> io::Result<Vec<String>> {
-    Ok(env::args(rt)?.skip(1).collect(rt.alloc())?)
-}
-
-/// Runs the jobs of standard input.
-fn run(rt: &HostRuntime, words: &[String]) -> Result<Status> {
     let mut input = StandardInput::new(rt.reader());
-    let mut output = StandardOutput::new(io::writer(rt));
+    let mut output = StandardOutput::new(io::writer(&rt));
     let (status, _store, _clock) = program(
-        rt,
+        &rt,
         rt.alloc(),
-        words,
+        words.as_slice(),
         MemoryStore::new(rt.alloc()),
         &mut input,
         &mut output,
         SystemClock::new(rt.clone()?),
         &OpenGate,
     );
-    Ok(status)
+    Ok(end(&rt, status))
 }
 
-/// Says on standard error what a run came to; what can't be said there is lost.
-fn report(rt: &impl Eprint, status: Status) {
+/// What a run comes to whose words can't be had: one of them is no text, or there is no memory for them.
+fn without_words(error: &io::Error) -> Status {
+    if error.kind() == ErrorKind::OutOfMemory {
+        Status::NoMemory
+    } else {
+        Status::Words
+    }
+}
+
+/// Says on standard error what a run came to, and gives its number; what can't be said there is lost.
+fn end(rt: &impl Eprint, status: Status) -> ExitCode {
     match status {
         Status::Done => {}
         Status::Words => {
@@ -56,4 +53,5 @@ fn report(rt: &impl Eprint, status: Status) {
             let _ = eprintln!(rt; "{status}");
         }
     }
+    ExitCode::from(status.number())
 }
