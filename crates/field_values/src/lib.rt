@@ -9,6 +9,8 @@ pub mod fields;
 mod moments;
 mod packed;
 #[cfg(test)]
+mod test_images;
+#[cfg(test)]
 mod test_rows;
 #[cfg(test)]
 mod tests;

@@ -1,11 +1,13 @@
-//! Fields by hand: what is written for values, what images stand for, and where they stop to. The rows stand in `test_rows.rt`.
+//! Fields by hand: what is written for values, what images stand for, and where they stop to. The rows stand in `test_rows.rt` and `test_images.rt`.
 ghost use Rattle.std.specs.Prelude.{◌≡◌, length};
 ghost use Rattle.field_values.specs.FieldTypes.{IsFieldType, width};
 
 use crate::fields::{BLANK, ImageFault, first_bad, is_allowed, put, take, value, width};
+use crate::test_images::{
+    BINARY_IMAGES, ImageRow, MOMENTS, MomentRow, PACKED_IMAGES, WHOLE, ZONED_IMAGES,
+};
 use crate::test_rows::{
-    BINARY, BINARY_IMAGES, ImageRow, MISFITS, MOMENTS, MisfitRow, MomentRow, NumberRow, PACKED,
-    PACKED_IMAGES, TEXTS, TYPES, TextRow, TypeRow, WHOLE, ZONED, ZONED_IMAGES,
+    BINARY, MISFITS, MisfitRow, NumberRow, PACKED, TEXTS, TYPES, TextRow, TypeRow, ZONED,
 };
 use field_types::faults::{BadImage, ValueFault};
 use field_types::kinds::{FieldType, Kind};
