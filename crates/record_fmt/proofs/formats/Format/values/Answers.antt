@@ -30,7 +30,7 @@ pub loop-field-preserved : goal.loop-field-preserved
 loop-field-preserved c =
     let here = IsFieldOf-same _ c.as_slice-fields.result.now c.loop-field.field-index c.field-item.result c.args.image.now c.as_slice-fields.ensures.fields c.as_slice-fields.ensures.laid_out c.requires.room c.loop-field-test.true c.field-item.is in
     rw c.in_ok-push.ensures.items
-    (first_held-value here c.loop-field.invariant (subst (λ (bytes : List ℕ). held c.field-item.result.ty bytes ≡ Some c.in_ok-value.field-0) c.bytes_of.ensures c.in_ok-value.ensures))
+    (first_held-value here c.loop-field.invariant (subst (λ (bytes : List ℕ). held c.field-item.result.ty bytes ≡ Some c.in_ok-value.field-0) c.bytes_of.ensures c.in_ok-value.ensures.value))
 
 pub returns : goal.returns
 returns c =
