@@ -4,7 +4,6 @@
 
 mod outside;
 
-use anyhow::Result;
 use ibmi_batch::batch::program;
 use ibmi_batch::status::Status;
 use outside::{StandardInput, StandardOutput, SystemClock};
@@ -13,10 +12,16 @@ use std::process::ExitCode;
 use std::{env, io};
 use store_model::{MemoryStore, OpenGate};
 
-fn main(rt: HostRuntime) -> Result<ExitCode> {
+fn main(rt: HostRuntime) -> ExitCode {
     let words: Vec<String> = match env::args(&rt) {
-        Ok(words) => words.skip(1).collect(rt.alloc())?,
-        Err(error) => return Ok(end(&rt, without_words(&error))),
+        Ok(words) => match words.skip(1).collect(rt.alloc()) {
+            Ok(words) => words,
+            Err(_) => return end(&rt, Status::NoMemory),
+        },
+        Err(error) => return end(&rt, without_words(&error)),
+    };
+    let Ok(clock) = rt.clone() else {
+        return end(&rt, Status::NoMemory);
     };
     let mut input = StandardInput::new(rt.reader());
     let mut output = StandardOutput::new(io::writer(&rt));
@@ -27,10 +32,10 @@ fn main(rt: HostRuntime) -> Result<ExitCode> {
         MemoryStore::new(rt.alloc()),
         &mut input,
         &mut output,
-        SystemClock::new(rt.clone()?),
+        SystemClock::new(clock),
         &OpenGate,
     );
-    Ok(end(&rt, status))
+    end(&rt, status)
 }
 
 /// What a run comes to whose words can't be had: one of them is no text, or there is no memory for them.
