@@ -1,6 +1,5 @@
 //! Sources that are read, and faulty ones.
 use super::*;
-use crate::laws::{columns_are_read_back, literals_are_read_back};
 use crate::test_rows::{FAULTS, LAST_LINES, READ, RISING};
 use field_types::values::Dec;
 use std::alloc::{AllocError, Global};
@@ -204,10 +203,4 @@ fn fault((line, column, cause): (u32, u32, DdsCause)) -> DdsFault {
         column,
         cause,
     }
-}
-
-#[test]
-fn laws() {
-    columns_are_read_back();
-    literals_are_read_back();
 }

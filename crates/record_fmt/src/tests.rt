@@ -93,7 +93,7 @@ fn number(units: i128, scale: u8) -> Value {
     Value::Number(Dec { units, scale })
 }
 
-/// Adds a field with its name as its text, and with a default of blanks or 0.
+/// Adds a field with its name as its text, and with 0 as its default.
 fn push(
     rt: &impl Abort,
     alloc: Global,
