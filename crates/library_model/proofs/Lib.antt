@@ -1,3 +1,1 @@
 pub mod JobLemmas
-pub mod PlainMemberLemmas
-pub mod PlainFoundLemmas

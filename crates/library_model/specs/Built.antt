@@ -2,9 +2,7 @@
 use Rattle.std.specs.Prelude.{Bool, true, false, ◌&&◌, not}
 use Rattle.std.specs.Option.{is_none}
 use Rattle.library_model.specs.declared.requests.Request.{Request}
-use Rattle.library_model.specs.declared.requests.Request.TheVariants.{CreatePhysicalFile, OpenFile, Write, Chain, EndJob}
-use Rattle.library_model.specs.declared.replies.Reply.{Reply}
-use Rattle.library_model.specs.declared.replies.Reply.TheVariants.{Entries}
+use Rattle.library_model.specs.declared.requests.Request.TheVariants.{CreatePhysicalFile, CreateLogicalFile, DeleteFile, AddMember, ClearMember, ReorganizeMember, StartJournaling, EndJournaling, ChangeJournal, DeleteReceiver, Checkpoint, DisplayJournal, ApplyChanges, RemoveChanges, StartCommitment, EndCommitment, Commit, Rollback, OpenFile, CloseFile, SetLowerLimit, SetGreaterThan, Read, ReadPrior, ReadEqual, ReadPriorEqual, Chain, Write, Update, Delete, Unlock, EndJob}
 use Rattle.library_model.specs.declared.requests.LockOption.{LockOption}
 use Rattle.library_model.specs.declared.requests.LockOption.TheVariants.{No, Default}
 use Rattle.library_model.specs.declared.requests.AccessPath.{AccessPath}
@@ -24,9 +22,30 @@ is_built (OpenFile args) = not args.commit && is_file_path args.access_path
 is_built (Write args) = is_none args.record_number
 is_built (Chain args) = locks_nothing args.lock
 is_built (EndJob args) = true
-is_built _ = false
-
--- which replies come so far: none shows entries of the journal
-abbrev pub is_built_reply : Reply → Bool
-is_built_reply (Entries entries) = false
-is_built_reply _ = true
+is_built (CreateLogicalFile args) = false
+is_built (DeleteFile args) = false
+is_built (AddMember args) = false
+is_built (ClearMember args) = false
+is_built (ReorganizeMember args) = false
+is_built (StartJournaling args) = false
+is_built (EndJournaling args) = false
+is_built ChangeJournal = false
+is_built (DeleteReceiver args) = false
+is_built Checkpoint = false
+is_built (DisplayJournal args) = false
+is_built (ApplyChanges args) = false
+is_built (RemoveChanges args) = false
+is_built (StartCommitment args) = false
+is_built EndCommitment = false
+is_built Commit = false
+is_built Rollback = false
+is_built (CloseFile args) = false
+is_built (SetLowerLimit args) = false
+is_built (SetGreaterThan args) = false
+is_built (Read args) = false
+is_built (ReadPrior args) = false
+is_built (ReadEqual args) = false
+is_built (ReadPriorEqual args) = false
+is_built (Update args) = false
+is_built (Delete args) = false
+is_built (Unlock args) = false

@@ -10,10 +10,10 @@ use Rattle.library_model.specs.declared.requests.ChainTo.{ChainTo}
 use Rattle.library_model.specs.declared.requests.ChainTo.TheVariants.{Key, RecordNumber}
 use Rattle.library_model.specs.declared.replies.RecordRead.{RecordRead}
 use Rattle.library_model.specs.declared.replies.Reply.{Reply}
-use Rattle.library_model.specs.declared.replies.Reply.TheVariants.{NoSuchName, WrongOpen, NotFound, Record}
-use Rattle.library_model.specs.declared.replies.Missing.TheVariants.{Name}
-use Rattle.library_model.specs.State.{State, file_named, open_named, job_at, opens_of}
-use Rattle.library_model.specs.Refusals.{◌>>=◌, found}
+use Rattle.library_model.specs.declared.replies.Reply.TheVariants.{WrongOpen, NotFound, Record}
+use Rattle.library_model.specs.State.{Memory}
+use Rattle.library_model.specs.Change.{Change, unjournaled, does}
+use Rattle.library_model.specs.Refusals.{◌>>=◌, found, opened_file}
 
 -- the relative record number that is asked for; a file without keys has no key to chain by
 abbrev pub number_asked : ChainTo → Result ℕ Reply
@@ -26,18 +26,15 @@ record_in None = None
 record_in (Some Deleted) = None
 record_in (Some (Live image)) = Some image
 
-unfoldable pub chain_plan : State → ℕ → ChainRecord → Result RecordRead Reply
-chain_plan s job args = do
-  opened ← found (open_named args.open_id (opens_of (job_at job s.jobs))) (NoSuchName (Name args.open_id))
-  file ← found (file_named opened.file s.files) (NoSuchName (Name opened.file))
+unfoldable pub chain_plan : Memory → ℕ → ChainRecord → Result RecordRead Reply
+chain_plan m job args = do
+  its ← opened_file args.open_id job m
   rrn ← number_asked args.to
-  image ← found (record_in (slot_at (member_of opened.member s.members) rrn)) NotFound
-  Ok (record { format = file.format.name; rrn = rrn; values = values_of file.format.fields image })
+  image ← found (record_in (slot_at (member_of its.opened.member m.members) rrn)) NotFound
+  Ok (record { format = its.file.format.name; rrn = rrn; values = values_of its.file.format.fields image })
 
--- what was read, or why nothing was
-abbrev pub read_reply : Result RecordRead Reply → Reply
-read_reply (Err reply) = reply
-read_reply (Ok plan) = Record plan
+abbrev pub chain_change : Memory → RecordRead → Change
+chain_change m read = unjournaled m (Record read)
 
-abbrev pub chain_record : State → ℕ → ChainRecord → State × Reply
-chain_record s job args = (s, read_reply (chain_plan s job args))
+abbrev pub chain_record : Memory → ℕ → ChainRecord → Result Change Reply
+chain_record m job args = does (chain_change m) (chain_plan m job args)

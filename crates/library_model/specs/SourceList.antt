@@ -1,11 +1,7 @@
 -- Which text has a name: the sources that come with an input. (Our own: IBM i keeps them in source physical files.)
-use Rattle.std.specs.Prelude.{ℕ, Bool, if◌then◌else◌, nat_eq, Option, Some, None, List, [], ◌∷◌}
-use Rattle.std.specs.Cmp.Lexicographic.{pointwise}
+use Rattle.std.specs.Prelude.{ℕ, if◌then◌else◌, Option, Some, None, List, [], ◌∷◌}
 use Rattle.library_model.specs.declared.sources.NamedSource.{NamedSource}
-
--- whether two names are the same
-abbrev pub same_name : List ℕ → List ℕ → Bool
-same_name a b = pointwise nat_eq a b
+use Rattle.library_model.specs.Named.{same_name}
 
 -- the text of the first source of this name
 abbrev pub text_of : List NamedSource → List ℕ → Option (List ℕ)

@@ -7,8 +7,8 @@ use crate::requests::Request;
 pub struct Call {
     /// The number of the job, from 1.
     pub job: u32,
-    /// Microseconds, as the clock gave them before the call.
-    pub moment: u64,
+    /// When it was made: microseconds, as the clock gave them before the call.
+    pub timestamp: u64,
     pub request: Request,
     pub reply: Reply,
 }

@@ -3,11 +3,8 @@
 #![tactic(auto)]
 
 pub mod calls;
-pub mod plain;
-mod plain_members;
-pub mod plans;
+pub mod limits;
 pub mod replies;
 pub mod requests;
 pub mod sources;
-pub mod state;
 pub mod value_lists;

@@ -24,8 +24,8 @@ pub record IsFound (entries : List Entry) (value : RoomyMembers) (number place :
   pub spares : (member : RoomyMember) → map (numbered spare_of) (set entries place (holding entry member)) ≡ with_item number member.spare value.spares
   pub same_members : with_member number entry.member.state value.members ≡ value.members
   pub same_spares : with_item number entry.member.spare value.spares ≡ value.spares
-  pub spare_after : (member : RoomyMember) → spare_at number (members_of (set entries place (holding entry member))) ≡ member.spare
-  pub unchanged : members_of (set entries place entry) ≡ value
+  pub spare_after : (member : RoomyMember) → spare_at number (members_of (set entries place (holding entry member)) value.room) ≡ member.spare
+  pub unchanged : members_of (set entries place entry) value.room ≡ value
   pub ordered : (member : RoomyMember) → IsMember member.state → AreEntries (set entries place (holding entry member))
   pub put_members : (new : Entry) → new.number ≡ number → map (numbered state_of) (set entries place new) ≡ put_member number new.member.state value.members
   pub put_spares : (new : Entry) → new.number ≡ number → map (numbered spare_of) (set entries place new) ≡ put_item number new.member.spare value.spares
@@ -52,9 +52,9 @@ IsPlace-set entries number place new h same = record {
   behind = λ k d lt within. let other : k ≢ place = omega arith in rw (get_or-set_other entries place k new d other) (h.behind k d lt (rw length-set at within));
 }
 
-pub found : (entries slice : List Entry) (value : RoomyMembers) (number place : ℕ) (entry : Entry) → members_of entries ≡ value → AreEntries entries →
+pub found : {room : ℕ} (entries slice : List Entry) (value : RoomyMembers) (number place : ℕ) (entry : Entry) → members_of entries room ≡ value → AreEntries entries →
     slice ≡ entries → IsPlace slice number place → entry ≡ get_or entries place entry → IsFound entries value number place entry
-found entries slice value number place entry view invariant shown at_slice read =
+found {room = room} entries slice value number place entry view invariant shown at_slice read =
     let at : IsPlace entries number place = rw (← shown) at_slice in
     let named : entry.number ≡ number = ap (λ (e : Entry). e.number) read ∙ at.here entry in
     let back : set entries place entry ≡ entries = rw read (set-get_or entries place entry) in
@@ -71,7 +71,7 @@ found entries slice value number place entry view invariant shown at_slice read 
       spare_after = λ member.
           let there = IsPlace-set entries number place (holding entry member) at named in
           grind (arith, item_at-place spare_of number (set entries place (holding entry member)) place there entry, get_or-set_same entries place (holding entry member) entry at.in_range);
-      unchanged = ap members_of back;
+      unchanged = ap (λ (es : List Entry). members_of es room) back;
       ordered = λ member lawful. AreEntries-set entries invariant number place (holding entry member) named lawful at;
       put_members = λ new same. sym (put_item-place state_of number entries place new at same);
       put_spares = λ new same. sym (put_item-place spare_of number entries place new at same);
@@ -81,7 +81,7 @@ found entries slice value number place entry view invariant shown at_slice read 
       gone_ordered = AreEntries-remove entries place invariant at.in_range;
     })
 
-pub missing : (entries slice : List Entry) (value : RoomyMembers) (number place : ℕ) → members_of entries ≡ value → AreEntries entries →
+pub missing : {room : ℕ} (entries slice : List Entry) (value : RoomyMembers) (number place : ℕ) → members_of entries room ≡ value → AreEntries entries →
     slice ≡ entries → IsGap slice number place → IsMissing entries value number place
 missing entries slice value number place view invariant shown in_slice =
     let gap : IsGap entries number place = rw (← shown) in_slice in

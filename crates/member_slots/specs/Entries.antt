@@ -14,9 +14,9 @@ state_of entry = entry.member.state
 abbrev pub spare_of : Entry → ℕ
 spare_of entry = entry.member.spare
 
--- what the entries stand for
-abbrev pub members_of : List Entry → RoomyMembers
-members_of entries = record { members = map (numbered state_of) entries; spares = map (numbered spare_of) entries }
+-- what the entries stand for, with room for so many more
+abbrev pub members_of : List Entry → ℕ → RoomyMembers
+members_of entries room = record { members = map (numbered state_of) entries; spares = map (numbered spare_of) entries; room = room }
 
 -- the numbers rise, and each is a member
 pub record AreEntries (entries : List Entry) : Type 0 where

@@ -62,10 +62,11 @@ put_member number member members = put_item number member members
 abbrev pub without_member : ℕ → NumberedMembers → NumberedMembers
 without_member number members = without_item number members
 
--- the members, with the room that each has for further slots
+-- the members, with the spare slots of each, and how many members more there is room for
 pub record RoomyMembers : Type 0 where
   pub members : NumberedMembers
   pub spares : List (Numbered ℕ)
+  pub room : ℕ
 
 -- the room of the member with the number
 abbrev pub spare_at : ℕ → RoomyMembers → ℕ

@@ -16,20 +16,22 @@ struct Entry {
     member: Member,
 }
 
-/// Members by their numbers, in rising order. Beside them, contracts see the room that each has for more slots.
+/// Members by their numbers, in ascending order. Beside them, contracts see the spare slots of each, and how many members
+/// more there is room for.
 #[derive(Drop)]
 pub struct Members {
     entries: Vec<Entry>,
 }
 
 impl Model for Members {
+    ghost use Rattle.std.specs.Prelude.{◌-◌, vec_len, vec_capacity};
     ghost use Rattle.member_slots.specs.Members.{RoomyMembers};
 
     ghost Value = { RoomyMembers };
 
     ghost use Rattle.member_slots.specs.Entries.{members_of, AreEntries};
 
-    ghost view = { λ m. members_of m.entries.items };
+    ghost view = { λ m. members_of m.entries.items (vec_capacity m.entries - vec_len m.entries) };
 
     ghost invariant = { λ m. AreEntries m.entries.items };
 }
@@ -57,12 +59,24 @@ impl Members {
         }
     }
 
+    /// Makes room for one member more.
+    pub fn make_room(&mut self) -> Result<(), AllocError>
+        ensures members { self.new.members ≡ self.old.members }
+        ensures spares { self.new.spares ≡ self.old.spares }
+        ensures room { OnOk result (1 ≤ self.new.room) }
+        ensures refused { OnErr result (self.new ≡ self.old) }
+    {
+        self.entries.reserve(1)
+    }
+
     /// Keeps the member under that number, in place of one that is there. A refused member is let go.
     pub fn put(&mut self, number: u32, m: Member) -> Result<(), AllocError>
         ensures put { OnOk result (self.new.members ≡ put_member number m.state self.old.members) }
         ensures spares { OnOk result (self.new.spares ≡ put_item number m.spare self.old.spares) }
-        ensures refused { OnErr result (self.new ≡ self.old) }
+        ensures refused { OnErr result (self.new.members ≡ self.old.members) }
+        ensures refused_spares { OnErr result (self.new.spares ≡ self.old.spares) }
         ensures replaces { IsSome (member_at number self.old.members) → IsOk result }
+        ensures fits { 1 ≤ self.old.room → IsOk result }
     {
         // What is kept is a member.
         let _ = m.length();
@@ -93,10 +107,11 @@ impl Members {
         requires { IsSome (member_at number self.old.members) }
         ensures unchanged { self.new.members ≡ self.old.members }
         ensures kept { spare_at number self.old ≤ spare_at number self.new }
-        ensures room { OnOk result (more ≤ spare_at number self.new) }
+        ensures reserved { OnOk result (more ≤ spare_at number self.new) }
         ensures short { OnErr result (spare_at number self.old < more) }
         ensures refused { OnErr result (self.new ≡ self.old) }
         ensures other_spares { self.new.spares ≡ with_item number (spare_at number self.new) self.old.spares }
+        ensures room { self.new.room ≡ self.old.room }
     {
         let place = place_of_member(&self.entries, number);
         self.entries[place].member.reserve(more)
@@ -113,6 +128,7 @@ impl Members {
         ensures appended { OnOk result (self.new.members ≡ with_member number (appended (member_of number self.old.members) image) self.old.members) }
         ensures spent { OnOk result (self.new.spares ≡ with_item number (spare_at number self.old - 1) self.old.spares) }
         ensures refused { OnErr result (self.new ≡ self.old) }
+        ensures room { self.new.room ≡ self.old.room }
     {
         let place = place_of_member(&self.entries, number);
         self.entries[place].member.append(image)
@@ -126,6 +142,7 @@ impl Members {
         ensures before { slot_at (member_of number self.old.members) rrn ≡ Some result }
         ensures changed { self.new.members ≡ with_member number (changed (member_of number self.old.members) rrn slot) self.old.members }
         ensures spares { self.new.spares ≡ self.old.spares }
+        ensures room { self.new.room ≡ self.old.room }
         ensures fits { FitsSlot (member_of number self.old.members).record_length result }
     {
         let place = place_of_member(&self.entries, number);
@@ -138,6 +155,7 @@ impl Members {
         ensures cleared { self.new.members ≡ with_member number (cleared (member_of number self.old.members)) self.old.members }
         ensures kept { spare_at number self.old ≤ spare_at number self.new }
         ensures other_spares { self.new.spares ≡ with_item number (spare_at number self.new) self.old.spares }
+        ensures room { self.new.room ≡ self.old.room }
     {
         let place = place_of_member(&self.entries, number);
         self.entries[place].member.clear();
@@ -149,6 +167,7 @@ impl Members {
         ensures reorganized { self.new.members ≡ with_member number (reorganized (member_of number self.old.members)) self.old.members }
         ensures kept { spare_at number self.old ≤ spare_at number self.new }
         ensures other_spares { self.new.spares ≡ with_item number (spare_at number self.new) self.old.spares }
+        ensures room { self.new.room ≡ self.old.room }
     {
         let place = place_of_member(&self.entries, number);
         self.entries[place].member.reorganize();
@@ -167,7 +186,7 @@ fn place_of(entries: &[Entry], number: u32) -> Result<usize, usize>
 // Where the entry of a member that is there is.
 fn place_of_member(entries: &[Entry], number: u32) -> usize
     requires sorted { AreEntries entries.now }
-    requires there { IsSome (member_at number (members_of entries.now).members) }
+    requires there { IsSome (member_at number (members_of entries.now 0).members) }
     ensures { IsPlace entries.now number result }
 {
     place_of(entries, number).unwrap()

@@ -17,8 +17,8 @@ returns-clause-kept c =
     let entry = found _ _ _ _ _ _ c.self.view_is c.self.invariant c.deref.ensures.value c.place_of_member-place.ensures c.index_mut.ensures.value in
     rw (entry.spare, entry.spare_after c.reserve.new.self) c.reserve.ensures.kept
 
-pub returns-clause-room : goal.returns-clause-room
-returns-clause-room c =
+pub returns-clause-reserved : goal.returns-clause-reserved
+returns-clause-reserved c =
     let entry = found _ _ _ _ _ _ c.self.view_is c.self.invariant c.deref.ensures.value c.place_of_member-place.ensures c.index_mut.ensures.value in
     rw (entry.spare_after c.reserve.new.self) c.reserve.ensures.room
 
