@@ -14,7 +14,7 @@ pub const NAME_LENGTH: usize = 10;
 #[derive(Clone, Copy)]
 pub struct Name {
     bytes: [u8; 10],
-    len: usize,
+    len: u8,
 }
 
 impl Model for Name {
@@ -49,7 +49,7 @@ impl Name {
         bytes[..text.len()].copy_from_slice(text);
         Some(Name {
             bytes,
-            len: text.len(),
+            len: text.len() as u8,
         })
     }
 
@@ -58,7 +58,7 @@ impl Name {
         ensures value { result.now ≡ self.now }
         ensures named { IsTrue (is_name self.now) }
     {
-        &self.bytes[..self.len]
+        &self.bytes[..usize::from(self.len)]
     }
 }
 
