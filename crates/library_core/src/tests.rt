@@ -135,7 +135,7 @@ fn sources_of(alloc: Global) -> Option<Sources> {
     sources
         .push(NamedSource {
             name: named("CUST")?,
-            text: entry_codec::Source::from_slice(alloc, SOURCE).ok()?,
+            text: field_types::texts::SourceText::from_slice(alloc, SOURCE).ok()?,
         })
         .ok()?;
     Some(sources)

@@ -3,14 +3,14 @@ ghost use Rattle.std.specs.Prelude.{◌≡◌};
 ghost use Rattle.library_model.specs.declared.plans.Stop.TheVariants.{NoMemory};
 
 use crate::replies::Reply;
-use field_types::texts::Image;
+use field_types::texts::{Image, SourceText};
 use plain_format::formats::Format;
 use std::alloc::{AllocError, AllocFailed};
 
 /// What a new file is made of.
 #[derive(Drop)]
 pub struct NewFile {
-    pub source: entry_codec::Source,
+    pub source: SourceText,
     pub format: Format,
 }
 

@@ -3,6 +3,7 @@ ghost use Rattle.std.specs.Prelude.{◌≡◌, ◌+◌, ◌<◌, [], ◌∷◌, 
 
 use crate::requests::OpenOption;
 use field_types::names::Name;
+use field_types::texts::SourceText;
 use plain_format::formats::Format;
 use std::alloc::{AllocError, Global};
 use std::marker::Model;
@@ -52,7 +53,7 @@ impl MemberNames {
 pub struct File {
     pub name: Name,
     /// The data description from which it was made.
-    pub source: entry_codec::Source,
+    pub source: SourceText,
     pub format: Format,
     pub members: MemberNames,
 }
