@@ -101,7 +101,7 @@ fn read_keyword(
     let text = bytes(alloc, characters)?;
     let (arguments, is_bad) = arguments(alloc, &text)?;
     note_keyword(characters[0], &text, is_bad, first);
-    keywords.push_some(keyword(characters[0], &text, arguments))
+    push_some(keywords, keyword(characters[0], &text, arguments))
 }
 
 /// Notes what is wrong with a keyword.
@@ -145,16 +145,14 @@ fn keyword_name(text: &[u8]) -> Option<Name>
     }
 }
 
-impl Keywords {
-    /// Adds one at the end, if there is one.
-    fn push_some(&mut self, keyword: Option<Keyword>) -> Result<(), AllocError>
-        ensures { OnOk result (self.new ≡ self.old ++ cons_option keyword []) }
-    {
-        if let Some(keyword) = keyword {
-            self.push(keyword)?;
-        }
-        Ok(())
+/// Adds one at the end, if there is one.
+fn push_some(keywords: &mut Keywords, keyword: Option<Keyword>) -> Result<(), AllocError>
+    ensures { OnOk result (keywords.new ≡ keywords.old ++ cons_option keyword []) }
+{
+    if let Some(keyword) = keyword {
+        keywords.push(keyword)?;
     }
+    Ok(())
 }
 
 impl SourceCharacter {

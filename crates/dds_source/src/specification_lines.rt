@@ -106,14 +106,13 @@ impl NameEntry {
     }
 }
 
-impl Keywords {
-    fn has_all(&self) -> bool
-        ensures { result ≡ list_any (λ k. pointwise nat_eq k.name (codes "ALL")) self.now }
-    {
-        self.as_slice()
-            .iter()
-            .any(|keyword| keyword.name.as_bytes() == b"ALL".as_slice())
-    }
+fn has_all(keywords: &Keywords) -> bool
+    ensures { result ≡ list_any (λ k. pointwise nat_eq k.name (codes "ALL")) keywords.now }
+{
+    keywords
+        .as_slice()
+        .iter()
+        .any(|keyword| keyword.name.as_bytes() == b"ALL".as_slice())
 }
 
 impl Specification {
@@ -121,6 +120,6 @@ impl Specification {
     pub(crate) fn lacks_all(&self) -> bool
         ensures { result ≡ lacks_all self.now }
     {
-        self.kind.is_selection() && self.name.is_blank() && !self.keywords.has_all()
+        self.kind.is_selection() && self.name.is_blank() && !has_all(&self.keywords)
     }
 }

@@ -1,9 +1,8 @@
 //! The kinds of journal entries, each with what its body holds. (Journal Management, "Journal code
 //! finder".) What stands in front of the body is in `entries.rt`.
-use crate::source::Source;
 use commit_level::Level;
 use field_types::names::Name;
-use field_types::texts::Image;
+use field_types::texts::{Image, SourceText};
 
 /// The fewest bytes that a record has.
 pub const MIN_RECORD_LENGTH: usize = 1;
@@ -36,7 +35,7 @@ pub enum EntryKind {
     FileCreated {
         kind: FileKind,
         name: Name,
-        source: Source,
+        source: SourceText,
     },
     /// D DT: a file was deleted.
     FileDeleted {

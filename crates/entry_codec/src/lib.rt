@@ -9,14 +9,12 @@ mod list;
 mod parts;
 mod places;
 mod reading;
-mod source;
 mod unread;
 mod writing;
 
 pub use entries::{Draft, Entry};
 pub use kinds::{EntryKind, FileKind, Images, MAX_RECORD_LENGTH, MIN_RECORD_LENGTH};
 pub use reading::{one_spelling, read_entry};
-pub use source::Source;
 pub use writing::{entry_length, write_entry};
 
 #[cfg(test)]

@@ -1,8 +1,10 @@
 //! The bytes of fields: names, texts, numbers, and the types of the data description.
 #![tactic(auto)]
 
+pub mod byte_lists;
 pub mod faults;
 pub mod kinds;
+pub mod lists;
 pub mod names;
 #[cfg(test)]
 mod tests;

@@ -3,8 +3,12 @@ ghost use Rattle.std.specs.Prelude.{◌≡◌, ◌↔◌, IsSome, IfSome, IsTrue
 ghost use Rattle.std.specs.List.{list_all};
 ghost use Rattle.std.specs.Cmp.{partial_equiv_from_equiv};
 ghost use Rattle.std.specs.Cmp.Lexicographic.{pointwise, nat_list_eq_equiv};
+ghost use Rattle.std.specs.Cmp.Rules.{hashing};
+ghost use Rattle.std.specs.Hash as fed;
+ghost use Rattle.std.proofs.Common.{rules};
 ghost use Rattle.field_types.specs.SystemName.{is_name, begins_name, continues_name};
 
+use std::hash::{Hash, Hasher};
 use std::marker::Model;
 
 /// The most bytes that a name has.
@@ -14,7 +18,7 @@ pub const NAME_LENGTH: usize = 10;
 #[derive(Clone, Copy)]
 pub struct Name {
     bytes: [u8; 10],
-    len: usize,
+    len: u8,
 }
 
 impl Model for Name {
@@ -49,7 +53,7 @@ impl Name {
         bytes[..text.len()].copy_from_slice(text);
         Some(Name {
             bytes,
-            len: text.len(),
+            len: text.len() as u8,
         })
     }
 
@@ -58,7 +62,7 @@ impl Name {
         ensures value { result.now ≡ self.now }
         ensures named { IsTrue (is_name self.now) }
     {
-        &self.bytes[..self.len]
+        &self.bytes[..usize::from(self.len)]
     }
 }
 
@@ -69,6 +73,20 @@ impl PartialEq for Name {
 
     fn eq(&self, other: &Name) -> bool {
         self.as_bytes() == other.as_bytes()
+    }
+}
+
+impl Eq for Name {
+    ghost laws = { nat_list_eq_equiv };
+}
+
+impl Hash for Name {
+    ghost hash_input = { λ n. fed.slice fed.u8 n };
+
+    ghost respects_eq = { Prim.search (hashing, rules) };
+
+    fn hash<H: Hasher>(&self, state: &mut H) {
+        self.as_bytes().hash(state);
     }
 }
 

@@ -1,6 +1,7 @@
 //! Names that are names and texts that aren't, and each other call once.
+use crate::lists::ListOf;
 use crate::names::Name;
-use crate::texts::{Image, Text};
+use crate::texts::{Image, SourceText, Text};
 use crate::values::{Dec, Value};
 use std::process::Abort;
 use std::test::Fail;
@@ -96,6 +97,26 @@ fn images(rt: HostRuntime) -> Result<(), Fail> {
     let copy = image.copied(rt.alloc())?;
     assert_eq!(rt; copy.as_bytes(), [0x00, 0x0F].as_slice());
     assert!(rt; copy == same);
+    Ok(())
+}
+
+#[test]
+fn sources(rt: HostRuntime) -> Result<(), Fail> {
+    let mut source = SourceText::new(rt.alloc());
+    source.extend_from_slice(b"A\n")?;
+    source.extend_from_slice(b"B\n")?;
+    assert_eq!(rt; source.as_bytes(), b"A\nB\n".as_slice());
+    Ok(())
+}
+
+#[test]
+fn lists(rt: HostRuntime) -> Result<(), Fail> {
+    let mut list = ListOf::new(rt.alloc());
+    list.push(1u8)?;
+    let mut all = ListOf::from_vec([0u8].to_vec(rt.alloc())?);
+    all.append(list)?;
+    all.shrink_to_fit();
+    assert_eq!(rt; all.as_slice(), [0, 1].as_slice());
     Ok(())
 }
 

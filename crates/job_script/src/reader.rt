@@ -8,54 +8,15 @@ ghost use Rattle.job_script.specs.Input.{no_scripts, bare_job, source_job};
 use crate::cards::{DDS_WORD, JOB_WORD, card_name, is_card, is_end};
 use crate::scripts::{JobNumbers, Names, Schedule, Script, ScriptList, Scripts, Statement};
 use crate::statements::statement;
-use entry_codec::Source;
 use field_types::names::Name;
+use field_types::texts::SourceText;
 use library_model::sources::{NamedSource, Sources};
 use plain_format::draft::Draft;
 use plain_format::formats::Fields;
 use std::alloc::{AllocError, Global};
-use std::marker::Model;
 
 /// The most statements of a job.
 const MOST_STATEMENTS: usize = 1000;
-
-/// The lines of a source so far, each with its line feed.
-#[derive(Drop)]
-pub struct SourceText {
-    bytes: Vec<u8>,
-}
-
-impl Model for SourceText {
-    ghost use Rattle.std.specs.Prelude.{List, ℕ};
-
-    ghost Value = { List ℕ };
-
-    ghost view = { λ s. s.bytes.items };
-}
-
-impl SourceText {
-    fn new(alloc: Global) -> SourceText
-        ensures { result ≡ [] }
-    {
-        SourceText {
-            bytes: Vec::new(alloc),
-        }
-    }
-
-    fn push_line(&mut self, line: &[u8]) -> Result<(), AllocError>
-        ensures { OnOk result (self.new ≡ self.old ++ (line.now ++ 10 ∷ [])) }
-    {
-        self.bytes.extend_from_slice(line)?;
-        self.bytes.push(b'\n')?;
-        Ok(())
-    }
-
-    fn into_source(self) -> Source
-        ensures { result ≡ self }
-    {
-        Source::from_vec(self.bytes)
-    }
-}
 
 /// A source whose //JOB card has not come yet.
 #[derive(Drop)]
@@ -150,8 +111,16 @@ fn source_line(alloc: Global, source: SourceLines, line: &[u8]) -> Result<Option
     if !source.draft.add(alloc, line)? {
         return Ok(None);
     }
-    source.text.push_line(line)?;
+    push_line(&mut source.text, line)?;
     Ok(Some(State::Source(source)))
+}
+
+/// Adds a line, with its line feed.
+fn push_line(text: &mut SourceText, line: &[u8]) -> Result<(), AllocError>
+    ensures { OnOk result (text.new ≡ text.old ++ (line.now ++ 10 ∷ [])) }
+{
+    text.extend_from_slice(line)?;
+    text.extend_from_slice(b"\n")
 }
 
 fn job_card(alloc: Global, source: SourceLines, line: &[u8]) -> Option<State>
@@ -201,7 +170,7 @@ fn finished_job(alloc: Global, job: JobLines) -> Result<Scripts, AllocError>
     let mut sources = Sources::new(alloc);
     sources.push(NamedSource {
         name: job.file,
-        text: job.text.into_source(),
+        text: job.text,
     })?;
     one_job(alloc, sources, job.job, job.script)
 }

@@ -1,13 +1,11 @@
 //! The replies of the library: what was done, or the first refusal.
-ghost use Rattle.std.specs.Prelude.{◌≡◌, [], ◌∷◌, ◌++◌, OnOk, OnErr};
 
 use crate::value_lists::Values;
 use dds_source::DdsFault;
 use entry_codec::Entry;
 use field_types::faults::RecordFault;
+use field_types::lists::ListOf;
 use field_types::names::Name;
-use std::alloc::{AllocError, Global};
-use std::marker::Model;
 
 /// What no call may pass.
 #[derive(Clone, Copy, PartialEq)]
@@ -35,35 +33,7 @@ pub enum Missing {
 }
 
 /// Entries of the journal in order.
-#[derive(Drop)]
-pub struct Entries {
-    entries: Vec<Entry>,
-}
-
-impl Model for Entries {
-    ghost use Rattle.std.specs.Prelude.{List};
-    ghost use Rattle.entry_codec.specs.declared.entries.Entry.{Entry};
-
-    ghost Value = { List Entry };
-
-    ghost view = { λ e. e.entries.items };
-}
-
-impl Entries {
-    /// These entries.
-    pub fn from_vec(entries: Vec<Entry>) -> Entries
-        ensures { result ≡ entries.items }
-    {
-        Entries { entries }
-    }
-
-    /// The entries in order.
-    pub fn as_slice(&self) -> &[Entry]
-        ensures { result.now ≡ self.now }
-    {
-        self.entries.as_slice()
-    }
-}
+pub type Entries = ListOf<Entry>;
 
 /// A record that was read.
 #[derive(Drop)]

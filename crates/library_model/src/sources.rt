@@ -3,6 +3,7 @@ ghost use Rattle.std.specs.Prelude.{◌≡◌, [], ◌∷◌, ◌++◌, OnOk, On
 ghost use Rattle.library_model.specs.SourceList.{text_of};
 
 use field_types::names::Name;
+use field_types::texts::SourceText;
 use std::alloc::{AllocError, Global};
 use std::marker::Model;
 
@@ -10,7 +11,7 @@ use std::marker::Model;
 #[derive(Drop)]
 pub struct NamedSource {
     pub name: Name,
-    pub text: entry_codec::Source,
+    pub text: SourceText,
 }
 
 /// Sources in the order of their cards.
@@ -48,7 +49,7 @@ impl Sources {
     }
 
     /// The text of the first source of that name.
-    pub fn text(&self, name: &Name) -> Option<&entry_codec::Source>
+    pub fn text(&self, name: &Name) -> Option<&SourceText>
         ensures { option_map (λ t. t.now) result ≡ text_of self.now name.now }
     {
         for source in &self.sources {

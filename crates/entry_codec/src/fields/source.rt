@@ -6,11 +6,11 @@ ghost use Rattle.entry_codec.specs.Writing.{HasRoom, Appends};
 
 use crate::fields::number4;
 use crate::parts::{front, put_bytes};
-use crate::source::Source;
 use crate::unread::Unread;
+use field_types::texts::SourceText;
 use std::alloc::{AllocError, Global};
 
-pub fn length(source: &Source) -> usize
+pub fn length(source: &SourceText) -> usize
     requires { length (source_field source.now) < 2 ^ 32 }
     ensures { result ≡ length (source_field source.now) }
 {
@@ -18,7 +18,7 @@ pub fn length(source: &Source) -> usize
     number4::length(&(bytes.len() as u32)) + bytes.len()
 }
 
-pub fn put(source: &Source, out: &mut Vec<u8>)
+pub fn put(source: &SourceText, out: &mut Vec<u8>)
     requires room { HasRoom out.old (source_field source.now) }
     requires fits { length (source_field source.now) < 2 ^ 32 }
     ensures { Appends out.old out.new (source_field source.now) }
@@ -29,15 +29,15 @@ pub fn put(source: &Source, out: &mut Vec<u8>)
 }
 
 #[tactic(auto, unfolding(crate::specs::Reading::source_at))]
-pub fn take(alloc: Global, bytes: &[u8]) -> Result<(Source, &[u8]), Unread>
+pub fn take(alloc: Global, bytes: &[u8]) -> Result<(SourceText, &[u8]), Unread>
     ensures { Gives (λ x. (x.0, x.1.now)) result (source_at bytes.now) }
 {
     let (length, rest) = number4::take(alloc, bytes)?;
     let (source, rest) = front(rest, length as usize)?;
-    Ok((Source::from_slice(alloc, source)?, rest))
+    Ok((SourceText::from_slice(alloc, source)?, rest))
 }
 
-pub fn copied(source: &Source, alloc: Global) -> Result<Source, AllocError>
+pub fn copied(source: &SourceText, alloc: Global) -> Result<SourceText, AllocError>
     ensures { IfOk result (λ s. s ≡ source.now) }
 {
     source.copied(alloc)

@@ -10,4 +10,4 @@ returns c =
     on_ok_weaker c.append.result
     (λ h. rw h (ap (λ (s : Specification). set c.args.specifications.now.items (c.len-len.result - 1) (record s { keywords = s.keywords ++ c.args.keywords })) c.index_mut-last.ensures.value
     ∙ with_keywords-last c.args.keywords c.args.specifications.now.items (c.len-len.result - 1) c.index_mut-last.result.now last))
-    c.append.ensures
+    c.append.ensures.appended
