@@ -5,11 +5,12 @@ use Rattle.field_types.specs.declared.values.Value.{Value}
 use Rattle.field_types.specs.declared.values.Value.TheVariants.{Chars, Number}
 use Rattle.library_model.specs.declared.calls.Call.{Call}
 use Rattle.library_model.specs.declared.requests.Request.{Request}
-use Rattle.library_model.specs.declared.requests.Request.TheVariants.{Write, Update, ReadEqual, ReadPriorEqual, SetLowerLimit, SetGreaterThan, Chain, EndJob}
+use Rattle.library_model.specs.declared.requests.Request.TheVariants.{Write, Update, ReadEqual, ReadPriorEqual, SetLowerLimit, SetGreaterThan, Chain}
 use Rattle.library_model.specs.declared.requests.Limit.{Limit}
 use Rattle.library_model.specs.declared.requests.Limit.TheVariants.{Key as LimitKey}
 use Rattle.library_model.specs.declared.requests.ChainTo.{ChainTo}
 use Rattle.library_model.specs.declared.requests.ChainTo.TheVariants.{Key, RecordNumber}
+use Rattle.library_model.specs.Running.{is_end_job}
 use Rattle.library_model.specs.declared.replies.Reply.{Reply}
 use Rattle.library_model.specs.declared.replies.Reply.TheVariants.{Record}
 
@@ -56,17 +57,10 @@ reply_bytes _ = 0
 abbrev pub call_bytes : Call → ℕ
 call_bytes call = 64 + request_bytes call.request + reply_bytes call.reply
 
-abbrev pub is_end_request : Request → Bool
-is_end_request (EndJob args) = true
-is_end_request _ = false
-
-abbrev pub is_end_job : Call → Bool
-is_end_job call = is_end_request call.request
-
 -- 200,000 calls other than ENDJOB, or 256 MiB
 unfoldable pub is_full : List Call → Bool
 is_full calls =
-    nat_le 200000 (count_by (λ call. not (is_end_job call)) calls) || nat_le 268435456 (sum_by call_bytes calls)
+    nat_le 200000 (count_by (λ call. not (is_end_job call.request)) calls) || nat_le 268435456 (sum_by call_bytes calls)
 
 -- as far as a u64 counts
 abbrev pub capped : ℕ → ℕ
@@ -79,5 +73,5 @@ pub record Kept : Type 0 where
 
 -- the kept counts are those of the calls
 pub record IsCounted (calls : List Call) (counted_calls counted_bytes : ℕ) : Type 0 where
-  pub calls_counted : counted_calls ≡ capped (count_by (λ call. not (is_end_job call)) calls)
+  pub calls_counted : counted_calls ≡ capped (count_by (λ call. not (is_end_job call.request)) calls)
   pub bytes_counted : counted_bytes ≡ capped (sum_by call_bytes calls)

@@ -11,7 +11,7 @@ fn calls_are_kept(rt: HostRuntime) -> Result<(), Fail> {
     history.reserve(1)?;
     history.push(Call {
         job: 1,
-        moment: 7,
+        timestamp: 7,
         request: Request::EndJob(EndJob {
             reason: EndReason::Normal,
             line: 0,

@@ -1,8 +1,13 @@
--- What more calls make of those that a run made before: their moments follow, and their jobs stay in order.
-use Rattle.std.proofs.Common.{◌≡◌, ◌≤◌, ℕ, ◌+◌, List, [], ◌∷◌, ◌++◌, refl, sym, ◌∙◌, ap, subst, arith, append_assoc}
+-- What more calls make of those that a session made before: they lead on, their timestamps follow, and their jobs stay in order.
+use Rattle.std.proofs.Common.{◌≡◌, ◌≤◌, ℕ, ◌+◌, List, [], ◌∷◌, ◌++◌, refl, sym, ◌∙◌, ap, subst, arith, append_assoc, append-nil}
 use Rattle.std.specs.List.{AllByRecursion}
 use Rattle.library_model.specs.declared.calls.Call.{Call}
+use Rattle.library_model.specs.History.{Outcome, Runs}
+use Rattle.job_script.specs.declared.scripts.Scripts.{Scripts}
+use Rattle.job_runner.specs.Asked.{AreAsked}
 use Rattle.job_runner.specs.Made.{AreGiven, AreOf, AreInOrder}
+use Rattle.job_runner.specs.Session.{SessionOver, HasMade}
+use Rattle.job_runner.proofs.CallLemmas.{Runs-append, AreAsked-append}
 
 AreGiven-append : {C : Type 0} (gives : C → ℕ → C → Type 0) (clock mid last : C) (made more : List Call) → AreGiven gives clock mid made → AreGiven gives mid last more → AreGiven gives clock last (made ++ more)
 AreGiven-append {C = C} gives clock mid last [] more front back = subst (λ (c : C). AreGiven gives c last more) front back
@@ -22,21 +27,47 @@ AreInOrder-one_job job [] own = tt
 AreInOrder-one_job job (call ∷ calls) own =
     (all-wider (λ (later : Call). later.job ≡ job) (λ (later : Call). call.job ≤ later.job) calls (λ later same. omega (arith, same, own.0)) own.1, AreInOrder-one_job job calls own.1)
 
--- the calls of the next job, behind those of the jobs up to it
+-- the calls of the next job, after those of the jobs up to it
 AreInOrder-append : (jobs : ℕ) (made more : List Call) → AreInOrder made → AllByRecursion (λ (call : Call). call.job ≤ jobs) made → AreOf (jobs + 1) more → AreInOrder (made ++ more)
 AreInOrder-append jobs [] more order early own = AreInOrder-one_job (jobs + 1) more own
 AreInOrder-append jobs (call ∷ made) more order early own =
     let behind = all-wider (λ (later : Call). later.job ≡ jobs + 1) (λ (later : Call). call.job ≤ later.job) more (λ later same. omega (arith, same, early.0)) own in
     (all-append (λ (later : Call). call.job ≤ later.job) made more order.0 behind, AreInOrder-append jobs made more order.1 early.1 own)
 
--- a job's calls behind its calls
-pub own-more : {C : Type 0} (gives : C → ℕ → C → Type 0) (clock mid last : C) (job : ℕ) (old calls new : List Call) → (made : List Call) × (calls ≡ old ++ made) × AreGiven gives clock mid made × AreOf job made → (made : List Call) × (new ≡ calls ++ made) × AreGiven gives mid last made × AreOf job made → (made : List Call) × (new ≡ old ++ made) × AreGiven gives clock last made × AreOf job made
-own-more gives clock mid last job old calls new front back =
-    (front.0 ++ back.0, back.1 ∙ ap (λ xs. xs ++ back.0) front.1 ∙ append_assoc old front.0 back.0, AreGiven-append gives clock mid last front.0 back.0 front.2 back.2, all-append (λ (call : Call). call.job ≡ job) front.0 back.0 front.3 back.3)
+-- what was made of what had been made
+pub HasMade-more : {S C : Type 0} (gives : C → ℕ → C → Type 0) (first mid later : SessionOver S C) (made more : List Call) → HasMade gives first mid made → HasMade gives mid later more → HasMade gives first later (made ++ more)
+HasMade-more gives first mid later made more front back = record {
+  calls = back.calls ∙ ap (λ xs. xs ++ more) front.calls ∙ append_assoc first.calls made more;
+  legal = λ from stands.
+      let led = front.legal from stands in
+      let on = back.legal led.0 led.2 in
+      (on.0, Runs-append first.scripts.sources from led.0 on.0 made more led.1 (subst (λ (scripts : Scripts). Runs scripts.sources led.0 more on.0) front.scripts on.1), on.2);
+  asked = AreAsked-append first.scripts.scripts first.calls made more front.asked (subst (λ (calls : List Call). AreAsked first.scripts.scripts calls more) front.calls (subst (λ (scripts : Scripts). AreAsked scripts.scripts mid.calls more) front.scripts back.asked));
+  given = AreGiven-append gives first.clock mid.clock later.clock made more front.given back.given;
+  scripts = back.scripts ∙ front.scripts;
+  store = back.store ∙ front.store;
+  failed = back.failed ∙ front.failed;
+}
 
--- the next job's calls behind those of the jobs up to it
-pub next-more : {C : Type 0} (gives : C → ℕ → C → Type 0) (clock mid last : C) (jobs : ℕ) (old calls new : List Call) → (made : List Call) × (calls ≡ old ++ made) × AreGiven gives clock mid made × AreInOrder made × AllByRecursion (λ (call : Call). call.job ≤ jobs) made → (made : List Call) × (new ≡ calls ++ made) × AreGiven gives mid last made × AreOf (jobs + 1) made → (made : List Call) × (new ≡ old ++ made) × AreGiven gives clock last made × AreInOrder made × AllByRecursion (λ (call : Call). call.job ≤ jobs + 1) made
-next-more gives clock mid last jobs old calls new front back =
-    let early = all-wider (λ (call : Call). call.job ≤ jobs) (λ (call : Call). call.job ≤ jobs + 1) front.0 (λ call within. omega (arith, within)) front.4 in
-    let late = all-wider (λ (call : Call). call.job ≡ jobs + 1) (λ (call : Call). call.job ≤ jobs + 1) back.0 (λ call same. omega (arith, same)) back.3 in
-    (front.0 ++ back.0, back.1 ∙ ap (λ xs. xs ++ back.0) front.1 ∙ append_assoc old front.0 back.0, AreGiven-append gives clock mid last front.0 back.0 front.2 back.2, AreInOrder-append jobs front.0 back.0 front.3 front.4 back.3, all-append (λ (call : Call). call.job ≤ jobs + 1) front.0 back.0 early late)
+pub HasMade-none : {S C : Type 0} (gives : C → ℕ → C → Type 0) (first : SessionOver S C) → HasMade gives first first []
+HasMade-none gives first = record {
+  calls = sym append-nil;
+  legal = λ from stands. (from, refl, stands);
+  asked = tt;
+  given = refl;
+  scripts = refl;
+  store = refl;
+  failed = refl;
+}
+
+-- a job's calls after its calls
+pub own-more : {S C : Type 0} (gives : C → ℕ → C → Type 0) (first mid later : SessionOver S C) (job : ℕ) → (made : List Call) × HasMade gives first mid made × AreOf job made → (made : List Call) × HasMade gives mid later made × AreOf job made → (made : List Call) × HasMade gives first later made × AreOf job made
+own-more gives first mid later job front back =
+    (front.0 ++ back.0, HasMade-more gives first mid later front.0 back.0 front.1 back.1, all-append (λ (call : Call). call.job ≡ job) front.0 back.0 front.2 back.2)
+
+-- the next job's calls after those of the jobs up to it
+pub next-more : {S C : Type 0} (gives : C → ℕ → C → Type 0) (first mid later : SessionOver S C) (jobs : ℕ) → (made : List Call) × HasMade gives first mid made × AreInOrder made × AllByRecursion (λ (call : Call). call.job ≤ jobs) made → (made : List Call) × HasMade gives mid later made × AreOf (jobs + 1) made → (made : List Call) × HasMade gives first later made × AreInOrder made × AllByRecursion (λ (call : Call). call.job ≤ jobs + 1) made
+next-more gives first mid later jobs front back =
+    let early = all-wider (λ (call : Call). call.job ≤ jobs) (λ (call : Call). call.job ≤ jobs + 1) front.0 (λ call within. omega (arith, within)) front.3 in
+    let late = all-wider (λ (call : Call). call.job ≡ jobs + 1) (λ (call : Call). call.job ≤ jobs + 1) back.0 (λ call same. omega (arith, same)) back.2 in
+    (front.0 ++ back.0, HasMade-more gives first mid later front.0 back.0 front.1 back.1, AreInOrder-append jobs front.0 back.0 front.2 front.3 back.2, all-append (λ (call : Call). call.job ≤ jobs + 1) front.0 back.0 early late)

@@ -1,69 +1,70 @@
 -- What one call more makes of the places that a session keeps.
-use Rattle.std.proofs.Common.{◌≡◌, ◌≢◌, ℕ, ◌+◌, ◌-◌, ◌<◌, ◌≤◌, Bool, true, false, not, ◌&&◌, ◌==◌, IsTrue, if◌then◌else◌, Option, Some, None, List, [], ◌∷◌, ◌++◌, length, map, slice_get, slice_set, zero, suc, refl, sym, ◌∙◌, ap, subst, arith, rules, length-append, unwrap_or, get_or, replicate}
-use Rattle.std.specs.List.{list_all}
+use Rattle.std.proofs.Common.{◌≡◌, ◌≢◌, ℕ, ◌+◌, ◌-◌, ◌<◌, ◌≤◌, Bool, true, false, not, ◌&&◌, ◌==◌, IsTrue, if◌then◌else◌, Option, Some, None, List, [], ◌∷◌, ◌++◌, length, map, slice_get, slice_set, zero, suc, refl, sym, ◌∙◌, ap, subst, arith, rules, length-append, get_or, replicate}
+use Rattle.std.specs.Prelude.{count_by}
+use Rattle.std.specs.List.{list_all, AllByRecursion}
 use Rattle.std.proofs.lemmas.Grind.{common_steps}
-use Rattle.std.proofs.lemmas.List.{length-map, length-replicate}
-use Rattle.std.proofs.lemmas.List.Elements.{All-push}
+use Rattle.std.proofs.lemmas.List.{length-replicate}
 use Rattle.std.proofs.lemmas.Option.{slice_get-get_or}
 use Rattle.std.proofs.lemmas.Bool.Decides.{nat_tests}
 use Rattle.library_model.specs.declared.calls.Call.{Call}
 use Rattle.library_model.specs.declared.requests.Request.{Request}
-use Rattle.library_model.specs.declared.requests.Request.TheVariants as request
 use Rattle.library_model.specs.declared.replies.Reply.{Reply}
-use Rattle.library_model.specs.declared.state.Job.{Job}
-use Rattle.library_model.specs.State.{State, job_at, empty_library, begun, new_job}
-use Rattle.library_model.specs.Step.{MayAnswer, is_running, runs_after}
-use Rattle.library_model.specs.Built.{is_built, is_built_reply}
-use Rattle.job_history.specs.Counting.{is_end_job, is_end_request, is_full}
+use Rattle.library_model.specs.declared.limits.TheConstants.{MOST_JOBS}
+use Rattle.library_model.specs.State.{Memory, JobState, job_at, new_job}
+use Rattle.library_model.specs.Running.{is_running, is_end_job, runs_after}
+use Rattle.library_model.specs.Joint.{IsJoint, IsIdle}
 use Rattle.job_script.specs.declared.scripts.Statement.{Statement}
 use Rattle.job_script.specs.declared.scripts.Scripts.{Scripts}
-use Rattle.library_model.specs.declared.requests.EndReason.TheVariants.{Escape}
-use Rattle.job_script.specs.Asks.{asks, asks_after, asks_statement, last_of, is_refusal, line_of, end_job}
+use Rattle.job_script.specs.Progress.{IsProgress, statements_left}
+use Rattle.job_script.specs.Ready.{is_askable_script}
 use Rattle.job_runner.specs.declared.session.Stepped.{Stepped}
 use Rattle.job_runner.specs.declared.session.Stepped.TheVariants.{Ended}
 use Rattle.job_runner.specs.declared.session.Place.{Place}
 use Rattle.job_runner.specs.Ended.{calls_of, replies_of, ends_once, has_ended}
-use Rattle.job_runner.specs.Asked.{asked, AreAsked, script_of}
-use Rattle.job_runner.specs.Session.{IsRun, are_built, remaining}
-use Rattle.job_runner.specs.Places.{IsLastCall, IsPlace, IsSession, first_place}
-use Rattle.job_runner.proofs.CallLemmas.{calls_of-append_same, calls_of-append_other, ends_once-append, list_all-append_one, last_of-append, slice_get-append, slice_get-append_last, asks-within, Runs-append, AreAsked-append}
+use Rattle.job_runner.specs.Asked.{script_of}
+use Rattle.job_runner.specs.Session.{remaining}
+use Rattle.job_runner.specs.Places.{IsLastCall, GoesOn, IsPlace, IsSession, unended, first_place}
+use Rattle.job_runner.proofs.CallLemmas.{calls_of-append_same, calls_of-append_other, ends_once-append, list_all-append_one, last_of-append, replies-append, slice_get-append, slice_get-append_last}
 
 IsLastCall-append : (last : Option ℕ) (calls own : List Call) (call : Call) → IsLastCall last calls own → IsLastCall last (calls ++ call ∷ []) own
 IsLastCall-append None calls own call is = is
 IsLastCall-append (Some place) calls own call is = (is.0, slice_get-append calls place is.0 call is.1, is.2)
 
 -- a call of another job leaves a job's place
-pub IsPlace-other : (scripts : List (List Statement)) (jobs later : List Job) (calls : List Call) (job : ℕ) (place : Place) (call : Call) → IsPlace scripts jobs calls job place → call.job ≢ job → is_running (job_at job later) ≡ is_running (job_at job jobs) → IsPlace scripts later (calls ++ call ∷ []) job place
+IsPlace-other : (scripts : List (List Statement)) (jobs later : List JobState) (calls : List Call) (job : ℕ) (place : Place) (call : Call) → IsPlace scripts jobs calls job place → call.job ≢ job → is_running (job_at job later) ≡ is_running (job_at job jobs) → IsPlace scripts later (calls ++ call ∷ []) job place
 IsPlace-other scripts jobs later calls job place call is other runs =
     let own = calls_of-append_other job calls call other in
     record {
-      made = rw own is.made;
       last = rw own (IsLastCall-append place.last calls (calls_of job calls) call is.last);
       ended = rw own is.ended;
       running = runs ∙ is.running;
-      unended = rw own is.unended;
+      goes_on = rw own is.goes_on;
     }
 
-unended-append : (own : List Call) (call : Call) → IsTrue (list_all (λ c. not (is_end_job c)) own) → is_end_request call.request ≡ false → IsTrue (list_all (λ c. not (is_end_job c)) (own ++ call ∷ []))
-unended-append own call all goes_on = rw (list_all-append_one (λ c. not (is_end_job c)) own call) (grind (arith, common_steps))
+no_end-append : (own : List Call) (call : Call) → IsTrue (list_all (λ c. not (is_end_job c.request)) own) → is_end_job call.request ≡ false → IsTrue (list_all (λ c. not (is_end_job c.request)) (own ++ call ∷ []))
+no_end-append own call all goes_on = rw (list_all-append_one (λ c. not (is_end_job c.request)) own call) (grind (arith, common_steps))
 
-within-append : (scripts : List (List Statement)) (job : ℕ) (calls : List Call) (call : Call) → call.request ≡ asked scripts job calls → is_end_request call.request ≡ false → length (calls_of job calls ++ call ∷ []) ≤ length (script_of scripts job)
-within-append scripts job calls call asks_it goes_on =
-    let within = asks-within (script_of scripts job) (length (replies_of job calls)) (last_of (replies_of job calls)) (is_full calls) (rw asks_it at goes_on) in
-    let less : length (calls_of job calls) < length (script_of scripts job) = simp length-map at within in
-    omega (arith, less, length-append (calls_of job calls) (call ∷ []))
+-- a job's progress after a call of it: what it asked and what it was answered move it on
+abbrev pub MovesOn : List (List Statement) → ℕ → List Call → Request → ℕ → Type 0
+MovesOn scripts job calls request progress = is_end_job request ≡ false → (reply : Reply) → IsProgress (script_of scripts job) progress (replies_of job calls ++ reply ∷ [])
+
+-- what a call of a job makes of its place
+abbrev pub place_after : ℕ → List Call → Call → Place
+place_after progress calls call = record { progress = progress; last = Some (length calls); ended = is_end_job call.request }
 
 -- a call of the job itself moves it on
-pub IsPlace-same : (scripts : List (List Statement)) (jobs later : List Job) (calls : List Call) (job : ℕ) (place : Place) (call : Call) → IsPlace scripts jobs calls job place → place.ended ≡ false → call.job ≡ job → call.request ≡ asked scripts job calls → is_running (job_at job later) ≡ not (is_end_request call.request) → IsPlace scripts later (calls ++ call ∷ []) job (record { state = place.state + 1; last = Some (length calls); ended = is_end_request call.request })
-IsPlace-same scripts jobs later calls job place call is runs same asks_it after =
+IsPlace-same : (scripts : List (List Statement)) (jobs later : List JobState) (calls : List Call) (job progress : ℕ) (place : Place) (call : Call) → IsPlace scripts jobs calls job place → place.ended ≡ false → call.job ≡ job → MovesOn scripts job calls call.request progress → is_running (job_at job later) ≡ not (is_end_job call.request) → IsPlace scripts later (calls ++ call ∷ []) job (place_after progress calls call)
+IsPlace-same scripts jobs later calls job progress place call is runs same moves after =
     let own = calls_of-append_same job calls call same in
-    let open_ended = (is.unended runs).0 in
+    let open_ended = (is.goes_on runs).no_end in
     record {
-      made = rw (own, is.made) (sym (length-append (calls_of job calls) (call ∷ [])));
       last = rw own (call, slice_get-append_last calls call, last_of-append (calls_of job calls) call);
       ended = rw own (sym (ends_once-append (calls_of job calls) call open_ended));
       running = after;
-      unended = λ goes_on. rw own (unended-append (calls_of job calls) call open_ended goes_on, within-append scripts job calls call asks_it goes_on);
+      goes_on = λ goes_on. rw own (record {
+        no_end = no_end-append (calls_of job calls) call open_ended goes_on;
+        progress = rw (replies-append (calls_of job calls) call) (moves goes_on call.reply);
+      });
     }
 
 slice_get-slice_set_same : {X : Type 0} (xs : List X) (place : ℕ) (x y z : X) → slice_get xs place ≡ Some x → slice_get (slice_set xs place y) place ≡ Some z → z ≡ y
@@ -84,126 +85,94 @@ length-slice_set [] place y = refl
 length-slice_set (x ∷ xs) zero y = refl
 length-slice_set (x ∷ xs) (suc place) y = ap suc (length-slice_set xs place y)
 
-is_true : (b : Bool) → IsTrue b → b ≡ true
-is_true true holds = refl
-is_true false holds = absurd cc
+-- how many jobs have still to end, after a call of one that had not
+unended-set : (kept : List Place) (at : ℕ) (place next : Place) → slice_get kept at ≡ Some place → place.ended ≡ false → unended (slice_set kept at next) + (if next.ended then 1 else 0) ≡ unended kept
+unended-set [] at place next here runs = absurd cc
+unended-set (first ∷ kept) zero place next here runs = let e : first ≡ place = cc in grind (arith, common_steps, e, runs)
+unended-set (first ∷ kept) (suc at) place next here runs = grind (arith, common_steps, unended-set kept at place next here runs)
 
-runs_after-own : (job : ℕ) (r : Request) (jobs : List Job) → IsTrue (is_running (job_at job jobs)) → runs_after job r jobs job ≡ not (is_end_request r)
-runs_after-own job (request.EndJob args) jobs running = grind (arith, nat_tests)
-runs_after-own job _ jobs running = is_true (is_running (job_at job jobs)) running
+runs_after-own : (job : ℕ) (r : Request) (jobs : List JobState) → IsTrue (is_running (job_at job jobs)) → runs_after job r jobs job ≡ not (is_end_job r)
+runs_after-own job r jobs running = grind (arith, nat_tests, common_steps, running)
 
-runs_after-other : (job : ℕ) (r : Request) (jobs : List Job) (other : ℕ) → other ≢ job → runs_after job r jobs other ≡ is_running (job_at other jobs)
-runs_after-other job (request.EndJob args) jobs other apart = grind (arith, nat_tests)
-runs_after-other job _ jobs other apart = refl
+runs_after-other : (job : ℕ) (r : Request) (jobs : List JobState) (other : ℕ) → other ≢ job → runs_after job r jobs other ≡ is_running (job_at other jobs)
+runs_after-other job r jobs other apart = grind (arith, nat_tests, common_steps)
+
+-- a session, a job of it that has not ended, and what a call of that job has made of both
+pub record Called (scripts : Scripts) (old new : Memory) (calls : List Call) (room : ℕ) (kept : List Place) (job progress : ℕ) (place : Place) (call : Call) : Type 0 where
+  pub is : IsSession scripts old calls room kept
+  pub from : 1 ≤ job
+  pub here : slice_get kept (job - 1) ≡ Some place
+  pub runs : place.ended ≡ false
+  pub same : call.job ≡ job
+  pub moves : MovesOn scripts.scripts job calls call.request progress
+  pub after : (other : ℕ) → is_running (job_at other new.jobs) ≡ runs_after job call.request old.jobs other
 
 -- the place of a job, by its number
-place-before : (scripts : Scripts) (old : State) (calls : List Call) (kept : List Place) (job : ℕ) (place : Place) → IsSession scripts old calls kept → 1 ≤ job → slice_get kept (job - 1) ≡ Some place → IsPlace scripts.scripts old.jobs calls job place
-place-before scripts old calls kept job place is from here =
+pub place-is : (scripts : Scripts) (memory : Memory) (calls : List Call) (room : ℕ) (kept : List Place) (job : ℕ) (place : Place) → IsSession scripts memory calls room kept → 1 ≤ job → slice_get kept (job - 1) ≡ Some place → IsPlace scripts.scripts memory.jobs calls job place
+place-is scripts memory calls room kept job place is from here =
     let number : job - 1 + 1 ≡ job = omega arith in
-    subst (λ n. IsPlace scripts.scripts old.jobs calls n place) number (is.places (job - 1) place here)
+    subst (λ n. IsPlace scripts.scripts memory.jobs calls n place) number (is.places (job - 1) place here)
 
 -- a job that hasn't ended runs in the library
-runs-still : (scripts : Scripts) (old : State) (calls : List Call) (kept : List Place) (job : ℕ) (place : Place) → IsSession scripts old calls kept → 1 ≤ job → slice_get kept (job - 1) ≡ Some place → place.ended ≡ false → IsTrue (is_running (job_at job old.jobs))
-runs-still scripts old calls kept job place is from here runs =
-    let before = place-before scripts old calls kept job place is from here in
+pub runs-still : (scripts : Scripts) (memory : Memory) (calls : List Call) (room : ℕ) (kept : List Place) (job : ℕ) (place : Place) → IsSession scripts memory calls room kept → 1 ≤ job → slice_get kept (job - 1) ≡ Some place → place.ended ≡ false → IsTrue (is_running (job_at job memory.jobs))
+runs-still scripts memory calls room kept job place is from here runs =
+    let before = place-is scripts memory calls room kept job place is from here in
     rw (before.running, runs) refl
 
-kept-own : (scripts : Scripts) (old new : State) (calls : List Call) (kept : List Place) (job : ℕ) (place : Place) (call : Call) → IsSession scripts old calls kept → 1 ≤ job → slice_get kept (job - 1) ≡ Some place → place.ended ≡ false → call.job ≡ job → call.request ≡ asked scripts.scripts job calls → ((other : ℕ) → is_running (job_at other new.jobs) ≡ runs_after job call.request old.jobs other) → (at : ℕ) (found : Place) → at ≡ job - 1 → slice_get (slice_set kept (job - 1) (record { state = place.state + 1; last = Some (length calls); ended = is_end_request call.request })) at ≡ Some found → IsPlace scripts.scripts new.jobs (calls ++ call ∷ []) (at + 1) found
-kept-own scripts old new calls kept job place call is from here runs same asks_it after at found own there =
-    let before = place-before scripts old calls kept job place is from here in
-    let running = runs-still scripts old calls kept job place is from here runs in
-    let later = after job ∙ runs_after-own job call.request old.jobs running in
-    let moved = IsPlace-same scripts.scripts old.jobs new.jobs calls job place call before runs same asks_it later in
-    let it = slice_get-slice_set_same kept (job - 1) place (record { state = place.state + 1; last = Some (length calls); ended = is_end_request call.request }) found here (rw own at there) in
-    let at_job : at + 1 ≡ job = omega (arith, own, from) in
-    rw (it, at_job) moved
+module _ (scripts : Scripts) (old new : Memory) (calls : List Call) (room : ℕ) (kept : List Place) (job progress : ℕ) (place : Place) (call : Call) (called : Called scripts old new calls room kept job progress place call) where
+  kept-own : (at : ℕ) (found : Place) → at ≡ job - 1 → slice_get (slice_set kept (job - 1) (place_after progress calls call)) at ≡ Some found → IsPlace scripts.scripts new.jobs (calls ++ call ∷ []) (at + 1) found
+  kept-own at found own there =
+      let before = place-is scripts old calls room kept job place called.is called.from called.here in
+      let running = runs-still scripts old calls room kept job place called.is called.from called.here called.runs in
+      let later = called.after job ∙ runs_after-own job call.request old.jobs running in
+      let moved = IsPlace-same scripts.scripts old.jobs new.jobs calls job progress place call before called.runs called.same called.moves later in
+      let it = slice_get-slice_set_same kept (job - 1) place (place_after progress calls call) found called.here (rw own at there) in
+      let at_job : at + 1 ≡ job = omega (arith, own, called.from) in
+      rw (it, at_job) moved
 
-kept-other : (scripts : Scripts) (old new : State) (calls : List Call) (kept : List Place) (job : ℕ) (place : Place) (call : Call) → IsSession scripts old calls kept → 1 ≤ job → call.job ≡ job → ((other : ℕ) → is_running (job_at other new.jobs) ≡ runs_after job call.request old.jobs other) → (at : ℕ) (found : Place) → at ≢ job - 1 → slice_get (slice_set kept (job - 1) (record { state = place.state + 1; last = Some (length calls); ended = is_end_request call.request })) at ≡ Some found → IsPlace scripts.scripts new.jobs (calls ++ call ∷ []) (at + 1) found
-kept-other scripts old new calls kept job place call is from same after at found apart there =
-    let before = is.places at found (sym (slice_get-slice_set_other kept (job - 1) at (record { state = place.state + 1; last = Some (length calls); ended = is_end_request call.request }) apart) ∙ there) in
-    let far : at + 1 ≢ job = λ e. apart (omega (arith, e)) in
-    let other : call.job ≢ at + 1 = λ e. far (sym e ∙ same) in
-    IsPlace-other scripts.scripts old.jobs new.jobs calls (at + 1) found call before other (after (at + 1) ∙ runs_after-other job call.request old.jobs (at + 1) far)
+  kept-other : (at : ℕ) (found : Place) → at ≢ job - 1 → slice_get (slice_set kept (job - 1) (place_after progress calls call)) at ≡ Some found → IsPlace scripts.scripts new.jobs (calls ++ call ∷ []) (at + 1) found
+  kept-other at found apart there =
+      let before = called.is.places at found (sym (slice_get-slice_set_other kept (job - 1) at (place_after progress calls call) apart) ∙ there) in
+      let far : at + 1 ≢ job = λ e. apart (omega (arith, e)) in
+      let other : call.job ≢ at + 1 = λ e. far (sym e ∙ called.same) in
+      IsPlace-other scripts.scripts old.jobs new.jobs calls (at + 1) found call before other (called.after (at + 1) ∙ runs_after-other job call.request old.jobs (at + 1) far)
 
--- the places with the job's own moved on
-kept-places : (scripts : Scripts) (old new : State) (calls : List Call) (kept : List Place) (job : ℕ) (place : Place) (call : Call) → IsSession scripts old calls kept → 1 ≤ job → slice_get kept (job - 1) ≡ Some place → place.ended ≡ false → call.job ≡ job → call.request ≡ asked scripts.scripts job calls → ((other : ℕ) → is_running (job_at other new.jobs) ≡ runs_after job call.request old.jobs other) → (at : ℕ) (found : Place) → slice_get (slice_set kept (job - 1) (record { state = place.state + 1; last = Some (length calls); ended = is_end_request call.request })) at ≡ Some found → IsPlace scripts.scripts new.jobs (calls ++ call ∷ []) (at + 1) found
-kept-places scripts old new calls kept job place call is from here runs same asks_it after at found there =
-    elim (at == (job - 1)) as (λ b. (at == (job - 1)) ≡ b → IsPlace scripts.scripts new.jobs (calls ++ call ∷ []) (at + 1) found) [
-      | true ↦ λ own. kept-own scripts old new calls kept job place call is from here runs same asks_it after at found (grind (arith, nat_tests)) there
-      | false ↦ λ other. kept-other scripts old new calls kept job place call is from same after at found (grind (arith, nat_tests)) there
-    ] refl
+  kept-places : (at : ℕ) (found : Place) → slice_get (slice_set kept (job - 1) (place_after progress calls call)) at ≡ Some found → IsPlace scripts.scripts new.jobs (calls ++ call ∷ []) (at + 1) found
+  kept-places at found there =
+      elim (at == (job - 1)) as (λ b. (at == (job - 1)) ≡ b → IsPlace scripts.scripts new.jobs (calls ++ call ∷ []) (at + 1) found) [
+        | true ↦ λ own. kept-own at found (grind (arith, nat_tests)) there
+        | false ↦ λ other. kept-other at found (grind (arith, nat_tests)) there
+      ] refl
 
--- the session with one call more
-pub IsSession-called : (scripts : Scripts) (old new : State) (calls : List Call) (kept : List Place) (job : ℕ) (place : Place) (call : Call) → IsSession scripts old calls kept → 1 ≤ job → slice_get kept (job - 1) ≡ Some place → place.ended ≡ false → call.job ≡ job → call.request ≡ asked scripts.scripts job calls → MayAnswer scripts.sources old job call.request call.reply new → ((other : ℕ) → is_running (job_at other new.jobs) ≡ runs_after job call.request old.jobs other) → IsTrue (is_built_reply call.reply) → IsSession scripts new (calls ++ call ∷ []) (slice_set kept (job - 1) (record { state = place.state + 1; last = Some (length calls); ended = is_end_request call.request }))
-IsSession-called scripts old new calls kept job place call is from here runs same asks_it answers after built = record {
-  run = record {
-    legal = Runs-append scripts.sources (begun empty_library scripts.names) old new calls call is.run.legal (rw same (runs-still scripts old calls kept job place is from here runs)) (rw same answers);
-    asked = AreAsked-append scripts.scripts [] calls call is.run.asked (rw same asks_it);
-    replies = All-push (λ (c : Call). IsTrue (is_built_reply c.reply)) calls call is.run.replies built;
-  };
-  built = is.built;
-  jobs = length-slice_set kept (job - 1) next ∙ is.jobs;
-  few = is.few;
-  short = is.short;
-  places = λ at found there. kept-places scripts old new calls kept job place call is from here runs same asks_it after at found there;
-}
-  where
-    next : Place
-    next = record { state = place.state + 1; last = Some (length calls); ended = is_end_request call.request }
+  -- the session with one call more, and one place of the room used
+  IsSession-called : (left : ℕ) → IsJoint new → unended kept ≤ left + (if is_end_job call.request then 1 else 0) → IsSession scripts new (calls ++ call ∷ []) left (slice_set kept (job - 1) (place_after progress calls call))
+  IsSession-called left joint fits = record {
+    joint = joint;
+    askable = called.is.askable;
+    jobs = length-slice_set kept (job - 1) (place_after progress calls call) ∙ called.is.jobs;
+    few = called.is.few;
+    room = enough;
+    places = kept-places;
+  }
+    where
+      enough : unended (slice_set kept (job - 1) (place_after progress calls call)) ≤ left
+      enough = omega (arith, fits, unended-set kept (job - 1) place (place_after progress calls call) called.here called.runs)
 
--- the same with the parts of the next place as the code has them
-pub IsSession-next : (scripts : Scripts) (old new : State) (calls later : List Call) (kept : List Place) (job : ℕ) (place : Place) (call : Call) (made at : ℕ) (ended : Bool) → IsSession scripts old calls kept → 1 ≤ job → slice_get kept (job - 1) ≡ Some place → place.ended ≡ false → call.job ≡ job → call.request ≡ asked scripts.scripts job calls → MayAnswer scripts.sources old job call.request call.reply new → ((other : ℕ) → is_running (job_at other new.jobs) ≡ runs_after job call.request old.jobs other) → IsTrue (is_built_reply call.reply) → made ≡ place.state + 1 → at ≡ length calls → ended ≡ is_end_request call.request → later ≡ calls ++ call ∷ [] → IsSession scripts new later (slice_set kept (job - 1) (record { state = made; last = Some at; ended = ended }))
-IsSession-next scripts old new calls later kept job place call made at ended is from here runs same asks_it answers after built counted stands ends more =
-    rw (counted, stands, ends, more) (IsSession-called scripts old new calls kept job place call is from here runs same asks_it answers after built)
+-- as many jobs as there are places are still to end, at most
+pub unended-most : (kept : List Place) → unended kept ≤ length kept
+unended-most [] = omega arith
+unended-most (place ∷ kept) = grind (arith, common_steps, unended-most kept)
+
+-- room that is kept back for ENDJOB, and room for one call more
+pub fits-end : (request_ends : Bool) (before room left many : ℕ) → many ≤ before → before ≤ room → left + 1 ≡ room → (request_ends ≡ false → MOST_JOBS + 1 ≤ room) → many ≤ MOST_JOBS → many ≤ left + (if request_ends then 1 else 0)
+fits-end true before room left many kept more used spare few = omega (arith, kept, more, used)
+fits-end false before room left many kept more used spare few = let enough = spare refl in omega (arith, enough, used, few)
 
 -- the place of a job that a session has
-pub place-here : (scripts : Scripts) (state : State) (calls : List Call) (kept : List Place) (job : ℕ) (place : Place) → IsSession scripts state calls kept → (1 ≤ job) × (job ≤ length scripts.scripts) → place ≡ get_or kept (job - 1) place → slice_get kept (job - 1) ≡ Some place
-place-here scripts state calls kept job place is within at =
+pub place-here : (scripts : Scripts) (memory : Memory) (calls : List Call) (room : ℕ) (kept : List Place) (job : ℕ) (place : Place) → IsSession scripts memory calls room kept → (1 ≤ job) × (job ≤ length scripts.scripts) → place ≡ get_or kept (job - 1) place → slice_get kept (job - 1) ≡ Some place
+place-here scripts memory calls room kept job place is within at =
     let inside : job - 1 < length kept = omega (arith, is.jobs, within) in
     slice_get-get_or kept (job - 1) place inside ∙ ap (λ (p : Place). Some p) (sym at)
-
-pub place-is : (scripts : Scripts) (state : State) (calls : List Call) (kept : List Place) (job : ℕ) (place : Place) → IsSession scripts state calls kept → (1 ≤ job) × (job ≤ length scripts.scripts) → place ≡ get_or kept (job - 1) place → IsPlace scripts.scripts state.jobs calls job place
-place-is scripts state calls kept job place is within at =
-    let number : job - 1 + 1 ≡ job = omega (arith, within) in
-    subst (λ n. IsPlace scripts.scripts state.jobs calls n place) number (is.places (job - 1) place (place-here scripts state calls kept job place is within at))
-
-first-true : (a b : Bool) → IsTrue (a && b) → IsTrue a
-first-true true b h = search rules
-first-true false b h = absurd cc
-
-rest-true : (a b : Bool) → IsTrue (a && b) → IsTrue b
-rest-true true b h = h
-rest-true false b h = absurd cc
-
--- nothing is asked that isn't built
-all-at : {X : Type 0} (p : X → Bool) (xs : List X) (at : ℕ) (x : X) → IsTrue (list_all p xs) → slice_get xs at ≡ Some x → IsTrue (p x)
-all-at p [] at x all there = absurd cc
-all-at p (first ∷ xs) zero x all there = let e : first ≡ x = cc in subst (λ y. IsTrue (p y)) e (first-true (p first) (list_all p xs) all)
-all-at p (first ∷ xs) (suc at) x all there = all-at p xs at x (rest-true (p first) (list_all p xs) all) there
-
-option-built : (o : Option Statement) (full : Bool) → ((statement : Statement) → o ≡ Some statement → IsTrue (is_built statement.request)) → IsTrue (is_built (asks_statement o full))
-option-built None full each = search rules
-option-built (Some statement) true each = search rules
-option-built (Some statement) false each = each statement refl
-
-statement-built : (script : List Statement) (at : ℕ) (full : Bool) → IsTrue (list_all (λ statement. is_built statement.request) script) → IsTrue (is_built (asks_statement (slice_get script at) full))
-statement-built script at full all = option-built (slice_get script at) full (λ statement there. all-at (λ (s : Statement). is_built s.request) script at statement all there)
-
-asks-built : (script : List Statement) (at : ℕ) (last : Option Reply) (full : Bool) → IsTrue (list_all (λ statement. is_built statement.request) script) → IsTrue (is_built (asks_after script at last full))
-asks-built script at None full all = statement-built script at full all
-asks-built script at (Some reply) full all =
-    elim (is_refusal reply) as (λ b. IsTrue (is_built (if b then end_job Escape (line_of (slice_get script (at - 1))) else asks_statement (slice_get script at) full))) [
-      | true ↦ search rules
-      | false ↦ statement-built script at full all
-    ]
-
-script-built : (o : Option (List Statement)) → ((script : List Statement) → o ≡ Some script → IsTrue (list_all (λ statement. is_built statement.request) script)) → IsTrue (list_all (λ statement. is_built statement.request) (unwrap_or o []))
-script-built None each = search rules
-script-built (Some script) each = each script refl
-
-pub asked-built : (scripts : List (List Statement)) (job : ℕ) (calls : List Call) (request : Request) → IsTrue (are_built scripts) → request ≡ asked scripts job calls → IsTrue (is_built request)
-asked-built scripts job calls request all asks_it =
-    rw asks_it (asks-built (script_of scripts job) (length (replies_of job calls)) (last_of (replies_of job calls)) (is_full calls) (script-built (slice_get scripts (job - 1)) (λ script there. all-at (λ (s : List Statement). list_all (λ statement. is_built statement.request) s) scripts (job - 1) script all there)))
 
 -- a place that was set as it was leaves the session
 pub slice_set-here : {X : Type 0} (xs : List X) (at : ℕ) (x : X) → slice_get xs at ≡ Some x → slice_set xs at x ≡ xs
@@ -211,22 +180,24 @@ slice_set-here [] at x there = refl
 slice_set-here (first ∷ xs) zero x there = cc
 slice_set-here (first ∷ xs) (suc at) x there = ap (λ rest. first ∷ rest) (slice_set-here xs at x there)
 
-pub IsSession-same : (scripts : Scripts) (state : State) (calls later : List Call) (kept : List Place) (job : ℕ) (place next : Place) → IsSession scripts state calls kept → slice_get kept (job - 1) ≡ Some place → later ≡ calls → next ≡ place → IsSession scripts state later (slice_set kept (job - 1) next)
-IsSession-same scripts state calls later kept job place next is here same as_before = rw (same, as_before, slice_set-here kept (job - 1) place here) is
+-- the session as it was, with more room
+pub IsSession-same : (scripts : Scripts) (memory : Memory) (calls later : List Call) (room more : ℕ) (kept : List Place) (job : ℕ) (place next : Place) → IsSession scripts memory calls room kept → slice_get kept (job - 1) ≡ Some place → later ≡ calls → room ≤ more → next ≡ place → IsSession scripts memory later more (slice_set kept (job - 1) next)
+IsSession-same scripts memory calls later room more kept job place next is here same enough as_before =
+    let fits : unended kept ≤ more = omega (arith, is.room, enough) in
+    rw (same, as_before, slice_set-here kept (job - 1) place here) (record { joint = is.joint; askable = is.askable; jobs = is.jobs; few = is.few; room = fits; places = is.places })
 
 -- a call brings the job nearer to its end
-pub remaining-called : (scripts : List (List Statement)) (jobs : List Job) (calls later : List Call) (job : ℕ) (place : Place) (call : Call) → IsPlace scripts jobs calls job place → place.ended ≡ false → call.job ≡ job → call.request ≡ asked scripts job calls → later ≡ calls ++ call ∷ [] → remaining scripts job later < remaining scripts job calls
-remaining-called scripts jobs calls later job place call is runs same asks_it more =
+pub remaining-called : (scripts : List (List Statement)) (jobs : List JobState) (calls later : List Call) (job : ℕ) (place : Place) (call : Call) → IsPlace scripts jobs calls job place → place.ended ≡ false → call.job ≡ job → (is_end_job call.request ≡ false → (reply : Reply) → statements_left (script_of scripts job) (replies_of job calls ++ reply ∷ []) < statements_left (script_of scripts job) (replies_of job calls)) → later ≡ calls ++ call ∷ [] → remaining scripts job later < remaining scripts job calls
+remaining-called scripts jobs calls later job place call is runs same nearer more =
     let before : has_ended job calls ≡ false = sym is.ended ∙ runs in
     let own = calls_of-append_same job calls call same in
-    let open_ended = (is.unended runs).0 in
-    let fewer = (is.unended runs).1 in
-    let after : has_ended job later ≡ is_end_request call.request = rw (more, own) (ends_once-append (calls_of job calls) call open_ended) in
-    let longer : length (calls_of job later) ≡ length (calls_of job calls) + 1 = rw (more, own) (length-append (calls_of job calls) (call ∷ [])) in
-    rw (after, before)
-    (elim (is_end_request call.request) as (λ b. is_end_request call.request ≡ b → (if b then 0 else length (script_of scripts job) + 1 - length (calls_of job later)) < length (script_of scripts job) + 1 - length (calls_of job calls)) [
-      | true ↦ λ ends. omega (arith, fewer)
-      | false ↦ λ goes_on. omega (arith, fewer, longer, within-append scripts job calls call asks_it goes_on, length-append (calls_of job calls) (call ∷ []))
+    let open_ended = (is.goes_on runs).no_end in
+    let after : has_ended job later ≡ is_end_job call.request = rw (more, own) (ends_once-append (calls_of job calls) call open_ended) in
+    let replies : replies_of job later ≡ replies_of job calls ++ call.reply ∷ [] = rw (more, own) (replies-append (calls_of job calls) call) in
+    rw (after, before, replies)
+    (elim (is_end_job call.request) as (λ b. is_end_job call.request ≡ b → (if b then 0 else statements_left (script_of scripts job) (replies_of job calls ++ call.reply ∷ []) + 1) < statements_left (script_of scripts job) (replies_of job calls) + 1) [
+      | true ↦ λ ends. omega arith
+      | false ↦ λ goes_on. let less = nearer goes_on call.reply in omega (arith, less)
     ] refl)
 
 -- whether a job's step says that it has ended
@@ -253,24 +224,26 @@ begun-runs (name ∷ names) (suc at) within = begun-runs names at (omega arith)
 job-runs : (names : List (List ℕ)) (at : ℕ) → at < length names → is_running (job_at (at + 1) (map new_job names)) ≡ true
 job-runs names at within = let here = begun-runs names at within in grind (arith, nat_tests, here)
 
-first-place-is : (scripts : Scripts) (at : ℕ) (place : Place) → length scripts.names ≡ length scripts.scripts → at < length scripts.scripts → place ≡ first_place → IsPlace scripts.scripts (begun empty_library scripts.names).jobs [] (at + 1) place
-first-place-is scripts at place named within fresh = rw fresh (record {
-  made = refl;
+first-place-is : (scripts : Scripts) (jobs : List JobState) (at : ℕ) (place : Place) → jobs ≡ map new_job scripts.names → length scripts.names ≡ length scripts.scripts → at < length scripts.scripts → place ≡ first_place → IsPlace scripts.scripts jobs [] (at + 1) place
+first-place-is scripts jobs at place begun named within fresh = rw (fresh, begun) (record {
   last = refl;
   ended = refl;
-  running = runs;
-  unended = λ e. (search rules, omega arith);
+  running = job-runs scripts.names at (omega (arith, named, within));
+  goes_on = λ e. record { no_end = search rules; progress = refl };
 })
-  where
-    runs : is_running (job_at (at + 1) (map new_job scripts.names)) ≡ true
-    runs = job-runs scripts.names at (omega (arith, named, within))
 
-pub IsSession-first : (scripts : Scripts) (kept : List Place) → IsTrue (are_built scripts.scripts) → length scripts.names ≡ length scripts.scripts → length scripts.scripts ≤ 64 → ((job : ℕ) → length (script_of scripts.scripts job) ≤ 100000) → kept ≡ replicate (length scripts.scripts) first_place → IsSession scripts (begun empty_library scripts.names) [] kept
-IsSession-first scripts kept built named few short fresh = record {
-  run = record { legal = refl; asked = tt; replies = λ k d h. absurd (omega arith) };
-  built = built;
-  jobs = rw fresh (length-replicate (length scripts.scripts) first_place);
-  few = few;
-  short = short;
-  places = λ at place there. let first = first-places (length scripts.scripts) at place (rw fresh at there) in first-place-is scripts at place named first.0 first.1;
-}
+idle-new : (names : List (List ℕ)) → AllByRecursion IsIdle (map new_job names)
+idle-new [] = tt
+idle-new (name ∷ names) = (λ e. refl, idle-new names)
+
+pub IsSession-first : (scripts : Scripts) (memory : Memory) (room : ℕ) (kept : List Place) → memory.jobs ≡ map new_job scripts.names → IsTrue (list_all is_askable_script scripts.scripts) → length scripts.names ≡ length scripts.scripts → length scripts.scripts ≤ MOST_JOBS → MOST_JOBS ≤ room → kept ≡ replicate (length scripts.scripts) first_place → IsSession scripts memory [] room kept
+IsSession-first scripts memory room kept begun askable named few enough fresh =
+    let many : length kept ≡ length scripts.scripts = rw fresh (length-replicate (length scripts.scripts) first_place) in
+    record {
+      joint = record { idle = rw begun (idle-new scripts.names) };
+      askable = askable;
+      jobs = many;
+      few = few;
+      room = omega (arith, unended-most kept, many, few, enough);
+      places = λ at place there. let first = first-places (length scripts.scripts) at place (rw fresh at there) in first-place-is scripts memory.jobs at place begun named first.0 first.1;
+    }

@@ -1,22 +1,30 @@
 //! A session: a library, the scripts of its jobs, and the history of their calls.
-ghost use Rattle.std.specs.Prelude.{◌≡◌, ◌≢◌, ℕ, List, ◌+◌, ◌<◌, ◌≤◌, ◌↔◌, [], ◌∷◌, ◌++◌, length, replicate, false, IsTrue, IfOk, IfErr, OnOk, OnErr, option_copied};
+ghost use Rattle.std.specs.Prelude.{◌≡◌, ◌≢◌, ℕ, List, ◌+◌, ◌<◌, ◌≤◌, ◌↔◌, [], ◌∷◌, ◌++◌, length, replicate, true, false, IsTrue, IfOk, IfErr, OnOk, OnErr, IsErr, option_copied};
+ghost use Rattle.std.specs.List.{list_all};
+ghost use Rattle.library_model.specs.declared.limits.TheConstants.{MOST_JOBS};
 ghost use Rattle.library_model.specs.declared.calls.Call.{Call};
+ghost use Rattle.library_model.specs.declared.replies.Reply.{Reply};
+ghost use Rattle.library_model.specs.State.{new_job};
+ghost use Rattle.library_model.specs.Built.{is_built};
+ghost use Rattle.library_model.specs.Running.{is_end_job};
 ghost use Rattle.job_runner.specs.declared.session.Stepped.TheVariants.{Called, Ended, Stopped};
+ghost use Rattle.job_runner.specs.declared.session.Stepped.TheVariants as stepped;
 ghost use Rattle.job_runner.specs.Ended.{calls_of, replies_of, has_ended};
-ghost use Rattle.job_runner.specs.Made.{AreGiven, AreInOrder, AreOf};
+ghost use Rattle.job_runner.specs.Made.{AreInOrder, AreOf};
 ghost use Rattle.job_script.specs.Asks.{last_of};
-ghost use Rattle.library_model.specs.State.{empty_library, begun};
-ghost use Rattle.job_runner.specs.Session.{IsRun, are_built, remaining};
-ghost use Rattle.job_history.specs.Counting.{is_end_request};
+ghost use Rattle.job_script.specs.Progress.{IsProgress, statements_left};
+ghost use Rattle.job_script.specs.Ready.{is_askable_script};
+ghost use Rattle.job_runner.specs.Session.{HasMade, remaining};
 ghost use Rattle.job_runner.specs.Asked.{asked, script_of};
-ghost use Rattle.job_runner.specs.Places.{IsLastCall, first_place};
+ghost use Rattle.job_runner.specs.Places.{IsLastCall, first_place, BeginsJobs};
 
 use field_types::names::Name;
 use job_history::history::History;
-use job_script::asks::{JobState, next};
+use job_script::progress::{AskError, Progress};
 use job_script::scripts::{ScriptList, Scripts};
 use library_core::library::{Library, call};
 use library_model::calls::Call;
+use library_model::limits::MOST_JOBS;
 use library_model::replies::Reply;
 use library_model::requests::Request;
 use std::alloc::{AllocError, Global};
@@ -32,7 +40,7 @@ pub enum Stepped {
     Ended,
     /// The library has failed.
     Stopped,
-    /// There was no memory for a call; the session is as it was.
+    /// There was no memory for a call; the session is as it was. It doesn't come where the job asks for its end.
     NoMemory,
 }
 
@@ -46,10 +54,10 @@ pub enum Ran {
     NoMemory,
 }
 
-/// How far a job has come: its requests, the place of its last call in the history, and whether it has ended.
+/// How far a job has come, the place of its last call in the history, and whether it has ended.
 #[derive(Drop)]
 pub struct Place {
-    pub state: JobState,
+    pub progress: Progress,
     pub last: Option<usize>,
     pub ended: bool,
 }
@@ -72,30 +80,33 @@ impl<S: Store, C: Clock> Model for Session<S, C> {
 
     ghost view = { λ s. record { library = s.library; clock = s.clock; scripts = s.scripts; calls = s.history.calls } };
 
-    ghost invariant = { λ s. IsSession s.scripts s.library.state s.history.calls s.places.items };
+    ghost invariant = { λ s. IsSession s.scripts s.library.memory s.history.calls s.history.room s.places.items };
 }
 
 impl<S: Store, C: Clock> Session<S, C> {
-    /// Begins the jobs of the scripts in order over an empty library. Want of memory hands library and clock back.
+    /// Begins the jobs of the scripts in order over a library without jobs. Want of memory hands library and clock back.
     pub fn new(
         alloc: Global,
         library: Library<S>,
         clock: C,
         scripts: Scripts,
     ) -> Result<Session<S, C>, (Library<S>, C)>
-        requires empty { library.state ≡ empty_library }
-        requires built { IsTrue (are_built scripts.scripts) }
+        requires fresh { library.memory.jobs ≡ [] }
+        requires askable { IsTrue (list_all is_askable_script scripts.scripts) }
         requires named { length scripts.names ≡ length scripts.scripts }
-        requires few { length scripts.scripts ≤ 64 }
-        requires short { (job : ℕ) → length (script_of scripts.scripts job) ≤ 100000 }
+        requires few { length scripts.scripts ≤ MOST_JOBS }
         ensures scripts { IfOk result (λ session. session.scripts ≡ scripts) }
         ensures calls { IfOk result (λ session. session.calls ≡ []) }
-        ensures store { IfOk result (λ session. session.library.store ≡ library.store) }
+        ensures begun { IfOk result (λ session. BeginsJobs library session.library scripts.names) }
         ensures clock { IfOk result (λ session. session.clock ≡ clock) }
         ensures back { IfErr result (λ parts. (parts.0.store ≡ library.store) × (parts.1 ≡ clock)) }
     {
         let mut library = library;
+        let mut history = History::new(alloc);
         if begin_jobs(&mut library, scripts.names.as_slice()).is_err() {
+            return Err((library, clock));
+        }
+        if history.reserve(MOST_JOBS as u32).is_err() {
             return Err((library, clock));
         }
         match first_places(alloc, scripts.scripts.as_slice().len()) {
@@ -106,7 +117,7 @@ impl<S: Store, C: Clock> Session<S, C> {
                 clock,
                 scripts,
                 places,
-                history: History::new(alloc),
+                history,
             }),
         }
     }
@@ -131,10 +142,8 @@ impl<S: Store, C: Clock> Session<S, C> {
     pub fn run_in_order(&mut self) -> Ran
         ensures done { result ≡ Ran.Done → (job : ℕ) → 1 ≤ job → job ≤ length self.new.scripts.scripts → IsTrue (has_ended job self.new.calls) }
         ensures unfinished { result ≢ Ran.Done → (job : ℕ) × (1 ≤ job) × (job ≤ length self.new.scripts.scripts) × (has_ended job self.new.calls ≡ false) }
-        ensures never_stopped { result ≢ Ran.Stopped }
-        ensures made { (made : List Call) × (self.new.calls ≡ self.old.calls ++ made) × AreGiven C.gives self.old.clock self.new.clock made × AreInOrder made }
-        ensures scripts { self.new.scripts ≡ self.old.scripts }
-        ensures store { self.new.library.store ≡ self.old.library.store }
+        ensures stopped { result ≡ Ran.Stopped → self.new.library.failed ≡ true }
+        ensures made { (made : List Call) × HasMade C.gives self.old self.new made × AreInOrder made }
     {
         let jobs = self.jobs();
         for job in 0..jobs {
@@ -151,11 +160,9 @@ impl<S: Store, C: Clock> Session<S, C> {
         requires { (1 ≤ job) × (job ≤ length self.old.scripts.scripts) }
         ensures done { result ≡ Ran.Done → IsTrue (has_ended job self.new.calls) }
         ensures unfinished { result ≢ Ran.Done → has_ended job self.new.calls ≡ false }
-        ensures never_stopped { result ≢ Ran.Stopped }
-        ensures made { (made : List Call) × (self.new.calls ≡ self.old.calls ++ made) × AreGiven C.gives self.old.clock self.new.clock made × AreOf job made }
+        ensures stopped { result ≡ Ran.Stopped → self.new.library.failed ≡ true }
+        ensures made { (made : List Call) × HasMade C.gives self.old self.new made × AreOf job made }
         ensures others { (other : ℕ) → other ≢ job → calls_of other self.new.calls ≡ calls_of other self.old.calls }
-        ensures scripts { self.new.scripts ≡ self.old.scripts }
-        ensures store { self.new.library.store ≡ self.old.library.store }
     {
         loop {
             match self.step_job(job) {
@@ -175,16 +182,16 @@ impl<S: Store, C: Clock> Session<S, C> {
     }
 
     /// How many jobs there are.
-    fn jobs(&self) -> u32
-        ensures { result ≡ length self.now.scripts.scripts }
+    pub fn jobs(&self) -> u32
+        ensures jobs { result ≡ length self.now.scripts.scripts }
+        ensures few { result ≤ MOST_JOBS }
     {
         self.scripts.scripts.as_slice().len() as u32
     }
 
-    /// The calls made so far: a legal history, and what the scripts ask.
+    /// The calls made so far.
     pub fn history(&self) -> &[Call]
-        ensures calls { result.now ≡ self.now.calls }
-        ensures run { IsRun self.now.scripts self.now.library.state self.now.calls }
+        ensures { result.now ≡ self.now.calls }
     {
         self.history.calls()
     }
@@ -193,29 +200,37 @@ impl<S: Store, C: Clock> Session<S, C> {
     pub fn step_job(&mut self, job: u32) -> Stepped
         requires { (1 ≤ job) × (job ≤ length self.old.scripts.scripts) }
         ensures ended { result ≡ Ended ↔ IsTrue (has_ended job self.old.calls) }
-        ensures never_stopped { result ≢ Stopped }
+        ensures stopped { result ≡ Stopped → self.old.library.failed ≡ true }
+        ensures memory { result ≡ stepped.NoMemory → is_end_job (asked self.old.scripts.scripts job self.old.calls) ≡ false }
         ensures unchanged { result ≢ Called → self.new ≡ self.old }
-        ensures called { result ≡ Called → (made : Call) × (made.job ≡ job) × C.gives self.old.clock made.moment self.new.clock × (self.new.calls ≡ self.old.calls ++ made ∷ []) }
+        ensures called { result ≡ Called → (made : Call) × (made.job ≡ job) × HasMade C.gives self.old self.new (made ∷ []) }
         ensures nearer { result ≡ Called → remaining self.new.scripts.scripts job self.new.calls < remaining self.old.scripts.scripts job self.old.calls }
-        ensures scripts { self.new.scripts ≡ self.old.scripts }
-        ensures store { self.new.library.store ≡ self.old.library.store }
     {
         let place = &mut self.places[job as usize - 1];
         if place.ended {
             return Stepped::Ended;
         }
-        if self.history.reserve(1).is_err() {
-            return Stepped::NoMemory;
+        if self.library.failed() {
+            return Stepped::Stopped;
         }
-        let request = match ask(self.alloc, &self.scripts.scripts, job, place, &self.history) {
+        // Room for this call and, after it, for the ENDJOB of each job.
+        let room = self.history.reserve(MOST_JOBS as u32 + 1).is_ok();
+        let request = match ask(
+            self.alloc,
+            &self.scripts.scripts,
+            job,
+            place,
+            &self.history,
+            room,
+        ) {
             Ok(request) => request,
-            Err(_) => return Stepped::NoMemory,
+            Err(AskError::NoMemory) => return Stepped::NoMemory,
         };
-        let moment = self.clock.now();
+        let timestamp = self.clock.now();
         let reply = call(
             &mut self.library,
             job,
-            moment,
+            timestamp,
             &self.scripts.sources,
             &request,
         );
@@ -223,7 +238,7 @@ impl<S: Store, C: Clock> Session<S, C> {
         place.ended = is_end_job(&request);
         self.history.push(Call {
             job,
-            moment,
+            timestamp,
             request,
             reply,
         });
@@ -231,25 +246,33 @@ impl<S: Store, C: Clock> Session<S, C> {
     }
 }
 
-/// What a job asks next, of which the place is kept.
+/// What a job asks next, whose progress is moved on.
 fn ask(
     alloc: Global,
     scripts: &ScriptList,
     job: u32,
     place: &mut Place,
     history: &History,
-) -> Result<Request, AllocError>
+    room: bool,
+) -> Result<Request, AskError>
     requires within { (1 ≤ job) × (job ≤ length scripts.now) }
-    requires few { place.old.state < 4294967295 }
-    requires made { place.old.state ≡ length (calls_of job history.now.calls) }
+    requires askable { IsTrue (list_all is_askable_script scripts.now) }
+    requires progress { IsProgress (script_of scripts.now job) place.old.progress (replies_of job history.now.calls) }
     requires last { IsLastCall place.old.last history.now.calls (calls_of job history.now.calls) }
     ensures asked { IfOk result (λ request. request ≡ asked scripts.now job history.now.calls) }
-    ensures counted { OnOk result (place.new ≡ record place.old { state = place.old.state + 1 }) }
+    ensures memory { IsErr result → is_end_job (asked scripts.now job history.now.calls) ≡ false }
+    ensures room { IfOk result (λ request. is_end_job request ≡ false → room ≡ true) }
+    ensures moved { IfOk result (λ request. is_end_job request ≡ false → (reply : Reply) → IsProgress (script_of scripts.now job) place.new.progress (replies_of job history.now.calls ++ reply ∷ [])) }
+    ensures nearer { IfOk result (λ request. is_end_job request ≡ false → (reply : Reply) → statements_left (script_of scripts.now job) (replies_of job history.now.calls ++ reply ∷ []) < statements_left (script_of scripts.now job) (replies_of job history.now.calls)) }
+    ensures built { IfOk result (λ request. IsTrue (is_built request)) }
+    ensures kept { (place.new.last ≡ place.old.last) × (place.new.ended ≡ place.old.ended) }
     ensures unchanged { OnErr result (place.new ≡ place.old) }
 {
     let script = &scripts.as_slice()[job as usize - 1];
     let last = last_reply(history.calls(), job, place.last);
-    next(alloc, script, &mut place.state, last, history.is_full())
+    place
+        .progress
+        .next(alloc, script, last, history.is_full(), room)
 }
 
 /// The reply to the last call of a job, of which the place is kept.
@@ -264,15 +287,15 @@ fn last_reply(calls: &[Call], _job: u32, last: Option<usize>) -> Option<&Reply>
 }
 
 fn is_end_job(request: &Request) -> bool
-    ensures { result ≡ is_end_request request.now }
+    ensures { result ≡ is_end_job request.now }
 {
-    matches!(request, Request::EndJob(_))
+    request.end_asked().is_some()
 }
 
 /// Begins a job of each name, in order.
 fn begin_jobs<S: Store>(library: &mut Library<S>, names: &[Name]) -> Result<(), AllocError>
-    requires few { length library.old.state.jobs + length names.now ≤ 64 }
-    ensures begun { OnOk result (library.new.state ≡ begun library.old.state names.now) }
+    requires few { length library.old.memory.jobs + length names.now ≤ MOST_JOBS }
+    ensures begun { OnOk result (BeginsJobs library.old library.new names.now) }
     ensures store { library.new.store ≡ library.old.store }
 {
     for name in names {
@@ -288,7 +311,7 @@ fn first_places(alloc: Global, jobs: usize) -> Result<Vec<Place>, AllocError>
     let mut places = Vec::new(alloc);
     for _ in 0..jobs {
         places.push(Place {
-            state: JobState::new(),
+            progress: Progress::new(),
             last: None,
             ended: false,
         })?;

@@ -1,4 +1,4 @@
-pub mod AsksLemmas
+pub mod ProgressLemmas
 pub mod CompletionLemmas
 pub mod FaultLemmas
 pub mod LiteralLemmas

@@ -8,7 +8,6 @@ use Rattle.std.proofs.lemmas.Option.{cond_some, same_Some}
 use Rattle.std.proofs.lemmas.List.Folds.{list_all-append}
 use Rattle.field_types.specs.declared.values.Value.{Value}
 use Rattle.library_model.specs.declared.requests.Request.{Request}
-use Rattle.library_model.specs.Built.{is_built}
 use Rattle.text_lines.specs.Lines.{lines_of, text_of_lines}
 use Rattle.plain_format.specs.PlainSource.{format_of, source_format}
 use Rattle.plain_format.specs.declared.formats.Field.{Field}
@@ -20,25 +19,25 @@ use Rattle.job_script.specs.Cards.{end_card}
 use Rattle.job_script.specs.Literals.{values_behind}
 use Rattle.job_script.specs.Statements.{statement_of, exactly, either, create_line, create_request, open_line, open_request, write_request, chain_request, written_in, chained_in, write_front, chain_front, number_before_lock}
 use Rattle.job_script.specs.Input.{no_scripts, bare_job, source_job, Spells, IsBareJob, IsSourceJob, Reads}
-use Rattle.job_script.specs.Ready.{is_built_script, IsReady}
+use Rattle.job_script.specs.Ready.{is_askable, is_askable_script, IsReady}
 
-exactly-built : (spelling : List ℕ) (request : Request) (line : List ℕ) (r : Request) → is_built request ≡ true → exactly spelling request line ≡ Some r → is_built r ≡ true
-exactly-built spelling request line r built said = sym (ap is_built (cond_some (pointwise nat_eq line spelling) request r said).1) ∙ built
+exactly-built : (spelling : List ℕ) (request : Request) (line : List ℕ) (r : Request) → is_askable request ≡ true → exactly spelling request line ≡ Some r → is_askable r ≡ true
+exactly-built spelling request line r built said = sym (ap is_askable (cond_some (pointwise nat_eq line spelling) request r said).1) ∙ built
 
-write-built : (file : List ℕ) (values : Option (List (Option Value))) (r : Request) → option_map (write_request file) values ≡ Some r → is_built r ≡ true
+write-built : (file : List ℕ) (values : Option (List (Option Value))) (r : Request) → option_map (write_request file) values ≡ Some r → is_askable r ≡ true
 write-built file None r said = absurd (cc)
-write-built file (Some values) r said = sym (ap is_built (same_Some (write_request file values) r said))
+write-built file (Some values) r said = sym (ap is_askable (same_Some (write_request file values) r said))
 
-chain-built : (file : List ℕ) (number : Option ℕ) (r : Request) → option_map (chain_request file) number ≡ Some r → is_built r ≡ true
+chain-built : (file : List ℕ) (number : Option ℕ) (r : Request) → option_map (chain_request file) number ≡ Some r → is_askable r ≡ true
 chain-built file None r said = absurd (cc)
-chain-built file (Some n) r said = sym (ap is_built (same_Some (chain_request file n) r said))
+chain-built file (Some n) r said = sym (ap is_askable (same_Some (chain_request file n) r said))
 
-either-built : (a b : Option Request) (r : Request) → ((x : Request) → a ≡ Some x → is_built x ≡ true) → ((x : Request) → b ≡ Some x → is_built x ≡ true) → either a b ≡ Some r → is_built r ≡ true
+either-built : (a b : Option Request) (r : Request) → ((x : Request) → a ≡ Some x → is_askable x ≡ true) → ((x : Request) → b ≡ Some x → is_askable x ≡ true) → either a b ≡ Some r → is_askable r ≡ true
 either-built None b r from_a from_b said = from_b r said
 either-built (Some x) b r from_a from_b said = from_a r said
 
 -- each statement makes a request that the library answers
-statement_of-built : (place : ℕ) (file : List ℕ) (fields : List Field) (line : List ℕ) (r : Request) → statement_of place file fields line ≡ Some r → is_built r ≡ true
+statement_of-built : (place : ℕ) (file : List ℕ) (fields : List Field) (line : List ℕ) (r : Request) → statement_of place file fields line ≡ Some r → is_askable r ≡ true
 statement_of-built place file fields line r said =
     let others : Option Request = either (written_in file fields line) (chained_in file line) in
     let second : Option Request = cond (nat_eq place 1) (exactly (open_line file) (open_request file) line) others in
@@ -55,11 +54,11 @@ statement_of-built place file fields line r said =
     (cases_Bool (nat_eq place 1)))
     (cases_Bool (nat_eq place 0))
 
-Spells-built : (file : List ℕ) (fields : List Field) (place number : ℕ) (lines : List (List ℕ)) (script : List Statement) → Spells file fields place number lines script → is_built_script script ≡ true
-Spells-built file fields place number [] script h = ap is_built_script h
+Spells-built : (file : List ℕ) (fields : List Field) (place number : ℕ) (lines : List (List ℕ)) (script : List Statement) → Spells file fields place number lines script → is_askable_script script ≡ true
+Spells-built file fields place number [] script h = ap is_askable_script h
 Spells-built file fields place number (line ∷ lines) [] h = absurd h
 Spells-built file fields place number (line ∷ lines) (s ∷ script) h =
-    and_from (is_built s.request) (is_built_script script) (statement_of-built place file fields line s.request h.1) (Spells-built file fields (place + 1) (number + 1) lines script h.2)
+    and_from (is_askable s.request) (is_askable_script script) (statement_of-built place file fields line s.request h.1) (Spells-built file fields (place + 1) (number + 1) lines script h.2)
 
 -- the lines of a source among those of an input
 source-no_feed : (bytes dds_card : List ℕ) (source others : List (List ℕ)) → lines_of bytes ≡ dds_card ∷ source ++ others → list_all has_no_feed source ≡ true
@@ -72,7 +71,7 @@ IsReady-job : (bytes : List ℕ) (scripts : Scripts) → IsSourceJob (lines_of b
 IsReady-job bytes scripts input =
     let no_feed : list_all has_no_feed input.source ≡ true = source-no_feed bytes input.dds_card input.source (input.job_card ∷ input.statements ++ end_card ∷ []) input.laid_out in
     let reads : format_of (text_of_lines input.source) ≡ Some input.format = ap source_format (lines_of-text input.source no_feed) ∙ input.describes in
-    let built : is_built_script input.script ≡ true = Spells-built input.file input.format.fields 0 _ input.statements input.script input.spelled in
+    let built : is_askable_script input.script ≡ true = Spells-built input.file input.format.fields 0 _ input.statements input.script input.spelled in
     let one : 1 ≤ 64 = omega arith in
     subst IsReady (sym input.says) (record { sources = ap (λ format. is_some format && true) reads; requests = ap (λ b. b && true) built; named = refl; few = one })
 

@@ -6,3 +6,4 @@ pub mod Input
 pub mod LineByLine
 pub mod Ready
 pub mod Asks
+pub mod Progress

@@ -1,5 +1,5 @@
 //! Inputs that are read, and inputs with the line at which each is at fault.
-use crate::asks::{JobState, next};
+use crate::progress::{AskError, Progress};
 use crate::input::{InputError, read_input};
 use crate::scripts::{Script, Scripts};
 use field_types::names::Name;
@@ -295,19 +295,19 @@ fn told(request: &Request) -> (&'static str, u32) {
 fn first_asked(
     alloc: Global,
     script: &Script,
-    state: &mut JobState,
-) -> Result<(&'static str, u32), AllocError> {
-    let request = next(alloc, script, state, None, false)?;
+    progress: &mut Progress,
+) -> Result<(&'static str, u32), AskError> {
+    let request = progress.next(alloc, script, None, false, true)?;
     Ok(told(&request))
 }
 
 fn asked_after(
     alloc: Global,
     script: &Script,
-    state: &mut JobState,
+    progress: &mut Progress,
     reply: Reply,
-) -> Result<(&'static str, u32), AllocError> {
-    let request = next(alloc, script, state, Some(&reply), false)?;
+) -> Result<(&'static str, u32), AskError> {
+    let request = progress.next(alloc, script, Some(&reply), false, true)?;
     Ok(told(&request))
 }
 
@@ -316,26 +316,27 @@ fn statements_are_asked_in_order(rt: HostRuntime) -> Result<(), Fail> {
     let alloc = rt.alloc();
     let scripts = first_scripts(&rt, alloc)?;
     let script = scripts.scripts.as_slice().first().ok_or("no script")?;
-    let mut state = JobState::new();
-    assert_eq!(rt; first_asked(alloc, script, &mut state)?, ("CRTPF", 0));
+    let mut progress = Progress::new();
+    assert_eq!(rt; first_asked(alloc, script, &mut progress)?, ("CRTPF", 0));
     assert_eq!(rt;
-        asked_after(alloc, script, &mut state, Reply::Done)?,
+        asked_after(alloc, script, &mut progress, Reply::Done)?,
         ("OPNDBF", 0)
     );
     assert_eq!(rt;
-        asked_after(alloc, script, &mut state, Reply::Done)?,
+        asked_after(alloc, script, &mut progress, Reply::Done)?,
         ("WRITE", 0)
     );
-    let mut full = state;
+    let mut full = progress;
     assert_eq!(rt;
-        asked_after(alloc, script, &mut state, Reply::Added { rrn: 1 })?,
+        asked_after(alloc, script, &mut progress, Reply::Added { rrn: 1 })?,
         ("CHAIN", 0)
     );
     assert_eq!(rt;
-        asked_after(alloc, script, &mut state, Reply::NotFound)?,
+        asked_after(alloc, script, &mut progress, Reply::NotFound)?,
         ("ENDJOB", 8)
     );
-    let request = next(alloc, script, &mut full, Some(&Reply::Done), true)?;
+    let mut short = progress;
+    let request = full.next(alloc, script, Some(&Reply::Done), true, false)?;
     assert_eq!(rt; told(&request), ("ENDJOB", 0));
     Ok(())
 }

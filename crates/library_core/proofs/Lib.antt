@@ -2,4 +2,4 @@ pub mod MemberLemmas
 pub mod LawfulLemmas
 pub mod LengthLemmas
 pub mod StepLemmas
-pub mod ReplyLemmas
+pub mod CallLemmas

@@ -1,25 +1,40 @@
 //! CRTPF.
-ghost use Rattle.std.specs.Prelude.{◌≡◌, ◌<◌, Err, Ok, IfOk, MatchOption, IsTrue, IsSome, option_map};
+ghost use Rattle.std.specs.Prelude.{◌≡◌, ◌∷◌, [], Err, Ok, IfOk, OnOk, IsTrue, IsSome, option_map};
 ghost use Rattle.library_model.specs.SourceList.{text_of};
-ghost use Rattle.library_model.specs.State.{file_named};
-ghost use Rattle.library_model.specs.Answers.{Gives, Answers};
-ghost use Rattle.library_model.specs.CreatePhysicalFile.{create_plan, created, create_of_plan, create_physical_file, described};
-ghost use Rattle.library_core.specs.Plans.{IsNewFile, Describes};
+ghost use Rattle.library_model.specs.declared.replies.Reply.TheVariants.{Done};
+ghost use Rattle.library_model.specs.Change.{unjournaled};
+ghost use Rattle.library_model.specs.CreatePhysicalFile.{create_plan, create_physical_file, described, new_file, with_file};
+ghost use Rattle.library_core.specs.Answers.{Gives, Answers};
+ghost use Rattle.library_core.specs.Plans.{IsNewFile, HasFileRoom, Describes};
 
-use crate::contents::Contents;
-use library_model::plans::{NewFile, Stop};
-use library_model::replies::{LimitKind, Missing, Reply};
+use crate::catalogue::{File, MemberNames};
+use crate::contents::{Contents, no_such_name};
+use crate::stop::Stop;
+use field_types::texts::SourceText;
+use library_model::limits::{LAST_MEMBER, MOST_FILES};
+use library_model::replies::{LimitKind, Reply};
 use library_model::requests::CreatePhysicalFile;
 use library_model::sources::Sources;
-use library_model::state::{File, MemberName, MemberNames};
 use member_slots::member::Member;
+use plain_format::formats::Format;
 use plain_format::reading::{FormatError, read_format};
+use std::alloc::AllocError;
+use std::marker::Model;
 
-/// The most files of a library.
-const MOST_FILES: usize = 500;
+/// What a new file is made of: a source, and the format that it describes.
+#[derive(Drop)]
+struct NewFile {
+    source: SourceText,
+    format: Format,
+}
 
-/// The greatest number of a member.
-const LAST_MEMBER: u32 = 4_000_000_000;
+impl Model for NewFile {
+    ghost use Rattle.library_model.specs.CreatePhysicalFile.{NewFile as ToMake};
+
+    ghost Value = { ToMake };
+
+    ghost view = { λ f. record { source = f.source; format = f.format } };
+}
 
 impl Contents {
     /// Makes a physical file and its first member.
@@ -28,16 +43,17 @@ impl Contents {
         sources: &Sources,
         args: &CreatePhysicalFile,
     ) -> Result<Reply, Stop>
-        ensures { Answers self.old self.new result (create_physical_file sources.now self.old args.now) }
+        ensures { Answers self.old.memory self.new.memory result (create_physical_file sources.now self.old.memory args.now) }
     {
-        let plan = self.create_plan(sources, args)?;
-        self.create(args, plan)
+        let plan = self.plan_create(sources, args)?;
+        let file = self.prepare_create(args, plan)?;
+        Ok(self.apply_create(args, file))
     }
 
     #[tactic(auto, unfolding(library_model::specs::CreatePhysicalFile::create_plan))]
-    fn create_plan(&self, sources: &Sources, args: &CreatePhysicalFile) -> Result<NewFile, Stop>
-        ensures plan { Gives result (create_plan sources.now self.now args.now) }
-        ensures new { IfOk result (λ plan. IsNewFile self.now args.now plan) }
+    fn plan_create(&self, sources: &Sources, args: &CreatePhysicalFile) -> Result<NewFile, Stop>
+        ensures plan { Gives result (create_plan sources.now self.now.memory args.now) }
+        ensures new { IfOk result (λ plan. IsNewFile self.now.memory args.now) }
     {
         if self.catalogue.named(&args.file).is_some() {
             return Err(Stop::Refused(Reply::NameExists { name: args.file }));
@@ -54,14 +70,14 @@ impl Contents {
                 number: u64::from(LAST_MEMBER),
             }));
         }
-        match self.new_file(sources, args)? {
+        match self.described(sources, args)? {
             Some(plan) => Ok(plan),
-            None => Err(Stop::Refused(Reply::NoSuchName(Missing::Name(args.source)))),
+            None => Err(no_such_name(args.source)),
         }
     }
 
     /// The source and its format, where there is such a source.
-    fn new_file(
+    fn described(
         &self,
         sources: &Sources,
         args: &CreatePhysicalFile,
@@ -81,27 +97,33 @@ impl Contents {
         }
     }
 
-    #[tactic(auto, unfolding(library_model::specs::CreatePhysicalFile::created))]
-    fn create(&mut self, args: &CreatePhysicalFile, plan: NewFile) -> Result<Reply, Stop>
-        requires { IsNewFile self.old args.now plan }
-        ensures { Answers self.old self.new result (create_of_plan self.old args.now (Ok plan)) }
+    fn prepare_create(
+        &mut self,
+        args: &CreatePhysicalFile,
+        plan: NewFile,
+    ) -> Result<File, AllocError>
+        ensures unchanged { self.new.memory ≡ self.old.memory }
+        ensures file { IfOk result (λ file. file ≡ new_file args.now.file self.old.memory.next_member plan) }
+        ensures room { OnOk result (HasFileRoom self.new.room) }
+    {
+        let members = MemberNames::first(self.alloc, args.file, self.next_member)?;
+        self.catalogue.make_room()?;
+        self.members.make_room()?;
+        let NewFile { source, format } = plan;
+        Ok(File::new(source, format, members))
+    }
+
+    fn apply_create(&mut self, args: &CreatePhysicalFile, file: File) -> Reply
+        requires new { IsNewFile self.old.memory args.now }
+        requires member { file.members ≡ (args.now.file, self.old.memory.next_member) ∷ [] }
+        requires room { HasFileRoom self.old.room }
+        ensures { unjournaled self.new.memory result ≡ unjournaled (with_file self.old.memory args.now.file file) Done }
     {
         let number = self.next_member;
-        let member = MemberName {
-            name: args.file,
-            number,
-        };
-        let members = MemberNames::first(self.alloc, member)?;
-        self.catalogue.reserve()?;
-        let length = plan.format.record_length();
-        self.members.put(number, Member::new(self.alloc, length))?;
-        self.catalogue.add(File {
-            name: args.file,
-            source: plan.source,
-            format: plan.format,
-            members,
-        });
+        let member = Member::new(self.alloc, file.format().record_length());
+        self.members.put(number, member).unwrap();
+        self.catalogue.add(args.file, file);
         self.next_member = number + 1;
-        Ok(Reply::Done)
+        Reply::Done
     }
 }

@@ -5,11 +5,11 @@ mod catalogue;
 mod chain_record;
 mod contents;
 mod create_physical_file;
+mod end_job;
 mod jobs;
 pub mod library;
 mod open_file;
-#[cfg(test)]
-mod tests;
+mod stop;
 mod write_record;
 
 pub use library_model::calls::Call;

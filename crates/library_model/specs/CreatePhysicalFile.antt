@@ -38,12 +38,16 @@ create_plan sources m args = do
 abbrev pub new_file : List ℕ → ℕ → NewFile → FileState
 new_file name number plan = record { source = plan.source; format = plan.format; members = (name, number) ∷ [] }
 
-abbrev pub created : Memory → CreatePhysicalFile → NewFile → Memory
-created m args plan = record m {
-  files = m.files ++ (args.file, new_file args.file m.next_member plan) ∷ [];
-  members = put_member m.next_member (empty_member (record_length plan.format.fields)) m.members;
+-- one file more, whose first member has the next number
+abbrev pub with_file : Memory → List ℕ → FileState → Memory
+with_file m name file = record m {
+  files = m.files ++ (name, file) ∷ [];
+  members = put_member m.next_member (empty_member (record_length file.format.fields)) m.members;
   next_member = m.next_member + 1;
 }
+
+abbrev pub created : Memory → CreatePhysicalFile → NewFile → Memory
+created m args plan = with_file m args.file (new_file args.file m.next_member plan)
 
 abbrev pub create_change : Memory → CreatePhysicalFile → NewFile → Change
 create_change m args plan = unjournaled (created m args plan) Done

@@ -1,5 +1,5 @@
 -- OPNDBF: an open of a member under a name of the job's own. (CL reference, OPNDBF; Database Programming, "Opening a database file".)
-use Rattle.std.specs.Prelude.{ℕ, nat_le, Result, Ok, Err, [], ◌∷◌, ◌++◌, length}
+use Rattle.std.specs.Prelude.{ℕ, nat_le, Result, Ok, Err, List, [], ◌∷◌, ◌++◌, length}
 use Rattle.std.specs.Option.{is_some}
 use Rattle.library_model.specs.declared.limits.TheConstants.{MOST_OPENS}
 use Rattle.library_model.specs.declared.requests.OpenFile.{OpenFile}
@@ -23,11 +23,11 @@ abbrev pub new_open : OpenFile → ℕ → OpenState
 new_open args number = record { file = args.file; option = args.option; member = number }
 
 -- a job with one open more
-abbrev pub with_open : OpenFile → ℕ → JobState → JobState
-with_open args number job = record job { opens = job.opens ++ (args.open_id, new_open args number) ∷ [] }
+abbrev pub with_open : List ℕ → OpenState → JobState → JobState
+with_open name opened job = record job { opens = job.opens ++ (name, opened) ∷ [] }
 
 abbrev pub open_change : Memory → ℕ → OpenFile → ℕ → Change
-open_change m job args number = unjournaled (with_job m job (with_open args number)) Done
+open_change m job args number = unjournaled (with_job m job (with_open args.open_id (new_open args number))) Done
 
 abbrev pub open_file : Memory → ℕ → OpenFile → Result Change Reply
 open_file m job args = does (open_change m job args) (open_plan m job args)

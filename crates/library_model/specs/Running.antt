@@ -1,5 +1,7 @@
 -- Which jobs run: those that have begun and whose ENDJOB was not answered. (Work Management, ending a job.)
 use Rattle.std.specs.Prelude.{ℕ, ◌==◌, ◌&&◌, Bool, true, false, not, List, Option, Some, None}
+use Rattle.std.specs.Option.{is_some}
+use Rattle.library_model.specs.declared.requests.EndJob.{EndJob as EndingArguments}
 use Rattle.library_model.specs.declared.requests.Request.{Request}
 use Rattle.library_model.specs.declared.requests.Request.TheVariants.{CreatePhysicalFile, CreateLogicalFile, DeleteFile, AddMember, ClearMember, ReorganizeMember, StartJournaling, EndJournaling, ChangeJournal, DeleteReceiver, Checkpoint, DisplayJournal, ApplyChanges, RemoveChanges, StartCommitment, EndCommitment, Commit, Rollback, OpenFile, CloseFile, SetLowerLimit, SetGreaterThan, Read, ReadPrior, ReadEqual, ReadPriorEqual, Chain, Write, Update, Delete, Unlock, EndJob}
 use Rattle.library_model.specs.State.{JobState, job_at}
@@ -9,40 +11,43 @@ abbrev pub is_running : Option JobState → Bool
 is_running None = false
 is_running (Some job) = not job.ended
 
--- the request is the end of its job
+-- how a request ends its job, where it does
+abbrev pub end_asked : Request → Option EndingArguments
+end_asked (EndJob args) = Some args
+end_asked (CreatePhysicalFile args) = None
+end_asked (CreateLogicalFile args) = None
+end_asked (DeleteFile args) = None
+end_asked (AddMember args) = None
+end_asked (ClearMember args) = None
+end_asked (ReorganizeMember args) = None
+end_asked (StartJournaling args) = None
+end_asked (EndJournaling args) = None
+end_asked ChangeJournal = None
+end_asked (DeleteReceiver args) = None
+end_asked Checkpoint = None
+end_asked (DisplayJournal args) = None
+end_asked (ApplyChanges args) = None
+end_asked (RemoveChanges args) = None
+end_asked (StartCommitment args) = None
+end_asked EndCommitment = None
+end_asked Commit = None
+end_asked Rollback = None
+end_asked (OpenFile args) = None
+end_asked (CloseFile args) = None
+end_asked (SetLowerLimit args) = None
+end_asked (SetGreaterThan args) = None
+end_asked (Read args) = None
+end_asked (ReadPrior args) = None
+end_asked (ReadEqual args) = None
+end_asked (ReadPriorEqual args) = None
+end_asked (Chain args) = None
+end_asked (Write args) = None
+end_asked (Update args) = None
+end_asked (Delete args) = None
+end_asked (Unlock args) = None
+
 abbrev pub is_end_job : Request → Bool
-is_end_job (EndJob args) = true
-is_end_job (CreatePhysicalFile args) = false
-is_end_job (CreateLogicalFile args) = false
-is_end_job (DeleteFile args) = false
-is_end_job (AddMember args) = false
-is_end_job (ClearMember args) = false
-is_end_job (ReorganizeMember args) = false
-is_end_job (StartJournaling args) = false
-is_end_job (EndJournaling args) = false
-is_end_job ChangeJournal = false
-is_end_job (DeleteReceiver args) = false
-is_end_job Checkpoint = false
-is_end_job (DisplayJournal args) = false
-is_end_job (ApplyChanges args) = false
-is_end_job (RemoveChanges args) = false
-is_end_job (StartCommitment args) = false
-is_end_job EndCommitment = false
-is_end_job Commit = false
-is_end_job Rollback = false
-is_end_job (OpenFile args) = false
-is_end_job (CloseFile args) = false
-is_end_job (SetLowerLimit args) = false
-is_end_job (SetGreaterThan args) = false
-is_end_job (Read args) = false
-is_end_job (ReadPrior args) = false
-is_end_job (ReadEqual args) = false
-is_end_job (ReadPriorEqual args) = false
-is_end_job (Chain args) = false
-is_end_job (Write args) = false
-is_end_job (Update args) = false
-is_end_job (Delete args) = false
-is_end_job (Unlock args) = false
+is_end_job request = is_some (end_asked request)
 
 -- whether a job runs after a request of another or its own: its own ENDJOB ends it, and nothing else does
 abbrev pub runs_after : ℕ → Request → List JobState → ℕ → Bool

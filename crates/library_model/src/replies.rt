@@ -1,11 +1,14 @@
 //! The replies of the library: what was done, or the first refusal.
+ghost use Rattle.std.specs.Prelude.{◌≡◌};
+ghost use Rattle.std.specs.List.{All};
+ghost use Rattle.entry_codec.specs.Spelling.{HasSpelling};
 
 use crate::value_lists::Values;
 use dds_source::DdsFault;
 use entry_codec::Entry;
 use field_types::faults::RecordFault;
-use field_types::lists::ListOf;
 use field_types::names::Name;
+use std::marker::Model;
 
 /// What no call may pass.
 #[derive(Clone, Copy, PartialEq)]
@@ -32,8 +35,42 @@ pub enum Missing {
     Receiver(u32),
 }
 
-/// Entries of the journal in order.
-pub type Entries = ListOf<Entry>;
+/// Entries of the journal in order. Each has a spelling there.
+#[derive(Drop)]
+pub struct Entries {
+    entries: Vec<Entry>,
+}
+
+impl Model for Entries {
+    ghost use Rattle.std.specs.Prelude.{List};
+    ghost use Rattle.std.specs.List.{All};
+    ghost use Rattle.entry_codec.specs.declared.entries.Entry.{Entry};
+    ghost use Rattle.entry_codec.specs.Spelling.{HasSpelling};
+
+    ghost Value = { List Entry };
+
+    ghost view = { λ e. e.entries.items };
+
+    ghost invariant = { λ e. All HasSpelling e.entries.items };
+}
+
+impl Entries {
+    /// These entries.
+    pub fn from_vec(entries: Vec<Entry>) -> Entries
+        requires { All HasSpelling entries.items }
+        ensures { result ≡ entries.items }
+    {
+        Entries { entries }
+    }
+
+    /// The entries in order.
+    pub fn as_slice(&self) -> &[Entry]
+        ensures entries { result.now ≡ self.now }
+        ensures spelled { All HasSpelling result.now }
+    {
+        self.entries.as_slice()
+    }
+}
 
 /// A record that was read.
 #[derive(Drop)]

@@ -1,5 +1,6 @@
 //! The requests of a job, one struct of arguments each, with every default filled in.
-ghost use Rattle.std.specs.Prelude.{◌≡◌, IfOk};
+ghost use Rattle.std.specs.Prelude.{◌≡◌, IfOk, option_copied};
+ghost use Rattle.library_model.specs.Running.{end_asked};
 
 use crate::value_lists::{GivenValues, Values};
 use commit_level::Level;
@@ -354,6 +355,46 @@ impl UpdateRecord {
 }
 
 impl Request {
+    /// How the request ends its job, where it does.
+    pub fn end_asked(&self) -> Option<&EndJob>
+        ensures { option_copied result ≡ end_asked self.now }
+    {
+        match self {
+            Request::EndJob(args) => Some(args),
+            Request::CreatePhysicalFile(_)
+            | Request::CreateLogicalFile(_)
+            | Request::DeleteFile(_)
+            | Request::AddMember(_)
+            | Request::ClearMember(_)
+            | Request::ReorganizeMember(_)
+            | Request::StartJournaling(_)
+            | Request::EndJournaling(_)
+            | Request::ChangeJournal
+            | Request::DeleteReceiver(_)
+            | Request::Checkpoint
+            | Request::DisplayJournal(_)
+            | Request::ApplyChanges(_)
+            | Request::RemoveChanges(_)
+            | Request::StartCommitment(_)
+            | Request::EndCommitment
+            | Request::Commit
+            | Request::Rollback
+            | Request::OpenFile(_)
+            | Request::CloseFile(_)
+            | Request::SetLowerLimit(_)
+            | Request::SetGreaterThan(_)
+            | Request::Read(_)
+            | Request::ReadPrior(_)
+            | Request::ReadEqual(_)
+            | Request::ReadPriorEqual(_)
+            | Request::Chain(_)
+            | Request::Write(_)
+            | Request::Update(_)
+            | Request::Delete(_)
+            | Request::Unlock(_) => None,
+        }
+    }
+
     /// A copy in memory of its own.
     pub fn copied(&self, alloc: Global) -> Result<Request, AllocError>
         ensures { IfOk result (λ r. r ≡ self.now) }

@@ -9,10 +9,10 @@ use Rattle.listing.specs.ReplyText.{reply_text, job_name}
 unfoldable pub exchange : List (List ℕ) → Call → List ℕ
 exchange names call = request_text call.request ++ (codes " => " ++ (reply_text names call.reply ++ 10 ∷ []))
 
--- a line: the call's number, the job, the moment, the request and the reply
+-- a line: the call's number, the job, the timestamp, the request and the reply
 unfoldable pub call_line : List (List ℕ) → ℕ → Call → List ℕ
 call_line names number call =
-    decimal number ++ 32 ∷ (job_name names call.job ++ 32 ∷ (decimal call.moment ++ 32 ∷ exchange names call))
+    decimal number ++ 32 ∷ (job_name names call.job ++ 32 ∷ (decimal call.timestamp ++ 32 ∷ exchange names call))
 
 -- the lines of the calls, numbered from this number on
 abbrev pub call_lines : List (List ℕ) → ℕ → List Call → List ℕ

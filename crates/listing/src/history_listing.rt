@@ -37,7 +37,7 @@ fn push_line(out: &mut Vec<u8>, names: &[Name], number: u64, call: &Call) -> Res
     out.push(b' ')?;
     out.extend_from_slice(job_name(names, call.job))?;
     out.push(b' ')?;
-    push_number(out, call.moment)?;
+    push_number(out, call.timestamp)?;
     out.push(b' ')?;
     push_exchange(out, names, call)
 }

@@ -99,7 +99,7 @@ fn one_record_written_and_read(rt: HostRuntime) -> Result<(), Fail> {
     let mut calls = Vec::new(alloc);
     calls.push(Call {
         job: 1,
-        moment: 0,
+        timestamp: 0,
         request: Request::CreatePhysicalFile(CreatePhysicalFile {
             file: cust,
             source: cust,
@@ -108,7 +108,7 @@ fn one_record_written_and_read(rt: HostRuntime) -> Result<(), Fail> {
     })?;
     calls.push(Call {
         job: 1,
-        moment: 1,
+        timestamp: 1,
         request: Request::OpenFile(OpenFile {
             file: cust,
             option: OpenOption::All,
@@ -121,7 +121,7 @@ fn one_record_written_and_read(rt: HostRuntime) -> Result<(), Fail> {
     })?;
     calls.push(Call {
         job: 1,
-        moment: 2,
+        timestamp: 2,
         request: Request::Write(WriteRecord {
             open_id: cust,
             format: None,
@@ -134,7 +134,7 @@ fn one_record_written_and_read(rt: HostRuntime) -> Result<(), Fail> {
     shown.push(characters(alloc, "ABC  ")?)?;
     calls.push(Call {
         job: 1,
-        moment: 3,
+        timestamp: 3,
         request: Request::Chain(ChainRecord {
             open_id: cust,
             to: ChainTo::RecordNumber(1),
@@ -148,7 +148,7 @@ fn one_record_written_and_read(rt: HostRuntime) -> Result<(), Fail> {
     })?;
     calls.push(Call {
         job: 1,
-        moment: 4,
+        timestamp: 4,
         request: Request::EndJob(EndJob {
             reason: EndReason::Normal,
             line: 0,

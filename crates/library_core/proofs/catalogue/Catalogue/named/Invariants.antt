@@ -1,6 +1,0 @@
-use Rattle.std.proofs.Common.{◌≡◌, drop}
-use Rattle.library_model.specs.State.{file_named}
-use Rattle.library_core.proofs.catalogue.Catalogue.named.Given as goal
-
-abbrev pub invariant-loop-file : goal.invariant-loop-file
-invariant-loop-file l = file_named l.name (drop l.file-index l.file-items) ≡ file_named l.name l.self.files

@@ -1,0 +1,32 @@
+-- How a function of the library answers for a plan and for a change: with the wanted one, its refusal, or want of memory.
+use Rattle.std.specs.Prelude.{◌≡◌, Bool, true, Result, Ok, Err}
+use Rattle.std.specs.Borrow.{Bor}
+use Rattle.library_model.specs.declared.replies.Reply.{Reply}
+use Rattle.library_model.specs.State.{Memory}
+use Rattle.library_model.specs.Change.{Change, unjournaled}
+use Rattle.library_core.specs.declared.stop.Stop.{Stop}
+use Rattle.library_core.specs.declared.stop.Stop.TheVariants.{NoMemory, Refused}
+
+-- the plan, or the first refusal that holds
+abbrev pub Gives : {A : Type 0} → Result A Stop → Result A Reply → Type 0
+Gives (Ok plan) wanted = wanted ≡ Ok plan
+Gives (Err NoMemory) wanted = Unit {0}
+Gives (Err (Refused reply)) wanted = wanted ≡ Err reply
+
+-- the same of what is shown in its place
+abbrev pub Shows : {A : Type 0} → Result (Bor A) Stop → Result A Reply → Type 0
+Shows (Ok shown) wanted = wanted ≡ Ok shown.now
+Shows (Err NoMemory) wanted = Unit {0}
+Shows (Err (Refused reply)) wanted = wanted ≡ Err reply
+
+-- a test that lets a request go on, or refuses it
+abbrev pub Allows : Result (Unit {0}) Stop → Result Bool Reply → Type 0
+Allows (Ok nothing) wanted = wanted ≡ Ok true
+Allows (Err NoMemory) wanted = ⊥
+Allows (Err (Refused reply)) wanted = wanted ≡ Err reply
+
+-- the memory and the reply of the change; where nothing was done, the memory is as it was
+abbrev pub Answers : Memory → Memory → Result Reply Stop → Result Change Reply → Type 0
+Answers old new (Ok reply) wanted = wanted ≡ Ok (unjournaled new reply)
+Answers old new (Err NoMemory) wanted = new ≡ old
+Answers old new (Err (Refused reply)) wanted = (new ≡ old) × (wanted ≡ Err reply)

@@ -1,0 +1,23 @@
+-- What a library is of a state, and what a call makes of it. The memory is known over every store; the journal stands on the disk.
+use Rattle.std.specs.Prelude.{◌≡◌, ℕ, true, false, List}
+use Rattle.library_model.specs.declared.calls.Call.{Call}
+use Rattle.library_model.specs.declared.sources.NamedSource.{NamedSource}
+use Rattle.library_model.specs.State.{State, memory_of}
+use Rattle.library_model.specs.History.{Outcome, Standing, Failed, Comes}
+use Rattle.library_core.specs.Parts.{LibraryOver}
+
+-- the library has the state
+pub record Stands {S : Type 0} (library : LibraryOver S) (s : State) : Type 0 where
+  pub alive : library.failed ≡ false
+  pub memory : library.memory ≡ memory_of s
+
+-- the library is what calls have led to
+abbrev pub IsAt : {S : Type 0} → LibraryOver S → Outcome → Type 0
+IsAt library (Standing s) = Stands library s
+IsAt library (Failed journal) = library.failed ≡ true
+
+-- from a state that it had, the call led the library to an outcome of that call
+pub record Goes {S : Type 0} (sources : List NamedSource) (new : LibraryOver S) (s : State) (call : Call) : Type 0 where
+  pub outcome : Outcome
+  pub comes : Comes sources s call outcome
+  pub at : IsAt new outcome
