@@ -11,6 +11,7 @@ use Rattle.library_model.specs.Named.{Named, named, same_name}
 use Rattle.library_model.specs.State.{Memory, FileState, OpenState, JobState, file_named, open_named, job_at, opens_of, job_changed, new_job}
 use Rattle.library_model.specs.OpenFile.{with_open}
 use Rattle.library_model.specs.CreatePhysicalFile.{with_file}
+use Rattle.library_core.specs.Parts.{Held}
 use Rattle.library_core.specs.Lawful.{HasMember, FileHolds, OpensMember, OpenHolds, OpensHold, IsLibrary}
 use Rattle.library_core.proofs.MemberLemmas.{item_at-put_item_other, item_at-put_item_same}
 
@@ -177,3 +178,7 @@ IsLibrary-with_file s name member file lawful first =
     let has : HasMember others s.next_member (record_length file.format.fields) = ap (option_map (λ (m : MemberState). m.record_length)) (item_at-put_item_same s.next_member (empty_member (record_length file.format.fields)) s.members) in
     let holds : FileHolds others (name, file) = rw first (has, tt) in
     IsLibrary-file s name file others lawful (Keeps-put_member s.members s.next_member (empty_member (record_length file.format.fields)) lawful.numbers) holds (numbers-put_member s.members s.next_member (empty_member (record_length file.format.fields)) lawful.numbers)
+
+-- what holds of the parts holds of the memory that they stand for
+pub IsLibrary-seen : (inside now : Held) → inside ≡ now → IsLibrary inside.memory → IsLibrary now.memory
+IsLibrary-seen inside now seen lawful = subst (λ (h : Held). IsLibrary h.memory) seen lawful

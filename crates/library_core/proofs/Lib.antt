@@ -3,3 +3,4 @@ pub mod LawfulLemmas
 pub mod LengthLemmas
 pub mod StepLemmas
 pub mod CallLemmas
+pub mod MapLemmas

@@ -2,6 +2,7 @@
 use Rattle.std.specs.Prelude.{◌≡◌, Bool, true, Result, Ok, Err}
 use Rattle.std.specs.Borrow.{Bor}
 use Rattle.library_model.specs.declared.replies.Reply.{Reply}
+use Rattle.library_model.specs.declared.replies.Reply.TheVariants.{NoMemory as NoMemoryReply}
 use Rattle.library_model.specs.State.{Memory}
 use Rattle.library_model.specs.Change.{Change, unjournaled}
 use Rattle.library_core.specs.declared.stop.Stop.{Stop}
@@ -30,3 +31,9 @@ abbrev pub Answers : Memory → Memory → Result Reply Stop → Result Change R
 Answers old new (Ok reply) wanted = wanted ≡ Ok (unjournaled new reply)
 Answers old new (Err NoMemory) wanted = new ≡ old
 Answers old new (Err (Refused reply)) wanted = (new ≡ old) × (wanted ≡ Err reply)
+
+-- what is answered to the job
+abbrev pub reply_of : Result Reply Stop → Reply
+reply_of (Ok reply) = reply
+reply_of (Err NoMemory) = NoMemoryReply
+reply_of (Err (Refused reply)) = reply

@@ -6,7 +6,7 @@ ghost use Rattle.library_model.specs.NeedsMemory.{needs_memory};
 ghost use Rattle.library_model.specs.Running.{is_running, runs_after};
 ghost use Rattle.library_model.specs.Joint.{IsJoint};
 ghost use Rattle.library_model.specs.Step.{change};
-ghost use Rattle.library_core.specs.Answers.{Answers};
+ghost use Rattle.library_core.specs.Answers.{Answers, reply_of};
 ghost use Rattle.library_core.specs.Stands.{Stands, Goes};
 ghost use Rattle.library_core.specs.declared.stop.Stop.TheVariants.{NoMemory};
 
@@ -106,7 +106,17 @@ pub fn call<S: Store>(
     ensures store { library.new.store ≡ library.old.store }
     ensures alive { library.new.failed ≡ false }
 {
-    match library.contents.perform(job, timestamp, sources, request) {
+    let done = library
+        .contents
+        .perform(job, timestamp, sources, request);
+    reply_of(done)
+}
+
+/// What is answered to the job.
+fn reply_of(done: Result<Reply, Stop>) -> Reply
+    ensures { result ≡ reply_of done }
+{
+    match done {
         Ok(reply) => reply,
         Err(Stop::NoMemory) => Reply::NoMemory,
         Err(Stop::Refused(reply)) => reply,
