@@ -1,9 +1,11 @@
 //! What a call counts for the bound on a history, by `specs/Counting.antt`.
 ghost use Rattle.std.specs.Prelude.{◌≡◌, IsTrue, min, ◌+◌};
-ghost use Rattle.std.specs.List.{sum_by};
-ghost use Rattle.library_model.specs.Built.{is_built_reply};
-ghost use Rattle.job_history.specs.Counting.{value_bytes, given_bytes, values_bytes, limit_bytes, request_bytes, reply_bytes, call_bytes, is_end_job, capped};
+ghost use Rattle.std.specs.List.{sum_by, All};
+ghost use Rattle.job_history.specs.Counting.{value_bytes, given_bytes, values_bytes, limit_bytes, request_bytes, entries_bytes, reply_bytes, call_bytes, capped};
+ghost use Rattle.library_model.specs.Running.{is_end_job};
+ghost use Rattle.entry_codec.specs.Spelling.{HasSpelling};
 
+use entry_codec::{Entry, entry_length};
 use field_types::values::Value;
 use library_model::calls::Call;
 use library_model::replies::Reply;
@@ -17,7 +19,6 @@ const NUMBER_BYTES: u64 = 17;
 
 /// The bytes that a call counts.
 pub fn call_bytes(call: &Call) -> u64
-    requires { IsTrue (is_built_reply call.now.reply) }
     ensures { result ≡ capped (call_bytes call.now) }
 {
     CALL_BYTES
@@ -27,9 +28,9 @@ pub fn call_bytes(call: &Call) -> u64
 
 /// Whether the call is an ENDJOB.
 pub fn is_end_job(call: &Call) -> bool
-    ensures { result ≡ is_end_job call.now }
+    ensures { result ≡ is_end_job call.now.request }
 {
-    matches!(call.request, Request::EndJob(_))
+    call.request.end_asked().is_some()
 }
 
 fn request_bytes(request: &Request) -> u64
@@ -46,7 +47,31 @@ fn request_bytes(request: &Request) -> u64
             ChainTo::Key(values) => values_bytes(values.as_slice()),
             ChainTo::RecordNumber(_) => 0,
         },
-        _ => 0,
+        Request::CreatePhysicalFile(_)
+        | Request::CreateLogicalFile(_)
+        | Request::DeleteFile(_)
+        | Request::AddMember(_)
+        | Request::ClearMember(_)
+        | Request::ReorganizeMember(_)
+        | Request::StartJournaling(_)
+        | Request::EndJournaling(_)
+        | Request::ChangeJournal
+        | Request::DeleteReceiver(_)
+        | Request::Checkpoint
+        | Request::DisplayJournal(_)
+        | Request::ApplyChanges(_)
+        | Request::RemoveChanges(_)
+        | Request::StartCommitment(_)
+        | Request::EndCommitment
+        | Request::Commit
+        | Request::Rollback
+        | Request::OpenFile(_)
+        | Request::CloseFile(_)
+        | Request::Read(_)
+        | Request::ReadPrior(_)
+        | Request::Delete(_)
+        | Request::Unlock(_)
+        | Request::EndJob(_) => 0,
     }
 }
 
@@ -55,18 +80,66 @@ fn limit_bytes(limit: &Limit) -> u64
 {
     match limit {
         Limit::Key(values) => values_bytes(values.as_slice()),
-        _ => 0,
+        Limit::LowValue | Limit::HighValue | Limit::RecordNumber(_) => 0,
     }
 }
 
 fn reply_bytes(reply: &Reply) -> u64
-    requires { IsTrue (is_built_reply reply.now) }
     ensures { result ≡ capped (reply_bytes reply.now) }
 {
     match reply {
         Reply::Record(read) => values_bytes(read.values.as_slice()),
-        _ => 0,
+        Reply::Entries(entries) => entries_bytes(entries.as_slice()),
+        Reply::Done
+        | Reply::Added { .. }
+        | Reply::Range { .. }
+        | Reply::Receiver { .. }
+        | Reply::Sequence { .. }
+        | Reply::RecordInUse { .. }
+        | Reply::HeldByGroup { .. }
+        | Reply::PlaceInUse { .. }
+        | Reply::HeldToBoundary
+        | Reply::NotFound
+        | Reply::EndOfFile
+        | Reply::BeginOfFile
+        | Reply::NoCurrentRecord
+        | Reply::WrongOpen
+        | Reply::NoDefinition
+        | Reply::AlreadyStarted
+        | Reply::NoSuchEntry
+        | Reply::MemberFull
+        | Reply::StoreFault
+        | Reply::NoMemory
+        | Reply::DuplicateKey { .. }
+        | Reply::NoSuchName(_)
+        | Reply::NameExists { .. }
+        | Reply::Dependents { .. }
+        | Reply::BadValue(_)
+        | Reply::DdsFault(_)
+        | Reply::InUse { .. }
+        | Reply::NotJournaled { .. }
+        | Reply::PendingChanges { .. }
+        | Reply::Straddled { .. }
+        | Reply::DoesNotFit { .. }
+        | Reply::NeedsBoth { .. }
+        | Reply::Gap { .. }
+        | Reply::NotRemovable { .. }
+        | Reply::ReceiverGone { .. }
+        | Reply::BlockChanged { .. }
+        | Reply::StillNeeded { .. }
+        | Reply::LimitReached { .. } => 0,
     }
+}
+
+fn entries_bytes(entries: &[Entry]) -> u64
+    requires { All HasSpelling entries.now }
+    ensures { result ≡ capped (entries_bytes entries.now) }
+{
+    let mut bytes: u64 = 0;
+    for entry in entries {
+        bytes = bytes.saturating_add(entry_length(entry) as u64);
+    }
+    bytes
 }
 
 fn values_bytes(values: &[Value]) -> u64

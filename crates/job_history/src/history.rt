@@ -1,18 +1,12 @@
 //! The kept calls. What a call counts for the bound on a history stands in `counting.rt`.
 ghost use Rattle.std.specs.Prelude.{◌≡◌, ◌+◌, ◌≤◌, ◌<◌, [], ◌∷◌, ◌++◌, length, OnOk, OnErr, IsTrue};
 ghost use Rattle.job_history.specs.Counting.{is_full};
-ghost use Rattle.library_model.specs.Built.{is_built_reply};
 
 use crate::counting::{call_bytes, is_end_job};
+use crate::limits::{MOST_BYTES, MOST_CALLS};
 use library_model::calls::Call;
 use std::alloc::{AllocError, Global};
 use std::marker::Model;
-
-/// The most calls other than ENDJOB that a history keeps.
-pub const MOST_CALLS: u64 = 200_000;
-
-/// The counted bytes at which a history is full: 256 MiB.
-pub const MOST_BYTES: u64 = 268_435_456;
 
 /// The calls of a run, in order. Contracts see them, and beside them the room for more.
 #[derive(Drop)]
@@ -54,10 +48,9 @@ impl History {
         self.calls.reserve(calls as usize)
     }
 
-    /// Keeps a call behind the others.
+    /// Keeps a call after the others.
     pub fn push(&mut self, call: Call)
         requires room { 1 ≤ self.old.room }
-        requires built { IsTrue (is_built_reply call.reply) }
         ensures calls { self.new.calls ≡ self.old.calls ++ call ∷ [] }
         ensures room { self.new.room + 1 ≡ self.old.room }
     {

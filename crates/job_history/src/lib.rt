@@ -2,6 +2,7 @@
 #![tactic(auto)]
 
 mod counting;
+pub mod limits;
 pub mod history;
 #[cfg(test)]
 mod tests;
