@@ -1,102 +1,184 @@
--- What holds at each status of a run: its cause, what was read, what the jobs did, and what was written. (Our own.)
+-- What an outcome of the command RUN is, status by status: its cause, what was read, what the jobs did, and what was written. (Our own.)
 -- Sources and sinks may tell what they have left and taken; what the jobs did is said whether they tell it or not.
-use Rattle.std.specs.Prelude.{◌≡◌, ◌⊎◌, ℕ, ◌<◌, ◌≤◌, Bool, true, false, IsTrue, List, [], ◌++◌, length, take}
+use Rattle.std.specs.Prelude.{◌≡◌, ℕ, ◌<◌, ◌≤◌, Bool, true, false, IsTrue, List, [], ◌++◌, length, take}
 use Rattle.text_lines.specs.Lines.{lines_of}
-use Rattle.library_model.specs.State.{State}
+use Rattle.library_model.specs.State.{State, empty_library, begun}
+use Rattle.library_model.specs.History.{Outcome, Standing, Runs}
 use Rattle.library_model.specs.declared.calls.Call.{Call}
 use Rattle.job_script.specs.declared.scripts.Scripts.{Scripts}
 use Rattle.job_script.specs.Input.{Reads, IsInput, IsFirstFault}
-use Rattle.job_runner.specs.Session.{IsRun}
+use Rattle.library_core.specs.Stands.{IsAt}
+use Rattle.job_runner.specs.Session.{SessionOver}
+use Rattle.job_runner.specs.Asked.{AreAsked}
 use Rattle.job_runner.specs.Ended.{has_ended, has_early_end}
 use Rattle.listing.specs.HistoryListing.{listing}
+use Rattle.ibmi_batch.specs.declared.limits.TheConstants.{MOST_INPUT}
 use Rattle.ibmi_batch.specs.declared.status.Status.{Status}
 use Rattle.ibmi_batch.specs.declared.status.Status.TheVariants.{Done, Words, ReadFault, TooLong, Script, NotALibrary, Damaged, StoreFault, WriteFault, NoMemory, JobsEnded, Exists}
+use Rattle.ibmi_batch.specs.Words.{are_run_words}
 
--- Words comes exactly where the words aren't those of a run
-abbrev pub WordsFor : Status → Bool → Type 0
-WordsFor Words are_run = are_run ≡ false
-WordsFor _ are_run = are_run ≡ true
+-- what a command was given to read: the words, what the source had and has left, where it tells it, and whether it found a fault
+pub record Reading : Type 1 where
+  pub words : List (List ℕ)
+  pub tells : Type 0
+  pub input : List ℕ
+  pub left : List ℕ
+  pub rose : Type 0
 
--- a fault comes only where the object's own count of faults rose, and the statuses of the store don't come yet
-abbrev pub CauseFor : Status → (source_rose sink_rose : Type 0) → Type 0
-CauseFor ReadFault source_rose sink_rose = source_rose
-CauseFor WriteFault source_rose sink_rose = sink_rose
-CauseFor NotALibrary source_rose sink_rose = ⊥
-CauseFor (Damaged area at) source_rose sink_rose = ⊥
-CauseFor StoreFault source_rose sink_rose = ⊥
-CauseFor Exists source_rose sink_rose = ⊥
-CauseFor _ source_rose sink_rose = Unit {0}
+-- what it was given to write to: what the sink had taken and has taken now, where it tells it, and whether it found a fault
+pub record Writing : Type 1 where
+  pub tells : Type 0
+  pub old : List ℕ
+  pub new : List ℕ
+  pub rose : Type 0
 
--- what the input is: too long, at fault in that line first, or an input
-abbrev pub InputFor : Status → List ℕ → Type 0
-InputFor TooLong input = 16777216 < length input
-InputFor (Script line) input = IsFirstFault (lines_of input) line × (length input ≤ 16777216)
-InputFor Done input = IsInput (lines_of input) × (length input ≤ 16777216)
-InputFor JobsEnded input = IsInput (lines_of input) × (length input ≤ 16777216)
-InputFor WriteFault input = IsInput (lines_of input) × (length input ≤ 16777216)
-InputFor _ input = Unit {0}
-
--- what is left of the input where lines were judged: nothing
-abbrev pub LeftFor : Status → List ℕ → Type 0
-LeftFor (Script line) left = left ≡ []
-LeftFor Done left = left ≡ []
-LeftFor JobsEnded left = left ≡ []
-LeftFor WriteFault left = left ≡ []
-LeftFor _ left = Unit {0}
+-- the library with which a run begins; none is kept yet, so it has nothing in it
+abbrev pub IsStart : State → Type 0
+IsStart start = start ≡ empty_library
 
 -- the scripts are what an input says: the one that the source had, where the source tells it
-pub record IsRead (source_tells : Type 0) (input : List ℕ) (scripts : Scripts) : Type 0 where
+pub record IsRead (reading : Reading) (scripts : Scripts) : Type 0 where
   pub bytes : List ℕ
-  pub whole : source_tells → input ≡ bytes
-  pub short : length bytes ≤ 16777216
+  pub whole : reading.tells → reading.input ≡ bytes
+  pub short : length bytes ≤ MOST_INPUT
   pub says : Reads (lines_of bytes) scripts
 
--- the calls are a legal history of the jobs of these scripts, in which each job's calls are all that its script asks
+-- from a start on, the calls are a legal history of the jobs of these scripts, in which each job's calls are all that its script asks
 pub record IsWholeRun (scripts : Scripts) (calls : List Call) : Type 0 where
-  pub state : State
-  pub run : IsRun scripts state calls
+  pub start : State
+  pub begins : IsStart start
+  pub outcome : Outcome
+  pub legal : Runs scripts.sources (Standing (begun start scripts.names)) calls outcome
+  pub asked : AreAsked scripts.scripts [] calls
   pub ended : (job : ℕ) → 1 ≤ job → job ≤ length scripts.scripts → IsTrue (has_ended job calls)
 
--- such a history with moments that were given, and its listing was written
-pub record Listed (scripts : Scripts) (given : List Call → Type 0) (sink_tells : Type 0) (old new : List ℕ) (early : Bool) : Type 0 where
+-- such a history with timestamps that were given, and what was written of its listing: the whole, or its first part
+pub record Listed (scripts : Scripts) (given : List Call → Type 0) (writing : Writing) (part : List Call → Type 0) : Type 0 where
   pub calls : List Call
   pub run : IsWholeRun scripts calls
-  pub moments : given calls
+  pub timestamps : given calls
+  pub written : part calls
+
+-- the whole listing was written, and some job ended early or none did
+pub record IsListing (scripts : Scripts) (writing : Writing) (early : Bool) (calls : List Call) : Type 0 where
   pub ends : has_early_end calls ≡ early
-  pub written : sink_tells → new ≡ old ++ listing scripts.names calls
+  pub text : writing.tells → writing.new ≡ writing.old ++ listing scripts.names calls
 
--- such a history, and the first part of its listing was written
-pub record ListedInPart (scripts : Scripts) (given : List Call → Type 0) (sink_tells : Type 0) (old new : List ℕ) : Type 0 where
-  pub calls : List Call
-  pub run : IsWholeRun scripts calls
-  pub moments : given calls
-  pub written : sink_tells → (part : ℕ) × (new ≡ old ++ take part (listing scripts.names calls))
+-- the first part of the listing was written
+abbrev pub IsPart : Scripts → Writing → List Call → Type 0
+IsPart scripts writing calls = writing.tells → (part : ℕ) × (writing.new ≡ writing.old ++ take part (listing scripts.names calls))
 
--- what a session has done at a status, and what it has written, where the sink tells what it takes
-abbrev pub ListsFor : Status → Scripts → (List Call → Type 0) → (sink_tells : Type 0) → (old new : List ℕ) → Type 0
-ListsFor Done scripts given sink_tells old new = Listed scripts given sink_tells old new false
-ListsFor JobsEnded scripts given sink_tells old new = Listed scripts given sink_tells old new true
-ListsFor WriteFault scripts given sink_tells old new = ListedInPart scripts given sink_tells old new
-ListsFor NoMemory scripts given sink_tells old new = sink_tells → new ≡ old
-ListsFor _ scripts given sink_tells old new = ⊥
+abbrev pub NothingWritten : Writing → Type 0
+NothingWritten writing = writing.tells → writing.new ≡ writing.old
 
--- the jobs of the input ran to their ends, and what was written is the listing, or its first part
-abbrev pub RanWhole : (source_tells : Type 0) → (input : List ℕ) → (List Call → Type 0) → (sink_tells : Type 0) → (old new : List ℕ) → Bool → Type 0
-RanWhole source_tells input given sink_tells old new early = (scripts : Scripts) × IsRead source_tells input scripts × Listed scripts given sink_tells old new early
+-- what a session has done and written at a status that it can come to
+abbrev pub Ran : Status → Scripts → (List Call → Type 0) → Writing → Type 0
+Ran Done scripts given writing = Listed scripts given writing (IsListing scripts writing false)
+Ran JobsEnded scripts given writing = Listed scripts given writing (IsListing scripts writing true)
+Ran WriteFault scripts given writing = Listed scripts given writing (IsPart scripts writing) × writing.rose
+Ran NoMemory scripts given writing = NothingWritten writing
+Ran Words scripts given writing = ⊥
+Ran ReadFault scripts given writing = ⊥
+Ran TooLong scripts given writing = ⊥
+Ran (Script line) scripts given writing = ⊥
+Ran NotALibrary scripts given writing = ⊥
+Ran (Damaged area at) scripts given writing = ⊥
+Ran StoreFault scripts given writing = ⊥
+Ran Exists scripts given writing = ⊥
 
-abbrev pub RanInPart : (source_tells : Type 0) → (input : List ℕ) → (List Call → Type 0) → (sink_tells : Type 0) → (old new : List ℕ) → Type 0
-RanInPart source_tells input given sink_tells old new = (scripts : Scripts) × IsRead source_tells input scripts × ListedInPart scripts given sink_tells old new
+-- the words were those of a run, the input was read to its end and is one, and the jobs of its scripts ran
+pub record WasRun (status : Status) (reading : Reading) (given : List Call → Type 0) (writing : Writing) : Type 0 where
+  pub words : are_run_words reading.words ≡ true
+  pub left : reading.tells → reading.left ≡ []
+  pub scripts : Scripts
+  pub read : IsRead reading scripts
+  pub ran : Ran status scripts given writing
 
--- what a run has done at a status, and what it has written behind what the sink had taken: else nothing
-abbrev pub WrittenFor : Status → (source_tells : Type 0) → (input : List ℕ) → (List Call → Type 0) → (sink_tells : Type 0) → (old new : List ℕ) → Type 0
-WrittenFor Done source_tells input given sink_tells old new = RanWhole source_tells input given sink_tells old new false
-WrittenFor JobsEnded source_tells input given sink_tells old new = RanWhole source_tells input given sink_tells old new true
-WrittenFor WriteFault source_tells input given sink_tells old new = RanInPart source_tells input given sink_tells old new
-WrittenFor _ source_tells input given sink_tells old new = sink_tells → new ≡ old
+-- Words comes where the words are not those of a run; nothing is read or written
+pub record WordsRefused (reading : Reading) (writing : Writing) : Type 0 where
+  pub words : are_run_words reading.words ≡ false
+  pub written : NothingWritten writing
 
--- the statuses of an input that is in order, where no fault comes
-abbrev pub IsOrderly : Status → Type 0
-IsOrderly Done = Unit {0}
-IsOrderly JobsEnded = Unit {0}
-IsOrderly NoMemory = Unit {0}
-IsOrderly _ = ⊥
+-- the words were those of a run, and nothing was written; what the input was
+pub record InputRefused (reading : Reading) (writing : Writing) (why : Type 0) : Type 0 where
+  pub words : are_run_words reading.words ≡ true
+  pub written : NothingWritten writing
+  pub why : why
+
+-- the input was read to its end, and the line is the first at which no input goes on
+pub record ScriptRefused (reading : Reading) (line : ℕ) : Type 0 where
+  pub left : reading.left ≡ []
+  pub fault : IsFirstFault (lines_of reading.input) line
+  pub short : length reading.input ≤ MOST_INPUT
+
+-- what has come about at each status; those of a store don't come yet
+abbrev pub Comes : Status → Reading → (List Call → Type 0) → Writing → Type 0
+Comes Words reading given writing = WordsRefused reading writing
+Comes ReadFault reading given writing = InputRefused reading writing reading.rose
+Comes TooLong reading given writing = InputRefused reading writing (reading.tells → MOST_INPUT < length reading.input)
+Comes (Script line) reading given writing = InputRefused reading writing (reading.tells → ScriptRefused reading line)
+Comes NoMemory reading given writing = InputRefused reading writing (Unit {0})
+Comes Done reading given writing = WasRun Done reading given writing
+Comes JobsEnded reading given writing = WasRun JobsEnded reading given writing
+Comes WriteFault reading given writing = WasRun WriteFault reading given writing
+Comes NotALibrary reading given writing = ⊥
+Comes (Damaged area at) reading given writing = ⊥
+Comes StoreFault reading given writing = ⊥
+Comes Exists reading given writing = ⊥
+
+-- an input of the grammar that isn't too long
+pub record IsInOrder (reading : Reading) : Type 0 where
+  pub words : are_run_words reading.words ≡ true
+  pub input : IsInput (lines_of reading.input)
+  pub short : length reading.input ≤ MOST_INPUT
+
+-- a status at which the jobs of such an input ran, or that memory was wanting; or a fault came
+abbrev pub IsOrderly : Status → Reading → Writing → Type 0
+IsOrderly Done reading writing = Unit {0}
+IsOrderly JobsEnded reading writing = Unit {0}
+IsOrderly NoMemory reading writing = Unit {0}
+IsOrderly ReadFault reading writing = reading.rose
+IsOrderly WriteFault reading writing = writing.rose
+IsOrderly Words reading writing = ⊥
+IsOrderly TooLong reading writing = ⊥
+IsOrderly (Script line) reading writing = ⊥
+IsOrderly NotALibrary reading writing = ⊥
+IsOrderly (Damaged area at) reading writing = ⊥
+IsOrderly StoreFault reading writing = ⊥
+IsOrderly Exists reading writing = ⊥
+
+-- The outcome of RUN: what has come about at the status, and that an input in order is run.
+pub record IsOutcome (status : Status) (reading : Reading) (given : List Call → Type 0) (writing : Writing) : Type 0 where
+  pub comes : Comes status reading given writing
+  pub complete : reading.tells → IsInOrder reading → IsOrderly status reading writing
+
+-- the session's library stands at the start, with the jobs begun
+pub record Starts {S C : Type 0} (session : SessionOver S C) : Type 0 where
+  pub start : State
+  pub begins : IsStart start
+  pub stands : IsAt session.library (Standing (begun start session.scripts.names))
+
+-- the session that words and an input begin: the jobs of its scripts, in order, over the library of the start
+pub record Begins {S C : Type 0} (reading : Reading) (store : S) (clock : C) (session : SessionOver S C) : Type 0 where
+  pub words : are_run_words reading.words ≡ true
+  pub left : reading.tells → reading.left ≡ []
+  pub read : IsRead reading session.scripts
+  pub starts : Starts session
+  pub calls : session.calls ≡ []
+  pub store : session.library.store ≡ store
+  pub clock : session.clock ≡ clock
+
+-- why no session begins
+abbrev pub Refuses : Status → Reading → Type 0
+Refuses Words reading = are_run_words reading.words ≡ false
+Refuses ReadFault reading = (are_run_words reading.words ≡ true) × reading.rose
+Refuses TooLong reading = (are_run_words reading.words ≡ true) × (reading.tells → MOST_INPUT < length reading.input)
+Refuses (Script line) reading = (are_run_words reading.words ≡ true) × (reading.tells → ScriptRefused reading line) × (reading.tells → IsInput (lines_of reading.input) → ⊥)
+Refuses NoMemory reading = are_run_words reading.words ≡ true
+Refuses Done reading = ⊥
+Refuses JobsEnded reading = ⊥
+Refuses WriteFault reading = ⊥
+Refuses NotALibrary reading = ⊥
+Refuses (Damaged area at) reading = ⊥
+Refuses StoreFault reading = ⊥
+Refuses Exists reading = ⊥

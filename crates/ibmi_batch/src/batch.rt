@@ -1,13 +1,12 @@
 //! A run: the input is read and judged, the jobs run, and their listing is written.
-ghost use Rattle.std.specs.Prelude.{◌≡◌, ◌≤◌, ◌++◌, [], ℕ, true, IsTrue, length, map, string_bytes};
+ghost use Rattle.std.specs.Prelude.{◌≡◌, ◌≤◌, [], ℕ, IsTrue, IfOk, IfErr, length, map, string_bytes};
 ghost use Rattle.store_model.specs.Faults.{Rose};
-ghost use Rattle.job_script.specs.Input.{IsInput};
-ghost use Rattle.text_lines.specs.Lines.{lines_of};
 ghost use Rattle.job_runner.specs.Ended.{has_ended, has_early_end, ends_early};
 ghost use Rattle.job_runner.specs.Made.{AreGiven};
 ghost use Rattle.ibmi_batch.specs.Words.{are_run_words};
-ghost use Rattle.ibmi_batch.specs.Outcome.{WordsFor, CauseFor, InputFor, LeftFor, WrittenFor, IsOrderly, ListsFor};
+ghost use Rattle.ibmi_batch.specs.Outcome.{IsOutcome, IsWholeRun, Starts, Begins, Refuses, Ran};
 
+use crate::limits::MOST_INPUT;
 use crate::status::Status;
 use crate::words::are_run_words;
 use job_runner::{Ran, Session};
@@ -20,9 +19,6 @@ use std::alloc::Global;
 use std::sync::Wait;
 use std::thread::Threads;
 use store_model::{Clock, Gate, ReadError, Sink, Source, Store, read_to_end, write_all};
-
-/// The most bytes of an input: 16 MiB.
-const MOST_INPUT: usize = 16_777_216;
 
 /// Does what the words say. The runtime and the gate are for the jobs' threads, and the store for the journal; none of
 /// them is used yet.
@@ -43,12 +39,7 @@ pub fn program<
     clock: C,
     _gate: &G,
 ) -> (Status, S, C)
-    ensures words { WordsFor result.0 (are_run_words (map string_bytes words.now)) }
-    ensures cause { CauseFor result.0 (Rose (I.faults input.old) (I.faults input.new)) (Rose (O.faults out.old) (O.faults out.new)) }
-    ensures input { I.tells → InputFor result.0 (I.left input.old) }
-    ensures left { I.tells → LeftFor result.0 (I.left input.new) }
-    ensures written { WrittenFor result.0 (I.tells) (I.left input.old) (AreGiven C.gives clock result.2) (O.tells) (O.taken out.old) (O.taken out.new) }
-    ensures complete { I.tells → are_run_words (map string_bytes words.now) ≡ true → IsInput (lines_of (I.left input.old)) → length (I.left input.old) ≤ 16777216 → (Rose (I.faults input.old) (I.faults input.new) → ⊥) → (Rose (O.faults out.old) (O.faults out.new) → ⊥) → IsOrderly result.0 }
+    ensures outcome { IsOutcome result.0 (record { words = map string_bytes words.now; tells = I.tells; input = I.left input.old; left = I.left input.new; rose = Rose (I.faults input.old) (I.faults input.new) }) (AreGiven C.gives clock result.2) (record { tells = O.tells; old = O.taken out.old; new = O.taken out.new; rose = Rose (O.faults out.old) (O.faults out.new) }) }
     ensures store { result.1 ≡ store }
 {
     run_alone(alloc, words, store, input, out, clock)
@@ -63,31 +54,44 @@ pub fn run_alone<S: Store, I: Source, O: Sink, C: Clock>(
     out: &mut O,
     clock: C,
 ) -> (Status, S, C)
-    ensures words { WordsFor result.0 (are_run_words (map string_bytes words.now)) }
-    ensures cause { CauseFor result.0 (Rose (I.faults input.old) (I.faults input.new)) (Rose (O.faults out.old) (O.faults out.new)) }
-    ensures input { I.tells → InputFor result.0 (I.left input.old) }
-    ensures left { I.tells → LeftFor result.0 (I.left input.new) }
-    ensures written { WrittenFor result.0 (I.tells) (I.left input.old) (AreGiven C.gives clock result.2) (O.tells) (O.taken out.old) (O.taken out.new) }
-    ensures complete { I.tells → are_run_words (map string_bytes words.now) ≡ true → IsInput (lines_of (I.left input.old)) → length (I.left input.old) ≤ 16777216 → (Rose (I.faults input.old) (I.faults input.new) → ⊥) → (Rose (O.faults out.old) (O.faults out.new) → ⊥) → IsOrderly result.0 }
+    ensures outcome { IsOutcome result.0 (record { words = map string_bytes words.now; tells = I.tells; input = I.left input.old; left = I.left input.new; rose = Rose (I.faults input.old) (I.faults input.new) }) (AreGiven C.gives clock result.2) (record { tells = O.tells; old = O.taken out.old; new = O.taken out.new; rose = Rose (O.faults out.old) (O.faults out.new) }) }
     ensures store { result.1 ≡ store }
 {
+    match begin(alloc, words, store, input, clock) {
+        Ok(session) => run_session(alloc, session, out),
+        Err(refused) => refused,
+    }
+}
+
+/// The session that the words and the input begin, or the status at which none does.
+fn begin<S: Store, I: Source, C: Clock>(
+    alloc: Global,
+    words: &[String],
+    store: S,
+    input: &mut I,
+    clock: C,
+) -> Result<Session<S, C>, (Status, S, C)>
+    ensures begins { IfOk result (λ session. Begins (record { words = map string_bytes words.now; tells = I.tells; input = I.left input.old; left = I.left input.new; rose = Rose (I.faults input.old) (I.faults input.new) }) store clock session) }
+    ensures refused { IfErr result (λ refused. Refuses refused.0 (record { words = map string_bytes words.now; tells = I.tells; input = I.left input.old; left = I.left input.new; rose = Rose (I.faults input.old) (I.faults input.new) })) }
+    ensures back { IfErr result (λ refused. (refused.1 ≡ store) × (refused.2 ≡ clock)) }
+{
     if !are_run_words(words) {
-        return (Status::Words, store, clock);
+        return Err((Status::Words, store, clock));
     }
     let bytes = match read_to_end(alloc, input, MOST_INPUT) {
         Ok(bytes) => bytes,
-        Err(ReadError::Fault) => return (Status::ReadFault, store, clock),
-        Err(ReadError::TooLong) => return (Status::TooLong, store, clock),
-        Err(ReadError::NoMemory) => return (Status::NoMemory, store, clock),
+        Err(ReadError::Fault) => return Err((Status::ReadFault, store, clock)),
+        Err(ReadError::TooLong) => return Err((Status::TooLong, store, clock)),
+        Err(ReadError::NoMemory) => return Err((Status::NoMemory, store, clock)),
     };
     let scripts = match read_input(alloc, bytes.as_slice()) {
         Ok(scripts) => scripts,
-        Err(InputError::Script { line }) => return (Status::Script { line }, store, clock),
-        Err(InputError::NoMemory) => return (Status::NoMemory, store, clock),
+        Err(InputError::Script { line }) => return Err((Status::Script { line }, store, clock)),
+        Err(InputError::NoMemory) => return Err((Status::NoMemory, store, clock)),
     };
     match Session::new(alloc, Library::empty(alloc, store), clock, scripts) {
-        Ok(session) => run_session(alloc, session, out),
-        Err((library, clock)) => (Status::NoMemory, library.into_store(), clock),
+        Ok(session) => Ok(session),
+        Err((library, clock)) => Err((Status::NoMemory, library.into_store(), clock)),
     }
 }
 
@@ -97,9 +101,9 @@ fn run_session<S: Store, O: Sink, C: Clock>(
     mut session: Session<S, C>,
     out: &mut O,
 ) -> (Status, S, C)
-    requires { session.calls ≡ [] }
-    ensures lists { ListsFor result.0 session.scripts (AreGiven C.gives session.clock result.2) (O.tells) (O.taken out.old) (O.taken out.new) }
-    ensures cause { CauseFor result.0 ⊥ (Rose (O.faults out.old) (O.faults out.new)) }
+    requires calls { session.calls ≡ [] }
+    requires stands { Starts session }
+    ensures ran { Ran result.0 session.scripts (AreGiven C.gives session.clock result.2) (record { tells = O.tells; old = O.taken out.old; new = O.taken out.new; rose = Rose (O.faults out.old) (O.faults out.new) }) }
     ensures store { result.1 ≡ session.library.store }
 {
     let ran = session.run_in_order();
@@ -118,9 +122,8 @@ fn write_listing<S: Store, O: Sink, C: Clock>(
     session: &Session<S, C>,
     out: &mut O,
 ) -> Status
-    requires { (job : ℕ) → 1 ≤ job → job ≤ length session.now.scripts.scripts → IsTrue (has_ended job session.now.calls) }
-    ensures lists { ListsFor result session.now.scripts (λ calls. calls ≡ session.now.calls) (O.tells) (O.taken out.old) (O.taken out.new) }
-    ensures cause { CauseFor result ⊥ (Rose (O.faults out.old) (O.faults out.new)) }
+    requires { IsWholeRun session.now.scripts session.now.calls }
+    ensures { Ran result session.now.scripts (λ calls. calls ≡ session.now.calls) (record { tells = O.tells; old = O.taken out.old; new = O.taken out.new; rose = Rose (O.faults out.old) (O.faults out.new) }) }
 {
     let calls = session.history();
     let text = match listing(alloc, session.names(), calls) {
@@ -145,8 +148,8 @@ fn has_early_end(calls: &[Call]) -> bool
 fn ends_early(request: &Request) -> bool
     ensures { result ≡ ends_early request.now }
 {
-    match request {
-        Request::EndJob(args) => args.reason != EndReason::Normal,
-        _ => false,
+    match request.end_asked() {
+        Some(ending) => ending.reason != EndReason::Normal,
+        None => false,
     }
 }

@@ -2,6 +2,7 @@
 #![tactic(auto)]
 
 pub mod batch;
+pub mod limits;
 pub mod status;
 #[cfg(test)]
 mod tests;

@@ -1,4 +1,5 @@
 pub mod Texts
 pub mod RequestText
+pub mod EntryText
 pub mod ReplyText
 pub mod HistoryListing

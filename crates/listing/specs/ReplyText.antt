@@ -16,6 +16,7 @@ use Rattle.library_model.specs.declared.replies.Missing.TheVariants.{Name, Recei
 use Rattle.library_model.specs.declared.replies.LimitKind.{LimitKind}
 use Rattle.library_model.specs.declared.replies.LimitKind.TheVariants as limit
 use Rattle.listing.specs.Texts.{parameter, number_parameter, values_text}
+use Rattle.listing.specs.EntryText.{range_parameter, entries_text}
 
 -- the name of the job with this number
 abbrev pub job_name : List (List ℕ) → ℕ → List ℕ
@@ -124,13 +125,12 @@ answer (reply.BlockChanged sequence) = codes "BlockChanged"
 answer (reply.StillNeeded sequence) = codes "StillNeeded"
 answer (reply.LimitReached which number) = codes "LimitReached"
 
--- what the reply carries; entries of the journal aren't printed yet
+-- what the reply carries
 abbrev pub details : List (List ℕ) → Reply → List ℕ
 details names (reply.Record read) =
     parameter (codes "FMT") read.format ++ number_parameter (codes "RRN") read.rrn ++ parameter (codes "VAL") (values_text read.values)
 details names (reply.Added rrn) = number_parameter (codes "RRN") rrn
-details names (reply.Range first last changes) =
-    parameter (codes "ENT") (decimal first ++ 32 ∷ decimal last) ++ number_parameter (codes "CHG") changes
+details names (reply.Range first last changes) = range_parameter first last changes
 details names (reply.Receiver number) = number_parameter (codes "RCV") number
 details names (reply.Sequence number) = number_parameter (codes "SEQ") number
 details names (reply.RecordInUse job member rrn) =
@@ -155,7 +155,20 @@ details names (reply.ReceiverGone sequence) = number_parameter (codes "SEQ") seq
 details names (reply.BlockChanged sequence) = number_parameter (codes "SEQ") sequence
 details names (reply.StillNeeded sequence) = number_parameter (codes "SEQ") sequence
 details names (reply.LimitReached which number) = parameter (codes "LIMIT") (limit_text which) ++ number_parameter (codes "NBR") number
-details names _ = []
+details names (reply.Entries entries) = entries_text entries
+details names reply.Done = []
+details names reply.HeldToBoundary = []
+details names reply.NotFound = []
+details names reply.EndOfFile = []
+details names reply.BeginOfFile = []
+details names reply.NoCurrentRecord = []
+details names reply.WrongOpen = []
+details names reply.NoDefinition = []
+details names reply.AlreadyStarted = []
+details names reply.NoSuchEntry = []
+details names reply.MemberFull = []
+details names reply.StoreFault = []
+details names reply.NoMemory = []
 
 unfoldable pub reply_text : List (List ℕ) → Reply → List ℕ
 reply_text names r = answer r ++ details names r

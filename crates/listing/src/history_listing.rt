@@ -1,7 +1,5 @@
 //! The listing of a history. What a line shows of a request and of its reply stands in `requests.rt` and `replies.rt`.
-ghost use Rattle.std.specs.Prelude.{◌≡◌, ◌++◌, OnOk, IfOk, IsTrue};
-ghost use Rattle.std.specs.List.{All};
-ghost use Rattle.library_model.specs.Built.{is_built_reply};
+ghost use Rattle.std.specs.Prelude.{◌≡◌, ◌++◌, OnOk, IfOk};
 ghost use Rattle.listing.specs.HistoryListing.{call_line, exchange, listing};
 
 use crate::replies::{job_name, push_reply};
@@ -15,7 +13,6 @@ use std::alloc::{AllocError, Global};
 /// shown without a name. It fails for want of memory alone.
 #[tactic(auto, unfolding(crate::specs::HistoryListing::listing))]
 pub fn listing(alloc: Global, names: &[Name], calls: &[Call]) -> Result<Vec<u8>, AllocError>
-    requires { All (λ call. IsTrue (is_built_reply call.reply)) calls.now }
     ensures { IfOk result (λ text. text.items ≡ listing names.now calls.now) }
 {
     let mut out = Vec::from_slice(alloc, b"HISTORY\n")?;
@@ -30,7 +27,6 @@ pub fn listing(alloc: Global, names: &[Name], calls: &[Call]) -> Result<Vec<u8>,
 
 #[tactic(auto, unfolding(crate::specs::HistoryListing::call_line))]
 fn push_line(out: &mut Vec<u8>, names: &[Name], number: u64, call: &Call) -> Result<(), AllocError>
-    requires { IsTrue (is_built_reply call.now.reply) }
     ensures { OnOk result (out.new.items ≡ out.old.items ++ call_line names.now number call.now) }
 {
     push_number(out, number)?;
@@ -44,7 +40,6 @@ fn push_line(out: &mut Vec<u8>, names: &[Name], number: u64, call: &Call) -> Res
 
 #[tactic(auto, unfolding(crate::specs::HistoryListing::exchange))]
 fn push_exchange(out: &mut Vec<u8>, names: &[Name], call: &Call) -> Result<(), AllocError>
-    requires { IsTrue (is_built_reply call.now.reply) }
     ensures { OnOk result (out.new.items ≡ out.old.items ++ exchange names.now call.now) }
 {
     push_request(out, &call.request)?;

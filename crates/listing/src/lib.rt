@@ -2,6 +2,7 @@
 #![tactic(auto)]
 
 pub mod history_listing;
+mod entries;
 mod parameters;
 mod replies;
 mod requests;

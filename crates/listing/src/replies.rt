@@ -1,12 +1,11 @@
 //! Replies as they are printed, by `specs/ReplyText.antt`.
-ghost use Rattle.std.specs.Prelude.{◌≡◌, ◌∷◌, ◌++◌, codes, OnOk, IsTrue};
+ghost use Rattle.std.specs.Prelude.{◌≡◌, ◌∷◌, ◌++◌, codes, OnOk};
 ghost use Rattle.std.specs.Fmt.{decimal};
-ghost use Rattle.library_model.specs.Built.{is_built_reply};
 ghost use Rattle.listing.specs.Texts.{parameter, number_parameter, values_text};
 ghost use Rattle.listing.specs.ReplyText.{job_name, limit_text, missing_text, value_cause, record_fault_parameters, dds_cause, dds_fault_parameters, answer, details, reply_text};
 
+use crate::entries::{push_entries, push_range};
 use crate::parameters::{push_name, push_number_parameter, push_parameter, push_values_parameter};
-use crate::texts::push_number;
 use dds_source::{DdsCause, DdsFault};
 use field_types::faults::{RecordFault, ValueFault};
 use field_types::names::Name;
@@ -17,7 +16,6 @@ use std::alloc::AllocError;
 /// being job 1's.
 #[tactic(auto, unfolding(crate::specs::ReplyText::reply_text))]
 pub fn push_reply(out: &mut Vec<u8>, names: &[Name], reply: &Reply) -> Result<(), AllocError>
-    requires { IsTrue (is_built_reply reply.now) }
     ensures { OnOk result (out.new.items ≡ out.old.items ++ reply_text names.now reply.now) }
 {
     out.extend_from_slice(answer(reply))?;
@@ -72,7 +70,6 @@ fn answer(reply: &Reply) -> &'static [u8]
 }
 
 fn push_details(out: &mut Vec<u8>, names: &[Name], reply: &Reply) -> Result<(), AllocError>
-    requires { IsTrue (is_built_reply reply.now) }
     ensures { OnOk result (out.new.items ≡ out.old.items ++ details names.now reply.now) }
 {
     match reply {
@@ -119,8 +116,20 @@ fn push_details(out: &mut Vec<u8>, names: &[Name], reply: &Reply) -> Result<(), 
             push_parameter(out, b"LIMIT", limit_text(*which))?;
             push_number_parameter(out, b"NBR", *number)
         }
-        Reply::Entries(_) => unreachable!(),
-        _ => Ok(()),
+        Reply::Entries(entries) => push_entries(out, entries.as_slice()),
+        Reply::Done
+        | Reply::HeldToBoundary
+        | Reply::NotFound
+        | Reply::EndOfFile
+        | Reply::BeginOfFile
+        | Reply::NoCurrentRecord
+        | Reply::WrongOpen
+        | Reply::NoDefinition
+        | Reply::AlreadyStarted
+        | Reply::NoSuchEntry
+        | Reply::MemberFull
+        | Reply::StoreFault
+        | Reply::NoMemory => Ok(()),
     }
 }
 
@@ -142,18 +151,6 @@ fn push_sequence(out: &mut Vec<u8>, sequence: u64) -> Result<(), AllocError>
     ensures { OnOk result (out.new.items ≡ out.old.items ++ number_parameter (codes "SEQ") sequence) }
 {
     push_number_parameter(out, b"SEQ", sequence)
-}
-
-#[tactic(auto, unfolding(crate::specs::Texts::parameter))]
-fn push_range(out: &mut Vec<u8>, first: u64, last: u64, changes: u32) -> Result<(), AllocError>
-    ensures { OnOk result (out.new.items ≡ out.old.items ++ (parameter (codes "ENT") (decimal first ++ 32 ∷ decimal last) ++ number_parameter (codes "CHG") changes)) }
-{
-    out.extend_from_slice(b" ENT(")?;
-    push_number(out, first)?;
-    out.push(b' ')?;
-    push_number(out, last)?;
-    out.push(b')')?;
-    push_number_parameter(out, b"CHG", u64::from(changes))
 }
 
 fn push_job(out: &mut Vec<u8>, names: &[Name], job: u32) -> Result<(), AllocError>

@@ -233,7 +233,7 @@ fn push_end_job(out: &mut Vec<u8>, args: &EndJob) -> Result<(), AllocError>
     push_number_parameter(out, b"LINE", u64::from(args.line))
 }
 
-fn level_text(level: Level) -> &'static [u8]
+pub fn level_text(level: Level) -> &'static [u8]
     ensures { result.now ≡ level_text level }
 {
     match level {
@@ -243,7 +243,7 @@ fn level_text(level: Level) -> &'static [u8]
     }
 }
 
-fn images_text(images: Images) -> &'static [u8]
+pub fn images_text(images: Images) -> &'static [u8]
     ensures { result.now ≡ images_text images }
 {
     match images {

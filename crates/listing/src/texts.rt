@@ -69,7 +69,7 @@ fn push_value(out: &mut Vec<u8>, value: &Value) -> Result<(), AllocError>
 
 /// Appends a text in apostrophes, or in hexadecimal where a byte has no character.
 #[tactic(auto, unfolding(crate::specs::Texts::text_literal))]
-fn push_text(out: &mut Vec<u8>, text: &[u8]) -> Result<(), AllocError>
+pub fn push_text(out: &mut Vec<u8>, text: &[u8]) -> Result<(), AllocError>
     ensures { OnOk result (out.new.items ≡ out.old.items ++ text_literal text.now) }
 {
     if all_have_characters(text) {
