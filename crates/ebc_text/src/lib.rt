@@ -11,11 +11,11 @@ mod tables;
 use crate::tables::{CHARACTER, CODE};
 use std::alloc::{AllocError, Global};
 
-/// Why a text has no bytes in the code page.
+/// Why a text, or bytes, have no codes in the code page.
 #[derive(Clone, Copy, PartialEq, Debug)]
 pub enum TextError {
-    /// The first character that the table doesn't have. Each character before it is one byte long,
-    /// so this is its place counted in characters and in bytes, from 0.
+    /// The first character, or byte, that the table doesn't have. Each character before it is one byte
+    /// long, so this is its place counted in characters and in bytes, from 0.
     NotInTable { at: usize },
     /// There is no memory for the bytes; try again with more.
     NoMemory,
@@ -34,7 +34,14 @@ pub fn to_ebcdic(alloc: Global, s: &str) -> Result<Vec<u8>, TextError>
     ensures encoded { IfOk result (λ v. IsEncoded s.now v.items) }
     ensures outside { (at : ℕ) → IsErrOf result (TextError.NotInTable at) ↔ (first_outside s.now ≡ Some at) }
 {
-    let text = s.as_bytes();
+    to_ebcdic_bytes(alloc, s.as_bytes())
+}
+
+/// The codes of bytes in ASCII, one for each. They may be no text: a byte from 0x80 on has no code.
+pub fn to_ebcdic_bytes(alloc: Global, text: &[u8]) -> Result<Vec<u8>, TextError>
+    ensures encoded { IfOk result (λ v. IsEncoded text.now v.items) }
+    ensures outside { (at : ℕ) → IsErrOf result (TextError.NotInTable at) ↔ (first_outside text.now ≡ Some at) }
+{
     match first_outside(text) {
         Some(at) => Err(TextError::NotInTable { at }),
         None => Ok(codes(alloc, text)?),

@@ -18,6 +18,15 @@ const CODES: [u8; 95] = [
 /// A text, and the place of its first character outside the table.
 const OUTSIDE: [(&str, usize); 4] = [("\n", 0), ("AB\tC", 2), ("AÄ", 1), ("blank DEL \x7F", 10)];
 
+/// Bytes, and the place of the first that the table doesn't have; the later ones are no UTF-8.
+const BYTES_OUTSIDE: [(&[u8], usize); 5] = [
+    (b"\0", 0),
+    (b"AB\x1F", 2),
+    (b"A\x80", 1),
+    (b"ABC\xC3(", 3),
+    (b"\xFF\xFE", 0),
+];
+
 #[test]
 fn table(rt: HostRuntime) -> Result<(), Fail> {
     let bytes = to_ebcdic(rt.alloc(), TEXT)?;
@@ -36,6 +45,14 @@ fn table(rt: HostRuntime) -> Result<(), Fail> {
             Ok(_) => panic!(rt; "{text:?} is in the table"),
         }
     }
+    for (bytes, at) in BYTES_OUTSIDE {
+        match to_ebcdic_bytes(rt.alloc(), bytes) {
+            Err(error) => assert_eq!(rt; error, TextError::NotInTable { at }),
+            Ok(_) => panic!(rt; "{bytes:?} are in the table"),
+        }
+    }
+    let codes = to_ebcdic_bytes(rt.alloc(), TEXT.as_bytes())?;
+    assert_eq!(rt; codes.as_slice(), CODES.as_slice());
     one_to_one();
     Ok(())
 }

@@ -1,6 +1,6 @@
 -- An entry that is read is what the bytes spell, and each spelled entry is read again, whatever follows.
 use Rattle.std.proofs.Common.{◌≡◌, ℕ, ◌+◌, ◌^◌, ◌<◌, Bool, true, ◌&&◌, ltb, eqb, List, ◌++◌, length, drop, IsTrue, Option, Some, None, refl, sym, ap, subst, ◌∙◌, append_assoc, arith, length-append}
-use Rattle.std.specs.Prelude.{IfSome}
+use Rattle.std.specs.Prelude.{IfSome, IsSome}
 use Rattle.std.specs.Option.{unwrap_or}
 use Rattle.field_types.specs.SystemName.{is_name}
 use Rattle.std.proofs.Math.Seq.{drop-append_seam}
@@ -9,11 +9,12 @@ use Rattle.std.proofs.lemmas.Option.{none-some}
 use Rattle.entry_codec.specs.declared.entries.Entry.{Entry}
 use Rattle.entry_codec.specs.declared.kinds.EntryKind.{EntryKind}
 use Rattle.entry_codec.specs.declared.kinds.EntryKind.TheVariants.{FileCreated, FileDeleted, MemberAdded, JournalingStarted, InitialSlot, JournalingEnded, MemberCleared, MemberReorganized, ChangesApplied, ChangesRemoved, RecordAdded, RecordAddedAtNumber, BeforeImage, AfterImage, RecordDeleted, UndoBeforeImage, UndoAfterImage, UndoDelete, CommitmentStarted, CommitCycleStarted, CommitCycleCommitted, CommitCycleRolledBack, CommitmentEnded, AbnormalEnd, NextReceiver, PreviousReceiver}
+use Rattle.entry_codec.specs.declared.places.Named.{Named}
 use Rattle.entry_codec.specs.declared.places.Place.{Place}
 use Rattle.entry_codec.specs.declared.places.Place.TheVariants.{Library, Member, Slot, Record, Commitment, CycleStart, CycleEnd}
 use Rattle.entry_codec.specs.Placing.{letters, place, is_absent, is_present, is_own, is_placed_at}
 use Rattle.entry_codec.specs.Spelling.{number4, number8, job_field, body, content, spelling, HoldsFields, IsEntry, IsSpelled, Begins}
-use Rattle.entry_codec.specs.Reading.{front_at, number4_at, number8_at, optional4_at, optional8_at, job_in, kind_at, content_at, entry_at}
+use Rattle.entry_codec.specs.Reading.{front_at, number4_at, number8_at, optional4_at, optional8_at, job_in, kind_at, placed, content_at, entry_at}
 use Rattle.entry_codec.proofs.FieldLemmas.{length-number4, length-job_field}
 use Rattle.entry_codec.proofs.Lengths.{length-letters, length-file_created, length-content, content-fits}
 use Rattle.entry_codec.proofs.Laws.{IsBytes, IsCounted, and-split, bind_takes, test_takes, Takes, Takes-then, front_takes, front_again, number4_takes, number8_takes, number4_reads, number8_reads, optional4_takes, optional8_takes, optional4_reads, optional8_reads}
@@ -56,6 +57,18 @@ pub record IsContentOf (bytes : List ℕ) (e : Entry) : Type 0 where
   pub images : HoldsImages e.kind
   pub is : IsEntry e
 
+-- the kind has these letters and this body, and the numbers name what it wants
+pub record IsPlacedKind (named : Named) (text bytes : List ℕ) (k : EntryKind) : Type 0 where
+  pub kind : IsKindOf text bytes k
+  pub placed : IsTrue (is_placed_at (place k) named.sequence named.group named.member named.rrn)
+
+placed_holds : (named : Named) (text bytes : List ℕ) (o : Option EntryKind) → IfSome o (IsKindOf text bytes) → IfSome (placed named o) (IsPlacedKind named text bytes)
+placed_holds named text bytes None h = tt
+placed_holds named text bytes (Some k) h = test_takes (IsPlacedKind named text bytes) (is_placed_at (place k) named.sequence named.group named.member named.rrn) (Some k) None (λ is. record { kind = h; placed = is }) (λ _. tt)
+
+placed_takes : (named : Named) (text bytes : List ℕ) → IsBytes bytes → IfSome (placed named (kind_at text bytes)) (IsPlacedKind named text bytes)
+placed_takes named text bytes ok = placed_holds named text bytes (kind_at text bytes) (kind_takes text bytes ok)
+
 pub content_takes : (bytes : List ℕ) → IsBytes bytes → IfSome (content_at bytes) (IsContentOf bytes)
 unfolding content_at
 content_takes bytes ok =
@@ -68,9 +81,8 @@ content_takes bytes ok =
     (λ m hm. bind_takes (λ x. Takes m.1 (number8 (unwrap_or x.0 0)) x.1 × IfSome x.0 (λ n. n < 2 ^ 64)) Q (optional8_at m.1) _ (optional8_takes m.1 hm.0.rest_fits)
     (λ g hg. bind_takes (λ x. Takes g.1 (number4 (unwrap_or x.0 0)) x.1 × IfSome x.0 (λ n. n < 2 ^ 32)) Q (optional4_at g.1) _ (optional4_takes g.1 hg.0.rest_fits)
     (λ b hb. bind_takes (λ x. Takes b.1 (number4 (unwrap_or x.0 0)) x.1 × IfSome x.0 (λ n. n < 2 ^ 32)) Q (optional4_at b.1) _ (optional4_takes b.1 hb.0.rest_fits)
-    (λ r hr. bind_takes (IsKindOf l.0 r.1) Q (kind_at l.0 r.1) _ (kind_takes l.0 r.1 hr.0.rest_fits)
-    (λ k hk. test_takes Q (is_placed_at (place k) s.0 g.0 b.0 r.0) _ _
-    (λ placed.
+    (λ r hr. bind_takes (IsPlacedKind (record { sequence = s.0; group = g.0; member = b.0; rrn = r.0 }) l.0 r.1) Q (placed (record { sequence = s.0; group = g.0; member = b.0; rrn = r.0 }) (kind_at l.0 r.1)) _ (placed_takes _ l.0 r.1 hr.0.rest_fits)
+    (λ k hk.
     let t1 = Takes-then bytes (number8 s.0) s.1 l.0 l.1 hs.0 hl.0 in
     let t2 = Takes-then bytes (number8 s.0 ++ l.0) l.1 f.0 f.1 t1 hf.0 in
     let t3 = Takes-then bytes ((number8 s.0 ++ l.0) ++ f.0) f.1 (number8 m.0) m.1 t2 hm.0 in
@@ -79,12 +91,11 @@ content_takes bytes ok =
     let t6 = Takes-then bytes (((((number8 s.0 ++ l.0) ++ f.0) ++ number8 m.0) ++ number8 (unwrap_or g.0 0)) ++ number4 (unwrap_or b.0 0)) b.1 (number4 (unwrap_or r.0 0)) r.1 t5 hr.0 in
     let whole : List ℕ → List ℕ → List ℕ → List ℕ = λ letters job text. ((((((number8 s.0 ++ letters) ++ job) ++ number8 m.0) ++ number8 (unwrap_or g.0 0)) ++ number4 (unwrap_or b.0 0)) ++ number4 (unwrap_or r.0 0)) ++ text in
     record {
-      parts = ap (λ (x : List ℕ). whole x (job_field j) (body k)) (sym hk.letters) ∙ ap (λ (x : List ℕ). whole l.0 x (body k)) hj.0 ∙ ap (λ (x : List ℕ). whole l.0 f.0 x) (sym hk.body) ∙ sym t6.parts;
-      placed = placed;
-      images = hk.images;
-      is = record { head = record { sequence = hs.1; job = hj.1; moment = hm.1; group = hg.1; member = hb.1; rrn = hr.1 }; kind = hk.kind };
-    })
-    (λ _. tt))))))))))
+      parts = ap (λ (x : List ℕ). whole x (job_field j) (body k)) (sym hk.kind.letters) ∙ ap (λ (x : List ℕ). whole l.0 x (body k)) hj.0 ∙ ap (λ (x : List ℕ). whole l.0 f.0 x) (sym hk.kind.body) ∙ sym t6.parts;
+      placed = hk.placed;
+      images = hk.kind.images;
+      is = record { head = record { sequence = hs.1; job = hj.1; moment = hm.1; group = hg.1; member = hb.1; rrn = hr.1 }; kind = hk.kind.kind };
+    })))))))))
 
 pub content_reads : (e : Entry) → IsSpelled e → content_at (content e) ≡ Some e
 unfolding content_at
@@ -179,6 +190,10 @@ one_spelling a b x y is_a is_b e =
 
 -- ---- what the reader ensures
 
+spelled_by : (bytes : List ℕ) (o : Option (Entry × ℕ)) → IsSome o → IfSome o (λ x. Begins bytes x.0 x.1) → ((e : Entry) (rest : List ℕ) → IsSpelled e → bytes ≡ spelling e ++ rest → ⊥) → ⊥
+spelled_by bytes (Some x) some begins gap = gap x.0 (drop x.1 bytes) begins.spelled begins.front
+spelled_by bytes None some begins gap = absurd cc
+
 pub found_by : (bytes : List ℕ) (x : Entry × ℕ) → IsBytes bytes → entry_at bytes ≡ Some x → Begins bytes x.0 x.1
 found_by bytes x ok e = subst (λ (o : Option (Entry × ℕ)). IfSome o (λ y. Begins bytes y.0 y.1)) e (entry_takes bytes ok)
 
@@ -188,3 +203,13 @@ only_by bytes o at e rest is front = sym at ∙ ap entry_at front ∙ entry_read
 pub none_by : (bytes : List ℕ) → entry_at bytes ≡ None → (e : Entry) (rest : List ℕ) → IsSpelled e → bytes ≡ spelling e ++ rest → ⊥
 none_by bytes at e rest is front =
     none-some (e, length (spelling e)) (only_by bytes None at e rest is front)
+
+-- where nothing is spelled, nothing is read
+pub damaged_by : (bytes : List ℕ) (x : Entry × ℕ) → IsBytes bytes → entry_at bytes ≡ Some x → ((e : Entry) (rest : List ℕ) → IsSpelled e → bytes ≡ spelling e ++ rest → ⊥) → ⊥
+damaged_by bytes x ok e gap =
+    let begins = found_by bytes x ok e in
+    gap x.0 (drop x.1 bytes) begins.spelled begins.front
+
+-- memory runs out only where something is spelled
+pub memory_by : (bytes : List ℕ) → IsBytes bytes → IsSome (entry_at bytes) → ((e : Entry) (rest : List ℕ) → IsSpelled e → bytes ≡ spelling e ++ rest → ⊥) → ⊥
+memory_by bytes ok some gap = spelled_by bytes (entry_at bytes) some (entry_takes bytes ok) gap

@@ -1,5 +1,5 @@
 -- Reading an entry from left to right: what the reader's parts answer.
-use Rattle.std.specs.Prelude.{◌≡◌, ℕ, ◌+◌, ⊤, Bool, true, false, ◌&&◌, ◌==◌, nat_lt, nat_le, if◌then◌else◌, List, [], ◌∷◌, length, take, drop, Option, Some, None, Result, Ok, Err, codes}
+use Rattle.std.specs.Prelude.{◌≡◌, ℕ, ◌+◌, Bool, true, false, ◌&&◌, ◌==◌, nat_lt, nat_le, if◌then◌else◌, List, [], ◌∷◌, length, take, drop, Option, Some, None, IsSome, Result, Ok, Err, codes}
 use Rattle.std.specs.List.{list_all}
 use Rattle.std.specs.Str.{bytes_eq}
 use Rattle.byteorder.specs.Endian.{big_number}
@@ -13,6 +13,8 @@ use Rattle.entry_codec.specs.declared.kinds.Images.{Images}
 use Rattle.entry_codec.specs.declared.kinds.Images.TheVariants.{After, Both}
 use Rattle.entry_codec.specs.declared.kinds.EntryKind.{EntryKind}
 use Rattle.entry_codec.specs.declared.kinds.EntryKind.TheVariants.{FileCreated, FileDeleted, MemberAdded, JournalingStarted, InitialSlot, JournalingEnded, MemberCleared, MemberReorganized, ChangesApplied, ChangesRemoved, RecordAdded, RecordAddedAtNumber, BeforeImage, AfterImage, RecordDeleted, UndoBeforeImage, UndoAfterImage, UndoDelete, CommitmentStarted, CommitCycleStarted, CommitCycleCommitted, CommitCycleRolledBack, CommitmentEnded, AbnormalEnd, NextReceiver, PreviousReceiver}
+use Rattle.entry_codec.specs.declared.places.Named.{Named}
+use Rattle.entry_codec.specs.declared.unread.NotInGrammar.{NotInGrammar}
 use Rattle.entry_codec.specs.declared.unread.Unread.{Unread}
 use Rattle.entry_codec.specs.declared.unread.Unread.TheVariants.{NoMemory, NotSpelled}
 use Rattle.entry_codec.specs.Placing.{place, is_placed_at}
@@ -22,9 +24,14 @@ abbrev pub ◌>>=◌ : {A B : Type 0} → Option A → (A → Option B) → Opti
 (Some x) >>= f = f x
 None >>= f = None
 
--- what a function returned is what reading gives, unless memory ran out
+-- what a function that takes no memory returned is what reading gives
+abbrev pub Reads : {X Y : Type 0} → (X → Y) → Result X NotInGrammar → Option Y → Type 0
+Reads view (Ok x) read = read ≡ Some (view x)
+Reads view (Err e) read = read ≡ None
+
+-- what a function returned is what reading gives; memory runs out only where reading gives something
 abbrev pub Fails : {Y : Type 0} → Unread → Option Y → Type 0
-Fails NoMemory read = ⊤
+Fails NoMemory read = IsSome read
 Fails NotSpelled read = read ≡ None
 
 abbrev pub Gives : {X Y : Type 0} → (X → Y) → Result X Unread → Option Y → Type 0
@@ -192,6 +199,11 @@ kind_at (code ∷ type) bytes = kind_by_code code (code ∷ type) bytes
 
 -- ---- entries
 
+-- the kind, where the numbers in front name what it wants
+abbrev pub placed : Named → Option EntryKind → Option EntryKind
+placed named None = None
+placed named (Some kind) = if is_placed_at (place kind) named.sequence named.group named.member named.rrn then Some kind else None
+
 -- all of the bytes
 unfoldable pub content_at : List ℕ → Option Entry
 content_at bytes = do
@@ -203,8 +215,8 @@ content_at bytes = do
   group ← optional8_at moment.1
   member ← optional4_at group.1
   rrn ← optional4_at member.1
-  kind ← kind_at letters.0 rrn.1
-  if is_placed_at (place kind) sequence.0 group.0 member.0 rrn.0 then Some (record { sequence = sequence.0; job = job; moment = moment.0; group = group.0; member = member.0; rrn = rrn.0; kind = kind }) else None
+  kind ← placed (record { sequence = sequence.0; group = group.0; member = member.0; rrn = rrn.0 }) (kind_at letters.0 rrn.1)
+  Some (record { sequence = sequence.0; job = job; moment = moment.0; group = group.0; member = member.0; rrn = rrn.0; kind = kind })
 
 -- the entry at the front, and how many bytes it takes
 unfoldable pub entry_at : List ℕ → Option (Entry × ℕ)

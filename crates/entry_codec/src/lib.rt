@@ -4,6 +4,7 @@
 
 mod entries;
 mod fields;
+mod fronts;
 mod kinds;
 mod list;
 mod parts;

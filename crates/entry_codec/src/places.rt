@@ -21,26 +21,37 @@ pub enum Place {
     CycleEnd,
 }
 
-/// Whether an entry at this place names the group, the member and the record that it has to.
-pub fn is_placed_at(
-    place: Place,
-    sequence: u64,
-    group: Option<u64>,
-    member: Option<u32>,
-    rrn: Option<u32>,
-) -> bool
-    ensures { result ≡ is_placed_at place sequence group member rrn }
-{
-    let in_library = member.is_none() && rrn.is_none();
-    let in_member = matches!(member, Some(1..)) && rrn.is_none();
-    let at_record = matches!(member, Some(1..)) && matches!(rrn, Some(1..));
-    match place {
-        Place::Library => group.is_none() && in_library,
-        Place::Member => group.is_none() && in_member,
-        Place::Slot => group.is_none() && at_record,
-        Place::Record => !matches!(group, Some(0)) && at_record,
-        Place::Commitment => !matches!(group, Some(0)) && in_library,
-        Place::CycleStart => matches!(group, Some(own @ 1..) if own == sequence) && in_library,
-        Place::CycleEnd => matches!(group, Some(1..)) && in_library,
+/// The numbers in front of an entry that name something.
+#[derive(Clone, Copy)]
+pub struct Named {
+    pub sequence: u64,
+    pub group: Option<u64>,
+    pub member: Option<u32>,
+    pub rrn: Option<u32>,
+}
+
+impl Named {
+    /// Whether they name the group, the member and the record that an entry at this place has to.
+    pub fn fit(&self, place: Place) -> bool
+        ensures { result ≡ is_placed_at place self.now.sequence self.now.group self.now.member self.now.rrn }
+    {
+        let Named {
+            sequence,
+            group,
+            member,
+            rrn,
+        } = *self;
+        let in_library = member.is_none() && rrn.is_none();
+        let in_member = matches!(member, Some(1..)) && rrn.is_none();
+        let at_record = matches!(member, Some(1..)) && matches!(rrn, Some(1..));
+        match place {
+            Place::Library => group.is_none() && in_library,
+            Place::Member => group.is_none() && in_member,
+            Place::Slot => group.is_none() && at_record,
+            Place::Record => !matches!(group, Some(0)) && at_record,
+            Place::Commitment => !matches!(group, Some(0)) && in_library,
+            Place::CycleStart => matches!(group, Some(own @ 1..) if own == sequence) && in_library,
+            Place::CycleEnd => matches!(group, Some(1..)) && in_library,
+        }
     }
 }

@@ -1,19 +1,13 @@
 //! Measuring and writing an entry. The list in `list.rt` has what its body takes.
 ghost use Rattle.std.specs.Prelude.{◌≡◌, ◌+◌, ◌^◌, ◌<◌, ◌≤◌, ◌++◌, OnOk, OnErr, IsOk, length, vec_len, vec_capacity};
-ghost use Rattle.entry_codec.specs.Spelling.{HasSpelling, IsEntry, IsSpelled, IsHead, head, spelling};
+ghost use Rattle.entry_codec.specs.Spelling.{HasSpelling, IsEntry, IsSpelled, spelling};
 ghost use Rattle.entry_codec.specs.Writing.{HasRoom, Appends};
 
 use crate::entries::Entry;
-use crate::fields::{job, number4, number8};
+use crate::fronts::{Front, HEAD_LENGTH, LENGTH_FIELD};
 use crate::list::{body_length, put_body};
 use crate::parts::put_bytes;
 use std::alloc::AllocError;
-
-/// The bytes of the number in front of an entry, which counts all that follow it.
-const LENGTH_FIELD: usize = 4;
-
-/// The bytes from there to the body.
-const HEAD_LENGTH: usize = 45;
 
 /// How many bytes the entry has in a receiver.
 #[tactic(auto, using(crate::proofs::Lengths::entry_lengths))]
@@ -51,21 +45,7 @@ fn put_entry(e: &Entry, out: &mut Vec<u8>)
     ensures written { Appends out.old out.new (spelling e.now) }
     ensures kept { IsEntry e.now }
 {
-    number4::put(&((HEAD_LENGTH + body_length(&e.kind)) as u32), out);
-    put_head(e, out);
+    let front = Front::of(e, (HEAD_LENGTH + body_length(&e.kind)) as u32);
+    put_bytes(out, front.as_slice());
     put_body(&e.kind, out);
-}
-
-fn put_head(e: &Entry, out: &mut Vec<u8>)
-    requires { HasRoom out.old (head e.now) }
-    ensures written { Appends out.old out.new (head e.now) }
-    ensures kept { IsHead e.now }
-{
-    number8::put(&e.sequence, out);
-    put_bytes(out, e.kind.letters());
-    job::put(&e.job, out);
-    number8::put(&e.moment, out);
-    number8::put(&e.group.unwrap_or(0), out);
-    number4::put(&e.member.unwrap_or(0), out);
-    number4::put(&e.rrn.unwrap_or(0), out);
 }

@@ -1,13 +1,12 @@
 //! Whether a file is physical or logical, in one byte.
-ghost use Rattle.std.specs.Prelude.{◌≡◌, IfOk, length};
+ghost use Rattle.std.specs.Prelude.{◌≡◌, length};
 ghost use Rattle.entry_codec.specs.Spelling.{file_kind_field};
-ghost use Rattle.entry_codec.specs.Reading.{Gives, file_kind_at};
+ghost use Rattle.entry_codec.specs.Reading.{Reads, file_kind_at};
 ghost use Rattle.entry_codec.specs.Writing.{HasRoom, Appends};
 
 use crate::kinds::FileKind;
 use crate::parts::put_bytes;
-use crate::unread::Unread;
-use std::alloc::{AllocError, Global};
+use crate::unread::NotInGrammar;
 
 const PHYSICAL: u8 = 1;
 
@@ -31,18 +30,12 @@ pub fn put(file_kind: &FileKind, out: &mut Vec<u8>)
 }
 
 #[tactic(auto, unfolding(crate::specs::Reading::file_kind_at))]
-pub fn take(_alloc: Global, bytes: &[u8]) -> Result<(FileKind, &[u8]), Unread>
-    ensures { Gives (λ x. (x.0, x.1.now)) result (file_kind_at bytes.now) }
+pub fn take(bytes: &[u8]) -> Result<(FileKind, &[u8]), NotInGrammar>
+    ensures { Reads (λ x. (x.0, x.1.now)) result (file_kind_at bytes.now) }
 {
     match bytes {
         [PHYSICAL, rest @ ..] => Ok((FileKind::Physical, rest)),
         [LOGICAL, rest @ ..] => Ok((FileKind::Logical, rest)),
-        _ => Err(Unread::NotSpelled),
+        _ => Err(NotInGrammar),
     }
-}
-
-pub fn copied(file_kind: &FileKind, _alloc: Global) -> Result<FileKind, AllocError>
-    ensures { IfOk result (λ x. x ≡ file_kind.now) }
-{
-    Ok(*file_kind)
 }

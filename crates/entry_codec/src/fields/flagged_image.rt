@@ -1,12 +1,12 @@
 //! The image of a record behind the flag that stands for it.
 ghost use Rattle.std.specs.Prelude.{◌≡◌, ◌<◌, ◌^◌, IfOk, length};
 ghost use Rattle.entry_codec.specs.Spelling.{image_field};
-ghost use Rattle.entry_codec.specs.Reading.{Gives, flagged_image_at};
+ghost use Rattle.entry_codec.specs.Reading.{Reads, flagged_image_at};
 ghost use Rattle.entry_codec.specs.Writing.{HasRoom, Appends};
 
 use crate::fields::image;
 use crate::parts::put_bytes;
-use crate::unread::Unread;
+use crate::unread::NotInGrammar;
 use field_types::texts::Image;
 use std::alloc::{AllocError, Global};
 
@@ -29,17 +29,13 @@ pub fn put(image: &Image, out: &mut Vec<u8>)
 }
 
 #[tactic(auto, unfolding(crate::specs::Reading::flagged_image_at))]
-pub fn take(alloc: Global, bytes: &[u8]) -> Result<(Image, &[u8]), Unread>
-    ensures { Gives (λ x. (x.0, x.1.now)) result (flagged_image_at bytes.now) }
+pub fn take(bytes: &[u8]) -> Result<(&[u8], &[u8]), NotInGrammar>
+    ensures { Reads (λ x. (x.0.now, x.1.now)) result (flagged_image_at bytes.now) }
 {
     match bytes {
-        [WITH_IMAGE, rest @ ..] => image::take(alloc, rest),
-        _ => Err(Unread::NotSpelled),
+        [WITH_IMAGE, rest @ ..] => image::take(rest),
+        _ => Err(NotInGrammar),
     }
 }
 
-pub fn copied(image: &Image, alloc: Global) -> Result<Image, AllocError>
-    ensures { IfOk result (λ i. i ≡ image.now) }
-{
-    image.copied(alloc)
-}
+pub use crate::fields::image::{copied, owned};

@@ -1,12 +1,11 @@
 //! Whether the entry before holds the before image, in one byte.
-ghost use Rattle.std.specs.Prelude.{◌≡◌, IfOk, length};
+ghost use Rattle.std.specs.Prelude.{◌≡◌, length};
 ghost use Rattle.entry_codec.specs.Spelling.{before_field};
-ghost use Rattle.entry_codec.specs.Reading.{Gives, before_at};
+ghost use Rattle.entry_codec.specs.Reading.{Reads, before_at};
 ghost use Rattle.entry_codec.specs.Writing.{HasRoom, Appends};
 
 use crate::parts::put_bytes;
-use crate::unread::Unread;
-use std::alloc::{AllocError, Global};
+use crate::unread::NotInGrammar;
 
 const WITHOUT: u8 = 1;
 
@@ -30,18 +29,12 @@ pub fn put(has_before: &bool, out: &mut Vec<u8>)
 }
 
 #[tactic(auto, unfolding(crate::specs::Reading::before_at))]
-pub fn take(_alloc: Global, bytes: &[u8]) -> Result<(bool, &[u8]), Unread>
-    ensures { Gives (λ x. (x.0, x.1.now)) result (before_at bytes.now) }
+pub fn take(bytes: &[u8]) -> Result<(bool, &[u8]), NotInGrammar>
+    ensures { Reads (λ x. (x.0, x.1.now)) result (before_at bytes.now) }
 {
     match bytes {
         [WITHOUT, rest @ ..] => Ok((false, rest)),
         [BEHIND_BEFORE_IMAGE, rest @ ..] => Ok((true, rest)),
-        _ => Err(Unread::NotSpelled),
+        _ => Err(NotInGrammar),
     }
-}
-
-pub fn copied(has_before: &bool, _alloc: Global) -> Result<bool, AllocError>
-    ensures { IfOk result (λ x. x ≡ has_before.now) }
-{
-    Ok(*has_before)
 }

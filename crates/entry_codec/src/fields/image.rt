@@ -1,11 +1,11 @@
 //! The image of a record: all the bytes that are left.
 ghost use Rattle.std.specs.Prelude.{◌≡◌, IfOk, length};
-ghost use Rattle.entry_codec.specs.Reading.{Gives, image_at};
+ghost use Rattle.entry_codec.specs.Reading.{Reads, image_at};
 ghost use Rattle.entry_codec.specs.Writing.{HasRoom, Appends};
 
 use crate::kinds::{MAX_RECORD_LENGTH, MIN_RECORD_LENGTH};
 use crate::parts::put_bytes;
-use crate::unread::Unread;
+use crate::unread::NotInGrammar;
 use field_types::texts::Image;
 use std::alloc::{AllocError, Global};
 
@@ -23,13 +23,20 @@ pub fn put(image: &Image, out: &mut Vec<u8>)
 }
 
 #[tactic(auto, unfolding(crate::specs::Reading::image_at))]
-pub fn take(alloc: Global, bytes: &[u8]) -> Result<(Image, &[u8]), Unread>
-    ensures { Gives (λ x. (x.0, x.1.now)) result (image_at bytes.now) }
+pub fn take(bytes: &[u8]) -> Result<(&[u8], &[u8]), NotInGrammar>
+    ensures { Reads (λ x. (x.0.now, x.1.now)) result (image_at bytes.now) }
 {
     if bytes.len() < MIN_RECORD_LENGTH || MAX_RECORD_LENGTH < bytes.len() {
-        return Err(Unread::NotSpelled);
+        return Err(NotInGrammar);
     }
-    Ok((Image::from_slice(alloc, bytes)?, &[]))
+    Ok((bytes, &[]))
+}
+
+/// The bytes that were taken, in memory of their own.
+pub fn owned(taken: &[u8], alloc: Global) -> Result<Image, AllocError>
+    ensures { IfOk result (λ i. i ≡ taken.now) }
+{
+    Image::from_slice(alloc, taken)
 }
 
 pub fn copied(image: &Image, alloc: Global) -> Result<Image, AllocError>

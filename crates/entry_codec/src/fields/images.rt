@@ -1,13 +1,12 @@
 //! Which images the journal keeps, in one byte.
-ghost use Rattle.std.specs.Prelude.{◌≡◌, IfOk, length};
+ghost use Rattle.std.specs.Prelude.{◌≡◌, length};
 ghost use Rattle.entry_codec.specs.Spelling.{images_field};
-ghost use Rattle.entry_codec.specs.Reading.{Gives, images_at};
+ghost use Rattle.entry_codec.specs.Reading.{Reads, images_at};
 ghost use Rattle.entry_codec.specs.Writing.{HasRoom, Appends};
 
 use crate::kinds::Images;
 use crate::parts::put_bytes;
-use crate::unread::Unread;
-use std::alloc::{AllocError, Global};
+use crate::unread::NotInGrammar;
 
 const AFTER: u8 = 1;
 
@@ -31,18 +30,12 @@ pub fn put(images: &Images, out: &mut Vec<u8>)
 }
 
 #[tactic(auto, unfolding(crate::specs::Reading::images_at))]
-pub fn take(_alloc: Global, bytes: &[u8]) -> Result<(Images, &[u8]), Unread>
-    ensures { Gives (λ x. (x.0, x.1.now)) result (images_at bytes.now) }
+pub fn take(bytes: &[u8]) -> Result<(Images, &[u8]), NotInGrammar>
+    ensures { Reads (λ x. (x.0, x.1.now)) result (images_at bytes.now) }
 {
     match bytes {
         [AFTER, rest @ ..] => Ok((Images::After, rest)),
         [BOTH, rest @ ..] => Ok((Images::Both, rest)),
-        _ => Err(Unread::NotSpelled),
+        _ => Err(NotInGrammar),
     }
-}
-
-pub fn copied(images: &Images, _alloc: Global) -> Result<Images, AllocError>
-    ensures { IfOk result (λ x. x ≡ images.now) }
-{
-    Ok(*images)
 }

@@ -1,13 +1,12 @@
 //! A lock level, in one byte.
-ghost use Rattle.std.specs.Prelude.{◌≡◌, IfOk, length};
+ghost use Rattle.std.specs.Prelude.{◌≡◌, length};
 ghost use Rattle.entry_codec.specs.Spelling.{level_field};
-ghost use Rattle.entry_codec.specs.Reading.{Gives, level_at};
+ghost use Rattle.entry_codec.specs.Reading.{Reads, level_at};
 ghost use Rattle.entry_codec.specs.Writing.{HasRoom, Appends};
 
 use crate::parts::put_bytes;
-use crate::unread::Unread;
+use crate::unread::NotInGrammar;
 use commit_level::Level;
-use std::alloc::{AllocError, Global};
 
 const CHG: u8 = 1;
 
@@ -34,19 +33,13 @@ pub fn put(level: &Level, out: &mut Vec<u8>)
 }
 
 #[tactic(auto, unfolding(crate::specs::Reading::level_at))]
-pub fn take(_alloc: Global, bytes: &[u8]) -> Result<(Level, &[u8]), Unread>
-    ensures { Gives (λ x. (x.0, x.1.now)) result (level_at bytes.now) }
+pub fn take(bytes: &[u8]) -> Result<(Level, &[u8]), NotInGrammar>
+    ensures { Reads (λ x. (x.0, x.1.now)) result (level_at bytes.now) }
 {
     match bytes {
         [CHG, rest @ ..] => Ok((Level::Chg, rest)),
         [CS, rest @ ..] => Ok((Level::Cs, rest)),
         [ALL, rest @ ..] => Ok((Level::All, rest)),
-        _ => Err(Unread::NotSpelled),
+        _ => Err(NotInGrammar),
     }
-}
-
-pub fn copied(level: &Level, _alloc: Global) -> Result<Level, AllocError>
-    ensures { IfOk result (λ x. x ≡ level.now) }
-{
-    Ok(*level)
 }

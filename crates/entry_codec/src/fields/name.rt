@@ -1,15 +1,14 @@
 //! A name in ten bytes, with blanks behind it.
-ghost use Rattle.std.specs.Prelude.{◌≡◌, ◌≤◌, IfOk, IsTrue, length};
+ghost use Rattle.std.specs.Prelude.{◌≡◌, ◌≤◌, IsTrue, length};
 ghost use Rattle.std.specs.List.{list_all};
 ghost use Rattle.field_types.specs.SystemName.{is_name};
 ghost use Rattle.entry_codec.specs.Spelling.{name_field};
-ghost use Rattle.entry_codec.specs.Reading.{Gives, is_blank, before_blank, name_in, name_at};
+ghost use Rattle.entry_codec.specs.Reading.{Reads, is_blank, before_blank, name_in, name_at};
 ghost use Rattle.entry_codec.specs.Writing.{HasRoom, Appends};
 
 use crate::parts::{front, put_bytes};
-use crate::unread::Unread;
+use crate::unread::NotInGrammar;
 use field_types::names::{NAME_LENGTH, Name};
-use std::alloc::{AllocError, Global};
 
 pub const BLANKS: [u8; 10] = *b"          ";
 
@@ -20,19 +19,27 @@ pub fn length(_name: &Name) -> usize
     NAME_LENGTH
 }
 
+pub fn bytes(name: &Name) -> [u8; 10]
+    ensures written { result ≡ name_field name.now }
+    ensures named { IsTrue (is_name name.now) }
+{
+    let text = name.as_bytes();
+    let mut field = BLANKS;
+    field[..text.len()].copy_from_slice(text);
+    field
+}
+
 pub fn put(name: &Name, out: &mut Vec<u8>)
     requires { HasRoom out.old (name_field name.now) }
     ensures written { Appends out.old out.new (name_field name.now) }
     ensures named { IsTrue (is_name name.now) }
 {
-    let text = name.as_bytes();
-    put_bytes(out, text);
-    put_bytes(out, &BLANKS[text.len()..]);
+    put_bytes(out, &bytes(name));
 }
 
 #[tactic(auto, unfolding(crate::specs::Reading::name_at))]
-pub fn take(_alloc: Global, bytes: &[u8]) -> Result<(Name, &[u8]), Unread>
-    ensures { Gives (λ x. (x.0, x.1.now)) result (name_at bytes.now) }
+pub fn take(bytes: &[u8]) -> Result<(Name, &[u8]), NotInGrammar>
+    ensures { Reads (λ x. (x.0, x.1.now)) result (name_at bytes.now) }
 {
     let (field, rest) = front(bytes, NAME_LENGTH)?;
     Ok((name_in(field)?, rest))
@@ -40,14 +47,14 @@ pub fn take(_alloc: Global, bytes: &[u8]) -> Result<(Name, &[u8]), Unread>
 
 /// The name in a field.
 #[tactic(auto, unfolding(crate::specs::Reading::name_in))]
-pub fn name_in(field: &[u8]) -> Result<Name, Unread>
-    ensures { Gives (λ x. x) result (name_in field.now) }
+pub fn name_in(field: &[u8]) -> Result<Name, NotInGrammar>
+    ensures { Reads (λ x. x) result (name_in field.now) }
 {
     let (name, blanks) = field.split_at(blank_at(field));
     if !are_blank(blanks) {
-        return Err(Unread::NotSpelled);
+        return Err(NotInGrammar);
     }
-    Name::from_bytes(name).ok_or(Unread::NotSpelled)
+    Name::from_bytes(name).ok_or(NotInGrammar)
 }
 
 /// Whether there is nothing but blanks.
@@ -68,10 +75,4 @@ fn blank_at(bytes: &[u8]) -> usize
         }
     }
     bytes.len()
-}
-
-pub fn copied(name: &Name, _alloc: Global) -> Result<Name, AllocError>
-    ensures { IfOk result (λ n. n ≡ name.now) }
-{
-    Ok(*name)
 }

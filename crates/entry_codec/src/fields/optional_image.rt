@@ -1,13 +1,13 @@
 //! The image of a record where the journal keeps it, behind a flag.
-ghost use Rattle.std.specs.Prelude.{◌≡◌, ◌<◌, ◌^◌, IfOk, length};
+ghost use Rattle.std.specs.Prelude.{◌≡◌, ◌<◌, ◌^◌, IfOk, length, option_map};
 ghost use Rattle.entry_codec.specs.Spelling.{optional_image_field};
-ghost use Rattle.entry_codec.specs.Reading.{Gives, optional_image_at};
+ghost use Rattle.entry_codec.specs.Reading.{Reads, optional_image_at};
 ghost use Rattle.entry_codec.specs.Writing.{HasRoom, Appends};
 
 use crate::fields::flagged_image::WITH_IMAGE;
 use crate::fields::{flagged_image, image};
 use crate::parts::put_bytes;
-use crate::unread::Unread;
+use crate::unread::NotInGrammar;
 use field_types::texts::Image;
 use std::alloc::{AllocError, Global};
 
@@ -34,16 +34,26 @@ pub fn put(kept: &Option<Image>, out: &mut Vec<u8>)
 }
 
 #[tactic(auto, unfolding(crate::specs::Reading::optional_image_at))]
-pub fn take(alloc: Global, bytes: &[u8]) -> Result<(Option<Image>, &[u8]), Unread>
-    ensures { Gives (λ x. (x.0, x.1.now)) result (optional_image_at bytes.now) }
+pub fn take(bytes: &[u8]) -> Result<(Option<&[u8]>, &[u8]), NotInGrammar>
+    ensures { Reads (λ x. (option_map (λ i. i.now) x.0, x.1.now)) result (optional_image_at bytes.now) }
 {
     match bytes {
         [WITHOUT_IMAGE, rest @ ..] => Ok((None, rest)),
         [WITH_IMAGE, rest @ ..] => {
-            let (image, rest) = image::take(alloc, rest)?;
+            let (image, rest) = image::take(rest)?;
             Ok((Some(image), rest))
         }
-        _ => Err(Unread::NotSpelled),
+        _ => Err(NotInGrammar),
+    }
+}
+
+/// The bytes that were taken, in memory of their own.
+pub fn owned(taken: Option<&[u8]>, alloc: Global) -> Result<Option<Image>, AllocError>
+    ensures { IfOk result (λ k. k ≡ option_map (λ i. i.now) taken.entry) }
+{
+    match taken {
+        None => Ok(None),
+        Some(bytes) => Ok(Some(image::owned(bytes, alloc)?)),
     }
 }
 

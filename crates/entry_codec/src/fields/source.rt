@@ -1,12 +1,12 @@
 //! The source of a file: its length, and its bytes.
 ghost use Rattle.std.specs.Prelude.{◌≡◌, ◌<◌, ◌^◌, IfOk, length};
 ghost use Rattle.entry_codec.specs.Spelling.{source_field};
-ghost use Rattle.entry_codec.specs.Reading.{Gives, source_at};
+ghost use Rattle.entry_codec.specs.Reading.{Reads, source_at};
 ghost use Rattle.entry_codec.specs.Writing.{HasRoom, Appends};
 
 use crate::fields::number4;
 use crate::parts::{front, put_bytes};
-use crate::unread::Unread;
+use crate::unread::NotInGrammar;
 use field_types::texts::SourceText;
 use std::alloc::{AllocError, Global};
 
@@ -29,12 +29,18 @@ pub fn put(source: &SourceText, out: &mut Vec<u8>)
 }
 
 #[tactic(auto, unfolding(crate::specs::Reading::source_at))]
-pub fn take(alloc: Global, bytes: &[u8]) -> Result<(SourceText, &[u8]), Unread>
-    ensures { Gives (λ x. (x.0, x.1.now)) result (source_at bytes.now) }
+pub fn take(bytes: &[u8]) -> Result<(&[u8], &[u8]), NotInGrammar>
+    ensures { Reads (λ x. (x.0.now, x.1.now)) result (source_at bytes.now) }
 {
-    let (length, rest) = number4::take(alloc, bytes)?;
-    let (source, rest) = front(rest, length as usize)?;
-    Ok((SourceText::from_slice(alloc, source)?, rest))
+    let (length, rest) = number4::take(bytes)?;
+    front(rest, length as usize)
+}
+
+/// The bytes that were taken, in memory of their own.
+pub fn owned(taken: &[u8], alloc: Global) -> Result<SourceText, AllocError>
+    ensures { IfOk result (λ s. s ≡ taken.now) }
+{
+    SourceText::from_slice(alloc, taken)
 }
 
 pub fn copied(source: &SourceText, alloc: Global) -> Result<SourceText, AllocError>
