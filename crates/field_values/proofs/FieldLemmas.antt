@@ -218,14 +218,8 @@ names-none t image r there none other = (
   (λ bad. absurd (let fails : is_some (held t image) ≡ false = IsFirstBad-false (λ w. is_some (held t w)) image other bad in both_ways (is_some (held t image)) fails there)),
 )
 
-no-fault : (more wide : Bool) → None ≡ cond more (Some TooManyDecimals) (cond wide (Some TooWide) None) → wide ≡ false
-no-fault true wide h = cc
-no-fault false true h = cc
-no-fault false false h = refl
-
 -- a number that fits its digits fits their bytes
-pub binary-fits : (digits decimals : ℕ) (n : Dec) (units : ℤ) → digits ≤ 18 → None ≡ number_fault digits decimals n → units ≡ units_at decimals n → 2 * unsigned_abs units < 256 ^ binary_width digits
-binary-fits digits decimals n units few none is =
-    let narrow : unsigned_abs (units_at decimals n) < 10 ^ digits = leb-false (10 ^ digits) (unsigned_abs (units_at decimals n)) (no-fault (has_more_decimals decimals n) (is_too_wide digits (units_at decimals n)) none) in
+pub binary-fits : (digits : ℕ) (units : ℤ) → digits ≤ 18 → unsigned_abs units < 10 ^ digits → 2 * unsigned_abs units < 256 ^ binary_width digits
+binary-fits digits units few small =
     let room : 2 * 10 ^ digits ≤ 256 ^ binary_width digits = binary-room digits few in
-    rw is (omega arith)
+    omega arith
