@@ -1,6 +1,6 @@
 -- What is written for the fields of a record, one behind the other.
-use Rattle.std.proofs.Common.{Bor, ◌≡◌, ℕ, zero, suc, ◌+◌, ◌-◌, ◌<◌, ◌≤◌, Bool, true, false, Option, Some, None, is_some, option_map, MatchOption, Result, Ok, Err, is_ok, List, [], ◌∷◌, ◌++◌, length, take, drop, get_or, refl, sym, ◌∙◌, ap, subst, append_assoc, append-nil, add-one, arith}
-use Rattle.std.specs.Option.{option_copied}
+use Rattle.std.proofs.Common.{Bor, ◌≡◌, ℕ, suc, ◌+◌, ◌-◌, ◌<◌, ◌≤◌, Bool, true, false, Option, Some, None, is_some, option_map, Result, Ok, Err, is_ok, List, [], ◌∷◌, ◌++◌, length, take, drop, get_or, refl, sym, ◌∙◌, ap, subst, append_assoc, append-nil, add-one, arith}
+use Rattle.std.specs.Option.{option_copied, ForSome}
 use Rattle.std.specs.Result.{result_err}
 use Rattle.std.proofs.lemmas.List.{drop_all, take_all, length-append, length-drop, drop-drop, take-append-drop}
 use Rattle.std.proofs.lemmas.Bool.{eq-eqb, ne_eqb}
@@ -10,7 +10,6 @@ use Rattle.field_types.specs.declared.faults.ValueFault.{ValueFault}
 use Rattle.field_types.specs.declared.faults.RecordFault.{RecordFault}
 use Rattle.field_types.specs.declared.faults.RecordFault.TheVariants.{Count, BadField}
 use Rattle.field_values.specs.FieldTypes.{width}
-use Rattle.field_values.specs.FieldBytes.{written, fault_of}
 use Rattle.field_values.specs.FirstBad.{part}
 use Rattle.record_fmt.specs.declared.formats.Field.{Field}
 use Rattle.record_fmt.specs.declared.formats.PackFault.TheVariants.{Refused}
@@ -229,9 +228,9 @@ written-back n new old long same =
     ap (λ (back : List ℕ). take n (new ++ back)) none ∙ ap (take n) (append-nil new) ∙ take_all n new (omega (arith, long))
 
 -- an image begins as long as a record
-pub StartsAs-length : (old : Option (List ℕ)) (n : ℕ) (bytes : List ℕ) → StartsAs old n bytes → MatchOption old (Unit {0}) (λ image. length image ≡ n) → length bytes ≡ n
-StartsAs-length None n bytes h long = h
-StartsAs-length (Some image) n bytes h long = ap length h ∙ long
+pub StartsAs-length : (old : Option (Bor (List ℕ))) (n m : ℕ) (bytes : List ℕ) → StartsAs (option_copied old) n bytes → n ≡ m → ForSome old (λ image. length image.now ≡ m) → length bytes ≡ m
+StartsAs-length None n m bytes h e long = h ∙ e
+StartsAs-length (Some image) n m bytes h e long = ap length h ∙ long image refl
 
 -- a fault other than that of their number
 pub not-count : (r : Result (List ℕ) RecordFault) (fault : RecordFault) → Some fault ≡ result_err r → (r ≡ Err Count → ⊥) → Refused fault ≡ Refused Count → ⊥

@@ -20,6 +20,7 @@ impl Format {
     pub fn pack(&self, alloc: Global, values: &[Value]) -> Result<Vec<u8>, PackFault>
         ensures packed { Packs (record_written self.now.fields values.now) result }
         ensures count { IsErrOf result (PackFault.Refused RecordFault.Count) ↔ (length values.now ≢ length self.now.fields) }
+        ensures length { IfOk result (λ image. length image.items ≡ record_length self.now.fields) }
     {
         self.pack_values(alloc, Values::All(values), None)
     }
@@ -35,6 +36,7 @@ impl Format {
         requires { ForSome old (λ image. length image.now ≡ record_length self.now.fields) }
         ensures packed { Packs (record_given self.now.fields given.now (option_copied old.entry)) result }
         ensures count { IsErrOf result (PackFault.Refused RecordFault.Count) ↔ (length given.now ≢ length self.now.fields) }
+        ensures length { IfOk result (λ image. length image.items ≡ record_length self.now.fields) }
     {
         self.pack_values(alloc, Values::Given(given), old)
     }
@@ -59,6 +61,7 @@ impl Format {
         requires { ForSome old (λ image. length image.now ≡ record_length self.now.fields) }
         ensures packed { Packs (record_given self.now.fields (given_of values.entry) (option_copied old.entry)) result }
         ensures count { IsErrOf result (PackFault.Refused RecordFault.Count) ↔ (length (given_of values.entry) ≢ length self.now.fields) }
+        ensures length { IfOk result (λ image. length image.items ≡ record_length self.now.fields) }
     {
         let fields = self.fields.as_slice();
         if values.len() != fields.len() {

@@ -1,11 +1,12 @@
-use Rattle.std.proofs.Common.{◌≡◌, ◌∙◌, ℕ, Bool, List, Option, Result, Ok, Err, is_some, length, refl, sym, ap, subst, arith}
+use Rattle.std.proofs.Common.{◌≡◌, ◌∙◌, ℕ, Bool, List, Option, Result, Ok, Err, is_some, length, sym, ap, subst}
 use Rattle.std.specs.Option.{option_copied}
 use Rattle.field_types.specs.declared.faults.RecordFault.{RecordFault}
 use Rattle.field_types.specs.declared.faults.RecordFault.TheVariants.{Count}
 use Rattle.record_fmt.specs.declared.formats.Field.{Field}
+use Rattle.record_fmt.specs.Layout.{record_length}
 use Rattle.record_fmt.specs.Records.{record_given, fields_given, Packs}
 use Rattle.record_fmt.specs.Choice.{given_of, kept}
-use Rattle.record_fmt.proofs.WrittenLemmas.{record_given-count, record_given-fields, kept-start, some-copied, written-back, no-count}
+use Rattle.record_fmt.proofs.WrittenLemmas.{record_given-count, record_given-fields, kept-start, some-copied, written-back, StartsAs-length, no-count}
 use Rattle.record_fmt.proofs.formats.Format.pack_values.Goals as goal
 
 pub returns-then-len-fields-clause-packed : goal.returns-then-len-fields-clause-packed
@@ -56,3 +57,10 @@ returns-in-Err-clause-count c =
           no-count 1 c.as_slice-fields.result.now (given_of c.args.values) (kept c.is_some.result c.as_mut_slice.result.now) (c.in-Err.ensures ∙ ap Err count))),
       (λ differ. absurd (differ same)),
     )
+
+pub returns-in-Ok-fill-clause-length : goal.returns-in-Ok-fill-clause-length
+returns-in-Ok-fill-clause-length c =
+    let len : length c.in-Ok.image.items ≡ c.in-Ok.image.len = sym (ap length c.as_mut_slice.ensures.value) ∙ c.as_mut_slice.ensures.len in
+    ap length (written-back c.in-Ok.image.len c.fill.new.image c.in-Ok.image.items (c.fill.auto.image ∙ c.as_mut_slice.ensures.len) len)
+    ∙ c.fill.auto.image ∙ ap length c.as_mut_slice.ensures.value
+    ∙ StartsAs-length c.args.old c.length.result (record_length c.args.self.now.fields) c.in-Ok.image.items c.in-Ok.ensures c.length.ensures c.requires
