@@ -15,7 +15,7 @@ use Rattle.record_fmt.specs.declared.formats.Field.{Field}
 use Rattle.record_fmt.specs.declared.formats.PackFault.TheVariants.{Refused}
 use Rattle.record_fmt.specs.Layout.{record_length}
 use Rattle.record_fmt.specs.Records.{behind, field_before, given_before, fields_given, record_given}
-use Rattle.record_fmt.specs.Choice.{chosen, refused_by, put_bytes, kept, StartsAs}
+use Rattle.record_fmt.specs.Choice.{chosen, refused_by, put_bytes, put_over, kept, StartsAs}
 use Rattle.record_fmt.proofs.LayoutLemmas.{IsFieldOf, split-fields, record_length-more, field-offset, field-room}
 
 behind-behind : (a b : List ℕ) (r : Result (List ℕ) RecordFault) → behind a (behind b r) ≡ behind (a ++ b) r
@@ -140,7 +140,7 @@ splice image new bytes n w room long is =
 
 pub IsFilled-turn : {fs : List Field} {vs : List (Option Value)} {keeps : Bool} {before image : List ℕ} {i : ℕ} {f : Field} {v : Option Value} →
     IsFieldOf fs i f image → IsGiven fs vs i f v → IsFilled fs vs keeps before image i → refused_by f (chosen f v keeps) ≡ None → (new : List ℕ) → length new ≡ length image →
-    new ≡ take f.offset image ++ put_bytes f (chosen f v keeps) (part f.offset (width f.ty) image) ++ drop (f.offset + width f.ty) image → IsFilled fs vs keeps before new (i + 1)
+    new ≡ put_over f (chosen f v keeps) image → IsFilled fs vs keeps before new (i + 1)
 IsFilled-turn {fs = fs} {vs = vs} {keeps = keeps} {before = before} {image = image} {i = i} {f = f} {v = v} here given filled none new long is =
     let n = record_length (take i fs) in
     let w = width f.ty in

@@ -1,8 +1,10 @@
 -- What packing begins with, and which value each field gets.
-use Rattle.std.specs.Prelude.{◌≡◌, ℕ, Bool, true, false, Option, Some, None, List, length, map, if◌then◌else◌}
+use Rattle.std.specs.Prelude.{◌≡◌, ℕ, ◌+◌, Bool, true, false, Option, Some, None, List, ◌++◌, length, take, drop, map, if◌then◌else◌}
 use Rattle.field_types.specs.declared.values.Value.{Value}
 use Rattle.field_types.specs.declared.faults.ValueFault.{ValueFault}
+use Rattle.field_values.specs.FieldTypes.{width}
 use Rattle.field_values.specs.FieldBytes.{written, fault_of}
+use Rattle.field_values.specs.FirstBad.{part}
 use Rattle.record_fmt.specs.declared.formats.Field.{Field}
 use Rattle.record_fmt.specs.declared.packing.Values.{Values}
 use Rattle.record_fmt.specs.declared.packing.Values.TheVariants.{All, Given}
@@ -27,6 +29,10 @@ refused_by f (Some v) = fault_of f.ty v
 abbrev pub put_bytes : Field → Option Value → List ℕ → List ℕ
 put_bytes f None bytes = bytes
 put_bytes f (Some v) bytes = written f.ty v
+
+-- a record with what a field gets in its place
+abbrev pub put_over : Field → Option Value → List ℕ → List ℕ
+put_over f v image = take f.offset image ++ put_bytes f v (part f.offset (width f.ty) image) ++ drop (f.offset + width f.ty) image
 
 -- the old record, where one is kept
 abbrev pub kept : Bool → List ℕ → Option (List ℕ)

@@ -4,10 +4,9 @@ ghost use Rattle.std.specs.Option.{ForSome, option_copied};
 ghost use Rattle.std.specs.Result.{result_err};
 ghost use Rattle.field_values.specs.FieldTypes.{IsFieldType, width};
 ghost use Rattle.field_values.specs.FieldBytes.{written, fault_of};
-ghost use Rattle.field_values.specs.FirstBad.{part};
 ghost use Rattle.record_fmt.specs.Layout.{record_length, IsLaidOut};
 ghost use Rattle.record_fmt.specs.Records.{record_written, record_given, fields_given, Packs};
-ghost use Rattle.record_fmt.specs.Choice.{given_of, chosen, refused_by, put_bytes, kept, StartsAs};
+ghost use Rattle.record_fmt.specs.Choice.{given_of, chosen, refused_by, put_over, kept, StartsAs};
 
 use crate::formats::{Field, Format, PackFault};
 use field_types::faults::{RecordFault, ValueFault};
@@ -162,7 +161,7 @@ fn fill(fields: &[Field], values: Values, keeps: bool, image: &mut [u8]) -> Resu
     requires laid { IsLaidOut fields.now }
     requires same { length (given_of values) ≡ length fields.now }
     requires room { length image.old ≡ record_length fields.now }
-    ensures { MatchResult result (λ _. fields_given 1 fields.now (given_of values.entry) (kept keeps image.old) ≡ Ok image.new) (λ fault. fields_given 1 fields.now (given_of values.entry) (kept keeps image.old) ≡ Err fault) }
+    ensures { let wanted = fields_given 1 fields.now (given_of values.entry) (kept keeps image.old) in MatchResult result (λ _. wanted ≡ Ok image.new) (λ fault. wanted ≡ Err fault) }
 {
     for i in 0..fields.len() {
         if let Err(cause) = put_given(&fields[i], values.get(i), keeps, image) {
@@ -202,7 +201,7 @@ fn put_given(
 ) -> Result<(), ValueFault>
     requires allowed { IsFieldType field.now.ty }
     requires room { field.now.offset + width field.now.ty ≤ length image.old }
-    ensures put { OnOk result (image.new ≡ take field.now.offset image.old ++ put_bytes field.now (chosen field.now (option_copied given.entry) keeps) (part field.now.offset (width field.now.ty) image.old) ++ drop (field.now.offset + width field.now.ty) image.old) }
+    ensures put { OnOk result (image.new ≡ put_over field.now (chosen field.now (option_copied given.entry) keeps) image.old) }
     ensures refused { result_err result ≡ refused_by field.now (chosen field.now (option_copied given.entry) keeps) }
 {
     match chosen(field, given, keeps) {
