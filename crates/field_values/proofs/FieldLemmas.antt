@@ -2,16 +2,14 @@
 use Rattle.std.proofs.Common.{◌≡◌, ℕ, ◌+◌, ◌*◌, ◌^◌, ◌<◌, ◌≤◌, ◌↔◌, Bool, true, false, cond, ◌&&◌, ◌==◌, nat_lt, IsTrue, Option, Some, None, is_some, option_map, Result, Ok, Err, inl, inr, ℤ, unsigned_abs, List, ◌++◌, length, take, drop, map, refl, sym, ◌∙◌, ap, subst, arith, append_assoc}
 use Rattle.std.specs.List.{list_all}
 use Rattle.std.proofs.lemmas.List.{take-append-drop, take-take}
-use Rattle.std.proofs.lemmas.Bool.{and_parts, eqb-true, eq-eqb, leb-false, cases_order, both_ways}
+use Rattle.std.proofs.lemmas.Bool.{and_parts, eqb-true, eq-eqb, cases_order, both_ways}
 use Rattle.field_types.specs.declared.kinds.Kind.{Kind}
 use Rattle.field_types.specs.declared.kinds.Kind.TheVariants.{Char, Zoned, Packed, Binary, Date, Time, Stamp}
 use Rattle.field_types.specs.declared.kinds.FieldType.{FieldType}
-use Rattle.field_types.specs.declared.values.Dec.{Dec}
 use Rattle.field_types.specs.declared.values.Value.{Value}
 use Rattle.field_types.specs.declared.values.Value.TheVariants.{Chars}
 use Rattle.field_values.specs.declared.fields.ImageFault.{ImageFault}
 use Rattle.field_values.specs.declared.fields.ImageFault.TheVariants.{BadImage, NoMemory}
-use Rattle.field_types.specs.declared.faults.ValueFault.TheVariants.{TooManyDecimals, TooWide}
 use Rattle.field_values.specs.FieldTypes.{IsFieldType, is_allowed, is_numeric, width, width_of, packed_width, binary_width}
 use Rattle.field_values.specs.Digits.{number_in, signed, is_minus, high_half, low_half, last_byte}
 use Rattle.field_values.specs.Zoned.{is_zoned}
@@ -19,7 +17,7 @@ use Rattle.field_values.specs.Packed.{is_packed, is_spare_clear, packed_digits}
 use Rattle.field_values.specs.Binary.{is_byte, binary_number, twos_complement}
 use Rattle.field_values.specs.Moments.{is_date, is_time, is_timestamp}
 use Rattle.field_values.specs.FirstBad.{IsFirstBad, TellsFirstBad}
-use Rattle.field_values.specs.FieldBytes.{held, stands, IsBadAt, decimal, units_at, number_fault, has_more_decimals, is_too_wide}
+use Rattle.field_values.specs.FieldBytes.{held, stands, IsBadAt, decimal}
 use Rattle.field_values.proofs.FirstBadLemmas.{TellsFirstBad-same, IsFirstBad-false}
 use Rattle.field_values.proofs.BinaryLemmas.{binary-room}
 use Rattle.field_values.proofs.DateLemmas.{date-parts}
@@ -218,14 +216,8 @@ names-none t image r there none other = (
   (λ bad. absurd (let fails : is_some (held t image) ≡ false = IsFirstBad-false (λ w. is_some (held t w)) image other bad in both_ways (is_some (held t image)) fails there)),
 )
 
-no-fault : (more wide : Bool) → None ≡ cond more (Some TooManyDecimals) (cond wide (Some TooWide) None) → wide ≡ false
-no-fault true wide h = cc
-no-fault false true h = cc
-no-fault false false h = refl
-
 -- a number that fits its digits fits their bytes
-pub binary-fits : (digits decimals : ℕ) (n : Dec) (units : ℤ) → digits ≤ 18 → None ≡ number_fault digits decimals n → units ≡ units_at decimals n → 2 * unsigned_abs units < 256 ^ binary_width digits
-binary-fits digits decimals n units few none is =
-    let narrow : unsigned_abs (units_at decimals n) < 10 ^ digits = leb-false (10 ^ digits) (unsigned_abs (units_at decimals n)) (no-fault (has_more_decimals decimals n) (is_too_wide digits (units_at decimals n)) none) in
+pub binary-fits : (digits : ℕ) (units : ℤ) → digits ≤ 18 → unsigned_abs units < 10 ^ digits → 2 * unsigned_abs units < 256 ^ binary_width digits
+binary-fits digits units few small =
     let room : 2 * 10 ^ digits ≤ 256 ^ binary_width digits = binary-room digits few in
-    rw is (omega arith)
+    omega arith

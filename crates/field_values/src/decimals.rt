@@ -1,15 +1,19 @@
 //! Digits, half bytes and signs, of which zoned and packed numbers are made, and the scaling of a number.
-ghost use Rattle.std.specs.Prelude.{◌≡◌, ℕ, ◌*◌, ◌<◌, ◌≤◌, ◌^◌, map, length, ◌%◌, ◌/◌, IfOk, unsigned_abs};
+ghost use Rattle.std.specs.Prelude.{◌≡◌, ℕ, ◌*◌, ◌<◌, ◌≤◌, ◌^◌, map, length, ◌%◌, ◌/◌, nat_le, IfOk, unsigned_abs};
 ghost use Rattle.std.specs.Option.{SomeIff};
 ghost use Rattle.std.specs.Result.{result_err};
 ghost use Rattle.field_values.specs.Digits.{number_in, high_half, low_half, is_minus, is_sign, sign_of, signed, is_negative};
 ghost use Rattle.field_values.specs.FieldBytes.{units_at, number_fault, Rescaled};
 
+use decimal_order::powers::{power_of_ten, widened};
 use field_types::faults::ValueFault;
 use field_types::values::Dec;
 
 /// The most digits that a number has.
 pub const MOST_DIGITS: u32 = 31;
+
+/// The greatest number of 64 bits.
+const NARROW: u128 = u64::MAX as u128;
 
 pub fn high_half(byte: u8) -> u8
     ensures value { result ≡ high_half byte }
@@ -80,13 +84,24 @@ pub fn units_at(number: Dec, digits: u32, decimals: u8) -> Result<i128, ValueFau
     requires digits { digits ≤ MOST_DIGITS }
     requires decimals { decimals ≤ MOST_DIGITS }
     ensures units { IfOk result (λ units. units ≡ units_at decimals number) }
+    ensures small { IfOk result (λ units. unsigned_abs units < 10 ^ digits) }
     ensures refused { result_err result ≡ number_fault digits decimals number }
 {
     let magnitude = scaled(number.units.unsigned_abs(), number.scale, decimals)?;
-    if magnitude >= 10u128.pow(digits) {
+    if is_too_wide(magnitude, digits as u8) {
         return Err(ValueFault::TooWide);
     }
     Ok(signed(is_negative(number.units), magnitude))
+}
+
+/// Whether the magnitude has more digits.
+fn is_too_wide(magnitude: u128, digits: u8) -> bool
+    ensures { result ≡ nat_le (10 ^ digits) magnitude }
+{
+    match power_of_ten(digits) {
+        Some(power) => power <= magnitude,
+        None => false,
+    }
 }
 
 /// The magnitude with `decimals` digits behind the point in place of `scale`.
@@ -101,20 +116,28 @@ fn scaled(magnitude: u128, scale: u8, decimals: u8) -> Result<u128, ValueFault>
     }
 }
 
-/// The magnitude with so many digits more; `None` where it leaves its type.
-fn widened(magnitude: u128, digits: u8) -> Option<u128>
-    requires { digits ≤ MOST_DIGITS }
-    ensures { SomeIff result (magnitude * 10 ^ digits < 2 ^ 128) (magnitude * 10 ^ digits) }
-{
-    magnitude.checked_mul(10u128.pow(u32::from(digits)))
-}
-
 /// The magnitude with so many digits less; `None` where one of them isn't 0.
 fn narrowed(magnitude: u128, digits: u8) -> Option<u128>
     ensures { SomeIff result (magnitude % 10 ^ digits ≡ 0) (magnitude / 10 ^ digits) }
 {
-    let Some(power) = 10u128.checked_pow(u32::from(digits)) else {
+    let Some(power) = power_of_ten(digits) else {
         return (magnitude == 0).then_some(0);
     };
-    (magnitude % power == 0).then_some(magnitude / power)
+    let (quotient, rest) = divided(magnitude, power);
+    (rest == 0).then_some(quotient)
+}
+
+/// The quotient and the rest: in 64 bits where both numbers fit, as most do.
+#[inline]
+pub fn divided(number: u128, by: u128) -> (u128, u128)
+    requires { 0 < by }
+    ensures quotient { result.0 ≡ number / by }
+    ensures rest { result.1 ≡ number % by }
+{
+    if number <= NARROW && by <= NARROW {
+        let (number, by) = (number as u64, by as u64);
+        (u128::from(number / by), u128::from(number % by))
+    } else {
+        (number / by, number % by)
+    }
 }

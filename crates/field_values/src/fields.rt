@@ -1,10 +1,10 @@
 //! Fields: a value is put into its place in a record, and taken out of it again.
 //! Each kind of field has a file of its own: `zoned.rt`, `packed.rt`, `binary.rt` and `moments.rt`.
-ghost use Rattle.std.specs.Prelude.{◌≡◌, ◌↔◌, ℕ, true, false, length, is_some, IfOk, OnOk, OnErr, IsErr, IsErrOf, IsTrue};
+ghost use Rattle.std.specs.Prelude.{◌≡◌, ◌↔◌, ℕ, ◌<◌, ◌≤◌, ◌^◌, true, false, length, is_some, unsigned_abs, IfOk, IfNone, OnOk, OnErr, IsErr, IsErrOf, IsTrue};
 ghost use Rattle.std.specs.Result.{result_err};
 ghost use Rattle.field_values.specs.FieldTypes.{IsFieldType, width, is_numeric, is_moment_kind};
 ghost use Rattle.field_values.specs.FirstBad.{TellsFirstBad};
-ghost use Rattle.field_values.specs.FieldBytes.{held, stands, written, filled, decimal, fault_of, IsBadAt};
+ghost use Rattle.field_values.specs.FieldBytes.{held, stands, written, units_at, filled, decimal, fault_of, IsBadAt};
 
 use crate::{binary, decimals, moments, packed, zoned};
 use field_types::faults::{BadImage, ValueFault};
@@ -79,6 +79,17 @@ pub fn put(t: &FieldType, v: &Value, into: &mut [u8]) -> Result<(), ValueFault>
     }
 }
 
+/// Why a value can't stand in its field; `None` where it can. It is what `put` answers.
+pub fn fault(t: &FieldType, v: &Value) -> Option<ValueFault>
+    requires { IsFieldType t.now }
+    ensures { result ≡ fault_of t.now v.now }
+{
+    match v {
+        Value::Chars(text) => text_fault(t, text.as_bytes()),
+        Value::Number(number) => units_in(t, *number).err(),
+    }
+}
+
 /// Takes the value out of a field: a text in the field's whole width, a number with the field's decimals.
 pub fn take(alloc: Global, t: &FieldType, image: &[u8]) -> Result<Value, ImageFault>
     requires allowed { IsFieldType t.now }
@@ -120,31 +131,37 @@ pub fn value(alloc: Global, t: &FieldType, image: &[u8]) -> Result<Value, AllocE
     // A number takes no memory.
     ensures memory { IsErr result → is_numeric t.now.kind ≡ false }
 {
-    match t.kind {
-        Kind::Zoned => Ok(decimal(zoned::number(image), t)),
-        Kind::Packed => Ok(decimal(packed::number(image), t)),
-        Kind::Binary => Ok(decimal(i128::from(binary::number(image)), t)),
-        Kind::Char | Kind::Date | Kind::Time | Kind::Stamp => {
-            Ok(Value::Chars(Text::from_slice(alloc, image)?))
-        }
+    if is_numeric(t.kind) {
+        Ok(Value::Number(number(t, image)))
+    } else {
+        Ok(Value::Chars(Text::from_slice(alloc, image)?))
     }
 }
 
-#[tactic(auto, unfolding(crate::specs::FieldBytes::fault_of))]
+/// The number that stands in a numeric field in which one stands, as `first_bad` tells.
+pub fn number(t: &FieldType, image: &[u8]) -> Dec
+    requires allowed { IsFieldType t.now }
+    requires room { length image.now ≡ width t.now }
+    requires numeric { is_numeric t.now.kind ≡ true }
+    requires there { is_some (held t.now image.now) ≡ true }
+    ensures { stands t.now (Value.Number result) image.now }
+{
+    match t.kind {
+        Kind::Zoned => decimal(zoned::number(image), t),
+        Kind::Packed => decimal(packed::number(image), t),
+        Kind::Binary => decimal(i128::from(binary::number(image)), t),
+        Kind::Char | Kind::Date | Kind::Time | Kind::Stamp => unreachable!(),
+    }
+}
+
 fn put_text(t: &FieldType, text: &[u8], into: &mut [u8]) -> Result<(), ValueFault>
     requires { length into.old ≡ width t.now }
     ensures written { OnOk result (into.new ≡ filled (width t.now) text.now) }
     ensures refused { result_err result ≡ fault_of t.now (Value.Chars text.now) }
     ensures unchanged { OnErr result (into.new ≡ into.old) }
 {
-    if is_numeric(t.kind) {
-        return Err(ValueFault::WrongKind);
-    }
-    if text.len() > into.len() {
-        return Err(ValueFault::TooWide);
-    }
-    if is_moment_kind(t.kind) && !moments::is_moment(t.kind, text) {
-        return Err(ValueFault::BadDate);
+    if let Some(fault) = text_fault(t, text) {
+        return Err(fault);
     }
     let (front, blanks) = into.split_at_mut(text.len());
     front.copy_from_slice(text);
@@ -152,7 +169,25 @@ fn put_text(t: &FieldType, text: &[u8], into: &mut [u8]) -> Result<(), ValueFaul
     Ok(())
 }
 
-#[tactic(auto, unfolding(crate::specs::FieldBytes::fault_of, crate::specs::FieldBytes::written))]
+/// Why a text can't stand in the field.
+#[tactic(auto, unfolding(crate::specs::FieldBytes::fault_of))]
+fn text_fault(t: &FieldType, text: &[u8]) -> Option<ValueFault>
+    ensures fault { result ≡ fault_of t.now (Value.Chars text.now) }
+    ensures room { IfNone result (length text.now ≤ width t.now) }
+{
+    if is_numeric(t.kind) {
+        return Some(ValueFault::WrongKind);
+    }
+    if text.len() > width(t) {
+        return Some(ValueFault::TooWide);
+    }
+    if is_moment_kind(t.kind) && !moments::is_moment(t.kind, text) {
+        return Some(ValueFault::BadDate);
+    }
+    None
+}
+
+#[tactic(auto, unfolding(crate::specs::FieldBytes::written))]
 fn put_number(t: &FieldType, number: Dec, into: &mut [u8]) -> Result<(), ValueFault>
     requires allowed { IsFieldType t.now }
     requires room { length into.old ≡ width t.now }
@@ -160,29 +195,42 @@ fn put_number(t: &FieldType, number: Dec, into: &mut [u8]) -> Result<(), ValueFa
     ensures refused { result_err result ≡ fault_of t.now (Value.Number number) }
     ensures unchanged { OnErr result (into.new ≡ into.old) }
 {
-    if !is_numeric(t.kind) {
-        return Err(ValueFault::WrongKind);
-    }
-    let units = decimals::units_at(number, u32::from(t.length), t.decimals)?;
+    let units = units_in(t, number)?;
     match t.kind {
         Kind::Zoned => zoned::write(units, into),
         Kind::Packed => packed::write(units, into),
         Kind::Binary => binary::write(units, into),
-        Kind::Char | Kind::Date | Kind::Time | Kind::Stamp => {}
+        Kind::Char | Kind::Date | Kind::Time | Kind::Stamp => unreachable!(),
     }
     Ok(())
 }
 
-fn decimal(units: i128, t: &FieldType) -> Value
-    ensures { result ≡ decimal t.now.decimals units }
+/// The number in units of the field's last decimal position, or why it can't stand there.
+#[tactic(auto, unfolding(crate::specs::FieldBytes::fault_of))]
+fn units_in(t: &FieldType, number: Dec) -> Result<i128, ValueFault>
+    requires { IsFieldType t.now }
+    ensures units { IfOk result (λ units. units ≡ units_at t.now.decimals number) }
+    ensures small { IfOk result (λ units. unsigned_abs units < 10 ^ t.now.length) }
+    ensures numeric { OnOk result (is_numeric t.now.kind ≡ true) }
+    ensures refused { result_err result ≡ fault_of t.now (Value.Number number) }
 {
-    Value::Number(Dec {
-        units,
-        scale: t.decimals,
-    })
+    if !is_numeric(t.kind) {
+        return Err(ValueFault::WrongKind);
+    }
+    decimals::units_at(number, u32::from(t.length), t.decimals)
 }
 
-fn is_numeric(kind: Kind) -> bool
+fn decimal(units: i128, t: &FieldType) -> Dec
+    ensures { Value.Number result ≡ decimal t.now.decimals units }
+{
+    Dec {
+        units,
+        scale: t.decimals,
+    }
+}
+
+/// Whether fields of the kind hold numbers.
+pub fn is_numeric(kind: Kind) -> bool
     ensures { result ≡ is_numeric kind }
 {
     matches!(kind, Kind::Zoned | Kind::Packed | Kind::Binary)

@@ -5,7 +5,7 @@ ghost use Rattle.field_values.specs.Digits.{number_in, digits_in, low_half, last
 ghost use Rattle.field_values.specs.Packed.{is_digit_pair, is_digit_sign, is_packed, is_spare_clear, packed_digits, packed_bytes};
 ghost use Rattle.field_values.specs.FirstBad.{TellsFirstBad};
 
-use crate::decimals::{high_half, is_minus, is_sign, low_half, sign_of, signed};
+use crate::decimals::{divided, high_half, is_minus, is_sign, low_half, sign_of, signed};
 
 /// The first byte that no packed number of so many digits has there.
 pub fn first_bad(digits: usize, image: &[u8]) -> Option<usize>
@@ -42,14 +42,14 @@ pub fn write(units: i128, into: &mut [u8])
     requires { 0 < length into.old }
     ensures { into.new ≡ packed_bytes (digits_in 10 (2 * length into.old - 1) (unsigned_abs units)) (sign_of (is_negative units)) }
 {
-    let mut rest = units.unsigned_abs();
+    let (mut rest, digit) = divided(units.unsigned_abs(), 10);
     let mut at = into.len() - 1;
-    into[at] = 16 * (rest % 10) as u8 + sign_of(units);
-    rest /= 10;
+    into[at] = 16 * digit as u8 + sign_of(units);
     while at > 0 {
         at -= 1;
-        into[at] = 16 * (rest / 10 % 10) as u8 + (rest % 10) as u8;
-        rest /= 100;
+        let (more, pair) = divided(rest, 100);
+        into[at] = 16 * (pair as u8 / 10) + pair as u8 % 10;
+        rest = more;
     }
 }
 

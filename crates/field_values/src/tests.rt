@@ -2,7 +2,9 @@
 ghost use Rattle.std.specs.Prelude.{◌≡◌, length};
 ghost use Rattle.field_values.specs.FieldTypes.{IsFieldType, width};
 
-use crate::fields::{BLANK, ImageFault, first_bad, is_allowed, put, take, value, width};
+use crate::fields::{
+    BLANK, ImageFault, fault, first_bad, is_allowed, is_numeric, number, put, take, value, width,
+};
 use crate::test_images::{
     BINARY_IMAGES, ImageRow, MOMENTS, MomentRow, PACKED_IMAGES, WHOLE, ZONED_IMAGES,
 };
@@ -45,6 +47,7 @@ fn is_put(
     let mut into = [OLD; 32];
     assert!(rt; width(t) <= into.len());
     let into = &mut into[..width(t)];
+    assert!(rt; fault(t, value) == wanted.err(), "row {row}");
     let answer = put(t, value, into);
     match wanted {
         Ok(bytes) => {
@@ -64,6 +67,7 @@ fn take_in_steps(alloc: Global, t: &FieldType, image: &[u8]) -> Result<Value, Im
     requires room { length image.now ≡ width t.now }
 {
     match first_bad(t, image) {
+        None if is_numeric(t.kind) => Ok(Value::Number(number(t, image))),
         None => Ok(value(alloc, t, image)?),
         Some(at) => Err(ImageFault::BadImage(BadImage { at })),
     }

@@ -4,7 +4,7 @@ ghost use Rattle.field_values.specs.Digits.{number_in, digits_in, high_half, low
 ghost use Rattle.field_values.specs.Zoned.{is_zone_digit, is_signed_digit, is_zoned, zoned_bytes};
 ghost use Rattle.field_values.specs.FirstBad.{TellsFirstBad};
 
-use crate::decimals::{self, high_half, is_minus, is_sign, low_half, sign_of, signed};
+use crate::decimals::{self, divided, high_half, is_minus, is_sign, low_half, sign_of, signed};
 
 /// The first byte that no zoned number of this length has there.
 pub fn first_bad(image: &[u8]) -> Option<usize>
@@ -34,8 +34,9 @@ pub fn write(units: i128, into: &mut [u8])
     let mut at = into.len();
     while at > 0 {
         at -= 1;
-        into[at] = 16 * zone + (rest % 10) as u8;
-        rest /= 10;
+        let (more, digit) = divided(rest, 10);
+        into[at] = 16 * zone + digit as u8;
+        rest = more;
         zone = 15;
     }
 }

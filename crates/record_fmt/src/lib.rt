@@ -2,6 +2,7 @@
 #![tactic(auto)]
 
 pub mod formats;
+pub mod packing;
 pub mod records;
 
 pub use field_types::faults::RecordFault;

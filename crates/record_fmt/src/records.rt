@@ -1,40 +1,17 @@
-//! The bytes of a record: packed from the values of its fields, and unpacked again. Their meaning stands in `specs/Records.antt`.
-ghost use Rattle.std.specs.Prelude.{◌≡◌, ◌≢◌, ◌↔◌, ℕ, ◌+◌, ◌≤◌, ◌++◌, true, Some, None, is_some, length, IfOk, IsErrOf};
-ghost use Rattle.field_values.specs.FieldTypes.{IsFieldType, width};
-ghost use Rattle.field_values.specs.FieldBytes.{written, fault_of};
+//! The values of a record, unpacked from its bytes. Their meaning stands in `specs/Records.antt`; `packing.rt` packs them.
+ghost use Rattle.std.specs.Prelude.{◌≡◌, ◌↔◌, ℕ, ◌+◌, ◌≤◌, true, Some, is_some, length, IfOk, IsErrOf};
+ghost use Rattle.field_values.specs.FieldTypes.{width};
 ghost use Rattle.field_values.specs.FirstBad.{TellsFirstBad, part};
 ghost use Rattle.record_fmt.specs.Layout.{record_length};
-ghost use Rattle.record_fmt.specs.Records.{record_written, record_held, Packs, IsRecordBadAt};
+ghost use Rattle.record_fmt.specs.Records.{record_held, IsRecordBadAt};
 
-use crate::formats::{Field, Format, PackFault};
-use field_types::faults::{BadImage, RecordFault, ValueFault};
-use field_types::kinds::FieldType;
+use crate::formats::{Field, Format};
+use field_types::faults::BadImage;
 use field_types::values::Value;
 use field_values::fields::{self, ImageFault};
 use std::alloc::{AllocError, Global};
 
 impl Format {
-    /// The image of a record with these values, one for each field.
-    pub fn pack(&self, alloc: Global, values: &[Value]) -> Result<Vec<u8>, PackFault>
-        ensures packed { Packs (record_written self.now.fields values.now) result }
-        ensures count { IsErrOf result (PackFault.Refused RecordFault.Count) ↔ (length values.now ≢ length self.now.fields) }
-    {
-        let fields = self.fields.as_slice();
-        if values.len() != fields.len() {
-            return Err(PackFault::Refused(RecordFault::Count));
-        }
-        let mut image = Vec::with_capacity(alloc, self.length() as usize)?;
-        for i in 0..fields.len() {
-            if let Some(cause) = push_value(&mut image, &fields[i].ty, &values[i])? {
-                return Err(PackFault::Refused(RecordFault::BadField {
-                    field: i as u16 + 1,
-                    cause,
-                }));
-            }
-        }
-        Ok(image)
-    }
-
     /// The first byte with which no record of the format begins; `None` where the image is a record's.
     pub fn first_bad(&self, image: &[u8]) -> Option<usize>
         requires { length image.now ≡ record_length self.now.fields }
@@ -83,19 +60,4 @@ fn bytes_of<'a>(field: &Field, image: &'a [u8]) -> &'a [u8]
 {
     let from = field.offset as usize;
     &image[from..from + fields::width(&field.ty)]
-}
-
-/// Adds a field's bytes at the end of an image, or says why it refuses its value.
-fn push_value(
-    image: &mut Vec<u8>,
-    ty: &FieldType,
-    value: &Value,
-) -> Result<Option<ValueFault>, AllocError>
-    requires { IsFieldType ty.now }
-    ensures fault { IfOk result (λ fault. fault ≡ fault_of ty.now value.now) }
-    ensures written { IfOk result (λ fault. fault ≡ None → image.new.items ≡ image.old.items ++ written ty.now value.now) }
-{
-    let from = image.len();
-    image.resize(from + fields::width(ty), 0)?;
-    Ok(fields::put(ty, value, &mut image[from..]).err())
 }

@@ -240,6 +240,91 @@ fn put(
     Ok(())
 }
 
+/// BALANCE is given, 12.34; COUNT, BALANCE and POINTS have 0, their default.
+const CHANGES: [(usize, &[u8]); 3] = [
+    (5, &[0xF1, 0xD2]),
+    (7, &[0x01, 0x23, 0x4F]),
+    (10, &[0x3B, 0x9A, 0xC9, 0xFF]),
+];
+
+const DEFAULTS: [(usize, &[u8]); 3] = [
+    (5, &[0xF0, 0xF0]),
+    (7, &[0x00, 0x00, 0x0F]),
+    (10, &[0x00, 0x00, 0x00, 0x00]),
+];
+
+/// The record with these bytes in place of its own.
+fn changed(rt: &impl Abort, changes: &[(usize, &[u8])]) -> [u8; 58] {
+    let mut image = RECORD;
+    for (from, bytes) in changes {
+        for (i, byte) in bytes.iter().enumerate() {
+            let place = from.saturating_add(i);
+            assert!(rt; place < image.len());
+            image[place] = *byte;
+        }
+    }
+    image
+}
+
+#[test]
+fn packs_given_values(rt: HostRuntime) -> Result<(), Fail> {
+    let alloc = rt.alloc();
+    let format = customer(&rt, alloc)?;
+    assert_eq!(rt; RECORD.len(), format.length() as usize);
+    // The others keep what stands in the old record.
+    let balance = vec![in alloc; None, None, Some(number(1234, 2)), None, None, None, None]?;
+    assert!(rt; format.first_refused(balance.as_slice(), Some(&RECORD)) == None);
+    match format.pack_given(alloc, balance.as_slice(), Some(&RECORD)) {
+        Ok(image) => assert_eq!(rt; image.as_slice(), changed(&rt, &CHANGES).as_slice()),
+        Err(_) => panic!(rt; "refused"),
+    }
+    // In a new record the first field has a number for its default.
+    let fault = RecordFault::BadField {
+        field: 1,
+        cause: ValueFault::WrongKind,
+    };
+    assert!(rt; format.first_refused(balance.as_slice(), None) == Some(fault));
+    let refused = format.pack_given(alloc, balance.as_slice(), None).err();
+    assert!(rt; refused == Some(PackFault::Refused(fault)));
+    let texts = vec![in alloc;
+        Some(text(alloc, &RECORD[..3])?),
+        None,
+        None,
+        None,
+        Some(text(alloc, &RECORD[14..24])?),
+        Some(text(alloc, &RECORD[24..32])?),
+        Some(text(alloc, &RECORD[32..])?),
+    ]?;
+    match format.pack_given(alloc, texts.as_slice(), None) {
+        Ok(image) => assert_eq!(rt; image.as_slice(), changed(&rt, &DEFAULTS).as_slice()),
+        Err(_) => panic!(rt; "refused"),
+    }
+    let wide = vec![in alloc;
+        None,
+        Some(number(100, 0)),
+        Some(number(1, 3)),
+        None,
+        None,
+        None,
+        None,
+    ]?;
+    let refused = format
+        .pack_given(alloc, wide.as_slice(), Some(&RECORD))
+        .err();
+    let fault = RecordFault::BadField {
+        field: 2,
+        cause: ValueFault::TooWide,
+    };
+    assert!(rt; refused == Some(PackFault::Refused(fault)));
+    let few = vec![in alloc; None, None]?;
+    assert!(rt; format.first_refused(few.as_slice(), None) == Some(RecordFault::Count));
+    let count = format
+        .pack_given(alloc, few.as_slice(), Some(&RECORD))
+        .err();
+    assert!(rt; count == Some(PackFault::Refused(RecordFault::Count)));
+    Ok(())
+}
+
 #[test]
 fn unpacks(rt: HostRuntime) -> Result<(), Fail> {
     let format = customer(&rt, rt.alloc())?;

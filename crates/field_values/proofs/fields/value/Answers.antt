@@ -1,33 +1,9 @@
-use Rattle.std.proofs.Common.{◌≡◌, FitsSigned, rules, subst, sym, ◌∙◌, false, refl, inl, inr}
-use Rattle.std.specs.Int.{w64, w128}
-use Rattle.std.proofs.lemmas.Int.{to_z-of_z}
-use Rattle.field_types.specs.declared.values.Value.{Value}
+use Rattle.std.proofs.Common.{◌≡◌, ◌∙◌, sym, false}
 use Rattle.field_values.specs.FieldTypes.{is_numeric}
-use Rattle.field_values.specs.FieldBytes.{stands, decimal}
-use Rattle.field_values.proofs.FieldLemmas.{stands-zoned, stands-packed, stands-binary, stands-text}
+use Rattle.field_values.proofs.FieldLemmas.{stands-text}
 use Rattle.field_values.proofs.fields.value.Goals as goal
 
-pub returns-in-Zoned-clause-value : goal.returns-in-Zoned-clause-value
-returns-in-Zoned-clause-value c =
-    let fits : FitsSigned w128 c.number.result = search rules in
-    let given : c.decimal.result ≡ decimal c.args.t.now.decimals c.number.result = simp to_z-of_z at c.decimal.ensures in
-    subst (λ (v : Value). stands c.args.t.now v c.args.image.now) (sym given) (stands-zoned c.args.t.now c.args.image.now c.number.result c.in-Zoned.is c.requires.there c.number.ensures)
-
-pub returns-in-Packed-clause-value : goal.returns-in-Packed-clause-value
-returns-in-Packed-clause-value c =
-    let fits : FitsSigned w128 c.number-in-Packed.result = search rules in
-    let given : c.decimal-in-Packed.result ≡ decimal c.args.t.now.decimals c.number-in-Packed.result = simp to_z-of_z at c.decimal-in-Packed.ensures in
-    subst (λ (v : Value). stands c.args.t.now v c.args.image.now) (sym given) (stands-packed c.args.t.now c.args.image.now c.number-in-Packed.result c.in-Packed.is c.requires.there c.number-in-Packed.ensures)
-
-pub returns-in-Binary-clause-value : goal.returns-in-Binary-clause-value
-returns-in-Binary-clause-value c =
-    let small : FitsSigned w64 c.number-in-Binary.result = search rules in
-    let fits : FitsSigned w128 c.from.result = search rules in
-    let number : c.from.result ≡ c.number-in-Binary.result = simp to_z-of_z at c.from.ensures in
-    let given : c.decimal-in-Binary.result ≡ decimal c.args.t.now.decimals c.from.result = simp to_z-of_z at c.decimal-in-Binary.ensures in
-    subst (λ (v : Value). stands c.args.t.now v c.args.image.now) (sym given) (stands-binary c.args.t.now c.args.image.now c.from.result c.in-Binary.is c.requires.there (number ∙ c.number-in-Binary.ensures))
-
-pub returns-in_ok-from_slice-in-Char-clause-value : goal.returns-in_ok-from_slice-in-Char-clause-value
-returns-in_ok-from_slice-in-Char-clause-value c =
-    let text : is_numeric c.args.t.now.kind ≡ false = elim c.in-Char.is [ inl is ↦ rw is refl | inr other ↦ elim other [ inl is ↦ rw is refl | inr last ↦ elim last [ inl is ↦ rw is refl | inr is ↦ rw is refl ] ] ] in
-    rw c.in_ok-from_slice-in-Char.ensures (stands-text c.args.t.now c.args.image.now text c.requires.there)
+pub returns-in_ok-from_slice-clause-value : goal.returns-in_ok-from_slice-clause-value
+returns-in_ok-from_slice-clause-value c =
+    let text : is_numeric c.args.t.now.kind ≡ false = sym c.is_numeric.ensures ∙ c.if-is_numeric.false in
+    rw c.in_ok-from_slice.ensures (stands-text c.args.t.now c.args.image.now text c.requires.there)

@@ -1,0 +1,8 @@
+//! The order of decimal numbers by value, and the powers of ten.
+#![tactic(auto)]
+
+pub mod laws;
+pub mod order;
+pub mod powers;
+#[cfg(test)]
+mod tests;
