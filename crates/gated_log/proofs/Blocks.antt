@@ -1,9 +1,9 @@
 -- Lists of blocks in an area: one block more, where each stands, and that bytes spell one list alone.
 use Rattle.std.proofs.Common.{◌≡◌, ◌≢◌, ℕ, zero, suc, ◌+◌, ◌^◌, ◌<◌, ◌≤◌, List, [], ◌∷◌, ◌++◌, length, get_or, take, drop, refl, sym, ◌∙◌, ap, subst, arith, append_assoc, length-append}
-use Rattle.std.proofs.lemmas.List.{map-append, take_at, drop_at, append_cancel_left}
+use Rattle.std.proofs.lemmas.List.{map-append, take_at, drop_at, drop-drop, append_cancel_left}
 use Rattle.byteorder.specs.Endian.{big_bytes, big_number}
 use Rattle.byteorder.specs.Numbers.{big_number-reads_back}
-use Rattle.gated_log.specs.Blocks.{block_bytes, Opens, extent, sizes, IsFaultAt}
+use Rattle.gated_log.specs.Blocks.{block_bytes, Opens, extent, sizes, StandsAt, IsFaultAt}
 use Rattle.gated_log.specs.Places.{ArePlaced, lengths_of}
 use Rattle.gated_log.specs.declared.log.Place.{Place}
 use Rattle.gated_log.proofs.Numbers.{length-block_bytes}
@@ -24,8 +24,25 @@ pub placed-push : (gate : ℕ) (places : List Place) (end : ℕ) (place : Place)
 placed-push gate [] end place placed at = (omega (arith, placed), omega (arith, placed))
 placed-push gate (first ∷ places) end place placed at = (placed.0, placed-push (gate + 5 + first.length) places end place placed.1 at)
 
+-- one place more, up to an end that is told
+pub placed_further : (gate : ℕ) (places pushed : List Place) (end further : ℕ) (place : Place) → ArePlaced gate places end → pushed ≡ places ++ place ∷ [] → place.at ≡ end + 5 → further ≡ end + 5 + place.length → ArePlaced gate pushed further
+placed_further gate places pushed end further place placed push at is =
+    subst (λ (l : List Place). ArePlaced gate l further) (sym push) (subst (λ (n : ℕ). ArePlaced gate (places ++ place ∷ []) n) (sym is) (placed-push gate places end place placed at))
+
+-- the nth place, from the lengths before it
+pub placed_at : (gate : ℕ) (places : List Place) (end n : ℕ) (d : Place) → ArePlaced gate places end → n < length places → (get_or places n d).at ≡ gate + 5 + extent (take n (lengths_of places))
+placed_at gate [] end n d placed below = absurd (omega arith)
+placed_at gate (place ∷ places) end zero d placed below = omega (arith, placed.0)
+placed_at gate (place ∷ places) end (suc n) d placed below = omega (arith, placed_at (gate + 5 + place.length) places end n d placed.1 (omega arith))
+
 pub lengths_of-push : (places : List Place) (place : Place) → lengths_of (places ++ place ∷ []) ≡ lengths_of places ++ place.length ∷ []
 lengths_of-push places place = map-append (λ (p : Place). p.length) places (place ∷ [])
+
+-- lengths are short, those of no block too
+pub lengths_short : (places : List Place) (n : ℕ) → get_or (lengths_of places) n 0 < 2 ^ 32
+lengths_short [] n = omega arith
+lengths_short (place ∷ places) zero = place.short
+lengths_short (place ∷ places) (suc n) = lengths_short places n
 
 -- what stands before the rest, which may be any
 pub record Front (blocks : List (List ℕ)) (body rest : List ℕ) : Type 0 where
@@ -108,6 +125,21 @@ first_block before body block after gate at is place =
     ap (λ (l : List ℕ). take (length block) (drop at l)) whole
     ∙ ap (λ (l : List ℕ). take (length block) l) (drop_at front (block ++ after) at (omega (arith, length-append before (gate ∷ big_bytes 4 (length block)))))
     ∙ take_at block after (length block) refl
+
+-- the nth block stands behind the gate that follows the blocks before it
+pub block_stands : (blocks : List (List ℕ)) (n : ℕ) (body rest : List ℕ) → Opens blocks body rest → n < length blocks → StandsAt (1 + extent (take n (sizes blocks))) (get_or blocks n []) body
+block_stands [] n body rest opens below = absurd (omega arith)
+block_stands (block ∷ blocks) zero body rest (gate, after, opened, small, is, more) below = (after, ap (λ (l : List ℕ). drop 1 l) is)
+block_stands (block ∷ blocks) (suc n) body rest (gate, after, opened, small, is, more) below =
+    let e = extent (take n (sizes blocks)) in
+    let there = block_stands blocks n after rest more (omega arith) in
+    let front : length (gate ∷ block_bytes block) ≡ 5 + length block = omega (arith, length-block_bytes block) in
+    let place : 1 + (5 + length block + e) ≡ (5 + length block) + (1 + e) = omega arith in (
+      there.0,
+      ap (λ (k : ℕ). drop k body) place ∙ sym (drop-drop (1 + e) (5 + length block) body)
+          ∙ ap (λ (l : List ℕ). drop (1 + e) l) (ap (λ (l : List ℕ). drop (5 + length block) l) is ∙ drop_at (gate ∷ block_bytes block) after (5 + length block) front)
+          ∙ there.1,
+    )
 
 -- a list that is read by its places
 pub record Read (bytes block : List ℕ) (place : Place) : Type 0 where

@@ -1,9 +1,9 @@
 -- What was read at a gate says of the bytes from it on.
 use Rattle.std.proofs.Common.{◌≡◌, ◌≢◌, inr, ℕ, suc, ◌+◌, ◌^◌, ◌<◌, ◌≤◌, List, [], ◌∷◌, ◌++◌, length, get_or, take, drop, Err, IsErrOf, refl, sym, ◌∙◌, ap, subst, arith, append_assoc, length-append, length-take, length-drop, take-append-drop}
-use Rattle.std.proofs.lemmas.List.{drop_more, drop-drop}
+use Rattle.std.proofs.lemmas.List.{drop_more, drop-drop, get_or-take, take_all}
 use Rattle.byteorder.specs.Endian.{big_bytes, big_number}
 use Rattle.byteorder.specs.Numbers.{big_from-take}
-use Rattle.gated_log.specs.Blocks.{header, block_bytes, IsFirst, Opens, Spells, sizes, HasNoBlock, IsFaultAt, HasNoHeader, IsDamagedAt, extent}
+use Rattle.gated_log.specs.Blocks.{header, block_bytes, MayBegin, Opens, Spells, sizes, HasNoBlock, IsFaultAt, HasNoHeader, IsDamagedAt, extent}
 use Rattle.gated_log.specs.Places.{lengths_of}
 use Rattle.gated_log.specs.Walk.{HasBlock, IsWalked}
 use Rattle.gated_log.specs.declared.log.Place.{Place}
@@ -16,11 +16,18 @@ pub damaged_is : {T : Type 0} (area place a at : ℕ) → IsErrOf {T = T} (Err (
 damaged_is area place a at is = (cc, cc)
 
 -- the gate that was read, and what stands behind it
-pub gate_is : (seen one : List ℕ) (gate : ℕ) → length one ≡ 1 → one ≡ take (length one) (drop gate seen) → gate < length seen → drop gate seen ≡ get_or one 0 0 ∷ drop (gate + 1) seen
-gate_is seen one gate size is inside =
+pub gate_is : (seen field : List ℕ) (gate n : ℕ) → take n field ≡ take n (drop gate seen) → 0 < n → gate < length seen → drop gate seen ≡ get_or field 0 0 ∷ drop (gate + 1) seen
+gate_is seen field gate n is some inside =
     let cons = drop_more seen gate 0 inside in
-    let one_is : one ≡ get_or seen gate 0 ∷ [] = is ∙ ap (λ (n : ℕ). take n (drop gate seen)) size ∙ ap (λ (l : List ℕ). take 1 l) cons in
-    cons ∙ ap (λ (x : ℕ). x ∷ drop (gate + 1) seen) (sym (ap (λ (l : List ℕ). get_or l 0 0) one_is))
+    let first : get_or field 0 0 ≡ get_or seen gate 0 =
+    sym (get_or-take n field 0 0 some) ∙ ap (λ (l : List ℕ). get_or l 0 0) is ∙ get_or-take n (drop gate seen) 0 0 some ∙ ap (λ (l : List ℕ). get_or l 0 0) cons in
+    cons ∙ ap (λ (x : ℕ). x ∷ drop (gate + 1) seen) (sym first)
+
+-- the length that was read behind it
+pub four_is : (seen field : List ℕ) (gate n : ℕ) → take n field ≡ take n (drop gate seen) → n ≡ 5 → length field ≡ 5 → gate < length seen → drop 1 field ≡ take 4 (drop (gate + 1) seen)
+four_is seen field gate n is five size inside =
+    let whole : field ≡ take 5 (drop gate seen) = sym (take_all 5 field (omega arith)) ∙ subst (λ (k : ℕ). take k field ≡ take k (drop gate seen)) five is in
+    ap (λ (l : List ℕ). drop 1 l) (whole ∙ ap (λ (l : List ℕ). take 5 l) (drop_more seen gate 0 inside))
 
 -- a fault behind an open gate
 pub fault_behind : (bytes after : List ℕ) (place value : ℕ) → bytes ≡ value ∷ after → value ≢ 0 → HasNoBlock after → IsFaultAt place bytes (place + 1)
@@ -57,9 +64,9 @@ block_found bytes after four value place is opened size read number fits room =
     past x xs n = (let e : 5 + n ≡ suc (4 + n) = omega arith in ap (λ (k : ℕ). drop k (x ∷ xs)) e) ∙ sym (drop-drop n 4 xs)
 
 -- a header that was read
-pub walked_none : (area first : ℕ) (seen read : List ℕ) → IsFirst area first → read ≡ header area first → length read ≡ 32 → read ≡ take (length read) (drop 0 seen) → IsWalked area first seen [] 32
-walked_none area first seen read has is size front = record {
-  has_first = has;
+pub walked_none : (area first version : ℕ) (seen read : List ℕ) → MayBegin area first version → read ≡ header area first version → length read ≡ 32 → read ≡ take (length read) (drop 0 seen) → IsWalked area first version seen [] 32
+walked_none area first version seen read has is size front = record {
+  may_begin = has;
   body = drop 32 seen;
   blocks = [];
   header = sym (take-append-drop 32 seen) ∙ ap (λ (l : List ℕ). l ++ drop 32 seen) (ap (λ (k : ℕ). take k seen) (sym size) ∙ sym front ∙ is);
@@ -72,12 +79,12 @@ pub walked_not : (area : ℕ) (seen read : List ℕ) → HasNoHeader area read �
 walked_not area seen read none size front long = front_header area seen long (subst (λ (l : List ℕ). HasNoHeader area l) (front ∙ ap (λ (k : ℕ). take k seen) size) none)
 
 -- one block further
-pub walked_further : (area first : ℕ) (seen : List ℕ) (places pushed : List Place) (place : Place) (gate : ℕ) → IsWalked area first seen places gate → HasBlock (drop gate seen) place → pushed ≡ places ++ place ∷ [] → IsWalked area first seen pushed (gate + 5 + place.length)
-walked_further area first seen places pushed place gate walked found push =
+pub walked_further : (area first version : ℕ) (seen : List ℕ) (places pushed : List Place) (place : Place) (gate : ℕ) → IsWalked area first version seen places gate → HasBlock (drop gate seen) place → pushed ≡ places ++ place ∷ [] → IsWalked area first version seen pushed (gate + 5 + place.length)
+walked_further area first version seen places pushed place gate walked found push =
     let behind : drop (5 + place.length) (drop gate seen) ≡ drop (gate + 5 + place.length) seen =
     drop-drop (5 + place.length) gate seen ∙ (let e : gate + (5 + place.length) ≡ gate + 5 + place.length = omega arith in ap (λ (k : ℕ). drop k seen) e) in
     record {
-      has_first = walked.has_first;
+      may_begin = walked.may_begin;
       body = walked.body;
       blocks = walked.blocks ++ found.block ∷ [];
       header = walked.header;
@@ -88,9 +95,9 @@ walked_further area first seen places pushed place gate walked found push =
     }
 
 -- the list that was walked, up to a closed gate
-pub walked_spells : (area first : ℕ) (seen rest : List ℕ) (places : List Place) (gate : ℕ) (walked : IsWalked area first seen places gate) → drop gate seen ≡ 0 ∷ rest → Spells area first walked.blocks seen
-walked_spells area first seen rest places gate walked shut = record {
-  has_first = walked.has_first;
+pub walked_spells : (area first version : ℕ) (seen rest : List ℕ) (places : List Place) (gate : ℕ) (walked : IsWalked area first version seen places gate) → drop gate seen ≡ 0 ∷ rest → Spells area first version walked.blocks seen
+walked_spells area first version seen rest places gate walked shut = record {
+  may_begin = walked.may_begin;
   body = walked.body;
   rest = rest;
   header = walked.header;
@@ -98,10 +105,11 @@ walked_spells area first seen rest places gate walked shut = record {
 }
 
 -- or up to a fault
-pub walked_breaks : (area first : ℕ) (seen : List ℕ) (places : List Place) (gate at : ℕ) → IsWalked area first seen places gate → gate ≡ 32 + extent (lengths_of places) → IsFaultAt gate (drop gate seen) at → IsDamagedAt area seen at
-walked_breaks area first seen places gate at walked is fault = inr (record {
+pub walked_breaks : (area first version : ℕ) (seen : List ℕ) (places : List Place) (gate at : ℕ) → IsWalked area first version seen places gate → gate ≡ 32 + extent (lengths_of places) → IsFaultAt gate (drop gate seen) at → IsDamagedAt area seen at
+walked_breaks area first version seen places gate at walked is fault = inr (record {
   first = first;
-  has_first = walked.has_first;
+  version = version;
+  may_begin = walked.may_begin;
   blocks = walked.blocks;
   body = walked.body;
   rest = drop gate seen;

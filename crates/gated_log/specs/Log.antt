@@ -3,16 +3,17 @@ use Rattle.std.specs.Prelude.{◌≡◌, ◌⊎◌, ℕ, List, [], ◌∷◌, �
 use Rattle.store_model.specs.Disk.{Disk, IsDurable}
 use Rattle.gated_log.specs.Blocks.{Spells, sizes}
 
--- the area, the first sequence in its header, the lengths of its blocks, and for how many more there is room
+-- the area, the first sequence and the version in its header, the lengths of its blocks, and for how many more there is room
 pub record LogState : Type 0 where
   pub area : ℕ
   pub first : ℕ
+  pub version : ℕ
   pub lengths : List ℕ
   pub room : ℕ
 
 -- the log's area spells these blocks, and a stop leaves of it what a read gives
 pub record Settled (log : LogState) (blocks : List (List ℕ)) (disk : Disk) : Type 0 where
-  pub spells : Spells log.area log.first blocks (disk.seen log.area)
+  pub spells : Spells log.area log.first log.version blocks (disk.seen log.area)
   pub lengths : log.lengths ≡ sizes blocks
   pub durable : IsDurable log.area disk
 
@@ -25,8 +26,8 @@ abbrev pub IsSettled : LogState → Disk → Type 0
 IsSettled log disk = ∥ HasBlocks log disk ∥₁
 
 -- before or after one block more
-abbrev pub IsWithOrWithout : ℕ → ℕ → List (List ℕ) → List ℕ → List ℕ → Type 0
-IsWithOrWithout area first blocks block bytes = Spells area first blocks bytes ⊎ Spells area first (blocks ++ block ∷ []) bytes
+abbrev pub IsWithOrWithout : ℕ → ℕ → ℕ → List (List ℕ) → List ℕ → List ℕ → Type 0
+IsWithOrWithout area first version blocks block bytes = Spells area first version blocks bytes ⊎ Spells area first version (blocks ++ block ∷ []) bytes
 
 -- any bytes
 abbrev pub Anything : List ℕ → List ℕ → Type 0

@@ -1,6 +1,6 @@
 -- How far an area was read, gate by gate, while its log is opened.
 use Rattle.std.specs.Prelude.{◌≡◌, ◌≢◌, ℕ, ◌+◌, ◌^◌, ◌<◌, ◌≤◌, List, [], ◌∷◌, ◌++◌, length, drop, Option, Some, None}
-use Rattle.gated_log.specs.Blocks.{header, block_bytes, IsFirst, Opens, sizes}
+use Rattle.gated_log.specs.Blocks.{header, block_bytes, MayBegin, Opens, sizes}
 use Rattle.gated_log.specs.Places.{lengths_of}
 use Rattle.gated_log.specs.declared.log.Place.{Place}
 
@@ -28,10 +28,10 @@ IsBehind gate size None = Unit {0}
 IsBehind gate size (Some place) = (place.at ≡ gate + 5) × (place.at + place.length ≤ size)
 
 -- the area begins with the header and these blocks, up to the gate
-pub record IsWalked (area first : ℕ) (bytes : List ℕ) (places : List Place) (gate : ℕ) : Type 0 where
-  pub has_first : IsFirst area first
+pub record IsWalked (area first version : ℕ) (bytes : List ℕ) (places : List Place) (gate : ℕ) : Type 0 where
+  pub may_begin : MayBegin area first version
   pub body : List ℕ
   pub blocks : List (List ℕ)
-  pub header : bytes ≡ header area first ++ body
+  pub header : bytes ≡ header area first version ++ body
   pub opens : Opens blocks body (drop gate bytes)
   pub lengths : lengths_of places ≡ sizes blocks

@@ -9,8 +9,8 @@ mod opening;
 mod reading;
 
 pub use fault::{LogFault, StoreFault};
-pub use layout::MAX_BLOCK;
-pub use log::{Log, format};
+pub use layout::{FRAME, MAX_BLOCK, put_frame};
+pub use log::{Log, create, format};
 pub use opening::open;
 pub use reading::one_reading;
 

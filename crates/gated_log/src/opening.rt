@@ -1,16 +1,16 @@
 //! Opens a log: walks from gate to gate, and trusts no byte. `log.rt` has the log itself.
-ghost use Rattle.std.specs.Prelude.{◌≡◌, ◌+◌, ◌<◌, ◌≤◌, ◌^◌, ℕ, [], length, drop, IfOk, IsErrOf};
+ghost use Rattle.std.specs.Prelude.{◌≡◌, ◌+◌, ◌-◌, ◌<◌, ◌≤◌, ◌^◌, ℕ, [], length, take, drop, min, IfOk, IsErr, IsErrOf};
 ghost use Rattle.store_model.specs.Disk.{Stays, IsDurable};
 ghost use Rattle.store_model.specs.Faults.{Rose};
-ghost use Rattle.gated_log.specs.Blocks.{IsFirst, IsDamagedAt, IsFaultAt, HasNoHeader, Spells};
+ghost use Rattle.gated_log.specs.Blocks.{MayBegin, IsDamagedAt, IsFaultAt, HasNoHeader, Spells};
 ghost use Rattle.gated_log.specs.Log.{HasBlocks};
 ghost use Rattle.gated_log.specs.Walk.{IsFound, IsBehind, IsWalked};
 
 use crate::LogFault;
-use crate::layout::{CLOSED, HEADER, first_of, length_of};
+use crate::layout::{CLOSED, HEADER, Head, head_of, length_of};
 use crate::log::{Log, Place};
 use std::alloc::Global;
-use store_model::Store;
+use store_model::{Failed, Store};
 
 /// Opens the log of an area. It writes nothing, so a stop within it leaves what a stop before it could; from its
 /// sync on that is what a read gives.
@@ -23,7 +23,7 @@ pub fn open<S: Store>(alloc: Global, store: &mut S, area: u32) -> Result<Log, Lo
 {
     store.sync(area)?;
     let size = store.size(area)?;
-    let first = read_first(store, area, size)?;
+    let head = read_head(store, area, size)?;
     let mut places = Vec::new(alloc);
     let mut gate = HEADER as u64;
     while let Some(place) = next_place(store, area, gate, size)? {
@@ -32,16 +32,16 @@ pub fn open<S: Store>(alloc: Global, store: &mut S, area: u32) -> Result<Log, Lo
     }
     Ok(Log {
         area,
-        first,
+        head,
         places,
         end: gate,
     })
 }
 
-/// The first sequence in the area's header.
-fn read_first<S: Store>(store: &mut S, area: u32, size: u64) -> Result<u64, LogFault>
+/// What the area's header says.
+fn read_head<S: Store>(store: &mut S, area: u32, size: u64) -> Result<Head, LogFault>
     requires { S.tells → size ≡ length ((S.disk store.old).seen area) }
-    ensures first { IfOk result (λ first. S.tells → IsWalked area first ((S.disk store.old).seen area) [] 32) }
+    ensures head { IfOk result (λ head. S.tells → IsWalked area head.first head.version ((S.disk store.old).seen area) [] 32) }
     ensures whole { IfOk result (λ _. 32 ≤ size) }
     ensures damaged { (a at : ℕ) → IsErrOf result (LogFault.Damaged a at) → (a ≡ area) × (at ≡ 0) × (S.tells → HasNoHeader area ((S.disk store.old).seen area)) }
     ensures stays { Stays (S.disk store.old) (S.disk store.new) }
@@ -52,13 +52,13 @@ fn read_first<S: Store>(store: &mut S, area: u32, size: u64) -> Result<u64, LogF
     }
     let mut header = [0; HEADER];
     store.read(area, 0, &mut header)?;
-    match first_of(area, &header) {
-        Some(first) => Ok(first),
+    match head_of(area, &header) {
+        Some(head) => Ok(head),
         None => Err(LogFault::Damaged { area, at: 0 }),
     }
 }
 
-/// The place of the block behind a gate, `None` if the gate is closed.
+/// The place of the block behind a gate, `None` if the gate is closed. One read.
 fn next_place<S: Store>(
     store: &mut S,
     area: u32,
@@ -77,18 +77,15 @@ fn next_place<S: Store>(
     if gate >= size {
         return Err(LogFault::Damaged { area, at: gate });
     }
-    let mut value = [CLOSED];
-    store.read(area, gate, &mut value)?;
-    if value[0] == CLOSED {
+    let field = read_gate(store, area, gate, size)?;
+    if field[0] == CLOSED {
         return Ok(None);
     }
     let damaged = LogFault::Damaged { area, at: gate + 1 };
     if size - gate < 5 {
         return Err(damaged);
     }
-    let mut length = [0; 4];
-    store.read(area, gate + 1, &mut length)?;
-    let length = length_of(&length);
+    let length = length_of(&field);
     if size - gate - 5 < u64::from(length) {
         return Err(damaged);
     }
@@ -96,4 +93,19 @@ fn next_place<S: Store>(
         at: gate + 5,
         length,
     }))
+}
+
+/// The gate and the four bytes of the length behind it, as far as the area goes.
+fn read_gate<S: Store>(store: &mut S, area: u32, gate: u64, size: u64) -> Result<[u8; 5], Failed>
+    requires size { S.tells → size ≡ length ((S.disk store.old).seen area) }
+    requires inside { gate < size }
+    ensures five { IfOk result (λ field. length field ≡ 5) }
+    ensures field { IfOk result (λ field. S.tells → let n = min 5 (size - gate) in take n field ≡ take n (drop gate ((S.disk store.old).seen area))) }
+    ensures stays { Stays (S.disk store.old) (S.disk store.new) }
+    ensures cause { IsErr result → Rose (S.disk store.old).faults (S.disk store.new).faults }
+{
+    let mut field = [CLOSED; 5];
+    let count = (size - gate).min(5) as usize;
+    store.read(area, gate, &mut field[..count])?;
+    Ok(field)
 }

@@ -4,13 +4,13 @@ use Rattle.std.proofs.lemmas.List.{take_all, take-append-le}
 use Rattle.std.proofs.lemmas.Bool.{cases_lt}
 use Rattle.std.specs.declared.alloc.Global.{Global}
 use Rattle.store_model.specs.Disk.{Areas, May, Later, Does, Stays, Torn, Cut, IsDurable, written}
-use Rattle.store_model.specs.Past.{blank, changed, MayAfter, seen_after, Leaves, MayLeave, disk_after}
+use Rattle.store_model.specs.Past.{blank, changed, MayAfter, seen_after, MayAfterAll, MayLeave, disk_after}
 use Rattle.store_model.specs.Steps.{torn_not, cut_not, put_here, put_others}
 use Rattle.store_model.specs.declared.past.Change.{Change}
 use Rattle.store_model.specs.declared.past.Change.TheVariants.{Wrote, Shortened, Synced}
 use Rattle.store_model.proofs.Pushed.{seen_after-push}
 
-pub leaves_push : (seen : Areas) (may : Areas → Type 0) (changes : List Change) (change : Change) (c : Areas) → Leaves seen may (changes ++ change ∷ []) c → MayAfter change (seen_after seen changes) (Leaves seen may changes) c
+pub leaves_push : (seen : Areas) (may : Areas → Type 0) (changes : List Change) (change : Change) (c : Areas) → MayAfterAll seen may (changes ++ change ∷ []) c → MayAfter change (seen_after seen changes) (MayAfterAll seen may changes) c
 leaves_push seen may [] change c left = left
 leaves_push seen may (first ∷ changes) change c left = leaves_push (changed first seen) (MayAfter first seen may) changes change c left
 

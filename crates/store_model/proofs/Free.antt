@@ -3,7 +3,7 @@ use Rattle.std.proofs.Common.{◌≡◌, ◌≢◌, inl, inr, ℕ, zero, suc, �
 use Rattle.std.proofs.lemmas.Bool.{cases_eq, cases_lt}
 use Rattle.std.specs.declared.alloc.Global.{Global}
 use Rattle.store_model.specs.Disk.{Areas, Only, Torn, Cut}
-use Rattle.store_model.specs.Past.{blank, changed, MayAfter, seen_after, Leaves, MayLeave}
+use Rattle.store_model.specs.Past.{blank, changed, MayAfter, seen_after, MayAfterAll, MayLeave}
 use Rattle.store_model.specs.Replayed.{put, IsFree}
 use Rattle.store_model.specs.Steps.{put_here, put_others}
 use Rattle.store_model.specs.declared.past.Change.{Change}
@@ -11,7 +11,7 @@ use Rattle.store_model.specs.declared.past.Change.TheVariants.{Wrote, Shortened,
 use Rattle.store_model.proofs.Pushed.{same_areas}
 use Rattle.store_model.proofs.DiskAfter.{leaves_push}
 
-push_leaves : (seen : Areas) (may : Areas → Type 0) (changes : List Change) (change : Change) (c : Areas) → MayAfter change (seen_after seen changes) (Leaves seen may changes) c → Leaves seen may (changes ++ change ∷ []) c
+push_leaves : (seen : Areas) (may : Areas → Type 0) (changes : List Change) (change : Change) (c : Areas) → MayAfter change (seen_after seen changes) (MayAfterAll seen may changes) c → MayAfterAll seen may (changes ++ change ∷ []) c
 push_leaves seen may [] change c left = left
 push_leaves seen may (first ∷ changes) change c left = push_leaves (changed first seen) (MayAfter first seen may) changes change c left
 

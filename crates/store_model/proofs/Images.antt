@@ -1,16 +1,21 @@
 -- Stores that are made of areas.
 use Rattle.std.proofs.Common.{◌≡◌, ◌≢◌, inl, inr, ℕ, zero, suc, ◌+◌, ◌<◌, List, [], ◌∷◌, ◌++◌, length, get_or, take, Vec, refl, sym, ◌∙◌, ap, subst, arith, length-take}
 use Rattle.std.proofs.lemmas.List.Elements.{recursion_from_All, All-from_recursion, All-push}
-use Rattle.std.specs.List.{AllByRecursion}
+use Rattle.std.specs.List.{AllByRecursion, Any}
 use Rattle.std.specs.declared.alloc.Global.{Global}
 use Rattle.std.proofs.lemmas.Bool.{cases_eq}
 use Rattle.std.proofs.lemmas.List.{append-nil, drop_all, take_more}
 use Rattle.store_model.specs.Disk.{Areas, written}
 use Rattle.store_model.specs.Past.{held, blank, seen_after, MayLeave}
-use Rattle.store_model.specs.Replayed.{put, IsFree}
+use Rattle.store_model.specs.MemoryStore.{HasImage, HasTorn}
+use Rattle.store_model.specs.Replayed.{put, IsFree, IsReplayed}
+use Rattle.store_model.specs.Synced.{last_synced, IsWritten}
 use Rattle.store_model.specs.Steps.{put_here, put_others}
+use Rattle.store_model.specs.declared.memory_store.MemoryStore.{MemoryStore}
 use Rattle.store_model.specs.declared.past.Change.{Change}
 use Rattle.store_model.specs.declared.past.Change.TheVariants.{Wrote, Shortened, Synced}
+use Rattle.store_model.specs.declared.replay.Replayed.{Replayed}
+use Rattle.store_model.proofs.Loose.{loose_written}
 use Rattle.store_model.proofs.Pushed.{seen_after-push, same_areas}
 
 -- an area more at the end
@@ -48,16 +53,15 @@ replaced first one two three area bytes wanted is cut write sync other =
       | inr apart ↦ put_others area _ (seen_after blank one) other apart ∙ ap (λ (f : Areas). f other) shut ∙ put_others area [] (seen_after blank first) other apart ∙ sym (put_others area wanted (seen_after blank first) other apart)
     ])
 
--- one area more that is free
-pub free_push : (changes : List Change) (xs pushed : List (Vec ℕ Global)) (v : Vec ℕ Global) (i : ℕ) → length xs ≡ i → pushed ≡ xs ++ v ∷ [] → ((a : ℕ) → a < i → IsFree changes a (held xs a)) → IsFree changes i v.items
-    → (a : ℕ) → a < i + 1 → IsFree changes a (held pushed a)
-free_push changes xs pushed v i size push before here a below = subst (λ (l : List ℕ). IsFree changes a l) (sym (ap (λ (l : List (Vec ℕ Global)). held l a) push ∙ held-snoc xs v a)) (elim (cases_eq a i) [
+-- what is said of each area that is held goes on to one more
+pub held_all : (P : ℕ → List ℕ → Type 0) (xs pushed : List (Vec ℕ Global)) (v : Vec ℕ Global) (i : ℕ) → length xs ≡ i → pushed ≡ xs ++ v ∷ [] → ((a : ℕ) → a < i → P a (held xs a)) → P i v.items → (a : ℕ) → a < i + 1 → P a (held pushed a)
+held_all P xs pushed v i size push before here a below = subst (λ (l : List ℕ). P a l) (sym (ap (λ (l : List (Vec ℕ Global)). held l a) push ∙ held-snoc xs v a)) (elim (cases_eq a i) [
   | inl same ↦
       let at : put (length xs) v.items (held xs) a ≡ v.items = ap (λ (n : ℕ). put (length xs) v.items (held xs) n) (same ∙ sym size) ∙ put_here (length xs) v.items (held xs) in
-      subst (λ (l : List ℕ). IsFree changes a l) (sym at) (subst (λ (n : ℕ). IsFree changes n v.items) (sym same) here)
+      subst (λ (l : List ℕ). P a l) (sym at) (subst (λ (n : ℕ). P n v.items) (sym same) here)
   | inr apart ↦
       let at : put (length xs) v.items (held xs) a ≡ held xs a = put_others (length xs) v.items (held xs) a (λ e. apart (e ∙ size)) in
-      subst (λ (l : List ℕ). IsFree changes a l) (sym at) (before a (omega arith))
+      subst (λ (l : List ℕ). P a l) (sym at) (before a (omega arith))
 ])
 
 -- one area more that is put into a store
@@ -79,11 +83,29 @@ pub same_may : (changes : List Change) (seen images : Areas) → MayLeave change
 same_may changes seen images may same = subst (λ (f : Areas). MayLeave changes f) (sym (same_areas seen images same)) may
 
 -- an image of a write that was cut short
-pub torn_image : (changes : List Change) (area : ℕ) (torn items : List (Vec ℕ Global)) (i : ℕ) (item : Vec ℕ Global) (synced old new : Areas) (bytes : List ℕ) → AllByRecursion (λ v. IsFree changes area v.items) torn → items ≡ torn → item ≡ get_or items i item → i < length items
-    → MayLeave changes synced → bytes ≡ item.items → ((a : ℕ) → old a ≡ synced a) → ((a : ℕ) → new a ≡ put area bytes old a) → MayLeave changes new
-torn_image changes area torn items i item synced old new bytes free are is below may value before after =
+pub torn_image : (changes : List Change) (area : ℕ) (torn items : List (Vec ℕ Global)) (i : ℕ) (item : Vec ℕ Global) (synced new : Areas) (bytes : List ℕ) → AllByRecursion (λ v. IsFree changes area v.items) torn → items ≡ torn → item ≡ get_or items i item → i < length items
+    → MayLeave changes synced → bytes ≡ item.items → ((a : ℕ) → new a ≡ put area bytes synced a) → MayLeave changes new
+torn_image changes area torn items i item synced new bytes free are is below may value after =
     let all = All-from_recursion (λ (v : Vec ℕ Global). IsFree changes area v.items) torn free in
     let here : item ≡ get_or torn i item = is ∙ ap (λ (l : List (Vec ℕ Global)). get_or l i item) are in
     let mine : IsFree changes area item.items = subst (λ (v : Vec ℕ Global). IsFree changes area v.items) (sym here) (all i item (omega (arith, ap length are))) in
-    same_may changes new (put area item.items synced) (mine synced may)
-    (λ a. after a ∙ ap (λ (f : Areas). put area bytes f a) (same_areas old synced before) ∙ ap (λ (l : List ℕ). put area l synced a) value)
+    same_may changes new (put area item.items synced) (mine synced may) (λ a. after a ∙ ap (λ (l : List ℕ). put area l synced a) value)
+
+-- each image of a list that is kept in a longer one
+pub torn_kept : (changes : List Change) (area : ℕ) (old new : List MemoryStore) → ((areas : Areas) → HasImage areas old → HasImage areas new) → HasTorn changes area old → HasTorn changes area new
+torn_kept changes area old new kept torn = record { whole = λ at bytes loose. kept _ (torn.whole at bytes loose); halved = λ at bytes loose. kept _ (torn.halved at bytes loose) }
+
+-- an image for each piece of an area that is replayed
+pub torn_all : (changes : List Change) (area : ℕ) (synced : Areas) (replayed : Replayed) (images : List MemoryStore) → IsReplayed changes area replayed → ((a : ℕ) → synced a ≡ last_synced changes a)
+    → ((bytes : List ℕ) → Any (λ v. v.items ≡ bytes) replayed.torn.items → HasImage (put area bytes synced) images) → HasTorn changes area images
+torn_all changes area synced replayed images is same found = record { whole = λ at bytes loose. one _ (is.whole at bytes loose); halved = λ at bytes loose. one _ (is.halved at bytes loose) }
+  where
+    one : (bytes : List ℕ) → Any (λ v. v.items ≡ bytes) replayed.torn.items → HasImage (put area bytes (last_synced changes)) images
+    one bytes any = subst (λ (f : Areas). HasImage (put area bytes f) images) (same_areas synced (last_synced changes) same) (found bytes any)
+
+-- an area that isn't held has no loose write
+pub torn_everywhere : (changes : List Change) (count : ℕ) (images : List MemoryStore) → ((a : ℕ) → IsWritten changes a → a < count) → ((a : ℕ) → a < count → HasTorn changes a images) → (area : ℕ) → HasTorn changes area images
+torn_everywhere changes count images reached torn area = record {
+  whole = λ at bytes loose. (torn area (reached area (loose_written changes area at bytes loose))).whole at bytes loose;
+  halved = λ at bytes loose. (torn area (reached area (loose_written changes area at bytes loose))).halved at bytes loose;
+}

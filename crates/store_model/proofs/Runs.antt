@@ -1,6 +1,6 @@
 -- How calls on a disk follow one another: for crates whose calls are made of a store's calls.
-use Rattle.std.proofs.Common.{◌≢◌, inl, inr, ⊎_elim, ℕ, List, ◌∙◌, refl, sym, arith}
-use Rattle.store_model.specs.Disk.{Areas, Disk, May, IsDurable, Only, Later, Does, Stays}
+use Rattle.std.proofs.Common.{◌≢◌, ◌⊎◌, inl, inr, ⊎_elim, ℕ, ◌≤◌, List, ◌∙◌, refl, sym, arith}
+use Rattle.store_model.specs.Disk.{Areas, Disk, May, IsDurable, Only, Later, Does, Stays, Leaves}
 
 abbrev Step : Type 1
 Step = List ℕ → List ℕ → Type 0
@@ -82,3 +82,34 @@ module _ (area : ℕ) (P : Step) (a b : Disk) (does : Does area P a b) where
 -- a call that changes nothing, as one on an area
 pub stays_does : (area : ℕ) (P : Step) (a b : Disk) → ((bytes : List ℕ) → P bytes bytes) → Stays a b → Does area P a b
 stays_does area P a b same stays = record { later = stays.later; others = λ other apart. stays.seen other; images = λ areas left. (areas, stays.images areas left, record { here = same (areas area); others = λ other apart. refl }) }
+
+-- what is left by a call of any steps: that a call changes nothing, or works on one area
+pub leaves_stays : (a b : Disk) (P : Areas → Type 0) → Stays a b → ((c : Areas) → May a c → P c) → Leaves a b P
+leaves_stays a b P stays before = record { later = stays.later; images = λ c left. before c (stays.images c left) }
+
+pub leaves_does : (area : ℕ) (step : Step) (a b : Disk) (P : Areas → Type 0) → Does area step a b → ((d c : Areas) → May a d → Only area step d c → P c) → Leaves a b P
+leaves_does area step a b P does after = record { later = does.later; images = λ c left. let from = does.images c left in after from.0 c from.1 from.2 }
+
+-- two calls after another leave what each of them does
+pub leaves_then : (a b c : Disk) (P : Areas → Type 0) → Leaves a b P → Leaves b c P → Leaves a c P
+leaves_then a b c P first second = record {
+  later = later_trans a b c first.later second.later;
+  images = λ areas left. elim (second.later.parts a.moment areas first.later.moment left) [
+    | inl before ↦ first.images areas before
+    | inr after ↦ second.images areas after
+  ];
+}
+
+-- more may be allowed
+pub leaves_less : (a b : Disk) (P Q : Areas → Type 0) → Leaves a b P → ((c : Areas) → P c → Q c) → Leaves a b Q
+leaves_less a b P Q leaves more = record { later = leaves.later; images = λ c left. more c (leaves.images c left) }
+
+-- what may have been left since an earlier moment, and what may be left after the call
+pub leaves_since : (a b : Disk) (P : Areas → Type 0) → Leaves a b P → (t : ℕ) (c : Areas) → t ≤ a.moment → b.since t c → a.since t c ⊎ P c
+leaves_since a b P leaves t c earlier left = elim (leaves.later.parts t c earlier left) [
+  | inl before ↦ inl before
+  | inr after ↦ inr (leaves.images c after)
+]
+
+pub leaves_now : (a b : Disk) (P : Areas → Type 0) → Leaves a b P → (c : Areas) → May b c → P c
+leaves_now a b P leaves c may = leaves.images c (b.wider a.moment b.moment c leaves.later.moment may)

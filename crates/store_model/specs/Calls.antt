@@ -19,6 +19,10 @@ IsToFail calls = calls.failing ≡ Some (counted calls.made)
 abbrev pub passed : Calls → Calls
 passed calls = record { made = counted calls.made; failing = calls.failing; faults = calls.faults }
 
+-- after a call that failed though it was not told to: the one that is to fail is still to come
+abbrev pub faulted : Calls → Calls
+faulted calls = record { made = counted calls.made; failing = calls.failing; faults = counted calls.faults }
+
 -- after the call that was to fail: there is no second one
 abbrev pub failed : Calls → Calls
 failed calls = record { made = counted calls.made; failing = None; faults = counted calls.faults }

@@ -61,3 +61,8 @@ pub record Stays (old new : Disk) : Type 0 where
   pub later : Later old new
   pub seen : (area : ℕ) → new.seen area ≡ old.seen area
   pub images : (c : Areas) → new.since old.moment c → May old c
+
+-- a call of any steps in any areas: a stop within it leaves areas that are allowed
+pub record Leaves (old new : Disk) (allowed : Areas → Type 0) : Type 0 where
+  pub later : Later old new
+  pub images : (c : Areas) → new.since old.moment c → allowed c

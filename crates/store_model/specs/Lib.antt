@@ -6,3 +6,4 @@ pub mod MemoryStore
 pub mod Past
 pub mod Replayed
 pub mod Steps
+pub mod Synced

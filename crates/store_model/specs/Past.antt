@@ -41,13 +41,13 @@ seen_after seen [] = seen
 seen_after seen (change ∷ changes) = seen_after (changed change seen) changes
 
 -- what a stop may leave after them
-abbrev pub Leaves : Areas → (Areas → Type 0) → List Change → Areas → Type 0
-Leaves seen may [] = may
-Leaves seen may (change ∷ changes) = Leaves (changed change seen) (MayAfter change seen may) changes
+abbrev pub MayAfterAll : Areas → (Areas → Type 0) → List Change → Areas → Type 0
+MayAfterAll seen may [] = may
+MayAfterAll seen may (change ∷ changes) = MayAfterAll (changed change seen) (MayAfter change seen may) changes
 
 -- what a stop may leave of a store that began blank
 abbrev pub MayLeave : List Change → Areas → Type 0
-MayLeave = Leaves blank (λ areas. (area : ℕ) → areas area ≡ [])
+MayLeave = MayAfterAll blank (λ areas. (area : ℕ) → areas area ≡ [])
 
 -- a disk that began blank and came through these changes: its moment is how many there were
 abbrev pub disk_after : List Change → ℕ → Disk

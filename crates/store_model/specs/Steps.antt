@@ -6,7 +6,7 @@ use Rattle.std.proofs.Math.Seq.{drop-append-add}
 use Rattle.std.proofs.lemmas.Bool.{cases_lt}
 use Rattle.std.proofs.lemmas.Bool.Decides.{nat_tests}
 use Rattle.store_model.specs.Disk.{Areas, Torn, Cut, written}
-use Rattle.store_model.specs.Past.{blank, changed, MayAfter, seen_after, Leaves, MayLeave}
+use Rattle.store_model.specs.Past.{blank, changed, MayAfter, seen_after, MayAfterAll, MayLeave}
 use Rattle.store_model.specs.declared.past.Change.{Change}
 use Rattle.store_model.specs.declared.past.Change.TheVariants.{Wrote, Shortened, Synced}
 
@@ -54,7 +54,7 @@ torn_whole at bytes old =
     (omega (arith, length-take at old)) (omega (arith, length-take at old)) (omega arith)
 
 -- a read gives what a stop may leave
-whole_leaves : (seen : Areas) (may : Areas → Type 0) (changes : List Change) → may seen → Leaves seen may changes (seen_after seen changes)
+whole_leaves : (seen : Areas) (may : Areas → Type 0) (changes : List Change) → may seen → MayAfterAll seen may changes (seen_after seen changes)
 whole_leaves seen may [] here = here
 whole_leaves seen may (Wrote area at bytes ∷ changes) here =
     whole_leaves (changed (Wrote area at bytes) seen) (MayAfter (Wrote area at bytes) seen may) changes

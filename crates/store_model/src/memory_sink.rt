@@ -1,7 +1,7 @@
 //! A sink that keeps what it took. The trait is in `sink.rt`.
 ghost use Rattle.std.specs.Prelude.{◌≡◌, ◌++◌, ◌<◌, ◌≤◌, [], Some, None, length, take, IfOk, OnOk, OnErr, IsErr};
 ghost use Rattle.store_model.specs.Faults.{Rose};
-ghost use Rattle.store_model.specs.Calls.{fresh, passed, failed, counted, IsToFail};
+ghost use Rattle.store_model.specs.Calls.{fresh, passed, failed, faulted, IsToFail};
 
 use crate::calls::Calls;
 use crate::{Failed, Sink};
@@ -68,7 +68,7 @@ impl Sink for MemorySink {
         ensures passed { OnOk result (self.new.calls ≡ passed self.old.calls) }
         ensures passed_only { OnOk result (IsToFail self.old.calls → ⊥) }
         ensures failed { OnErr result (IsToFail self.old.calls → self.new.calls ≡ failed self.old.calls) }
-        ensures no_memory { OnErr result ((IsToFail self.old.calls → ⊥) → self.new.calls ≡ record (passed self.old.calls) { faults = counted self.old.calls.faults }) }
+        ensures no_memory { OnErr result ((IsToFail self.old.calls → ⊥) → self.new.calls ≡ faulted self.old.calls) }
     {
         self.calls.begin()?;
         if self.bytes.extend_from_slice(bytes).is_err() {

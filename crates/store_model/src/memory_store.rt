@@ -20,7 +20,7 @@ impl MemoryStore {
     ghost use Rattle.std.specs.Prelude.{◌≡◌, ◌≤◌, ◌++◌, [], ◌∷◌, Some, None, OnOk, OnErr, IsErr, ◌⊎◌};
     ghost use Rattle.store_model.specs.Faults.{Rose};
     ghost use Rattle.store_model.specs.Past.{HasRoom};
-    ghost use Rattle.store_model.specs.Calls.{fresh, passed, IsToFail};
+    ghost use Rattle.store_model.specs.Calls.{fresh, counted, passed, failed, faulted, IsToFail};
     ghost use Rattle.store_model.specs.MemoryStore.{changes_of, calls_of, stop_of, IsStopped};
 
     /// A store of which nothing was written. It fails at no call.
@@ -62,6 +62,10 @@ impl MemoryStore {
         ensures cause { IsErr result → Rose (calls_of self.old).faults (calls_of self.new).faults }
         ensures never_falls { (calls_of self.old).faults ≤ (calls_of self.new).faults }
         ensures passed { OnOk result (calls_of self.new ≡ passed (calls_of self.old)) }
+        ensures passed_only { OnOk result (IsToFail (calls_of self.old) → ⊥) }
+        ensures not_stopped { OnOk result (IsStopped self.old → ⊥) }
+        ensures failed { OnErr result (IsToFail (calls_of self.old) → calls_of self.new ≡ failed (calls_of self.old)) }
+        ensures faulted { OnErr result ((IsToFail (calls_of self.old) → ⊥) → calls_of self.new ≡ faulted (calls_of self.old)) }
         ensures told_to { OnErr result (IsToFail (calls_of self.old) ⊎ IsStopped self.old) }
     {
         self.calls.begin()?;
@@ -77,6 +81,7 @@ impl MemoryStore {
         ensures room { OnOk result (HasRoom change) }
         ensures calls { OnOk result (calls_of self.new ≡ calls_of self.old) }
         ensures unchanged { OnErr result (changes_of self.new ≡ changes_of self.old) }
+        ensures fault { OnErr result (calls_of self.new ≡ record (calls_of self.old) { faults = counted (calls_of self.old).faults }) }
         ensures cause { IsErr result → Rose (calls_of self.old).faults (calls_of self.new).faults }
         ensures never_falls { (calls_of self.old).faults ≤ (calls_of self.new).faults }
         ensures stop { stop_of self.new ≡ stop_of self.old }
@@ -91,9 +96,9 @@ impl MemoryStore {
 impl Store for MemoryStore {
     ghost use Rattle.std.specs.Prelude.{◌≡◌, ◌⊎◌, ◌+◌, ◌^◌, ◌≤◌, ℕ, length, take, drop, IfOk, OnOk, OnErr, IsErr};
     ghost use Rattle.store_model.specs.Disk.{Stays, Does, Torn, Cut, IsDurable, written};
-    ghost use Rattle.store_model.specs.MemoryStore.{disk_of, changes_of, calls_of, IsStopped, may_seen, sizes_fit};
+    ghost use Rattle.store_model.specs.MemoryStore.{disk_of, changes_of, calls_of, stop_of, IsStopped, may_seen, sizes_fit};
     ghost use Rattle.store_model.specs.Faults.{Rose};
-    ghost use Rattle.store_model.specs.Calls.{passed, IsToFail};
+    ghost use Rattle.store_model.specs.Calls.{passed, failed, faulted, IsToFail};
 
     ghost tells = { Unit {0} };
 
@@ -106,6 +111,11 @@ impl Store for MemoryStore {
         ensures cause { IsErr result → Rose (disk_of self.old).faults (disk_of self.new).faults }
         ensures unchanged { OnErr result (changes_of self.new ≡ changes_of self.old) }
         ensures passed { OnOk result (calls_of self.new ≡ passed (calls_of self.old)) }
+        ensures passed_only { OnOk result (IsToFail (calls_of self.old) → ⊥) }
+        ensures not_stopped { OnOk result (IsStopped self.old → ⊥) }
+        ensures failed { OnErr result (IsToFail (calls_of self.old) → calls_of self.new ≡ failed (calls_of self.old)) }
+        ensures faulted { OnErr result ((IsToFail (calls_of self.old) → ⊥) → calls_of self.new ≡ faulted (calls_of self.old)) }
+        ensures stop { stop_of self.new ≡ stop_of self.old }
         ensures told_to { OnErr result (IsToFail (calls_of self.old) ⊎ IsStopped self.old) }
     {
         self.begin()?;
@@ -119,6 +129,11 @@ impl Store for MemoryStore {
         ensures cause { IsErr result → Rose (disk_of self.old).faults (disk_of self.new).faults }
         ensures unchanged { OnErr result (changes_of self.new ≡ changes_of self.old) }
         ensures passed { OnOk result (calls_of self.new ≡ passed (calls_of self.old)) }
+        ensures passed_only { OnOk result (IsToFail (calls_of self.old) → ⊥) }
+        ensures not_stopped { OnOk result (IsStopped self.old → ⊥) }
+        ensures failed { OnErr result (IsToFail (calls_of self.old) → calls_of self.new ≡ failed (calls_of self.old)) }
+        ensures faulted { OnErr result ((IsToFail (calls_of self.old) → ⊥) → calls_of self.new ≡ faulted (calls_of self.old)) }
+        ensures stop { stop_of self.new ≡ stop_of self.old }
         ensures told_to { OnErr result (IsToFail (calls_of self.old) ⊎ IsStopped self.old) }
     {
         self.begin()?;
@@ -136,6 +151,11 @@ impl Store for MemoryStore {
         ensures cause { IsErr result → Rose (disk_of self.old).faults (disk_of self.new).faults }
         ensures unchanged { OnErr result (changes_of self.new ≡ changes_of self.old) }
         ensures passed { OnOk result (calls_of self.new ≡ passed (calls_of self.old)) }
+        ensures passed_only { OnOk result (IsToFail (calls_of self.old) → ⊥) }
+        ensures not_stopped { OnOk result (IsStopped self.old → ⊥) }
+        ensures failed { OnErr result (IsToFail (calls_of self.old) → calls_of self.new ≡ failed (calls_of self.old)) }
+        ensures faulted { OnErr result ((IsToFail (calls_of self.old) → ⊥) → calls_of self.new ≡ faulted (calls_of self.old)) }
+        ensures stop { stop_of self.new ≡ stop_of self.old }
     {
         self.begin()?;
         let Ok(copy) = Vec::from_slice(self.alloc, bytes) else {
@@ -152,6 +172,11 @@ impl Store for MemoryStore {
         ensures cause { IsErr result → Rose (disk_of self.old).faults (disk_of self.new).faults }
         ensures unchanged { OnErr result (changes_of self.new ≡ changes_of self.old) }
         ensures passed { OnOk result (calls_of self.new ≡ passed (calls_of self.old)) }
+        ensures passed_only { OnOk result (IsToFail (calls_of self.old) → ⊥) }
+        ensures not_stopped { OnOk result (IsStopped self.old → ⊥) }
+        ensures failed { OnErr result (IsToFail (calls_of self.old) → calls_of self.new ≡ failed (calls_of self.old)) }
+        ensures faulted { OnErr result ((IsToFail (calls_of self.old) → ⊥) → calls_of self.new ≡ faulted (calls_of self.old)) }
+        ensures stop { stop_of self.new ≡ stop_of self.old }
     {
         self.begin()?;
         self.add(Change::Shortened(area, length))?;
@@ -164,6 +189,11 @@ impl Store for MemoryStore {
         ensures cause { IsErr result → Rose (disk_of self.old).faults (disk_of self.new).faults }
         ensures unchanged { OnErr result (changes_of self.new ≡ changes_of self.old) }
         ensures passed { OnOk result (calls_of self.new ≡ passed (calls_of self.old)) }
+        ensures passed_only { OnOk result (IsToFail (calls_of self.old) → ⊥) }
+        ensures not_stopped { OnOk result (IsStopped self.old → ⊥) }
+        ensures failed { OnErr result (IsToFail (calls_of self.old) → calls_of self.new ≡ failed (calls_of self.old)) }
+        ensures faulted { OnErr result ((IsToFail (calls_of self.old) → ⊥) → calls_of self.new ≡ faulted (calls_of self.old)) }
+        ensures stop { stop_of self.new ≡ stop_of self.old }
     {
         self.begin()?;
         self.add(Change::Synced(area))?;

@@ -1,8 +1,9 @@
 //! What a store in memory has come through: every change, and what each area holds now. `memory_store.rt` puts the
 //! failures round it.
-ghost use Rattle.std.specs.Prelude.{◌≡◌, ◌≢◌, ◌↔◌, ◌+◌, ◌^◌, ◌≤◌, ◌++◌, [], ◌∷◌, ℕ, length, max, take, IsTrue, OnOk, OnErr};
+ghost use Rattle.std.specs.Prelude.{◌≡◌, ◌≢◌, ◌↔◌, ◌+◌, ◌^◌, ◌<◌, ◌≤◌, ◌++◌, [], ◌∷◌, ℕ, length, max, take, IsTrue, OnOk, OnErr};
 ghost use Rattle.store_model.specs.Disk.{written};
 ghost use Rattle.store_model.specs.Past.{held, blank, changed, seen_after, HasRoom};
+ghost use Rattle.store_model.specs.Synced.{IsWritten, WritesTo};
 
 use std::alloc::{AllocError, Global};
 
@@ -28,6 +29,7 @@ pub struct Past {
     ghost agrees: { (area : ℕ) → held areas.items area ≡ seen_after blank changes.items area },
     ghost fits: { (area : ℕ) → length (held areas.items area) ≤ 2 ^ 62 },
     ghost few: { length areas.items ≤ 2 ^ 32 },
+    ghost reached: { (area : ℕ) → IsWritten changes.items area → area < length areas.items },
 }
 
 impl Past {
@@ -90,6 +92,8 @@ pub fn apply(alloc: Global, areas: &mut Vec<Vec<u8>>, change: &Change) -> Result
     ensures done { OnOk result ((area : ℕ) → held areas.new.items area ≡ changed change.now (held areas.old.items) area) }
     ensures unchanged { OnErr result ((area : ℕ) → held areas.new.items area ≡ held areas.old.items area) }
     ensures few { length areas.old.items ≤ 2 ^ 32 → length areas.new.items ≤ 2 ^ 32 }
+    ensures reached { OnOk result ((area : ℕ) → WritesTo area change.now → area < length areas.new.items) }
+    ensures no_fewer { length areas.old.items ≤ length areas.new.items }
 {
     match change {
         Change::Wrote(area, at, bytes) => {
@@ -122,6 +126,7 @@ pub fn reach(alloc: Global, areas: &mut Vec<Vec<u8>>, count: usize) -> Result<()
     ensures reached { OnOk result (count ≤ length areas.new.items) }
     ensures same { (area : ℕ) → held areas.new.items area ≡ held areas.old.items area }
     ensures few { length areas.new.items ≤ max (length areas.old.items) count }
+    ensures no_fewer { length areas.old.items ≤ length areas.new.items }
 {
     while areas.len() < count {
         areas.push(Vec::new(alloc))?;

@@ -59,29 +59,36 @@ fn the_clock_steps_and_the_gate_is_open(rt: HostRuntime) -> Result<(), Fail> {
     Ok(())
 }
 
-/// What the images hold of area 1 after `abcd`, a sync, `XYZW` over the last two bytes and `gh` at the end.
-const IMAGES: [&[u8]; 6] = [
-    b"abcd",
-    b"abXYZWgh",
-    b"abXYZW",
-    b"abXY",
-    b"abcd\0\0gh",
-    b"abcd\0\0g",
+/// What the images hold of the areas 0 and 1 after `root` in the one and `abcd` in the other, a sync of both, `XYZW`
+/// over the last two bytes of area 1, `gh` at its end and `!?` at the end of area 0.
+const IMAGES: [(&[u8], &[u8]); 8] = [
+    (b"root", b"abcd"),
+    (b"root!?", b"abXYZWgh"),
+    (b"root!?", b"abcd"),
+    (b"root!", b"abcd"),
+    (b"root", b"abXYZW"),
+    (b"root", b"abXY"),
+    (b"root", b"abcd\0\0gh"),
+    (b"root", b"abcd\0\0g"),
 ];
 
 #[test]
 fn the_images_of_a_store(rt: HostRuntime) -> Result<(), Fail> {
     let alloc = rt.alloc();
     let mut store = MemoryStore::new(alloc);
+    add(&mut store, 0, 0, b"root")?;
     add(&mut store, 1, 0, b"abcd")?;
+    store.sync(0)?;
     store.sync(1)?;
     add(&mut store, 1, 2, b"XYZW")?;
     add(&mut store, 1, 0, b"gh")?;
+    add(&mut store, 0, 0, b"!?")?;
     let mut images = store.stop_images(alloc)?;
-    assert_eq!(rt; images.len(), 6);
-    for (image, wanted) in images.iter_mut().zip(IMAGES) {
-        assert_eq!(rt; contents(alloc, image, 1)?.as_slice(), wanted);
-        assert_eq!(rt; image.size(0)?, 0);
+    assert_eq!(rt; images.len(), 8);
+    for (image, (root, other)) in images.iter_mut().zip(IMAGES) {
+        assert_eq!(rt; contents(alloc, image, 0)?.as_slice(), root);
+        assert_eq!(rt; contents(alloc, image, 1)?.as_slice(), other);
+        assert_eq!(rt; image.size(2)?, 0);
     }
     Ok(())
 }

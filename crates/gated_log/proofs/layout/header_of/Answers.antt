@@ -7,7 +7,7 @@ pub returns : goal.returns
 unfolding header
 returns c =
     let m = c.copy_from_slice.ensures.after in
-    let v : c.write_u32.new.buf ≡ big_bytes 4 1 = rw m at c.write_u32.ensures in
+    let v : c.write_u32.new.buf ≡ big_bytes 4 c.args.version = rw m at c.write_u32.ensures in
     let a : c.write_u32-2.new.buf ≡ big_bytes 4 c.args.area = rw (m, v) at c.write_u32-2.ensures in
     let f : c.write_u64.new.buf ≡ big_bytes 8 c.args.first = rw (m, v, a) at c.write_u64.ensures in
     rw (m, v, a, f) refl

@@ -21,7 +21,7 @@ returns-in_err-place-clause-damaged g c = λ a at is.
       told.0,
       λ tells.
           subst (λ (l : List ℕ). IsDamagedAt c.args.area l at) (so_far.stays.seen c.args.area)
-          (walked_breaks c.args.area c.in_ok-first.first _ c.loop-places.places.items c.loop-places.gate at (so_far.walked tells) (placed_end 32 c.loop-places.places.items c.loop-places.gate so_far.placed) (told.1 tells)),
+          (walked_breaks c.args.area c.in_ok-head.head.first c.in_ok-head.head.version _ c.loop-places.places.items c.loop-places.gate at (so_far.walked tells) (placed_end 32 c.loop-places.places.items c.loop-places.gate so_far.placed) (told.1 tells)),
     )
 
 pub loop-places-preserved : goal.loop-places-preserved
@@ -38,9 +38,9 @@ loop-places-preserved g c =
       durable = λ tells. stays_durable c.args.area _ _ stays (so_far.durable tells);
       walked = λ tells.
           let found : HasBlock (drop c.loop-places.gate ((g.S.Store.disk c.loop-places.store).seen c.args.area)) place = subst (λ (o : Option Place). IsFound (drop c.loop-places.gate ((g.S.Store.disk c.loop-places.store).seen c.args.area)) o) c.in-Some.is (c.in_ok-place.ensures.found tells) in
-          subst (λ (n : ℕ). IsWalked c.args.area c.in_ok-first.first ((g.S.Store.disk c.next_place.new.store).seen c.args.area) c.push.new.self.items n) gate_is
-          (subst (λ (l : List ℕ). IsWalked c.args.area c.in_ok-first.first l c.push.new.self.items (c.loop-places.gate + 5 + place.length)) (sym (stays.seen c.args.area))
-          (walked_further c.args.area c.in_ok-first.first _ c.loop-places.places.items c.push.new.self.items place c.loop-places.gate (so_far.walked tells) found c.in_ok-push.ensures.items));
+          subst (λ (n : ℕ). IsWalked c.args.area c.in_ok-head.head.first c.in_ok-head.head.version ((g.S.Store.disk c.next_place.new.store).seen c.args.area) c.push.new.self.items n) gate_is
+          (subst (λ (l : List ℕ). IsWalked c.args.area c.in_ok-head.head.first c.in_ok-head.head.version l c.push.new.self.items (c.loop-places.gate + 5 + place.length)) (sym (stays.seen c.args.area))
+          (walked_further c.args.area c.in_ok-head.head.first c.in_ok-head.head.version _ c.loop-places.places.items c.push.new.self.items place c.loop-places.gate (so_far.walked tells) found c.in_ok-push.ensures.items));
       placed = subst (λ (n : ℕ). ArePlaced 32 c.push.new.self.items n) gate_is
           (subst (λ (l : List Place). ArePlaced 32 l (c.loop-places.gate + 5 + place.length)) (sym c.in_ok-push.ensures.items)
           (placed-push 32 c.loop-places.places.items c.loop-places.gate place so_far.placed behind.0));

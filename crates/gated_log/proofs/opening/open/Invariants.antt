@@ -10,7 +10,7 @@ invariant-loop-places g l = record {
   size : g.S.Store.tells → l.size ≡ length ((g.S.Store.disk l.store).seen l.area);
   bound : l.size ≤ 2 ^ 62;
   durable : g.S.Store.tells → IsDurable l.area (g.S.Store.disk l.store);
-  walked : g.S.Store.tells → IsWalked l.area l.first ((g.S.Store.disk l.store).seen l.area) l.places.items l.gate;
+  walked : g.S.Store.tells → IsWalked l.area l.head.first l.head.version ((g.S.Store.disk l.store).seen l.area) l.places.items l.gate;
   placed : ArePlaced 32 l.places.items l.gate;
   inside : l.gate ≤ l.size;
 }

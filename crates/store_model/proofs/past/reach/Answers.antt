@@ -10,5 +10,6 @@ loop-alloc-preserved c = record {
   same = λ area.
       ap (λ (l : List (Vec ℕ Global)). held l area) c.in_ok-push.ensures.items
       ∙ held-push c.loop-alloc.areas.items c.new.result area c.new.ensures.items ∙ c.loop-alloc.invariant.same area;
+  no_fewer = omega (arith, ap length c.in_ok-push.ensures.items, length_push c.loop-alloc.areas.items c.new.result, c.loop-alloc.invariant.no_fewer);
   few = omega (arith, ap length c.in_ok-push.ensures.items, length_push c.loop-alloc.areas.items c.new.result, c.loop-alloc.areas.ok.0);
 }

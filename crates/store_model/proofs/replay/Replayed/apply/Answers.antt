@@ -1,4 +1,4 @@
-use Rattle.std.proofs.Common.{ℕ, List, [], ◌∷◌, ◌++◌, ◌/◌, refl, sym, subst, ap, ◌∙◌, take, arith, length-take}
+use Rattle.std.proofs.Common.{◌≡◌, ℕ, List, [], ◌∷◌, ◌++◌, ◌/◌, length, refl, sym, subst, ap, ◌∙◌, take, arith, length-take}
 use Rattle.store_model.specs.Disk.{written}
 use Rattle.store_model.specs.Replayed.{IsReplayed, changed_area, written_alone}
 use Rattle.store_model.specs.declared.past.Change.{Change}
@@ -11,13 +11,14 @@ returns-in_ok-overwrite-in-Wrote c = λ changes.
     let new : Replayed = record { now = c.overwrite.new.old; synced = c.args.self.now.synced; torn = c.push-in-Wrote.new.self } in
     let at = c.in-Wrote.at in
     let bytes = c.in-Wrote.bytes in
-    let half = take (c.len.result / 2) bytes.items in
+    let some = take (c.len.result / 2) bytes.items in
+    let size : c.len.result ≡ length bytes.items = omega (arith, bytes.ok.0) in
     let whole_is = c.in_ok-whole-in-Wrote.ensures ∙ ap (λ (l : List ℕ). written_alone at l c.deref.result.now) c.deref-in-Wrote.ensures.value ∙ ap (λ (l : List ℕ). written_alone at bytes.items l) c.deref.ensures.value in
-    let half_is = c.in_ok-half-in-Wrote.ensures ∙ ap (λ (l : List ℕ). written_alone at (take (c.len.result / 2) l) c.deref-in-Wrote-2.result.now) c.deref-in-Wrote-3.ensures.value ∙ ap (λ (l : List ℕ). written_alone at half l) c.deref-in-Wrote-2.ensures.value in
+    let half_is = c.in_ok-half-in-Wrote.ensures ∙ ap (λ (l : List ℕ). written_alone at (take (c.len.result / 2) l) c.deref-in-Wrote-2.result.now) c.deref-in-Wrote-3.ensures.value ∙ ap (λ (l : List ℕ). written_alone at some l) c.deref-in-Wrote-2.ensures.value in
     let now = c.in_ok-overwrite-in-Wrote.ensures.written ∙ ap (λ (l : List ℕ). written at l c.args.self.now.now.items) c.deref-in-Wrote-4.ensures.value in
     subst (λ (k : Change). IsReplayed changes (changed_area k) c.args.self.now → IsReplayed (changes ++ k ∷ []) (changed_area k) new) (sym c.in-Wrote.is)
-    (λ is. replayed_wrote changes c.in-Wrote.field-0 c.args.self.now new is at bytes c.in_ok-whole-in-Wrote.whole c.in_ok-half-in-Wrote.half c.push.new.self.items half
-    now refl c.in_ok-push-in-Wrote.ensures.items c.in_ok-push-in-Wrote-2.ensures.items whole_is half_is (omega (arith, length-take (c.len.result / 2) bytes.items)))
+    (λ is. replayed_wrote changes c.in-Wrote.field-0 c.args.self.now new is at bytes c.in_ok-whole-in-Wrote.whole c.in_ok-half-in-Wrote.half c.push.new.self.items some
+    now refl c.in_ok-push-in-Wrote.ensures.items c.in_ok-push-in-Wrote-2.ensures.items whole_is half_is (ap (λ (n : ℕ). take (n / 2) bytes.items) size) (omega (arith, length-take (c.len.result / 2) bytes.items)))
 
 pub returns-in-Shortened : goal.returns-in-Shortened
 returns-in-Shortened c = λ changes.
