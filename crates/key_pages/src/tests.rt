@@ -128,7 +128,7 @@ fn entry(alloc: Global, key: &[u8], format: u16, rrn: u32) -> Result<Entry, Allo
 // Removes it first, so that it isn't there.
 fn put(list: &mut Pages, entry: Entry) -> Result<(), AllocError> {
     list.reserve(1)?;
-    let _ = list.remove(&entry);
+    let _ = list.remove(&entry.borrowed());
     removal();
     list.insert_reserved(entry);
     Ok(())
@@ -171,11 +171,11 @@ fn removals_hand_back_what_is_there(rt: HostRuntime) -> Result<(), Fail> {
     expect_near(&rt, &list, &Position::Start, 0, 0);
     expect_near(&rt, &list, &Position::End, 0, 0);
     let only = entry(rt.alloc(), b"A", 0, 3)?;
-    assert!(rt; list.remove(&only).is_none());
+    assert!(rt; list.remove(&only.borrowed()).is_none());
     put(&mut list, entry(rt.alloc(), b"A", 0, 3)?)?;
     expect_near(&rt, &list, &Position::Start, 3, 0);
-    assert!(rt; list.remove(&entry(rt.alloc(), b"A", 1, 3)?).is_none());
-    let removed = list.remove(&only).ok_or("removed")?;
+    assert!(rt; list.remove(&entry(rt.alloc(), b"A", 1, 3)?.borrowed()).is_none());
+    let removed = list.remove(&only.borrowed()).ok_or("removed")?;
     assert_eq!(rt; removed.key.bytes(), b"A".as_slice());
     assert_eq!(rt; (removed.format, removed.rrn), (0, 3));
     expect_near(&rt, &list, &Position::Start, 0, 0);
