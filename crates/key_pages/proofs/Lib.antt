@@ -4,3 +4,6 @@ pub mod SideLemmas
 pub mod WalkLemmas
 pub mod StepLemmas
 pub mod MemberLemmas
+pub mod CutLemmas
+pub mod PageLemmas
+pub mod NearLemmas

@@ -54,10 +54,11 @@ pub record IsPlace (itself falling : Bool) (from : Position) (pages : List (List
   pub ahead : AllWithin (λ entry. is_passed itself (side_of falling from entry) ≡ false) (page_at pages number) place (length (page_at pages number))
   pub back : All (λ entry. is_passed itself (side_of falling from entry) ≡ false) (entries_of (drop (number + 1) pages))
   pub first : place ≡ 0 → number ≡ 0
+  pub next : slice_get (page_at pages (number + 1)) 0 ≡ slice_get (entries_of (drop (number + 1) pages)) 0
 
 -- an entry stands in this page, if it is there: those of earlier pages are less, those of later ones greater
 pub record IsNearest (falling : Bool) (entry : Entry) (pages : List (List Entry)) (number : ℕ) : Type 0 where
-  pub number : number ≤ length pages - 1
+  pub within : number ≤ length pages - 1
   pub front : All (λ other. entry_cmp falling other entry ≡ Less) (entries_of (take number pages))
   pub back : All (λ other. entry_cmp falling other entry ≡ Greater) (entries_of (drop (number + 1) pages))
 

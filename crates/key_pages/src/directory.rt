@@ -59,10 +59,7 @@ impl Directory {
         self.pages.reserve(self.free.len() + missing)?;
         self.free.reserve(self.pages.len() + missing)?;
         let alloc = *self.pages.allocator();
-        for _ in 0..missing {
-            self.free.push_reserved(Page::new(alloc)?);
-        }
-        Ok(())
+        add_free(&mut self.free, missing, alloc)
     }
 
     pub(crate) fn count(&self) -> usize
@@ -252,13 +249,8 @@ impl Directory {
         ensures entries { entries_of self.new.pages ≡ with_page self.old.pages number (remove (page_at self.old.pages number) place) }
         ensures total { length self.new.pages + self.new.free ≡ length self.old.pages + self.old.free }
     {
-        let left = if number + 1 < self.pages.len() {
-            number
-        } else {
-            number - 1
-        };
         let entry = self.pages[number].remove(place);
-        level(&mut self.pages, &mut self.free, left);
+        level(&mut self.pages, &mut self.free, number.saturating_sub(1));
         entry
     }
 
@@ -277,6 +269,21 @@ impl Directory {
             self.pages.push_reserved(page);
         }
     }
+}
+
+fn add_free(free: &mut Vec<Page>, count: usize, alloc: Global) -> Result<(), AllocError>
+    requires room { vec_len free.old + count ≤ vec_capacity free.old }
+    requires empty { All (λ page. page ≡ []) free.old.items }
+    ensures empty { All (λ page. page ≡ []) free.new.items }
+    ensures added { OnOk result (vec_len free.new ≡ vec_len free.old + count) }
+    ensures kept { vec_len free.old ≤ vec_len free.new }
+    ensures within { vec_len free.new ≤ vec_len free.old + count }
+    ensures capacity { vec_capacity free.new ≡ vec_capacity free.old }
+{
+    for added in 0..count {
+        free.push_reserved(Page::new(alloc)?);
+    }
+    Ok(())
 }
 
 // The lower half stays, the rest moves to the empty page.
@@ -300,7 +307,7 @@ fn insert_halving(page: &mut Page, place: usize, entry: Entry, into: &mut Page)
 
 // Two neighbouring pages become one, or where they have too many entries for one, they share them evenly.
 fn level(pages: &mut Vec<Page>, free: &mut Vec<Page>, left: usize)
-    requires left { left + 1 < vec_len pages.old }
+    requires left { left + 1 < length pages.old.items }
     requires least { LEAST_PAGE_ENTRIES ≤ length (page_at pages.old.items left) + length (page_at pages.old.items (left + 1)) }
     requires left_most { length (page_at pages.old.items left) ≤ MOST_PAGE_ENTRIES }
     requires right_most { length (page_at pages.old.items (left + 1)) ≤ MOST_PAGE_ENTRIES }
@@ -370,8 +377,9 @@ fn move_front(entries: &mut Vec<Entry>, count: usize, into: &mut Page)
     requires empty { into.old ≡ [] }
     ensures moved { into.new ++ reverse entries.new.items ≡ reverse entries.old.items }
     ensures count { length into.new ≡ count }
+    ensures rest { vec_len entries.new + count ≡ vec_len entries.old }
 {
-    for _ in 0..count {
+    for taken in 0..count {
         into.push(entries.take_last());
     }
 }

@@ -1,6 +1,6 @@
 //! One page of a list: a run of entries. `directory.rt` holds the pages of a list in order.
 
-ghost use Rattle.std.specs.Prelude.{◌≡◌, ◌+◌, ◌-◌, ◌<◌, ◌≤◌, [], ◌∷◌, ◌++◌, length, take, drop, insert, remove, reverse, IfOk, slice_index_or, vec_len, vec_capacity};
+ghost use Rattle.std.specs.Prelude.{◌≡◌, ◌+◌, ◌-◌, ◌<◌, ◌≤◌, [], ◌∷◌, ◌++◌, length, insert, remove, reverse, IfOk, slice_index_or, vec_len, vec_capacity};
 
 use crate::entries::Entry;
 use std::alloc::{AllocError, Global};
@@ -74,7 +74,8 @@ impl Page {
     pub(crate) fn insert(&mut self, place: usize, entry: Entry)
         requires within { place ≤ length self.old }
         requires room { length self.old < MOST_PAGE_ENTRIES }
-        ensures { self.new ≡ insert self.old place entry }
+        ensures entries { self.new ≡ insert self.old place entry }
+        ensures len { length self.new ≡ length self.old + 1 }
     {
         self.entries.insert(place, entry).unwrap();
     }
@@ -83,6 +84,7 @@ impl Page {
         requires { place < length self.old }
         ensures entry { result ≡ slice_index_or self.old place result }
         ensures rest { self.new ≡ remove self.old place }
+        ensures len { length self.new + 1 ≡ length self.old }
     {
         self.entries.remove(place)
     }
@@ -92,8 +94,9 @@ impl Page {
         requires within { place ≤ length self.old }
         requires room { length self.old ≤ MOST_PAGE_ENTRIES }
         requires empty { into.old ≡ [] }
-        ensures front { self.new ≡ take place self.old }
-        ensures back { into.new ≡ drop place self.old }
+        ensures whole { self.new ++ into.new ≡ self.old }
+        ensures kept { length self.new ≡ place }
+        ensures moved { length into.new + place ≡ length self.old }
     {
         move_tail(&mut self.entries, place, &mut into.entries);
     }
@@ -102,6 +105,7 @@ impl Page {
     pub(crate) fn append(&mut self, other: &mut Page)
         requires { length self.old + length other.old ≤ MOST_PAGE_ENTRIES }
         ensures all { self.new ≡ self.old ++ other.old }
+        ensures len { length self.new ≡ length self.old + length other.old }
         ensures none { other.new ≡ [] }
     {
         self.entries.append(&mut other.entries).unwrap();
@@ -112,8 +116,9 @@ fn move_tail(from: &mut Vec<Entry>, place: usize, into: &mut Vec<Entry>)
     requires within { place ≤ vec_len from.old }
     requires room { vec_len from.old ≤ vec_capacity into.old }
     requires empty { into.old.items ≡ [] }
-    ensures front { from.new.items ≡ take place from.old.items }
-    ensures back { into.new.items ≡ drop place from.old.items }
+    ensures whole { from.new.items ++ into.new.items ≡ from.old.items }
+    ensures kept { vec_len from.new ≡ place }
+    ensures moved { vec_len into.new + place ≡ vec_len from.old }
     ensures capacity { vec_capacity from.new ≡ vec_capacity from.old }
     ensures into_capacity { vec_capacity into.new ≡ vec_capacity into.old }
 {
