@@ -189,6 +189,7 @@ module _ (itself falling : Bool) (from : Position) (pages : List (List Entry)) (
       let all = back_ahead itself falling from pages some sorted (λ more. subst (λ n. begins_passed itself falling from (page_at pages n) ≡ false) none (ahead (omega arith))) in
       let both = first-ahead all in
       record {
+        page = omega arith;
         within = omega arith;
         front = All-nil (λ e. is_passed itself (side_of falling from e) ≡ true);
         passed = λ k d low high. absurd (omega arith);
@@ -206,6 +207,7 @@ module _ (itself falling : Bool) (from : Position) (pages : List (List Entry)) (
       → place ≤ length (page_at pages number) → AllWithin (λ e. is_passed itself (side_of falling from e) ≡ true) (page_at pages number) 0 place → AllWithin (λ e. is_passed itself (side_of falling from e) ≡ false) (page_at pages number) place (length (page_at pages number))
       → IsPlace itself falling from pages number place
   place-at begun number place next within begins ahead upto passed rest = record {
+    page = omega arith;
     within = upto;
     front = front_passed itself falling from (entries_of (take number pages)) (page_at pages number) (entries_of (drop (number + 1) pages)) (around-sorted number within) begins;
     passed = passed;

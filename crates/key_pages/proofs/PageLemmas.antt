@@ -291,3 +291,28 @@ pub filled-least : (left count rest : ℕ) → rest + count ≡ left → (LEAST_
 filled-least left count rest all least later some =
     let enough : LEAST_PAGE_ENTRIES ≤ left - count = later (omega arith) in
     (least (omega (arith, enough)), omega (arith, enough))
+
+-- the same as `entries_of-around`, where there is no page either
+pub entries_of-page : (pages : List (List Entry)) (number : ℕ) → number ≤ length pages - 1 → with_page pages number (page_at pages number) ≡ entries_of pages
+entries_of-page [] zero within = refl
+entries_of-page [] (suc number) within = absurd (omega arith)
+entries_of-page (page ∷ pages) number within = entries_of-around (page ∷ pages) number (omega arith)
+
+-- how many entries there are with another page
+length-with_page : (pages : List (List Entry)) (number : ℕ) (page : List Entry) → number ≤ length pages - 1 → length (with_page pages number page) + length (page_at pages number) ≡ length (entries_of pages) + length page
+length-with_page pages number page within =
+    let front = entries_of (take number pages) in
+    let back = entries_of (drop (number + 1) pages) in
+    let whole = ap length (entries_of-page pages number within) in
+    omega (arith, whole, length-append front (page ++ back), length-append page back, length-append front (page_at pages number ++ back), length-append (page_at pages number) back)
+
+pub length-inserted : (pages : List (List Entry)) (number place : ℕ) (entry : Entry) → number ≤ length pages - 1 → length (with_page pages number (insert (page_at pages number) place entry)) ≡ length (entries_of pages) + 1
+length-inserted pages number place entry within =
+    let page = page_at pages number in
+    let whole = ap length (take-append-drop place page) in
+    omega (arith, whole, length-with_page pages number (insert page place entry) within, length-append (take place page) (entry ∷ drop place page), length-append (take place page) (drop place page))
+
+pub length-removed : (pages : List (List Entry)) (number place : ℕ) → number ≤ length pages - 1 → place < length (page_at pages number) → length (with_page pages number (remove (page_at pages number) place)) + 1 ≡ length (entries_of pages)
+length-removed pages number place within there =
+    let page = page_at pages number in
+    omega (arith, length-with_page pages number (remove page place) within, length-append (take place page) (drop (suc place) page), length-take-le place page (omega arith), length-drop (suc place) page)

@@ -48,6 +48,7 @@ pub record AreLevel (left right : List Entry) (level : List (List Entry)) : Type
 
 -- the entries before a place of a page, and those from it on, are parted by the search
 pub record IsPlace (itself falling : Bool) (from : Position) (pages : List (List Entry)) (number place : ℕ) : Type 0 where
+  pub page : number ≤ length pages - 1
   pub within : place ≤ length (page_at pages number)
   pub front : All (λ entry. is_passed itself (side_of falling from entry) ≡ true) (entries_of (take number pages))
   pub passed : AllWithin (λ entry. is_passed itself (side_of falling from entry) ≡ true) (page_at pages number) 0 place

@@ -2,7 +2,7 @@
 
 ghost use Rattle.std.specs.Prelude.{◌≡◌, ◌+◌, ◌-◌, ◌*◌, ◌<◌, ◌≤◌, ◌^◌, ◌/◌, [], ◌∷◌, ◌++◌, length, take, drop, insert, remove, reverse, set, All, List, IfOk, IfErr, OnOk, true, false, Contains, Some, slice_index_or, vec_len, vec_capacity};
 ghost use Rattle.std.specs.List.{slice_get};
-ghost use Rattle.std.specs.Option.{option_copied};
+ghost use Rattle.std.specs.Option.{option_copied, option_or};
 ghost use Rattle.std.specs.List.Sorted.{IsSearchInRange};
 ghost use Rattle.key_pages.specs.declared.entries.Entry.{Entry};
 ghost use Rattle.key_pages.specs.Order.{IsInOrder};
@@ -84,6 +84,17 @@ impl Directory {
         page.entries().get(place)
     }
 
+    /// The entry at this place of the page, or past its end the first one of the next page.
+    pub(crate) fn entry_from(&self, number: usize, place: usize) -> Option<&Entry>
+        requires { number + 1 < 2 ^ 64 }
+        ensures { option_copied result ≡ option_or (slice_get (page_at self.now.pages number) place) (slice_get (page_at self.now.pages (number + 1)) 0) }
+    {
+        match self.entry(number, place) {
+            Some(entry) => Some(entry),
+            None => self.entry(number + 1, 0),
+        }
+    }
+
     /// The page, and how many of its entries lie before the position, or with `itself` also on it.
     pub(crate) fn place<L: Ledger>(
         &self,
@@ -93,6 +104,7 @@ impl Directory {
         steps: &mut Steps<L>,
     ) -> (usize, usize)
         requires { IsInOrder falling (entries_of self.now.pages) }
+        ensures next { result.0 + 1 < 2 ^ 64 }
         ensures place { IsPlace itself falling from.now self.now.pages result.0 result.1 }
         ensures cost { IsFewSteps (length (entries_of self.now.pages)) steps.old steps.new }
         ensures rises { steps.old ≤ steps.new }

@@ -154,10 +154,7 @@ impl Pages {
         ensures rises { steps.old ≤ steps.new }
     {
         let (number, place) = self.directory.place(from, self.falling, true, steps);
-        match self.directory.entry(number, place) {
-            Some(entry) => Some(entry),
-            None => self.directory.entry(number + 1, 0),
-        }
+        self.directory.entry_from(number, place)
     }
 
     /// The last entry before the position, by binary search. A comparison of an entry with the position is a step.
