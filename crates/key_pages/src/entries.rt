@@ -1,6 +1,6 @@
 //! An entry of an access path, and the order of entries. Lists of them are in `list.rt`.
 
-ghost use Rattle.std.specs.Prelude.{◌≡◌, length, IfOk, IfErr};
+ghost use Rattle.std.specs.Prelude.{◌≡◌, ◌↔◌, length, IfOk, IfErr, IsTrue};
 ghost use Rattle.std.specs.List.Sorted.{IsSearchInRange};
 ghost use Rattle.key_pages.specs.Order.{entry_cmp, IsInOrder};
 ghost use Rattle.key_pages.specs.EntryList.{entry_of};
@@ -52,6 +52,19 @@ pub(crate) fn compare(entry: &Entry, key: &[u8], format: u16, rrn: u32, falling:
         .bytes()
         .cmp(&key)
         .then(entry.format.cmp(&format).then(ties))
+}
+
+/// Whether each entry is less than the next one, as `Pages::fill` asks.
+pub fn are_in_order(entries: &[Entry], falling: bool) -> bool
+    ensures { IsTrue result ↔ IsInOrder falling entries.now }
+{
+    for later in 1..entries.len() {
+        let EntryRef { key, format, rrn } = entries[later].borrowed();
+        if !compare(&entries[later - 1], key, format, rrn, falling).is_lt() {
+            return false;
+        }
+    }
+    true
 }
 
 /// Where the entry is, or where it would go.

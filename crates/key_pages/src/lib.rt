@@ -14,7 +14,7 @@ mod search;
 mod tests;
 
 pub use counting::Steps;
-pub use entries::{Entry, EntryRef};
+pub use entries::{Entry, EntryRef, are_in_order};
 pub use keys::Key;
 pub use laws::{insertion, one_order, removal, walk_backward, walk_forward};
 pub use list::Pages;
