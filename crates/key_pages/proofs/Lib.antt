@@ -7,3 +7,4 @@ pub mod MemberLemmas
 pub mod CutLemmas
 pub mod PageLemmas
 pub mod NearLemmas
+pub mod FillLemmas

@@ -166,7 +166,7 @@ module _ (itself falling : Bool) (from : Position) (pages : List (List Entry)) (
       let later : IsInOrder falling (entries_of rest) = sorted_back (entry_cmp falling) (page_at pages n) (entries_of rest) (sorted_back (entry_cmp falling) (entries_of (take n pages)) (page_at pages n ++ entries_of rest) around) in
       back_ahead itself falling from rest (All-drop (λ page. 0 < length page) (n + 1) pages some) later
       (λ more. let long = length-drop (n + 1) pages in let at : n + 1 + 0 ≡ n + 1 = omega arith in
-          ap (begins_passed itself falling from) (get_or-drop (n + 1) pages 0 [] ∙ ap (λ k. page_at pages k) at) ∙ ahead (omega arith))
+      ap (begins_passed itself falling from) (get_or-drop (n + 1) pages 0 [] ∙ ap (λ k. page_at pages k) at) ∙ ahead (omega arith))
 
   around-sorted : (n : ℕ) → n < length pages → IsInOrder falling (with_page pages n (page_at pages n))
   around-sorted n within = subst (λ es. IsInOrder falling es) (sym (entries_of-around pages n within)) sorted

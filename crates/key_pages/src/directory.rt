@@ -1,6 +1,6 @@
 //! The pages of a list in order, and the free ones. `list.rt` has the list that callers see, `page.rt` one page.
 
-ghost use Rattle.std.specs.Prelude.{◌≡◌, ◌+◌, ◌-◌, ◌*◌, ◌<◌, ◌≤◌, ◌^◌, ◌/◌, [], ◌∷◌, ◌++◌, length, take, drop, insert, remove, reverse, set, All, List, IfOk, IfErr, OnOk, true, false, Contains, Some, slice_index_or, vec_len, vec_capacity};
+ghost use Rattle.std.specs.Prelude.{◌≡◌, ◌+◌, ◌-◌, ◌*◌, ◌<◌, ◌≤◌, ◌^◌, ◌/◌, [], ◌∷◌, ◌++◌, length, take, drop, insert, remove, reverse, set, All, List, ℕ, IfOk, IfErr, OnOk, true, false, Contains, Some, slice_index_or, vec_len, vec_capacity};
 ghost use Rattle.std.specs.List.{slice_get};
 ghost use Rattle.std.specs.Option.{option_copied, option_or};
 ghost use Rattle.std.specs.List.Sorted.{IsSearchInRange};
@@ -217,9 +217,10 @@ impl Directory {
         ensures total { length self.new.pages + self.new.free ≡ length self.old.pages + self.old.free }
     {
         let len = self.pages[number].len();
+        let enough = LEAST_PAGE_ENTRIES < len;
         if self.pages.len() == 1 && len == 1 {
             self.remove_only()
-        } else if self.pages.len() == 1 || LEAST_PAGE_ENTRIES < len {
+        } else if self.pages.len() == 1 || enough {
             self.remove_within(number, place)
         } else {
             self.remove_levelled(number, place)
@@ -271,6 +272,7 @@ impl Directory {
         requires none { self.old.pages ≡ [] }
         requires free { length entries.items ≤ LEAST_PAGE_ENTRIES * self.old.free }
         ensures entries { entries_of self.new.pages ≡ entries.items }
+        ensures full { (k : ℕ) → k < length self.new.pages - 2 → length (page_at self.new.pages k) ≡ FILLED_PAGE_ENTRIES }
         ensures total { length self.new.pages + self.new.free ≡ self.old.free }
     {
         entries.reverse();
@@ -372,6 +374,8 @@ fn filled_len(count: usize) -> usize
     ensures within { result ≤ count }
     ensures least { LEAST_PAGE_ENTRIES ≤ count → LEAST_PAGE_ENTRIES ≤ result }
     ensures rest { result < count → LEAST_PAGE_ENTRIES ≤ count - result }
+    ensures all { count ≤ FILLED_PAGE_ENTRIES → result ≡ count }
+    ensures full { FILLED_PAGE_ENTRIES < count - result → result ≡ FILLED_PAGE_ENTRIES }
 {
     if count <= FILLED_PAGE_ENTRIES {
         count

@@ -3,7 +3,7 @@
 ghost use Rattle.std.specs.Prelude.{◌≡◌, ◌≢◌, ◌+◌, ◌-◌, ◌*◌, ◌<◌, ◌≤◌, ◌↔◌, [], length, sum, slice_index, All, AllPairs, Contains, IfOk, IsSome, IsOk, IfSome, OnOk, OnErr, is_some, if◌then◌else◌};
 ghost use Rattle.std.specs.Option.{option_copied};
 ghost use Rattle.key_pages.specs.Order.{IsInOrder};
-ghost use Rattle.key_pages.specs.EntryList.{entry_of, with_entry, without_entry};
+ghost use Rattle.key_pages.specs.EntryList.{IsFilled, entry_of, with_entry, without_entry};
 ghost use Rattle.key_pages.specs.Position.{next_entry, prior_entry};
 ghost use Rattle.key_pages.specs.StepBound.{IsFewSteps};
 
@@ -58,6 +58,7 @@ impl Pages {
         requires { IsInOrder falling entries.items }
         ensures entries { IfOk result (λ list. list.entries ≡ entries.items) }
         ensures falling { IfOk result (λ list. list.falling ≡ falling) }
+        ensures pages { IfOk result (λ list. IsFilled list.pages) }
     {
         let len = entries.len();
         let mut directory = Directory::new(alloc);

@@ -61,11 +61,11 @@ pub(crate) fn begun<L: Ledger>(
     let mut low = 0;
     let mut high = pages.len();
     while low < high {
-        let middle = low + (high - low) / 2;
-        if begins_passed(&pages[middle], falling, from, itself, steps) {
-            low = middle + 1;
+        let number = low + (high - low) / 2;
+        if begins_passed(&pages[number], falling, from, itself, steps) {
+            low = number + 1;
         } else {
-            high = middle;
+            high = number;
         }
     }
     low

@@ -172,7 +172,10 @@ fn insert_numbers(alloc: Global, list: &mut Pages, from: u16, upto: u16) -> Resu
 
 fn remove_number(alloc: Global, list: &mut Pages, number: u16) -> Result<u32, AllocError> {
     let entry = numbered(alloc, number)?;
-    Ok(list.remove(&entry.borrowed()).map_or(0, |removed| removed.rrn))
+    Ok(
+        list.remove(&entry.borrowed())
+            .map_or(0, |removed| removed.rrn),
+    )
 }
 
 // As in one sorted list: the entries on either side of a number between two that are there.
@@ -222,7 +225,10 @@ fn removals_hand_back_what_is_there(rt: HostRuntime) -> Result<(), Fail> {
     assert!(rt; list.remove(&only.borrowed()).is_none());
     put(&mut list, entry(rt.alloc(), b"A", 0, 3)?)?;
     expect_near(&rt, &list, &Position::Start, 3, 0);
-    assert!(rt; list.remove(&entry(rt.alloc(), b"A", 1, 3)?.borrowed()).is_none());
+    assert!(rt;
+        list.remove(&entry(rt.alloc(), b"A", 1, 3)?.borrowed())
+            .is_none()
+    );
     let removed = list.remove(&only.borrowed()).ok_or("removed")?;
     assert_eq!(rt; removed.key.bytes(), b"A".as_slice());
     assert_eq!(rt; (removed.format, removed.rrn), (0, 3));
@@ -269,7 +275,10 @@ fn pages_split_and_join(rt: HostRuntime) -> Result<(), Fail> {
     let mut removed = 1;
     for (upto, lengths, next, prior) in &REMOVED {
         for number in removed..*upto {
-            assert_eq!(rt; remove_number(rt.alloc(), &mut list, number)?, u32::from(number));
+            assert_eq!(rt;
+                remove_number(rt.alloc(), &mut list, number)?,
+                u32::from(number)
+            );
         }
         removed = *upto;
         expect_pages(&rt, &list, lengths);

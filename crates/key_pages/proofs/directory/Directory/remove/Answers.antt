@@ -12,6 +12,6 @@ returns-then-len-eq1-2-clause-entries c =
     let long : length c.index.result.now ≡ length (page_at pages c.args.number) = ap length (page-read pages c.args.number c.index.result.now within c.index.ensures) in
     rw c.remove_only.ensures.pages (rw (← c.self.view_is) (sym (only-entry pages c.args.number c.args.place (omega arith) (omega (arith, long)) within there)))
 
-pub returns-then-len-gt-LEAST_PAGE_ENTRIES-clause-entries : goal.returns-then-len-gt-LEAST_PAGE_ENTRIES-clause-entries
-returns-then-len-gt-LEAST_PAGE_ENTRIES-clause-entries c =
+pub returns-then-enough-clause-entries : goal.returns-then-enough-clause-entries
+returns-then-enough-clause-entries c =
     ap entries_of c.remove_within.ensures.pages ∙ entries_of-set c.args.self.now.pages c.args.number _ c.requires.number
