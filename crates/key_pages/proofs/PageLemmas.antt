@@ -199,14 +199,16 @@ level-one left right page is least most =
       some = omega arith;
       most = All-cons (λ p. length p ≤ MOST_PAGE_ENTRIES) page [] (omega arith) (All-nil (λ p. length p ≤ MOST_PAGE_ENTRIES));
       least = All-cons (λ p. LEAST_PAGE_ENTRIES ≤ length p) page [] (omega arith) (All-nil (λ p. LEAST_PAGE_ENTRIES ≤ length p));
+      one = λ _. refl;
       same = append-nil page ∙ is;
     }
 
-pub level-two : (left right page more : List Entry) → page ++ more ≡ left ++ right → LEAST_PAGE_ENTRIES ≤ length page → length page ≤ MOST_PAGE_ENTRIES → LEAST_PAGE_ENTRIES ≤ length more → length more ≤ MOST_PAGE_ENTRIES → AreLevel left right (page ∷ (more ∷ []))
-level-two left right page more is least most more_least more_most = record {
+pub level-two : (left right page more : List Entry) → page ++ more ≡ left ++ right → MOST_PAGE_ENTRIES < length left + length right → LEAST_PAGE_ENTRIES ≤ length page → length page ≤ MOST_PAGE_ENTRIES → LEAST_PAGE_ENTRIES ≤ length more → length more ≤ MOST_PAGE_ENTRIES → AreLevel left right (page ∷ (more ∷ []))
+level-two left right page more is many least most more_least more_most = record {
   some = omega arith;
   most = All-cons (λ p. length p ≤ MOST_PAGE_ENTRIES) page (more ∷ []) most (All-cons (λ p. length p ≤ MOST_PAGE_ENTRIES) more [] more_most (All-nil (λ p. length p ≤ MOST_PAGE_ENTRIES)));
   least = All-cons (λ p. LEAST_PAGE_ENTRIES ≤ length p) page (more ∷ []) least (All-cons (λ p. LEAST_PAGE_ENTRIES ≤ length p) more [] more_least (All-nil (λ p. LEAST_PAGE_ENTRIES ≤ length p)));
+  one = λ few. absurd (omega arith);
   same = ap (λ xs. page ++ xs) (append-nil more) ∙ is;
 }
 
@@ -274,7 +276,7 @@ module _ (pages removed after : List (List Entry)) (n : ℕ) (left right page : 
       let long : length left ≡ length (page_at pages n) = ap length left-is in
       let right_long : length right ≡ length (page_at pages (n + 1)) = ap length right-is in
       let whole : page ++ more ≡ page_at pages n ++ page_at pages (n + 1) = same ∙ (ap (λ xs. xs ++ right) left-is ∙ ap (λ xs. page_at pages n ++ xs) right-is) in
-      (page ∷ (more ∷ []), level-two (page_at pages n) (page_at pages (n + 1)) page more whole (omega arith) (omega arith) (omega arith) (omega arith), insert-is ∙ (ap (λ xs. insert (set xs n page) (n + 1) more) is ∙ shared pages n within page more))
+      (page ∷ (more ∷ []), level-two (page_at pages n) (page_at pages (n + 1)) page more whole (omega arith) (omega arith) (omega arith) (omega arith) (omega arith), insert-is ∙ (ap (λ xs. insert (set xs n page) (n + 1) more) is ∙ shared pages n within page more))
 
 -- without the only entry of the only page there is none
 pub only-entry : (pages : List (List Entry)) (number place : ℕ) → length pages ≡ 1 → length (page_at pages number) ≡ 1 → number < length pages → place < length (page_at pages number) → with_page pages number (remove (page_at pages number) place) ≡ []

@@ -39,11 +39,12 @@ abbrev pub begins_passed : Bool → Bool → Position → List Entry → Bool
 begins_passed itself falling from [] = false
 begins_passed itself falling from (entry ∷ rest) = is_passed itself (side_of falling from entry)
 
--- two pages next to each other became one or two, neither too small nor too large, with the same entries
+-- two pages next to each other became one, or where they have too many entries for one, two; neither is too small or too large
 pub record AreLevel (left right : List Entry) (level : List (List Entry)) : Type 0 where
   pub some : 0 < length level
   pub most : All (λ page. length page ≤ MOST_PAGE_ENTRIES) level
   pub least : All (λ page. LEAST_PAGE_ENTRIES ≤ length page) level
+  pub one : length left + length right ≤ MOST_PAGE_ENTRIES → length level ≡ 1
   pub same : entries_of level ≡ left ++ right
 
 -- the entries before a place of a page, and those from it on, are parted by the search
