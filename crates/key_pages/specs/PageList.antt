@@ -6,7 +6,7 @@ use Rattle.std.specs.declared.cmp.Ordering.TheVariants.{Less, Greater}
 use Rattle.key_pages.specs.declared.entries.Entry.{Entry}
 use Rattle.key_pages.specs.declared.positions.Position.{Position}
 use Rattle.key_pages.specs.declared.page.TheConstants.{MOST_PAGE_ENTRIES, LEAST_PAGE_ENTRIES}
-use Rattle.key_pages.specs.Order.{entry_cmp}
+use Rattle.key_pages.specs.Order.{entry_cmp, IsInOrder}
 use Rattle.key_pages.specs.Position.{side_of}
 use Rattle.key_pages.specs.EntryList.{with_entry, without_entry}
 use Rattle.key_pages.specs.Search.{is_passed}
@@ -46,6 +46,13 @@ pub record AreLevel (left right : List Entry) (level : List (List Entry)) : Type
   pub least : All (λ page. LEAST_PAGE_ENTRIES ≤ length page) level
   pub one : length left + length right ≤ MOST_PAGE_ENTRIES → length level ≡ 1
   pub same : entries_of level ≡ left ++ right
+
+-- the pages of a list: in order, with so many entries, and with enough free pages for as many as there is room for
+pub record ArePagesOf (falling : Bool) (list : PageList) (count room : ℕ) : Type 0 where
+  pub ordered : IsInOrder falling (entries_of list.pages)
+  pub counted : length (entries_of list.pages) ≡ count
+  pub fits : count ≤ room
+  pub enough : room ≤ LEAST_PAGE_ENTRIES * (length list.pages + list.free - 2)
 
 -- the entries before a place of a page, and those from it on, are parted by the search
 pub record IsPlace (itself falling : Bool) (from : Position) (pages : List (List Entry)) (number place : ℕ) : Type 0 where

@@ -26,17 +26,15 @@ pub struct Pages {
 }
 
 impl Model for Pages {
-    ghost use Rattle.std.specs.Prelude.{◌≡◌, ◌+◌, ◌-◌, ◌*◌, ◌≤◌, length, map};
-    ghost use Rattle.key_pages.specs.declared.page.TheConstants.{LEAST_PAGE_ENTRIES};
+    ghost use Rattle.std.specs.Prelude.{◌-◌, length, map};
     ghost use Rattle.key_pages.specs.EntryList.{EntryList};
-    ghost use Rattle.key_pages.specs.Order.{IsInOrder};
-    ghost use Rattle.key_pages.specs.PageList.{entries_of};
+    ghost use Rattle.key_pages.specs.PageList.{ArePagesOf, entries_of};
 
     ghost Value = { EntryList };
 
     ghost view = { λ list. record { entries = entries_of list.directory.pages; falling = list.falling; spare = list.room - list.len; pages = map (λ page. length page) list.directory.pages } };
 
-    ghost invariant = { λ list. record { ordered : IsInOrder list.falling (entries_of list.directory.pages); counted : length (entries_of list.directory.pages) ≡ list.len; fits : list.len ≤ list.room; enough : list.room ≤ LEAST_PAGE_ENTRIES * (length list.directory.pages + list.directory.free - 2) } };
+    ghost invariant = { λ list. ArePagesOf list.falling list.directory list.len list.room };
 }
 
 impl Pages {
