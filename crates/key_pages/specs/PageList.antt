@@ -39,6 +39,13 @@ abbrev pub begins_passed : Bool → Bool → Position → List Entry → Bool
 begins_passed itself falling from [] = false
 begins_passed itself falling from (entry ∷ rest) = is_passed itself (side_of falling from entry)
 
+-- pages in use and free ones, so many together, and room for as many in the list of either
+pub record AreKept (pages free : List (List Entry)) (count most most_free : ℕ) : Type 0 where
+  pub sized : AreSized pages
+  pub empty : All (λ page. page ≡ []) free
+  pub room : count ≤ most
+  pub free_room : count ≤ most_free
+
 -- two pages next to each other became one, or where they have too many entries for one, two; neither is too small or too large
 pub record AreLevel (left right : List Entry) (level : List (List Entry)) : Type 0 where
   pub some : 0 < length level

@@ -19,8 +19,8 @@ use std::alloc::{AllocError, Global};
 use std::marker::{Brand, Model};
 use std::sync::ledger::{Blank, Ledger};
 
-/// Pages in order, none too small and none too large, and free ones. A page that comes into use was free before, one that goes out of use is free
-/// again, so that only `reserve` takes memory.
+/// Pages in order, none too small and none too large, and free ones. A page that comes into use was free before, one that
+/// goes out of use is free again, so that only `reserve` takes memory.
 #[derive(Drop)]
 pub(crate) struct Directory {
     pages: Vec<Page>,
@@ -28,14 +28,14 @@ pub(crate) struct Directory {
 }
 
 impl Model for Directory {
-    ghost use Rattle.std.specs.Prelude.{◌≡◌, ◌+◌, ◌≤◌, [], All, vec_len, vec_capacity};
-    ghost use Rattle.key_pages.specs.PageList.{PageList, AreSized};
+    ghost use Rattle.std.specs.Prelude.{◌+◌, vec_len, vec_capacity};
+    ghost use Rattle.key_pages.specs.PageList.{PageList, AreKept};
 
     ghost Value = { PageList };
 
     ghost view = { λ directory. record { pages = directory.pages.items; free = vec_len directory.free } };
 
-    ghost invariant = { λ directory. record { sized : AreSized directory.pages.items; empty : All (λ page. page ≡ []) directory.free.items; room : vec_len directory.pages + vec_len directory.free ≤ vec_capacity directory.pages; free_room : vec_len directory.pages + vec_len directory.free ≤ vec_capacity directory.free } };
+    ghost invariant = { λ directory. AreKept directory.pages.items directory.free.items (vec_len directory.pages + vec_len directory.free) (vec_capacity directory.pages) (vec_capacity directory.free) };
 }
 
 impl Directory {
@@ -319,7 +319,7 @@ fn insert_halving(page: &mut Page, place: usize, entry: Entry, into: &mut Page)
     }
 }
 
-// Two neighbouring pages become one, or where they have too many entries for one, they share them evenly.
+// Two neighbouring pages become one, or where they have too many entries for that, they share them evenly.
 fn level(pages: &mut Vec<Page>, free: &mut Vec<Page>, left: usize)
     requires left { left + 1 < length pages.old.items }
     requires least { LEAST_PAGE_ENTRIES ≤ length (page_at pages.old.items left) + length (page_at pages.old.items (left + 1)) }
