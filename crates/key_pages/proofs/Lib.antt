@@ -4,3 +4,7 @@ pub mod SideLemmas
 pub mod WalkLemmas
 pub mod StepLemmas
 pub mod MemberLemmas
+pub mod CutLemmas
+pub mod PageLemmas
+pub mod NearLemmas
+pub mod FillLemmas

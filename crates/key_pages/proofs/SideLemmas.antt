@@ -59,7 +59,7 @@ is_upto-cut (k ∷ key) (p ∷ part) = let rest = is_upto-cut key part in grind 
 
 module _ {K : Type 0} (c : K → K → Ordering) (o : IsTotalOrder c) where
   -- what is below the lesser of two is below the greater, and so on
-  Less-before_le : (x y z : K) → c x y ≡ Less → is_le (c y z) ≡ true → c x z ≡ Less
+  pub Less-before_le : (x y z : K) → c x y ≡ Less → is_le (c y z) ≡ true → c x z ≡ Less
   Less-before_le x y z less upto =
       elim (c y z) as (λ r. c y z ≡ r → is_le r ≡ true → c x z ≡ Less) [
         | Less ↦ λ is _. o.trans x y z less is
@@ -133,7 +133,7 @@ module _ (itself falling : Bool) (from : Position) (xs : List Entry) (i : ℕ) (
       ]
 
 -- what a place that parts the list says of the entries next to the position
-past-not_passed : (side : Ordering) (b : Bool) → is_le side ≡ b → is_gt side ≡ not b
+pub past-not_passed : (side : Ordering) (b : Bool) → is_le side ≡ b → is_gt side ≡ not b
 past-not_passed Less b is = ap not is
 past-not_passed Equal b is = ap not is
 past-not_passed Greater b is = ap not is

@@ -1,5 +1,5 @@
 -- Halving: how many steps there can be.
-use Rattle.std.proofs.Common.{◌≡◌, ℕ, suc, ◌+◌, ◌-◌, ◌*◌, ◌^◌, ◌≤◌, arith, ap, ◌∙◌, inl, inr}
+use Rattle.std.proofs.Common.{◌≡◌, ℕ, suc, ◌+◌, ◌-◌, ◌*◌, ◌^◌, ◌<◌, ◌≤◌, arith, ap, ◌∙◌, inl, inr}
 use Rattle.std.proofs.lemmas.Bool.{cases_lt}
 use Rattle.std.proofs.Math.Nat.{mul-le-mul_left, pow-suc}
 use Rattle.std.proofs.Math.Pow.{pow-lt}
@@ -24,9 +24,20 @@ cost-step count start steps after rest begun next left some =
     rw (pow-step start steps after begun next) (omega (arith, once))
 
 -- a search by halving takes no more steps than the count has digits, and one
-pub IsFewSteps-halving : (count before after : ℕ) → 2 ^ (after - before) ≤ 2 * count + 1 → IsFewSteps count before after
-IsFewSteps-halving count before after cost digits fits =
+halving : (count before after digits : ℕ) → 2 ^ (after - before) ≤ 2 * count + 1 → count < 2 ^ digits → after ≤ before + (digits + 1)
+halving count before after digits cost fits =
     elim (cases_lt (suc digits) (after - before)) [
       | inl many ↦ let more = pow-lt many in let step = pow-suc 2 digits in absurd (omega (arith, more, step))
       | inr few ↦ omega arith
     ]
+
+-- two such searches, each of no more than the count
+pub IsFewSteps-halving : (count pages page before between after : ℕ) → 2 ^ (between - before) ≤ 2 * pages + 1 → 2 ^ (after - between) ≤ 2 * page + 1 → pages ≤ count → page ≤ count → IsFewSteps count before after
+IsFewSteps-halving count pages page before between after cost page_cost within page_within digits fits =
+    let first = halving pages before between digits cost (omega arith) in
+    let second = halving page between after digits page_cost (omega arith) in
+    omega (arith, first, second)
+
+-- the first alone
+pub IsFewSteps-first : (count pages before after : ℕ) → 2 ^ (after - before) ≤ 2 * pages + 1 → pages ≤ count → IsFewSteps count before after
+IsFewSteps-first count pages before after cost within digits fits = let first = halving pages before after digits cost (omega arith) in omega (arith, first)

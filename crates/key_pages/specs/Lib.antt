@@ -4,3 +4,4 @@ pub mod Position
 pub mod Walk
 pub mod StepBound
 pub mod Search
+pub mod PageList

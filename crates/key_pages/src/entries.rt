@@ -1,8 +1,9 @@
 //! An entry of an access path, and the order of entries. Lists of them are in `list.rt`.
 
-ghost use Rattle.std.specs.Prelude.{◌≡◌, length, IfOk, IfErr};
+ghost use Rattle.std.specs.Prelude.{◌≡◌, ◌↔◌, length, IfOk, IfErr, IsTrue};
 ghost use Rattle.std.specs.List.Sorted.{IsSearchInRange};
 ghost use Rattle.key_pages.specs.Order.{entry_cmp, IsInOrder};
+ghost use Rattle.key_pages.specs.EntryList.{entry_of};
 ghost use Rattle.key_pages.specs.Search.{IsAt, IsGapFor};
 
 use crate::keys::Key;
@@ -15,6 +16,26 @@ pub struct Entry {
     pub key: Key,
     pub format: u16,
     pub rrn: u32,
+}
+
+/// What an entry has, with a key that is kept elsewhere. It takes no memory.
+#[derive(Clone, Copy)]
+pub struct EntryRef<'a> {
+    pub key: &'a [u8],
+    pub format: u16,
+    pub rrn: u32,
+}
+
+impl Entry {
+    pub fn borrowed(&self) -> EntryRef<'_>
+        ensures { entry_of result ≡ self.now }
+    {
+        EntryRef {
+            key: self.key.bytes(),
+            format: self.format,
+            rrn: self.rrn,
+        }
+    }
 }
 
 /// By key, then by format, then by ties.
@@ -33,14 +54,26 @@ pub(crate) fn compare(entry: &Entry, key: &[u8], format: u16, rrn: u32, falling:
         .then(entry.format.cmp(&format).then(ties))
 }
 
+/// Whether each entry is less than the next one, as `Pages::fill` asks.
+pub fn are_in_order(entries: &[Entry], falling: bool) -> bool
+    ensures { IsTrue result ↔ IsInOrder falling entries.now }
+{
+    for later in 1..entries.len() {
+        let EntryRef { key, format, rrn } = entries[later].borrowed();
+        if !compare(&entries[later - 1], key, format, rrn, falling).is_lt() {
+            return false;
+        }
+    }
+    true
+}
+
 /// Where the entry is, or where it would go.
-pub(crate) fn find(entries: &[Entry], entry: &Entry, falling: bool) -> Result<usize, usize>
+pub(crate) fn find(entries: &[Entry], entry: &EntryRef<'_>, falling: bool) -> Result<usize, usize>
     requires { IsInOrder falling entries.now }
     ensures within { IsSearchInRange result (length entries.now) }
-    ensures found { IfOk result (IsAt falling entry.now entries.now) }
-    ensures absent { IfErr result (IsGapFor falling entry.now entries.now) }
+    ensures found { IfOk result (IsAt falling (entry_of entry.now) entries.now) }
+    ensures absent { IfErr result (IsGapFor falling (entry_of entry.now) entries.now) }
 {
-    entries.binary_search_by(|other| {
-        compare(other, entry.key.bytes(), entry.format, entry.rrn, falling)
-    })
+    let EntryRef { key, format, rrn } = *entry;
+    entries.binary_search_by(|other| compare(other, key, format, rrn, falling))
 }

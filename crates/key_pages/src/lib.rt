@@ -2,18 +2,21 @@
 #![tactic(auto)]
 
 mod counting;
+mod directory;
 mod entries;
 mod keys;
 mod laws;
 mod list;
+mod page;
 mod positions;
 mod search;
 #[cfg(test)]
 mod tests;
 
 pub use counting::Steps;
-pub use entries::Entry;
+pub use entries::{Entry, EntryRef, are_in_order};
 pub use keys::Key;
 pub use laws::{insertion, one_order, removal, walk_backward, walk_forward};
 pub use list::Pages;
+pub use page::{FILLED_PAGE_ENTRIES, LEAST_PAGE_ENTRIES, MOST_PAGE_ENTRIES};
 pub use positions::Position;

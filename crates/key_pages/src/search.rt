@@ -1,13 +1,15 @@
-//! A binary search for the place of a position in a sorted list.
+//! Binary searches for a position: among pages by the first entry of each, then in one page.
 
-ghost use Rattle.std.specs.Prelude.{◌≡◌, ◌≤◌, ◌+◌, ◌*◌, ◌-◌, ◌^◌, true, false, length};
+ghost use Rattle.std.specs.Prelude.{◌≡◌, ◌<◌, ◌≤◌, ◌+◌, ◌*◌, ◌-◌, ◌^◌, true, false, length, All};
 ghost use Rattle.std.specs.List.{AllWithin};
 ghost use Rattle.key_pages.specs.Order.{IsInOrder};
 ghost use Rattle.key_pages.specs.Position.{side_of};
 ghost use Rattle.key_pages.specs.Search.{is_passed};
+ghost use Rattle.key_pages.specs.PageList.{page_at, begins_passed};
 
 use crate::counting::Steps;
 use crate::entries::Entry;
+use crate::page::Page;
 use crate::positions::{self, Position};
 use std::cmp::Ordering;
 use std::sync::ledger::Ledger;
@@ -39,6 +41,49 @@ pub(crate) fn place<L: Ledger>(
         }
     }
     low
+}
+
+/// How many pages begin before the position, or with `itself` also on it.
+pub(crate) fn begun<L: Ledger>(
+    pages: &[Page],
+    falling: bool,
+    from: &Position<'_>,
+    itself: bool,
+    steps: &mut Steps<L>,
+) -> usize
+    requires { All (λ page. 0 < length page) pages.now }
+    ensures within { result ≤ length pages.now }
+    ensures passed { 0 < result → begins_passed itself falling from.now (page_at pages.now (result - 1)) ≡ true }
+    ensures ahead { result < length pages.now → begins_passed itself falling from.now (page_at pages.now result) ≡ false }
+    ensures cost { 2 ^ (steps.new - steps.old) ≤ 2 * length pages.now + 1 }
+    ensures rises { steps.old ≤ steps.new }
+{
+    let mut low = 0;
+    let mut high = pages.len();
+    while low < high {
+        let number = low + (high - low) / 2;
+        if begins_passed(&pages[number], falling, from, itself, steps) {
+            low = number + 1;
+        } else {
+            high = number;
+        }
+    }
+    low
+}
+
+fn begins_passed<L: Ledger>(
+    page: &Page,
+    falling: bool,
+    from: &Position<'_>,
+    itself: bool,
+    steps: &mut Steps<L>,
+) -> bool
+    requires { 0 < length page.now }
+    ensures passed { result ≡ begins_passed itself falling from.now page.now }
+    ensures cost { steps.new ≡ steps.old + 1 }
+{
+    let side = positions::side(from, page.first(), falling, steps);
+    is_passed(side, itself)
 }
 
 fn is_passed(side: Ordering, itself: bool) -> bool

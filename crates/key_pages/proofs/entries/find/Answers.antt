@@ -2,12 +2,14 @@
 use Rattle.std.proofs.Common.{rules}
 use Rattle.std.proofs.lemmas.Fn.{always_returns_same}
 use Rattle.key_pages.specs.Order.{entry_cmp}
+use Rattle.key_pages.specs.EntryList.{entry_of}
 use Rattle.key_pages.proofs.OrderLemmas.{searched}
 use Rattle.key_pages.proofs.entries.find.Goals as goal
 
 pub returns : goal.returns
 returns c =
+    let entry = entry_of c.args.entry.now in
     let facts = c.binary_search_by.ensures in
-    let by_entry = facts.position (λ other. entry_cmp c.args.falling other c.args.entry.now) (always_returns_same _ _ _ (λ a r f k. search rules)) in
-    let place = searched c.args.falling c.args.entry.now c.args.entries.now c.binary_search_by.result c.requires facts.bound by_entry in
+    let by_entry = facts.position (λ other. entry_cmp c.args.falling other entry) (always_returns_same _ _ _ (λ a r f k. search rules)) in
+    let place = searched c.args.falling entry c.args.entries.now c.binary_search_by.result c.requires facts.bound by_entry in
     record { within = facts.bound; found = place.0; absent = place.1 }

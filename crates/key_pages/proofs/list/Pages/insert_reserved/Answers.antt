@@ -1,28 +1,30 @@
--- The entry isn't there, so the search ends at its place, and there is room.
-use Rattle.std.proofs.Common.{◌≡◌, ◌∙◌, arith}
-use Rattle.key_pages.specs.EntryList.{with_entry}
-use Rattle.key_pages.specs.Search.{IsGapFor}
-use Rattle.key_pages.proofs.OrderLemmas.{IsInOrder-with_entry, is_err_from_absent}
+-- The entry goes to its place in its page, and one more stands in the list.
+use Rattle.std.proofs.Common.{◌≡◌, ◌∙◌, length, ap, subst, arith}
+use Rattle.std.specs.Prelude.{insert}
+use Rattle.key_pages.specs.EntryList.{entry_of, with_entry}
+use Rattle.key_pages.specs.Order.{IsInOrder}
+use Rattle.key_pages.specs.PageList.{entries_of, page_at, with_page, IsGapIn}
+use Rattle.key_pages.proofs.OrderLemmas.{IsInOrder-with_entry}
+use Rattle.key_pages.proofs.PageLemmas.{length-inserted}
 use Rattle.key_pages.proofs.list.Pages.insert_reserved.Goals as goal
 
-pub unwrap_err-place-requires : goal.unwrap_err-place-requires
-unwrap_err-place-requires c =
-    let absent = rw (← c.self.view_is, ← c.deref.ensures.value) at c.requires.absent in
-    is_err_from_absent c.self.inside.falling c.args.entry c.deref.result.now c.find.result absent c.find.ensures.found
+gap : (c : goal.After-insert) → IsGapIn c.self.inside.falling (entry_of c.borrowed.result) c.self.inside.directory.pages c.find-number.result.0 c.unwrap_err-place.result
+gap c = rw c.unwrap_err-place.ensures at c.find-number.ensures.absent
 
--- the vector holds what the definition says
-items : (c : goal.After-unwrap) → c.insert.new.self.items ≡ with_entry c.self.inside.falling c.args.entry c.self.inside.entries.items
-items c =
-    let gap : IsGapFor c.self.inside.falling c.args.entry c.deref.result.now c.unwrap_err-place.result = rw c.unwrap_err-place.ensures at c.find.ensures.absent in
-    let stands = rw c.deref.ensures.value at gap.inserted in
-    let done = rw c.unwrap.ensures at c.insert.ensures.items in
-    done ∙ stands
+entries : (c : goal.After-insert) → entries_of c.insert.new.self.pages ≡ with_entry c.self.inside.falling c.args.entry (entries_of c.self.inside.directory.pages)
+entries c =
+    let pages = c.self.inside.directory.pages in
+    let number = c.find-number.result.0 in
+    c.insert.ensures.entries
+    ∙ subst (λ e. with_page pages number (insert (page_at pages number) c.unwrap_err-place.result e) ≡ with_entry c.self.inside.falling e (entries_of pages)) c.borrowed.ensures (gap c).inserted
 
 pub invariant_of-self : goal.invariant_of-self
-invariant_of-self c = record {
-  ordered = rw (items c) (IsInOrder-with_entry c.self.inside.falling c.args.entry c.self.inside.entries.items c.self.invariant.ordered);
-  room = let done = rw c.unwrap.ensures at c.insert.ensures.len in omega (arith, c.self.invariant.room, c.insert.ensures.capacity);
-}
-
-pub returns-clause-entries : goal.returns-clause-entries
-returns-clause-entries c = rw (← c.self.view_is) (items c)
+invariant_of-self c =
+    let spare = rw (← c.self.view_is) at c.requires.spare in
+    let pages = c.self.inside.directory.pages in
+    record {
+      ordered = rw (entries c) (IsInOrder-with_entry c.self.inside.falling c.args.entry (entries_of pages) c.self.invariant.ordered);
+      counted = omega (arith, ap length c.insert.ensures.entries, length-inserted pages c.find-number.result.0 c.unwrap_err-place.result c.args.entry c.find-number.ensures.number);
+      fits = omega (arith, spare);
+      enough = omega (arith, c.insert.ensures.total);
+    }
