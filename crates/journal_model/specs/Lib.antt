@@ -1,0 +1,11 @@
+pub mod Acts
+pub mod Places
+pub mod Walks
+pub mod Closed
+pub mod Ranges
+pub mod Replay
+pub mod Replayable
+pub mod Settled
+pub mod Restart
+pub mod AtSequence
+pub mod ManyMembers
