@@ -1,1 +1,4 @@
 pub mod ClosedLemmas
+pub mod PlaceLemmas
+pub mod WalkLemmas
+pub mod SequenceLemmas

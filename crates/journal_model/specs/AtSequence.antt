@@ -1,23 +1,28 @@
--- How was a record at a sequence of the journal, by the entries that stand before it and after it?
--- (Journal Management, "Removing journaled changes". The rule is this project's own.)
-use Rattle.std.specs.Prelude.{ℕ, ◌==◌, if◌then◌else◌, List, [], ◌∷◌, Option, Some, None}
+-- How was a record at a sequence of the journal, by the entries that stand before it and after it? And do the entries
+-- of one record follow one from the other? (Journal Management, "Removing journaled changes". The rule is this
+-- project's own.)
+use Rattle.std.specs.Prelude.{ℕ, ◌≡◌, Bool, ◌==◌, if◌then◌else◌, List, [], ◌∷◌, Option, Some, None, ⊤}
+use Rattle.std.specs.List.{list_any}
 use Rattle.member_slots.specs.declared.slot.Slot.{Slot}
 use Rattle.member_slots.specs.declared.slot.Slot.TheVariants.{Live}
 use Rattle.journal_model.specs.Acts.{Act, Changed, Began, Committed, RolledBack, Journaled, Stood, Cleared, Reorganized, Ended, Nothing, Change, changes}
 
--- the slot that the last entry of the record leaves, where no break of the member stands behind it
+-- what is known of a record after an act: the slot that the act leaves; a break of the member makes it unknown
+abbrev pub known_by : ℕ → Option Slot → Act → Option Slot
+known_by place known (Changed c) = if c.place == place then Some c.after else known
+known_by place known (Stood other image) = if other == place then Some (Live image) else known
+known_by place known (Journaled images number) = None
+known_by place known Cleared = None
+known_by place known Reorganized = None
+known_by place known Ended = None
+known_by place known (Began n) = known
+known_by place known (Committed n) = known
+known_by place known (RolledBack n) = known
+known_by place known Nothing = known
+
 abbrev pub known_after : ℕ → Option Slot → List Act → Option Slot
 known_after place known [] = known
-known_after place known (Changed c ∷ rest) = known_after place (if c.place == place then Some c.after else known) rest
-known_after place known (Stood other image ∷ rest) = known_after place (if other == place then Some (Live image) else known) rest
-known_after place known (Journaled images number ∷ rest) = known_after place None rest
-known_after place known (Cleared ∷ rest) = known_after place None rest
-known_after place known (Reorganized ∷ rest) = known_after place None rest
-known_after place known (Ended ∷ rest) = known_after place None rest
-known_after place known (Began n ∷ rest) = known_after place known rest
-known_after place known (Committed n ∷ rest) = known_after place known rest
-known_after place known (RolledBack n ∷ rest) = known_after place known rest
-known_after place known (Nothing ∷ rest) = known_after place known rest
+known_after place known (a ∷ rest) = known_after place (known_by place known a) rest
 
 -- the before side of the first change of the record
 abbrev pub first_before : ℕ → List Change → Option Slot
@@ -28,6 +33,35 @@ abbrev pub or_else : Option Slot → Option Slot → Option Slot
 or_else (Some slot) other = Some slot
 or_else None other = other
 
--- the slot between the acts before a sequence's end and those after it; None where the journal doesn't tell
+-- the slot between the acts up to a sequence and those after it; None where the journal doesn't tell
 abbrev pub slot_at : (place : ℕ) → (before after : List Act) → Option Slot
 slot_at place before after = or_else (known_after place None before) (first_before place (changes after))
+
+-- a change of the record is among these
+abbrev pub touches : ℕ → List Change → Bool
+touches place changes = list_any (λ (c : Change). c.place == place) changes
+
+-- ---- the entries of one record
+
+-- a before side that is there agrees with what is known
+abbrev pub Agrees : Option Slot → Option Slot → Type 0
+Agrees None before = ⊤
+Agrees (Some slot) None = ⊤
+Agrees (Some slot) (Some side) = slot ≡ side
+
+abbrev pub FollowsKnown : ℕ → Option Slot → Act → Type 0
+FollowsKnown place known (Changed c) = c.place ≡ place → Agrees known c.before
+FollowsKnown place known (Stood other image) = ⊤
+FollowsKnown place known (Journaled images number) = ⊤
+FollowsKnown place known Cleared = ⊤
+FollowsKnown place known Reorganized = ⊤
+FollowsKnown place known Ended = ⊤
+FollowsKnown place known (Began n) = ⊤
+FollowsKnown place known (Committed n) = ⊤
+FollowsKnown place known (RolledBack n) = ⊤
+FollowsKnown place known Nothing = ⊤
+
+-- between two breaks each before side is the after side of the change before it
+abbrev pub IsChained : ℕ → Option Slot → List Act → Type 0
+IsChained place known [] = ⊤
+IsChained place known (a ∷ rest) = FollowsKnown place known a × IsChained place (known_by place known a) rest
