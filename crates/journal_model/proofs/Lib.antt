@@ -2,3 +2,8 @@ pub mod ClosedLemmas
 pub mod PlaceLemmas
 pub mod WalkLemmas
 pub mod SequenceLemmas
+pub mod ReplayLemmas
+pub mod EachLemmas
+pub mod SoundLemmas
+pub mod SettledLemmas
+pub mod UndoneLemmas

@@ -3,8 +3,9 @@
 -- of each open commit cycle would, in the order of their beginnings, is this project's own.)
 use Rattle.std.specs.Prelude.{ℕ, Bool, true, false, List, [], ◌∷◌, ◌++◌, Some}
 use Rattle.std.specs.List.{filter}
+use Rattle.member_slots.specs.declared.slot.Slot.{Slot}
 use Rattle.journal_model.specs.Acts.{Act, Changed, Began, Committed, RolledBack, Journaled, Stood, Cleared, Reorganized, Ended, Nothing, Change}
-use Rattle.journal_model.specs.Replay.{State, is_in, before_of}
+use Rattle.journal_model.specs.Replay.{all_moved, State, is_in, before_of}
 
 -- the change that takes a change back
 abbrev pub inverse : Change → Change
@@ -25,6 +26,10 @@ all_rollback_acts (n ∷ cycles) undos = rollback_acts n undos ++ all_rollback_a
 -- what restart does to the member, its before images and what it does to other members aside
 abbrev pub restart_acts : State → List Act
 restart_acts s = all_rollback_acts s.cycles s.undos
+
+-- the member, once every open commit cycle is rolled back
+abbrev pub all_undone : State → List Slot
+all_undone s = all_moved s.slots (restart_acts s)
 
 abbrev pub is_something : Act → Bool
 is_something Nothing = false
