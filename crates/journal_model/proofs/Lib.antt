@@ -7,3 +7,4 @@ pub mod EachLemmas
 pub mod SoundLemmas
 pub mod SettledLemmas
 pub mod UndoneLemmas
+pub mod RestartLemmas

@@ -1,20 +1,19 @@
 -- Journals that can be replayed: the test tells, a replayed range applies, and the entries of a record follow one from
 -- the other.
-use Rattle.std.proofs.Common.{◌≡◌, ◌≢◌, ℕ, ◌+◌, ◌<◌, ◌≤◌, Bool, true, false, ◌&&◌, ◌||◌, ◌==◌, not, cond, leb, ltb, List, [], ◌∷◌, ◌++◌, length, Option, Some, None, Result, Ok, Err, IsTrue, refl, sym, ap, ◌∙◌, subst, arith, inl, inr, is_none}
+use Rattle.std.proofs.Common.{◌≡◌, ℕ, ◌+◌, Bool, true, false, ◌&&◌, ◌||◌, ◌==◌, not, cond, leb, ltb, List, [], ◌∷◌, ◌++◌, length, Option, Some, None, Result, Ok, refl, sym, ap, ◌∙◌, subst, arith, inl, inr}
 use Rattle.std.specs.Prelude.{IsOkAnd, ⊤}
-use Rattle.std.specs.List.{list_any, list_all, filter, AllByRecursion}
-use Rattle.std.proofs.lemmas.Bool.{cases_eq, eq-eqb, ne_eqb, eqb-true, eqb-false, and_parts, leb-true, ltb-true}
+use Rattle.std.specs.List.{list_any, filter}
+use Rattle.std.proofs.lemmas.Bool.{cases_eq, eq-eqb, ne_eqb, eqb-true, and_parts, leb-true, ltb-true}
 use Rattle.std.proofs.lemmas.Bool.Decides.{nat_tests}
 use Rattle.member_slots.specs.declared.slot.Slot.{Slot}
-use Rattle.member_slots.specs.declared.slot.Slot.TheVariants.{Live, Deleted}
-use Rattle.member_slots.specs.Member.{is_live}
-use Rattle.journal_model.specs.Acts.{Act, Changed, Began, Committed, RolledBack, Journaled, Stood, Cleared, Reorganized, Ended, Nothing, Change, changes, is_number, is_same_number}
+use Rattle.member_slots.specs.declared.slot.Slot.TheVariants.{Live}
+use Rattle.journal_model.specs.Acts.{Act, Changed, Began, Committed, RolledBack, Journaled, Stood, Cleared, Reorganized, Ended, Nothing, Change, is_same_number}
 use Rattle.journal_model.specs.Places.{slot_of, put_slot, is_same_slot, HasSameRecords}
-use Rattle.journal_model.specs.Walks.{RangeFault, Numbered, numbered, redo, undo, apply, remove, is_met, ◌then◌}
+use Rattle.journal_model.specs.Walks.{RangeFault, numbered, apply, remove, is_met, ◌then◌}
 use Rattle.journal_model.specs.Ranges.{is_break, lacks_before}
 use Rattle.journal_model.specs.Replay.{State, step, replay, moved, all_moved, back, before_of, is_in}
-use Rattle.journal_model.specs.Replayable.{AgreesBefore, IsOpen, IsAlone, MayChange, MayRollBack, MayStand, IsFree, MayFollow, CanReplay, is_one_of, agrees_before, is_open, is_alone, may_change, is_restored, may_roll_back, is_free, may_follow, can_replay}
-use Rattle.journal_model.specs.AtSequence.{known_by, known_after, first_before, or_else, slot_at, touches, Agrees, FollowsKnown, IsChained}
+use Rattle.journal_model.specs.Replayable.{AgreesBefore, IsOpen, IsAlone, MayChange, MayFollow, CanReplay, is_one_of, agrees_before, is_open, is_alone, may_change, is_restored, is_free, may_follow, can_replay}
+use Rattle.journal_model.specs.AtSequence.{known_by, touches, Agrees, FollowsKnown, IsChained}
 use Rattle.journal_model.proofs.PlaceLemmas.{slot_of-put_same, slot_of-put_other, is_same_slot-same, is_same_slot-itself}
 use Rattle.journal_model.proofs.WalkLemmas.{redo-goes, remove-gives_back}
 
@@ -137,7 +136,7 @@ pub apply-replayed : (range : List Act) (s : State) (first : ℕ) → CanReplay 
 apply-replayed [] s first h b = refl
 apply-replayed (Changed c ∷ range) s first h b =
     ap (λ (r : Result (List Slot) RangeFault). r then apply (numbered (first + 1) range)) (redo-goes (record { sequence = first; change = c }) s.slots h.0.place (met c.before c.cycle (slot_of s.slots c.place) h.0.before))
-      ∙ apply-replayed range (step s (Changed c)) (first + 1) h.1 b
+    ∙ apply-replayed range (step s (Changed c)) (first + 1) h.1 b
 apply-replayed (Began n ∷ range) s first h b = apply-replayed range (step s (Began n)) (first + 1) h.1 b
 apply-replayed (Committed n ∷ range) s first h b = apply-replayed range (step s (Committed n)) (first + 1) h.1 b
 apply-replayed (RolledBack n ∷ range) s first h b = apply-replayed range (step s (RolledBack n)) (first + 1) h.1 b
@@ -167,9 +166,9 @@ module _ (place : ℕ) where
 
   so_put : (slots : List Slot) (other : ℕ) (new : Slot) (known : Option Slot) → IsSo known (slot_of slots place) → IsSo (cond (other == place) (Some new) known) (slot_of (put_slot slots other new) place)
   so_put slots other new known k = elim (cases_eq other place) [
-      | inl e ↦ rw (eq-eqb other place e) (sym (subst (λ (q : ℕ). slot_of (put_slot slots other new) q ≡ new) e (slot_of-put_same slots other new)))
-      | inr differs ↦ rw (ne_eqb other place differs, slot_of-put_other slots other place new differs) k
-    ]
+    | inl e ↦ rw (eq-eqb other place e) (sym (subst (λ (q : ℕ). slot_of (put_slot slots other new) q ≡ new) e (slot_of-put_same slots other new)))
+    | inr differs ↦ rw (ne_eqb other place differs, slot_of-put_other slots other place new differs) k
+  ]
 
   so_by : (s : State) (a : Act) (known : Option Slot) → IsSo known (slot_of s.slots place) → IsSo (known_by place known a) (slot_of (moved s.slots a) place)
   so_by s (Changed c) known k = so_put s.slots c.place c.after known k

@@ -1,18 +1,17 @@
 -- A removal leaves the records that it touched as at the sequence before it, and applying as at the last one.
-use Rattle.std.proofs.Common.{◌≡◌, ◌≢◌, ℕ, ◌+◌, Bool, true, false, ◌&&◌, ◌||◌, ◌==◌, cond, List, [], ◌∷◌, ◌++◌, map, Option, Some, None, Result, Ok, Err, refl, sym, ap, ◌∙◌, subst, arith, inl, inr}
+use Rattle.std.proofs.Common.{◌≡◌, ◌≢◌, ℕ, ◌+◌, Bool, true, false, ◌||◌, ◌==◌, cond, List, [], ◌∷◌, ◌++◌, Option, Some, None, Ok, refl, sym, ap, ◌∙◌, subst, arith, inl, inr}
 use Rattle.std.specs.List.{list_any}
 use Rattle.std.proofs.lemmas.Bool.{cases_eq, eq-eqb, ne_eqb, eqb-true, eqb-false}
 use Rattle.std.proofs.lemmas.Bool.Decides.{nat_tests}
 use Rattle.member_slots.specs.declared.slot.Slot.{Slot}
-use Rattle.member_slots.specs.declared.slot.Slot.TheVariants.{Live, Deleted}
 use Rattle.journal_model.specs.Acts.{Act, Changed, Began, Committed, RolledBack, Journaled, Stood, Cleared, Reorganized, Ended, Nothing, Change, changes}
 use Rattle.journal_model.specs.Places.{slot_of, put_slot}
-use Rattle.journal_model.specs.Walks.{RangeFault, Numbered, numbered, redo, undo, apply, remove}
+use Rattle.journal_model.specs.Walks.{Numbered, numbered, redo, undo, apply, remove}
 use Rattle.journal_model.specs.Ranges.{is_break}
-use Rattle.journal_model.specs.AtSequence.{known_by, known_after, first_before, or_else, slot_at, touches, Agrees, FollowsKnown, IsChained}
-use Rattle.journal_model.proofs.ClosedLemmas.{changes-append, list_any-append}
+use Rattle.journal_model.specs.AtSequence.{known_by, known_after, first_before, or_else, slot_at, touches, Agrees, IsChained}
+use Rattle.journal_model.proofs.ClosedLemmas.{changes-append}
 use Rattle.journal_model.proofs.PlaceLemmas.{slot_of-put_same, slot_of-put_other}
-use Rattle.journal_model.proofs.WalkLemmas.{ok_from_then, Undone, undone, Redone, redone}
+use Rattle.journal_model.proofs.WalkLemmas.{ok_from_then, undone, Redone, redone}
 
 abbrev pub unnumbered : List Numbered → List Change
 unnumbered [] = []
@@ -44,9 +43,9 @@ module _ (place : ℕ) where
   left_by : (c : Change) (cs : List Change) (slot middle given : Slot) → Left cs slot middle → (c.place ≡ place → c.before ≡ Some given) → (c.place ≢ place → given ≡ middle) → Left (c ∷ cs) slot given
   unfolding Left
   left_by c cs slot middle given l here else_ = elim (cases_eq c.place place) [
-      | inl e ↦ rw (eq-eqb c.place place e) ((λ _. here e), (λ h. absurd (cc)))
-      | inr differs ↦ rw (ne_eqb c.place place differs) ((λ h. l.0 h ∙ ap Some (sym (else_ differs))), (λ h. else_ differs ∙ l.1 h))
-    ]
+    | inl e ↦ rw (eq-eqb c.place place e) ((λ _. here e), (λ h. absurd (cc)))
+    | inr differs ↦ rw (ne_eqb c.place place differs) ((λ h. l.0 h ∙ ap Some (sym (else_ differs))), (λ h. else_ differs ∙ l.1 h))
+  ]
 
   left : (ns : List Numbered) (slots given : List Slot) → remove ns slots ≡ Ok given → Left (unnumbered ns) (slot_of slots place) (slot_of given place)
   unfolding Left
@@ -55,8 +54,8 @@ module _ (place : ℕ) where
       let m = ok_from_then (remove ns slots) (undo n) given h in
       let u = undone n m.0 given m.2 in
       left_by n.change (unnumbered ns) (slot_of slots place) (slot_of m.0 place) (slot_of given place) (left ns slots m.0 m.1)
-        (λ e. u.told ∙ ap Some (sym (ap (λ (s : List Slot). slot_of s place) u.now ∙ subst (λ (q : ℕ). slot_of (put_slot m.0 n.change.place u.side) q ≡ u.side) e (slot_of-put_same m.0 n.change.place u.side))))
-        (λ differs. ap (λ (s : List Slot). slot_of s place) u.now ∙ slot_of-put_other m.0 n.change.place place u.side differs)
+      (λ e. u.told ∙ ap Some (sym (ap (λ (s : List Slot). slot_of s place) u.now ∙ subst (λ (q : ℕ). slot_of (put_slot m.0 n.change.place u.side) q ≡ u.side) e (slot_of-put_same m.0 n.change.place u.side))))
+      (λ differs. ap (λ (s : List Slot). slot_of s place) u.now ∙ slot_of-put_other m.0 n.change.place place u.side differs)
 
   removed_there : (first : ℕ) (range : List Act) (slots given : List Slot) → remove (numbered first range) slots ≡ Ok given → touches place (changes range) ≡ true → first_before place (changes range) ≡ Some (slot_of given place)
   unfolding Left
@@ -71,9 +70,9 @@ module _ (place : ℕ) where
   first_before-append : (xs ys : List Change) → touches place xs ≡ true → first_before place (xs ++ ys) ≡ first_before place xs
   first_before-append [] ys h = absurd (cc)
   first_before-append (c ∷ xs) ys h = elim (c.place == place) as (λ b. b || touches place xs ≡ true → cond b c.before (first_before place (xs ++ ys)) ≡ cond b c.before (first_before place xs)) [
-      | true ↦ λ _. refl
-      | false ↦ λ t. first_before-append xs ys t
-    ] h
+    | true ↦ λ _. refl
+    | false ↦ λ t. first_before-append xs ys t
+  ] h
 
   pub known_after-append : (known : Option Slot) (xs ys : List Act) → known_after place known (xs ++ ys) ≡ known_after place (known_after place known xs) ys
   known_after-append known [] ys = refl
@@ -146,17 +145,19 @@ module _ (place : ℕ) where
   applied_last (Changed c ∷ xs) first known slots given h b t = at (touches place (changes xs)) refl (applied_last xs (first + 1) (known_by place known (Changed c)) m.0 given m.2 b) where
     m : (middle : List Slot) × (redo (record { sequence = first; change = c }) slots ≡ Ok middle) × (apply (numbered (first + 1) xs) middle ≡ Ok given)
     m = ok_from_then (redo (record { sequence = first; change = c }) slots) (apply (numbered (first + 1) xs)) given h
+
     r : Redone (record { sequence = first; change = c }) slots m.0
     r = redone (record { sequence = first; change = c }) slots m.0 m.1
+
     at : (w : Bool) → touches place (changes xs) ≡ w → (touches place (changes xs) ≡ true → known_after place (known_by place known (Changed c)) xs ≡ Some (slot_of given place)) → known_after place (known_by place known (Changed c)) xs ≡ Some (slot_of given place)
     at true e more = more e
     at false e more =
         let here : c.place == place ≡ true = only (c.place == place) (touches place (changes xs)) t e in
         let others : touches place (unnumbered (numbered (first + 1) xs)) ≡ false = ap (touches place) (unnumbered-numbered (first + 1) xs) ∙ e in
         let shown : slot_of given place ≡ c.after =
-            applied-others (numbered (first + 1) xs) m.0 given m.2 others
-              ∙ ap (λ (s : List Slot). slot_of s place) r.now
-              ∙ subst (λ (q : ℕ). slot_of (put_slot slots c.place c.after) q ≡ c.after) (eqb-true c.place place here) (slot_of-put_same slots c.place c.after) in
+        applied-others (numbered (first + 1) xs) m.0 given m.2 others
+        ∙ ap (λ (s : List Slot). slot_of s place) r.now
+        ∙ subst (λ (q : ℕ). slot_of (put_slot slots c.place c.after) q ≡ c.after) (eqb-true c.place place here) (slot_of-put_same slots c.place c.after) in
         known_after-untouched xs (known_by place known (Changed c)) b e ∙ ap (λ (w : Bool). cond w (Some c.after) known) here ∙ ap Some (sym shown)
   applied_last (Began n ∷ xs) first known slots given h b t = applied_last xs (first + 1) known slots given h b t
   applied_last (Committed n ∷ xs) first known slots given h b t = applied_last xs (first + 1) known slots given h b t

@@ -1,9 +1,8 @@
 -- A journal's settled records are those that replaying leaves once the open commit cycles are undone. The induction
 -- goes forwards, one act at a time: what is settled so far is the replay with those commit cycles undone that will not
 -- commit.
-use Rattle.std.proofs.Common.{◌≡◌, ◌≢◌, ◌⊎◌, ℕ, zero, suc, ◌+◌, ◌<◌, ◌≤◌, Bool, true, false, ◌&&◌, ◌||◌, ◌==◌, not, cond, List, [], ◌∷◌, ◌++◌, Option, Some, None, refl, sym, ap, ◌∙◌, subst, arith, inl, inr, replicate}
-use Rattle.std.specs.Prelude.{⊤}
-use Rattle.std.specs.List.{list_any, filter, AllByRecursion}
+use Rattle.std.proofs.Common.{◌≡◌, ◌⊎◌, ℕ, suc, ◌<◌, ◌≤◌, Bool, true, false, ◌&&◌, ◌||◌, ◌==◌, not, cond, List, [], ◌∷◌, Option, Some, None, refl, sym, ap, ◌∙◌, subst, arith, inl, inr, replicate}
+use Rattle.std.specs.List.{filter, AllByRecursion}
 use Rattle.std.proofs.lemmas.Bool.{cases_eq, eq-eqb, ne_eqb, eqb-true, eqb-false}
 use Rattle.std.proofs.lemmas.Bool.Decides.{nat_tests}
 use Rattle.member_slots.specs.declared.slot.Slot.{Slot}
@@ -12,11 +11,11 @@ use Rattle.member_slots.specs.Member.{is_live}
 use Rattle.journal_model.specs.Acts.{Act, Changed, Began, Committed, RolledBack, Journaled, Stood, Cleared, Reorganized, Ended, Nothing, Change, is_number}
 use Rattle.journal_model.specs.Places.{slot_of, put_slot}
 use Rattle.journal_model.specs.Replay.{State, state_at, step, replay, moved, all_moved, noted, back, before_of, is_in, is_not_in, is_other}
-use Rattle.journal_model.specs.Replayable.{IsAlone, MayChange, MayRollBack, MayFollow, CanReplay, is_one_of}
+use Rattle.journal_model.specs.Replayable.{MayChange, MayFollow, CanReplay, is_one_of}
 use Rattle.journal_model.specs.Settled.{has_commit, stays, is_kept, settled}
 use Rattle.journal_model.proofs.PlaceLemmas.{slot_of-put_same, slot_of-put_other}
 use Rattle.journal_model.proofs.EachLemmas.{each-weaker, each-filter, each-of, filter-filter, filter-all, one_of-filtered, one_of-others, one_of-push}
-use Rattle.journal_model.proofs.SoundLemmas.{IsSound, HasOpen, AreOf, AgreeAt, NoneAt, solo-at, back-filters, back-other, back-free, told_by, none_of_open, sound-step, sound-start, sound-replay}
+use Rattle.journal_model.proofs.SoundLemmas.{IsSound, HasOpen, AreOf, AgreeAt, solo-at, back-filters, back-other, back-free, told_by, none_of_open, sound-step, sound-start}
 
 -- ---- a commit cycle that is closed commits no more
 
@@ -62,15 +61,15 @@ same_live (x ∷ a) [] h = none_live (x ∷ a) (λ place. sym (h place))
 same_live (x ∷ a) (y ∷ b) h =
     let e : x ≡ y = h 0 in
     ap (λ (z : Slot). filter is_live (z ∷ a)) e ∙ elim (is_live y) as (λ t. cond t (y ∷ filter is_live a) (filter is_live a) ≡ cond t (y ∷ filter is_live b) (filter is_live b)) [
-        | true ↦ ap (λ zs. y ∷ zs) (same_live a b (λ place. h (suc place)))
-        | false ↦ same_live a b (λ place. h (suc place))
-      ]
+      | true ↦ ap (λ zs. y ∷ zs) (same_live a b (λ place. h (suc place)))
+      | false ↦ same_live a b (λ place. h (suc place))
+    ]
 
 pub same_put : (a b : List Slot) (place : ℕ) (new : Slot) → ((other : ℕ) → slot_of a other ≡ slot_of b other) → (other : ℕ) → slot_of (put_slot a place new) other ≡ slot_of (put_slot b place new) other
 same_put a b place new h other = elim (cases_eq place other) [
-    | inl e ↦ subst (λ (q : ℕ). slot_of (put_slot a place new) q ≡ slot_of (put_slot b place new) q) e (slot_of-put_same a place new ∙ sym (slot_of-put_same b place new))
-    | inr differs ↦ slot_of-put_other a place other new differs ∙ h other ∙ sym (slot_of-put_other b place other new differs)
-  ]
+  | inl e ↦ subst (λ (q : ℕ). slot_of (put_slot a place new) q ≡ slot_of (put_slot b place new) q) e (slot_of-put_same a place new ∙ sym (slot_of-put_same b place new))
+  | inr differs ↦ slot_of-put_other a place other new differs ∙ h other ∙ sym (slot_of-put_other b place other new differs)
+]
 
 -- ---- changes that none of the place is among
 
@@ -83,10 +82,10 @@ back-none place p undos slot h = back-filters place p (λ _. false) undos slot h
 
 both_put : (slots t : List Slot) (place : ℕ) (new : Slot) (lost : List Change) → ((other : ℕ) → slot_of t other ≡ back other lost (slot_of slots other)) → ((slot : Slot) → back place lost slot ≡ slot) → (other : ℕ) → slot_of (put_slot t place new) other ≡ back other lost (slot_of (put_slot slots place new) other)
 both_put slots t place new lost same free other = elim (cases_eq place other) [
-    | inl e ↦ subst (λ (q : ℕ). slot_of (put_slot t place new) q ≡ back q lost (slot_of (put_slot slots place new) q)) e
-        (slot_of-put_same t place new ∙ sym (slot_of-put_same slots place new) ∙ sym (free _))
-    | inr differs ↦ slot_of-put_other t place other new differs ∙ same other ∙ ap (back other lost) (sym (slot_of-put_other slots place other new differs))
-  ]
+  | inl e ↦ subst (λ (q : ℕ). slot_of (put_slot t place new) q ≡ back q lost (slot_of (put_slot slots place new) q)) e
+      (slot_of-put_same t place new ∙ sym (slot_of-put_same slots place new) ∙ sym (free _))
+  | inr differs ↦ slot_of-put_other t place other new differs ∙ same other ∙ ap (back other lost) (sym (slot_of-put_other slots place other new differs))
+]
 
 -- ---- what is settled so far
 
@@ -107,28 +106,28 @@ module _ (commit : ℕ → Bool) where
   lost-noted c undos b e = ap (λ (t : Bool). cond (not t) (c ∷ lost commit undos) (lost commit undos)) e
 
   same-changed : (s : State) (t : List Slot) (c : Change) (cycle : Option ℕ) (b : Bool) → c.cycle ≡ cycle → stays commit cycle ≡ b → IsSound s → MayChange s c → ((place : ℕ) → slot_of t place ≡ back place (lost commit s.undos) (slot_of s.slots place))
-    → (place : ℕ) → slot_of (cond b (put_slot t c.place c.after) t) place ≡ back place (lost commit (noted cycle c s.undos)) (slot_of (put_slot s.slots c.place c.after) place)
+      → (place : ℕ) → slot_of (cond b (put_slot t c.place c.after) t) place ≡ back place (lost commit (noted cycle c s.undos)) (slot_of (put_slot s.slots c.place c.after) place)
   same-changed s t c None false e f i h same place = absurd (cc)
   same-changed s t c None true e f i h same place =
       both_put s.slots t c.place c.after (lost commit s.undos) same
-        (λ slot. back-free c.place (lost commit s.undos) slot (each-filter (λ (d : Change). d.place ≡ c.place → ⊥) (λ (d : Change). d.place ≡ c.place → ⊥) (loses commit) s.undos (λ d _ w. w) (none_of_open s c e i h)))
-        place
+      (λ slot. back-free c.place (lost commit s.undos) slot (each-filter (λ (d : Change). d.place ≡ c.place → ⊥) (λ (d : Change). d.place ≡ c.place → ⊥) (loses commit) s.undos (λ d _ w. w) (none_of_open s c e i h)))
+      place
   same-changed s t c (Some n) true e f i h same place =
       let kept : stays commit c.cycle ≡ true = ap (stays commit) e ∙ f in
       let none : AgreeAt c.place (loses commit) (λ _. false) s.undos = each-weaker (λ (d : Change). d.place ≡ c.place → d.cycle ≡ c.cycle) (λ (d : Change). d.place ≡ c.place → loses commit d ≡ false) s.undos (λ d w g. ap (λ (o : Option ℕ). not (stays commit o)) (w g) ∙ ap not kept) h.alone in
       both_put s.slots t c.place c.after (lost commit s.undos) same (λ slot. back-none c.place (loses commit) s.undos slot none) place
-        ∙ ap (λ (us : List Change). back place us (slot_of (put_slot s.slots c.place c.after) place)) (sym (lost-noted c s.undos true kept))
+      ∙ ap (λ (us : List Change). back place us (slot_of (put_slot s.slots c.place c.after) place)) (sym (lost-noted c s.undos true kept))
   same-changed s t c (Some n) false e f i h same place =
       let out : stays commit c.cycle ≡ false = ap (stays commit) e ∙ f in
       at (cases_eq c.place place) ∙ ap (λ (us : List Change). back place us (slot_of (put_slot s.slots c.place c.after) place)) (sym (lost-noted c s.undos false out))
     where
       at : (c.place ≡ place) ⊎ (c.place ≡ place → ⊥) → slot_of t place ≡ back place (c ∷ lost commit s.undos) (slot_of (put_slot s.slots c.place c.after) place)
       at (inl g) = same place
-        ∙ ap (back place (lost commit s.undos)) (subst (λ (q : ℕ). slot_of s.slots q ≡ before_of c) g (sym (told_by s c n e h)))
-        ∙ ap (λ (b : Bool). back place (lost commit s.undos) (cond b (before_of c) (slot_of (put_slot s.slots c.place c.after) place))) (sym (eq-eqb c.place place g))
+          ∙ ap (back place (lost commit s.undos)) (subst (λ (q : ℕ). slot_of s.slots q ≡ before_of c) g (sym (told_by s c n e h)))
+          ∙ ap (λ (b : Bool). back place (lost commit s.undos) (cond b (before_of c) (slot_of (put_slot s.slots c.place c.after) place))) (sym (eq-eqb c.place place g))
       at (inr differs) = same place
-        ∙ ap (back place (lost commit s.undos)) (sym (slot_of-put_other s.slots c.place place c.after differs))
-        ∙ sym (back-other place c (lost commit s.undos) _ differs)
+          ∙ ap (back place (lost commit s.undos)) (sym (slot_of-put_other s.slots c.place place c.after differs))
+          ∙ sym (back-other place c (lost commit s.undos) _ differs)
 
   -- a commit cycle that ends: none of its changes will be undone, or all are undone now
   lost_of : ℕ → Change → Bool
@@ -149,7 +148,7 @@ module _ (commit : ℕ → Bool) where
   unfolding lost_of
   same-committed n place undos slot e =
       sym (back-filters place (lost_of n) (loses commit) undos slot (each-of (λ (c : Change). c.place ≡ place → lost_of n c ≡ loses commit c) undos (λ c _. kept_cycle n c.cycle e)))
-        ∙ ap (λ (us : List Change). back place us slot) (sym (lost-ended n undos))
+      ∙ ap (λ (us : List Change). back place us slot) (sym (lost-ended n undos))
 
   lost_in : (n : ℕ) (cycle : Option ℕ) → commit n ≡ false → is_number cycle n ≡ true → not (stays commit cycle) ≡ true
   lost_in n None e f = absurd (cc)
@@ -160,18 +159,19 @@ module _ (commit : ℕ → Bool) where
   same-rolled_back n place undos slot e o restored = at (is_number o.0 n) refl where
     of : (P : Change → Type 0) → ((c : Change) → (c.place ≡ place → c.cycle ≡ o.0) → P c) → AllByRecursion P undos
     of P w = each-weaker (λ (c : Change). c.place ≡ place → c.cycle ≡ o.0) P undos w o.1
+
     at : (b : Bool) → is_number o.0 n ≡ b → back place (lost commit undos) slot ≡ back place (lost commit (filter (is_not_in n) undos)) slot
     at true f =
         back-filters place (loses commit) (is_in n) undos slot (of (λ (c : Change). c.place ≡ place → loses commit c ≡ is_in n c) (λ c w g.
-            ap (λ (k : Option ℕ). not (stays commit k)) (w g) ∙ lost_in n o.0 e f ∙ sym f ∙ ap (λ (k : Option ℕ). is_number k n) (sym (w g))))
-          ∙ restored
-          ∙ sym (back-none place (lost_of n) undos slot (of (λ (c : Change). c.place ≡ place → lost_of n c ≡ false) (λ c w g.
-            ap (λ (k : Option ℕ). not (stays commit k) && not (is_number k n)) (w g) ∙ rw f (grind (arith, nat_tests)))))
-          ∙ ap (λ (us : List Change). back place us slot) (sym (lost-ended n undos))
+        ap (λ (k : Option ℕ). not (stays commit k)) (w g) ∙ lost_in n o.0 e f ∙ sym f ∙ ap (λ (k : Option ℕ). is_number k n) (sym (w g))))
+        ∙ restored
+        ∙ sym (back-none place (lost_of n) undos slot (of (λ (c : Change). c.place ≡ place → lost_of n c ≡ false) (λ c w g.
+        ap (λ (k : Option ℕ). not (stays commit k) && not (is_number k n)) (w g) ∙ rw f (grind (arith, nat_tests)))))
+        ∙ ap (λ (us : List Change). back place us slot) (sym (lost-ended n undos))
     at false f =
         back-filters place (loses commit) (lost_of n) undos slot (of (λ (c : Change). c.place ≡ place → loses commit c ≡ lost_of n c) (λ c w g.
-            sym (ap (λ (k : Option ℕ). not (stays commit c.cycle) && not (is_number k n)) (w g) ∙ rw f (grind (arith, nat_tests)))))
-          ∙ ap (λ (us : List Change). back place us slot) (sym (lost-ended n undos))
+        sym (ap (λ (k : Option ℕ). not (stays commit c.cycle) && not (is_number k n)) (w g) ∙ rw f (grind (arith, nat_tests)))))
+        ∙ ap (λ (us : List Change). back place us slot) (sym (lost-ended n undos))
 
   -- ---- a step keeps it
 
@@ -263,7 +263,7 @@ module _ (commit : ℕ → Bool) where
   settling-replay [] s t i r k place = k.same place ∙ ap (λ (us : List Change). back place us (slot_of s.slots place)) (filter-all (loses commit) s.undos (all_lost s s.undos k.fate_open i.of_open))
   settling-replay (a ∷ rest) s t i r k place =
       ap (λ (slots : List Slot). slot_of slots place) (all_moved-kept t a rest)
-        ∙ settling-replay rest (step s a) (kept_moved t a) (sound-step s a i r.0) r.1 (settling-step s t a rest i r.0 r.1 k) place
+      ∙ settling-replay rest (step s a) (kept_moved t a) (sound-step s a i r.0) r.1 (settling-step s t a rest i r.0 r.1 k) place
 
 pub settled-replay : (next : ℕ) (slots : List Slot) (journal : List Act) → CanReplay (state_at next slots) journal → (place : ℕ) → slot_of (settled slots journal) place ≡ back place (replay (state_at next slots) journal).undos (slot_of (replay (state_at next slots) journal).slots place)
 settled-replay next slots journal r = settling-replay (has_commit journal) journal (state_at next slots) slots (sound-start next slots) r (record { same = λ place. refl; fate_open = λ n w. refl; fate_later = λ n w. refl })

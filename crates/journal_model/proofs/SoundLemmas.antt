@@ -1,20 +1,19 @@
 -- What replaying keeps: a record that an open commit cycle changed is changed by that one alone, and the changes of the
 -- open ones lead back, the last one first, from the slots as they are.
-use Rattle.std.proofs.Common.{◌≡◌, ◌≢◌, ◌⊎◌, ℕ, ◌+◌, ◌<◌, ◌≤◌, Bool, true, false, ◌&&◌, ◌||◌, ◌==◌, not, cond, List, [], ◌∷◌, ◌++◌, length, Option, Some, None, IsTrue, refl, sym, ap, ◌∙◌, subst, arith, inl, inr, replicate, unwrap_or}
+use Rattle.std.proofs.Common.{◌≡◌, ◌⊎◌, ℕ, ◌+◌, ◌<◌, ◌≤◌, Bool, true, false, ◌||◌, ◌==◌, not, cond, List, [], ◌∷◌, ◌++◌, length, Option, Some, None, refl, sym, ap, ◌∙◌, subst, arith, inl, inr, replicate, unwrap_or}
 use Rattle.std.specs.Prelude.{⊤}
-use Rattle.std.specs.List.{list_any, filter, AllByRecursion}
-use Rattle.std.proofs.lemmas.Bool.{cases_eq, eq-eqb, ne_eqb, eqb-true, eqb-false}
+use Rattle.std.specs.List.{filter, AllByRecursion}
+use Rattle.std.proofs.lemmas.Bool.{cases_eq, eq-eqb, ne_eqb, eqb-true}
 use Rattle.std.proofs.lemmas.Bool.Decides.{nat_tests}
 use Rattle.member_slots.specs.declared.slot.Slot.{Slot}
 use Rattle.member_slots.specs.declared.slot.Slot.TheVariants.{Live, Deleted}
 use Rattle.member_slots.specs.Member.{is_live}
 use Rattle.journal_model.specs.Acts.{Act, Changed, Began, Committed, RolledBack, Journaled, Stood, Cleared, Reorganized, Ended, Nothing, Change, is_number}
 use Rattle.journal_model.specs.Places.{slot_of, put_slot}
-use Rattle.journal_model.specs.Replay.{State, state_at, step, replay, moved, cycles_after, undos_after, noted, back, before_of, is_in, is_not_in, is_other}
-use Rattle.journal_model.specs.Replayable.{AgreesBefore, IsOpen, IsAlone, MayChange, MayRollBack, MayStand, IsFree, MayFollow, CanReplay, is_one_of}
-use Rattle.journal_model.specs.AtSequence.{touches}
-use Rattle.journal_model.proofs.PlaceLemmas.{slot_of-put_same, slot_of-put_other}
-use Rattle.journal_model.proofs.EachLemmas.{each-weaker, each-filter, one_of-filter, one_of-filtered, one_of-others, one_of-push, Distinct, Distinct-filter, Distinct-push}
+use Rattle.journal_model.specs.Replay.{State, state_at, step, replay, noted, back, before_of, is_not_in, is_other}
+use Rattle.journal_model.specs.Replayable.{AgreesBefore, IsOpen, IsAlone, MayChange, MayFollow, CanReplay, is_one_of}
+use Rattle.journal_model.proofs.PlaceLemmas.{slot_of-put_same, slot_of-put_other, length-put_slot}
+use Rattle.journal_model.proofs.EachLemmas.{each-weaker, each-filter, one_of-filter, one_of-filtered, one_of-push, Distinct, Distinct-filter, Distinct-push}
 
 -- the change is of an open commit cycle
 abbrev pub HasOpen : List ℕ → Option ℕ → Type 0
@@ -31,12 +30,17 @@ abbrev pub WindsAt : ℕ → Slot → List Change → Type 0
 WindsAt place slot [] = ⊤
 WindsAt place slot (c ∷ undos) = (c.place ≡ place → slot ≡ c.after) × WindsAt place (cond (c.place == place) (before_of c) slot) undos
 
+-- the places that were changed are there
+abbrev pub AreWithin : List Slot → List Change → Type 0
+AreWithin slots undos = AllByRecursion (λ (c : Change). c.place < length slots) undos
+
 pub record IsSound (s : State) : Type 0 where
   pub solo : Solo s.undos
   pub of_open : AllByRecursion (λ (c : Change). HasOpen s.cycles c.cycle) s.undos
   pub older : (n : ℕ) → is_one_of s.cycles n ≡ true → n < s.next
   pub distinct : Distinct s.cycles
   pub winds : (place : ℕ) → WindsAt place (slot_of s.slots place) s.undos
+  pub within : AreWithin s.slots s.undos
 
 -- ---- the changes of one place
 
@@ -54,9 +58,9 @@ solo-at place (c ∷ undos) h = at (cases_eq c.place place) (solo-at place undos
 pub Solo-filter : (p : Change → Bool) (undos : List Change) → Solo undos → Solo (filter p undos)
 Solo-filter p [] h = tt
 Solo-filter p (c ∷ undos) h = elim (p c) as (λ b. Solo (cond b (c ∷ filter p undos) (filter p undos))) [
-    | true ↦ (each-filter (λ (d : Change). d.place ≡ c.place → d.cycle ≡ c.cycle) (λ (d : Change). d.place ≡ c.place → d.cycle ≡ c.cycle) p undos (λ d _ w. w) h.0, Solo-filter p undos h.1)
-    | false ↦ Solo-filter p undos h.1
-  ]
+  | true ↦ (each-filter (λ (d : Change). d.place ≡ c.place → d.cycle ≡ c.cycle) (λ (d : Change). d.place ≡ c.place → d.cycle ≡ c.cycle) p undos (λ d _ w. w) h.0, Solo-filter p undos h.1)
+  | false ↦ Solo-filter p undos h.1
+]
 
 -- two tests agree on the changes of the place
 abbrev pub AgreeAt : ℕ → (Change → Bool) → (Change → Bool) → List Change → Type 0
@@ -78,7 +82,7 @@ back-filters place p q (c ∷ undos) slot h = at (cases_eq c.place place) (p c) 
 
 -- ---- a step keeps it
 
-WindsAt-filter : (place : ℕ) (p : Change → Bool) (undos : List Change) (slot : Slot) → AgreeAt place p (λ _. true) undos → WindsAt place slot undos → WindsAt place slot (filter p undos)
+pub WindsAt-filter : (place : ℕ) (p : Change → Bool) (undos : List Change) (slot : Slot) → AgreeAt place p (λ _. true) undos → WindsAt place slot undos → WindsAt place slot (filter p undos)
 WindsAt-filter place p [] slot h w = tt
 WindsAt-filter place p (c ∷ undos) slot h w = at (cases_eq c.place place) (p c) h.0 (WindsAt-filter place p undos _ h.1 w.1) where
   at : (c.place ≡ place) ⊎ (c.place ≡ place → ⊥) → (a : Bool) → (c.place ≡ place → a ≡ true) → WindsAt place (cond (c.place == place) (before_of c) slot) (filter p undos) → WindsAt place slot (cond a (c ∷ filter p undos) (filter p undos))
@@ -86,7 +90,7 @@ WindsAt-filter place p (c ∷ undos) slot h w = at (cases_eq c.place place) (p c
   at (inl e) false f more = let g = f e in absurd (cc)
   at (inr differs) false f more = subst (λ (b : Bool). WindsAt place (cond b (before_of c) slot) (filter p undos)) (ne_eqb c.place place differs) more
 
-WindsAt-none : (place : ℕ) (p : Change → Bool) (undos : List Change) (slot : Slot) → AgreeAt place p (λ _. false) undos → WindsAt place slot (filter p undos)
+pub WindsAt-none : (place : ℕ) (p : Change → Bool) (undos : List Change) (slot : Slot) → AgreeAt place p (λ _. false) undos → WindsAt place slot (filter p undos)
 WindsAt-none place p [] slot h = tt
 WindsAt-none place p (c ∷ undos) slot h = at (cases_eq c.place place) (p c) h.0 (λ v. WindsAt-none place p undos v h.1) where
   at : (c.place ≡ place) ⊎ (c.place ≡ place → ⊥) → (a : Bool) → (c.place ≡ place → a ≡ false) → ((v : Slot) → WindsAt place v (filter p undos)) → WindsAt place slot (cond a (c ∷ filter p undos) (filter p undos))
@@ -121,6 +125,9 @@ told_by s c n e h = told c.before n (slot_of s.slots c.place) (subst (λ (o : Op
 pub none_of_open : (s : State) (c : Change) → c.cycle ≡ None → IsSound s → MayChange s c → NoneAt c.place s.undos
 none_of_open s c e i h = none_alone c s.cycles s.undos e h.alone i.of_open
 
+AreWithin-put : (slots : List Slot) (place : ℕ) (new : Slot) (undos : List Change) → AreWithin slots undos → AreWithin (put_slot slots place new) undos
+AreWithin-put slots place new undos h = each-weaker (λ (c : Change). c.place < length slots) (λ (c : Change). c.place < length (put_slot slots place new)) undos (λ c w. omega (arith, length-put_slot slots place new)) h
+
 changed_to : (s : State) (c : Change) → List Change → State
 changed_to s c undos = record { slots = put_slot s.slots c.place c.after; cycles = s.cycles; undos = undos; next = s.next + 1 }
 
@@ -132,9 +139,10 @@ sound-changed s c None e i h = record {
   older = λ n w. let f : n < s.next = i.older n w in omega arith;
   distinct = i.distinct;
   winds = λ place. elim (cases_eq c.place place) [
-      | inl f ↦ WindsAt-free place s.undos _ (subst (λ (q : ℕ). NoneAt q s.undos) f (none_of_open s c e i h))
-      | inr differs ↦ subst (λ (v : Slot). WindsAt place v s.undos) (sym (slot_of-put_other s.slots c.place place c.after differs)) (i.winds place)
-    ];
+    | inl f ↦ WindsAt-free place s.undos _ (subst (λ (q : ℕ). NoneAt q s.undos) f (none_of_open s c e i h))
+    | inr differs ↦ subst (λ (v : Slot). WindsAt place v s.undos) (sym (slot_of-put_other s.slots c.place place c.after differs)) (i.winds place)
+  ];
+  within = AreWithin-put s.slots c.place c.after s.undos i.within;
 }
 sound-changed s c (Some n) e i h = record {
   solo = (h.alone, i.solo);
@@ -142,13 +150,16 @@ sound-changed s c (Some n) e i h = record {
   older = λ m w. let f : m < s.next = i.older m w in omega arith;
   distinct = i.distinct;
   winds = λ place. elim (cases_eq c.place place) [
-      | inl f ↦
-          ((λ _. subst (λ (q : ℕ). slot_of (put_slot s.slots c.place c.after) q ≡ c.after) f (slot_of-put_same s.slots c.place c.after)),
-            rw (eq-eqb c.place place f, told_by s c n e h) (subst (λ (q : ℕ). WindsAt place (slot_of s.slots q) s.undos) (sym f) (i.winds place)))
-      | inr differs ↦
-          ((λ f. absurd (differs f)),
-            rw (ne_eqb c.place place differs, slot_of-put_other s.slots c.place place c.after differs) (i.winds place))
-    ];
+    | inl f ↦ (
+      (λ _. subst (λ (q : ℕ). slot_of (put_slot s.slots c.place c.after) q ≡ c.after) f (slot_of-put_same s.slots c.place c.after)),
+      rw (eq-eqb c.place place f, told_by s c n e h) (subst (λ (q : ℕ). WindsAt place (slot_of s.slots q) s.undos) (sym f) (i.winds place)),
+    )
+    | inr differs ↦ (
+      (λ f. absurd (differs f)),
+      rw (ne_eqb c.place place differs, slot_of-put_other s.slots c.place place c.after differs) (i.winds place),
+    )
+  ];
+  within = (omega (arith, length-put_slot s.slots c.place c.after), AreWithin-put s.slots c.place c.after s.undos i.within);
 }
 
 has_open-other : (cycles : List ℕ) (n : ℕ) (cycle : Option ℕ) → not (is_number cycle n) ≡ true → HasOpen cycles cycle → HasOpen (filter (is_other n) cycles) cycle
@@ -170,6 +181,7 @@ sound-ended s n i = record {
   older = λ m w. let f : m < s.next = i.older m (one_of-filtered (is_other n) s.cycles m w) in omega arith;
   distinct = Distinct-filter (is_other n) s.cycles i.distinct;
   winds = λ place. at place (solo-at place s.undos i.solo) (not (is_number (solo-at place s.undos i.solo).0 n)) refl;
+  within = each-filter (λ (c : Change). c.place < length s.slots) (λ (c : Change). c.place < length s.slots) (is_not_in n) s.undos (λ c _ w. w) i.within;
 } where
   at : (place : ℕ) (o : (cycle : Option ℕ) × AreOf place cycle s.undos) (b : Bool) → not (is_number o.0 n) ≡ b → WindsAt place (slot_of s.slots place) (filter (is_not_in n) s.undos)
   at place o true e = WindsAt-filter place (is_not_in n) s.undos _ (in_at place n o.0 true s.undos e o.1) (i.winds place)
@@ -196,6 +208,7 @@ sound-began s n i e = record {
   older = λ m w. at m (is_one_of s.cycles m) refl (sym (one_of-push s.cycles n m) ∙ w);
   distinct = Distinct-push s.cycles n (fresh s n i (omega arith)) i.distinct;
   winds = i.winds;
+  within = i.within;
 } where
   at : (m : ℕ) (b : Bool) → is_one_of s.cycles m ≡ b → is_one_of s.cycles m || (n == m) ≡ true → m < s.next + 1
   at m true f w = let g : m < s.next = i.older m f in omega arith
@@ -212,6 +225,7 @@ sound-free s slots i e = record {
   older = λ n w. let f : n < s.next = i.older n w in omega arith;
   distinct = i.distinct;
   winds = λ place. subst (λ (undos : List Change). WindsAt place (slot_of slots place) undos) (sym e) tt;
+  within = subst (λ (undos : List Change). AreWithin slots undos) (sym e) tt;
 }
 
 pub sound-step : (s : State) (a : Act) → IsSound s → MayFollow s a → IsSound (step s a)
@@ -231,6 +245,7 @@ sound-step s Nothing i h = record {
   older = λ n w. let f : n < s.next = i.older n w in omega arith;
   distinct = i.distinct;
   winds = i.winds;
+  within = i.within;
 }
 
 pub sound-replay : (s : State) (journal : List Act) → IsSound s → CanReplay s journal → IsSound (replay s journal)
@@ -238,4 +253,4 @@ sound-replay s [] i h = i
 sound-replay s (a ∷ journal) i h = sound-replay (step s a) journal (sound-step s a i h.0) h.1
 
 pub sound-start : (next : ℕ) (slots : List Slot) → IsSound (state_at next slots)
-sound-start next slots = record { solo = tt; of_open = tt; older = λ n w. absurd (cc); distinct = tt; winds = λ place. tt }
+sound-start next slots = record { solo = tt; of_open = tt; older = λ n w. absurd (cc); distinct = tt; winds = λ place. tt; within = tt }

@@ -1,19 +1,18 @@
 -- Rolling back every open commit cycle, one after the other, undoes all open changes backwards.
-use Rattle.std.proofs.Common.{◌≡◌, ◌≢◌, ◌⊎◌, ℕ, ◌+◌, ◌<◌, ◌≤◌, Bool, true, false, ◌&&◌, ◌||◌, ◌==◌, not, cond, List, [], ◌∷◌, ◌++◌, Option, Some, None, refl, sym, ap, ◌∙◌, subst, arith, inl, inr}
-use Rattle.std.specs.Prelude.{⊤}
-use Rattle.std.specs.List.{list_any, filter, AllByRecursion}
+use Rattle.std.proofs.Common.{◌≡◌, ◌⊎◌, ℕ, Bool, true, false, ◌||◌, ◌==◌, cond, List, [], ◌∷◌, ◌++◌, Option, Some, None, refl, sym, ap, ◌∙◌, subst, arith, inl, inr}
+use Rattle.std.specs.List.{filter, AllByRecursion}
 use Rattle.std.proofs.lemmas.Bool.{cases_eq, eq-eqb, ne_eqb, eqb-true, eqb-false}
 use Rattle.std.proofs.lemmas.Bool.Decides.{nat_tests}
 use Rattle.member_slots.specs.declared.slot.Slot.{Slot}
-use Rattle.journal_model.specs.Acts.{Act, Changed, RolledBack, Change, is_number}
+use Rattle.journal_model.specs.Acts.{Act, RolledBack, Change, is_number}
 use Rattle.journal_model.specs.Places.{slot_of, put_slot, HasSameRecords}
-use Rattle.journal_model.specs.Replay.{State, state_at, step, replay, moved, all_moved, back, before_of, is_in}
+use Rattle.journal_model.specs.Replay.{State, state_at, replay, moved, all_moved, back, before_of, is_in}
 use Rattle.journal_model.specs.Replayable.{CanReplay, is_one_of}
 use Rattle.journal_model.specs.Settled.{settled}
-use Rattle.journal_model.specs.Restart.{inverse, undo_acts, rollback_acts, all_rollback_acts, restart_acts, all_undone}
+use Rattle.journal_model.specs.Restart.{undo_acts, all_rollback_acts, all_undone}
 use Rattle.journal_model.proofs.PlaceLemmas.{slot_of-put_same, slot_of-put_other}
-use Rattle.journal_model.proofs.EachLemmas.{each-weaker, each-filter, filter-all, each-of, Distinct}
-use Rattle.journal_model.proofs.SoundLemmas.{IsSound, HasOpen, AreOf, AgreeAt, NoneAt, solo-at, back-filters, back-other, back-free, sound-start, sound-replay}
+use Rattle.journal_model.proofs.EachLemmas.{each-weaker, each-filter, Distinct}
+use Rattle.journal_model.proofs.SoundLemmas.{IsSound, HasOpen, AreOf, AgreeAt, NoneAt, solo-at, back-filters, back-free, sound-start, sound-replay}
 use Rattle.journal_model.proofs.SettledLemmas.{back-none, settled-replay}
 
 pub all_moved-append : (slots : List Slot) (xs ys : List Act) → all_moved slots (xs ++ ys) ≡ all_moved (all_moved slots xs) ys
@@ -39,8 +38,8 @@ module _ (place : ℕ) where
   rollbacks-at (n ∷ cycles) undos slots =
       let own = undo_acts (filter (is_in n) undos) in
       ap (λ (s : List Slot). slot_of s place) (all_moved-append slots (own ++ RolledBack n ∷ []) (all_rollback_acts cycles undos) ∙ ap (λ (s : List Slot). all_moved s (all_rollback_acts cycles undos)) (all_moved-append slots own (RolledBack n ∷ [])))
-        ∙ rollbacks-at cycles undos (all_moved slots own)
-        ∙ ap (all_back cycles undos) (undo_acts-at (filter (is_in n) undos) slots)
+      ∙ rollbacks-at cycles undos (all_moved slots own)
+      ∙ ap (all_back cycles undos) (undo_acts-at (filter (is_in n) undos) slots)
 
   -- the place's changes are of one commit cycle, so undoing the others leaves it
   in_all : (n : ℕ) (cycle : Option ℕ) (b : Bool) (undos : List Change) → is_number cycle n ≡ b → AreOf place cycle undos → AgreeAt place (is_in n) (λ _. b) undos
@@ -68,11 +67,11 @@ module _ (place : ℕ) where
     at true e f more =
         let same : m ≡ n = eqb-true m n e in
         all_back-others cycles n undos _ h (subst (λ (i : ℕ). is_one_of cycles i ≡ false) same d.0)
-          ∙ back-filters place (is_in m) (λ _. true) undos slot (in_all m (Some n) true undos (eq-eqb n m (sym same)) h)
-          ∙ ap (λ (us : List Change). back place us slot) (filter-true undos)
+        ∙ back-filters place (is_in m) (λ _. true) undos slot (in_all m (Some n) true undos (eq-eqb n m (sym same)) h)
+        ∙ ap (λ (us : List Change). back place us slot) (filter-true undos)
     at false e f more =
         ap (all_back cycles undos) (back-none place (is_in m) undos slot (in_all m (Some n) false undos (ne_eqb n m (λ g. eqb-false m n e (sym g))) h))
-          ∙ more f
+        ∙ more f
 
   all_back-free : (cycles : List ℕ) (undos : List Change) (slot : Slot) → NoneAt place undos → all_back cycles undos slot ≡ slot
   unfolding all_back
@@ -91,6 +90,7 @@ module _ (place : ℕ) where
     by n false e h =
         let free : NoneAt place s.undos = none_closed s.cycles (Some n) s.undos (λ f. absurd (cc)) h i.of_open in
         all_back-free s.cycles s.undos slot free ∙ sym (back-free place s.undos slot free)
+
     at : (cycle : Option ℕ) × AreOf place cycle s.undos → all_back s.cycles s.undos slot ≡ back place s.undos slot
     at o = of o.0 o.1 where
       of : (cycle : Option ℕ) → AreOf place cycle s.undos → all_back s.cycles s.undos slot ≡ back place s.undos slot
@@ -105,5 +105,5 @@ module _ (place : ℕ) where
 pub all_undone-settled : (next : ℕ) (slots : List Slot) (journal : List Act) → CanReplay (state_at next slots) journal → HasSameRecords (all_undone (replay (state_at next slots) journal)) (settled slots journal)
 all_undone-settled next slots journal r = record {
   records = λ place. all_undone-at place (replay (state_at next slots) journal) (sound-replay (state_at next slots) journal (sound-start next slots) r)
-    ∙ sym (settled-replay next slots journal r place);
+      ∙ sym (settled-replay next slots journal r place);
 }

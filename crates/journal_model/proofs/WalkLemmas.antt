@@ -1,12 +1,10 @@
 -- Changes that are applied and removed: each way undoes the other.
-use Rattle.std.proofs.Common.{◌≡◌, ◌≢◌, ℕ, zero, suc, ◌+◌, ◌<◌, ◌≤◌, Bool, true, false, ◌&&◌, ◌||◌, ◌==◌, cond, max, List, [], ◌∷◌, length, map, Option, Some, None, Result, Ok, Err, IsTrue, refl, sym, ap, ◌∙◌, subst, arith, ltb, leb, inl, inr, is_none}
+use Rattle.std.proofs.Common.{◌≡◌, ℕ, ◌+◌, ◌<◌, ◌≤◌, Bool, true, false, ◌&&◌, ◌||◌, cond, max, List, [], ◌∷◌, length, Option, Some, None, Result, Ok, Err, refl, sym, ap, ◌∙◌, subst, arith, ltb, leb, inl, inr, is_none}
 use Rattle.std.specs.Prelude.{IsOkAnd}
 use Rattle.std.specs.List.{list_any}
-use Rattle.std.proofs.lemmas.Bool.{and_parts, and_from, cases_eq, leb-true, le-leb, ltb-true, lt-ltb}
+use Rattle.std.proofs.lemmas.Bool.{and_parts, cases_eq, leb-true, le-leb, ltb-true, lt-ltb}
 use Rattle.std.proofs.lemmas.Bool.Decides.{nat_tests}
 use Rattle.member_slots.specs.declared.slot.Slot.{Slot}
-use Rattle.member_slots.specs.declared.slot.Slot.TheVariants.{Live, Deleted}
-use Rattle.journal_model.specs.Acts.{Change}
 use Rattle.journal_model.specs.Places.{slot_of, put_slot, is_same_slot, HasSameRecords}
 use Rattle.journal_model.specs.Walks.{RangeFault, Numbered, misfit, redo, undo, undo_to, is_met, ◌then◌, apply, remove}
 use Rattle.journal_model.specs.Ranges.{lacks_before}
@@ -72,7 +70,7 @@ redo-undone n slots after u =
     let shown : slot_of after n.change.place ≡ u.side = ap (λ (s : List Slot). slot_of s n.change.place) u.now ∙ slot_of-put_same slots n.change.place u.side in
     let met : is_met n.change.before (slot_of after n.change.place) ≡ true = rw (u.told, shown) (is_same_slot-itself u.side) in
     redo-goes n after (omega (arith, u.there)) met
-      ∙ ap Ok (rw (u.now, ← u.stood) (put_slot-back slots n.change.place u.side u.there))
+    ∙ ap Ok (rw (u.now, ← u.stood) (put_slot-back slots n.change.place u.side u.there))
 
 pub apply-removed : (changes : List Numbered) (slots after : List Slot) → remove changes slots ≡ Ok after → apply changes after ≡ Ok slots
 apply-removed [] slots after h = sym h
@@ -107,10 +105,12 @@ some_side None h = absurd (cc)
 some_side (Some side) h = (side, refl)
 
 same_put : (a b : List Slot) (place : ℕ) (slot : Slot) → HasSameRecords a (put_slot b place slot) → (before : Slot) → slot_of b place ≡ before → HasSameRecords (put_slot a place before) b
-same_put a b place slot same before stood = record { records = λ p. elim (cases_eq place p) [
+same_put a b place slot same before stood = record {
+  records = λ p. elim (cases_eq place p) [
     | inl e ↦ subst (λ (q : ℕ). slot_of (put_slot a place before) q ≡ slot_of b q) e (slot_of-put_same a place before ∙ sym stood)
     | inr differs ↦ slot_of-put_other a place p before differs ∙ same.records p ∙ slot_of-put_other b place p slot differs
-  ] }
+  ];
+}
 
 remove-applied : (changes : List Numbered) (slots after : List Slot) → apply changes slots ≡ Ok after → list_any lacks_before changes ≡ false → GivesBack changes after slots
 unfolding GivesBack
@@ -124,10 +124,11 @@ remove-applied (n ∷ rest) slots after h told =
     let stood : slot_of slots n.change.place ≡ s.0 = sym (is_same_slot-same s.0 _ (subst (λ (o : Option Slot). is_met o (slot_of slots n.change.place) ≡ true) s.1 r.met)) in
     let same : HasSameRecords more.0 (put_slot slots n.change.place n.change.after) = subst (λ (x : List Slot). HasSameRecords more.0 x) r.now more.2 in
     let shown : slot_of more.0 n.change.place ≡ n.change.after = same.records n.change.place ∙ slot_of-put_same slots n.change.place n.change.after in
-    let wide : n.change.place < length more.0 = omega (arith, length-removed rest after more.0 more.1, length-applied rest m.0 after m.2, ap length r.now, length-put_slot slots n.change.place n.change.after) in
-    (put_slot more.0 n.change.place s.0,
+    let wide : n.change.place < length more.0 = omega (arith, length-removed rest after more.0 more.1, length-applied rest m.0 after m.2, ap length r.now, length-put_slot slots n.change.place n.change.after) in (
+      put_slot more.0 n.change.place s.0,
       ap (λ (x : Result (List Slot) RangeFault). x then undo n) more.1 ∙ undo-goes n more.0 s.0 s.1 wide shown,
-      same_put more.0 slots n.change.place n.change.after same s.0 stood)
+      same_put more.0 slots n.change.place n.change.after same s.0 stood,
+    )
   where
     or_parts : (a b : Bool) → a || b ≡ false → (a ≡ false) × (b ≡ false)
     or_parts a b h = grind (arith, nat_tests)

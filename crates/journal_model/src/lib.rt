@@ -4,3 +4,4 @@
 
 mod ranges;
 mod replays;
+mod restarts;
