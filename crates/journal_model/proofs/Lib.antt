@@ -8,3 +8,6 @@ pub mod SoundLemmas
 pub mod SettledLemmas
 pub mod UndoneLemmas
 pub mod RestartLemmas
+pub mod PartLemmas
+pub mod RangeLemmas
+pub mod MemberLemmas

@@ -1,21 +1,22 @@
 -- Journals that can be replayed: the test tells, a replayed range applies, and the entries of a record follow one from
 -- the other.
-use Rattle.std.proofs.Common.{◌≡◌, ℕ, ◌+◌, Bool, true, false, ◌&&◌, ◌||◌, ◌==◌, not, cond, leb, ltb, List, [], ◌∷◌, ◌++◌, length, Option, Some, None, Result, Ok, refl, sym, ap, ◌∙◌, subst, arith, inl, inr}
-use Rattle.std.specs.Prelude.{IsOkAnd, ⊤}
+use Rattle.std.proofs.Common.{◌≡◌, ℕ, ◌+◌, Bool, true, false, ◌&&◌, ◌||◌, ◌==◌, not, cond, leb, ltb, List, [], ◌∷◌, ◌++◌, length, Option, Some, None, Result, Ok, refl, sym, ap, ◌∙◌, subst, arith, inl, inr, IsTrue}
+use Rattle.std.specs.Prelude.{IsOkAnd}
 use Rattle.std.specs.List.{list_any, filter}
-use Rattle.std.proofs.lemmas.Bool.{cases_eq, eq-eqb, ne_eqb, eqb-true, and_parts, leb-true, ltb-true}
+use Rattle.std.proofs.lemmas.Bool.{cases_eq, eq-eqb, ne_eqb, eqb-true, and_parts, leb-true, ltb-true, eqb-false}
 use Rattle.std.proofs.lemmas.Bool.Decides.{nat_tests}
 use Rattle.member_slots.specs.declared.slot.Slot.{Slot}
 use Rattle.member_slots.specs.declared.slot.Slot.TheVariants.{Live}
-use Rattle.journal_model.specs.Acts.{Act, Changed, Began, Committed, RolledBack, Journaled, Stood, Cleared, Reorganized, Ended, Nothing, Change, is_same_number}
+use Rattle.journal_model.specs.Acts.{Act, Changed, Began, Committed, RolledBack, Journaled, Stood, Cleared, Reorganized, Ended, Nothing, Change, is_same_number, changes}
 use Rattle.journal_model.specs.Places.{slot_of, put_slot, is_same_slot, HasSameRecords}
 use Rattle.journal_model.specs.Walks.{RangeFault, numbered, apply, remove, is_met, ◌then◌}
 use Rattle.journal_model.specs.Ranges.{is_break, lacks_before}
 use Rattle.journal_model.specs.Replay.{State, step, replay, moved, all_moved, back, before_of, is_in}
 use Rattle.journal_model.specs.Replayable.{AgreesBefore, IsOpen, IsAlone, MayChange, MayFollow, CanReplay, is_one_of, agrees_before, is_open, is_alone, may_change, is_restored, is_free, may_follow, can_replay}
-use Rattle.journal_model.specs.AtSequence.{known_by, touches, Agrees, FollowsKnown, IsChained}
+use Rattle.journal_model.specs.AtSequence.{known_by, touches, before_break, IsSo, Agrees, FollowsKnown, IsChained, known_after, first_before, or_else, slot_at}
 use Rattle.journal_model.proofs.PlaceLemmas.{slot_of-put_same, slot_of-put_other, is_same_slot-same, is_same_slot-itself}
 use Rattle.journal_model.proofs.WalkLemmas.{redo-goes, remove-gives_back}
+use Rattle.journal_model.proofs.SequenceLemmas.{known_after-append}
 
 -- ---- the test tells
 
@@ -153,11 +154,6 @@ remove-replayed range s first h b told = remove-gives_back (numbered first range
 
 -- ---- the entries of a record
 
--- what is known of a record is so
-abbrev pub IsSo : Option Slot → Slot → Type 0
-IsSo None slot = ⊤
-IsSo (Some known) slot = known ≡ slot
-
 module _ (place : ℕ) where
   agrees : (known before : Option Slot) (cycle : Option ℕ) (slot : Slot) → IsSo known slot → AgreesBefore before cycle slot → Agrees known before
   agrees None before cycle slot k h = tt
@@ -197,3 +193,38 @@ module _ (place : ℕ) where
   pub IsChained-replayed : (journal : List Act) (s : State) (known : Option Slot) → IsSo known (slot_of s.slots place) → CanReplay s journal → IsChained place known journal
   IsChained-replayed [] s known k h = tt
   IsChained-replayed (a ∷ journal) s known k h = (follows s a known k h.0, IsChained-replayed journal (step s a) (known_by place known a) (so_by s a known k) h.1)
+
+  -- ---- a record at a sequence
+
+  so_after : (xs : List Act) (s : State) (known : Option Slot) → IsSo known (slot_of s.slots place) → IsSo (known_after place known xs) (slot_of (replay s xs).slots place)
+  so_after [] s known k = k
+  so_after (a ∷ xs) s known k = so_after xs (step s a) (known_by place known a) (so_by s a known k)
+
+  before_side : (before : Option Slot) (cycle : Option ℕ) (slot side : Slot) → AgreesBefore before cycle slot → before ≡ Some side → side ≡ slot
+  before_side None cycle slot side h e = absurd (cc)
+  before_side (Some told) cycle slot side h e = let f : told ≡ side = cc in sym (h ∙ f)
+
+  first_so : (ys : List Act) (s : State) (side : Slot) → CanReplay s ys → touches place (changes (before_break ys)) ≡ true → first_before place (changes ys) ≡ Some side → side ≡ slot_of s.slots place
+  first_so [] s side h t e = absurd (cc)
+  first_so (Changed c ∷ ys) s side h t e = at (c.place == place) refl t e (first_so ys (step s (Changed c)) side h.1) where
+    at : (b : Bool) → c.place == place ≡ b → b || touches place (changes (before_break ys)) ≡ true → cond b c.before (first_before place (changes ys)) ≡ Some side → (touches place (changes (before_break ys)) ≡ true → first_before place (changes ys) ≡ Some side → side ≡ slot_of (put_slot s.slots c.place c.after) place) → side ≡ slot_of s.slots place
+    at true f t e more = before_side c.before c.cycle (slot_of s.slots c.place) side h.0.before e ∙ ap (slot_of s.slots) (eqb-true c.place place f)
+    at false f t e more = more t e ∙ slot_of-put_other s.slots c.place place c.after (eqb-false c.place place f)
+  first_so (Began n ∷ ys) s side h t e = first_so ys (step s (Began n)) side h.1 t e
+  first_so (Committed n ∷ ys) s side h t e = first_so ys (step s (Committed n)) side h.1 t e
+  first_so (RolledBack n ∷ ys) s side h t e = first_so ys (step s (RolledBack n)) side h.1 t e
+  first_so (Journaled images n ∷ ys) s side h t e = absurd (cc)
+  first_so (Stood other image ∷ ys) s side h t e = absurd (cc)
+  first_so (Cleared ∷ ys) s side h t e = absurd (cc)
+  first_so (Reorganized ∷ ys) s side h t e = absurd (cc)
+  first_so (Ended ∷ ys) s side h t e = absurd (cc)
+  first_so (Nothing ∷ ys) s side h t e = first_so ys (step s Nothing) side h.1 t e
+
+  slot_by : (known first : Option Slot) (slot now : Slot) → IsSo known now → (first ≡ Some slot → slot ≡ now) → or_else known first ≡ Some slot → slot ≡ now
+  slot_by None first slot now k w e = w e
+  slot_by (Some v) first slot now k w e = let f : v ≡ slot = cc in sym f ∙ k
+
+  pub slot_at-replay : (before xs ys : List Act) (s : State) (slot : Slot) → IsSo (known_after place None before) (slot_of s.slots place) → CanReplay s (xs ++ ys) → IsTrue (touches place (changes (before_break ys))) → slot_at place (before ++ xs) ys ≡ Some slot → slot ≡ slot_of (replay s xs).slots place
+  slot_at-replay before xs ys s slot k h t e =
+      let known : IsSo (known_after place None (before ++ xs)) (slot_of (replay s xs).slots place) = subst (λ (o : Option Slot). IsSo o (slot_of (replay s xs).slots place)) (sym (known_after-append place None before xs)) (so_after xs s (known_after place None before) k) in
+      slot_by (known_after place None (before ++ xs)) (first_before place (changes ys)) slot (slot_of (replay s xs).slots place) known (first_so ys (replay s xs) slot (CanReplay-back s xs ys h) t) e

@@ -1,5 +1,5 @@
 -- Changes that are applied and removed: each way undoes the other.
-use Rattle.std.proofs.Common.{◌≡◌, ℕ, ◌+◌, ◌<◌, ◌≤◌, Bool, true, false, ◌&&◌, ◌||◌, cond, max, List, [], ◌∷◌, length, Option, Some, None, Result, Ok, Err, refl, sym, ap, ◌∙◌, subst, arith, ltb, leb, inl, inr, is_none}
+use Rattle.std.proofs.Common.{◌≡◌, ℕ, ◌+◌, ◌<◌, ◌≤◌, Bool, true, false, ◌&&◌, ◌||◌, cond, max, List, [], ◌∷◌, length, Option, Some, None, Result, Ok, Err, refl, sym, ap, ◌∙◌, subst, arith, ltb, leb, inl, inr, is_none, ◌++◌}
 use Rattle.std.specs.Prelude.{IsOkAnd}
 use Rattle.std.specs.List.{list_any}
 use Rattle.std.proofs.lemmas.Bool.{and_parts, cases_eq, leb-true, le-leb, ltb-true, lt-ltb}
@@ -138,3 +138,22 @@ unfolding GivesBack
 remove-gives_back changes slots after h told =
     let r = remove-applied changes slots after h told in
     subst (λ (x : Result (List Slot) RangeFault). IsOkAnd x (λ given. HasSameRecords given slots)) (sym r.1) r.2
+
+-- ---- in parts
+
+pub apply-append : (front rest : List Numbered) (slots : List Slot) → apply (front ++ rest) slots ≡ apply front slots then apply rest
+apply-append [] rest slots = refl
+apply-append (n ∷ front) rest slots = at (redo n slots) (λ s. apply-append front rest s) where
+  at : (r : Result (List Slot) RangeFault) → ((s : List Slot) → apply (front ++ rest) s ≡ apply front s then apply rest) → (r then apply (front ++ rest)) ≡ ((r then apply front) then apply rest)
+  at (Ok s) more = more s
+  at (Err fault) more = refl
+
+pub remove-append : (front rest : List Numbered) (slots : List Slot) → remove (front ++ rest) slots ≡ remove rest slots then remove front
+remove-append [] rest slots = at (remove rest slots) where
+  at : (r : Result (List Slot) RangeFault) → r ≡ r then (λ s. Ok s)
+  at (Ok s) = refl
+  at (Err fault) = refl
+remove-append (n ∷ front) rest slots = ap (λ (r : Result (List Slot) RangeFault). r then undo n) (remove-append front rest slots) ∙ at (remove rest slots) where
+  at : (r : Result (List Slot) RangeFault) → ((r then remove front) then undo n) ≡ (r then remove (n ∷ front))
+  at (Ok s) = refl
+  at (Err fault) = refl

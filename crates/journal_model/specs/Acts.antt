@@ -151,6 +151,11 @@ abbrev pub acts : ℕ → Option Entry → List Entry → List Act
 acts member prior [] = []
 acts member prior (e ∷ entries) = act member prior e ∷ acts member (Some e) entries
 
+-- the entry before those that follow these
+abbrev pub entry_before : Option Entry → List Entry → Option Entry
+entry_before prior [] = prior
+entry_before prior (e ∷ entries) = entry_before (Some e) entries
+
 -- ---- the slot changes among acts
 
 abbrev pub change_of : Act → Option Change

@@ -6,6 +6,7 @@ use Rattle.std.specs.List.{list_any}
 use Rattle.member_slots.specs.declared.slot.Slot.{Slot}
 use Rattle.member_slots.specs.declared.slot.Slot.TheVariants.{Live}
 use Rattle.journal_model.specs.Acts.{Act, Changed, Began, Committed, RolledBack, Journaled, Stood, Cleared, Reorganized, Ended, Nothing, Change, changes}
+use Rattle.journal_model.specs.Ranges.{is_break}
 
 -- what is known of a record after an act: the slot that the act leaves; a break of the member makes it unknown
 abbrev pub known_by : ℕ → Option Slot → Act → Option Slot
@@ -40,6 +41,16 @@ slot_at place before after = or_else (known_after place None before) (first_befo
 -- a change of the record is among these
 abbrev pub touches : ℕ → List Change → Bool
 touches place changes = list_any (λ (c : Change). c.place == place) changes
+
+-- the acts up to the member's next break
+abbrev pub before_break : List Act → List Act
+before_break [] = []
+before_break (a ∷ rest) = if is_break a then [] else a ∷ before_break rest
+
+-- what is known of a record is so
+abbrev pub IsSo : Option Slot → Slot → Type 0
+IsSo None slot = ⊤
+IsSo (Some known) slot = known ≡ slot
 
 -- ---- the entries of one record
 

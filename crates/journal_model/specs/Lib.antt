@@ -2,6 +2,7 @@ pub mod Acts
 pub mod Places
 pub mod Walks
 pub mod Closed
+pub mod Parts
 pub mod Ranges
 pub mod Replay
 pub mod Replayable

@@ -2,12 +2,13 @@
 -- (Journal Management, "Applying journaled changes" and "Removing journaled changes". That a range with a break of
 -- the member is refused by both, and what *FIRST and *LAST mean, are this project's own. Paths with unique keys are
 -- judged elsewhere.)
-use Rattle.std.specs.Prelude.{ℕ, ◌+◌, ◌-◌, Bool, true, false, List, [], ◌∷◌, length, take, reverse, Option, Some, None, Result, Ok, Err, is_none, unwrap_or}
+use Rattle.std.specs.Prelude.{ℕ, ◌≡◌, ◌+◌, ◌-◌, Bool, true, false, List, [], ◌∷◌, length, reverse, Option, Some, None, Result, Ok, Err, is_none, unwrap_or}
 use Rattle.std.specs.List.{find}
 use Rattle.std.specs.Option.{option_map}
 use Rattle.member_slots.specs.declared.slot.Slot.{Slot}
 use Rattle.journal_model.specs.Acts.{Act, Changed, Began, Committed, RolledBack, Journaled, Stood, Cleared, Reorganized, Ended, Nothing}
-use Rattle.journal_model.specs.Closed.{closed_prefix, closed_suffix, last}
+use Rattle.journal_model.specs.Places.{HasSameRecords}
+use Rattle.journal_model.specs.Parts.{applied_part, removed_part, removed_from}
 use Rattle.journal_model.specs.Walks.{RangeFault, Straddled, Gap, NotRemovable, NeedsBoth, Numbered, numbered, apply, remove}
 
 -- a break of the member at which journaling of it begins or ends
@@ -99,22 +100,28 @@ done first last changes (Err fault) = Err fault
 -- the range is applied from its first sequence on, as far as it is closed
 abbrev pub apply_range : (first : ℕ) → List Act → List Slot → Result RangeDone RangeFault
 apply_range first range slots =
-    let part = take (closed_prefix range) range in
+    let part = applied_part range in
     let fits = numbered first part in
     first_fault
     (straddled (numbered first range) fits ∷ first_gap (placed first part) ∷ first_renumbering (placed first part) ∷ [])
-    (done first (first + closed_prefix range - 1) fits (apply fits slots))
+    (done first (first + length part - 1) fits (apply fits slots))
 
 -- the range from a first sequence on is removed from its end back, as far as it is closed
 abbrev pub remove_range : (first : ℕ) → List Act → List Slot → Result RangeDone RangeFault
 remove_range first range slots =
-    let begins = first + length range - closed_suffix range in
-    let part = last (closed_suffix range) range in
+    let begins = removed_from first range in
+    let part = removed_part range in
     let fits = numbered begins part in
     first_fault
     (straddled (reverse (numbered first range)) fits
     ∷ first_gap (reverse (placed begins part)) ∷ first_renumbering (reverse (placed begins part)) ∷ first_lacking (reverse fits) ∷ [])
     (done begins (first + length range - 1) fits (remove fits slots))
+
+-- the whole range was removed, which gave back the records of these slots
+pub record RemovesWhole (first : ℕ) (range : List Act) (slots : List Slot) (removed : RangeDone) : Type 0 where
+  pub from : removed.first ≡ first
+  pub changes : removed.changes ≡ numbered first range
+  pub records : HasSameRecords removed.slots slots
 
 -- ---- the ends of a range by name
 

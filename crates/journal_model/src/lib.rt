@@ -2,6 +2,7 @@
 //! the settled records, restart. Nothing runs here. The definitions are in `specs/`, their laws in these modules.
 #![tactic(auto)]
 
+mod members;
 mod ranges;
 mod replays;
 mod restarts;

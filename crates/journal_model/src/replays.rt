@@ -2,7 +2,7 @@
 ghost use Rattle.std.specs.Prelude.{◌≡◌, ℕ, List, ◌++◌, None, Some, Ok, IsOkAnd, IsTrue, IsFalse};
 ghost use Rattle.std.specs.List.{list_any};
 ghost use Rattle.member_slots.specs.declared.slot.Slot.{Slot};
-ghost use Rattle.journal_model.specs.Acts.{Act};
+ghost use Rattle.journal_model.specs.Acts.{Act, changes};
 ghost use Rattle.journal_model.specs.Places.{slot_of, HasSameRecords};
 ghost use Rattle.journal_model.specs.Walks.{numbered, apply, remove};
 ghost use Rattle.journal_model.specs.Ranges.{is_break, lacks_before};
@@ -10,7 +10,7 @@ ghost use Rattle.journal_model.specs.Replay.{State, state_at, replay, all_moved}
 ghost use Rattle.journal_model.specs.Replayable.{CanReplay, can_replay};
 ghost use Rattle.journal_model.specs.Settled.{settled};
 ghost use Rattle.journal_model.specs.Restart.{all_undone};
-ghost use Rattle.journal_model.specs.AtSequence.{IsChained};
+ghost use Rattle.journal_model.specs.AtSequence.{IsChained, IsSo, slot_at, known_after, touches, before_break};
 
 /// A journal that passes the test can be replayed.
 pub fn test_tells()
@@ -33,4 +33,11 @@ pub fn replayed_records_are_chained()
 /// Replaying a journal, and then undoing each open commit cycle backwards, leaves the settled records.
 pub fn undoing_settles()
     ensures { (next : ℕ) (slots : List Slot) (journal : List Act) → CanReplay (state_at next slots) journal → HasSameRecords (all_undone (replay (state_at next slots) journal)) (settled slots journal) }
+{}
+
+/// What the journal tells of a record at a sequence is its slot when the entries up to there are replayed. Entries kept
+/// from before the checkpoint tell nothing else of the record than the checkpoint; the record is changed after the
+/// sequence, before the next break of the member.
+pub fn slots_at_sequences()
+    ensures { (place : ℕ) (before replayed later : List Act) (s : State) (slot : Slot) → IsSo (known_after place None before) (slot_of s.slots place) → CanReplay s (replayed ++ later) → IsTrue (touches place (changes (before_break later))) → slot_at place (before ++ replayed) later ≡ Some slot → slot ≡ slot_of (replay s replayed).slots place }
 {}
