@@ -10,3 +10,9 @@ pub mod Settled
 pub mod Restart
 pub mod AtSequence
 pub mod ManyMembers
+pub mod Pairs
+pub mod Catalogue
+pub mod Images
+pub mod Rollback
+pub mod Journal
+pub mod Lawful

@@ -2,7 +2,10 @@
 //! the settled records, restart. Nothing runs here. The definitions are in `specs/`, their laws in these modules.
 #![tactic(auto)]
 
+mod limits;
 mod members;
 mod ranges;
 mod replays;
 mod restarts;
+
+pub use limits::LAST_MEMBER;
