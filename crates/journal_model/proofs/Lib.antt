@@ -11,3 +11,4 @@ pub mod RestartLemmas
 pub mod PartLemmas
 pub mod RangeLemmas
 pub mod MemberLemmas
+pub mod RollbackLemmas

@@ -105,15 +105,15 @@ act_there (ChangesRemoved first last changes) prior e = Nothing
 act_there (BeforeImage image) prior e = Nothing
 act_there (UndoBeforeImage image) prior e = Nothing
 act_there (CommitmentStarted level) prior e = Nothing
-act_there CommitCycleStarted prior e = Nothing
-act_there CommitCycleCommitted prior e = Nothing
-act_there CommitCycleRolledBack prior e = Nothing
+act_there CommitCycleStarted prior e = Began (cycle_of e.group)
+act_there CommitCycleCommitted prior e = Committed (cycle_of e.group)
+act_there CommitCycleRolledBack prior e = RolledBack (cycle_of e.group)
 act_there CommitmentEnded prior e = Nothing
 act_there AbnormalEnd prior e = Nothing
 act_there (NextReceiver number) prior e = Nothing
 act_there (PreviousReceiver number) prior e = Nothing
 
--- a commit cycle is of no member; of another member's entries nothing is done here
+-- what an entry that doesn't name the member does to it: commit cycles are of no member
 abbrev pub act_elsewhere : EntryKind → Entry → Act
 act_elsewhere CommitCycleStarted e = Began (cycle_of e.group)
 act_elsewhere CommitCycleCommitted e = Committed (cycle_of e.group)

@@ -1,7 +1,7 @@
 -- Which entries does a rollback deposit, and which a restart?
 -- (Commitment Control, "Commitment control during abnormal job end and restart". The entries and their order are this
 -- project's own.)
-use Rattle.std.specs.Prelude.{ℕ, ◌+◌, ◌-◌, true, false, List, [], ◌∷◌, ◌++◌, Option, Some, None}
+use Rattle.std.specs.Prelude.{ℕ, ◌+◌, ◌-◌, true, false, List, [], ◌∷◌, ◌++◌, Option, Some, None, ◌==◌, ◌||◌, Bool, if◌then◌else◌}
 use Rattle.std.specs.List.{filter}
 use Rattle.entry_codec.specs.declared.entries.Entry.{Entry}
 use Rattle.entry_codec.specs.declared.entries.Draft.{Draft}
@@ -10,6 +10,7 @@ use Rattle.entry_codec.specs.declared.kinds.EntryKind.TheVariants.{FileCreated, 
 use Rattle.entry_codec.specs.Drafts.{numbered}
 use Rattle.member_slots.specs.declared.slot.Slot.{Slot}
 use Rattle.member_slots.specs.declared.slot.Slot.TheVariants.{Live, Deleted}
+use Rattle.member_slots.specs.Member.{is_live}
 use Rattle.journal_model.specs.Acts.{Act, Changed, Began, Committed, RolledBack, Journaled, Stood, Cleared, Reorganized, Ended, Nothing, Change, act}
 use Rattle.journal_model.specs.Replay.{is_in, is_not_in, before_of}
 
@@ -44,6 +45,15 @@ named (Some number) = number
 abbrev pub undos_of : List MemberChange → Option Entry → List Entry → List MemberChange
 undos_of undos prior [] = undos
 undos_of undos prior (e ∷ entries) = undos_of (undos_by (act (named e.member) prior e) (named e.member) undos) (Some e) entries
+
+-- those of one member
+abbrev pub of_member : ℕ → List MemberChange → List Change
+of_member member [] = []
+of_member member (c ∷ undos) = if c.member == member then c.change ∷ of_member member undos else of_member member undos
+
+-- a record stood there before the change or stands there after it
+abbrev pub is_real : Change → Bool
+is_real c = is_live (before_of c) || is_live c.after
 
 -- ---- entries
 
