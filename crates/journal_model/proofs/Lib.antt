@@ -12,3 +12,5 @@ pub mod PartLemmas
 pub mod RangeLemmas
 pub mod MemberLemmas
 pub mod RollbackLemmas
+pub mod LibraryLemmas
+pub mod JournalLemmas

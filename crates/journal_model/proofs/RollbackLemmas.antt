@@ -63,7 +63,7 @@ second_of : (b : Bool) (c : Change) (first a : Act) → first ≡ cond b Nothing
 second_of true c first a f e = ap (λ (x : Act). somethings (x ∷ a ∷ [])) f ∙ ap (λ (x : Act). somethings (Nothing ∷ x ∷ [])) e
 second_of false c first a f e = ap (λ (x : Act). somethings (x ∷ a ∷ [])) f ∙ ap (λ (x : Act). somethings (Nothing ∷ x ∷ [])) e
 
-of_member-filter : (member : ℕ) (p : Change → Bool) (undos : List MemberChange) → of_member member (filter (λ (c : MemberChange). p c.change) undos) ≡ filter p (of_member member undos)
+pub of_member-filter : (member : ℕ) (p : Change → Bool) (undos : List MemberChange) → of_member member (filter (λ (c : MemberChange). p c.change) undos) ≡ filter p (of_member member undos)
 of_member-filter member p [] = refl
 of_member-filter member p (c ∷ undos) = at (p c.change) (c.member == member) refl refl (of_member-filter member p undos) where
   at : (a b : Bool) → p c.change ≡ a → c.member == member ≡ b → of_member member (filter (λ (d : MemberChange). p d.change) undos) ≡ filter p (of_member member undos) → of_member member (cond a (c ∷ filter (λ (d : MemberChange). p d.change) undos) (filter (λ (d : MemberChange). p d.change) undos)) ≡ filter p (cond b (c.change ∷ of_member member undos) (of_member member undos))
