@@ -1,0 +1,16 @@
+pub mod ClosedLemmas
+pub mod PlaceLemmas
+pub mod WalkLemmas
+pub mod SequenceLemmas
+pub mod ReplayLemmas
+pub mod EachLemmas
+pub mod SoundLemmas
+pub mod SettledLemmas
+pub mod UndoneLemmas
+pub mod RestartLemmas
+pub mod PartLemmas
+pub mod RangeLemmas
+pub mod MemberLemmas
+pub mod RollbackLemmas
+pub mod LibraryLemmas
+pub mod JournalLemmas
