@@ -70,15 +70,17 @@ impl Progress {
         ensures unchanged { OnErr result (self.new ≡ self.old) }
     {
         let script = script.as_slice();
-        if let Some(end) = ends(script, self.place, last, full) {
-            return Ok(Request::EndJob(end));
+        match ends(script, self.place, last, full) {
+            Some(end) => Ok(Request::EndJob(end)),
+            None => {
+                if !room {
+                    return Err(AskError::NoMemory);
+                }
+                let request = script[self.place].request.copied(alloc)?;
+                self.place += 1;
+                Ok(request)
+            }
         }
-        if !room {
-            return Err(AskError::NoMemory);
-        }
-        let request = script[self.place].request.copied(alloc)?;
-        self.place += 1;
-        Ok(request)
     }
 }
 
