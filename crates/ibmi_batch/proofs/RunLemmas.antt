@@ -1,86 +1,111 @@
--- What an input's reading says of its scripts, and what a session's listing says of the run.
-use Rattle.std.proofs.Common.{◌≡◌, ◌⊎◌, inl, inr, ℕ, ◌+◌, ◌-◌, ◌<◌, ◌≤◌, Bool, true, false, unwrap_or, Option, Some, None, List, [], ◌∷◌, ◌++◌, length, slice_get, zero, suc, refl, sym, ◌∙◌, ap, subst, arith, rules}
-use Rattle.text_lines.specs.Lines.{lines_of}
-use Rattle.plain_format.specs.declared.formats.Field.{Field}
+-- What a run comes to: from a session that begins, and from words or an input that begin none.
+use Rattle.std.proofs.Common.{◌≡◌, ℕ, ◌<◌, ◌≤◌, Bool, true, false, IsTrue, List, [], ◌++◌, length, map, refl, sym, ◌∙◌, ap, subst, arith}
 use Rattle.library_model.specs.declared.calls.Call.{Call}
-use Rattle.job_script.specs.declared.scripts.Statement.{Statement}
+use Rattle.library_model.specs.State.{Memory, State, empty_library, begun, new_job}
+use Rattle.library_model.specs.History.{Outcome, Standing, Runs}
+use Rattle.library_core.specs.Parts.{LibraryOver}
+use Rattle.library_core.specs.Stands.{Stands, IsAt}
 use Rattle.job_script.specs.declared.scripts.Scripts.{Scripts}
-use Rattle.job_script.specs.Input.{Spells, IsBareJob, IsSourceJob, Reads, IsInput}
-use Rattle.job_runner.specs.Asked.{script_of}
+use Rattle.job_runner.specs.Asked.{AreAsked}
+use Rattle.job_runner.specs.Ended.{has_ended}
+use Rattle.job_runner.specs.Made.{AreGiven}
+use Rattle.job_runner.specs.Places.{BeginsJobs}
+use Rattle.job_runner.specs.Session.{SessionOver, HasMade}
 use Rattle.ibmi_batch.specs.declared.status.Status.{Status}
 use Rattle.ibmi_batch.specs.declared.status.Status.TheVariants.{Done, Words, ReadFault, TooLong, Script, NotALibrary, Damaged, StoreFault, WriteFault, NoMemory, JobsEnded, Exists}
-use Rattle.ibmi_batch.specs.Outcome.{InputFor, IsRead, Listed, ListedInPart, ListsFor, WrittenFor}
+use Rattle.ibmi_batch.specs.Outcome.{Reading, Writing, IsStart, IsWholeRun, Listed, NothingWritten, Ran, WasRun, Comes, IsInOrder, IsOrderly, IsOutcome, Starts, Begins, Refuses}
 
--- as many statements as lines that spell them
-length-Spells : (file : List ℕ) (fields : List Field) (place number : ℕ) (lines : List (List ℕ)) (script : List Statement) → Spells file fields place number lines script → length script ≡ length lines
-length-Spells file fields place number [] script spelled = ap length spelled
-length-Spells file fields place number (line ∷ lines) [] spelled = absurd spelled
-length-Spells file fields place number (line ∷ lines) (statement ∷ script) spelled = ap suc (length-Spells file fields (place + 1) (number + 1) lines script spelled.2)
+-- a library with nothing in it, and jobs begun over it
+pub stands-begun : {S : Type 0} (old new : LibraryOver S) (names : List (List ℕ)) → Stands old empty_library → BeginsJobs old new names → Stands new (begun empty_library names)
+stands-begun old new names stands begins = record {
+  alive = begins.failed ∙ stands.alive;
+  memory = begins.memory ∙ ap (λ (m : Memory). record m { jobs = m.jobs ++ map new_job names }) stands.memory;
+}
 
-one_script : (script : List Statement) (place : ℕ) → length script ≤ 1000 → length (unwrap_or (slice_get (script ∷ []) place) []) ≤ 100000
-one_script script zero few = omega (arith, few)
-one_script script (suc place) few = omega arith
+-- all the calls of a session that began with none
+pub whole-run : {S C : Type 0} (gives : C → ℕ → C → Type 0) (first later : SessionOver S C) (made : List Call) → Starts first → first.calls ≡ [] → HasMade gives first later made → ((job : ℕ) → 1 ≤ job → job ≤ length later.scripts.scripts → IsTrue (has_ended job later.calls)) → IsWholeRun later.scripts later.calls
+whole-run gives first later made starts none has ended =
+    let all : later.calls ≡ made = has.calls ∙ ap (λ (calls : List Call). calls ++ made) none in
+    let led = has.legal (Standing (begun starts.start first.scripts.names)) starts.stands in
+    rw (all, has.scripts) (record {
+      start = starts.start;
+      begins = starts.begins;
+      outcome = led.0;
+      legal = led.1;
+      asked = subst (λ (calls : List Call). AreAsked first.scripts.scripts calls made) none has.asked;
+      ended = rw (all, has.scripts) at ended;
+    })
 
-no_script : (place : ℕ) → length (unwrap_or (slice_get {X = List Statement} [] place) []) ≤ 100000
-no_script place = omega arith
+-- and their timestamps
+pub given-all : {S C : Type 0} (gives : C → ℕ → C → Type 0) (first later : SessionOver S C) (made : List Call) → first.calls ≡ [] → HasMade gives first later made → AreGiven gives first.clock later.clock later.calls
+given-all gives first later made none has =
+    let all : later.calls ≡ made = has.calls ∙ ap (λ (calls : List Call). calls ++ made) none in
+    rw all has.given
 
--- each script of an input is short
-pub short-Reads : (lines : List (List ℕ)) (scripts : Scripts) → Reads lines scripts → (job : ℕ) → length (script_of scripts.scripts job) ≤ 100000
-short-Reads lines scripts (inl none) job = subst (λ s. length (script_of s.scripts job) ≤ 100000) (sym none.1) (no_script (job - 1))
-short-Reads lines scripts (inr (inl bare)) job = subst (λ s. length (script_of s.scripts job) ≤ 100000) (sym bare.says) (one_script [] (job - 1) (omega arith))
-short-Reads lines scripts (inr (inr source)) job =
-    let its = length-Spells source.file source.format.fields 0 (length source.source + 3) source.statements source.script source.spelled in
-    subst (λ s. length (script_of s.scripts job) ≤ 100000) (sym source.says) (one_script source.script (job - 1) (omega (arith, its, source.few)))
+-- what is listed with timestamps of one kind is listed with timestamps of a wider kind
+listed-wider : (scripts : Scripts) (given wider : List Call → Type 0) (writing : Writing) (part : List Call → Type 0) → ((calls : List Call) → given calls → wider calls) → Listed scripts given writing part → Listed scripts wider writing part
+listed-wider scripts given wider writing part widens listed =
+    record { calls = listed.calls; run = listed.run; timestamps = widens listed.calls listed.timestamps; written = listed.written }
 
--- a session's statuses come from an input
-pub InputFor-Lists : (status : Status) (scripts : Scripts) (given : List Call → Type 0) (sink_tells : Type 0) (input old new : List ℕ) → ListsFor status scripts given sink_tells old new → Reads (lines_of input) scripts → length input ≤ 16777216 → InputFor status input
-InputFor-Lists Done scripts given sink_tells input old new lists reads short = ((scripts, reads), short)
-InputFor-Lists JobsEnded scripts given sink_tells input old new lists reads short = ((scripts, reads), short)
-InputFor-Lists WriteFault scripts given sink_tells input old new lists reads short = ((scripts, reads), short)
-InputFor-Lists NoMemory scripts given sink_tells input old new lists reads short = tt
-InputFor-Lists Words scripts given sink_tells input old new lists reads short = tt
-InputFor-Lists ReadFault scripts given sink_tells input old new lists reads short = tt
-InputFor-Lists TooLong scripts given sink_tells input old new lists reads short = absurd lists
-InputFor-Lists (Script line) scripts given sink_tells input old new lists reads short = absurd lists
-InputFor-Lists NotALibrary scripts given sink_tells input old new lists reads short = tt
-InputFor-Lists (Damaged area at) scripts given sink_tells input old new lists reads short = tt
-InputFor-Lists StoreFault scripts given sink_tells input old new lists reads short = tt
-InputFor-Lists Exists scripts given sink_tells input old new lists reads short = tt
+pub Ran-wider : (status : Status) (scripts : Scripts) (given wider : List Call → Type 0) (writing : Writing) → ((calls : List Call) → given calls → wider calls) → Ran status scripts given writing → Ran status scripts wider writing
+Ran-wider Done scripts given wider writing widens ran = listed-wider scripts given wider writing _ widens ran
+Ran-wider JobsEnded scripts given wider writing widens ran = listed-wider scripts given wider writing _ widens ran
+Ran-wider WriteFault scripts given wider writing widens ran = (listed-wider scripts given wider writing _ widens ran.0, ran.1)
+Ran-wider NoMemory scripts given wider writing widens ran = ran
+Ran-wider Words scripts given wider writing widens ran = ran
+Ran-wider ReadFault scripts given wider writing widens ran = ran
+Ran-wider TooLong scripts given wider writing widens ran = ran
+Ran-wider (Script line) scripts given wider writing widens ran = ran
+Ran-wider NotALibrary scripts given wider writing widens ran = ran
+Ran-wider (Damaged area at) scripts given wider writing widens ran = ran
+Ran-wider StoreFault scripts given wider writing widens ran = ran
+Ran-wider Exists scripts given wider writing widens ran = ran
 
--- what a session does is what the input's run does
-pub WrittenFor-Lists : (status : Status) (scripts : Scripts) (source_tells : Type 0) (input : List ℕ) (given : List Call → Type 0) (sink_tells : Type 0) (old new : List ℕ) → ListsFor status scripts given sink_tells old new → IsRead source_tells input scripts → WrittenFor status source_tells input given sink_tells old new
-WrittenFor-Lists Done scripts source_tells input given sink_tells old new lists read = (scripts, read, lists)
-WrittenFor-Lists JobsEnded scripts source_tells input given sink_tells old new lists read = (scripts, read, lists)
-WrittenFor-Lists WriteFault scripts source_tells input given sink_tells old new lists read = (scripts, read, lists)
-WrittenFor-Lists NoMemory scripts source_tells input given sink_tells old new lists read = lists
-WrittenFor-Lists Words scripts source_tells input given sink_tells old new lists read = absurd lists
-WrittenFor-Lists ReadFault scripts source_tells input given sink_tells old new lists read = absurd lists
-WrittenFor-Lists TooLong scripts source_tells input given sink_tells old new lists read = absurd lists
-WrittenFor-Lists (Script line) scripts source_tells input given sink_tells old new lists read = absurd lists
-WrittenFor-Lists NotALibrary scripts source_tells input given sink_tells old new lists read = absurd lists
-WrittenFor-Lists (Damaged area at) scripts source_tells input given sink_tells old new lists read = absurd lists
-WrittenFor-Lists StoreFault scripts source_tells input given sink_tells old new lists read = absurd lists
-WrittenFor-Lists Exists scripts source_tells input given sink_tells old new lists read = absurd lists
+module _ {S C : Type 0} (reading : Reading) (store : S) (clock : C) (session : SessionOver S C) (given : List Call → Type 0) (writing : Writing) (begins : Begins reading store clock session) where
+  was-run : (status : Status) → Ran status session.scripts given writing → WasRun status reading given writing
+  was-run status ran = record { words = begins.words; left = begins.left; scripts = session.scripts; read = begins.read; ran = ran }
 
--- what is listed with moments of one kind is listed with moments of a wider kind
-whole_wider : (scripts : Scripts) (given wider : List Call → Type 0) (sink_tells : Type 0) (old new : List ℕ) (early : Bool) → ((calls : List Call) → given calls → wider calls) → Listed scripts given sink_tells old new early → Listed scripts wider sink_tells old new early
-whole_wider scripts given wider sink_tells old new early widens listed =
-    record { calls = listed.calls; run = listed.run; moments = widens listed.calls listed.moments; ends = listed.ends; written = listed.written }
+  -- a session that began has run
+  pub outcome-ran : (status : Status) → Ran status session.scripts given writing → IsOutcome status reading given writing
+  outcome-ran Done ran = record { comes = was-run Done ran; complete = λ tells order. tt }
+  outcome-ran JobsEnded ran = record { comes = was-run JobsEnded ran; complete = λ tells order. tt }
+  outcome-ran WriteFault ran = record { comes = was-run WriteFault ran; complete = λ tells order. ran.1 }
+  outcome-ran NoMemory ran = record { comes = record { words = begins.words; written = ran; why = tt }; complete = λ tells order. tt }
+  outcome-ran Words ran = absurd ran
+  outcome-ran ReadFault ran = absurd ran
+  outcome-ran TooLong ran = absurd ran
+  outcome-ran (Script line) ran = absurd ran
+  outcome-ran NotALibrary ran = absurd ran
+  outcome-ran (Damaged area at) ran = absurd ran
+  outcome-ran StoreFault ran = absurd ran
+  outcome-ran Exists ran = absurd ran
 
-part_wider : (scripts : Scripts) (given wider : List Call → Type 0) (sink_tells : Type 0) (old new : List ℕ) → ((calls : List Call) → given calls → wider calls) → ListedInPart scripts given sink_tells old new → ListedInPart scripts wider sink_tells old new
-part_wider scripts given wider sink_tells old new widens listed =
-    record { calls = listed.calls; run = listed.run; moments = widens listed.calls listed.moments; written = listed.written }
-
-pub ListsFor-wider : (status : Status) (scripts : Scripts) (given wider : List Call → Type 0) (sink_tells : Type 0) (old new : List ℕ) → ((calls : List Call) → given calls → wider calls) → ListsFor status scripts given sink_tells old new → ListsFor status scripts wider sink_tells old new
-ListsFor-wider Done scripts given wider sink_tells old new widens lists = whole_wider scripts given wider sink_tells old new false widens lists
-ListsFor-wider JobsEnded scripts given wider sink_tells old new widens lists = whole_wider scripts given wider sink_tells old new true widens lists
-ListsFor-wider WriteFault scripts given wider sink_tells old new widens lists = part_wider scripts given wider sink_tells old new widens lists
-ListsFor-wider NoMemory scripts given wider sink_tells old new widens lists = lists
-ListsFor-wider Words scripts given wider sink_tells old new widens lists = lists
-ListsFor-wider ReadFault scripts given wider sink_tells old new widens lists = lists
-ListsFor-wider TooLong scripts given wider sink_tells old new widens lists = lists
-ListsFor-wider (Script line) scripts given wider sink_tells old new widens lists = lists
-ListsFor-wider NotALibrary scripts given wider sink_tells old new widens lists = lists
-ListsFor-wider (Damaged area at) scripts given wider sink_tells old new widens lists = lists
-ListsFor-wider StoreFault scripts given wider sink_tells old new widens lists = lists
-ListsFor-wider Exists scripts given wider sink_tells old new widens lists = lists
+-- no session began, and nothing was written
+pub outcome-refused : (status : Status) (reading : Reading) (given : List Call → Type 0) (writing : Writing) → NothingWritten writing → Refuses status reading → IsOutcome status reading given writing
+outcome-refused Words reading given writing nothing refused = record {
+  comes = record { words = refused; written = nothing };
+  complete = λ tells order. absurd (let e = order.words in cc);
+}
+outcome-refused ReadFault reading given writing nothing refused = record {
+  comes = record { words = refused.0; written = nothing; why = refused.1 };
+  complete = λ tells order. refused.1;
+}
+outcome-refused TooLong reading given writing nothing refused = record {
+  comes = record { words = refused.0; written = nothing; why = refused.1 };
+  complete = λ tells order. absurd (omega (arith, refused.1 tells, order.short));
+}
+outcome-refused (Script line) reading given writing nothing refused = record {
+  comes = record { words = refused.0; written = nothing; why = refused.1 };
+  complete = λ tells order. absurd (refused.2 tells order.input);
+}
+outcome-refused NoMemory reading given writing nothing refused = record {
+  comes = record { words = refused; written = nothing; why = tt };
+  complete = λ tells order. tt;
+}
+outcome-refused Done reading given writing nothing refused = absurd refused
+outcome-refused JobsEnded reading given writing nothing refused = absurd refused
+outcome-refused WriteFault reading given writing nothing refused = absurd refused
+outcome-refused NotALibrary reading given writing nothing refused = absurd refused
+outcome-refused (Damaged area at) reading given writing nothing refused = absurd refused
+outcome-refused StoreFault reading given writing nothing refused = absurd refused
+outcome-refused Exists reading given writing nothing refused = absurd refused

@@ -76,3 +76,8 @@ list_all-script_of p scripts job none all = at_place p scripts (job - 1) none al
     at_place p [] place none all = rw none (search rules)
     at_place p (script ∷ scripts) zero none all = grind (arith, all)
     at_place p (script ∷ scripts) (suc place) none all = at_place p scripts place none (grind (arith, all))
+
+-- what follows from a success, where it succeeds
+pub ok-map : {A E : Type 0} {P Q : A → Type 0} (r : Result A E) → ((x : A) → P x → Q x) → IfOk r P → IfOk r Q
+ok-map (Ok x) each holds = each x holds
+ok-map (Err e) each holds = tt

@@ -63,7 +63,7 @@ IsPlace-same scripts jobs later calls job progress place call is runs same moves
       running = after;
       goes_on = λ goes_on. rw own (record {
         no_end = no_end-append (calls_of job calls) call open_ended goes_on;
-        progress = rw (replies-append (calls_of job calls) call) (moves goes_on call.reply);
+        stands = rw (replies-append (calls_of job calls) call) (moves goes_on call.reply);
       });
     }
 
@@ -151,7 +151,7 @@ module _ (scripts : Scripts) (old new : Memory) (calls : List Call) (room : ℕ)
     askable = called.is.askable;
     jobs = length-slice_set kept (job - 1) (place_after progress calls call) ∙ called.is.jobs;
     few = called.is.few;
-    room = enough;
+    enough = enough;
     places = kept-places;
   }
     where
@@ -183,8 +183,8 @@ slice_set-here (first ∷ xs) (suc at) x there = ap (λ rest. first ∷ rest) (s
 -- the session as it was, with more room
 pub IsSession-same : (scripts : Scripts) (memory : Memory) (calls later : List Call) (room more : ℕ) (kept : List Place) (job : ℕ) (place next : Place) → IsSession scripts memory calls room kept → slice_get kept (job - 1) ≡ Some place → later ≡ calls → room ≤ more → next ≡ place → IsSession scripts memory later more (slice_set kept (job - 1) next)
 IsSession-same scripts memory calls later room more kept job place next is here same enough as_before =
-    let fits : unended kept ≤ more = omega (arith, is.room, enough) in
-    rw (same, as_before, slice_set-here kept (job - 1) place here) (record { joint = is.joint; askable = is.askable; jobs = is.jobs; few = is.few; room = fits; places = is.places })
+    let fits : unended kept ≤ more = omega (arith, is.enough, enough) in
+    rw (same, as_before, slice_set-here kept (job - 1) place here) (record { joint = is.joint; askable = is.askable; jobs = is.jobs; few = is.few; enough = fits; places = is.places })
 
 -- a call brings the job nearer to its end
 pub remaining-called : (scripts : List (List Statement)) (jobs : List JobState) (calls later : List Call) (job : ℕ) (place : Place) (call : Call) → IsPlace scripts jobs calls job place → place.ended ≡ false → call.job ≡ job → (is_end_job call.request ≡ false → (reply : Reply) → statements_left (script_of scripts job) (replies_of job calls ++ reply ∷ []) < statements_left (script_of scripts job) (replies_of job calls)) → later ≡ calls ++ call ∷ [] → remaining scripts job later < remaining scripts job calls
@@ -229,7 +229,7 @@ first-place-is scripts jobs at place begun named within fresh = rw (fresh, begun
   last = refl;
   ended = refl;
   running = job-runs scripts.names at (omega (arith, named, within));
-  goes_on = λ e. record { no_end = search rules; progress = refl };
+  goes_on = λ e. record { no_end = search rules; stands = refl };
 })
 
 idle-new : (names : List (List ℕ)) → AllByRecursion IsIdle (map new_job names)
@@ -244,6 +244,6 @@ IsSession-first scripts memory room kept begun askable named few enough fresh =
       askable = askable;
       jobs = many;
       few = few;
-      room = omega (arith, unended-most kept, many, few, enough);
+      enough = omega (arith, unended-most kept, many, few, enough);
       places = λ at place there. let first = first-places (length scripts.scripts) at place (rw fresh at there) in first-place-is scripts memory.jobs at place begun named first.0 first.1;
     }

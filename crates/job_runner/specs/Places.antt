@@ -10,7 +10,7 @@ use Rattle.library_model.specs.declared.limits.TheConstants.{MOST_JOBS}
 use Rattle.job_script.specs.declared.scripts.Scripts.{Scripts}
 use Rattle.job_script.specs.declared.scripts.Statement.{Statement}
 use Rattle.job_script.specs.Asks.{last_of}
-use Rattle.job_script.specs.Progress.{IsProgress}
+use Rattle.job_script.specs.Progress.{IsProgress, no_progress}
 use Rattle.job_script.specs.Ready.{is_askable_script}
 use Rattle.job_runner.specs.declared.session.Place.{Place}
 use Rattle.job_runner.specs.Asked.{script_of}
@@ -25,7 +25,7 @@ IsLastCall (Some place) calls own =
 -- a job that has not ended has made no ENDJOB, and its progress stands for the replies that it has had
 pub record GoesOn (script : List Statement) (own : List Call) (progress : ℕ) : Type 0 where
   pub no_end : IsTrue (list_all (λ call. not (is_end_job call.request)) own)
-  pub progress : IsProgress script progress (map (λ call. call.reply) own)
+  pub stands : IsProgress script progress (map (λ call. call.reply) own)
 
 -- what is kept of a job with this number is so
 pub record IsPlace (scripts : List (List Statement)) (jobs : List JobState) (calls : List Call) (job : ℕ) (place : Place) : Type 0 where
@@ -44,12 +44,12 @@ pub record IsSession (scripts : Scripts) (memory : Memory) (calls : List Call) (
   pub askable : IsTrue (list_all is_askable_script scripts.scripts)
   pub jobs : length kept ≡ length scripts.scripts
   pub few : length scripts.scripts ≤ MOST_JOBS
-  pub room : unended kept ≤ room
+  pub enough : unended kept ≤ room
   pub places : (job : ℕ) (place : Place) → slice_get kept job ≡ Some place → IsPlace scripts.scripts memory.jobs calls (job + 1) place
 
 -- the place of a job that has made no call
 abbrev pub first_place : Place
-first_place = record { progress = 0; last = None; ended = false }
+first_place = record { progress = no_progress; last = None; ended = false }
 
 -- the library with a job of each name begun, in order, after those that it had
 pub record BeginsJobs {S : Type 0} (old new : LibraryOver S) (names : List (List ℕ)) : Type 0 where

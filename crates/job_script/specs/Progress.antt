@@ -6,6 +6,10 @@ use Rattle.library_model.specs.declared.replies.Reply.{Reply}
 use Rattle.job_script.specs.declared.scripts.Statement.{Statement}
 use Rattle.job_script.specs.Asks.{asks_after}
 
+-- the progress of a job that has asked nothing
+abbrev pub no_progress : ℕ
+no_progress = 0
+
 -- the progress of a job that has had these replies, each to one statement
 abbrev pub IsProgress : List Statement → ℕ → List Reply → Type 0
 IsProgress script progress replies = progress ≡ length replies

@@ -5,7 +5,7 @@ ghost use Rattle.library_model.specs.Built.{is_built};
 ghost use Rattle.library_model.specs.Running.{is_end_job};
 ghost use Rattle.job_script.specs.Ready.{is_askable_script};
 ghost use Rattle.job_script.specs.Asks.{is_refusal, last_of, end_job, line_of, asks_statement, asks_after, asks};
-ghost use Rattle.job_script.specs.Progress.{IsProgress, statements_left, Ends};
+ghost use Rattle.job_script.specs.Progress.{IsProgress, no_progress, statements_left, Ends};
 
 use crate::scripts::{Script, Statement};
 use library_model::replies::Reply;
@@ -46,7 +46,7 @@ impl From<AllocError> for AskError {
 impl Progress {
     /// That of a job that has asked nothing.
     pub fn new() -> Progress
-        ensures { (script : List _) → IsProgress script result [] }
+        ensures { result ≡ no_progress }
     {
         Progress { place: 0 }
     }
@@ -70,15 +70,17 @@ impl Progress {
         ensures unchanged { OnErr result (self.new ≡ self.old) }
     {
         let script = script.as_slice();
-        if let Some(end) = ends(script, self.place, last, full) {
-            return Ok(Request::EndJob(end));
+        match ends(script, self.place, last, full) {
+            Some(end) => Ok(Request::EndJob(end)),
+            None => {
+                if !room {
+                    return Err(AskError::NoMemory);
+                }
+                let request = script[self.place].request.copied(alloc)?;
+                self.place += 1;
+                Ok(request)
+            }
         }
-        if !room {
-            return Err(AskError::NoMemory);
-        }
-        let request = script[self.place].request.copied(alloc)?;
-        self.place += 1;
-        Ok(request)
     }
 }
 

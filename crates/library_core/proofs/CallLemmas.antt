@@ -65,7 +65,7 @@ unfolding change
 refused-no_end sources m job timestamp (request.EndJob args) reply refused = absurd cc
 refused-no_end sources m job timestamp _ reply refused = refl
 
-runs-on : (job : ℕ) (r : Request) (jobs : List JobState) (other : ℕ) → is_end_job r ≡ false → runs_after job r jobs other ≡ is_running (job_at other jobs)
+pub runs-on : (job : ℕ) (r : Request) (jobs : List JobState) (other : ℕ) → is_end_job r ≡ false → runs_after job r jobs other ≡ is_running (job_at other jobs)
 runs-on job r jobs other goes_on = rw goes_on refl
 
 -- however the memory has answered

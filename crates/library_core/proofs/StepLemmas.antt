@@ -1,5 +1,5 @@
 -- What a change leaves: which jobs run, how many entries there are, and what holds between calls.
-use Rattle.std.proofs.Common.{◌≡◌, ℕ, ◌+◌, ◌-◌, Bool, true, false, ◌&&◌, not, if◌then◌else◌, ◌==◌, IsTrue, List, [], ◌∷◌, ◌++◌, length, None, Result, Ok, Err, zero, suc, slice_get, refl, sym, ◌∙◌, ap, subst, arith}
+use Rattle.std.proofs.Common.{◌≡◌, ℕ, ◌+◌, ◌-◌, Bool, true, false, ◌&&◌, not, if◌then◌else◌, ◌==◌, IsTrue, List, [], ◌∷◌, ◌++◌, length, Some, None, Result, Ok, Err, zero, suc, slice_get, refl, sym, ◌∙◌, ap, subst, arith}
 use Rattle.std.proofs.lemmas.Bool.Decides.{nat_tests}
 use Rattle.std.specs.List.{AllByRecursion}
 use Rattle.library_model.specs.declared.requests.Request.{Request}
@@ -109,3 +109,14 @@ change-leaves sources m job timestamp (request.Write args) c running done = does
 change-leaves sources m job timestamp (request.Chain args) c running done = does-leaves (chain_change m) (chain_plan m job args) job (request.Chain args) m c (chain-leaves m job args) done
 change-leaves sources m job timestamp (request.EndJob args) c running done = let e : end_change m job ≡ c = cc in subst (Leaves job (request.EndJob args) m) e (end-leaves m job args running)
 change-leaves sources m job timestamp _ c running done = absurd cc
+
+-- a job that begins runs, by the number after the last
+pub running-new_job : (name : List ℕ) (jobs : List JobState) → IsTrue (is_running (job_at (length jobs + 1) (jobs ++ new_job name ∷ [])))
+running-new_job name jobs = let here = last-place name jobs in grind (arith, nat_tests, here)
+  where
+    last-place : (name : List ℕ) (jobs : List JobState) → slice_get (jobs ++ new_job name ∷ []) (length jobs) ≡ Some (new_job name)
+    last-place name [] = refl
+    last-place name (job ∷ jobs) = last-place name jobs
+
+pub idle-new_job : (name : List ℕ) (jobs : List JobState) → AllByRecursion IsIdle jobs → AllByRecursion IsIdle (jobs ++ new_job name ∷ [])
+idle-new_job name jobs idle = AllByRecursion-append IsIdle jobs (new_job name ∷ []) idle ((λ ended. refl), tt)

@@ -1,8 +1,10 @@
 -- What a library is of a state, and what a call makes of it. The memory is known over every store; the journal stands on the disk.
-use Rattle.std.specs.Prelude.{◌≡◌, ℕ, true, false, List}
+use Rattle.std.specs.Prelude.{◌≡◌, ℕ, true, false, IsTrue, List}
 use Rattle.library_model.specs.declared.calls.Call.{Call}
 use Rattle.library_model.specs.declared.sources.NamedSource.{NamedSource}
-use Rattle.library_model.specs.State.{State, memory_of}
+use Rattle.library_model.specs.State.{State, memory_of, job_at}
+use Rattle.library_model.specs.Running.{is_running}
+use Rattle.library_model.specs.Joint.{IsJoint}
 use Rattle.library_model.specs.History.{Outcome, Standing, Failed, Comes}
 use Rattle.library_core.specs.Parts.{LibraryOver}
 
@@ -21,3 +23,9 @@ pub record Goes {S : Type 0} (sources : List NamedSource) (new : LibraryOver S) 
   pub outcome : Outcome
   pub comes : Comes sources s call outcome
   pub at : IsAt new outcome
+
+-- the job may make a call: it runs, the library hasn't failed, and what holds between calls holds
+pub record IsReady {S : Type 0} (job : ℕ) (library : LibraryOver S) : Type 0 where
+  pub alive : library.failed ≡ false
+  pub running : IsTrue (is_running (job_at job library.memory.jobs))
+  pub joint : IsJoint library.memory

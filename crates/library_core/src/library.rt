@@ -7,7 +7,7 @@ ghost use Rattle.library_model.specs.Running.{is_running, runs_after};
 ghost use Rattle.library_model.specs.Joint.{IsJoint};
 ghost use Rattle.library_model.specs.Step.{change};
 ghost use Rattle.library_core.specs.Answers.{Answers, reply_of};
-ghost use Rattle.library_core.specs.Stands.{Stands, Goes};
+ghost use Rattle.library_core.specs.Stands.{Stands, IsReady, Goes};
 ghost use Rattle.library_core.specs.declared.stop.Stop.TheVariants.{NoMemory};
 
 use crate::contents::Contents;
@@ -41,6 +41,7 @@ impl<S: Store> Library<S> {
     pub fn empty(alloc: Global, store: S) -> Library<S>
         ensures store { result.store ≡ store }
         ensures stands { Stands result empty_library }
+        ensures joint { IsJoint result.memory }
     {
         Library {
             store,
@@ -69,6 +70,7 @@ impl<S: Store> Library<S> {
         ensures number { IfOk result (λ n. n ≡ length self.old.memory.jobs + 1) }
         ensures begun { OnOk result (self.new.memory ≡ record self.old.memory { jobs = self.old.memory.jobs ++ new_job name.now ∷ [] }) }
         ensures unchanged { OnErr result (self.new.memory ≡ self.old.memory) }
+        ensures ready { self.old.failed ≡ false → IsJoint self.old.memory → IfOk result (λ n. IsReady n self.new) }
         ensures store { self.new.store ≡ self.old.store }
         ensures failed { self.new.failed ≡ self.old.failed }
     {
@@ -96,10 +98,8 @@ pub fn call<S: Store>(
     sources: &Sources,
     request: &Request,
 ) -> Reply
-    requires alive { library.old.failed ≡ false }
-    requires running { IsTrue (is_running (job_at job library.old.memory.jobs)) }
+    requires ready { IsReady job library.old }
     requires built { IsTrue (is_built request.now) }
-    requires joint { IsJoint library.old.memory }
     ensures goes { (s : State) → Stands library.old s → Goes sources.now library.new s (record { job = job; timestamp = timestamp; request = request.now; reply = result }) }
     ensures running { (other : ℕ) → is_running (job_at other library.new.memory.jobs) ≡ runs_after job request.now library.old.memory.jobs other }
     ensures joint { IsJoint library.new.memory }
