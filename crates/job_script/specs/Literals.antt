@@ -1,6 +1,6 @@
 -- Character literals: the bytes in code page 037 that one stands for, and the values of a VAL parameter.
 -- (CL reference, "Character strings" and "Hexadecimal values".)
-use Rattle.std.specs.Prelude.{ℕ, ◌+◌, ◌-◌, ◌*◌, Bool, true, false, ◌<◌, if◌then◌else◌, ◌==◌, nat_le, ◌&&◌, nat_eq, Option, Some, None, List, [], ◌∷◌, length, codes, option_and_then}
+use Rattle.std.specs.Prelude.{ℕ, Bool, true, false, ◌<◌, if◌then◌else◌, ◌==◌, nat_le, ◌&&◌, nat_eq, Option, Some, None, List, [], ◌∷◌, length, codes, option_and_then}
 use Rattle.std.specs.Cmp.Lexicographic.{pointwise}
 use Rattle.ebc_text.specs.CodePage.{ebcdic_of}
 use Rattle.field_types.specs.declared.values.Value.{Value}

@@ -1,5 +1,5 @@
 //! Character literals and the values of a VAL parameter, by `specs/Literals.antt`.
-ghost use Rattle.std.specs.Prelude.{◌≡◌, ◌<◌, ◌≤◌, ℕ, List, Option, [], ◌∷◌, length, IfOk, option_map};
+ghost use Rattle.std.specs.Prelude.{◌≡◌, ◌<◌, ℕ, List, Option, [], ◌∷◌, length, IfOk, option_map};
 ghost use Rattle.job_script.specs.Literals.{before, quoted, hexadecimal, literal_bytes, literal_at, value_behind, values_behind, says, LeavesLess};
 
 use crate::cards::behind;
