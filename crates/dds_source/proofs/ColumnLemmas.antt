@@ -9,7 +9,8 @@ use Rattle.dds_source.specs.declared.specifications.SpecificationKind.{Specifica
 use Rattle.dds_source.specs.declared.specifications.SpecificationKind.TheVariants as kinds
 use Rattle.dds_source.specs.declared.specifications.NameEntry.{NameEntry}
 use Rattle.dds_source.specs.declared.specifications.LengthEntry.{LengthEntry}
-use Rattle.dds_source.specs.Characters.{is_blank, are_blanks, folded}
+use Rattle.text_lines.specs.Lines.{is_blank, are_blanks}
+use Rattle.text_lines.specs.Characters.{folded}
 use Rattle.dds_source.specs.Lines.{positions, line_of, counts, has_entries}
 use Rattle.dds_source.specs.Numbers.{unsigned_entry, signed_entry}
 use Rattle.dds_source.specs.Entries.{when, name_entry, letter, name_or_blank, column_faults, columns_of, line_faults}

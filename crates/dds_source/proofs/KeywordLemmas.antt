@@ -6,7 +6,7 @@ use Rattle.std.proofs.Common.{length-take}
 use Rattle.std.proofs.lemmas.List.{drop_more, take_more, take_all, drop_all}
 use Rattle.dds_source.specs.declared.characters.SourceCharacter.{SourceCharacter}
 use Rattle.dds_source.specs.declared.characters.Place.{Place}
-use Rattle.dds_source.specs.Characters.{is_blank}
+use Rattle.text_lines.specs.Lines.{is_blank}
 use Rattle.dds_source.specs.KeywordTexts.{outside, is_outside, behind, closes, unless_empty, keyword_texts, keywords_in}
 
 outside_parts : (q : Bool) (n : ℕ) → (not q && (n == 0)) ≡ true → (q ≡ false) × (n ≡ 0)

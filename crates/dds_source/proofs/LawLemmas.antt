@@ -1,6 +1,6 @@
 -- A source in columns, line after line.
 use Rattle.std.proofs.Common.{◌≡◌, ℕ, zero, suc, ◌-◌, ◌<◌, ◌≤◌, Bool, true, false, not, ◌&&◌, ◌==◌, List, [], ◌∷◌, ◌++◌, length, map, filter, replicate, get_or, Option, Ok, refl, sym, ap, ◌∙◌, arith, length-append}
-use Rattle.std.specs.List.{list_all, flat_map, slice_split, onto_first}
+use Rattle.std.specs.List.{list_all, flat_map}
 use Rattle.std.specs.Bool.{if◌then◌else◌}
 use Rattle.std.proofs.lemmas.List.{append_assoc, append-nil, length-replicate}
 use Rattle.field_types.specs.SystemName.{is_name, begins_name, continues_name}
@@ -8,8 +8,10 @@ use Rattle.dds_source.specs.declared.lines.Line.{Line}
 use Rattle.dds_source.specs.declared.specifications.Specification.{Specification}
 use Rattle.dds_source.specs.declared.specifications.Source.{Source}
 use Rattle.dds_source.specs.declared.specifications.NameEntry.TheVariants as names
-use Rattle.dds_source.specs.Characters.{is_blank, is_digit, is_small_letter, folded}
-use Rattle.dds_source.specs.Lines.{positions, line_of, next_number, numbered, counts, counted_lines, last_number, last_line, has_entries}
+use Rattle.text_lines.specs.Lines.{is_blank, lines_of, onto_first}
+use Rattle.text_lines.specs.Decimal.{is_digit}
+use Rattle.text_lines.specs.Characters.{is_small_letter, folded}
+use Rattle.dds_source.specs.Lines.{line_of, next_number, numbered, counts, counted_lines, last_number, last_line, has_entries}
 use Rattle.dds_source.specs.Entries.{letter, line_faults}
 use Rattle.dds_source.specs.Continuation.{goes_on, joined, joined_text}
 use Rattle.dds_source.specs.KeywordTexts.{keywords_in}
@@ -103,7 +105,7 @@ folded_plain (c ∷ cs) h =
     let large : is_small_letter c ≡ false = grind arith in
     rw large (ap (λ (xs : List ℕ). c ∷ xs) (folded_plain cs parts.1))
 
-cut_plain : (cs rest : List ℕ) → are_plain cs ≡ true → slice_split (λ c. c == 10) (cs ++ 10 ∷ rest) ≡ cs ∷ slice_split (λ c. c == 10) rest
+cut_plain : (cs rest : List ℕ) → are_plain cs ≡ true → lines_of (cs ++ 10 ∷ rest) ≡ cs ∷ lines_of rest
 cut_plain [] rest h = refl
 cut_plain (c ∷ cs) rest h =
     let parts = plain_parts c cs h in
@@ -148,22 +150,18 @@ rows number (w ∷ ws) = line_in_columns number (line_written w) ∷ rows (next_
 abbrev single : Line → List Line
 single line = line ∷ []
 
-counted_none : (number : ℕ) → filter counts (numbered number ([] ∷ [])) ≡ []
-unfolding line_of positions
-counted_none number = refl
-
 line_counted : (line : Line) (lines : List Line) → counts line ≡ true → filter counts (line ∷ lines) ≡ line ∷ filter counts lines
 line_counted line lines h = rw h refl
 
-counted_rows : (ws : List Written) (number : ℕ) → AllFit ws → filter counts (numbered number (slice_split (λ c. c == 10) (text_written ws))) ≡ rows number ws
-counted_rows [] number h = counted_none number
+counted_rows : (ws : List Written) (number : ℕ) → AllFit ws → filter counts (numbered number (lines_of (text_written ws))) ≡ rows number ws
+counted_rows [] number h = refl
 counted_rows (w ∷ ws) number h =
     let r = written_reads number w h.0 in
     let line : line_of number (line_written w) ≡ line_in_columns number (line_written w) = r.line ∙ ap (line_in_columns number) (folded_plain (line_written w) (line_plain w h.0)) in
-    ap (λ (t : List ℕ). filter counts (numbered number (slice_split (λ c. c == 10) t))) (append_assoc (line_written w) (10 ∷ []) (text_written ws))
+    ap (λ (t : List ℕ). filter counts (numbered number (lines_of t))) (append_assoc (line_written w) (10 ∷ []) (text_written ws))
     ∙ ap (λ (ts : List (List ℕ)). filter counts (numbered number ts)) (cut_plain (line_written w) (text_written ws) (line_plain w h.0))
-    ∙ ap (λ (l : Line). filter counts (l ∷ numbered (next_number number) (slice_split (λ c. c == 10) (text_written ws)))) line
-    ∙ line_counted (line_in_columns number (line_written w)) (numbered (next_number number) (slice_split (λ c. c == 10) (text_written ws))) r.counted
+    ∙ ap (λ (l : Line). filter counts (l ∷ numbered (next_number number) (lines_of (text_written ws)))) line
+    ∙ line_counted (line_in_columns number (line_written w)) (numbered (next_number number) (lines_of (text_written ws))) r.counted
     ∙ ap (λ (ls : List Line). line_in_columns number (line_written w) ∷ ls) (counted_rows ws (next_number number) h.1)
 
 not_joined : (l m : Line) (ls : List Line) → goes_on l ≡ false → joined (l ∷ m ∷ ls) ≡ (l ∷ []) ∷ joined (m ∷ ls)

@@ -3,7 +3,7 @@ use Rattle.std.proofs.Common.{◌≡◌, ℕ, suc, ◌+◌, ◌-◌, ◌*◌, �
 use Rattle.std.specs.List.{list_all}
 use Rattle.std.proofs.lemmas.List.{drop_more}
 use Rattle.std.proofs.Math.Nat.{pow-le-pow_right, pow-suc}
-use Rattle.dds_source.specs.Characters.{is_digit}
+use Rattle.text_lines.specs.Decimal.{is_digit}
 use Rattle.dds_source.specs.Numbers.{decimal, decimal_after}
 use Rattle.std.proofs.Common.{◌==◌, Some}
 use Rattle.std.specs.List.{before_first, after_first}

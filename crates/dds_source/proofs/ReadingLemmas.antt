@@ -13,7 +13,8 @@ use Rattle.dds_source.specs.declared.keywords.Keyword.{Keyword}
 use Rattle.dds_source.specs.declared.specifications.Specification.{Specification}
 use Rattle.dds_source.specs.declared.specifications.SpecificationKind.TheVariants as kinds
 use Rattle.dds_source.specs.declared.specifications.Source.{Source}
-use Rattle.dds_source.specs.Characters.{is_letter, is_digit}
+use Rattle.dds_source.specs.Characters.{is_letter}
+use Rattle.text_lines.specs.Decimal.{is_digit}
 use Rattle.dds_source.specs.Faults.{first_after}
 use Rattle.dds_source.specs.Entries.{when}
 use Rattle.dds_source.specs.Lines.{at, has_entries}

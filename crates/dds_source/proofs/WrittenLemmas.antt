@@ -8,7 +8,8 @@ use Rattle.std.proofs.lemmas.List.{drop_at}
 use Rattle.field_types.specs.SystemName.{is_name, begins_name, continues_name}
 use Rattle.dds_source.specs.declared.specifications.NameEntry.TheVariants as names
 use Rattle.dds_source.specs.declared.specifications.LengthEntry.TheVariants.{Exactly}
-use Rattle.dds_source.specs.Characters.{is_blank, are_blanks, is_digit}
+use Rattle.text_lines.specs.Lines.{is_blank, are_blanks}
+use Rattle.text_lines.specs.Decimal.{is_digit}
 use Rattle.dds_source.specs.Numbers.{decimal, from_first, are_digits, unsigned_entry, after_sign, signed_entry}
 use Rattle.dds_source.specs.Entries.{name_entry, letter}
 use Rattle.dds_source.specs.Written.{left, right, number_said, length_said, letter_said, is_letter_or_blank}

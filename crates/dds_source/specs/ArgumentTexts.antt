@@ -1,15 +1,15 @@
 -- Which arguments stand in the parentheses of a keyword.
 -- (DDS for Physical and Logical Files, "Syntax rules for DDS keywords and parameter values".)
-use Rattle.std.specs.Prelude.{ℕ, ◌+◌, ◌-◌, Bool, true, false, not, ◌&&◌, ◌||◌, ◌==◌, nat_le, List, [], ◌∷◌, ◌++◌, length, take, slice_index, slice_range, Option, Some, None, is_none, if◌then◌else◌, pos, neg_ℤ, ℤ}
+use Rattle.std.specs.Prelude.{ℕ, ◌+◌, ◌-◌, Bool, true, false, not, ◌&&◌, ◌||◌, ◌==◌, nat_le, List, [], ◌∷◌, ◌++◌, length, take, slice_index, slice_range, Option, Some, None, is_some, option_and_then, if◌then◌else◌, pos, neg_ℤ, ℤ}
 use Rattle.std.specs.List.{before_first, after_first, list_any, list_all}
 use Rattle.std.specs.Option.{option_map, option_map_or}
-use Rattle.std.specs.Result.{result_ok}
-use Rattle.hex.specs.Hex.{decode_of}
 use Rattle.field_types.specs.SystemName.{is_name}
+use Rattle.text_lines.specs.Characters.{hex_digit_value, hex_byte}
 use Rattle.field_types.specs.declared.values.Dec.{Dec}
 use Rattle.dds_source.specs.declared.arguments.Argument.{Argument}
 use Rattle.dds_source.specs.declared.arguments.Argument.TheVariants as arguments
-use Rattle.dds_source.specs.Characters.{is_blank, is_digit}
+use Rattle.text_lines.specs.Lines.{is_blank}
+use Rattle.text_lines.specs.Decimal.{is_digit}
 use Rattle.dds_source.specs.Continuation.{toggled}
 use Rattle.dds_source.specs.Numbers.{decimal, are_digits}
 use Rattle.dds_source.specs.KeywordTexts.{unless_empty, is_unfinished}
@@ -53,12 +53,28 @@ begins_hexadecimal [] = false
 begins_hexadecimal (c ∷ []) = false
 begins_hexadecimal (c ∷ d ∷ cs) = (c == 88) && (d == 39)
 
--- the bytes of a literal X'..', two digits for each
-abbrev pub hexadecimal_bytes : List ℕ → Option (List ℕ)
-hexadecimal_bytes word =
+-- what stands in the apostrophes of a literal X'..'
+abbrev pub hexadecimal_digits : List ℕ → Option (List ℕ)
+hexadecimal_digits word =
     if begins_hexadecimal word && nat_le 3 (length word) && (slice_index word (length word - 1) == 39)
-    then result_ok (decode_of (slice_range word 2 (length word - 1)))
+    then Some (slice_range word 2 (length word - 1))
     else None
+
+-- a byte in front of others
+abbrev pub onto_bytes : Option ℕ → Option (List ℕ) → Option (List ℕ)
+onto_bytes None bytes = None
+onto_bytes (Some byte) None = None
+onto_bytes (Some byte) (Some bytes) = Some (byte ∷ bytes)
+
+-- the bytes of hexadecimal digits, two for each
+abbrev pub bytes_of_digits : List ℕ → Option (List ℕ)
+bytes_of_digits [] = Some []
+bytes_of_digits (c ∷ []) = None
+bytes_of_digits (c ∷ d ∷ cs) = onto_bytes (hex_byte (hex_digit_value c) (hex_digit_value d)) (bytes_of_digits cs)
+
+-- the bytes of a literal X'..'
+abbrev pub hexadecimal_bytes : List ℕ → Option (List ℕ)
+hexadecimal_bytes word = option_and_then bytes_of_digits (hexadecimal_digits word)
 
 -- inside apostrophes behind these characters
 abbrev pub is_quoted_behind : Bool → List ℕ → Bool
@@ -67,7 +83,7 @@ is_quoted_behind quoted (c ∷ cs) = is_quoted_behind (toggled quoted c) cs
 
 -- begins as X'..', is closed, and has no bytes
 abbrev pub is_bad_hexadecimal : List ℕ → Bool
-is_bad_hexadecimal word = begins_hexadecimal word && not (is_quoted_behind false word) && is_none (hexadecimal_bytes word)
+is_bad_hexadecimal word = begins_hexadecimal word && not (is_quoted_behind false word) && not (is_some (hexadecimal_bytes word))
 
 -- Numbers.
 

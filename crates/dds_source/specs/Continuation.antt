@@ -4,7 +4,8 @@ use Rattle.std.specs.Prelude.{ℕ, ◌+◌, ◌-◌, Bool, false, not, ◌&&◌,
 use Rattle.std.specs.List.{onto_first, prefix_len, suffix_len}
 use Rattle.dds_source.specs.declared.lines.Line.{Line}
 use Rattle.dds_source.specs.declared.characters.SourceCharacter.{SourceCharacter}
-use Rattle.dds_source.specs.Characters.{is_blank, folded}
+use Rattle.text_lines.specs.Lines.{is_blank}
+use Rattle.text_lines.specs.Characters.{folded}
 use Rattle.dds_source.specs.Lines.{has_entries}
 
 -- how many of the positions from 45 on are used, up to the last that isn't blank

@@ -12,7 +12,7 @@ use Rattle.dds_source.specs.declared.specifications.SpecificationKind.TheVariant
 use Rattle.dds_source.specs.declared.specifications.NameEntry.{NameEntry}
 use Rattle.dds_source.specs.declared.specifications.NameEntry.TheVariants as names
 use Rattle.dds_source.specs.declared.specifications.Columns.{Columns}
-use Rattle.dds_source.specs.Characters.{is_blank, are_blanks}
+use Rattle.text_lines.specs.Lines.{is_blank, are_blanks}
 use Rattle.dds_source.specs.Lines.{at, entry}
 use Rattle.dds_source.specs.Numbers.{signed_entry, unsigned_entry}
 

@@ -4,7 +4,9 @@ use Rattle.std.specs.Prelude.{ℕ, ◌+◌, ◌-◌, Bool, false, not, ◌&&◌,
 use Rattle.std.specs.List.{list_all, before_first, list_any}
 use Rattle.dds_source.specs.declared.characters.SourceCharacter.{SourceCharacter}
 use Rattle.dds_source.specs.declared.characters.Place.{Place}
-use Rattle.dds_source.specs.Characters.{is_blank, is_digit, is_letter}
+use Rattle.text_lines.specs.Lines.{is_blank}
+use Rattle.text_lines.specs.Decimal.{is_digit}
+use Rattle.dds_source.specs.Characters.{is_letter}
 use Rattle.dds_source.specs.Continuation.{toggled}
 
 -- inside apostrophes or not, and inside how many parentheses: outside all of them

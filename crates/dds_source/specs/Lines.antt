@@ -1,10 +1,10 @@
 -- What a text's lines are, which characters stand in their positions, and which lines count.
 -- (DDS for Physical and Logical Files, "Positions 1 through 44".)
 use Rattle.std.specs.Prelude.{ℕ, ◌+◌, ◌-◌, Bool, not, ◌&&◌, ◌||◌, ◌==◌, List, [], ◌∷◌, ◌++◌, length, take, drop, map, filter, replicate, slice_index, slice_range, if◌then◌else◌}
-use Rattle.std.specs.List.{slice_split}
 use Rattle.std.specs.Str.Lines.{strip_carriage_return}
 use Rattle.dds_source.specs.declared.lines.Line.{Line}
-use Rattle.dds_source.specs.Characters.{are_blanks, folded}
+use Rattle.text_lines.specs.Lines.{are_blanks, lines_of}
+use Rattle.text_lines.specs.Characters.{folded}
 
 -- the 80 positions of a line: without a carriage return at its end, cut at 80, with blanks behind a short one
 unfoldable pub positions : List ℕ → List ℕ
@@ -54,7 +54,7 @@ counts line = not (is_comment line || is_empty line)
 
 -- the lines of a text that count
 unfoldable pub counted_lines : List ℕ → List Line
-counted_lines text = filter counts (numbered 1 (slice_split (λ c. c == 10) text))
+counted_lines text = filter counts (numbered 1 (lines_of text))
 
 -- an entry in positions 17 to 44: the line is a specification, and not more keywords for one
 abbrev pub has_entries : Line → Bool

@@ -5,7 +5,8 @@ use Rattle.std.specs.List.{list_all}
 use Rattle.std.specs.Option.{option_map}
 use Rattle.dds_source.specs.declared.specifications.LengthEntry.{LengthEntry}
 use Rattle.dds_source.specs.declared.specifications.LengthEntry.TheVariants.{Exactly, Longer, Shorter}
-use Rattle.dds_source.specs.Characters.{is_blank, is_digit}
+use Rattle.text_lines.specs.Lines.{is_blank}
+use Rattle.text_lines.specs.Decimal.{is_digit}
 
 -- the number that digits spell behind a number already read
 abbrev pub decimal_after : ℕ → List ℕ → ℕ

@@ -10,7 +10,8 @@ use Rattle.dds_source.specs.declared.specifications.SpecificationKind.TheVariant
 use Rattle.dds_source.specs.declared.specifications.NameEntry.TheVariants as names
 use Rattle.dds_source.specs.declared.specifications.LengthEntry.{LengthEntry}
 use Rattle.dds_source.specs.declared.specifications.LengthEntry.TheVariants.{Exactly}
-use Rattle.dds_source.specs.Characters.{is_digit, is_letter}
+use Rattle.text_lines.specs.Decimal.{is_digit}
+use Rattle.dds_source.specs.Characters.{is_letter}
 use Rattle.dds_source.specs.Lines.{next_number}
 use Rattle.dds_source.specs.Numbers.{decimal}
 

@@ -1,20 +1,18 @@
 //! Which arguments stand in the parentheses of a keyword.
-ghost use Rattle.std.specs.Prelude.{◌≡◌, ℕ, ◌+◌, ◌-◌, ◌<◌, ◌≤◌, ◌==◌, Bool, false, List, [], ◌∷◌, ◌++◌, length, take, drop, map, Option, IfOk, is_none};
+ghost use Rattle.std.specs.Prelude.{◌≡◌, ℕ, ◌+◌, ◌-◌, ◌<◌, ◌≤◌, ◌==◌, Bool, false, List, [], ◌∷◌, ◌++◌, length, take, drop, map, Option, IfOk, IsTrue, is_some, Some, None, Ok};
 ghost use Rattle.std.specs.List.{list_any};
-ghost use Rattle.std.specs.Result.{result_ok};
 ghost use Rattle.std.specs.Option.{option_map};
-ghost use Rattle.hex.specs.Hex.{decode_of};
-ghost use Rattle.dds_source.specs.ArgumentTexts.{argument_part, argument_texts, arguments_in, text_behind, quoted_text, begins_hexadecimal, hexadecimal_bytes, is_quoted_behind, is_bad_hexadecimal, begins_with_asterisk, word_of, argument_of};
+ghost use Rattle.dds_source.specs.ArgumentTexts.{argument_part, argument_texts, arguments_in, text_behind, quoted_text, begins_hexadecimal, hexadecimal_digits, hexadecimal_bytes, bytes_of_digits, is_quoted_behind, is_bad_hexadecimal, begins_with_asterisk, word_of, argument_of};
 
 use crate::arguments::{Argument, Arguments, Characters};
 use crate::continuation::toggled;
 use crate::keyword_texts::{after_parenthesis, is_unfinished};
-use crate::lines::is_blank;
 use crate::number_literals::number;
 use field_types::names::Name;
 use field_types::texts::Text;
-use hex::FromHexError;
 use std::alloc::{AllocError, Global};
+use text_lines::characters::hex_byte;
+use text_lines::lines::is_blank;
 
 /// What stands between the outermost parentheses.
 fn argument_part(keyword: &[u8]) -> &[u8]
@@ -42,7 +40,7 @@ pub(crate) fn arguments(alloc: Global, keyword: &[u8]) -> Result<(Arguments, boo
             rest = &rest[1..];
         } else {
             let (word, after) = rest.split_at(len);
-            let is_bad_word = is_bad_hexadecimal(alloc, word)?;
+            let is_bad_word = is_bad_hexadecimal(word);
             is_bad = is_bad || is_bad_word;
             arguments.push(argument_of(alloc, word)?)?;
             rest = after;
@@ -140,24 +138,64 @@ fn begins_hexadecimal(word: &[u8]) -> bool
     matches!(word, [b'X', b'\'', ..])
 }
 
-/// The bytes of a literal `X'..'`.
+/// The bytes of a literal `X'..'`; `None` is answered whatever memory there is.
 fn hexadecimal_bytes(alloc: Global, word: &[u8]) -> Result<Option<Vec<u8>>, AllocError>
-    ensures { IfOk result (λ bytes. option_map (λ v. v.items) bytes ≡ hexadecimal_bytes word.now) }
+    ensures value { IfOk result (λ bytes. option_map (λ v. v.items) bytes ≡ hexadecimal_bytes word.now) }
+    ensures none { hexadecimal_bytes word.now ≡ None → result ≡ Ok None }
 {
-    match word {
-        [b'X', b'\'', digits @ .., b'\''] => decoded(alloc, digits),
-        _ => Ok(None),
+    match hexadecimal_digits(word) {
+        Some(digits) => digit_bytes(alloc, digits),
+        None => Ok(None),
     }
 }
 
-fn decoded(alloc: Global, digits: &[u8]) -> Result<Option<Vec<u8>>, AllocError>
-    ensures { IfOk result (λ bytes. option_map (λ v. v.items) bytes ≡ result_ok (decode_of digits.now)) }
+fn digit_bytes(alloc: Global, digits: &[u8]) -> Result<Option<Vec<u8>>, AllocError>
+    ensures value { IfOk result (λ bytes. option_map (λ v. v.items) bytes ≡ bytes_of_digits digits.now) }
+    ensures none { bytes_of_digits digits.now ≡ None → result ≡ Ok None }
 {
-    match hex::decode(alloc, digits) {
-        Ok(bytes) => Ok(Some(bytes)),
-        Err(FromHexError::OutOfMemory) => Err(AllocError),
-        Err(_) => Ok(None),
+    if are_byte_digits(digits) {
+        Ok(Some(decoded(alloc, digits)?))
+    } else {
+        Ok(None)
     }
+}
+
+fn hexadecimal_digits(word: &[u8]) -> Option<&[u8]>
+    ensures { option_map (λ digits. digits.now) result ≡ hexadecimal_digits word.now }
+{
+    match word {
+        [b'X', b'\'', digits @ .., b'\''] => Some(digits),
+        _ => None,
+    }
+}
+
+/// Whether they are pairs of hexadecimal digits.
+fn are_byte_digits(digits: &[u8]) -> bool
+    ensures { result ≡ is_some (bytes_of_digits digits.now) }
+{
+    let mut rest = digits;
+    while let [high, low, more @ ..] = rest {
+        if hex_byte(*high, *low).is_none() {
+            return false;
+        }
+        rest = more;
+    }
+    rest.is_empty()
+}
+
+fn decoded(alloc: Global, digits: &[u8]) -> Result<Vec<u8>, AllocError>
+    requires { IsTrue (is_some (bytes_of_digits digits.now)) }
+    ensures { IfOk result (λ bytes. Some bytes.items ≡ bytes_of_digits digits.now) }
+{
+    let mut bytes = Vec::with_capacity(alloc, digits.len() / 2)?;
+    let mut rest = digits;
+    while let [high, low, more @ ..] = rest {
+        if let Some(byte) = hex_byte(*high, *low) {
+            bytes.push(byte)?;
+        }
+        rest = more;
+    }
+    Ok(bytes)
 }
 
 fn is_quoted_behind(text: &[u8]) -> bool
@@ -170,11 +208,17 @@ fn is_quoted_behind(text: &[u8]) -> bool
     quoted
 }
 
-fn is_bad_hexadecimal(alloc: Global, word: &[u8]) -> Result<bool, AllocError>
-    ensures { IfOk result (λ bad. bad ≡ is_bad_hexadecimal word.now) }
+fn is_bad_hexadecimal(word: &[u8]) -> bool
+    ensures { result ≡ is_bad_hexadecimal word.now }
 {
-    if !begins_hexadecimal(word) || is_quoted_behind(word) {
-        return Ok(false);
+    begins_hexadecimal(word) && !is_quoted_behind(word) && !is_hexadecimal(word)
+}
+
+fn is_hexadecimal(word: &[u8]) -> bool
+    ensures { result ≡ is_some (hexadecimal_bytes word.now) }
+{
+    match hexadecimal_digits(word) {
+        Some(digits) => are_byte_digits(digits),
+        None => false,
     }
-    Ok(hexadecimal_bytes(alloc, word)?.is_none())
 }

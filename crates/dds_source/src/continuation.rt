@@ -1,12 +1,15 @@
 //! How keywords go on from line to line, and the text that they make.
 ghost use Rattle.std.specs.Prelude.{◌≡◌, ℕ, ◌+◌, ◌-◌, ◌<◌, ◌≤◌, Bool, false, List, ◌∷◌, ◌++◌, length, take, drop, OnOk, IfOk, if◌then◌else◌};
 ghost use Rattle.std.specs.List.{suffix_len, prefix_len};
-ghost use Rattle.dds_source.specs.Characters.{is_blank, folded};
+ghost use Rattle.text_lines.specs.Lines.{is_blank};
+ghost use Rattle.text_lines.specs.Characters.{folded};
 ghost use Rattle.dds_source.specs.Continuation.{used, last_character, ends_in_plus, ends_in_minus, goes_on, is_continued_by, joined, text_end, text_start, line_text, raw_text, toggled, folded_outside, joined_text};
 
 use crate::characters::SourceCharacter;
-use crate::lines::{Line, folded, is_blank};
+use crate::lines::Line;
 use std::alloc::{AllocError, Global};
+use text_lines::characters::folded;
+use text_lines::lines::is_blank;
 
 impl Line {
     /// How many of the positions from 45 on are used.

@@ -2,16 +2,17 @@
 ghost use Rattle.std.specs.Prelude.{◌≡◌, ◌<◌, ◌==◌, Bool, length, ◌≤◌, position, nat_eq, codes};
 ghost use Rattle.std.specs.List.{before_first};
 ghost use Rattle.std.specs.Cmp.Lexicographic.{pointwise};
-ghost use Rattle.dds_source.specs.Characters.{is_blank};
+ghost use Rattle.text_lines.specs.Lines.{is_blank};
 ghost use Rattle.dds_source.specs.Faults.{first_after};
 ghost use Rattle.dds_source.specs.Entries.{stays_blank, is_kind, may_stand, column_faults, name_entry, name_of_line, wants_name, is_name_wrong, is_reference, is_length_wrong, are_decimals_wrong, line_faults, kind_of, letter, name_or_blank, columns_of};
 
 use crate::faults::{DdsCause, DdsFault};
 use crate::first::FirstFault;
-use crate::lines::{Line, are_blanks, is_blank};
+use crate::lines::Line;
 use crate::numbers::{signed_entry, unsigned_entry};
 use crate::specifications::{Columns, NameEntry, SpecificationKind};
 use field_types::names::Name;
+use text_lines::lines::{are_blanks, is_blank};
 
 impl Line {
     /// Notes what is wrong with the entries.

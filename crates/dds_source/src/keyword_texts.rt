@@ -1,14 +1,15 @@
 //! Where the keywords of a text begin and end, and their names.
 ghost use Rattle.std.specs.Prelude.{◌≡◌, ℕ, ◌+◌, ◌-◌, ◌<◌, ◌≤◌, ◌^◌, ◌==◌, ◌||◌, Bool, List, [], ◌∷◌, length, take, drop, IfOk, position};
 ghost use Rattle.std.specs.List.{list_any, list_all, before_first, after_first};
-ghost use Rattle.dds_source.specs.Characters.{is_letter, is_digit};
+ghost use Rattle.dds_source.specs.Characters.{is_letter};
+ghost use Rattle.text_lines.specs.Decimal.{is_digit};
 ghost use Rattle.dds_source.specs.KeywordTexts.{outside, is_outside, behind, behind_all, closes, keyword_texts, keywords_in, bytes, is_keyword_name, name_part, has_parentheses, is_unfinished};
 
 use crate::characters::{Place, SourceCharacter};
 use crate::continuation::toggled;
-use crate::lines::is_blank;
-use crate::numbers::is_digit;
 use std::alloc::{AllocError, Global};
+use text_lines::decimals::is_digit;
+use text_lines::lines::is_blank;
 
 impl Place {
     fn outside() -> Place

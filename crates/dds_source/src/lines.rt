@@ -1,11 +1,13 @@
 //! Lines with their numbers and positions, and which of them count.
 ghost use Rattle.std.specs.Prelude.{◌≡◌, ℕ, ◌+◌, ◌-◌, ◌<◌, ◌≤◌, ◌==◌, length, take, position, map, if◌then◌else◌, ◌∷◌, [], ◌++◌, filter, IfOk, OnOk, MatchOption};
-ghost use Rattle.std.specs.List.{slice_split};
 ghost use Rattle.std.specs.Str.Lines.{strip_carriage_return};
-ghost use Rattle.dds_source.specs.Characters.{is_blank, are_blanks, folded};
+ghost use Rattle.text_lines.specs.Lines.{is_blank, are_blanks};
+ghost use Rattle.text_lines.specs.Characters.{folded};
 ghost use Rattle.dds_source.specs.Lines.{positions, line_of, next_number, last_number, last_line, at, entry, is_comment, is_empty, counts, counted_lines, has_entries};
 
 use std::alloc::{AllocError, Global};
+use text_lines::characters::folded;
+use text_lines::lines::{are_blanks, split_line};
 
 /// A line that counts.
 #[derive(Drop)]
@@ -85,10 +87,9 @@ pub(crate) fn counted_lines(alloc: Global, text: &[u8]) -> Result<Vec<Line>, All
 {
     let mut lines = Vec::new(alloc);
     let mut number = 1;
-    let mut rest = Some(text);
-    while let Some(text) = rest {
-        let (first, more) = first_line(text);
-        push_counted(&mut lines, Line::new(number, first))?;
+    let mut rest = text;
+    while let Some((line, more)) = split_line(rest) {
+        push_counted(&mut lines, Line::new(number, line))?;
         number = next_number(number);
         rest = more;
     }
@@ -102,23 +103,6 @@ fn push_counted(lines: &mut Vec<Line>, line: Line) -> Result<(), AllocError>
         lines.push(line)?;
     }
     Ok(())
-}
-
-/// The first line, and what follows its line feed.
-fn first_line(text: &[u8]) -> (&[u8], Option<&[u8]>)
-    ensures { MatchOption result.1 (slice_split (λ c. c == 10) text.now ≡ result.0.now ∷ [])
-        (λ rest. (slice_split (λ c. c == 10) text.now ≡ result.0.now ∷ slice_split (λ c. c == 10) rest.now) × (length rest.now < length text.now)) }
-{
-    match line_feed(text) {
-        Some(end) => (&text[..end], Some(&text[end + 1..])),
-        None => (text, None),
-    }
-}
-
-fn line_feed(text: &[u8]) -> Option<usize>
-    ensures { result ≡ position (λ c. c == 10) text.now }
-{
-    text.iter().position(|&c| c == b'\n')
 }
 
 fn next_number(number: u32) -> u32
@@ -199,24 +183,4 @@ fn fold(text: &mut [u8])
     for i in 0..text.len() {
         text[i] = folded(text[i]);
     }
-}
-
-/// A letter in upper case, any other character as it is.
-pub(crate) fn folded(c: u8) -> u8
-    ensures { result ≡ folded c }
-{
-    if c.is_ascii_lowercase() { c - 32 } else { c }
-}
-
-/// A blank, or a tab, which stands for one.
-pub(crate) fn is_blank(c: u8) -> bool
-    ensures { result ≡ is_blank c }
-{
-    c == b' ' || c == b'\t'
-}
-
-pub(crate) fn are_blanks(text: &[u8]) -> bool
-    ensures { result ≡ are_blanks text.now }
-{
-    text.iter().all(|&c| is_blank(c))
 }

@@ -1,7 +1,7 @@
 //! Number literals: perhaps a minus sign, digits, and perhaps a point and more digits.
 ghost use Rattle.std.specs.Prelude.{◌≡◌, ℕ, ◌+◌, ◌<◌, ◌≤◌, ◌++◌, ◌==◌, ◌^◌, length, position, IsTrue, Option};
 ghost use Rattle.std.specs.List.{before_first, after_first, list_any, list_all};
-ghost use Rattle.dds_source.specs.Characters.{is_digit};
+ghost use Rattle.text_lines.specs.Decimal.{is_digit};
 ghost use Rattle.dds_source.specs.Numbers.{decimal};
 ghost use Rattle.dds_source.specs.ArgumentTexts.{is_unsigned, number_of, number, signed};
 

@@ -2,11 +2,12 @@
 ghost use Rattle.std.specs.Prelude.{◌≡◌, ℕ, ◌+◌, ◌*◌, ◌^◌, ◌<◌, ◌≤◌, Bool, length, IsTrue, IfSome};
 ghost use Rattle.std.specs.Option.{option_map};
 ghost use Rattle.std.specs.List.{list_all};
-ghost use Rattle.dds_source.specs.Characters.{is_digit};
+ghost use Rattle.text_lines.specs.Decimal.{is_digit};
 ghost use Rattle.dds_source.specs.Numbers.{decimal, decimal_after, from_first, are_digits, unsigned_entry, after_sign, signed_entry};
 
-use crate::lines::is_blank;
 use crate::specifications::LengthEntry;
+use text_lines::decimals::is_digit;
+use text_lines::lines::is_blank;
 
 /// The number that digits spell.
 pub(crate) fn decimal(digits: &[u8]) -> u128
@@ -43,12 +44,6 @@ pub(crate) fn all_digits(text: &[u8]) -> bool
     ensures { result ≡ list_all is_digit text.now }
 {
     text.iter().all(|&c| is_digit(c))
-}
-
-pub(crate) fn is_digit(c: u8) -> bool
-    ensures { result ≡ is_digit c }
-{
-    matches!(c, b'0'..=b'9')
 }
 
 /// From the first character on that isn't blank.

@@ -8,9 +8,10 @@ ghost use Rattle.dds_source.specs.Numbers.{unsigned_entry};
 ghost use Rattle.dds_source.specs.Reading.{specification_of, is_condition, is_selection, is_blank_name, lacks_all};
 
 use crate::keywords::Keywords;
-use crate::lines::{Line, is_blank};
+use crate::lines::Line;
 use crate::numbers::{signed_entry, unsigned_entry};
 use crate::specifications::{Columns, NameEntry, Specification, SpecificationKind};
+use text_lines::lines::is_blank;
 
 impl Line {
     /// The specification that it begins, behind a condition or not.

@@ -1,11 +1,12 @@
 -- Character literals: the bytes in code page 037 that one stands for, and the values of a VAL parameter.
 -- (CL reference, "Character strings" and "Hexadecimal values".)
-use Rattle.std.specs.Prelude.{ℕ, ◌+◌, ◌-◌, ◌*◌, Bool, true, false, ◌<◌, if◌then◌else◌, ◌==◌, nat_le, ◌&&◌, nat_eq, Option, Some, None, List, [], ◌∷◌, length, codes, option_and_then}
+use Rattle.std.specs.Prelude.{ℕ, Bool, true, false, ◌<◌, if◌then◌else◌, ◌==◌, nat_le, ◌&&◌, nat_eq, Option, Some, None, List, [], ◌∷◌, length, codes, option_and_then}
 use Rattle.std.specs.Cmp.Lexicographic.{pointwise}
 use Rattle.ebc_text.specs.CodePage.{ebcdic_of}
 use Rattle.field_types.specs.declared.values.Value.{Value}
 use Rattle.field_types.specs.declared.values.Value.TheVariants.{Chars}
 use Rattle.plain_format.specs.declared.formats.Field.{Field}
+use Rattle.text_lines.specs.Characters.{hex_digit_value, hex_byte}
 use Rattle.job_script.specs.declared.literals.Next.{Next}
 use Rattle.job_script.specs.declared.literals.Next.TheVariants.{Byte, Closed, Missing}
 use Rattle.job_script.specs.Texts.{behind}
@@ -24,24 +25,11 @@ quoted (c ∷ d ∷ text) =
     if c == 39 then (if d == 39 then before (ebcdic_of 39) (quoted text) else Some ([], d ∷ text))
     else before (ebcdic_of c) (quoted (d ∷ text))
 
--- the value of a hexadecimal digit in either case
-abbrev pub hex_digit : ℕ → Option ℕ
-hex_digit c =
-    if nat_le 48 c && nat_le c 57 then Some (c - 48)
-    else (if nat_le 65 c && nat_le c 70 then Some (c - 55)
-    else (if nat_le 97 c && nat_le c 102 then Some (c - 87) else None))
-
--- the byte of two digits
-abbrev pub hex_byte : Option ℕ → Option ℕ → Option ℕ
-hex_byte None low = None
-hex_byte (Some high) None = None
-hex_byte (Some high) (Some low) = Some (16 * high + low)
-
 -- the bytes of pairs of digits up to an apostrophe, and what is behind it
 abbrev pub hexadecimal : List ℕ → Option (List ℕ × List ℕ)
 hexadecimal [] = None
 hexadecimal (c ∷ []) = if c == 39 then Some ([], []) else None
-hexadecimal (c ∷ d ∷ text) = if c == 39 then Some ([], d ∷ text) else before (hex_byte (hex_digit c) (hex_digit d)) (hexadecimal text)
+hexadecimal (c ∷ d ∷ text) = if c == 39 then Some ([], d ∷ text) else before (hex_byte (hex_digit_value c) (hex_digit_value d)) (hexadecimal text)
 
 -- the bytes behind the apostrophe that opens a literal of either kind, up to the one that closes it, and what is behind that
 abbrev pub literal_bytes : Bool → List ℕ → Option (List ℕ × List ℕ)

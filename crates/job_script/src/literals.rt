@@ -1,6 +1,6 @@
 //! Character literals and the values of a VAL parameter, by `specs/Literals.antt`.
-ghost use Rattle.std.specs.Prelude.{◌≡◌, ◌<◌, ◌≤◌, ℕ, List, Option, [], ◌∷◌, length, IfOk, IfSome, option_map};
-ghost use Rattle.job_script.specs.Literals.{before, quoted, hexadecimal, hex_digit, hex_byte, literal_bytes, literal_at, value_behind, values_behind, says, LeavesLess};
+ghost use Rattle.std.specs.Prelude.{◌≡◌, ◌<◌, ℕ, List, Option, [], ◌∷◌, length, IfOk, option_map};
+ghost use Rattle.job_script.specs.Literals.{before, quoted, hexadecimal, literal_bytes, literal_at, value_behind, values_behind, says, LeavesLess};
 
 use crate::cards::behind;
 use ebc_text::to_ebcdic_byte;
@@ -9,6 +9,7 @@ use field_types::values::Value;
 use library_model::value_lists::GivenValues;
 use plain_format::formats::Field;
 use std::alloc::{AllocError, Global};
+use text_lines::characters::hex_byte;
 
 /// The next byte of a literal, with what is behind it.
 pub enum Next<'a> {
@@ -153,25 +154,5 @@ fn byte_or_missing(byte: Option<u8>, rest: &[u8]) -> Next<'_>
     match byte {
         Some(byte) => Next::Byte(byte, rest),
         None => Next::Missing,
-    }
-}
-
-fn hex_byte(high: u8, low: u8) -> Option<u8>
-    ensures { result ≡ hex_byte (hex_digit high) (hex_digit low) }
-{
-    let high = hex_digit(high)?;
-    let low = hex_digit(low)?;
-    Some(16 * high + low)
-}
-
-fn hex_digit(digit: u8) -> Option<u8>
-    ensures value { result ≡ hex_digit digit }
-    ensures small { IfSome result (λ n. n ≤ 15) }
-{
-    match digit {
-        b'0'..=b'9' => Some(digit - b'0'),
-        b'A'..=b'F' => Some(digit - b'A' + 10),
-        b'a'..=b'f' => Some(digit - b'a' + 10),
-        _ => None,
     }
 }

@@ -1,5 +1,5 @@
 //! What has been read of an input, line by line, by `specs/LineByLine.antt`.
-ghost use Rattle.std.specs.Prelude.{◌≡◌, [], ◌∷◌, ◌++◌, OnOk, OnErr, IfOk};
+ghost use Rattle.std.specs.Prelude.{◌≡◌, [], ◌∷◌, ◌++◌, OnOk, IfOk};
 ghost use Rattle.job_script.specs.LineByLine.{step, first_step, bare_step, card_step, ended};
 ghost use Rattle.plain_format.specs.PlainSource.{finished};
 ghost use Rattle.job_script.specs.Cards.{card_name, job_word, dds_word, is_end, is_card};

@@ -5,6 +5,7 @@ use Rattle.std.specs.Option.{option_map, option_and_then}
 use Rattle.std.specs.List.{list_all, list_any, prefix_len}
 use Rattle.std.specs.Cmp.Lexicographic.{pointwise}
 use Rattle.std.specs.Prelude.{nat_eq, drop, not}
+use Rattle.text_lines.specs.Characters.{folded as in_upper_case}
 use Rattle.text_lines.specs.Lines.{lines_of, is_blank, name_alone}
 use Rattle.text_lines.specs.Decimal.{decimal_up_to}
 use Rattle.plain_format.specs.Packing.{record_length}
@@ -21,7 +22,7 @@ without_return line = if slice_index line (length line - 1) == 13 then take (len
 
 -- a character as a position has it: a tab is a blank, and letters are in upper case
 abbrev pub folded : ℕ → ℕ
-folded b = if b == 9 then 32 else (if nat_le 97 b && nat_le b 122 then b - 32 else b)
+folded b = if b == 9 then 32 else in_upper_case b
 
 -- positions 1 to 80, with blanks behind a short line
 abbrev pub columns : List ℕ → List ℕ

@@ -11,6 +11,7 @@ use crate::formats::{Field, Format};
 use field_types::names::Name;
 use std::alloc::{AllocError, Global};
 use text_lines::decimals::decimal;
+use text_lines::characters;
 use text_lines::lines::{blanks_before, is_blank, name_alone, split_line};
 
 /// What a line of a source says.
@@ -166,8 +167,7 @@ fn folded(byte: u8) -> u8
 {
     match byte {
         b'\t' => b' ',
-        b'a'..=b'z' => byte - 32,
-        _ => byte,
+        _ => characters::folded(byte),
     }
 }
 

@@ -22,6 +22,10 @@ text_of_lines lines = flat_map (λ line. line ++ 10 ∷ []) lines
 abbrev pub is_blank : ℕ → Bool
 is_blank b = (b == 32) || (b == 9)
 
+-- nothing but blanks
+abbrev pub are_blanks : List ℕ → Bool
+are_blanks text = list_all is_blank text
+
 -- how many characters stand before the first blank
 abbrev pub word_length : List ℕ → ℕ
 word_length text = position_or_len is_blank text
@@ -29,5 +33,5 @@ word_length text = position_or_len is_blank text
 -- the system name that stands at the front, with nothing but blanks behind it
 abbrev pub name_alone : List ℕ → Option (List ℕ)
 name_alone text =
-    if list_all is_blank (drop (word_length text) text) && is_name (take (word_length text) text)
+    if are_blanks (drop (word_length text) text) && is_name (take (word_length text) text)
     then Some (take (word_length text) text) else None

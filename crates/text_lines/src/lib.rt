@@ -1,6 +1,7 @@
-//! The lines of a text, and the blanks, names and numbers in a line.
+//! The lines of a text, the blanks, names and numbers in a line, and single characters.
 #![tactic(auto)]
 
+pub mod characters;
 pub mod decimals;
 pub mod lines;
 #[cfg(test)]

@@ -1,8 +1,8 @@
 //! Lines of a text one after another, and the name that a line holds.
 ghost use Rattle.std.specs.Prelude.{◌≡◌, ◌<◌, ◌∷◌, [], length, MatchOption};
 ghost use Rattle.std.specs.Prelude.{◌==◌, ◌≤◌};
-ghost use Rattle.std.specs.List.{list_all, position_or_len, prefix_len};
-ghost use Rattle.text_lines.specs.Lines.{is_blank, lines_of, name_alone, word_length};
+ghost use Rattle.std.specs.List.{position_or_len, prefix_len};
+ghost use Rattle.text_lines.specs.Lines.{is_blank, are_blanks, lines_of, name_alone, word_length};
 
 use field_types::names::Name;
 
@@ -50,15 +50,16 @@ pub fn name_alone(text: &[u8]) -> Option<Name>
     ensures { result ≡ name_alone text.now }
 {
     let length = word_length(text);
-    if is_all_blank(&text[length..]) {
+    if are_blanks(&text[length..]) {
         Name::from_bytes(&text[..length])
     } else {
         None
     }
 }
 
-fn is_all_blank(text: &[u8]) -> bool
-    ensures { result ≡ list_all is_blank text.now }
+/// Whether a text has nothing but blanks.
+pub fn are_blanks(text: &[u8]) -> bool
+    ensures { result ≡ are_blanks text.now }
 {
     text.iter().all(|&byte| is_blank(byte))
 }

@@ -1,6 +1,7 @@
 //! Lines, names and numbers of small texts.
+use crate::characters::{folded, hex_byte};
 use crate::decimals::decimal;
-use crate::lines::{blanks_before, name_alone, split_line};
+use crate::lines::{are_blanks, blanks_before, name_alone, split_line};
 use std::test::Fail;
 
 /// A text, its first line, and what is behind it.
@@ -34,6 +35,39 @@ const NUMBERS: [(&[u8], u32, Option<u32>); 7] = [
     (b"4294967296", u32::MAX, None),
 ];
 
+/// Two hexadecimal digits, and the byte; the neighbours of the digits are none.
+const PAIRS: [(u8, u8, Option<u8>); 9] = [
+    (b'0', b'9', Some(0x09)),
+    (b'A', b'f', Some(0xAF)),
+    (b'a', b'F', Some(0xAF)),
+    (b'/', b'0', None),
+    (b'0', b':', None),
+    (b'@', b'0', None),
+    (b'0', b'G', None),
+    (b'`', b'0', None),
+    (b'0', b'g', None),
+];
+
+/// Characters, and what they are in upper case.
+const FOLDED: [(u8, u8); 6] = [
+    (b'a', b'A'),
+    (b'z', b'Z'),
+    (b'`', b'`'),
+    (b'{', b'{'),
+    (b'\t', b'\t'),
+    (0xE4, 0xE4),
+];
+
+#[test]
+fn characters(rt: HostRuntime) {
+    for (high, low, wanted) in PAIRS {
+        assert_eq!(rt; hex_byte(high, low), wanted);
+    }
+    for (character, wanted) in FOLDED {
+        assert_eq!(rt; folded(character), wanted);
+    }
+}
+
 #[test]
 fn first_lines(rt: HostRuntime) {
     for (text, wanted) in TEXTS {
@@ -60,4 +94,6 @@ fn numbers(rt: HostRuntime) {
 fn blanks(rt: HostRuntime) {
     assert_eq!(rt; blanks_before(b" \t A "), 3);
     assert_eq!(rt; blanks_before(b"A "), 0);
+    assert!(rt; are_blanks(b" \t "));
+    assert!(rt; !are_blanks(b" A"));
 }

@@ -1,6 +1,6 @@
 use Rattle.std.proofs.Common.{◌≡◌, ◌≤◌, ◌+◌, ◌-◌, length, drop}
 use Rattle.std.specs.List.{prefix_len}
-use Rattle.dds_source.specs.Characters.{is_blank}
+use Rattle.text_lines.specs.Lines.{is_blank}
 use Rattle.dds_source.proofs.continuation.leading_blanks.Given as goal
 
 abbrev pub invariant-loop-count : goal.invariant-loop-count

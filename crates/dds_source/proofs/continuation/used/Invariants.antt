@@ -1,6 +1,6 @@
 use Rattle.std.proofs.Common.{◌≡◌, ◌≤◌, ◌+◌, length, take}
 use Rattle.std.specs.List.{suffix_len}
-use Rattle.dds_source.specs.Characters.{is_blank}
+use Rattle.text_lines.specs.Lines.{is_blank}
 use Rattle.dds_source.proofs.continuation.used.Given as goal
 
 abbrev pub invariant-loop-end : goal.invariant-loop-end

@@ -3,12 +3,11 @@ use Rattle.dds_source.specs.Lines.{counted_lines}
 use Rattle.dds_source.proofs.LineLemmas.{lines_more}
 use Rattle.dds_source.proofs.lines.counted_lines.Goals as goal
 
-pub loop-rest-init : goal.loop-rest-init
+pub loop-line-init : goal.loop-line-init
 unfolding counted_lines
-loop-rest-init c = search rules
+loop-line-init c = search rules
 
-pub loop-rest-preserved : goal.loop-rest-preserved
-loop-rest-preserved c =
-    let so_far = rw c.in-Some.is at c.loop-rest.invariant in
+pub loop-line-preserved : goal.loop-line-preserved
+loop-line-preserved c =
     rw (c.in_ok-push_counted.ensures, c.new.ensures, c.next_number-number.ensures)
-    (lines_more c.loop-rest.lines.items c.loop-rest.number c.in-Some.text.now c.first_line.result.0.now c.first_line.result.1 (counted_lines c.args.text.now) c.first_line.ensures so_far)
+    (lines_more c.loop-line.lines.items c.loop-line.number c.loop-line.rest.now c.in-Some.line.now c.in-Some.more.now (counted_lines c.args.text.now) c.in-Some.ensures.0 c.loop-line.invariant)

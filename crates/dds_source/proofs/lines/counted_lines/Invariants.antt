@@ -1,10 +1,11 @@
-use Rattle.std.proofs.Common.{◌≡◌, ◌++◌}
-use Rattle.dds_source.specs.Lines.{counted_lines}
-use Rattle.dds_source.proofs.LineLemmas.{lines_left, size_left}
+use Rattle.std.proofs.Common.{◌≡◌, ◌++◌, length}
+use Rattle.std.specs.Prelude.{filter}
+use Rattle.text_lines.specs.Lines.{lines_of}
+use Rattle.dds_source.specs.Lines.{counts, numbered, counted_lines}
 use Rattle.dds_source.proofs.lines.counted_lines.Given as goal
 
-abbrev pub invariant-loop-rest : goal.invariant-loop-rest
-invariant-loop-rest l = l.lines.items ++ lines_left l.number l.rest ≡ counted_lines l.fn.text
+abbrev pub invariant-loop-line : goal.invariant-loop-line
+invariant-loop-line l = l.lines.items ++ filter counts (numbered l.number (lines_of l.rest)) ≡ counted_lines l.fn.text
 
-abbrev pub decreases-loop-rest : goal.decreases-loop-rest
-decreases-loop-rest l = size_left l.rest
+abbrev pub decreases-loop-line : goal.decreases-loop-line
+decreases-loop-line l = length l.rest

@@ -1,5 +1,5 @@
 use Rattle.std.proofs.Common.{arith, rules}
-use Rattle.dds_source.specs.Characters.{folded}
+use Rattle.text_lines.specs.Characters.{folded}
 use Rattle.dds_source.proofs.LineLemmas.{fold_more}
 use Rattle.dds_source.proofs.lines.fold.Goals as goal
 

@@ -1,5 +1,5 @@
 use Rattle.std.proofs.Common.{◌≡◌, ◌++◌, map, take, drop}
-use Rattle.dds_source.specs.Characters.{folded}
+use Rattle.text_lines.specs.Characters.{folded}
 use Rattle.dds_source.proofs.lines.fold.Given as goal
 
 abbrev pub invariant-loop-i : goal.invariant-loop-i

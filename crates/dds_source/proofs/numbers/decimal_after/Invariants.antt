@@ -1,6 +1,6 @@
 use Rattle.std.proofs.Common.{◌≡◌, ◌<◌, ◌^◌, ◌+◌, drop, true}
 use Rattle.std.specs.List.{list_all}
-use Rattle.dds_source.specs.Characters.{is_digit}
+use Rattle.text_lines.specs.Decimal.{is_digit}
 use Rattle.dds_source.specs.Numbers.{decimal_after}
 use Rattle.dds_source.proofs.numbers.decimal_after.Given as goal
 
