@@ -1,11 +1,10 @@
 -- What a search among pages says of the entries before and after a page, and what an insert, a removal and a read make of them.
-use Rattle.std.proofs.Common.{◌≡◌, ℕ, suc, zero, ◌+◌, ◌-◌, ◌<◌, ◌≤◌, Bool, true, false, Option, None, Some, Result, Ok, Err, IfOk, IfErr, List, [], ◌∷◌, ◌++◌, length, get_or, take, drop, refl, ap, sym, ◌∙◌, subst, arith, inl, inr}
-use Rattle.std.specs.Prelude.{All, Contains, filter, find, insert, remove}
+use Rattle.std.proofs.Common.{◌≡◌, ℕ, suc, zero, ◌+◌, ◌-◌, ◌<◌, ◌≤◌, Bool, true, false, Option, None, Some, Result, Ok, Err, IfOk, IfErr, List, [], ◌∷◌, ◌++◌, length, take, drop, refl, ap, sym, ◌∙◌, subst, arith, inl, inr}
+use Rattle.std.specs.Prelude.{All, Contains, filter, find}
 use Rattle.std.specs.declared.cmp.Ordering.{Ordering}
 use Rattle.std.specs.declared.cmp.Ordering.TheVariants.{Less, Equal, Greater}
-use Rattle.std.specs.Cmp.{IsTotalOrder}
 use Rattle.std.specs.Ordering.{is_lt, is_gt, is_le, is_ne}
-use Rattle.std.specs.List.{AllByRecursion, AllWithin, flat_map, last_or, slice_get}
+use Rattle.std.specs.List.{AllByRecursion, AllWithin, last_or, slice_get}
 use Rattle.std.specs.Option.{option_or}
 use Rattle.std.specs.List.Sorted.{IsStrictlySortedBy}
 use Rattle.std.proofs.lemmas.Bool.{cases_lt, false_from_ne_true}
@@ -23,7 +22,7 @@ use Rattle.key_pages.specs.Search.{is_passed, IsAt, IsGapFor}
 use Rattle.key_pages.specs.PageList.{entries_of, page_at, with_page, begins_passed, IsPlace, IsNearest, IsIn, IsGapIn}
 use Rattle.key_pages.proofs.PageLemmas.{entries_of-around}
 use Rattle.key_pages.proofs.Splits.{filter-none, filter-all, filter-front, find-split, last_or-take}
-use Rattle.key_pages.proofs.OrderLemmas.{entry_total, below_middle, Greater-from_Less}
+use Rattle.key_pages.proofs.OrderLemmas.{entry_total, below_middle}
 use Rattle.key_pages.proofs.SideLemmas.{Less-before_le, passed_before, next_entry-at, past-not_passed}
 
 front_recursion : {K : Type 0} (P : K → Type 0) (xs ys : List K) → AllByRecursion P (xs ++ ys) → AllByRecursion P xs

@@ -1,7 +1,6 @@
 -- Pages and the entries of them all: what stands around a page, and what another page in its place makes of them.
 use Rattle.std.proofs.Common.{◌≡◌, ℕ, suc, zero, ◌+◌, ◌-◌, ◌*◌, ◌/◌, ◌<◌, ◌≤◌, List, [], ◌∷◌, ◌++◌, length, get_or, take, drop, set, map, Some, refl, ap, sym, ◌∙◌, subst, arith, add-one, inl, inr}
 use Rattle.std.specs.Prelude.{All, insert, remove, sum}
-use Rattle.std.specs.List.{flat_map}
 use Rattle.std.proofs.lemmas.Bool.{cases_lt}
 use Rattle.std.proofs.lemmas.List.{append-nil, append_assoc, take-append-drop, drop_more, set_split, take-set-le, take_more_set, drop-set-lt, drop_all, drop_at, length-append, length-drop, length-set, length-take-le, take-append-le, take-take, get_or_append_left, get_or-take, get_or-set_other, length_push, get_or_read}
 use Rattle.std.proofs.lemmas.List.Concat.{flat_map-append}
