@@ -271,10 +271,6 @@ module _ (falling : Bool) (entry : Entry) (pages : List (List Entry)) (number : 
         unchanged = sym whole ∙ (ap (λ p. front ++ (p ++ back)) gap.unchanged ∙ (sym (without_entry-around falling entry front page back near.front near.back) ∙ ap (without_entry falling entry) whole));
       }
 
-pub gap-in-none : (falling : Bool) (entry : Entry) (pages : List (List Entry)) → length pages ≡ 0 → IsGapIn falling entry pages 0 0
-gap-in-none falling entry [] none = record { absent = λ there. omega (arith, there.1); inserted = refl; unchanged = refl }
-gap-in-none falling entry (page ∷ pages) none = absurd (omega arith)
-
 pub if_ok_weaker : {A E : Type 0} (P Q : A → Type 0) (r : Result A E) → ((a : A) → P a → Q a) → IfOk r P → IfOk r Q
 if_ok_weaker P Q (Ok a) step holds = step a holds
 if_ok_weaker P Q (Err e) step holds = tt
