@@ -1,11 +1,10 @@
 -- What a search among pages says of the entries before and after a page, and what an insert, a removal and a read make of them.
-use Rattle.std.proofs.Common.{◌≡◌, ℕ, suc, zero, ◌+◌, ◌-◌, ◌<◌, ◌≤◌, Bool, true, false, Option, None, Some, Result, Ok, Err, IfOk, IfErr, List, [], ◌∷◌, ◌++◌, length, get_or, take, drop, refl, ap, sym, ◌∙◌, subst, arith, inl, inr}
-use Rattle.std.specs.Prelude.{All, Contains, filter, find, insert, remove}
+use Rattle.std.proofs.Common.{◌≡◌, ℕ, suc, zero, ◌+◌, ◌-◌, ◌<◌, ◌≤◌, Bool, true, false, Option, None, Some, Result, Ok, Err, IfOk, IfErr, List, [], ◌∷◌, ◌++◌, length, take, drop, refl, ap, sym, ◌∙◌, subst, arith, inl, inr}
+use Rattle.std.specs.Prelude.{All, Contains, filter, find}
 use Rattle.std.specs.declared.cmp.Ordering.{Ordering}
 use Rattle.std.specs.declared.cmp.Ordering.TheVariants.{Less, Equal, Greater}
-use Rattle.std.specs.Cmp.{IsTotalOrder}
 use Rattle.std.specs.Ordering.{is_lt, is_gt, is_le, is_ne}
-use Rattle.std.specs.List.{AllByRecursion, AllWithin, flat_map, last_or, slice_get}
+use Rattle.std.specs.List.{AllByRecursion, AllWithin, last_or, slice_get}
 use Rattle.std.specs.Option.{option_or}
 use Rattle.std.specs.List.Sorted.{IsStrictlySortedBy}
 use Rattle.std.proofs.lemmas.Bool.{cases_lt, false_from_ne_true}
@@ -23,7 +22,7 @@ use Rattle.key_pages.specs.Search.{is_passed, IsAt, IsGapFor}
 use Rattle.key_pages.specs.PageList.{entries_of, page_at, with_page, begins_passed, IsPlace, IsNearest, IsIn, IsGapIn}
 use Rattle.key_pages.proofs.PageLemmas.{entries_of-around}
 use Rattle.key_pages.proofs.Splits.{filter-none, filter-all, filter-front, find-split, last_or-take}
-use Rattle.key_pages.proofs.OrderLemmas.{entry_total, below_middle, Greater-from_Less}
+use Rattle.key_pages.proofs.OrderLemmas.{entry_total, below_middle}
 use Rattle.key_pages.proofs.SideLemmas.{Less-before_le, passed_before, next_entry-at, past-not_passed}
 
 front_recursion : {K : Type 0} (P : K → Type 0) (xs ys : List K) → AllByRecursion P (xs ++ ys) → AllByRecursion P xs
@@ -271,10 +270,6 @@ module _ (falling : Bool) (entry : Entry) (pages : List (List Entry)) (number : 
         inserted = ap (λ p. front ++ (p ++ back)) gap.inserted ∙ (sym (with_entry-around falling entry front page back near.front near.back) ∙ ap (with_entry falling entry) whole);
         unchanged = sym whole ∙ (ap (λ p. front ++ (p ++ back)) gap.unchanged ∙ (sym (without_entry-around falling entry front page back near.front near.back) ∙ ap (without_entry falling entry) whole));
       }
-
-pub gap-in-none : (falling : Bool) (entry : Entry) (pages : List (List Entry)) → length pages ≡ 0 → IsGapIn falling entry pages 0 0
-gap-in-none falling entry [] none = record { absent = λ there. omega (arith, there.1); inserted = refl; unchanged = refl }
-gap-in-none falling entry (page ∷ pages) none = absurd (omega arith)
 
 pub if_ok_weaker : {A E : Type 0} (P Q : A → Type 0) (r : Result A E) → ((a : A) → P a → Q a) → IfOk r P → IfOk r Q
 if_ok_weaker P Q (Ok a) step holds = step a holds

@@ -1,8 +1,8 @@
 -- The order of entries is total and tells any two apart; what an insert and a removal leave is in order.
-use Rattle.std.proofs.Common.{◌≡◌, ℕ, suc, Result, Ok, Err, IfOk, IfErr, IsErr, ◌+◌, ◌<◌, Bool, true, false, List, [], ◌∷◌, ◌++◌, length, get_or, refl, ap, sym, ◌∙◌, arith, inl, inr}
+use Rattle.std.proofs.Common.{◌≡◌, ℕ, suc, Result, Ok, Err, IfOk, IfErr, ◌+◌, ◌<◌, Bool, true, false, List, [], ◌∷◌, ◌++◌, length, get_or, refl, ap, sym, ◌∙◌, arith, inl, inr}
 use Rattle.std.specs.declared.cmp.Ordering.{Ordering}
 use Rattle.std.specs.declared.cmp.Ordering.TheVariants.{Less, Equal, Greater}
-use Rattle.std.specs.Prelude.{◌≢◌, filter, remove, insert, All, AllPairs, Contains, Some}
+use Rattle.std.specs.Prelude.{◌≢◌, filter, remove, insert, All, AllPairs, Some}
 use Rattle.std.specs.Cmp.{IsTotalOrder}
 use Rattle.std.specs.Ordering.{nat_cmp, ordering_then, ordering_reverse, ordering_index, is_lt, is_gt, is_ne}
 use Rattle.std.specs.List.{AllByRecursion, HoldsAt}
@@ -158,11 +158,6 @@ pub searched : (falling : Bool) (entry : Entry) (entries : List Entry) (found : 
 searched falling entry entries (Ok i) sorted within is = (found_at falling entry entries i sorted within is, tt)
 searched falling entry entries (Err i) sorted within is =
     (tt, absent_at falling entry entries i (is (rises (entry_cmp falling) (entry_total falling) entry entries sorted)))
-
--- an entry that isn't there is not found
-pub is_err_from_absent : (falling : Bool) (entry : Entry) (entries : List Entry) (found : Result ℕ ℕ) → ¬ Contains entries entry → IfOk found (IsAt falling entry entries) → IsErr found
-is_err_from_absent falling entry entries (Ok i) absent is = absurd (absent is.there)
-is_err_from_absent falling entry entries (Err i) absent is = refl
 
 -- no entry is there twice
 pub apart : (falling : Bool) (entries : List Entry) → IsInOrder falling entries → AllPairs (λ entry other. entry ≢ other) entries

@@ -1,11 +1,10 @@
 -- Pages and the entries of them all: what stands around a page, and what another page in its place makes of them.
 use Rattle.std.proofs.Common.{◌≡◌, ℕ, suc, zero, ◌+◌, ◌-◌, ◌*◌, ◌/◌, ◌<◌, ◌≤◌, List, [], ◌∷◌, ◌++◌, length, get_or, take, drop, set, map, Some, refl, ap, sym, ◌∙◌, subst, arith, add-one, inl, inr}
 use Rattle.std.specs.Prelude.{All, insert, remove, sum}
-use Rattle.std.specs.List.{flat_map}
 use Rattle.std.proofs.lemmas.Bool.{cases_lt}
-use Rattle.std.proofs.lemmas.List.{append-nil, append_assoc, take-append-drop, drop_more, set_split, take-set-le, take_more_set, drop-set-lt, drop_all, drop_at, length-append, length-drop, length-set, length-take-le, take-append-le, take-take, get_or_append_left, get_or-take, get_or-set_other, length_push, get_or_read}
+use Rattle.std.proofs.lemmas.List.{append-nil, append_assoc, take-append-drop, drop_more, set_split, take-set-le, take_more_set, drop-set-lt, drop_all, drop_at, length-append, length-drop, length-set, length-take-le, take-append-le, take-take, get_or_append_left, get_or-take, length_push, get_or_read}
 use Rattle.std.proofs.lemmas.List.Concat.{flat_map-append}
-use Rattle.std.proofs.lemmas.List.Elements.{All-nil, All-cons, All-head, All-tail, All-append, All-take, All-drop, All-set, All-push, All-pop, All-get_or, All-weaker}
+use Rattle.std.proofs.lemmas.List.Elements.{All-nil, All-cons, All-head, All-tail, All-append, All-take, All-drop, All-push, All-pop, All-weaker}
 use Rattle.std.proofs.lemmas.List.Sums.{sum_by-cons}
 use Rattle.key_pages.specs.declared.entries.Entry.{Entry}
 use Rattle.key_pages.specs.declared.page.TheConstants.{MOST_PAGE_ENTRIES, LEAST_PAGE_ENTRIES}
@@ -81,24 +80,6 @@ sum-lengths [] = refl
 sum-lengths (page ∷ pages) =
     sum_by-cons (λ n. n) (length page) (map (λ p. length p) pages)
     ∙ (ap (λ n. length page + n) (sum-lengths pages) ∙ sym (length-append page (entries_of pages)))
-
--- sizes that stay
-pub AreSized-nil : AreSized []
-AreSized-nil = record { some = All-nil (λ p. 0 < length p); most = All-nil (λ p. length p ≤ MOST_PAGE_ENTRIES); least = λ _. All-nil (λ p. LEAST_PAGE_ENTRIES ≤ length p) }
-
-pub AreSized-one : (page : List Entry) → 0 < length page → length page ≤ MOST_PAGE_ENTRIES → AreSized (page ∷ [])
-AreSized-one page some most = record {
-  some = All-cons (λ p. 0 < length p) page [] some (All-nil (λ p. 0 < length p));
-  most = All-cons (λ p. length p ≤ MOST_PAGE_ENTRIES) page [] most (All-nil (λ p. length p ≤ MOST_PAGE_ENTRIES));
-  least = λ two. absurd (omega arith);
-}
-
-pub AreSized-set : (pages : List (List Entry)) (number : ℕ) (page : List Entry) → AreSized pages → 0 < length page → length page ≤ MOST_PAGE_ENTRIES → (1 < length pages → LEAST_PAGE_ENTRIES ≤ length page) → length (set pages number page) ≡ length pages → AreSized (set pages number page)
-AreSized-set pages number page sized some most least same = record {
-  some = All-set (λ p. 0 < length p) pages number page some sized.some;
-  most = All-set (λ p. length p ≤ MOST_PAGE_ENTRIES) pages number page most sized.most;
-  least = λ two. let more : 1 < length pages = omega arith in All-set (λ p. LEAST_PAGE_ENTRIES ≤ length p) pages number page (least more) (sized.least more);
-}
 
 module _ (P : List Entry → Type 0) where
   All-between : (front level back : List (List Entry)) → All P front → All P level → All P back → All P (front ++ (level ++ back))
@@ -216,24 +197,6 @@ level-two left right page more is many least most more_least more_most = record 
 module _ (pages : List (List Entry)) (number left : ℕ) (page : List Entry) (sized : AreSized pages) (more : 1 < length pages) (within : number < length pages) (beside : left ≡ number - 1) (most : length page ≤ MOST_PAGE_ENTRIES) where
   pub pair-within : left + 1 < length (set pages number page)
   pair-within = let same = length-set pages number page in omega (arith, same)
-
-  pub pair-most : (n : ℕ) → n < length pages → length (page_at (set pages number page) n) ≤ MOST_PAGE_ENTRIES
-  pair-most n upto =
-      let same = length-set pages number page in
-      All-get_or (λ p. length p ≤ MOST_PAGE_ENTRIES) (set pages number page) n [] (omega (arith, same)) (All-set (λ p. length p ≤ MOST_PAGE_ENTRIES) pages number page most sized.most)
-
-  other-least : (n : ℕ) → n < length pages → (n ≡ number → ⊥) → LEAST_PAGE_ENTRIES ≤ length (page_at (set pages number page) n)
-  other-least n upto other =
-      let own : LEAST_PAGE_ENTRIES ≤ length (page_at pages n) = All-get_or (λ p. LEAST_PAGE_ENTRIES ≤ length p) pages n [] upto (sized.least more) in
-      let stays : page_at (set pages number page) n ≡ page_at pages n = get_or-set_other pages number n page [] other in
-      subst (λ p. LEAST_PAGE_ENTRIES ≤ length p) (sym stays) own
-
-  pub pair-least : LEAST_PAGE_ENTRIES ≤ length (page_at (set pages number page) left) + length (page_at (set pages number page) (left + 1))
-  pair-least =
-      elim (cases_lt left number) [
-        | inl before ↦ let enough = other-least left (omega arith) (λ e. absurd (omega arith)) in omega (arith, enough)
-        | inr here ↦ let enough = other-least (left + 1) (omega arith) (λ e. absurd (omega arith)) in omega (arith, enough)
-      ]
 
   module _ (level : List (List Entry)) (levelled : AreLevel (page_at (set pages number page) left) (page_at (set pages number page) (left + 1)) level) where
     pub AreSized-levelled : AreSized (take left (set pages number page) ++ (level ++ drop (left + 2) (set pages number page)))

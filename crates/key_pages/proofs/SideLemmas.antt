@@ -1,10 +1,10 @@
 -- Along a list in order the entries before a position come first, then one on it, then those past it.
-use Rattle.std.proofs.Common.{◌≡◌, ℕ, suc, zero, ◌+◌, ◌<◌, ◌≤◌, Bool, true, false, not, ◌||◌, cond, None, List, [], ◌∷◌, length, get_or, take, refl, ap, sym, ◌∙◌, arith, inl, inr}
+use Rattle.std.proofs.Common.{◌≡◌, ℕ, suc, zero, ◌+◌, ◌<◌, Bool, true, false, not, ◌||◌, cond, List, [], ◌∷◌, length, get_or, take, refl, ap, sym, ◌∙◌, arith, inl, inr}
 use Rattle.std.specs.declared.cmp.Ordering.{Ordering}
 use Rattle.std.specs.declared.cmp.Ordering.TheVariants.{Less, Equal, Greater}
 use Rattle.std.specs.Cmp.{IsTotalOrder}
 use Rattle.std.specs.Ordering.{nat_cmp, ordering_then, is_lt, is_gt, is_le}
-use Rattle.std.specs.List.{AllWithin, last_or, slice_get}
+use Rattle.std.specs.List.{AllWithin, slice_get}
 use Rattle.std.proofs.lemmas.Bool.{cases_lt, false_from_ne_true}
 use Rattle.std.proofs.lemmas.Bool.Decides.{nat_tests}
 use Rattle.std.proofs.lemmas.Cmp.{nat_list_cmp_total, alike_right}
@@ -15,10 +15,10 @@ use Rattle.key_pages.specs.declared.entries.Entry.{Entry}
 use Rattle.key_pages.specs.declared.positions.Position.{Position}
 use Rattle.key_pages.specs.declared.positions.Position.TheVariants.{Start, End, On, Before, Past}
 use Rattle.key_pages.specs.Order.{key_cmp, entry_cmp, IsInOrder}
-use Rattle.key_pages.specs.Position.{is_less, begins_with, side_of, is_past, is_short, next_entry, prior_entry}
+use Rattle.key_pages.specs.Position.{is_less, begins_with, side_of, is_past, next_entry}
 use Rattle.key_pages.specs.Search.{is_passed}
 use Rattle.key_pages.proofs.OrderLemmas.{entry_total, from_is_lt}
-use Rattle.key_pages.proofs.Splits.{find-split, filter-none, filter-front, last_or-take}
+use Rattle.key_pages.proofs.Splits.{find-split}
 
 -- where the first of two answers is not above, neither is the whole
 not_above_first : (first second : Ordering) → ordering_then first second ≡ Less → is_gt first ≡ false
@@ -144,12 +144,3 @@ module _ (falling : Bool) (from : Position) (xs : List Entry) where
       find-split (is_past falling from) xs i
       (λ k d low upto. past-not_passed _ true (passed k d low upto))
       (λ k d low upto. past-not_passed _ false (ahead k d low upto))
-
-  pub prior_entry-none : AllWithin (λ e. is_lt (side_of falling from e) ≡ false) xs 0 (length xs) → prior_entry falling from xs ≡ None
-  prior_entry-none ahead = ap (λ r. last_or None r) (filter-none (is_short falling from) xs ahead)
-
-  pub prior_entry-at : (i j : ℕ) → i ≡ j + 1 → i ≤ length xs → AllWithin (λ e. is_lt (side_of falling from e) ≡ true) xs 0 i → AllWithin (λ e. is_lt (side_of falling from e) ≡ false) xs i (length xs) → prior_entry falling from xs ≡ slice_get xs j
-  prior_entry-at i j next within passed ahead =
-      let after : i ≡ suc j = omega arith in
-      ap (λ r. last_or None r) (filter-front (is_short falling from) xs i passed ahead)
-      ∙ ap (λ n. last_or None (take n xs)) after ∙ last_or-take None xs j (omega arith)

@@ -1,10 +1,7 @@
 -- A list that a test cuts in two: what a filter keeps, what a search finds, and the last element that passes.
-use Rattle.std.proofs.Common.{◌≡◌, ℕ, suc, zero, ◌<◌, Bool, true, false, cond, Option, None, Some, List, [], ◌∷◌, ◌++◌, length, get_or, take, drop, refl, ap, sym, ◌∙◌, arith, Bor}
+use Rattle.std.proofs.Common.{◌≡◌, ℕ, suc, zero, ◌<◌, Bool, true, false, cond, Option, Some, List, [], ◌∷◌, ◌++◌, length, get_or, take, drop, refl, ap, ◌∙◌, arith}
 use Rattle.std.specs.Prelude.{filter, find, remove}
 use Rattle.std.specs.List.{AllWithin, last_or, slice_get}
-use Rattle.std.specs.Option.{option_copied}
-use Rattle.std.specs.Slice.{IsItemAt}
-use Rattle.std.proofs.lemmas.Option.{slice_get_past, slice_get-get_or}
 
 module _ {X : Type 0} (p : X → Bool) where
   -- the test gives this answer at each place from low up to high
@@ -83,8 +80,3 @@ module _ {X : Type 0} where
   pub last_or-append : (o : Option X) (xs : List X) (y : X) → last_or o (xs ++ y ∷ []) ≡ Some y
   last_or-append o [] y = refl
   last_or-append o (x ∷ xs) y = last_or-append (Some x) xs y
-
-  -- what `get` answers is the element at the place
-  pub option_copied-get : (xs : List X) (i : ℕ) (found : Option (Bor X)) → IsItemAt xs i found → option_copied found ≡ slice_get xs i
-  option_copied-get xs i None is = sym (slice_get_past xs i is.3)
-  option_copied-get xs i (Some x) is = ap Some (is.3.1 x.now) ∙ sym (slice_get-get_or xs i x.now is.3.0)

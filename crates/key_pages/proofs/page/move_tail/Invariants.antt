@@ -1,5 +1,5 @@
 -- What was moved stands the other way round.
-use Rattle.std.proofs.Common.{◌≡◌, ◌+◌, ◌-◌, ◌≤◌, ◌++◌, reverse, vec_len, vec_capacity}
+use Rattle.std.proofs.Common.{◌≡◌, ◌+◌, ◌≤◌, ◌++◌, reverse, vec_len, vec_capacity}
 use Rattle.key_pages.proofs.page.move_tail.Given as goal
 
 abbrev pub invariant-loop-into : goal.invariant-loop-into

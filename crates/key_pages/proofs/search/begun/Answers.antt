@@ -1,5 +1,5 @@
 -- Either way half is left.
-use Rattle.std.proofs.Common.{◌≡◌, ◌∙◌, ◌+◌, ◌-◌, Bool, List, ap, sym, arith}
+use Rattle.std.proofs.Common.{◌∙◌, ◌-◌, Bool, List, ap, sym, arith}
 use Rattle.key_pages.specs.declared.entries.Entry.{Entry}
 use Rattle.std.proofs.lemmas.List.{get_or_read}
 use Rattle.key_pages.specs.PageList.{page_at, begins_passed}

@@ -1,10 +1,8 @@
 -- One page more, with the entries that were taken.
-use Rattle.std.proofs.Common.{◌≡◌, ◌∙◌, ◌+◌, ◌-◌, ◌*◌, ◌<◌, ◌≤◌, [], ◌∷◌, ◌++◌, length, vec_len, inl, inr, arith}
-use Rattle.std.specs.Prelude.{All}
+use Rattle.std.proofs.Common.{◌-◌, ◌*◌, ◌<◌, ◌≤◌, length, vec_len, inl, inr, arith}
 use Rattle.std.proofs.lemmas.Bool.{cases_lt}
 use Rattle.std.proofs.lemmas.List.Elements.{All-push}
-use Rattle.key_pages.specs.declared.page.TheConstants.{FILLED_PAGE_ENTRIES, MOST_PAGE_ENTRIES, LEAST_PAGE_ENTRIES}
-use Rattle.key_pages.specs.PageList.{AreSized}
+use Rattle.key_pages.specs.declared.page.TheConstants.{FILLED_PAGE_ENTRIES, LEAST_PAGE_ENTRIES}
 use Rattle.std.proofs.lemmas.List.{length_push}
 use Rattle.key_pages.proofs.FillLemmas.{FilledBelow-all, FilledBelow-push}
 use Rattle.key_pages.proofs.PageLemmas.{AreSized-push, entries_of-push, filled-least, last-taken}

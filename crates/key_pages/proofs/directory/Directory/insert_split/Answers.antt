@@ -1,9 +1,9 @@
 -- The page's two parts stand in its place, and they have its entries and the new one.
-use Rattle.std.proofs.Common.{◌≡◌, ◌∙◌, ◌+◌, ◌<◌, ◌≤◌, [], ◌∷◌, ◌++◌, length, take, drop, set, ap, sym, arith}
-use Rattle.std.specs.Prelude.{All, insert}
+use Rattle.std.proofs.Common.{◌≡◌, ◌∙◌, ◌+◌, ◌≤◌, [], ◌∷◌, ◌++◌, length, take, drop, ap, arith}
+use Rattle.std.specs.Prelude.{insert}
 use Rattle.std.proofs.lemmas.List.Elements.{All-nil, All-cons}
 use Rattle.key_pages.specs.declared.page.TheConstants.{MOST_PAGE_ENTRIES, LEAST_PAGE_ENTRIES}
-use Rattle.key_pages.specs.PageList.{AreSized, entries_of, page_at, with_page}
+use Rattle.key_pages.specs.PageList.{entries_of, with_page}
 use Rattle.key_pages.proofs.PageLemmas.{AreSized-between, entries_of-two, insert-set, last-taken, page-read}
 use Rattle.key_pages.proofs.directory.Directory.insert_split.Goals as goal
 

@@ -1,5 +1,5 @@
 -- Pages before the one that is searched lie before the position, pages after it past it; each search is of no more than all entries.
-use Rattle.std.proofs.Common.{◌≡◌, ◌∙◌, ◌-◌, ◌<◌, length, ap, arith}
+use Rattle.std.proofs.Common.{◌≡◌, ◌∙◌, ◌-◌, ◌<◌, length, arith}
 use Rattle.key_pages.specs.PageList.{entries_of, page_at}
 use Rattle.key_pages.proofs.NearLemmas.{page-sorted, place-at, place-first}
 use Rattle.key_pages.proofs.PageLemmas.{few_pages, length-page, page-read}

@@ -1,12 +1,12 @@
 -- Of two neighbouring pages only the changed one can have too few entries.
-use Rattle.std.proofs.Common.{◌≡◌, ◌∙◌, ◌+◌, ◌-◌, ◌<◌, ◌≤◌, Some, [], length, set, ap, sym, arith}
+use Rattle.std.proofs.Common.{◌≡◌, ◌∙◌, ◌<◌, ◌≤◌, Some, [], length, ap, sym, arith}
 use Rattle.std.specs.Prelude.{remove}
 use Rattle.std.specs.List.{slice_get}
 use Rattle.std.proofs.lemmas.Option.{slice_get-get_or}
 use Rattle.std.proofs.lemmas.List.Elements.{All-get_or}
 use Rattle.key_pages.specs.declared.page.TheConstants.{MOST_PAGE_ENTRIES}
 use Rattle.key_pages.specs.PageList.{entries_of, page_at, with_page}
-use Rattle.key_pages.proofs.PageLemmas.{AreSized-levelled, entries_of-levelled, page-read, pair-within, pair-least, pair-most}
+use Rattle.key_pages.proofs.PageLemmas.{AreSized-levelled, entries_of-levelled, page-read}
 use Rattle.key_pages.proofs.directory.Directory.remove_levelled.Goals as goal
 
 within : (c : goal.After-level) → c.args.number < length c.self.inside.pages.items

@@ -2,7 +2,6 @@
 use Rattle.std.proofs.Common.{◌≡◌, ◌∙◌, length, ap, subst, arith}
 use Rattle.std.specs.Prelude.{insert}
 use Rattle.key_pages.specs.EntryList.{entry_of, with_entry}
-use Rattle.key_pages.specs.Order.{IsInOrder}
 use Rattle.key_pages.specs.PageList.{entries_of, page_at, with_page, IsGapIn}
 use Rattle.key_pages.proofs.OrderLemmas.{IsInOrder-with_entry}
 use Rattle.key_pages.proofs.PageLemmas.{length-inserted}

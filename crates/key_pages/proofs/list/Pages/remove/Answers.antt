@@ -1,6 +1,6 @@
 -- The entry leaves its page, and one less stands in the list.
-use Rattle.std.proofs.Common.{◌≡◌, ◌∙◌, length, ap, arith}
-use Rattle.key_pages.specs.EntryList.{entry_of, without_entry}
+use Rattle.std.proofs.Common.{◌∙◌, length, ap, arith}
+use Rattle.key_pages.specs.EntryList.{entry_of}
 use Rattle.key_pages.specs.PageList.{entries_of, IsIn}
 use Rattle.key_pages.proofs.OrderLemmas.{IsInOrder-without_entry}
 use Rattle.key_pages.proofs.PageLemmas.{length-removed}
