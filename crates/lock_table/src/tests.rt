@@ -1,7 +1,7 @@
 //! The locks that worked schedules leave, through the public calls.
 use crate::{
-    Call, InUse, Level, LockFault, LockKind, LockTable, MOST_LOCKS, OpenLocks, Reach, asked,
-    released,
+    Call, Holder, InUse, Level, LockFault, LockKind, LockTable, MOST_LOCKS, OpenLocks, Reach,
+    RecordId, asked, released,
 };
 use std::process::Abort;
 use std::test::Fail;
@@ -87,10 +87,19 @@ const MIXED: [(Step, Holdings); 17] = [
     (Step::ReleaseOpen(2, 1), [0, 1, 0, 0, 0, 0]),
 ];
 
+fn at(rrn: u32) -> RecordId {
+    let member = MEMBER;
+    RecordId { member, rrn }
+}
+
+fn holder(job: u32, opened: u32) -> Holder {
+    Holder { job, opened }
+}
+
 fn ask(rt: &impl Abort, table: &mut LockTable, request: (u32, u32, u32, LockKind)) -> Option<u32> {
     assert!(rt; table.reserve(1).is_ok());
     let (job, opened, rrn, kind) = request;
-    match table.ask(job, opened, MEMBER, rrn, kind) {
+    match table.ask(holder(job, opened), at(rrn), kind) {
         Ok(()) => None,
         Err(InUse { job }) => Some(job),
     }
@@ -101,16 +110,16 @@ fn take(rt: &impl Abort, table: &mut LockTable, step: Step) {
         Step::Ask(job, opened, rrn, kind, refused_by) => {
             assert_eq!(rt; ask(rt, table, (job, opened, rrn, kind)), refused_by);
         }
-        Step::Keep(job, opened, rrn) => table.keep_to_boundary(job, opened, MEMBER, rrn),
-        Step::ReleaseOpen(job, opened) => table.release_open(job, opened),
-        Step::ReleaseRecord(job, rrn) => table.release_record(job, MEMBER, rrn),
+        Step::Keep(job, opened, rrn) => table.keep_to_boundary(holder(job, opened), at(rrn)),
+        Step::ReleaseOpen(job, opened) => table.release_open(holder(job, opened)),
+        Step::ReleaseRecord(job, rrn) => table.release_record(job, at(rrn)),
         Step::ReleaseGroup(job) => table.release_group(job),
     }
 }
 
 fn holding(table: &LockTable, job: u32, rrn: u32) -> u8 {
-    let first = table.held(job, 1, MEMBER, rrn);
-    let second = table.held(job, 2, MEMBER, rrn);
+    let first = table.held(holder(job, 1), at(rrn));
+    let second = table.held(holder(job, 2), at(rrn));
     let by_first = if first.by_open { 1u8 } else { 0 };
     let by_second = if second.by_open { 2u8 } else { 0 };
     let to_boundary = if first.to_boundary { 4u8 } else { 0 };
@@ -161,21 +170,21 @@ const READS: [(Level, Call, [u8; 4]); 12] = [
 /// A read of job 1 through its open 1 that is OK.
 fn read(rt: &impl Abort, table: &mut LockTable, level: Level, call: Call, rrn: u32) {
     if released(call, Some(level)).open_locks == OpenLocks::OfOpen {
-        table.release_open(1, 1);
+        table.release_open(holder(1, 1));
     }
     if let Some(wanted) = asked(call, Some(level)) {
         assert_eq!(rt; ask(rt, table, (1, 1, rrn, wanted.kind)), None);
         if wanted.reach == Reach::Boundary {
-            table.keep_to_boundary(1, 1, MEMBER, rrn);
+            table.keep_to_boundary(holder(1, 1), at(rrn));
         }
     }
 }
 
 /// Which lock of job 1 job 2 finds on the record.
 fn letter(table: &LockTable, rrn: u32) -> u8 {
-    if table.clash(2, MEMBER, rrn, LockKind::READ).is_some() {
+    if table.clash(2, at(rrn), LockKind::READ).is_some() {
         b'U'
-    } else if table.clash(2, MEMBER, rrn, LockKind::UPDATE).is_some() {
+    } else if table.clash(2, at(rrn), LockKind::UPDATE).is_some() {
         b'R'
     } else {
         b'N'
@@ -188,7 +197,7 @@ fn reads_at_each_level(rt: HostRuntime) {
     for (i, (level, call, wanted)) in READS.iter().enumerate() {
         let rrn = (i % 4) as u32 + 1;
         if rrn == 1 {
-            table.release_open(1, 1);
+            table.release_open(holder(1, 1));
             table.release_group(1);
         }
         read(&rt, &mut table, *level, *call, rrn);
