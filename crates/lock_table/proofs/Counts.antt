@@ -137,6 +137,7 @@ module _ (holder : Holder) (at : RecordId) (kind : LockKind) where
     where
       own_cmp : (n : ℕ) → nat_cmp n n ≡ Equal
       own_cmp n = grind (arith, nat_tests)
+
       later : lock_cmp now_kept now_open ≡ Greater
       later = rw (own_cmp holder.job) refl
 

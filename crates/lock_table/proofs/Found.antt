@@ -248,6 +248,7 @@ module _ (job other : ℕ) (at : RecordId) (kind : LockKind) where
     where
       own_test : not (other == job) ≡ false
       own_test = grind (arith, nat_tests)
+
       none : (xs : List Lock) → list_any (λ l. blocks job at kind l && is_by other l) xs ≡ false
       none [] = refl
       none (l ∷ xs) = rw (own_bool (is_on at l) (are_apart l.kind kind) l.job h) (none xs)

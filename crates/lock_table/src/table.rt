@@ -11,9 +11,7 @@ ghost use Rattle.lock_table.specs.Table.{IsTable, IsOneOf, HasRoom, without_lock
 ghost use Rattle.lock_table.specs.Index.{is_part};
 ghost use Rattle.lock_table.specs.Levels.{locks_after};
 
-use crate::chosen::{
-    least_blocker, least_keeper, lock_of_open, lock_of_open_on, locks_of_open,
-};
+use crate::chosen::{least_blocker, least_keeper, lock_of_open, lock_of_open_on, locks_of_open};
 use crate::fault::{InUse, LockFault};
 use crate::lock::{Holder, Lock, LockKind, Reach, RecordId};
 use crate::part::Part;
@@ -131,7 +129,12 @@ impl LockTable {
     /// Locks the record for this open of the job, to the job's next boundary.
     ///
     /// The same lock to the next read of the open, where it is held, becomes the boundary lock and leaves its room.
-    pub fn ask_to_boundary(&mut self, holder: Holder, at: RecordId, kind: LockKind) -> Result<(), InUse>
+    pub fn ask_to_boundary(
+        &mut self,
+        holder: Holder,
+        at: RecordId,
+        kind: LockKind,
+    ) -> Result<(), InUse>
         requires { HasRoom holder at kind Boundary self.old }
         ensures granted { OnOk result (self.new ≡ holding (with_lock_by holder at kind Boundary self.old.held) self.old) }
         ensures ok { IsOk result ↔ (blocker holder.job at kind self.old.held ≡ None) }
@@ -225,11 +228,8 @@ impl LockTable {
         ensures to_next_read { is_open lock.reach ≡ true → result ≡ 1 }
         ensures to_boundary { is_open lock.reach ≡ false → length (with_lock lock self.now.held) ≡ length self.now.held + result }
     {
-        if !lock.reach.is_open() && is_there(&self.locks, &lock) {
-            0
-        } else {
-            1
-        }
+        let is_held = !lock.reach.is_open() && is_there(&self.locks, &lock);
+        if is_held { 0 } else { 1 }
     }
 
     // The job's locks that end at a next read: as a rule one for each of its opens.
