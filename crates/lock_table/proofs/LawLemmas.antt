@@ -1,7 +1,7 @@
 -- What keeping, freeing and asking leave compatible, and which change locks they leave.
-use Rattle.std.proofs.Common.{◌≡◌, ◌≢◌, ℕ, Bool, true, false, not, ◌&&◌, ◌||◌, ◌==◌, cond, Option, None, Some, List, [], ◌∷◌, map, refl, arith, sym, ap, ◌∙◌, subst}
+use Rattle.std.proofs.Common.{◌≡◌, ◌≢◌, ℕ, Bool, true, false, not, ◌&&◌, ◌||◌, ◌==◌, cond, Option, None, Some, List, [], ◌∷◌, map, refl, arith, sym, ap, ◌∙◌}
 use Rattle.std.specs.Prelude.{IfSome}
-use Rattle.std.specs.List.{filter, list_any, All, Contains}
+use Rattle.std.specs.List.{filter, list_any, All}
 use Rattle.std.specs.List.Sorted.{IsStrictlySortedBy}
 use Rattle.std.specs.Ordering.{is_eq}
 use Rattle.std.specs.declared.cmp.Ordering.TheVariants.{Less, Equal, Greater}
@@ -21,7 +21,7 @@ use Rattle.lock_table.specs.declared.lock.RecordId.{RecordId}
 use Rattle.lock_table.specs.declared.lock.Holder.{Holder}
 use Rattle.lock_table.specs.declared.lock.Lock.{Lock}
 use Rattle.lock_table.specs.Lock.{Clashes, blocks, bound, is_by, is_change_lock, is_of_group, is_of_job, is_of_open, is_of_opens, is_of_open_on, is_of_record, is_on, is_open, is_update, lock_by, lock_cmp, update_kind}
-use Rattle.lock_table.specs.Table.{AreCompatible, HoldsChange, blocker, freed, in_order, kept, kept_to_boundary, with_lock, with_lock_by, without_lock}
+use Rattle.lock_table.specs.Table.{AreCompatible, HoldsChange, blocker, freed, kept, kept_to_boundary, with_lock, with_lock_by, without_lock}
 use Rattle.lock_table.specs.Levels.{asked, gained, locks_after, released, with_wanted, without_boundary_locks, without_open_locks}
 use Rattle.lock_table.proofs.InOrder.{filter-with_item}
 use Rattle.lock_table.proofs.Kept.{All-in_order, filter-swap, list_any-filter, list_any-in_order, list_any-map, list_any-with_item}

@@ -1,5 +1,5 @@
 -- Runs: where the locks of a part of a list in order stand side by side.
-use Rattle.std.proofs.Common.{◌≡◌, ℕ, ◌+◌, ◌-◌, ◌<◌, ◌≤◌, nat_le, Bool, true, false, not, ◌&&◌, ◌⊎◌, inl, inr, List, [], ◌∷◌, ◌++◌, length, get_or, take, drop, length-drop, refl, sym, ap, zero, suc, arith, subst}
+use Rattle.std.proofs.Common.{◌≡◌, ℕ, ◌+◌, ◌-◌, ◌<◌, ◌≤◌, nat_le, Bool, true, false, not, ◌⊎◌, inl, inr, List, [], ◌∷◌, ◌++◌, length, get_or, take, drop, length-drop, refl, sym, ap, zero, suc, arith, subst}
 use Rattle.std.specs.List.{copy_within, filter}
 use Rattle.std.specs.List.Sorted.{IsPartitionPoint, IsStrictlySortedBy, IsPartitionedBy}
 use Rattle.std.specs.Ordering.{is_eq, is_lt, is_le, nat_cmp, ordering_then}

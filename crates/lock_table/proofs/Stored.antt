@@ -7,7 +7,7 @@ use Rattle.std.proofs.lemmas.List.Elements.{All-nil}
 use Rattle.std.proofs.lemmas.List.Kept.{IsStrictlySortedBy-filter}
 use Rattle.lock_table.specs.declared.lock.Lock.{Lock}
 use Rattle.lock_table.specs.Lock.{Clashes, bound, lock_cmp}
-use Rattle.lock_table.specs.Table.{Locks, IsTable, with_lock, without_lock}
+use Rattle.lock_table.specs.Table.{IsTable, with_lock, without_lock}
 use Rattle.lock_table.specs.Index.{IsStored}
 use Rattle.lock_table.proofs.Kept.{length-with_item}
 use Rattle.lock_table.proofs.Releases.{alone-without_lock, length-without_lock, IsTable-filter, IsTable-with_lock}

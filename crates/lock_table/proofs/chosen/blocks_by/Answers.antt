@@ -1,7 +1,4 @@
 -- The locks of the own job don't clash.
-use Rattle.std.proofs.Common.{◌≡◌, ◌==◌, true, false, not, sym, ap, rules, ◌∙◌}
-use Rattle.std.specs.List.{list_any}
-use Rattle.lock_table.specs.Lock.{blocks, is_by, is_on, are_apart}
 use Rattle.lock_table.proofs.Found.{blocks-by-other, blocks-own}
 use Rattle.lock_table.proofs.chosen.blocks_by.Goals as goal
 

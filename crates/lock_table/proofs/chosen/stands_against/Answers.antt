@@ -1,5 +1,4 @@
 -- What clashes has one of the two reaches.
-use Rattle.std.proofs.Common.{ap, ◌∙◌, sym}
 use Rattle.lock_table.proofs.Found.{stands-first, stands-second}
 use Rattle.lock_table.proofs.chosen.stands_against.Goals as goal
 

@@ -1,7 +1,5 @@
 -- Where a search found the item, and where it didn't.
 use Rattle.std.proofs.Common.{refl}
-use Rattle.std.specs.List.Sorted.{IsStrictlySortedBy}
-use Rattle.lock_table.specs.Index.{IsFound, IsMissing}
 use Rattle.lock_table.proofs.Orders.{IsFound-alike, IsMissing-alike}
 use Rattle.lock_table.proofs.Searched.{IsFound-searched, IsMissing-failed}
 use Rattle.lock_table.proofs.sorted.place_of.Goals as goal

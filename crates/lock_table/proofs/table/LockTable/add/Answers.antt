@@ -1,7 +1,6 @@
 -- The list gains the lock.
-use Rattle.std.proofs.Common.{◌≡◌, ◌≤◌, length, sym, subst}
+use Rattle.std.proofs.Common.{◌≤◌, length, sym, subst}
 use Rattle.std.specs.List.{All}
-use Rattle.lock_table.specs.declared.lock.Lock.{Lock}
 use Rattle.lock_table.specs.Lock.{Clashes}
 use Rattle.lock_table.specs.Table.{Locks, with_lock}
 use Rattle.lock_table.proofs.Stored.{IsStored-with_lock}

@@ -1,5 +1,5 @@
 -- The older locks of the open are found among those of its job, and no lock is counted twice.
-use Rattle.std.proofs.Common.{◌≡◌, ◌+◌, ◌-◌, ◌≤◌, true, false, length, filter, arith, ap, ◌∙◌, subst}
+use Rattle.std.proofs.Common.{◌≡◌, ◌+◌, ◌-◌, ◌≤◌, true, false, length, filter, arith, ap, subst}
 use Rattle.lock_table.specs.declared.lock.Lock.{Lock}
 use Rattle.lock_table.specs.Lock.{is_of_open, is_open}
 use Rattle.lock_table.specs.Table.{Locks, with_lock}
