@@ -147,3 +147,35 @@ module _ (holder : Holder) (at : RecordId) (kind : LockKind) where
       let a : length (without_lock now_open t.held) ≤ length t.held = length-filter-≤ (λ l. not (is_eq (lock_cmp l now_open))) t.held in
       rw (stays now_kept (without_lock now_open t.held) (IsStrictlySortedBy-filter lock_cmp (λ l. not (is_eq (lock_cmp l now_open))) t.held table.ordered) (kept_there t.held there))
       (omega (arith, table.fits))
+
+-- ---- a lock to the boundary takes the place of the same lock to the next read
+module _ (holder : Holder) (at : RecordId) (kind : LockKind) (held : List Lock) (s : IsStrictlySortedBy lock_cmp held) where
+  abbrev turned : Lock
+  turned = lock_by holder at kind Open
+
+  abbrev to_boundary : Lock
+  to_boundary = lock_by holder at kind Boundary
+
+  apart : lock_cmp (lock_by holder at kind Boundary) (lock_by holder at kind Open) ≡ Greater
+  apart = rw (own_cmp holder.job) refl
+    where
+      own_cmp : (n : ℕ) → nat_cmp n n ≡ Equal
+      own_cmp n = grind (arith, nat_tests)
+
+  without-with : without_lock (lock_by holder at kind Open) (with_lock (lock_by holder at kind Boundary) held) ≡ with_lock (lock_by holder at kind Boundary) (without_lock (lock_by holder at kind Open) held)
+  without-with =
+      filter-with_item lock_cmp-total lock_cmp-same (λ l. not (is_eq (lock_cmp l turned))) to_boundary held s
+      ∙ ap (λ r. cond (not (is_eq r)) (with_lock to_boundary (without_lock turned held)) (without_lock turned held)) apart
+
+  same-turned : filter (λ l. is_eq (lock_cmp l turned)) (with_lock to_boundary held) ≡ filter (λ l. is_eq (lock_cmp l turned)) held
+  same-turned =
+      filter-with_item lock_cmp-total lock_cmp-same (λ l. is_eq (lock_cmp l turned)) to_boundary held s
+      ∙ ap (λ r. cond (is_eq r) (with_lock to_boundary (filter (λ l. is_eq (lock_cmp l turned)) held)) (filter (λ l. is_eq (lock_cmp l turned)) held)) apart
+
+  pub count-turned : (gone more : ℕ) → length (without_lock (lock_by holder at kind Open) held) + gone ≡ length held → length (with_lock (lock_by holder at kind Boundary) held) ≡ length held + more → (length held - gone) + more ≡ length (with_lock_by holder at kind Boundary held)
+  count-turned gone more g m =
+      let parts : length (filter (λ l. is_eq (lock_cmp l turned)) held) + length (without_lock turned held) ≡ length held = length-filter-not (λ l. is_eq (lock_cmp l turned)) held in
+      let now_parts : length (filter (λ l. is_eq (lock_cmp l turned)) (with_lock to_boundary held)) + length (without_lock turned (with_lock to_boundary held)) ≡ length (with_lock to_boundary held) = length-filter-not (λ l. is_eq (lock_cmp l turned)) (with_lock to_boundary held) in
+      let one : length (filter (λ l. is_eq (lock_cmp l turned)) (with_lock to_boundary held)) ≡ length (filter (λ l. is_eq (lock_cmp l turned)) held) = ap length same-turned in
+      let two : length (without_lock turned (with_lock to_boundary held)) ≡ length (with_lock to_boundary (without_lock turned held)) = ap length without-with in
+      omega arith

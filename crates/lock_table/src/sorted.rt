@@ -39,7 +39,8 @@ pub fn take_lock(locks: &mut Vec<Lock>, lock: &Lock)
 /// Whether the lock is there.
 pub fn is_there(locks: &[Lock], lock: &Lock) -> bool
     requires { IsStrictlySortedBy lock_cmp locks.now }
-    ensures { length (with_lock lock.now locks.now) ≡ length locks.now + (if result then 0 else 1) }
+    ensures with_it { length (with_lock lock.now locks.now) ≡ length locks.now + (if result then 0 else 1) }
+    ensures without_it { length (without_lock lock.now locks.now) + (if result then 1 else 0) ≡ length locks.now }
 {
     match lock_place(locks, lock) {
         Ok(_) => true,

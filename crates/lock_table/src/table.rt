@@ -108,6 +108,18 @@ impl LockTable {
         (left + self.growth(holder.lock(at, kind, reach))) as u32
     }
 
+    /// How many locks would be held once the record is locked to the boundary, as by a WRITE under commitment.
+    ///
+    /// The very lock may be held already, to the boundary or to the next read.
+    pub fn count_to_boundary(&self, holder: Holder, at: RecordId, kind: LockKind) -> u32
+        ensures { result ≡ length (with_lock_by holder at kind Boundary self.now.held) }
+    {
+        let to_next_read = holder.lock(at, kind, Reach::Open);
+        let to_boundary = holder.lock(at, kind, Reach::Boundary);
+        let left = self.locks.len() - self.shrinkage(to_next_read);
+        (left + self.growth(to_boundary)) as u32
+    }
+
     /// Locks the record for this open of the job, to its next read.
     ///
     /// What the job holds there already is held besides. The very same lock is held once: asking for it again is OK
@@ -230,6 +242,14 @@ impl LockTable {
     {
         let is_held = !lock.reach.is_open() && is_there(&self.locks, &lock);
         if is_held { 0 } else { 1 }
+    }
+
+    // By how many locks the list shrinks without this one.
+    fn shrinkage(&self, lock: Lock) -> usize
+        ensures { length (without_lock lock self.now.held) + result ≡ length self.now.held }
+    {
+        let is_held = is_there(&self.locks, &lock);
+        if is_held { 1 } else { 0 }
     }
 
     // The job's locks that end at a next read: as a rule one for each of its opens.

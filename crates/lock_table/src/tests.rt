@@ -279,7 +279,7 @@ const READS_BESIDE: [(u32, u32, u32, LockKind, Reach, u32); 6] = [
 /// Open 1 of job 1 holds READ on record 1, to its next read, and UPDATE on record 2, to the boundary; so does open 1 of
 /// job 2 READ on record 1.
 #[test]
-fn locks_that_reads_would_leave(rt: HostRuntime) {
+fn locks_that_calls_would_leave(rt: HostRuntime) {
     let mut table = LockTable::new(rt.alloc());
     take(&rt, &mut table, Step::Ask(1, 1, 1, LockKind::READ, None));
     take(&rt, &mut table, Step::Ask(2, 1, 1, LockKind::READ, None));
@@ -290,6 +290,12 @@ fn locks_that_reads_would_leave(rt: HostRuntime) {
     );
     assert_eq!(rt; table.count(), 3);
     count_each(&rt, &table, &READS_BESIDE);
+
+    // A lock to the boundary: one that is held, one that is held to the next read, and one more.
+    let writer = holder(1, 1);
+    assert_eq!(rt; table.count_to_boundary(writer, at(2), LockKind::UPDATE), 3);
+    assert_eq!(rt; table.count_to_boundary(writer, at(1), LockKind::READ), 3);
+    assert_eq!(rt; table.count_to_boundary(writer, at(3), LockKind::UPDATE), 4);
 }
 
 fn count_each(rt: &impl Abort, table: &LockTable, reads: &[(u32, u32, u32, LockKind, Reach, u32)]) {
