@@ -3,8 +3,10 @@ pub mod Kept
 pub mod Locks
 pub mod Searched
 pub mod Runs
-pub mod Releases
-pub mod Indexed
 pub mod Orders
 pub mod Found
-pub mod Bound
+pub mod Releases
+pub mod Stored
+pub mod Counts
+pub mod Rules
+pub mod LawLemmas

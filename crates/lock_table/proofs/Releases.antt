@@ -9,6 +9,8 @@ use Rattle.std.proofs.lemmas.Bool.Decides.{nat_tests}
 use Rattle.std.proofs.lemmas.Cmp.{tied_itself}
 use Rattle.std.proofs.lemmas.List.Elements.{All-filter, All-weaker, All-contains}
 use Rattle.std.proofs.lemmas.List.Kept.{IsStrictlySortedBy-filter}
+use Rattle.lock_table.specs.declared.lock.Holder.{Holder}
+use Rattle.lock_table.specs.declared.lock.RecordId.{RecordId}
 use Rattle.lock_table.specs.declared.lock.Lock.{Lock}
 use Rattle.lock_table.specs.Lock.{blocks, Clashes, is_of_open_on, is_on, is_update, bound, lock_cmp}
 use Rattle.lock_table.specs.Table.{Locks, holding, IsTable, AreCompatible, IsOneOf, in_order, with_lock, without_lock, freed, kept, kept_to_boundary}
@@ -44,52 +46,52 @@ and_false true = refl
 and_false false = refl
 
 -- ---- one of the open's locks is kept to the boundary
-module _ (job opened member rrn : ℕ) where
-  bound_is_out : (lock : Lock) → is_of_open_on job opened member rrn (bound lock) ≡ false
-  bound_is_out lock = and_false (is_on member rrn (bound lock))
+module _ (holder : Holder) (at : RecordId) where
+  bound_is_out : (lock : Lock) → is_of_open_on holder at (bound lock) ≡ false
+  bound_is_out lock = and_false (is_on at (bound lock))
 
-  bound_stays : (lock : Lock) → kept job opened member rrn (bound lock) ≡ bound lock
+  bound_stays : (lock : Lock) → kept holder at (bound lock) ≡ bound lock
   bound_stays lock = ap (λ b. cond b (bound (bound lock)) (bound lock)) (bound_is_out lock)
 
-  kept-cons : (lock : Lock) (held : List Lock) → kept_to_boundary job opened member rrn (lock ∷ held) ≡ with_lock (kept job opened member rrn lock) (kept_to_boundary job opened member rrn held)
+  kept-cons : (lock : Lock) (held : List Lock) → kept_to_boundary holder at (lock ∷ held) ≡ with_lock (kept holder at lock) (kept_to_boundary holder at held)
   kept-cons lock held = refl
 
-  kept-with_lock : (lock : Lock) (held : List Lock) → kept_to_boundary job opened member rrn (with_lock lock held) ≡ with_lock (kept job opened member rrn lock) (kept_to_boundary job opened member rrn held)
+  kept-with_lock : (lock : Lock) (held : List Lock) → kept_to_boundary holder at (with_lock lock held) ≡ with_lock (kept holder at lock) (kept_to_boundary holder at held)
   kept-with_lock lock held =
-      fold-with_item lock_cmp-total lock_cmp-same (kept_to_boundary job opened member rrn) (λ l. with_lock (kept job opened member rrn l)) kept-cons
-      (λ l. with_item-twice lock_cmp-total (kept job opened member rrn l))
-      (λ a b. with_item-swap lock_cmp-total lock_cmp-same (kept job opened member rrn a) (kept job opened member rrn b))
+      fold-with_item lock_cmp-total lock_cmp-same (kept_to_boundary holder at) (λ l. with_lock (kept holder at l)) kept-cons
+      (λ l. with_item-twice lock_cmp-total (kept holder at l))
+      (λ a b. with_item-swap lock_cmp-total lock_cmp-same (kept holder at a) (kept holder at b))
       lock held
 
-  pub kept-step : (lock : Lock) (held : List Lock) → IsStrictlySortedBy lock_cmp held → Contains held lock → is_of_open_on job opened member rrn lock ≡ true → kept_to_boundary job opened member rrn (with_lock (bound lock) (without_lock lock held)) ≡ kept_to_boundary job opened member rrn held
+  pub kept-step : (lock : Lock) (held : List Lock) → IsStrictlySortedBy lock_cmp held → Contains held lock → is_of_open_on holder at lock ≡ true → kept_to_boundary holder at (with_lock (bound lock) (without_lock lock held)) ≡ kept_to_boundary holder at held
   kept-step lock held s c h =
-      let e : kept job opened member rrn lock ≡ bound lock = ap (λ b. cond b (bound lock) lock) h in
+      let e : kept holder at lock ≡ bound lock = ap (λ b. cond b (bound lock) lock) h in
       kept-with_lock (bound lock) (without_lock lock held)
-      ∙ ap (λ l. with_lock l (kept_to_boundary job opened member rrn (without_lock lock held))) (bound_stays lock)
-      ∙ ap (λ l. with_lock l (kept_to_boundary job opened member rrn (without_lock lock held))) (sym e)
+      ∙ ap (λ l. with_lock l (kept_to_boundary holder at (without_lock lock held))) (bound_stays lock)
+      ∙ ap (λ l. with_lock l (kept_to_boundary holder at (without_lock lock held))) (sym e)
       ∙ sym (kept-with_lock lock (without_lock lock held))
-      ∙ ap (kept_to_boundary job opened member rrn) (with_item-filter lock_cmp-total lock held c.0 s c.1 c.2)
+      ∙ ap (kept_to_boundary holder at) (with_item-filter lock_cmp-total lock held c.0 s c.1 c.2)
 
-  pub kept-none : (held : List Lock) → IsStrictlySortedBy lock_cmp held → filter (is_of_open_on job opened member rrn) held ≡ [] → kept_to_boundary job opened member rrn held ≡ held
-  kept-none held s h = ap (in_order lock_cmp) (map-untouched (is_of_open_on job opened member rrn) bound held h) ∙ in_order-sorted lock_cmp-total held s
+  pub kept-none : (held : List Lock) → IsStrictlySortedBy lock_cmp held → filter (is_of_open_on holder at) held ≡ [] → kept_to_boundary holder at held ≡ held
+  kept-none held s h = ap (in_order lock_cmp) (map-untouched (is_of_open_on holder at) bound held h) ∙ in_order-sorted lock_cmp-total held s
 
-  pub kept-falls : (lock : Lock) (held : List Lock) → IsStrictlySortedBy lock_cmp held → Contains held lock → is_of_open_on job opened member rrn lock ≡ true → length (filter (is_of_open_on job opened member rrn) (with_lock (bound lock) (without_lock lock held))) < length (filter (is_of_open_on job opened member rrn) held)
+  pub kept-falls : (lock : Lock) (held : List Lock) → IsStrictlySortedBy lock_cmp held → Contains held lock → is_of_open_on holder at lock ≡ true → length (filter (is_of_open_on holder at) (with_lock (bound lock) (without_lock lock held))) < length (filter (is_of_open_on holder at) held)
   kept-falls lock held s c h =
-      let t : Lock → Bool = is_of_open_on job opened member rrn in
+      let t : Lock → Bool = is_of_open_on holder at in
       let q : Lock → Bool = λ l. not (is_eq (lock_cmp l lock)) in
-      let one : filter (is_of_open_on job opened member rrn) (with_lock (bound lock) (without_lock lock held)) ≡ filter (is_of_open_on job opened member rrn) (without_lock lock held) = filter-with_item lock_cmp-total lock_cmp-same (is_of_open_on job opened member rrn) (bound lock) (without_lock lock held) (IsStrictlySortedBy-filter lock_cmp (λ l. not (is_eq (lock_cmp l lock))) held s) ∙ ap (λ b. cond b (with_lock (bound lock) (filter (is_of_open_on job opened member rrn) (without_lock lock held))) (filter (is_of_open_on job opened member rrn) (without_lock lock held))) (bound_is_out lock) in
-      let two : filter (is_of_open_on job opened member rrn) (without_lock lock held) ≡ without_lock lock (filter (is_of_open_on job opened member rrn) held) = filter-swap (is_of_open_on job opened member rrn) (λ l. not (is_eq (lock_cmp l lock))) held in
-      rw (one, two) (length-without_lock lock (filter (is_of_open_on job opened member rrn) held) (filter-has (is_of_open_on job opened member rrn) lock held c h))
+      let one : filter (is_of_open_on holder at) (with_lock (bound lock) (without_lock lock held)) ≡ filter (is_of_open_on holder at) (without_lock lock held) = filter-with_item lock_cmp-total lock_cmp-same (is_of_open_on holder at) (bound lock) (without_lock lock held) (IsStrictlySortedBy-filter lock_cmp (λ l. not (is_eq (lock_cmp l lock))) held s) ∙ ap (λ b. cond b (with_lock (bound lock) (filter (is_of_open_on holder at) (without_lock lock held))) (filter (is_of_open_on holder at) (without_lock lock held))) (bound_is_out lock) in
+      let two : filter (is_of_open_on holder at) (without_lock lock held) ≡ without_lock lock (filter (is_of_open_on holder at) held) = filter-swap (is_of_open_on holder at) (λ l. not (is_eq (lock_cmp l lock))) held in
+      rw (one, two) (length-without_lock lock (filter (is_of_open_on holder at) held) (filter-has (is_of_open_on holder at) lock held c h))
 
 -- ---- locks that do not clash
-blocks_back : (a b : Lock) → blocks b.job b.member b.rrn b.kind a ≡ blocks a.job a.member a.rrn a.kind b
-blocks_back a b = flipped a.member b.member a.rrn b.rrn a.job b.job (is_update a.kind) (is_update b.kind)
+blocks_back : (a b : Lock) → blocks b.job b.at b.kind a ≡ blocks a.job a.at a.kind b
+blocks_back a b = flipped a.at.member b.at.member a.at.rrn b.at.rrn a.job b.job (is_update a.kind) (is_update b.kind)
   where
     flipped : (m n r s j k : ℕ) (p q : Bool) → (((m == n) && (r == s)) && (not (j == k) && (p || q))) ≡ (((n == m) && (s == r)) && (not (k == j) && (q || p)))
     flipped m n r s j k p q = grind (arith, nat_tests)
 
-not_own : (a : Lock) → blocks a.job a.member a.rrn a.kind a ≡ false
-not_own a = own a.job (is_on a.member a.rrn a) (is_update a.kind || is_update a.kind)
+not_own : (a : Lock) → blocks a.job a.at a.kind a ≡ false
+not_own a = own a.job (is_on a.at a) (is_update a.kind || is_update a.kind)
   where
     own : (j : ℕ) (p q : Bool) → (p && (not (j == j) && q)) ≡ false
     own j p q = grind (arith, nat_tests)
@@ -98,7 +100,7 @@ pub Clashes-back : (a b : Lock) → (Clashes a b → ⊥) → Clashes b a → �
 Clashes-back a b h k = h (subst (λ t. IsTrue t) (blocks_back a b) k)
 
 pub Clashes-not_own : (a : Lock) → Clashes a a → ⊥
-Clashes-not_own a h = let e : blocks a.job a.member a.rrn a.kind a ≡ false = not_own a in cc
+Clashes-not_own a h = let e : blocks a.job a.at a.kind a ≡ false = not_own a in cc
 
 pub AreCompatible-filter : (p : Lock → Bool) (held : List Lock) → AreCompatible held → AreCompatible (filter p held)
 AreCompatible-filter p held h = All-filter p (λ a. All (λ b. Clashes a b → ⊥) (filter p held)) held (All-weaker (λ a. All (λ b. Clashes a b → ⊥) held) (λ a. All (λ b. Clashes a b → ⊥) (filter p held)) (λ a. All-filter p (λ b. Clashes a b → ⊥) held) held h)
@@ -158,20 +160,20 @@ pub IsLeft-end : (gone : Lock → Bool) (t start : Locks) → IsLeft gone t star
 IsLeft-end gone t start left none = holding-is t start (freed gone start.held) (sym (freed-none gone t.held none) ∙ left.same) left.room
 
 -- ---- a step and the end of keeping locks to the boundary
-module _ (job opened member rrn : ℕ) where
+module _ (holder : Holder) (at : RecordId) where
   pub record IsKept (t start : Locks) : Type 0 where
-    pub same : kept_to_boundary job opened member rrn t.held ≡ kept_to_boundary job opened member rrn start.held
+    pub same : kept_to_boundary holder at t.held ≡ kept_to_boundary holder at start.held
     pub room : t.room ≡ start.room
 
-  module _ (t start now : Locks) (lock : Lock) (table : IsTable t) (one : IsOneOf (is_of_open_on job opened member rrn) lock t.held) (is : now ≡ holding (with_lock (bound lock) (without_lock lock t.held)) t) where
+  module _ (t start now : Locks) (lock : Lock) (table : IsTable t) (one : IsOneOf (is_of_open_on holder at) lock t.held) (is : now ≡ holding (with_lock (bound lock) (without_lock lock t.held)) t) where
     pub IsKept-step : IsKept t start → IsKept now start
     IsKept-step kept_so = record {
-      same = ap (λ (u : Locks). kept_to_boundary job opened member rrn u.held) is ∙ kept-step job opened member rrn lock t.held table.ordered one.there one.passes ∙ kept_so.same;
+      same = ap (λ (u : Locks). kept_to_boundary holder at u.held) is ∙ kept-step holder at lock t.held table.ordered one.there one.passes ∙ kept_so.same;
       room = ap (λ (u : Locks). u.room) is ∙ kept_so.room;
     }
 
-    pub kept_falls : length (filter (is_of_open_on job opened member rrn) now.held) < length (filter (is_of_open_on job opened member rrn) t.held)
-    kept_falls = rw is (kept-falls job opened member rrn lock t.held table.ordered one.there one.passes)
+    pub kept_falls : length (filter (is_of_open_on holder at) now.held) < length (filter (is_of_open_on holder at) t.held)
+    kept_falls = rw is (kept-falls holder at lock t.held table.ordered one.there one.passes)
 
-  pub IsKept-end : (t start : Locks) → IsTable t → IsKept t start → filter (is_of_open_on job opened member rrn) t.held ≡ [] → t ≡ holding (kept_to_boundary job opened member rrn start.held) start
-  IsKept-end t start table kept_so none = holding-is t start (kept_to_boundary job opened member rrn start.held) (sym (kept-none job opened member rrn t.held table.ordered none) ∙ kept_so.same) kept_so.room
+  pub IsKept-end : (t start : Locks) → IsTable t → IsKept t start → filter (is_of_open_on holder at) t.held ≡ [] → t ≡ holding (kept_to_boundary holder at start.held) start
+  IsKept-end t start table kept_so none = holding-is t start (kept_to_boundary holder at start.held) (sym (kept-none holder at t.held table.ordered none) ∙ kept_so.same) kept_so.room

@@ -10,6 +10,7 @@ use Rattle.std.proofs.lemmas.Cmp.{alike_right}
 use Rattle.std.proofs.lemmas.List.Elements.{recursion_from_All}
 use Rattle.std.proofs.lemmas.Map.Keys.{Less-from_sorted}
 use Rattle.lock_table.specs.Table.{with_item}
+use Rattle.lock_table.specs.Index.{IsFound, IsMissing}
 use Rattle.lock_table.proofs.InOrder.{with_item-insert, with_item-there, filter-all, filter-found}
 
 pub before_or_at : (i j : ℕ) → i ≤ j → (i < j) ⊎ (i ≡ j)
@@ -59,3 +60,10 @@ module _ {X : Type 0} {R : X → X → Ordering} (o : IsTotalOrder R) where
 
     pub filter-searched : i < length ys → ((d : X) → R (get_or ys i d) x ≡ Equal) → filter (λ y. not (is_eq (R y x))) xs ≡ remove xs i
     filter-searched lt at = filter-found o x xs i s (subst (λ zs. i < length zs) is lt) (λ d. subst (λ zs. R (get_or zs i d) x ≡ Equal) is (at d))
+
+    -- what such a search says of the edits at the place
+    pub IsMissing-failed : i ≤ length ys → (IsNonDecreasingBy (λ y. ordering_index (R y x)) ys → IsPartitionPoint (λ y. R y x ≡ Less) (λ y. R y x ≡ Greater) ys i) → IsMissing R x xs i
+    IsMissing-failed le found = record { within = subst (λ zs. i ≤ length zs) is le; with_it = with_item-failed le found; without_it = filter-failed le found }
+
+    pub IsFound-searched : i < length ys → ((d : X) → R (get_or ys i d) x ≡ Equal) → IsFound R x xs i
+    IsFound-searched lt at = record { within = subst (λ zs. i < length zs) is lt; with_it = with_item-found lt at; without_it = filter-searched lt at }

@@ -7,6 +7,8 @@ use Rattle.std.specs.declared.cmp.Ordering.{Ordering}
 use Rattle.lock_table.specs.declared.lock.LockKind.{LockKind}
 use Rattle.lock_table.specs.declared.lock.Reach.{Reach}
 use Rattle.lock_table.specs.declared.lock.Reach.TheVariants.{Open, Boundary}
+use Rattle.lock_table.specs.declared.lock.RecordId.{RecordId}
+use Rattle.lock_table.specs.declared.lock.Holder.{Holder}
 use Rattle.lock_table.specs.declared.lock.Lock.{Lock}
 
 -- the kind that lets other jobs read the record, and the one that lets none use it
@@ -25,49 +27,69 @@ abbrev pub is_open : Reach → Bool
 is_open Open = true
 is_open Boundary = false
 
+-- the lock that this open of the job has on the record
+abbrev pub lock_by : Holder → RecordId → LockKind → Reach → Lock
+lock_by holder at kind reach = record { job = holder.job; reach = reach; at = at; opened = holder.opened; kind = kind }
+
 -- the lock is on a record of this member
 abbrev pub is_in : ℕ → Lock → Bool
-is_in member lock = lock.member == member
+is_in member lock = lock.at.member == member
 
 -- the lock is on this record
-abbrev pub is_on : ℕ → ℕ → Lock → Bool
-is_on member rrn lock = (lock.member == member) && (lock.rrn == rrn)
+abbrev pub is_on : RecordId → Lock → Bool
+is_on at lock = (lock.at.member == at.member) && (lock.at.rrn == at.rrn)
+
+-- a lock of the job, through any of its opens and however long it is held
+abbrev pub is_by : ℕ → Lock → Bool
+is_by job lock = lock.job == job
+
+-- two kinds that two jobs may not have on one record
+abbrev pub are_apart : LockKind → LockKind → Bool
+are_apart a b = is_update a || is_update b
 
 -- a lock of another job, where one of the two kinds is UPDATE
 abbrev pub is_against : ℕ → LockKind → Lock → Bool
-is_against job kind lock = not (lock.job == job) && (is_update lock.kind || is_update kind)
+is_against job kind lock = not (is_by job lock) && are_apart lock.kind kind
 
 -- such a lock on this record
-abbrev pub blocks : ℕ → ℕ → ℕ → LockKind → Lock → Bool
-blocks job member rrn kind lock = is_on member rrn lock && is_against job kind lock
+abbrev pub blocks : ℕ → RecordId → LockKind → Lock → Bool
+blocks job at kind lock = is_on at lock && is_against job kind lock
 
 -- two locks that may not be held together
 abbrev pub Clashes : Lock → Lock → Type 0
-Clashes a b = IsTrue (blocks a.job a.member a.rrn a.kind b)
+Clashes a b = IsTrue (blocks a.job a.at a.kind b)
 
 -- a lock of this open that ends at its next read
-abbrev pub is_of_open : ℕ → ℕ → Lock → Bool
-is_of_open job opened lock = is_open lock.reach && ((lock.job == job) && (lock.opened == opened))
+abbrev pub is_of_open : Holder → Lock → Bool
+is_of_open holder lock = is_open lock.reach && (is_by holder.job lock && (lock.opened == holder.opened))
 
 -- such a lock on this record
-abbrev pub is_of_open_on : ℕ → ℕ → ℕ → ℕ → Lock → Bool
-is_of_open_on job opened member rrn lock = is_on member rrn lock && is_of_open job opened lock
+abbrev pub is_of_open_on : Holder → RecordId → Lock → Bool
+is_of_open_on holder at lock = is_on at lock && is_of_open holder lock
 
 -- a lock of any open of the job that ends at that open's next read
 abbrev pub is_of_job : ℕ → Lock → Bool
-is_of_job job lock = is_open lock.reach && (lock.job == job)
+is_of_job job lock = is_open lock.reach && is_by job lock
 
--- such a lock on this record
-abbrev pub is_of_record : ℕ → ℕ → ℕ → Lock → Bool
-is_of_record job member rrn lock = is_on member rrn lock && is_of_job job lock
+-- such a lock of one of these opens
+abbrev pub is_of_opens : ℕ → (ℕ → Bool) → Lock → Bool
+is_of_opens job is_among lock = is_of_job job lock && is_among lock.opened
+
+-- a lock of any open of the job on this record that ends at that open's next read
+abbrev pub is_of_record : ℕ → RecordId → Lock → Bool
+is_of_record job at lock = is_on at lock && is_of_job job lock
 
 -- a lock that the job keeps to its boundary
 abbrev pub is_of_group : ℕ → Lock → Bool
-is_of_group job lock = not (is_open lock.reach) && (lock.job == job)
+is_of_group job lock = not (is_open lock.reach) && is_by job lock
 
 -- such a lock on this record
-abbrev pub is_of_group_on : ℕ → ℕ → ℕ → Lock → Bool
-is_of_group_on job member rrn lock = is_on member rrn lock && is_of_group job lock
+abbrev pub is_of_group_on : ℕ → RecordId → Lock → Bool
+is_of_group_on job at lock = is_on at lock && is_of_group job lock
+
+-- what the job has on a record that it changed under commitment
+abbrev pub is_change_lock : ℕ → RecordId → Lock → Bool
+is_change_lock job at lock = is_of_group_on job at lock && is_update lock.kind
 
 -- a lock on a record of this member that some job keeps to its boundary
 abbrev pub is_boundary_in : ℕ → Lock → Bool
@@ -82,11 +104,10 @@ abbrev pub reach_number : Reach → ℕ
 reach_number Open = 0
 reach_number Boundary = 1
 
--- by record, then by holder, kind and reach
+-- by job and reach, then by record, open and kind
 abbrev pub lock_cmp : Lock → Lock → Ordering
 lock_cmp a b =
-    ordering_then (nat_cmp a.member b.member)
-    (ordering_then (nat_cmp a.rrn b.rrn)
-    (ordering_then (nat_cmp a.job b.job)
-    (ordering_then (nat_cmp a.opened b.opened)
-    (ordering_then (nat_cmp a.kind.0 b.kind.0) (nat_cmp (reach_number a.reach) (reach_number b.reach))))))
+    ordering_then (nat_cmp a.job b.job)
+    (ordering_then (nat_cmp (reach_number a.reach) (reach_number b.reach))
+    (ordering_then (ordering_then (nat_cmp a.at.member b.at.member) (nat_cmp a.at.rrn b.at.rrn))
+    (ordering_then (nat_cmp a.opened b.opened) (nat_cmp a.kind.0 b.kind.0))))

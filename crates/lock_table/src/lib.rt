@@ -4,8 +4,10 @@
 
 mod chosen;
 mod fault;
+pub mod laws;
 mod levels;
 mod lock;
+mod part;
 mod sorted;
 mod table;
 #[cfg(test)]
@@ -14,5 +16,5 @@ mod tests;
 pub use commit_level::Level;
 pub use fault::{InUse, LockFault};
 pub use levels::{Call, Freed, OpenLocks, Wanted, asked, released};
-pub use lock::{Lock, LockKind, Reach};
+pub use lock::{Holder, Lock, LockKind, Reach, RecordId};
 pub use table::{Held, LockTable, MOST_LOCKS};

@@ -1,5 +1,5 @@
 //! A record lock: who holds it, on which record, of which kind and how long. The table of locks is in table.rt.
-ghost use Rattle.std.specs.Prelude.{⊤, ◌≡◌, ◌||◌, [], ◌∷◌, codes};
+ghost use Rattle.std.specs.Prelude.{⊤, ◌≡◌, [], ◌∷◌, codes};
 
 use bitflags::{Flag, Flags, bitflag_items};
 
@@ -37,11 +37,11 @@ impl Flags for LockKind {
 }
 
 impl LockKind {
-    ghost use Rattle.lock_table.specs.Lock.{is_update};
+    ghost use Rattle.lock_table.specs.Lock.{are_apart};
 
     /// Whether two jobs may not hold these kinds on one record: READ beside READ alone is allowed.
     pub fn clashes_with(self, other: LockKind) -> bool
-        ensures { result ≡ (is_update self || is_update other) }
+        ensures { result ≡ are_apart self other }
     {
         self.contains(LockKind::UPDATE) || other.contains(LockKind::UPDATE)
     }
@@ -70,31 +70,51 @@ impl Reach {
     }
 }
 
-/// A record lock.
+/// A record of a member.
 #[derive(Clone, Copy, PartialEq, Eq, PartialOrd, Ord)]
-pub struct Lock {
+pub struct RecordId {
     pub member: u32,
     pub rrn: u32,
+}
+
+/// Through which open of which job a record is locked.
+#[derive(Clone, Copy, PartialEq, Eq)]
+pub struct Holder {
     pub job: u32,
+    /// The number of the open, apart from the others of its job.
+    pub opened: u32,
+}
+
+/// A record lock. The order of the fields is the one in which the table lists its locks.
+#[derive(Clone, Copy, PartialEq, Eq, PartialOrd, Ord)]
+pub struct Lock {
+    pub job: u32,
+    pub reach: Reach,
+    pub at: RecordId,
     /// The number of the open of the job through which the record was locked.
     pub opened: u32,
     pub kind: LockKind,
-    pub reach: Reach,
 }
 
-/// A lock that ends at the next read through its open, in the order in which opens find theirs.
-#[derive(Clone, Copy, PartialEq, Eq, PartialOrd, Ord)]
-pub struct OpenLock {
-    pub job: u32,
-    pub opened: u32,
-    pub member: u32,
-    pub rrn: u32,
-    pub kind: LockKind,
+impl Holder {
+    ghost use Rattle.lock_table.specs.Lock.{lock_by};
+
+    /// The lock that this open has on the record.
+    pub fn lock(self, at: RecordId, kind: LockKind, reach: Reach) -> Lock
+        ensures { result ≡ lock_by self at kind reach }
+    {
+        Lock {
+            job: self.job,
+            reach,
+            at,
+            opened: self.opened,
+            kind,
+        }
+    }
 }
 
 impl Lock {
-    ghost use Rattle.lock_table.specs.Lock.{bound, is_against, is_of_group, is_of_job, is_of_open};
-    ghost use Rattle.lock_table.specs.Index.{open_part};
+    ghost use Rattle.lock_table.specs.Lock.{are_apart, bound, is_of_open, is_of_open_on, is_on};
 
     /// The same lock, kept to the boundary.
     pub fn to_boundary(&self) -> Lock
@@ -106,62 +126,24 @@ impl Lock {
         }
     }
 
-    /// Whether a lock of this kind by this job clashes with it on one record.
-    pub fn is_against(&self, job: u32, kind: LockKind) -> bool
-        ensures { result ≡ is_against job kind self.now }
+    /// Whether it is on this record.
+    pub fn is_on(&self, at: RecordId) -> bool
+        ensures { result ≡ is_on at self.now }
     {
-        self.job != job && self.kind.clashes_with(kind)
+        self.at.member == at.member && self.at.rrn == at.rrn
     }
 
     /// Whether it ends at the next read through this open.
-    pub fn is_of_open(&self, job: u32, opened: u32) -> bool
-        ensures { result ≡ is_of_open job opened self.now }
+    pub fn is_of_open(&self, holder: Holder) -> bool
+        ensures { result ≡ is_of_open holder self.now }
     {
-        self.reach.is_open() && self.job == job && self.opened == opened
+        self.reach.is_open() && self.job == holder.job && self.opened == holder.opened
     }
 
-    /// Whether it ends at the next read through some open of the job.
-    pub fn is_of_job(&self, job: u32) -> bool
-        ensures { result ≡ is_of_job job self.now }
+    /// Whether it is on this record, and ends at the next read through this open.
+    pub fn is_of_open_on(&self, holder: Holder, at: RecordId) -> bool
+        ensures { result ≡ is_of_open_on holder at self.now }
     {
-        self.reach.is_open() && self.job == job
-    }
-
-    /// Whether the job keeps it to its boundary.
-    pub fn is_of_group(&self, job: u32) -> bool
-        ensures { result ≡ is_of_group job self.now }
-    {
-        !self.reach.is_open() && self.job == job
-    }
-
-    /// The lock without its reach.
-    pub fn open_part(&self) -> OpenLock
-        ensures { result ≡ open_part self.now }
-    {
-        OpenLock {
-            job: self.job,
-            opened: self.opened,
-            member: self.member,
-            rrn: self.rrn,
-            kind: self.kind,
-        }
-    }
-}
-
-impl OpenLock {
-    ghost use Rattle.lock_table.specs.Index.{whole_lock};
-
-    /// The lock with its reach.
-    pub fn whole_lock(&self) -> Lock
-        ensures { result ≡ whole_lock self.now }
-    {
-        Lock {
-            member: self.member,
-            rrn: self.rrn,
-            job: self.job,
-            opened: self.opened,
-            kind: self.kind,
-            reach: Reach::Open,
-        }
+        self.is_on(at) && self.is_of_open(holder)
     }
 }

@@ -1,62 +1,28 @@
-//! Lists in strict order: where an item is put in, where it is taken out, and which run of locks a record has.
-ghost use Rattle.std.specs.List.{Contains};
+//! Lists of locks in strict order: where a lock is put in, where it is taken out, and where a part of the list stands.
 ghost use Rattle.std.specs.List.Sorted.{IsStrictlySortedBy};
-ghost use Rattle.std.specs.Ordering.{is_eq};
+ghost use Rattle.std.specs.Ordering.{is_eq, is_lt, is_le};
 ghost use Rattle.std.specs.declared.cmp.Ordering.{Ordering};
-ghost use Rattle.std.specs.Prelude.{true, IsTrue, IfSome, IfNone, ◌≡◌, ◌↔◌, length, slice_index_or, ◌<◌, not, filter, vec_len, vec_capacity};
-ghost use Rattle.lock_table.specs.Lock.{bound, is_open, is_in, is_on, lock_cmp};
-ghost use Rattle.lock_table.specs.Table.{with_item, with_lock, without_lock};
-ghost use Rattle.lock_table.specs.Index.{IsAt, IsRun, without_open_lock, is_part_of, open_cmp};
+ghost use Rattle.std.specs.Prelude.{◌≡◌, ◌≤◌, ◌+◌, Bool, IfOk, IfErr, length, not, filter, if◌then◌else◌, vec_len, vec_capacity};
+ghost use Rattle.lock_table.specs.Lock.{lock_cmp};
+ghost use Rattle.lock_table.specs.Table.{freed, with_lock, without_lock};
+ghost use Rattle.lock_table.specs.Index.{IsBehind, IsFound, IsMissing, IsRun, is_part, part_cmp};
 
-use crate::lock::{Lock, OpenLock};
+use crate::lock::Lock;
+use crate::part::Part;
 
-// Puts the item in its place, unless it is there. There is room, so no memory is taken. The clause speaks of any order
-// that answers as the items' own.
-fn put_in<T: Ord + Drop>(items: &mut Vec<T>, item: T)
-    requires ordered { IsStrictlySortedBy T.cmp items.old.items }
-    requires room { vec_len items.old < vec_capacity items.old }
-    ensures items { (R : T → T → Ordering) → ((a b : T) → T.cmp a b ≡ R a b) → items.new.items ≡ with_item R item items.old.items }
-    ensures capacity { vec_capacity items.new ≡ vec_capacity items.old }
+/// Puts the lock in its place, unless it is there. There is room for what is then held, so no memory is taken.
+pub fn put_lock(locks: &mut Vec<Lock>, lock: Lock)
+    requires ordered { IsStrictlySortedBy lock_cmp locks.old.items }
+    requires room { length (with_lock lock locks.old.items) ≤ vec_capacity locks.old }
+    ensures items { locks.new.items ≡ with_lock lock locks.old.items }
+    ensures capacity { vec_capacity locks.new ≡ vec_capacity locks.old }
 {
-    if let Err(place) = items.binary_search(&item) {
-        match items.insert(place, item) {
+    if let Err(place) = lock_place(locks, &lock) {
+        match locks.insert(place, lock) {
             Ok(()) => {}
             Err(_) => unreachable!(),
         }
     }
-}
-
-// Takes the item out, where it is there.
-fn take_out<T: Ord + Drop>(items: &mut Vec<T>, item: &T)
-    requires { IsStrictlySortedBy T.cmp items.old.items }
-    ensures items { (R : T → T → Ordering) → ((a b : T) → T.cmp a b ≡ R a b) → items.new.items ≡ filter (λ x. not (is_eq (R x item.now))) items.old.items }
-    ensures capacity { vec_capacity items.new ≡ vec_capacity items.old }
-{
-    if let Ok(place) = items.binary_search(item) {
-        items.remove(place);
-    }
-}
-
-// Where the item is, `None` where it isn't there.
-fn place_of<T: Ord>(items: &[T], item: &T) -> Option<usize>
-    requires { IsStrictlySortedBy T.cmp items.now }
-    ensures found { (R : T → T → Ordering) → ((a b : T) → T.cmp a b ≡ R a b) → IfSome result (IsAt R item.now items.now) }
-    ensures none { (R : T → T → Ordering) → ((a b : T) → T.cmp a b ≡ R a b) → IfNone result (filter (λ x. not (is_eq (R x item.now))) items.now ≡ items.now) }
-{
-    match items.binary_search(item) {
-        Ok(place) => Some(place),
-        Err(_) => None,
-    }
-}
-
-/// Puts the lock in its place, unless it is there.
-pub fn put_lock(locks: &mut Vec<Lock>, lock: Lock)
-    requires ordered { IsStrictlySortedBy lock_cmp locks.old.items }
-    requires room { vec_len locks.old < vec_capacity locks.old }
-    ensures items { locks.new.items ≡ with_lock lock locks.old.items }
-    ensures capacity { vec_capacity locks.new ≡ vec_capacity locks.old }
-{
-    put_in(locks, lock);
 }
 
 /// Takes the lock out, where it is there.
@@ -65,114 +31,79 @@ pub fn take_lock(locks: &mut Vec<Lock>, lock: &Lock)
     ensures items { locks.new.items ≡ without_lock lock.now locks.old.items }
     ensures capacity { vec_capacity locks.new ≡ vec_capacity locks.old }
 {
-    take_out(locks, lock);
-}
-
-/// Keeps a lock that is there to the boundary, where it stands. Where the same lock, kept already, stands behind it, it
-/// goes.
-pub fn keep_lock(locks: &mut Vec<Lock>, lock: &Lock)
-    requires ordered { IsStrictlySortedBy lock_cmp locks.old.items }
-    requires there { Contains locks.old.items lock.now }
-    requires ends { is_open lock.now.reach ≡ true }
-    ensures items { locks.new.items ≡ with_lock (bound lock.now) (without_lock lock.now locks.old.items) }
-    ensures capacity { vec_capacity locks.new ≡ vec_capacity locks.old }
-{
-    let place = lock_place(locks, lock);
-    let kept = lock.to_boundary();
-    if stands_at(locks, place + 1, &kept) {
+    if let Ok(place) = lock_place(locks, lock) {
         locks.remove(place);
-    } else {
-        locks[place] = kept;
     }
 }
 
-fn lock_place(locks: &[Lock], lock: &Lock) -> usize
-    requires ordered { IsStrictlySortedBy lock_cmp locks.now }
-    requires there { Contains locks.now lock.now }
-    ensures within { result < length locks.now }
-    ensures at { slice_index_or locks.now result lock.now ≡ lock.now }
+/// Whether the lock is there.
+pub fn is_there(locks: &[Lock], lock: &Lock) -> bool
+    requires { IsStrictlySortedBy lock_cmp locks.now }
+    ensures with_it { length (with_lock lock.now locks.now) ≡ length locks.now + (if result then 0 else 1) }
+    ensures without_it { length (without_lock lock.now locks.now) + (if result then 1 else 0) ≡ length locks.now }
 {
-    let Some(place) = place_of(locks, lock) else {
-        unreachable!()
-    };
-    place
+    match lock_place(locks, lock) {
+        Ok(_) => true,
+        Err(_) => false,
+    }
 }
 
-fn stands_at(locks: &[Lock], place: usize, lock: &Lock) -> bool
-    ensures { IsTrue result ↔ ((place < length locks.now) × (slice_index_or locks.now place lock.now ≡ lock.now)) }
+// Where the lock stands, or where it belongs.
+fn lock_place(locks: &[Lock], lock: &Lock) -> Result<usize, usize>
+    requires { IsStrictlySortedBy lock_cmp locks.now }
+    ensures found { IfOk result (IsFound lock_cmp lock.now locks.now) }
+    ensures missing { IfErr result (IsMissing lock_cmp lock.now locks.now) }
 {
-    place < locks.len() && locks[place] == *lock
+    place_of(locks, lock)
 }
 
-/// Puts the lock in its place by open, unless it is there.
-pub fn put_open_lock(locks: &mut Vec<OpenLock>, lock: OpenLock)
-    requires ordered { IsStrictlySortedBy open_cmp locks.old.items }
-    requires room { vec_len locks.old < vec_capacity locks.old }
-    ensures items { locks.new.items ≡ with_item open_cmp lock locks.old.items }
+// The clauses speak of any order that answers as the items' own.
+fn place_of<T: Ord>(items: &[T], item: &T) -> Result<usize, usize>
+    requires { IsStrictlySortedBy T.cmp items.now }
+    ensures found { (R : T → T → Ordering) → ((a b : T) → T.cmp a b ≡ R a b) → IfOk result (IsFound R item.now items.now) }
+    ensures missing { (R : T → T → Ordering) → ((a b : T) → T.cmp a b ≡ R a b) → IfErr result (IsMissing R item.now items.now) }
+{
+    match items.binary_search(item) {
+        Ok(place) => Ok(place),
+        Err(place) => Err(place),
+    }
+}
+
+/// The locks of a part, which stand side by side.
+pub fn locks_of(locks: &[Lock], part: Part) -> &[Lock]
+    requires { IsStrictlySortedBy lock_cmp locks.now }
+    ensures { result.now ≡ filter (is_part part) locks.now }
+{
+    let (start, end) = run_of(locks, part);
+    &locks[start..end]
+}
+
+/// Takes the locks of a part out, at once.
+pub fn take_locks(locks: &mut Vec<Lock>, part: Part)
+    requires { IsStrictlySortedBy lock_cmp locks.old.items }
+    ensures items { locks.new.items ≡ freed (is_part part) locks.old.items }
     ensures capacity { vec_capacity locks.new ≡ vec_capacity locks.old }
 {
-    put_in(locks, lock);
+    let (start, end) = run_of(locks, part);
+    let left = locks.len() - (end - start);
+    locks.copy_within(end.., start);
+    locks.truncate(left);
 }
 
-/// Takes the lock out of its place by open, where it is there.
-pub fn take_open_lock(locks: &mut Vec<OpenLock>, lock: &OpenLock)
-    requires { IsStrictlySortedBy open_cmp locks.old.items }
-    ensures items { locks.new.items ≡ without_open_lock lock.now locks.old.items }
-    ensures capacity { vec_capacity locks.new ≡ vec_capacity locks.old }
-{
-    take_out(locks, lock);
-}
-
-/// The locks on a record, which stand side by side.
-pub fn locks_on(locks: &[Lock], member: u32, rrn: u32) -> &[Lock]
+fn run_of(locks: &[Lock], part: Part) -> (usize, usize)
     requires { IsStrictlySortedBy lock_cmp locks.now }
-    ensures { result.now ≡ filter (is_on member rrn) locks.now }
+    ensures { IsRun (is_part part) locks.now result.0 result.1 }
 {
-    let (start, end) = run_on(locks, member, rrn);
-    &locks[start..end]
-}
-
-fn run_on(locks: &[Lock], member: u32, rrn: u32) -> (usize, usize)
-    requires { IsStrictlySortedBy lock_cmp locks.now }
-    ensures { IsRun (is_on member rrn) locks.now result.0 result.1 }
-{
-    let start = locks.partition_point(|lock| (lock.member, lock.rrn) < (member, rrn));
-    let end = locks.partition_point(|lock| (lock.member, lock.rrn) <= (member, rrn));
+    let start = locks.partition_point(|lock| part.side_of(lock).is_lt());
+    let end = locks.partition_point(|lock| part.side_of(lock).is_le());
     (start, end)
 }
 
-/// The locks on the records of a member, which stand side by side.
-pub fn locks_in(locks: &[Lock], member: u32) -> &[Lock]
+/// The locks behind those of a job, where those before are of no greater job.
+pub fn locks_behind(locks: &[Lock], job: u32) -> &[Lock]
     requires { IsStrictlySortedBy lock_cmp locks.now }
-    ensures { result.now ≡ filter (is_in member) locks.now }
+    ensures { IsBehind job locks.now result.now }
 {
-    let (start, end) = run_in(locks, member);
-    &locks[start..end]
-}
-
-fn run_in(locks: &[Lock], member: u32) -> (usize, usize)
-    requires { IsStrictlySortedBy lock_cmp locks.now }
-    ensures { IsRun (is_in member) locks.now result.0 result.1 }
-{
-    let start = locks.partition_point(|lock| lock.member < member);
-    let end = locks.partition_point(|lock| lock.member <= member);
-    (start, end)
-}
-
-/// The locks of an open that end at its next read, which stand side by side.
-pub fn locks_of(locks: &[OpenLock], job: u32, opened: u32) -> &[OpenLock]
-    requires { IsStrictlySortedBy open_cmp locks.now }
-    ensures { result.now ≡ filter (is_part_of job opened) locks.now }
-{
-    let (start, end) = run_of(locks, job, opened);
-    &locks[start..end]
-}
-
-fn run_of(locks: &[OpenLock], job: u32, opened: u32) -> (usize, usize)
-    requires { IsStrictlySortedBy open_cmp locks.now }
-    ensures { IsRun (is_part_of job opened) locks.now result.0 result.1 }
-{
-    let start = locks.partition_point(|lock| (lock.job, lock.opened) < (job, opened));
-    let end = locks.partition_point(|lock| (lock.job, lock.opened) <= (job, opened));
-    (start, end)
+    let end = locks.partition_point(|lock| lock.job <= job);
+    &locks[end..]
 }

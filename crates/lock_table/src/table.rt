@@ -1,19 +1,21 @@
-//! The table of all record locks. Its locks stand in one list by record, where a request looks for a clash, and those
-//! that end at a next read stand in a second list by open, where their release looks for them. The searches in the two
-//! lists are in sorted.rt.
+//! The table of all record locks: one list in order, where those of a job stand side by side, its open locks before its
+//! boundary locks. The searches in the list are in sorted.rt and chosen.rt.
 ghost use Rattle.std.specs.List.{All, Contains, list_any};
-ghost use Rattle.std.specs.Prelude.{true, ◌≡◌, ℕ, ◌+◌, ◌<◌, ◌≤◌, ◌&&◌, ◌↔◌, IsOk, IsErrOf, OnOk, OnErr, IfSome, IfNone, Some, None, Err, [], length, filter};
-ghost use Rattle.lock_table.specs.Lock.{Clashes, bound, is_open, is_on, is_of_open, is_of_open_on, is_of_record, is_of_group, is_of_group_on, is_boundary_in};
-ghost use Rattle.lock_table.specs.Table.{IsTable, IsOneOf, without_lock, spare, holding, reserved, with_lock, asked_lock, blocker, least_job, kept_to_boundary, freed};
+ghost use Rattle.std.specs.Prelude.{true, false, ◌≡◌, ℕ, ◌+◌, ◌<◌, ◌≤◌, ◌==◌, ◌↔◌, Bool, Option, IsOk, IsErrOf, OnOk, OnErr, IfSome, IfNone, Some, None, Err, [], length, filter};
+ghost use Rattle.commit_level.specs.declared.Level.{Level};
+ghost use Rattle.lock_table.specs.declared.levels.Call.TheVariants.{Commit, Rollback, EndJob};
+ghost use Rattle.lock_table.specs.declared.lock.RecordId.{RecordId};
+ghost use Rattle.lock_table.specs.declared.lock.Reach.TheVariants.{Open, Boundary};
+ghost use Rattle.lock_table.specs.Lock.{Clashes, is_by, is_open, is_of_job, is_of_open, is_of_open_on, is_of_record, is_of_group, is_of_group_on, is_boundary_in, bound};
+ghost use Rattle.lock_table.specs.Table.{IsTable, IsOneOf, HasRoom, without_lock, with_lock, with_lock_by, holding, reserved, after_read, blocker, least_job, kept_to_boundary, freed};
+ghost use Rattle.lock_table.specs.Index.{is_part};
+ghost use Rattle.lock_table.specs.Levels.{locks_after};
 
-use crate::chosen::{
-    least_job_to_boundary, lock_against, lock_of_group, lock_of_job, lock_of_open,
-};
+use crate::chosen::{least_blocker, least_keeper, lock_of_open, lock_of_open_on, locks_of_open};
 use crate::fault::{InUse, LockFault};
-use crate::lock::{Lock, LockKind, OpenLock, Reach};
-use crate::sorted::{
-    keep_lock, locks_in, locks_of, locks_on, put_lock, put_open_lock, take_lock, take_open_lock,
-};
+use crate::lock::{Holder, Lock, LockKind, Reach, RecordId};
+use crate::part::Part;
+use crate::sorted::{is_there, locks_of, put_lock, take_lock, take_locks};
 use std::alloc::Global;
 use std::marker::Model;
 
@@ -23,21 +25,20 @@ pub const MOST_LOCKS: u32 = 500_000;
 /// The record locks of all jobs.
 #[derive(Drop)]
 pub struct LockTable {
-    by_record: Vec<Lock>,
-    by_open: Vec<OpenLock>,
+    locks: Vec<Lock>,
     room: usize,
 }
 
 impl Model for LockTable {
     ghost use Rattle.std.specs.Vec.{vec_capacity};
     ghost use Rattle.lock_table.specs.Table.{Locks};
-    ghost use Rattle.lock_table.specs.Index.{IsIndexed};
+    ghost use Rattle.lock_table.specs.Index.{IsStored};
 
     ghost Value = { Locks };
 
-    ghost view = { λ t. record { held = t.by_record.items; room = t.room } };
+    ghost view = { λ t. record { held = t.locks.items; room = t.room } };
 
-    ghost invariant = { λ t. IsIndexed t.by_record.items t.by_open.items t.room (vec_capacity t.by_record) (vec_capacity t.by_open) };
+    ghost invariant = { λ t. IsStored t.locks.items t.room (vec_capacity t.locks) };
 }
 
 /// What a job holds on a record.
@@ -55,10 +56,19 @@ impl LockTable {
         ensures { result ≡ record { held = []; room = 0 } }
     {
         LockTable {
-            by_record: Vec::new(alloc),
-            by_open: Vec::new(alloc),
+            locks: Vec::new(alloc),
             room: 0,
         }
+    }
+
+    /// How many locks are held.
+    pub fn count(&self) -> u32
+        ensures count { result ≡ length self.now.held }
+
+        // No two locks that are held clash, and no more than the most are held.
+        ensures table { IsTable self.now }
+    {
+        self.locks.len() as u32
     }
 
     /// Makes room for so many more locks than are held.
@@ -70,177 +80,229 @@ impl LockTable {
         ensures ready { length self.old.held + more ≤ self.old.room → IsOk result }
         ensures refused { OnErr result (self.new ≡ self.old) }
     {
-        let wanted = self.by_record.len() + more as usize;
+        let wanted = self.locks.len() + more as usize;
         if wanted > MOST_LOCKS as usize {
             return Err(LockFault::Full);
         }
         if wanted > self.room {
-            self.by_record.reserve(more as usize)?;
-            self.by_open.reserve(wanted - self.by_open.len())?;
+            self.locks.reserve(more as usize)?;
             self.room = wanted;
         }
         Ok(())
     }
 
     /// The least other job that has a clashing lock on the record, `None` where no job has one.
-    pub fn clash(&self, job: u32, member: u32, rrn: u32, kind: LockKind) -> Option<u32>
-        ensures { result ≡ blocker job member rrn kind self.now.held }
+    pub fn clash(&self, job: u32, at: RecordId, kind: LockKind) -> Option<u32>
+        ensures { result ≡ blocker job at kind self.now.held }
     {
-        let lock = lock_against(self.on_record(member, rrn), job, kind)?;
-        Some(lock.job)
+        least_blocker(&self.locks, job, at, kind)
     }
 
-    /// Locks a record for this open of the job, to its next read.
+    /// How many locks would be held after a read through this open that locks the record so.
+    ///
+    /// The read gives up the older lock of its open, and the very lock may be held already.
+    pub fn count_after(&self, holder: Holder, at: RecordId, kind: LockKind, reach: Reach) -> u32
+        ensures { result ≡ length (after_read holder at kind reach self.now.held) }
+    {
+        let left = self.locks.len() - locks_of_open(self.open_locks(holder.job), holder);
+        (left + self.growth(holder.lock(at, kind, reach))) as u32
+    }
+
+    /// How many locks would be held once the record is locked to the boundary, as by a WRITE under commitment.
+    ///
+    /// The very lock may be held already, to the boundary or to the next read.
+    pub fn count_to_boundary(&self, holder: Holder, at: RecordId, kind: LockKind) -> u32
+        ensures { result ≡ length (with_lock_by holder at kind Boundary self.now.held) }
+    {
+        let to_next_read = holder.lock(at, kind, Reach::Open);
+        let to_boundary = holder.lock(at, kind, Reach::Boundary);
+        let left = self.locks.len() - self.shrinkage(to_next_read);
+        (left + self.growth(to_boundary)) as u32
+    }
+
+    /// Locks the record for this open of the job, to its next read.
     ///
     /// What the job holds there already is held besides. The very same lock is held once: asking for it again is OK
-    /// and takes no room. The room stays as it is, so the spare falls by one with each lock that is added.
-    pub fn ask(
-        &mut self,
-        job: u32,
-        opened: u32,
-        member: u32,
-        rrn: u32,
-        kind: LockKind,
-    ) -> Result<(), InUse>
-        requires { 1 ≤ spare self.old }
-        ensures granted { OnOk result (self.new ≡ holding (with_lock (asked_lock job opened member rrn kind) self.old.held) self.old) }
-        ensures ok { IsOk result ↔ (blocker job member rrn kind self.old.held ≡ None) }
-        ensures in_use { (holder : ℕ) → (result ≡ Err (record { job = holder })) ↔ (blocker job member rrn kind self.old.held ≡ Some holder) }
+    /// and takes no room. The room stays as it is.
+    pub fn ask(&mut self, holder: Holder, at: RecordId, kind: LockKind) -> Result<(), InUse>
+        requires { HasRoom holder at kind Open self.old }
+        ensures granted { OnOk result (self.new ≡ holding (with_lock_by holder at kind Open self.old.held) self.old) }
+        ensures ok { IsOk result ↔ (blocker holder.job at kind self.old.held ≡ None) }
+        ensures in_use { (other : ℕ) → (result ≡ Err (record { job = other })) ↔ (blocker holder.job at kind self.old.held ≡ Some other) }
         ensures refused { OnErr result (self.new ≡ self.old) }
     {
-        if let Some(holder) = self.clash(job, member, rrn, kind) {
-            return Err(InUse { job: holder });
+        if let Some(job) = self.clash(holder.job, at, kind) {
+            return Err(InUse { job });
         }
-        let reach = Reach::Open;
-        let lock = Lock {
-            member,
-            rrn,
-            job,
-            opened,
-            kind,
-            reach,
-        };
-        self.add(lock);
+        self.add(holder.lock(at, kind, Reach::Open));
+        Ok(())
+    }
+
+    /// Locks the record for this open of the job, to the job's next boundary.
+    ///
+    /// The same lock to the next read of the open, where it is held, becomes the boundary lock and leaves its room.
+    pub fn ask_to_boundary(
+        &mut self,
+        holder: Holder,
+        at: RecordId,
+        kind: LockKind,
+    ) -> Result<(), InUse>
+        requires { HasRoom holder at kind Boundary self.old }
+        ensures granted { OnOk result (self.new ≡ holding (with_lock_by holder at kind Boundary self.old.held) self.old) }
+        ensures ok { IsOk result ↔ (blocker holder.job at kind self.old.held ≡ None) }
+        ensures in_use { (other : ℕ) → (result ≡ Err (record { job = other })) ↔ (blocker holder.job at kind self.old.held ≡ Some other) }
+        ensures refused { OnErr result (self.new ≡ self.old) }
+    {
+        if let Some(job) = self.clash(holder.job, at, kind) {
+            return Err(InUse { job });
+        }
+        let to_next_read = holder.lock(at, kind, Reach::Open);
+        let to_boundary = holder.lock(at, kind, Reach::Boundary);
+        self.free(to_next_read);
+        self.add(to_boundary);
         Ok(())
     }
 
     /// Keeps the open's locks on the record to the job's next boundary.
-    pub fn keep_to_boundary(&mut self, job: u32, opened: u32, member: u32, rrn: u32)
-        ensures { self.new ≡ holding (kept_to_boundary job opened member rrn self.old.held) self.old }
+    pub fn keep_to_boundary(&mut self, holder: Holder, at: RecordId)
+        ensures { self.new ≡ holding (kept_to_boundary holder at self.old.held) self.old }
     {
-        while let Some(lock) = self.open_lock_on(job, opened, member, rrn) {
+        while let Some(lock) = self.open_lock_on(holder, at) {
             self.keep(lock);
         }
     }
 
     /// Frees the locks of this open that end at its next read. Its boundary locks stay.
-    pub fn release_open(&mut self, job: u32, opened: u32)
-        ensures { self.new ≡ holding (freed (is_of_open job opened) self.old.held) self.old }
+    pub fn release_open(&mut self, holder: Holder)
+        ensures { self.new ≡ holding (freed (is_of_open holder) self.old.held) self.old }
     {
-        while let Some(lock) = self.open_lock(job, opened) {
+        while let Some(lock) = self.open_lock(holder) {
             self.free(lock);
         }
     }
 
     /// Frees the locks of all opens of the job on the record that end at a next read.
-    pub fn release_record(&mut self, job: u32, member: u32, rrn: u32)
-        ensures { self.new ≡ holding (freed (is_of_record job member rrn) self.old.held) self.old }
+    pub fn release_record(&mut self, job: u32, at: RecordId)
+        ensures { self.new ≡ holding (freed (is_of_record job at) self.old.held) self.old }
     {
-        while let Some(lock) = self.job_lock_on(job, member, rrn) {
-            self.free(lock);
-        }
+        self.free_part(Part::OnRecord(job, Reach::Open, at));
     }
 
-    /// Frees the locks that the job keeps to its boundary. The time grows with the locks that are held.
+    /// Frees the locks that the job keeps to its boundary, at once.
     pub fn release_group(&mut self, job: u32)
         ensures { self.new ≡ holding (freed (is_of_group job) self.old.held) self.old }
     {
-        self.by_record.retain(|lock| !lock.is_of_group(job));
+        self.free_part(Part::Reaching(job, Reach::Boundary));
     }
 
-    /// What the job holds on a record.
-    pub fn held(&self, job: u32, opened: u32, member: u32, rrn: u32) -> Held
-        ensures by_open { result.by_open ≡ list_any (is_of_open_on job opened member rrn) self.now.held }
-        ensures to_boundary { result.to_boundary ≡ list_any (is_of_group_on job member rrn) self.now.held }
-
-        // No two locks that are held clash, and no more than the most are held.
-        ensures table { IsTable self.now }
+    /// What COMMIT releases: the job's boundary locks, and the open locks of these opens, which are under commitment.
+    pub fn release_commit(&mut self, job: u32, opens: &[u32])
+        ensures { (level : Option Level) (opened : ℕ) (at : RecordId) → self.new ≡ holding (locks_after Commit level (record { job = job; opened = opened }) at (λ n. list_any (λ o. o == n) opens.now) self.old.held) self.old }
     {
-        let locks = self.on_record(member, rrn);
-        Held {
-            by_open: lock_of_open(locks, job, opened).is_some(),
-            to_boundary: lock_of_group(locks, job).is_some(),
+        self.release_group(job);
+        for opened in opens {
+            let opened = *opened;
+            self.release_open(Holder { job, opened });
         }
     }
 
-    /// The least job that keeps a lock on a record of the member to its boundary. The time grows with the locks of
-    /// that member.
+    /// What ROLLBACK and ENDJOB release: all locks of the job.
+    pub fn release_job(&mut self, job: u32)
+        ensures locks { self.new ≡ holding (freed (is_by job) self.old.held) self.old }
+        ensures rollback { (level : Option Level) (opened : ℕ) (at : RecordId) (is_committed : ℕ → Bool) → self.new ≡ holding (locks_after Rollback level (record { job = job; opened = opened }) at is_committed self.old.held) self.old }
+        ensures end_job { (level : Option Level) (opened : ℕ) (at : RecordId) (is_committed : ℕ → Bool) → self.new ≡ holding (locks_after EndJob level (record { job = job; opened = opened }) at is_committed self.old.held) self.old }
+    {
+        self.free_part(Part::OfJob(job));
+    }
+
+    /// What the open and its job hold on a record.
+    pub fn held(&self, holder: Holder, at: RecordId) -> Held
+        ensures by_open { result.by_open ≡ list_any (is_of_open_on holder at) self.now.held }
+        ensures to_boundary { result.to_boundary ≡ list_any (is_of_group_on holder.job at) self.now.held }
+    {
+        let kept = locks_of(&self.locks, Part::OnRecord(holder.job, Reach::Boundary, at));
+        Held {
+            by_open: self.open_lock_on(holder, at).is_some(),
+            to_boundary: !kept.is_empty(),
+        }
+    }
+
+    /// The least job that keeps a lock on a record of the member to its boundary.
     pub fn boundary_in(&self, member: u32) -> Option<u32>
         ensures { result ≡ least_job (filter (is_boundary_in member) self.now.held) }
     {
-        least_job_to_boundary(locks_in(&self.by_record, member))
+        least_keeper(&self.locks, member)
     }
 
-    fn on_record(&self, member: u32, rrn: u32) -> &[Lock]
+    // By how many locks the list grows with this one, once the older lock of its open is gone.
+    fn growth(&self, lock: Lock) -> usize
+        ensures least { result ≤ 1 }
+        ensures to_next_read { is_open lock.reach ≡ true → result ≡ 1 }
+        ensures to_boundary { is_open lock.reach ≡ false → length (with_lock lock self.now.held) ≡ length self.now.held + result }
+    {
+        let is_held = !lock.reach.is_open() && is_there(&self.locks, &lock);
+        if is_held { 0 } else { 1 }
+    }
+
+    // By how many locks the list shrinks without this one.
+    fn shrinkage(&self, lock: Lock) -> usize
+        ensures { length (without_lock lock self.now.held) + result ≡ length self.now.held }
+    {
+        let is_held = is_there(&self.locks, &lock);
+        if is_held { 1 } else { 0 }
+    }
+
+    // The job's locks that end at a next read: as a rule one for each of its opens.
+    fn open_locks(&self, job: u32) -> &[Lock]
         ensures table { IsTable self.now }
-        ensures locks { result.now ≡ filter (is_on member rrn) self.now.held }
+        ensures locks { result.now ≡ filter (is_of_job job) self.now.held }
     {
-        locks_on(&self.by_record, member, rrn)
+        locks_of(&self.locks, Part::Reaching(job, Reach::Open))
     }
 
-    // The last lock of the open that ends at its next read.
-    fn open_lock(&self, job: u32, opened: u32) -> Option<Lock>
-        ensures some { IfSome result (λ lock. IsOneOf (is_of_open job opened) lock self.now.held) }
-        ensures none { IfNone result (filter (is_of_open job opened) self.now.held ≡ []) }
+    fn open_lock(&self, holder: Holder) -> Option<Lock>
+        ensures some { IfSome result (λ lock. IsOneOf (is_of_open holder) lock self.now.held) }
+        ensures none { IfNone result (filter (is_of_open holder) self.now.held ≡ []) }
     {
-        let last = locks_of(&self.by_open, job, opened).last()?;
-        Some(last.whole_lock())
+        lock_of_open(self.open_locks(holder.job), holder).copied()
     }
 
-    fn open_lock_on(&self, job: u32, opened: u32, member: u32, rrn: u32) -> Option<Lock>
+    fn open_lock_on(&self, holder: Holder, at: RecordId) -> Option<Lock>
         ensures table { IsTable self.now }
-        ensures some { IfSome result (λ lock. IsOneOf (is_of_open_on job opened member rrn) lock self.now.held) }
-        ensures none { IfNone result (filter (is_of_open_on job opened member rrn) self.now.held ≡ []) }
+        ensures some { IfSome result (λ lock. IsOneOf (is_of_open_on holder at) lock self.now.held) }
+        ensures none { IfNone result (filter (is_of_open_on holder at) self.now.held ≡ []) }
     {
-        lock_of_open(self.on_record(member, rrn), job, opened).copied()
+        lock_of_open_on(self.open_locks(holder.job), holder, at).copied()
     }
 
-    fn job_lock_on(&self, job: u32, member: u32, rrn: u32) -> Option<Lock>
-        ensures some { IfSome result (λ lock. IsOneOf (is_of_record job member rrn) lock self.now.held) }
-        ensures none { IfNone result (filter (is_of_record job member rrn) self.now.held ≡ []) }
-    {
-        lock_of_job(self.on_record(member, rrn), job).copied()
-    }
-
-    // Takes a lock that is held, and ends at a read, out of both lists.
-    fn free(&mut self, lock: Lock)
-        requires there { Contains self.old.held lock }
-        requires ends { is_open lock.reach ≡ true }
-        ensures held { self.new ≡ holding (without_lock lock self.old.held) self.old }
-        ensures fewer { length self.new.held < length self.old.held }
-    {
-        take_lock(&mut self.by_record, &lock);
-        take_open_lock(&mut self.by_open, &lock.open_part());
-    }
-
-    // Keeps a lock that is held, and ends at a read, to the boundary.
-    fn keep(&mut self, lock: Lock)
-        requires there { Contains self.old.held lock }
-        requires ends { is_open lock.reach ≡ true }
-        ensures { self.new ≡ holding (with_lock (bound lock) (without_lock lock self.old.held)) self.old }
-    {
-        keep_lock(&mut self.by_record, &lock);
-        take_open_lock(&mut self.by_open, &lock.open_part());
-    }
-
-    // Puts a lock that ends at a read, and clashes with none, into both lists.
+    // Puts a lock that clashes with none into the list.
     fn add(&mut self, lock: Lock)
-        requires room { 1 ≤ spare self.old }
-        requires ends { is_open lock.reach ≡ true }
+        requires room { length (with_lock lock self.old.held) ≤ self.old.room }
         requires alone { All (λ other. Clashes lock other → ⊥) self.old.held }
         ensures { self.new ≡ holding (with_lock lock self.old.held) self.old }
     {
-        put_lock(&mut self.by_record, lock);
-        put_open_lock(&mut self.by_open, lock.open_part());
+        put_lock(&mut self.locks, lock);
+    }
+
+    // Takes a lock out, where it is held.
+    fn free(&mut self, lock: Lock)
+        ensures { self.new ≡ holding (without_lock lock self.old.held) self.old }
+    {
+        take_lock(&mut self.locks, &lock);
+    }
+
+    // Keeps a lock that is held to the boundary.
+    fn keep(&mut self, lock: Lock)
+        requires { Contains self.old.held lock }
+        ensures { self.new ≡ holding (with_lock (bound lock) (without_lock lock self.old.held)) self.old }
+    {
+        take_lock(&mut self.locks, &lock);
+        put_lock(&mut self.locks, lock.to_boundary());
+    }
+
+    fn free_part(&mut self, part: Part)
+        ensures { self.new ≡ holding (freed (is_part part) self.old.held) self.old }
+    {
+        take_locks(&mut self.locks, part);
     }
 }

@@ -1,13 +1,21 @@
-use Rattle.std.proofs.Common.{◌∙◌}
-use Rattle.lock_table.specs.Lock.{is_on, is_of_open, is_of_group}
-use Rattle.lock_table.proofs.Found.{any-run}
+use Rattle.std.proofs.Common.{List, not, ap, ◌∙◌}
+use Rattle.std.specs.List.{list_any, filter}
+use Rattle.lock_table.specs.declared.lock.Lock.{Lock}
+use Rattle.lock_table.specs.declared.lock.Reach.TheVariants.{Boundary}
+use Rattle.lock_table.specs.declared.part.Part.TheVariants.{OnRecord}
+use Rattle.lock_table.specs.Lock.{is_of_group_on, is_of_open_on}
+use Rattle.lock_table.specs.Table.{Locks}
+use Rattle.lock_table.specs.Index.{is_part}
+use Rattle.lock_table.proofs.Found.{is_some-found, some_kept}
+use Rattle.lock_table.proofs.Locks.{is_part-kept}
 use Rattle.lock_table.proofs.table.LockTable.held.Goals as goal
 
 pub returns-clause-by_open : goal.returns-clause-by_open
-returns-clause-by_open c = c.is_some.ensures ∙ any-run (is_on c.args.member c.args.rrn) (is_of_open c.args.job c.args.opened) c.args.self.now.held c.on_record-locks.result.now c.lock_of_open.result c.on_record-locks.ensures.locks c.lock_of_open.ensures
+returns-clause-by_open c = c.is_some.ensures ∙ is_some-found (is_of_open_on c.args.holder c.args.at) c.args.self.now.held c.open_lock_on.result c.open_lock_on.ensures.some c.open_lock_on.ensures.none
 
 pub returns-clause-to_boundary : goal.returns-clause-to_boundary
-returns-clause-to_boundary c = c.is_some-2.ensures ∙ any-run (is_on c.args.member c.args.rrn) (is_of_group c.args.job) c.args.self.now.held c.on_record-locks.result.now c.lock_of_group.result c.on_record-locks.ensures.locks c.lock_of_group.ensures
-
-pub returns-clause-table : goal.returns-clause-table
-returns-clause-table c = c.on_record-locks.ensures.table
+returns-clause-to_boundary c =
+    ap not c.is_empty.ensures
+    ∙ some_kept (is_part (OnRecord c.args.holder.job Boundary c.args.at)) (is_of_group_on c.args.holder.job c.args.at) (λ l. is_part-kept c.args.holder.job l c.args.at) c.self.inside.locks.items c.locks_of-kept.result.now
+    (c.locks_of-kept.ensures ∙ ap (λ (xs : List Lock). filter (is_part (OnRecord c.args.holder.job Boundary c.args.at)) xs) c.deref.ensures.value)
+    ∙ ap (λ (t : Locks). list_any (is_of_group_on c.args.holder.job c.args.at) t.held) c.self.view_is

@@ -5,7 +5,7 @@ use Rattle.lock_table.proofs.Releases.{IsKept}
 use Rattle.lock_table.proofs.table.LockTable.keep_to_boundary.Given as goal
 
 abbrev pub invariant-loop-lock : goal.invariant-loop-lock
-invariant-loop-lock l = IsKept l.job l.opened l.member l.rrn l.self l.fn.self
+invariant-loop-lock l = IsKept l.holder l.at l.self l.fn.self
 
 abbrev pub decreases-loop-lock : goal.decreases-loop-lock
-decreases-loop-lock l = length (filter (is_of_open_on l.job l.opened l.member l.rrn) l.self.held)
+decreases-loop-lock l = length (filter (is_of_open_on l.holder l.at) l.self.held)

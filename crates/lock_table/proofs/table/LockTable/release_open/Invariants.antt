@@ -5,7 +5,7 @@ use Rattle.lock_table.proofs.Releases.{IsLeft}
 use Rattle.lock_table.proofs.table.LockTable.release_open.Given as goal
 
 abbrev pub invariant-loop-lock : goal.invariant-loop-lock
-invariant-loop-lock l = IsLeft (is_of_open l.job l.opened) l.self l.fn.self
+invariant-loop-lock l = IsLeft (is_of_open l.holder) l.self l.fn.self
 
 abbrev pub decreases-loop-lock : goal.decreases-loop-lock
 decreases-loop-lock l = length l.self.held

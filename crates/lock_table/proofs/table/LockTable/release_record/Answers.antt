@@ -1,9 +1,8 @@
-use Rattle.lock_table.specs.Lock.{is_of_record}
-use Rattle.lock_table.proofs.Releases.{IsLeft-step, IsLeft-end}
+use Rattle.std.proofs.Common.{List, ap, ◌∙◌}
+use Rattle.lock_table.specs.declared.lock.Lock.{Lock}
+use Rattle.lock_table.specs.Table.{holding}
+use Rattle.lock_table.proofs.Rules.{freed-record}
 use Rattle.lock_table.proofs.table.LockTable.release_record.Goals as goal
 
-pub loop-lock-preserved : goal.loop-lock-preserved
-loop-lock-preserved c = IsLeft-step (is_of_record c.args.job c.args.member c.args.rrn) c.loop-lock.self c.args.self.now c.free.new.self c.in-Some.lock c.loop-lock.invariant c.in-Some.ensures.some c.free.ensures.held
-
 pub returns : goal.returns
-returns c = IsLeft-end (is_of_record c.args.job c.args.member c.args.rrn) c.loop-lock.self c.args.self.now c.loop-lock.invariant c.in_default.ensures.none
+returns c = c.free_part.ensures ∙ ap (λ (xs : List Lock). holding xs c.args.self.now) (freed-record c.args.job c.args.at c.args.self.now.held)

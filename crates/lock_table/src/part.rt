@@ -1,0 +1,37 @@
+//! The parts of a list of locks: those of a job, of its open or boundary locks, and of a member or a record among these.
+//! The locks of a part stand side by side. Where they stand is found in sorted.rt.
+ghost use Rattle.std.specs.Prelude.{◌≡◌};
+
+use crate::lock::{Lock, Reach, RecordId};
+use std::cmp::Ordering;
+
+/// Which locks are looked for.
+#[derive(Clone, Copy)]
+pub enum Part {
+    OfJob(u32),
+    Reaching(u32, Reach),
+    InMember(u32, Reach, u32),
+    OnRecord(u32, Reach, RecordId),
+}
+
+impl Part {
+    ghost use Rattle.lock_table.specs.Index.{part_cmp};
+
+    /// Whether the lock stands before the part, in it or after it.
+    pub fn side_of(&self, lock: &Lock) -> Ordering
+        ensures { result ≡ part_cmp self.now lock.now }
+    {
+        match *self {
+            Part::OfJob(job) => lock.job.cmp(&job),
+            Part::Reaching(job, reach) => lock.job.cmp(&job).then(lock.reach.cmp(&reach)),
+            Part::InMember(job, reach, member) => {
+                let record = lock.at.member.cmp(&member);
+                lock.job.cmp(&job).then(lock.reach.cmp(&reach).then(record))
+            }
+            Part::OnRecord(job, reach, at) => {
+                let record = lock.at.cmp(&at);
+                lock.job.cmp(&job).then(lock.reach.cmp(&reach).then(record))
+            }
+        }
+    }
+}
