@@ -1,0 +1,21 @@
+//! Physical files by their data description: the record format, the key, or the first fault of a source.
+//! The meaning stands in `specs/`, the whole in `specs/Physical.antt`.
+#![tactic(auto)]
+
+mod attributes;
+mod defaults;
+mod described;
+mod draft;
+mod file_keywords;
+mod first;
+mod keyword_names;
+mod keyword_rules;
+mod lines;
+mod names;
+pub mod physical_files;
+mod references;
+pub mod refs;
+mod texts;
+
+pub use physical_files::{PhysicalError, PhysicalSpec, physical};
+pub use refs::Refs;
