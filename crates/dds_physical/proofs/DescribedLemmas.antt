@@ -1,5 +1,6 @@
 -- Fields that lie one behind the other, and how many bytes they have.
 use Rattle.std.proofs.Common.{◌≡◌, ℕ, zero, suc, ◌+◌, ◌*◌, ◌<◌, ◌≤◌, true, ◌&&◌, ◌==◌, List, [], ◌∷◌, ◌++◌, length, take, get_or, refl, sym, ◌∙◌, ap, subst, arith, length-append, add-zero}
+use Rattle.std.proofs.lemmas.List.{take_more}
 use Rattle.std.proofs.lemmas.Bool.{and_parts, and_from, eq-eqb}
 use Rattle.field_types.specs.declared.kinds.Kind.{Kind}
 use Rattle.field_types.specs.declared.kinds.Kind.TheVariants.{Char, Zoned, Packed, Binary, Date, Time, Stamp}
@@ -52,3 +53,12 @@ pub offset-at : (start : ℕ) (fs : List Field) (i : ℕ) (f : Field) → lies_f
 offset-at start [] i f lies lt is = absurd (omega arith)
 offset-at start (g ∷ gs) zero f lies lt is = ap (λ (h : Field). h.offset) is ∙ (lies-parts start g gs lies).0 ∙ sym (add-zero start)
 offset-at start (g ∷ gs) (suc i) f lies lt is = offset-at (start + width g.ty) gs i f (lies-parts start g gs lies).2 (omega arith) is ∙ omega arith
+
+-- a copy of the next field that is added to those before it
+pub take-next : (fs old new : List Field) (i : ℕ) (f copy : Field) → lies_from 0 fs ≡ true → i < length fs → f ≡ get_or fs i f → old ≡ take i fs → copy ≡ f
+    → new ≡ old ++ (record { name = copy.name; ty = copy.ty; offset = record_length old; default = copy.default; text = copy.text }) ∷ [] → new ≡ take (i + 1) fs
+take-next fs old new i f copy lies lt is before copied pushed =
+    let place : f.offset ≡ record_length (take i fs) = offset-at 0 fs i f lies lt is ∙ omega arith in
+    let at : Field → ℕ → Field = λ g n. record { name = g.name; ty = g.ty; offset = n; default = g.default; text = g.text } in
+    let same : at copy (record_length old) ≡ f = ap (λ (g : Field). at g (record_length old)) copied ∙ ap (λ n. at f n) (ap record_length before ∙ sym place) in
+    pushed ∙ ap (λ (g : Field). old ++ g ∷ []) same ∙ ap (λ (gs : List Field). gs ++ f ∷ []) before ∙ ap (λ (g : Field). take i fs ++ g ∷ []) is ∙ sym (take_more fs i f lt)

@@ -1,3 +1,4 @@
 pub mod FaultLemmas
 pub mod DescribedLemmas
 pub mod LineLemmas
+pub mod FirstLemmas

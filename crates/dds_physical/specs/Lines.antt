@@ -92,13 +92,18 @@ is_blank names.Blank = true
 is_blank (names.Named name) = false
 is_blank names.StarNone = false
 
--- OutOfOrder: before the record format. DuplicateName: an earlier key field has the name. NoSuchField: no field before it has it. TooLarge: more key fields than a key has.
-abbrev pub key_faults : Draft → Specification → List DdsFault
-key_faults d s =
+-- OutOfOrder: before the record format. DuplicateName: an earlier key field has the name. NoSuchField: no field before it has it.
+abbrev pub key_place_faults : Draft → Specification → List DdsFault
+key_place_faults d s =
     when (is_none d.name) (fault_at s 17 OutOfOrder)
     ++ when (is_blank s.name) (fault_at s 19 BadName)
     ++ when (is_listed (name_of s.name) d.key_names) (fault_at s 19 DuplicateName)
     ++ when (not (is_field (name_of s.name) d.fields)) (fault_at s 19 NoSuchField)
+
+-- TooLarge: more key fields than a key has
+abbrev pub key_faults : Draft → Specification → List DdsFault
+key_faults d s =
+    key_place_faults d s
     ++ entry_faults s
     ++ keyword_faults places.Key s.keywords
     ++ when (not (nat_lt (length d.key_names) MOST_KEY_FIELDS)) (fault_at s 19 TooLarge)

@@ -26,8 +26,9 @@ pub(crate) fn note_keywords(place: Place, keywords: &[Keyword], first: &mut Firs
     ensures { first.new.fault ≡ first_after first.old.fault (keyword_faults place keywords.now) }
 {
     let mut rest = keywords;
-    while let [keyword, more @ ..] = rest {
-        note_keyword(place, keyword, more, first);
+    while !rest.is_empty() {
+        let (here, more) = rest.split_at(1);
+        note_keyword(place, &here[0], more, first);
         rest = more;
     }
 }

@@ -5,7 +5,7 @@ ghost use Rattle.dds_source.specs.Faults.{first_after};
 ghost use Rattle.dds_source.specs.Entries.{when};
 ghost use Rattle.dds_physical.specs.Names.{name_of};
 ghost use Rattle.dds_physical.specs.References.{typed};
-ghost use Rattle.dds_physical.specs.Lines.{place_faults, is_letter_wrong, is_usage_wrong, entry_faults, record_faults, type_faults, field_faults, key_faults, is_blank, line_faults, described, with_field, with_key, lines_faults, lines_described};
+ghost use Rattle.dds_physical.specs.Lines.{place_faults, is_letter_wrong, is_usage_wrong, entry_faults, record_faults, type_faults, field_faults, key_place_faults, key_faults, is_blank, line_faults, described, with_field, with_key, lines_faults, lines_described};
 
 use crate::attributes::{fault_at, kind_by_letter};
 use crate::defaults::{default_of, note_default};
@@ -37,8 +37,9 @@ pub(crate) fn read_lines<R: Refs>(
     ensures described { OnOk result (draft.new ≡ lines_described (R.formats refs.now) file.now draft.old specifications.now) }
 {
     let mut rest = specifications;
-    while let [specification, more @ ..] = rest {
-        if let Some(fault) = read_line(alloc, refs, file, draft, specification)? {
+    while !rest.is_empty() {
+        let (here, more) = rest.split_at(1);
+        if let Some(fault) = read_line(alloc, refs, file, draft, &here[0])? {
             return Ok(Some(fault));
         }
         rest = more;
@@ -47,6 +48,7 @@ pub(crate) fn read_lines<R: Refs>(
 }
 
 /// Adds what a line describes to the draft, or tells its first fault and leaves the draft.
+#[tactic(auto, unfolding(crate::specs::Lines::line_faults, crate::specs::Lines::described))]
 fn read_line<R: Refs>(
     alloc: Global,
     refs: &R,
@@ -129,6 +131,7 @@ fn note_record(draft: &Draft, specification: &Specification, first: &mut FirstFa
     note_keywords(Place::Record, specification.keywords.as_slice(), first);
 }
 
+#[tactic(auto, using(crate::proofs::FaultLemmas::first_after_append))]
 fn read_field<R: Refs>(
     alloc: Global,
     refs: &R,
@@ -241,6 +244,26 @@ fn read_key(
 fn note_key(draft: &Draft, specification: &Specification, first: &mut FirstFault)
     ensures { first.new.fault ≡ first_after first.old.fault (key_faults draft.now specification.now) }
 {
+    note_key_place(draft, specification, first);
+    note_entries(specification, first);
+    note_keywords(Place::Key, specification.keywords.as_slice(), first);
+    first.note_if(
+        is_key_full(draft),
+        fault_at(specification, 19, DdsCause::TooLarge),
+    );
+}
+
+fn is_key_full(draft: &Draft) -> bool
+    ensures { result ≡ not (nat_lt (length draft.now.key_names) MOST_KEY_FIELDS) }
+{
+    draft.key_names.as_slice().len() >= MOST_KEY_FIELDS
+}
+
+/// Notes what is wrong with the name and the place of a key field.
+#[tactic(auto, using(crate::proofs::FaultLemmas::first_after_append))]
+fn note_key_place(draft: &Draft, specification: &Specification, first: &mut FirstFault)
+    ensures { first.new.fault ≡ first_after first.old.fault (key_place_faults draft.now specification.now) }
+{
     let name = name_of(specification.name);
     first.note_if(
         draft.name.is_none(),
@@ -257,12 +280,6 @@ fn note_key(draft: &Draft, specification: &Specification, first: &mut FirstFault
     first.note_if(
         !is_field(&name, draft.fields.as_slice()),
         fault_at(specification, 19, DdsCause::NoSuchField),
-    );
-    note_entries(specification, first);
-    note_keywords(Place::Key, specification.keywords.as_slice(), first);
-    first.note_if(
-        draft.key_names.as_slice().len() >= MOST_KEY_FIELDS,
-        fault_at(specification, 19, DdsCause::TooLarge),
     );
 }
 

@@ -64,6 +64,7 @@ pub fn physical<R: Refs>(
     judged(alloc, source, refs)
 }
 
+#[tactic(auto, unfolding(crate::specs::Physical::physical_of, crate::specs::Physical::specification))]
 fn judged<R: Refs>(
     alloc: Global,
     source: &Source,
@@ -80,6 +81,7 @@ fn judged<R: Refs>(
 }
 
 /// Reads a source into an empty draft, and tells its first fault.
+#[tactic(auto, using(crate::proofs::FaultLemmas::first_after_append), unfolding(crate::specs::Physical::faults_of, crate::specs::Physical::draft_of))]
 fn first_fault<R: Refs>(
     alloc: Global,
     source: &Source,
