@@ -109,13 +109,7 @@ fn decimals_of(given: Option<u8>, kind: Kind, copied: Option<FieldType>) -> u8
 {
     match (given, copied) {
         (Some(decimals), _) => decimals,
-        (None, Some(ty)) => {
-            if is_numeric(kind) {
-                ty.decimals
-            } else {
-                0
-            }
-        }
+        (None, Some(ty)) => { if is_numeric(kind) { ty.decimals } else { 0 } }
         (None, None) => 0,
     }
 }
@@ -142,7 +136,12 @@ fn are_decimals_wrong(given: bool, kind: Kind, length: u64, decimals: u8) -> boo
 }
 
 /// The type of these entries, or the first that is at fault.
-fn sized(specification: &Specification, kind: Kind, length: u64, decimals: u8) -> Result<FieldType, DdsFault>
+fn sized(
+    specification: &Specification,
+    kind: Kind,
+    length: u64,
+    decimals: u8,
+) -> Result<FieldType, DdsFault>
     ensures value { result ≡ sized specification.now kind length decimals }
     ensures allowed { IfOk result IsFieldType }
 {

@@ -37,10 +37,7 @@ fn codes(alloc: Global, characters: &[u8]) -> Result<Vec<u8>, AllocError>
 }
 
 /// The value of a literal; `None` where the argument is none.
-pub(crate) fn literal_value(
-    alloc: Global,
-    argument: &Argument,
-) -> Result<Option<Value>, AllocError>
+pub(crate) fn literal_value(alloc: Global, argument: &Argument) -> Result<Option<Value>, AllocError>
     ensures { IfOk result (λ v. v ≡ literal_value argument.now) }
 {
     match argument {
@@ -83,10 +80,7 @@ fn unspecified(alloc: Global, kind: Kind) -> Result<Value, AllocError>
         Kind::Zoned | Kind::Packed | Kind::Binary => Ok(Value::Number(Dec { units: 0, scale: 0 })),
         Kind::Date => Ok(Value::Chars(in_code_page(alloc, b"0001-01-01")?)),
         Kind::Time => Ok(Value::Chars(in_code_page(alloc, b"00.00.00")?)),
-        Kind::Stamp => Ok(Value::Chars(in_code_page(
-            alloc,
-            b"0001-01-01-00.00.00.000000",
-        )?)),
+        Kind::Stamp => Ok(Value::Chars(in_code_page(alloc, b"0001-01-01-00.00.00.000000")?)),
     }
 }
 

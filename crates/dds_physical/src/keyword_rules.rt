@@ -38,10 +38,7 @@ fn note_keyword(place: Place, keyword: &Keyword, more: &[Keyword], first: &mut F
     ensures { first.new.fault ≡ first_after first.old.fault (one_keyword_faults place keyword.now more.now) }
 {
     let is_known = is_known(place, keyword);
-    first.note_if(
-        !is_known,
-        keyword_fault(keyword, DdsCause::UnknownKeyword),
-    );
+    first.note_if(!is_known, keyword_fault(keyword, DdsCause::UnknownKeyword));
     first.note_if(
         is_known && !takes_arguments(keyword),
         keyword_fault(keyword, DdsCause::BadArguments),

@@ -19,3 +19,8 @@ mod texts;
 
 pub use physical_files::{PhysicalError, PhysicalSpec, physical};
 pub use refs::Refs;
+
+#[cfg(test)]
+mod test_rows;
+#[cfg(test)]
+mod tests;

@@ -148,7 +148,13 @@ fn read_field<R: Refs>(
     note_place(draft, specification, &mut first);
     note_entries(specification, &mut first);
     note_keywords(Place::Field, keywords, &mut first);
-    note_reference(refs, file, draft.fields.as_slice(), specification, &mut first);
+    note_reference(
+        refs,
+        file,
+        draft.fields.as_slice(),
+        specification,
+        &mut first,
+    );
     note_type(alloc, typed, keywords, &mut first)?;
     first.note_if(
         draft.fields.as_slice().len() >= MOST_FIELDS,

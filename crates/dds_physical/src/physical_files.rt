@@ -65,11 +65,7 @@ pub fn physical<R: Refs>(
 }
 
 #[tactic(auto, unfolding(crate::specs::Physical::physical_of, crate::specs::Physical::specification))]
-fn judged<R: Refs>(
-    alloc: Global,
-    source: &Source,
-    refs: &R,
-) -> Result<PhysicalSpec, PhysicalError>
+fn judged<R: Refs>(alloc: Global, source: &Source, refs: &R) -> Result<PhysicalSpec, PhysicalError>
     ensures { Gives result (physical_of (R.formats refs.now) source.now) }
 {
     let keywords = source.file.as_slice();

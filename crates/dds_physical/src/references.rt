@@ -34,11 +34,7 @@ fn type_in(name: &Name, fields: &[Field]) -> Option<FieldType>
 }
 
 /// The type of a field of a file, if both are named and there.
-fn type_in_file<R: Refs>(
-    refs: &R,
-    file: &Option<Name>,
-    field: &Option<Name>,
-) -> Option<FieldType>
+fn type_in_file<R: Refs>(refs: &R, file: &Option<Name>, field: &Option<Name>) -> Option<FieldType>
     ensures { result ≡ type_in_file (R.formats refs.now) file.now field.now }
 {
     match (file, field) {

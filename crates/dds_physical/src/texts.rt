@@ -28,11 +28,7 @@ pub(crate) fn text_of(alloc: Global, keywords: &[Keyword]) -> Result<Text, Alloc
     Ok(Text::from_vec(text))
 }
 
-fn push_pieces(
-    alloc: Global,
-    text: &mut Vec<u8>,
-    arguments: &[Argument],
-) -> Result<(), AllocError>
+fn push_pieces(alloc: Global, text: &mut Vec<u8>, arguments: &[Argument]) -> Result<(), AllocError>
     ensures { OnOk result (text.new.items ≡ with_pieces text.old.items arguments.now) }
 {
     let mut rest = arguments;
