@@ -57,8 +57,8 @@ lines_described-next formats file d new [] here more s some front back is clear 
 lines_described-next formats file d new (t ∷ ts) here more s some front back is clear added =
     let first : s ≡ t = is ∙ ap (λ (hs : List Specification). get_or hs 0 s) front in
     ap (λ (e : Draft). lines_described formats file e more) added ∙ ap (λ (m : List Specification). lines_described formats file (described formats file d s) m) back
-    ∙ sym (unless_faulty-none (line_faults formats file d s) d (lines_described formats file (described formats file d s) ts) clear)
-    ∙ ap (λ (u : Specification). unless_faulty (line_faults formats file d u) d (lines_described formats file (described formats file d u) ts)) first
+    ∙ sym (unless_faulty-none (line_faults formats file d s) (described formats file d s) (lines_described formats file (described formats file d s) ts) clear)
+    ∙ ap (λ (u : Specification). unless_faulty (line_faults formats file d u) (described formats file d u) (lines_described formats file (described formats file d u) ts)) first
 
 -- lines from one with a fault on
 pub lines_faults-here : (formats : List ℕ → Option Format) (file : Option (List ℕ)) (d : Draft) (ss here : List Specification) (s : Specification) (fault : DdsFault) → 0 < length ss → here ≡ take 1 ss → s ≡ get_or here 0 s
@@ -70,12 +70,13 @@ lines_faults-here formats file d (t ∷ ts) here s fault some front is found =
     ap (λ (fs : List DdsFault). first_after None fs) (or_those-some (line_faults formats file d t) (lines_faults formats file (described formats file d t) ts) fault at) ∙ at
 
 pub lines_described-here : (formats : List ℕ → Option Format) (file : Option (List ℕ)) (d : Draft) (ss here : List Specification) (s : Specification) (fault : DdsFault) → 0 < length ss → here ≡ take 1 ss → s ≡ get_or here 0 s
-    → first_after None (line_faults formats file d s) ≡ Some fault → lines_described formats file d ss ≡ d
+    → first_after None (line_faults formats file d s) ≡ Some fault → lines_described formats file d ss ≡ described formats file d s
 lines_described-here formats file d [] here s fault some front is found = absurd (omega arith)
 lines_described-here formats file d (t ∷ ts) here s fault some front is found =
     let first : s ≡ t = is ∙ ap (λ (hs : List Specification). get_or hs 0 s) front in
     let at : first_after None (line_faults formats file d t) ≡ Some fault = ap (λ (u : Specification). first_after None (line_faults formats file d u)) (sym first) ∙ found in
-    unless_faulty-some (line_faults formats file d t) d (lines_described formats file (described formats file d t) ts) fault at
+    unless_faulty-some (line_faults formats file d t) (described formats file d t) (lines_described formats file (described formats file d t) ts) fault at
+    ∙ ap (λ (u : Specification). described formats file d u) (sym first)
 
 -- no lines are left
 pub lines_faults-end : (formats : List ℕ → Option Format) (file : Option (List ℕ)) (d : Draft) (ss : List Specification) → length ss ≡ 0 → lines_faults formats file d ss ≡ []

@@ -1,6 +1,6 @@
 -- What is wrong with the lines of a physical file, and what they describe.
 -- (DDS for Physical and Logical Files, "Positional entries for physical and logical files".)
-use Rattle.std.specs.Prelude.{ℕ, Bool, true, false, not, ◌||◌, ◌==◌, nat_lt, List, [], ◌∷◌, ◌++◌, length, Option, Some, None, is_some, is_none, Result, Ok, Err}
+use Rattle.std.specs.Prelude.{ℕ, Bool, true, false, not, ◌||◌, ◌==◌, nat_lt, List, [], ◌∷◌, ◌++◌, length, Option, Some, None, is_some, is_none, Result, Ok, Err, if◌then◌else◌}
 use Rattle.field_types.specs.declared.kinds.FieldType.{FieldType}
 use Rattle.record_fmt.specs.declared.formats.Format.{Format}
 use Rattle.record_fmt.specs.declared.formats.TheConstants.{MOST_FIELDS}
@@ -77,12 +77,15 @@ field_faults formats file d s =
     ++ type_faults (typed formats file d.fields s) s.keywords
     ++ when (not (nat_lt (length d.fields) MOST_FIELDS)) (fault_at s 19 TooLarge)
 
--- behind the others
-abbrev pub with_field : Draft → Option (List ℕ) → Result FieldType DdsFault → List Keyword → Draft
-with_field d None typed ks = d
-with_field d (Some name) (Err fault) ks = d
-with_field d (Some name) (Ok t) ks =
+abbrev pub with_named_field : Draft → Option (List ℕ) → Result FieldType DdsFault → List Keyword → Draft
+with_named_field d None typed ks = d
+with_named_field d (Some name) (Err fault) ks = d
+with_named_field d (Some name) (Ok t) ks =
     record d { fields = d.fields ++ record { name = name; ty = t; offset = record_length d.fields; default = default_of t.kind ks; text = text_of ks } ∷ [] }
+
+-- behind the others, where there is room for it
+abbrev pub with_field : Draft → Option (List ℕ) → Result FieldType DdsFault → List Keyword → Draft
+with_field d name typed ks = if not (nat_lt (length d.fields) MOST_FIELDS) then d else with_named_field d name typed ks
 
 -- Key fields.
 
@@ -146,16 +149,17 @@ abbrev pub or_those : List DdsFault → List DdsFault → List DdsFault
 or_those [] more = more
 or_those (f ∷ fs) more = f ∷ fs
 
+-- with what follows, unless there are faults
 abbrev pub unless_faulty : List DdsFault → Draft → Draft → Draft
-unless_faulty [] before behind = behind
-unless_faulty (f ∷ fs) before behind = before
+unless_faulty [] here behind = behind
+unless_faulty (f ∷ fs) here behind = here
 
 -- what is wrong with the first line that is at fault: the lines behind it come later, and aren't judged
 abbrev pub lines_faults : (List ℕ → Option Format) → Option (List ℕ) → Draft → List Specification → List DdsFault
 lines_faults formats file d [] = []
 lines_faults formats file d (s ∷ ss) = or_those (line_faults formats file d s) (lines_faults formats file (described formats file d s) ss)
 
--- what the lines before it describe
+-- what the lines up to it describe, and it with them
 abbrev pub lines_described : (List ℕ → Option Format) → Option (List ℕ) → Draft → List Specification → Draft
 lines_described formats file d [] = d
-lines_described formats file d (s ∷ ss) = unless_faulty (line_faults formats file d s) d (lines_described formats file (described formats file d s) ss)
+lines_described formats file d (s ∷ ss) = unless_faulty (line_faults formats file d s) (described formats file d s) (lines_described formats file (described formats file d s) ss)

@@ -25,7 +25,7 @@ use field_types::names::Name;
 use record_fmt::formats::MOST_FIELDS;
 use std::alloc::{AllocError, Global};
 
-/// Reads lines into a draft, up to the first that is at fault, and tells its first fault.
+/// Reads lines into a draft, up to the first that is at fault and with it, and tells its first fault.
 pub(crate) fn read_lines<R: Refs>(
     alloc: Global,
     refs: &R,
@@ -47,7 +47,7 @@ pub(crate) fn read_lines<R: Refs>(
     Ok(None)
 }
 
-/// Adds what a line describes to the draft, or tells its first fault and leaves the draft.
+/// Adds what a line describes to the draft, and tells the line's first fault.
 #[tactic(auto, unfolding(crate::specs::Lines::line_faults, crate::specs::Lines::described))]
 fn read_line<R: Refs>(
     alloc: Global,
@@ -57,7 +57,7 @@ fn read_line<R: Refs>(
     specification: &Specification,
 ) -> Result<Option<DdsFault>, AllocError>
     ensures fault { IfOk result (λ f. f ≡ first_after None (line_faults (R.formats refs.now) file.now draft.old specification.now)) }
-    ensures described { IfOk result (λ f. draft.new ≡ (if is_some f then draft.old else described (R.formats refs.now) file.now draft.old specification.now)) }
+    ensures described { OnOk result (draft.new ≡ described (R.formats refs.now) file.now draft.old specification.now) }
 {
     match specification.kind {
         SpecificationKind::Record => Ok(read_record(draft, specification)),
@@ -105,13 +105,11 @@ fn is_usage_wrong(usage: Option<u8>) -> bool
 
 fn read_record(draft: &mut Draft, specification: &Specification) -> Option<DdsFault>
     ensures fault { result ≡ first_after None (record_faults draft.old specification.now) }
-    ensures described { draft.new ≡ (if is_some result then draft.old else record draft.old { name = name_of specification.now.name }) }
+    ensures described { draft.new ≡ record draft.old { name = name_of specification.now.name } }
 {
     let mut first = FirstFault::none();
     note_record(draft, specification, &mut first);
-    if first.fault.is_none() {
-        draft.name = name_of(specification.name);
-    }
+    draft.name = name_of(specification.name);
     first.fault
 }
 
@@ -140,7 +138,7 @@ fn read_field<R: Refs>(
     specification: &Specification,
 ) -> Result<Option<DdsFault>, AllocError>
     ensures fault { IfOk result (λ f. f ≡ first_after None (field_faults (R.formats refs.now) file.now draft.old specification.now)) }
-    ensures described { IfOk result (λ f. draft.new ≡ (if is_some f then draft.old else with_field draft.old (name_of specification.now.name) (typed (R.formats refs.now) file.now draft.old.fields specification.now) specification.now.keywords)) }
+    ensures described { OnOk result (draft.new ≡ with_field draft.old (name_of specification.now.name) (typed (R.formats refs.now) file.now draft.old.fields specification.now) specification.now.keywords) }
 {
     let typed = typed(refs, file, draft.fields.as_slice(), specification);
     let keywords = specification.keywords.as_slice();
@@ -157,13 +155,23 @@ fn read_field<R: Refs>(
     );
     note_type(alloc, typed, keywords, &mut first)?;
     first.note_if(
-        draft.fields.as_slice().len() >= MOST_FIELDS,
+        is_format_full(draft),
         fault_at(specification, 19, DdsCause::TooLarge),
     );
-    if first.fault.is_none() {
-        add_field(alloc, draft, name_of(specification.name), typed, keywords)?;
-    }
+    add_field(
+        alloc,
+        draft,
+        name_of(specification.name),
+        typed,
+        keywords,
+    )?;
     Ok(first.fault)
+}
+
+fn is_format_full(draft: &Draft) -> bool
+    ensures { result ≡ not (nat_lt (length draft.now.fields) MOST_FIELDS) }
+{
+    draft.fields.as_slice().len() >= MOST_FIELDS
 }
 
 /// Notes what is wrong with the name and the place of a field.
@@ -205,7 +213,7 @@ fn note_type(
     }
 }
 
-/// Adds a field that has a name and a type.
+/// Adds a field that has a name and a type, where there is room for it.
 fn add_field(
     alloc: Global,
     draft: &mut Draft,
@@ -213,10 +221,12 @@ fn add_field(
     typed: Result<FieldType, DdsFault>,
     keywords: &[Keyword],
 ) -> Result<(), AllocError>
-    requires allowed { IfOk typed IsFieldType }
-    requires few { length draft.old.fields < MOST_FIELDS }
+    requires { IfOk typed IsFieldType }
     ensures { OnOk result (draft.new ≡ with_field draft.old name typed keywords.now) }
 {
+    if is_format_full(draft) {
+        return Ok(());
+    }
     match (name, typed) {
         (Some(name), Ok(ty)) => {
             let default = default_of(alloc, ty.kind, keywords)?;
@@ -232,17 +242,15 @@ fn read_key(
     specification: &Specification,
 ) -> Result<Option<DdsFault>, AllocError>
     ensures fault { IfOk result (λ f. f ≡ first_after None (key_faults draft.old specification.now)) }
-    ensures described { IfOk result (λ f. draft.new ≡ (if is_some f then draft.old else with_key draft.old (name_of specification.now.name) specification.now.keywords)) }
+    ensures described { OnOk result (draft.new ≡ with_key draft.old (name_of specification.now.name) specification.now.keywords) }
 {
     let mut first = FirstFault::none();
     note_key(draft, specification, &mut first);
-    if first.fault.is_none() {
-        add_key(
-            draft,
-            name_of(specification.name),
-            specification.keywords.as_slice(),
-        )?;
-    }
+    add_key(
+        draft,
+        name_of(specification.name),
+        specification.keywords.as_slice(),
+    )?;
     Ok(first.fault)
 }
 

@@ -11,8 +11,7 @@ pub loop-rest-preserved : goal.loop-rest-preserved
 loop-rest-preserved g c =
     let formats = g.R.Refs.formats c.args.refs.now in
     let clear : first_after None (line_faults formats c.args.file.now c.loop-rest.draft c.index-here-0.result) ≡ None = sym c.in_ok-fault.ensures.fault ∙ c.in_default.is in
-    let added : c.read_line.new.draft ≡ described formats c.args.file.now c.loop-rest.draft c.index-here-0.result =
-    c.in_ok-fault.ensures.described ∙ ap (λ (f : Option DdsFault). if is_some f then c.loop-rest.draft else described formats c.args.file.now c.loop-rest.draft c.index-here-0.result) c.in_default.is in
+    let added : c.read_line.new.draft ≡ described formats c.args.file.now c.loop-rest.draft c.index-here-0.result = c.in_ok-fault.ensures.described in
     let some : 0 < length c.loop-rest.rest.now = omega (arith, c.split_at.ensures.back_len) in
     record {
       judged = lines_faults-next formats c.args.file.now c.loop-rest.draft c.read_line.new.draft c.loop-rest.rest.now c.split_at.result.0.now c.split_at.result.1.now c.index-here-0.result
@@ -33,7 +32,7 @@ pub returns-in-Some-clause-described : goal.returns-in-Some-clause-described
 returns-in-Some-clause-described g c =
     let formats = g.R.Refs.formats c.args.refs.now in
     let some : 0 < length c.loop-rest.rest.now = omega (arith, c.split_at.ensures.back_len) in
-    c.in_ok-fault.ensures.described ∙ ap (λ (f : Option DdsFault). if is_some f then c.loop-rest.draft else described formats c.args.file.now c.loop-rest.draft c.index-here-0.result) c.in-Some.is
+    c.in_ok-fault.ensures.described
     ∙ sym (lines_described-here formats c.args.file.now c.loop-rest.draft c.loop-rest.rest.now c.split_at.result.0.now c.index-here-0.result c.in-Some.fault
     some c.split_at.ensures.front c.index-here-0.is (sym c.in_ok-fault.ensures.fault ∙ c.in-Some.is))
     ∙ c.loop-rest.invariant.described
