@@ -2,3 +2,4 @@ pub mod FaultLemmas
 pub mod DescribedLemmas
 pub mod LineLemmas
 pub mod FirstLemmas
+pub mod LawLemmas

@@ -10,3 +10,4 @@ pub mod Draft
 pub mod Lines
 pub mod WholeFile
 pub mod Physical
+pub mod Laws

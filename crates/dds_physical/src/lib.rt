@@ -10,6 +10,7 @@ mod file_keywords;
 mod first;
 mod keyword_names;
 mod keyword_rules;
+pub mod laws;
 mod lines;
 mod names;
 pub mod physical_files;

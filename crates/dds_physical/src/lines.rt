@@ -158,13 +158,7 @@ fn read_field<R: Refs>(
         is_format_full(draft),
         fault_at(specification, 19, DdsCause::TooLarge),
     );
-    add_field(
-        alloc,
-        draft,
-        name_of(specification.name),
-        typed,
-        keywords,
-    )?;
+    add_field(alloc, draft, name_of(specification.name), typed, keywords)?;
     Ok(first.fault)
 }
 
