@@ -3,3 +3,4 @@ pub mod DescribedLemmas
 pub mod LineLemmas
 pub mod FirstLemmas
 pub mod LawLemmas
+pub mod OrderLemmas

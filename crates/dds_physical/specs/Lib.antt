@@ -11,3 +11,4 @@ pub mod Lines
 pub mod WholeFile
 pub mod Physical
 pub mod Laws
+pub mod Order

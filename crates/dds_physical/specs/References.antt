@@ -1,6 +1,6 @@
 -- References to other fields: REF, REFFLD, and R in position 29.
 -- (DDS for Physical and Logical Files, "Reference", position 29; REF; REFFLD.)
-use Rattle.std.specs.Prelude.{ℕ, Bool, true, false, not, ◌&&◌, nat_eq, List, [], ◌∷◌, Option, Some, None, Result, Ok, Err, if◌then◌else◌, codes}
+use Rattle.std.specs.Prelude.{ℕ, Bool, true, false, not, ◌&&◌, ◌||◌, nat_eq, List, [], ◌∷◌, Option, Some, None, Result, Ok, Err, if◌then◌else◌, codes}
 use Rattle.std.specs.Option.{option_map}
 use lib.Pointwise.{pointwise}
 use Rattle.field_types.specs.declared.kinds.FieldType.{FieldType}
@@ -11,6 +11,7 @@ use Rattle.dds_source.specs.declared.keywords.Keyword.{Keyword}
 use Rattle.dds_source.specs.declared.faults.DdsFault.{DdsFault}
 use Rattle.dds_source.specs.declared.faults.DdsCause.{DdsCause}
 use Rattle.dds_source.specs.declared.faults.DdsCause.TheVariants.{NoSuchField, UnknownReference}
+use Rattle.dds_source.specs.declared.specifications.Source.{Source}
 use Rattle.dds_source.specs.declared.specifications.Specification.{Specification}
 use Rattle.dds_physical.specs.Places.{fault_at, fault_of_keyword, error_list}
 use Rattle.dds_physical.specs.Names.{name_of, field_named}
@@ -121,3 +122,27 @@ is_missing formats args (Some file) = is_format_missing args (formats file)
 -- REF names a file, or a format of it, that isn't there
 abbrev pub is_file_missing : (List ℕ → Option Format) → List Argument → Bool
 is_file_missing formats args = is_missing formats args (file_of args)
+
+-- Which files a source refers to.
+
+abbrev pub place_is : List ℕ → List Argument → Bool
+place_is file [] = false
+place_is file (a ∷ []) = false
+place_is file (a ∷ b ∷ []) = is_named file (argument_name b)
+place_is file (a ∷ b ∷ c ∷ more) = false
+
+abbrev pub keyword_refers_to : List ℕ → Option Keyword → Bool
+keyword_refers_to file None = false
+keyword_refers_to file (Some k) = place_is file (arguments_of k)
+
+-- by REFFLD, whether or not it copies
+abbrev pub line_refers_to : List ℕ → Specification → Bool
+line_refers_to file s = keyword_refers_to file (first_named (codes "REFFLD") s.keywords)
+
+abbrev pub any_refers_to : List ℕ → List Specification → Bool
+any_refers_to file [] = false
+any_refers_to file (s ∷ ss) = line_refers_to file s || any_refers_to file ss
+
+-- by REF or by a REFFLD
+abbrev pub refers_to : List ℕ → Source → Bool
+refers_to file source = is_named file (reference_file source.file) || any_refers_to file source.specifications

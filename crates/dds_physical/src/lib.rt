@@ -4,6 +4,7 @@
 
 mod attributes;
 mod defaults;
+pub mod dependents;
 mod described;
 mod draft;
 mod file_keywords;
@@ -18,6 +19,7 @@ mod references;
 pub mod refs;
 mod texts;
 
+pub use dependents::refers_to;
 pub use physical_files::{PhysicalError, PhysicalSpec, physical};
 pub use refs::Refs;
 

@@ -28,6 +28,18 @@ pub struct PhysicalSpec {
     pub keys: KeySpec,
 }
 
+impl PhysicalSpec {
+    /// A copy in memory of its own.
+    pub fn copied(&self, alloc: Global) -> Result<PhysicalSpec, AllocError>
+        ensures { IfOk result (λ spec. spec ≡ self.now) }
+    {
+        Ok(PhysicalSpec {
+            format: self.format.copied(alloc)?,
+            keys: self.keys.copied(alloc)?,
+        })
+    }
+}
+
 /// Why a source describes no physical file.
 #[derive(Drop)]
 pub enum PhysicalError {

@@ -187,7 +187,7 @@ fn file_of(arguments: &[Argument]) -> Option<Name>
     }
 }
 
-fn is_named(name: &Name, other: Option<Name>) -> bool
+pub(crate) fn is_named(name: &Name, other: Option<Name>) -> bool
     ensures { result ≡ is_named name.now other }
 {
     match other {

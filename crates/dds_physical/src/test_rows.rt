@@ -69,15 +69,8 @@ pub(super) const DESCRIBED: [(&str, &str, &str); 12] = [
     ),
 ];
 
-/// A faulty source, and its first fault.
-pub(super) const FAULTS: [(&str, &str, u32, u32, DdsCause); 108] = [
-    (
-        "VARLEN in place of REF",
-        "     A                                      VARLEN\n     A* long names\n     A          R LONGR\n     A            LNAME     R   +2          REFFLD(NAME) TEXT('Long +\n     A                                         name')\n",
-        1,
-        45,
-        DdsCause::UnknownKeyword,
-    ),
+/// A faulty source, and its first fault: what is wrong with lines and their entries.
+pub(super) const FAULTY_ENTRIES: [(&str, &str, u32, u32, DdsCause); 39] = [
     (
         "a field before the record format",
         "     A            FLD            5A\n     A          R REC\n     A            FLE            5\n",
@@ -350,6 +343,17 @@ pub(super) const FAULTS: [(&str, &str, u32, u32, DdsCause); 108] = [
         3,
         38,
         DdsCause::BadType,
+    ),
+];
+
+/// The same, of keywords, references and the whole.
+pub(super) const FAULTY_KEYWORDS: [(&str, &str, u32, u32, DdsCause); 69] = [
+    (
+        "VARLEN in place of REF",
+        "     A                                      VARLEN\n     A* long names\n     A          R LONGR\n     A            LNAME     R   +2          REFFLD(NAME) TEXT('Long +\n     A                                         name')\n",
+        1,
+        45,
+        DdsCause::UnknownKeyword,
     ),
     (
         "a keyword of fields at the file",

@@ -2,9 +2,10 @@
 ghost use Rattle.std.specs.Prelude.{◌≡◌, Option, Some, None, if◌then◌else◌, nat_eq};
 ghost use Rattle.std.specs.Cmp.Lexicographic.{pointwise};
 
+use crate::dependents::refers_to;
 use crate::physical_files::{PhysicalError, PhysicalSpec, physical};
 use crate::refs::Refs;
-use crate::test_rows::{CUST, DESCRIBED, FAULTS};
+use crate::test_rows::{CUST, DESCRIBED, FAULTY_ENTRIES, FAULTY_KEYWORDS};
 use dds_source::{DdsCause, DdsFault, Source, read_source};
 use ebc_text::to_ascii;
 use field_types::kinds::{FieldType, Kind};
@@ -162,16 +163,24 @@ fn describe_bytes(out: &mut String, bytes: &[u8]) -> Result<(), AllocError> {
     Ok(())
 }
 
-#[test]
-fn files_that_are_described(rt: HostRuntime) -> Result<(), Fail> {
-    let files = customers(rt.alloc())?;
-    for (what, text, expected) in &DESCRIBED {
-        let source = source(rt.alloc(), text)?;
-        let spec = physical(rt.alloc(), &source, &files).ok().ok_or(*what)?;
-        let found = describe(rt.alloc(), &spec)?;
-        assert_eq!(rt; found.as_str(), *expected, "at {what}");
+/// Each source is described as its row says.
+fn are_described(
+    alloc: Global,
+    files: &Files,
+    rows: &[(&'static str, &'static str, &'static str)],
+) -> Result<(), Fail> {
+    for (what, text, expected) in rows {
+        let source = source(alloc, text)?;
+        let spec = physical(alloc, &source, files).ok().ok_or(*what)?;
+        let found = describe(alloc, &spec)?;
+        (found.as_str() == *expected).then_some(()).ok_or(*what)?;
     }
     Ok(())
+}
+
+#[test]
+fn files_that_are_described(rt: HostRuntime) -> Result<(), Fail> {
+    are_described(rt.alloc(), &customers(rt.alloc())?, &DESCRIBED)
 }
 
 /// Whether the source's first fault is this one.
@@ -194,14 +203,24 @@ fn is_first(
     }
 }
 
+/// Each source has the first fault that its row says.
+fn are_first(
+    alloc: Global,
+    files: &Files,
+    rows: &[(&'static str, &'static str, u32, u32, DdsCause)],
+) -> Result<(), Fail> {
+    for (what, text, line, column, cause) in rows {
+        let wanted = is_first(alloc, files, text, *line, *column, *cause)?;
+        wanted.then_some(()).ok_or(*what)?;
+    }
+    Ok(())
+}
+
 #[test]
 fn first_faults(rt: HostRuntime) -> Result<(), Fail> {
     let files = customers(rt.alloc())?;
-    for (what, text, line, column, cause) in &FAULTS {
-        let wanted = is_first(rt.alloc(), &files, text, *line, *column, *cause)?;
-        assert!(rt; wanted, "at {what}");
-    }
-    Ok(())
+    are_first(rt.alloc(), &files, &FAULTY_ENTRIES)?;
+    are_first(rt.alloc(), &files, &FAULTY_KEYWORDS)
 }
 
 /// A source with so many fields of one byte, and so many key fields.
@@ -233,32 +252,61 @@ fn describe_many(
     text.push_str(back)
 }
 
+/// Whether each number is reached, and where it is passed.
+fn is_limited(alloc: Global) -> Result<bool, Fail> {
+    let files = customers(alloc)?;
+    let most = source(alloc, many(alloc, 1000, 32)?.as_str())?;
+    let fields = many(alloc, 1001, 0)?;
+    let keys = many(alloc, 33, 33)?;
+    Ok(
+        physical(alloc, &most, &files).is_ok()
+            && is_first(alloc, &files, fields.as_str(), 1002, 19, DdsCause::TooLarge)?
+            && is_first(alloc, &files, keys.as_str(), 67, 19, DdsCause::TooLarge)?,
+    )
+}
+
 #[test]
 fn limits(rt: HostRuntime) -> Result<(), Fail> {
-    let files = customers(rt.alloc())?;
-    let most = source(rt.alloc(), many(rt.alloc(), 1000, 32)?.as_str())?;
-    assert!(rt; physical(rt.alloc(), &most, &files).is_ok());
-    let fields = many(rt.alloc(), 1001, 0)?;
-    assert!(rt;
-        is_first(
-            rt.alloc(),
-            &files,
-            fields.as_str(),
-            1002,
-            19,
-            DdsCause::TooLarge
-        )?
-    );
-    let keys = many(rt.alloc(), 33, 33)?;
-    assert!(rt;
-        is_first(
-            rt.alloc(),
-            &files,
-            keys.as_str(),
-            67,
-            19,
-            DdsCause::TooLarge
-        )?
-    );
+    assert!(rt; is_limited(rt.alloc())?);
     Ok(())
+}
+
+/// A source and a file, and whether the source names it.
+const REFERRING: [(&str, &str, bool); 5] = [
+    (CUST, "CUST", false),
+    (
+        "     A                                      REF(CUST CUSTR)\n",
+        "CUST",
+        true,
+    ),
+    (
+        "     A                                      REF(CUST CUSTR)\n",
+        "CUSTR",
+        false,
+    ),
+    (
+        "     A          R REC\n     A            FLD            5          REFFLD(NAME CUST)\n",
+        "CUST",
+        true,
+    ),
+    (
+        "     A          R REC\n     A            FLD       R               REFFLD(CUST *SRC)\n",
+        "CUST",
+        false,
+    ),
+];
+
+fn are_referring(alloc: Global, rows: &[(&'static str, &'static str, bool)]) -> Result<(), Fail> {
+    for (text, file, wanted) in rows {
+        let name = Name::from_bytes(file.as_bytes()).ok_or("a name")?;
+        (refers_to(&source(alloc, text)?, &name) == *wanted)
+            .then_some(())
+            .ok_or(*text)?;
+    }
+    Ok(())
+}
+
+#[test]
+fn files_that_are_named(rt: HostRuntime) -> Result<(), Fail> {
+    are_referring(rt.alloc(), &REFERRING)
 }

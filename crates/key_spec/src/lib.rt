@@ -90,3 +90,16 @@ pub struct KeySpec {
     pub unique: bool,
     pub ties: Ties,
 }
+
+impl KeySpec {
+    /// A copy in memory of its own.
+    pub fn copied(&self, alloc: Global) -> Result<KeySpec, AllocError>
+        ensures { IfOk result (λ k. k ≡ self.now) }
+    {
+        Ok(KeySpec {
+            parts: self.parts.copied(alloc)?,
+            unique: self.unique,
+            ties: self.ties,
+        })
+    }
+}
