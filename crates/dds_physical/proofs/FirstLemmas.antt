@@ -5,7 +5,7 @@ use Rattle.std.proofs.lemmas.Bool.{cases_Bool}
 use Rattle.record_fmt.specs.declared.formats.Format.{Format}
 use Rattle.dds_source.specs.declared.specifications.Source.{Source}
 use Rattle.dds_source.specs.declared.faults.DdsFault.{DdsFault}
-use Rattle.dds_source.specs.Faults.{rank, is_before, first_after, earlier, IsFirst}
+use Rattle.dds_source.specs.Faults.{rank, is_before, first_after, IsFirst}
 use Rattle.dds_physical.specs.declared.physical_files.PhysicalSpec.{PhysicalSpec}
 use Rattle.dds_physical.specs.declared.physical_files.PhysicalError.{PhysicalError}
 use Rattle.dds_physical.specs.declared.physical_files.PhysicalError.TheVariants as errors

@@ -1,6 +1,5 @@
 -- A source that names each field of a file again describes the same format.
-use Rattle.std.proofs.Common.{◌≡◌, ◌<◌, ◌≤◌, ◌+◌, ℕ, Bool, true, false, not, ◌&&◌, ◌||◌, ◌==◌, nat_lt, nat_le, nat_eq, List, [], ◌∷◌, ◌++◌, length, Option, Some, None, is_some, Result, Ok, Err, IsTrue, refl, sym, ◌∙◌, ap, subst, arith, inl, inr, length-append}
-use Rattle.std.specs.Bool.{if◌then◌else◌}
+use Rattle.std.proofs.Common.{◌≡◌, ◌<◌, ◌≤◌, ◌+◌, ℕ, Bool, true, false, ◌==◌, nat_lt, nat_le, nat_eq, List, [], ◌∷◌, ◌++◌, length, Option, Some, None, is_some, Ok, refl, sym, ◌∙◌, ap, subst, arith, inl, inr, length-append}
 use Rattle.std.proofs.lemmas.Bool.{cases_Bool, and_parts, eqb-true}
 use lib.Pointwise.{pointwise}
 use Rattle.field_types.specs.declared.kinds.Kind.{Kind}
@@ -9,10 +8,9 @@ use Rattle.field_types.specs.declared.kinds.FieldType.{FieldType}
 use Rattle.field_values.specs.FieldTypes.{IsFieldType, is_allowed, is_between, width}
 use Rattle.record_fmt.specs.declared.formats.Field.{Field}
 use Rattle.record_fmt.specs.declared.formats.Format.{Format}
-use Rattle.record_fmt.specs.Layout.{record_length, lies_from, IsLaidOut}
+use Rattle.record_fmt.specs.Layout.{record_length, lies_from}
 use Rattle.record_fmt.proofs.LayoutLemmas.{lies-parts, record_length-append}
 use Rattle.dds_source.specs.declared.faults.DdsFault.{DdsFault}
-use Rattle.dds_source.specs.declared.specifications.Specification.{Specification}
 use Rattle.dds_source.specs.Faults.{first_after}
 use Rattle.dds_physical.specs.declared.draft.Draft.{Draft}
 use Rattle.dds_physical.specs.Names.{field_named, is_field}
@@ -25,7 +23,7 @@ use Rattle.dds_physical.specs.Attributes.{attributes}
 use Rattle.dds_physical.specs.References.{type_in_file, type_in_format, type_of_field, found_or, typed_by, typed}
 use Rattle.dds_physical.specs.Lines.{line_faults, described, lines_faults, lines_described, or_those, unless_faulty}
 use Rattle.dds_physical.specs.Physical.{physical_of, faults_of, draft_of, specification, specification_unless, finished}
-use Rattle.dds_physical.specs.Laws.{field_line, field_lines, record_line, reference_to, source_again, file_again, ArePlain, Differ, IsCopied}
+use Rattle.dds_physical.specs.Laws.{field_line, field_lines, reference_to, source_again, file_again, ArePlain, Differ, IsCopied}
 
 -- The attributes of a field, copied.
 

@@ -1,6 +1,5 @@
 -- Lines, judged one after another up to the first that is at fault.
-use Rattle.std.proofs.Common.{◌≡◌, ◌<◌, ℕ, length, take, drop, get_or, ◌∷◌, Bool, true, false, not, List, [], ◌++◌, Option, Some, None, is_some, refl, sym, ◌∙◌, ap, arith}
-use Rattle.std.specs.Bool.{if◌then◌else◌}
+use Rattle.std.proofs.Common.{◌≡◌, ◌<◌, ℕ, length, take, drop, get_or, ◌∷◌, List, [], ◌++◌, Option, Some, None, refl, sym, ◌∙◌, ap, arith}
 use Rattle.record_fmt.specs.declared.formats.Format.{Format}
 use Rattle.dds_source.specs.declared.faults.DdsFault.{DdsFault}
 use Rattle.dds_source.specs.declared.specifications.Specification.{Specification}

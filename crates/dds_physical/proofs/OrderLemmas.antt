@@ -3,7 +3,6 @@ use Rattle.std.proofs.Common.{◌≡◌, ◌<◌, ◌≤◌, ◌+◌, ℕ, Bool,
 use Rattle.std.specs.Prelude.{codes}
 use Rattle.std.specs.Bool.{if◌then◌else◌}
 use Rattle.std.proofs.lemmas.Bool.{cases_Bool}
-use Rattle.std.proofs.lemmas.List.{append-nil}
 use Rattle.field_types.specs.declared.kinds.Kind.{Kind}
 use Rattle.field_types.specs.declared.kinds.FieldType.{FieldType}
 use Rattle.field_values.specs.FieldTypes.{is_allowed}
@@ -19,19 +18,19 @@ use Rattle.dds_source.specs.declared.specifications.Specification.{Specification
 use Rattle.dds_source.specs.declared.specifications.SpecificationKind.{SpecificationKind}
 use Rattle.dds_source.specs.declared.specifications.SpecificationKind.TheVariants as kinds
 use Rattle.dds_source.specs.Entries.{when}
-use Rattle.dds_source.specs.Faults.{rank, is_before, earlier, first_after}
+use Rattle.dds_source.specs.Faults.{is_before, first_after}
 use Rattle.dds_physical.specs.declared.draft.Draft.{Draft}
 use Rattle.dds_physical.specs.declared.keyword_names.Place.{Place}
 use Rattle.dds_physical.specs.declared.keyword_names.Place.TheVariants as places
 use Rattle.dds_physical.specs.Places.{fault_at, fault_of_keyword, at_keyword, error_list}
 use Rattle.dds_physical.specs.Names.{name_of, is_field, is_listed}
-use Rattle.dds_physical.specs.Keywords.{has_name, first_named, arguments_of, is_known}
+use Rattle.dds_physical.specs.Keywords.{has_name, first_named, is_known}
 use Rattle.dds_physical.specs.KeywordRules.{takes_arguments, repeated, one_keyword_faults, keyword_faults}
-use Rattle.dds_physical.specs.Attributes.{kind_of, length_of, decimals_of, are_decimals_wrong, sized, attributes_of_kind, attributes}
-use Rattle.dds_physical.specs.References.{type_in_file, reference_type, reference_cause, found_or, referenced_by, referenced, typed_by, typed, names_more, reference_faults, reference_file}
-use Rattle.dds_physical.specs.Defaults.{is_refused, literal_of, default_keyword_faults, default_faults}
+use Rattle.dds_physical.specs.Attributes.{kind_of, are_decimals_wrong, sized, attributes_of_kind, attributes}
+use Rattle.dds_physical.specs.References.{found_or, referenced_by, referenced, typed_by, typed, names_more, reference_faults, reference_file}
+use Rattle.dds_physical.specs.Defaults.{default_keyword_faults}
 use Rattle.dds_physical.specs.Draft.{nothing, key_length}
-use Rattle.dds_physical.specs.Lines.{is_letter_wrong, is_usage_wrong, entry_faults, record_faults, place_faults, type_faults, field_faults, is_blank, key_place_faults, key_faults, line_faults_of, line_faults, described, or_those, unless_faulty, lines_faults, lines_described}
+use Rattle.dds_physical.specs.Lines.{is_letter_wrong, is_usage_wrong, entry_faults, place_faults, type_faults, is_blank, key_place_faults, line_faults_of, line_faults, described, or_those, unless_faulty, lines_faults, lines_described}
 use Rattle.dds_physical.specs.WholeFile.{has_field, fault_of_file, file_faults, whole_faults}
 use Rattle.dds_physical.specs.Physical.{faults_of, draft_of}
 use Rattle.dds_physical.specs.Order.{all_line_faults, all_described, all_faults, KeywordsWithin, IsWithin, AreInOrder}
