@@ -1,0 +1,14 @@
+pub mod Places
+pub mod Names
+pub mod Keywords
+pub mod KeywordRules
+pub mod Attributes
+pub mod References
+pub mod Defaults
+pub mod Described
+pub mod Draft
+pub mod Lines
+pub mod WholeFile
+pub mod Physical
+pub mod Laws
+pub mod Order
