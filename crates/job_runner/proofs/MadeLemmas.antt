@@ -1,10 +1,13 @@
 -- What more calls make of those that a session made before: they lead on, their timestamps follow, and their jobs stay in order.
-use Rattle.std.proofs.Common.{◌≡◌, ◌≤◌, ℕ, ◌+◌, List, [], ◌∷◌, ◌++◌, refl, sym, ◌∙◌, ap, subst, arith, append_assoc, append-nil}
+use Rattle.std.proofs.Common.{◌≡◌, ◌≤◌, ℕ, ◌+◌, false, true, IsTrue, List, [], ◌∷◌, ◌++◌, refl, sym, ◌∙◌, ap, subst, arith, append_assoc, append-nil}
 use Rattle.std.specs.List.{AllByRecursion}
 use Rattle.library_model.specs.declared.calls.Call.{Call}
-use Rattle.library_model.specs.History.{Outcome, Runs}
+use Rattle.library_model.specs.State.{Memory, State, job_at}
+use Rattle.library_model.specs.Running.{is_running}
+use Rattle.library_model.specs.History.{Outcome, Standing, Failed, Runs}
+use Rattle.library_core.specs.Stands.{Stands, IsAt, Goes}
 use Rattle.job_script.specs.declared.scripts.Scripts.{Scripts}
-use Rattle.job_runner.specs.Asked.{AreAsked}
+use Rattle.job_runner.specs.Asked.{asked, AreAsked}
 use Rattle.job_runner.specs.Made.{AreGiven, AreOf, AreInOrder}
 use Rattle.job_runner.specs.Session.{SessionOver, HasMade}
 use Rattle.job_runner.proofs.CallLemmas.{Runs-append, AreAsked-append}
@@ -51,7 +54,7 @@ HasMade-more gives first mid later made more front back = record {
 
 pub HasMade-none : {S C : Type 0} (gives : C → ℕ → C → Type 0) (first : SessionOver S C) → HasMade gives first first []
 HasMade-none gives first = record {
-  calls = sym append-nil;
+  calls = sym (append-nil {A = Call} first.calls);
   legal = λ from stands. (from, refl, stands);
   asked = tt;
   given = refl;
@@ -71,3 +74,22 @@ next-more gives first mid later jobs front back =
     let early = all-wider (λ (call : Call). call.job ≤ jobs) (λ (call : Call). call.job ≤ jobs + 1) front.0 (λ call within. omega (arith, within)) front.3 in
     let late = all-wider (λ (call : Call). call.job ≡ jobs + 1) (λ (call : Call). call.job ≤ jobs + 1) back.0 (λ call same. omega (arith, same)) back.2 in
     (front.0 ++ back.0, HasMade-more gives first mid later front.0 back.0 front.1 back.1, AreInOrder-append jobs front.0 back.0 front.2 front.3 back.2, all-append (λ (call : Call). call.job ≤ jobs + 1) front.0 back.0 early late)
+
+-- one call, from what the library's own call says of it
+pub HasMade-called : {S C : Type 0} (gives : C → ℕ → C → Type 0) (first later : SessionOver S C) (made : Call) → first.library.failed ≡ false → IsTrue (is_running (job_at made.job first.library.memory.jobs)) → ((s : State) → Stands first.library s → Goes first.scripts.sources later.library s made) → later.calls ≡ first.calls ++ made ∷ [] → made.request ≡ asked first.scripts.scripts made.job first.calls → gives first.clock made.timestamp later.clock → later.scripts ≡ first.scripts → later.library.store ≡ first.library.store → later.library.failed ≡ false → HasMade gives first later (made ∷ [])
+HasMade-called gives first later made alive running goes calls asks_it given scripts store alive_still = record {
+  calls = calls;
+  legal = led;
+  asked = (asks_it, tt);
+  given = (later.clock, given, refl);
+  scripts = scripts;
+  store = store;
+  failed = alive_still ∙ sym alive;
+}
+  where
+    led : (from : Outcome) → IsAt first.library from → (to : Outcome) × Runs first.scripts.sources from (made ∷ []) to × IsAt later.library to
+    led (Standing s) stands =
+        let done = goes s stands in
+        let runs : IsTrue (is_running (job_at made.job s.jobs)) = subst (λ (m : Memory). IsTrue (is_running (job_at made.job m.jobs))) stands.memory running in
+        (done.outcome, (runs, done.outcome, done.comes, refl), done.at)
+    led (Failed journal) failed = absurd (let e = alive in let f = failed in cc)

@@ -1,7 +1,8 @@
 -- What one call more makes of the places that a session keeps.
-use Rattle.std.proofs.Common.{◌≡◌, ◌≢◌, ℕ, ◌+◌, ◌-◌, ◌<◌, ◌≤◌, Bool, true, false, not, ◌&&◌, ◌==◌, IsTrue, if◌then◌else◌, Option, Some, None, List, [], ◌∷◌, ◌++◌, length, map, slice_get, slice_set, zero, suc, refl, sym, ◌∙◌, ap, subst, arith, rules, length-append, get_or, replicate}
+use Rattle.std.proofs.Common.{◌≡◌, ◌≢◌, ℕ, ◌+◌, ◌-◌, ◌<◌, ◌≤◌, Bool, true, false, not, ◌&&◌, ◌==◌, IsTrue, if◌then◌else◌, Option, Some, None, List, [], ◌∷◌, ◌++◌, length, map, slice_get, slice_set, zero, suc, refl, sym, ◌∙◌, ap, subst, arith, rules, length-append, get_or, replicate, Result, Ok, Err, OnOk}
 use Rattle.std.specs.Prelude.{count_by}
 use Rattle.std.specs.List.{list_all, AllByRecursion}
+use Rattle.std.specs.Result.{is_ok, is_err}
 use Rattle.std.proofs.lemmas.Grind.{common_steps}
 use Rattle.std.proofs.lemmas.List.{length-replicate}
 use Rattle.std.proofs.lemmas.Option.{slice_get-get_or}
@@ -158,6 +159,16 @@ module _ (scripts : Scripts) (old new : Memory) (calls : List Call) (room : ℕ)
       enough : unended (slice_set kept (job - 1) (place_after progress calls call)) ≤ left
       enough = omega (arith, fits, unended-set kept (job - 1) place (place_after progress calls call) called.here called.runs)
 
+-- the same with the parts of the next place as the code has them
+pub IsSession-next : (scripts : Scripts) (old new : Memory) (calls later : List Call) (room left : ℕ) (kept : List Place) (job progress : ℕ) (place : Place) (call : Call) (at : ℕ) (ended : Bool) → Called scripts old new calls room kept job progress place call → IsJoint new → later ≡ calls ++ call ∷ [] → at ≡ length calls → ended ≡ is_end_job call.request → unended kept ≤ left + (if is_end_job call.request then 1 else 0) → IsSession scripts new later left (slice_set kept (job - 1) (record { progress = progress; last = Some at; ended = ended }))
+IsSession-next scripts old new calls later room left kept job progress place call at ended called joint more stands ends fits =
+    rw (more, stands, ends) (IsSession-called scripts old new calls room kept job progress place call called left joint fits)
+
+-- what holds where a call succeeds, of one that has
+pub on_is_ok : {A E P : Type 0} (r : Result A E) → is_ok r ≡ true → OnOk r P → P
+on_is_ok (Ok x) is holds = holds
+on_is_ok (Err e) is holds = absurd cc
+
 -- as many jobs as there are places are still to end, at most
 pub unended-most : (kept : List Place) → unended kept ≤ length kept
 unended-most [] = omega arith
@@ -247,3 +258,7 @@ IsSession-first scripts memory room kept begun askable named few enough fresh =
       enough = omega (arith, unended-most kept, many, few, enough);
       places = λ at place there. let first = first-places (length scripts.scripts) at place (rw fresh at there) in first-place-is scripts memory.jobs at place begun named first.0 first.1;
     }
+
+pub on_no_err : {A E P : Type 0} (r : Result A E) → is_err r ≡ false → OnOk r P → P
+on_no_err (Ok x) is holds = holds
+on_no_err (Err e) is holds = absurd cc

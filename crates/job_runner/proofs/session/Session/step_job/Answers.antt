@@ -1,0 +1,102 @@
+use Rattle.std.proofs.Common.{◌≡◌, ◌∙◌, ◌≤◌, ◌+◌, false, sym, refl, ap, arith, length}
+use Rattle.library_model.specs.declared.calls.Call.{Call}
+use Rattle.library_model.specs.declared.limits.TheConstants.{MOST_JOBS}
+use Rattle.library_model.specs.Running.{is_end_job}
+use Rattle.job_runner.specs.declared.session.Stepped.TheVariants as stepped
+use Rattle.job_runner.specs.Places.{unended}
+use Rattle.job_runner.proofs.MadeLemmas.{HasMade-called}
+use Rattle.job_runner.proofs.PlaceLemmas.{Called, IsSession-next, IsSession-same, place-here, place-is, runs-still, on_is_ok, unended-most, fits-end, ended-then, ended-else, remaining-called}
+use Rattle.job_runner.proofs.session.Session.step_job.Goals as goal
+
+pub returns-then-place-clause-ended : goal.returns-then-place-clause-ended
+returns-then-place-clause-ended g c =
+    let within = rw (← c.self.view_is) at c.requires in
+    let here = place-here _ _ _ _ _ c.args.job c.index_mut-place.result.now c.self.invariant within c.index_mut-place.ensures.value in
+    let is = place-is _ _ _ _ _ c.args.job c.index_mut-place.result.now c.self.invariant within.0 here in
+    rw (← c.self.view_is) (ended-then _ (sym is.ended ∙ c.if-place.true))
+
+pub returns-then-failed-clause-ended : goal.returns-then-failed-clause-ended
+returns-then-failed-clause-ended g c =
+    let within = rw (← c.self.view_is) at c.requires in
+    let here = place-here _ _ _ _ _ c.args.job c.index_mut-place.result.now c.self.invariant within c.index_mut-place.ensures.value in
+    let is = place-is _ _ _ _ _ c.args.job c.index_mut-place.result.now c.self.invariant within.0 here in
+    rw (← c.self.view_is) (ended-else stepped.Stopped _ (λ e. cc) (sym is.ended ∙ c.if-place.false))
+
+pub ask-requires-clause-progress : goal.ask-requires-clause-progress
+ask-requires-clause-progress g c =
+    let within = rw (← c.self.view_is) at c.requires in
+    let here = place-here _ _ _ _ _ c.args.job c.index_mut-place.result.now c.self.invariant within c.index_mut-place.ensures.value in
+    let is = place-is _ _ _ _ _ c.args.job c.index_mut-place.result.now c.self.invariant within.0 here in
+    rw c.reserve.ensures.unchanged (is.goes_on c.if-place.false).stands
+
+pub ask-requires-clause-last : goal.ask-requires-clause-last
+ask-requires-clause-last g c =
+    let within = rw (← c.self.view_is) at c.requires in
+    let here = place-here _ _ _ _ _ c.args.job c.index_mut-place.result.now c.self.invariant within c.index_mut-place.ensures.value in
+    let is = place-is _ _ _ _ _ c.args.job c.index_mut-place.result.now c.self.invariant within.0 here in
+    rw c.reserve.ensures.unchanged is.last
+
+pub invariant_of-self-in-Err-NoMemory : goal.invariant_of-self-in-Err-NoMemory
+invariant_of-self-in-Err-NoMemory g c =
+    let within = rw (← c.self.view_is) at c.requires in
+    let here = place-here _ _ _ _ _ c.args.job c.index_mut-place.result.now c.self.invariant within c.index_mut-place.ensures.value in
+    IsSession-same _ _ _ _ _ _ _ c.args.job c.index_mut-place.result.now _ c.self.invariant here c.reserve.ensures.unchanged c.reserve.ensures.kept c.in-Err-NoMemory.ensures.unchanged
+
+pub returns-in-Err-NoMemory-clause-ended : goal.returns-in-Err-NoMemory-clause-ended
+returns-in-Err-NoMemory-clause-ended g c =
+    let within = rw (← c.self.view_is) at c.requires in
+    let here = place-here _ _ _ _ _ c.args.job c.index_mut-place.result.now c.self.invariant within c.index_mut-place.ensures.value in
+    let is = place-is _ _ _ _ _ c.args.job c.index_mut-place.result.now c.self.invariant within.0 here in
+    rw (← c.self.view_is) (ended-else stepped.NoMemory _ (λ e. cc) (sym is.ended ∙ c.if-place.false))
+
+pub call-reply-requires-clause-ready : goal.call-reply-requires-clause-ready
+call-reply-requires-clause-ready g c =
+    let within = rw (← c.self.view_is) at c.requires in
+    let here = place-here _ _ _ _ _ c.args.job c.index_mut-place.result.now c.self.invariant within c.index_mut-place.ensures.value in
+    record {
+      alive = sym c.failed.ensures ∙ c.if-failed.false;
+      running = runs-still _ _ _ _ _ c.args.job c.index_mut-place.result.now c.self.invariant within.0 here c.if-place.false;
+      joint = c.self.invariant.joint;
+    }
+
+pub invariant_of-self-2 : goal.invariant_of-self-2
+invariant_of-self-2 g c =
+    let within = rw (← c.self.view_is) at c.requires in
+    let here = place-here _ _ _ _ _ c.args.job c.index_mut-place.result.now c.self.invariant within c.index_mut-place.ensures.value in
+    let made : Call = record { job = c.args.job; timestamp = c.now-timestamp.result; request = c.in-Ok.request; reply = c.call-reply.result } in
+    let called : Called c.self.inside.scripts c.self.inside.library.memory c.call-reply.new.library.memory c.self.inside.history.calls c.self.inside.history.room c.self.inside.places.items c.args.job c.ask.new.place.progress c.index_mut-place.result.now made = record {
+      is = c.self.invariant;
+      from = within.0;
+      here = here;
+      runs = c.if-place.false;
+      same = refl;
+      moves = rw c.reserve.ensures.unchanged at c.in-Ok.ensures.moved;
+      after = c.call-reply.ensures.running;
+    } in
+    let few : unended c.self.inside.places.items ≤ MOST_JOBS = omega (arith, unended-most c.self.inside.places.items, c.self.invariant.jobs, c.self.invariant.few) in
+    let spare = λ (goes_on : is_end_job c.in-Ok.request ≡ false). on_is_ok c.reserve.result (sym c.is_ok-room.ensures.value ∙ c.in-Ok.ensures.room goes_on) c.reserve.ensures.room in
+    let fits = fits-end (is_end_job c.in-Ok.request) c.self.inside.history.room c.reserve.new.self.room c.push.new.self.room (unended c.self.inside.places.items) c.self.invariant.enough c.reserve.ensures.kept c.push.ensures.room spare few in
+    IsSession-next c.self.inside.scripts _ _ c.self.inside.history.calls _ c.self.inside.history.room _ c.self.inside.places.items c.args.job c.ask.new.place.progress c.index_mut-place.result.now made _ _ called c.call-reply.ensures.joint (rw c.reserve.ensures.unchanged at c.push.ensures.calls) (ap length (c.calls.ensures ∙ c.reserve.ensures.unchanged)) c.is_end_job-place.ensures fits
+
+pub returns-clause-ended : goal.returns-clause-ended
+returns-clause-ended g c =
+    let within = rw (← c.self.view_is) at c.requires in
+    let here = place-here _ _ _ _ _ c.args.job c.index_mut-place.result.now c.self.invariant within c.index_mut-place.ensures.value in
+    let is = place-is _ _ _ _ _ c.args.job c.index_mut-place.result.now c.self.invariant within.0 here in
+    rw (← c.self.view_is) (ended-else stepped.Called _ (λ e. cc) (sym is.ended ∙ c.if-place.false))
+
+pub returns-clause-called : goal.returns-clause-called
+returns-clause-called g c = λ e.
+    let within = rw (← c.self.view_is) at c.requires in
+    let here = place-here _ _ _ _ _ c.args.job c.index_mut-place.result.now c.self.invariant within c.index_mut-place.ensures.value in
+    let running = runs-still _ _ _ _ _ c.args.job c.index_mut-place.result.now c.self.invariant within.0 here c.if-place.false in
+    let made : Call = record { job = c.args.job; timestamp = c.now-timestamp.result; request = c.in-Ok.request; reply = c.call-reply.result } in
+    (made, refl, rw (← c.self.view_is) (HasMade-called g.C.Clock.gives _ _ made (sym c.failed.ensures ∙ c.if-failed.false) running c.call-reply.ensures.goes (rw c.reserve.ensures.unchanged at c.push.ensures.calls) (rw c.reserve.ensures.unchanged at c.in-Ok.ensures.asked) c.now-timestamp.ensures refl c.call-reply.ensures.store c.call-reply.ensures.alive))
+
+pub returns-clause-nearer : goal.returns-clause-nearer
+returns-clause-nearer g c = λ e.
+    let within = rw (← c.self.view_is) at c.requires in
+    let here = place-here _ _ _ _ _ c.args.job c.index_mut-place.result.now c.self.invariant within c.index_mut-place.ensures.value in
+    let is = place-is _ _ _ _ _ c.args.job c.index_mut-place.result.now c.self.invariant within.0 here in
+    let made : Call = record { job = c.args.job; timestamp = c.now-timestamp.result; request = c.in-Ok.request; reply = c.call-reply.result } in
+    rw (← c.self.view_is) (remaining-called c.self.inside.scripts.scripts c.self.inside.library.memory.jobs c.self.inside.history.calls c.push.new.self.calls c.args.job c.index_mut-place.result.now made is c.if-place.false refl (rw c.reserve.ensures.unchanged at c.in-Ok.ensures.nearer) (rw c.reserve.ensures.unchanged at c.push.ensures.calls))
