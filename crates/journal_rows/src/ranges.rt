@@ -51,6 +51,9 @@ pub fn interleaved_ranges()
 pub fn refusals()
     ensures needs_both { removed 3 4 after_only (Live (codes "B") ∷ []) ≡ Err (NeedsBoth 4) }
     ensures applied_without { applied 3 4 after_only (Deleted ∷ []) ≡ outcome 3 4 2 (Live (codes "B") ∷ []) }
+    // Any live slot meets a before side that the journal lacks, and a deleted one doesn't.
+    ensures applied_to_live { applied 4 4 after_only (Live (codes "Z") ∷ []) ≡ outcome 4 4 1 (Live (codes "B") ∷ []) }
+    ensures applied_to_deleted { applied 4 4 after_only (Deleted ∷ []) ≡ Err (DoesNotFit 4 1) }
     ensures needs_both_first { removed 3 6 half_kept (Live (codes "Z") ∷ []) ≡ Err (NeedsBoth 4) }
     ensures does_not_fit { removed 5 6 half_kept (Live (codes "Z") ∷ []) ≡ Err (DoesNotFit 6 1) }
     ensures not_removable { removed 3 5 broken (Live (codes "B") ∷ []) ≡ Err (NotRemovable 4) }
