@@ -88,7 +88,11 @@ HasPlaceIn d c e = OfMember (member_numbered e.member c) (λ (m : CatalogMember)
 abbrev pub StaysMembers : Descriptions → Journal → Type 0
 StaysMembers d j =
     (front rest : List Entry) (member : CatalogMember) → j.later ≡ front ++ rest → member_numbered (Some member.number) (catalogue_after j.catalogue front) ≡ Some member
-    → IsMember (record { record_length = record_length d (catalogue_after j.catalogue front) member; slots = (replay (start_of j member.number) (acts member.number (entry_before None j.kept) front)).slots })
+    → IsMember (record {
+      record_length = record_length d (catalogue_after j.catalogue front) member;
+      slots =
+          (replay (start_of j member.number) (acts member.number (entry_before None j.kept) front)).slots;
+    })
 
 pub record CanReplayJournal (d : Descriptions) (j : Journal) : Type 0 where
   pub first : ℕ

@@ -84,7 +84,8 @@ abbrev pub removed_plain : List Entry
 removed_plain = plain
     ++ (of_member 9 (ChangesRemoved 3 8 5) ∷ starts 10 ∷ of_record 11 (Some 10) 2 (RecordAddedAtNumber (codes "B")) ∷ [])
     ++ updated 12 (Some 10) 1 (codes "A1") (codes "A")
-    ++ (of_record 14 (Some 10) 3 (RecordDeleted (Some (codes "C"))) ∷ of_record 15 (Some 10) 2 (RecordDeleted (Some (codes "B"))) ∷ of_record 16 (Some 10) 1 (RecordDeleted (Some (codes "A"))) ∷ committed 17 10 ∷ [])
+    ++ (of_record 14 (Some 10) 3 (RecordDeleted (Some (codes "C"))) ∷ of_record 15 (Some 10) 2 (RecordDeleted (Some (codes "B"))) ∷ of_record 16 (Some 10) 1
+    (RecordDeleted (Some (codes "A"))) ∷ committed 17 10 ∷ [])
 
 -- the member is cleared, and its journaling ends and begins again
 abbrev pub broken : List Entry
