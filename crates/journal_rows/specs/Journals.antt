@@ -114,3 +114,7 @@ undone_half = pending
 -- another commit cycle, or a change outside commitment control, takes a record that an open one has changed
 abbrev pub overtaken : Option ℕ → List Entry
 overtaken cycle = interleaved ++ (starts 21 ∷ starts 22 ∷ []) ++ updated 23 (Some 21) 1 (codes "A2") (codes "A3") ++ updated 25 cycle 1 (codes "A3") (codes "A4")
+
+-- the before image in front of an update is of another record
+abbrev pub misplaced : List Entry
+misplaced = created ++ (of_record 3 None 1 (RecordAdded (codes "A")) ∷ of_record 4 None 2 (BeforeImage (codes "A")) ∷ of_record 5 None 1 (AfterImage true (codes "B")) ∷ [])
