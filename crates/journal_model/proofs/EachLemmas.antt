@@ -46,7 +46,8 @@ module _ {X : Type 0} where
 pub one_of-filter : (ns : List ℕ) (n m : ℕ) → is_one_of ns m ≡ true → m == n ≡ false → is_one_of (filter (is_other n) ns) m ≡ true
 one_of-filter [] n m h d = h
 one_of-filter (k ∷ ns) n m h d = at (k == n) refl (one_of-filter ns n m) where
-  at : (b : Bool) → k == n ≡ b → (is_one_of ns m ≡ true → m == n ≡ false → is_one_of (filter (is_other n) ns) m ≡ true) → is_one_of (cond (not b) (k ∷ filter (is_other n) ns) (filter (is_other n) ns)) m ≡ true
+  at : (b : Bool) → k == n ≡ b → (is_one_of ns m ≡ true → m == n ≡ false → is_one_of (filter (is_other n) ns) m ≡ true)
+      → is_one_of (cond (not b) (k ∷ filter (is_other n) ns) (filter (is_other n) ns)) m ≡ true
   at true e more = more (grind (arith, nat_tests)) d
   at false e more = elim (k == m) as (λ b. b || is_one_of ns m ≡ true → b || is_one_of (filter (is_other n) ns) m ≡ true) [ true ↦ λ _. refl | false ↦ λ g. more g d ] h
 
@@ -60,9 +61,11 @@ one_of-filtered p (k ∷ ns) m h = at (p k) h (one_of-filtered p ns m) where
 pub one_of-others : (ns : List ℕ) (n m : ℕ) → is_one_of (filter (is_other n) ns) m ≡ true → m == n ≡ false
 one_of-others [] n m h = absurd (cc)
 one_of-others (k ∷ ns) n m h = at (k == n) refl h (one_of-others ns n m) where
-  at : (b : Bool) → k == n ≡ b → is_one_of (cond (not b) (k ∷ filter (is_other n) ns) (filter (is_other n) ns)) m ≡ true → (is_one_of (filter (is_other n) ns) m ≡ true → m == n ≡ false) → m == n ≡ false
+  at : (b : Bool) → k == n ≡ b → is_one_of (cond (not b) (k ∷ filter (is_other n) ns) (filter (is_other n) ns)) m ≡ true → (is_one_of (filter (is_other n) ns) m ≡ true → m == n ≡ false)
+      → m == n ≡ false
   at true e g more = more g
-  at false e g more = elim (k == m) as (λ b. k == m ≡ b → b || is_one_of (filter (is_other n) ns) m ≡ true → m == n ≡ false) [ true ↦ λ f _. subst (λ (i : ℕ). i == n ≡ false) (eqb-true k m f) e | false ↦ λ _ f. more f ] refl g
+  at false e g more = elim (k == m) as (λ b. k == m ≡ b → b || is_one_of (filter (is_other n) ns) m ≡ true
+      → m == n ≡ false) [ true ↦ λ f _. subst (λ (i : ℕ). i == n ≡ false) (eqb-true k m f) e | false ↦ λ _ f. more f ] refl g
 
 pub one_of-push : (ns : List ℕ) (n m : ℕ) → is_one_of (ns ++ n ∷ []) m ≡ is_one_of ns m || (n == m)
 one_of-push [] n m = grind (arith, nat_tests)

@@ -19,7 +19,9 @@ use Rattle.journal_model.proofs.RollbackLemmas.{restart_drafts-do}
 use Rattle.journal_model.proofs.LibraryLemmas.{IsLinked, linked}
 
 -- the entry that begins a receiver does nothing to a member
-began_only : (job : Option (List ℕ)) (moment member : ℕ) (kind : EntryKind) (drafts : List Draft) (prior : Option Entry) (sequence : ℕ) (done : List Act) → ((prior : Option Entry) (sequence : ℕ) → somethings (acts member prior (numbered_from sequence drafts)) ≡ done) → somethings (acts member prior (numbered_from sequence (missing_draft job moment (missing_kind kind) ++ drafts))) ≡ done
+began_only : (job : Option (List ℕ)) (moment member : ℕ) (kind : EntryKind) (drafts : List Draft) (prior : Option Entry) (sequence : ℕ) (done : List Act)
+    → ((prior : Option Entry) (sequence : ℕ) → somethings (acts member prior (numbered_from sequence drafts)) ≡ done)
+    → somethings (acts member prior (numbered_from sequence (missing_draft job moment (missing_kind kind) ++ drafts))) ≡ done
 began_only job moment member (NextReceiver number) drafts prior sequence done h = h _ (sequence + 1)
 began_only job moment member (FileCreated kind name source) drafts prior sequence done h = h prior sequence
 began_only job moment member (FileDeleted name) drafts prior sequence done h = h prior sequence
@@ -47,7 +49,9 @@ began_only job moment member CommitmentEnded drafts prior sequence done h = h pr
 began_only job moment member AbnormalEnd drafts prior sequence done h = h prior sequence
 began_only job moment member (PreviousReceiver number) drafts prior sequence done h = h prior sequence
 
-missing_does : (job : Option (List ℕ)) (moment member : ℕ) (last : Option Entry) (drafts : List Draft) (prior : Option Entry) (sequence : ℕ) (done : List Act) → ((prior : Option Entry) (sequence : ℕ) → somethings (acts member prior (numbered_from sequence drafts)) ≡ done) → somethings (acts member prior (numbered_from sequence (missing_behind job moment last ++ drafts))) ≡ done
+missing_does : (job : Option (List ℕ)) (moment member : ℕ) (last : Option Entry) (drafts : List Draft) (prior : Option Entry) (sequence : ℕ) (done : List Act)
+    → ((prior : Option Entry) (sequence : ℕ) → somethings (acts member prior (numbered_from sequence drafts)) ≡ done)
+    → somethings (acts member prior (numbered_from sequence (missing_behind job moment last ++ drafts))) ≡ done
 missing_does job moment member None drafts prior sequence done h = h prior sequence
 missing_does job moment member (Some last) drafts prior sequence done h = began_only job moment member last.kind drafts prior sequence done h
 
@@ -79,13 +83,17 @@ module _ (job : Option (List ℕ)) (moment : ℕ) (j : Journal) (r : (member : �
   acts_restarted member = acts-append member (entry_before None j.kept) j.later (restart_entries job moment j)
 
   pub restarted-replays : (member : ℕ) → CanReplay (start_of (restarted job moment j) member) (acts_after (restarted job moment j) member)
-  restarted-replays member = subst (λ (all : List Act). CanReplay (start_of j member) all) (sym (acts_restarted member)) (CanReplay-restarted (j.checkpoint + 1) (slots_in member j.members) (acts_after j member) (block member) (r member) (block_does member))
+  restarted-replays member = subst (λ (all : List Act). CanReplay (start_of j member) all) (sym (acts_restarted member))
+      (CanReplay-restarted (j.checkpoint + 1) (slots_in member j.members) (acts_after j member) (block member) (r member) (block_does member))
 
   pub restarted-closed : (member : ℕ) → (state_of (restarted job moment j) member).cycles ≡ []
-  restarted-closed member = ap (λ (all : List Act). (replay (start_of j member) all).cycles) (acts_restarted member) ∙ cycles-restarted (j.checkpoint + 1) (slots_in member j.members) (acts_after j member) (block member) (r member) (block_does member)
+  restarted-closed member = ap (λ (all : List Act). (replay (start_of j member) all).cycles) (acts_restarted member)
+      ∙ cycles-restarted (j.checkpoint + 1) (slots_in member j.members) (acts_after j member) (block member) (r member) (block_does member)
 
   pub restarted-slots : (member : ℕ) → (state_of (restarted job moment j) member).slots ≡ all_undone (state_of j member)
-  restarted-slots member = ap (λ (all : List Act). (replay (start_of j member) all).slots) (acts_restarted member) ∙ slots-restarted (j.checkpoint + 1) (slots_in member j.members) (acts_after j member) (block member) (r member) (block_does member)
+  restarted-slots member = ap (λ (all : List Act). (replay (start_of j member) all).slots) (acts_restarted member)
+      ∙ slots-restarted (j.checkpoint + 1) (slots_in member j.members) (acts_after j member) (block member) (r member) (block_does member)
 
   pub restarted-settled : (member : ℕ) → HasSameRecords (settled_of (restarted job moment j) member) (settled_of j member)
-  restarted-settled member = subst (λ (all : List Act). HasSameRecords (settled (slots_in member j.members) all) (settled_of j member)) (sym (acts_restarted member)) (settled-restarted (j.checkpoint + 1) (slots_in member j.members) (acts_after j member) (block member) (r member) (block_does member))
+  restarted-settled member = subst (λ (all : List Act). HasSameRecords (settled (slots_in member j.members) all) (settled_of j member)) (sym (acts_restarted member))
+      (settled-restarted (j.checkpoint + 1) (slots_in member j.members) (acts_after j member) (block member) (r member) (block_does member))

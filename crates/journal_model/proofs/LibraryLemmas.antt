@@ -49,15 +49,19 @@ cycles_there (NextReceiver number) prior e cycles = refl
 cycles_there (PreviousReceiver number) prior e cycles = refl
 
 cycles_alike : (member : ℕ) (prior : Option Entry) (e : Entry) (cycles : List ℕ) → cycles_after cycles (act member prior e) ≡ cycles_after cycles (act_elsewhere e.kind e)
-cycles_alike member prior e cycles = elim (is_number e.member member) as (λ b. cycles_after cycles (cond b (act_there e.kind prior e) (act_elsewhere e.kind e)) ≡ cycles_after cycles (act_elsewhere e.kind e)) [ true ↦ cycles_there e.kind prior e cycles | false ↦ refl ]
+cycles_alike member prior e cycles = elim (is_number e.member member) as
+    (λ b. cycles_after cycles (cond b (act_there e.kind prior e) (act_elsewhere e.kind e)) ≡ cycles_after cycles
+    (act_elsewhere e.kind e)) [ true ↦ cycles_there e.kind prior e cycles | false ↦ refl ]
 
 -- ---- changes are of their member
 
-noted_of_own : (member : ℕ) (cycle : Option ℕ) (c : Change) (undos : List MemberChange) → noted cycle c (of_member member undos) ≡ of_member member (noted_of cycle (record { member = member; change = c }) undos)
+noted_of_own : (member : ℕ) (cycle : Option ℕ) (c : Change) (undos : List MemberChange)
+    → noted cycle c (of_member member undos) ≡ of_member member (noted_of cycle (record { member = member; change = c }) undos)
 noted_of_own member None c undos = refl
 noted_of_own member (Some n) c undos = ap (λ (b : Bool). cond b (c ∷ of_member member undos) (of_member member undos)) (sym (eq-eqb member member refl))
 
-noted_of_other : (member own : ℕ) (cycle : Option ℕ) (c : Change) (undos : List MemberChange) → (own ≡ member → ⊥) → of_member member undos ≡ of_member member (noted_of cycle (record { member = own; change = c }) undos)
+noted_of_other : (member own : ℕ) (cycle : Option ℕ) (c : Change) (undos : List MemberChange) → (own ≡ member → ⊥)
+    → of_member member undos ≡ of_member member (noted_of cycle (record { member = own; change = c }) undos)
 noted_of_other member own None c undos differs = refl
 noted_of_other member own (Some n) c undos differs = ap (λ (b : Bool). cond b (c ∷ of_member member undos) (of_member member undos)) (sym (ne_eqb own member differs))
 
@@ -73,7 +77,8 @@ undos_own member Reorganized undos = refl
 undos_own member Ended undos = refl
 undos_own member Nothing undos = refl
 
-undos_elsewhere : (member own : ℕ) (kind : EntryKind) (e : Entry) (undos : List MemberChange) → undos_after (of_member member undos) (act_elsewhere kind e) ≡ of_member member (undos_by (act_elsewhere kind e) own undos)
+undos_elsewhere : (member own : ℕ) (kind : EntryKind) (e : Entry) (undos : List MemberChange)
+    → undos_after (of_member member undos) (act_elsewhere kind e) ≡ of_member member (undos_by (act_elsewhere kind e) own undos)
 undos_elsewhere member own (FileCreated kind name source) e undos = refl
 undos_elsewhere member own (FileDeleted name) e undos = refl
 undos_elsewhere member own (MemberAdded file name) e undos = refl
@@ -101,7 +106,8 @@ undos_elsewhere member own AbnormalEnd e undos = refl
 undos_elsewhere member own (NextReceiver number) e undos = refl
 undos_elsewhere member own (PreviousReceiver number) e undos = refl
 
-undos_there_other : (member own : ℕ) (kind : EntryKind) (prior : Option Entry) (e : Entry) (undos : List MemberChange) → (own ≡ member → ⊥) → undos_after (of_member member undos) (act_elsewhere kind e) ≡ of_member member (undos_by (act_there kind prior e) own undos)
+undos_there_other : (member own : ℕ) (kind : EntryKind) (prior : Option Entry) (e : Entry) (undos : List MemberChange) → (own ≡ member → ⊥)
+    → undos_after (of_member member undos) (act_elsewhere kind e) ≡ of_member member (undos_by (act_there kind prior e) own undos)
 undos_there_other member own (FileCreated kind name source) prior e undos differs = refl
 undos_there_other member own (FileDeleted name) prior e undos differs = refl
 undos_there_other member own (MemberAdded file name) prior e undos differs = refl
@@ -132,16 +138,19 @@ undos_there_other member own AbnormalEnd prior e undos differs = refl
 undos_there_other member own (NextReceiver number) prior e undos differs = refl
 undos_there_other member own (PreviousReceiver number) prior e undos differs = refl
 
-undos_alike : (member : ℕ) (own : Option ℕ) (prior : Option Entry) (e : Entry) (undos : List MemberChange) → e.member ≡ own → undos_after (of_member member undos) (act member prior e) ≡ of_member member (undos_by (act (named own) prior e) (named own) undos)
+undos_alike : (member : ℕ) (own : Option ℕ) (prior : Option Entry) (e : Entry) (undos : List MemberChange) → e.member ≡ own
+    → undos_after (of_member member undos) (act member prior e) ≡ of_member member (undos_by (act (named own) prior e) (named own) undos)
 undos_alike member None prior e undos h =
     let here = λ (k : ℕ). ap (λ (o : Option ℕ). cond (is_number o k) (act_there e.kind prior e) (act_elsewhere e.kind e)) h in
     ap (undos_after (of_member member undos)) (here member) ∙ undos_elsewhere member 0 e.kind e undos ∙ ap (λ (a : Act). of_member member (undos_by a 0 undos)) (sym (here 0))
 undos_alike member (Some own) prior e undos h =
-    let own_act : act own prior e ≡ act_there e.kind prior e = ap (λ (o : Option ℕ). cond (is_number o own) (act_there e.kind prior e) (act_elsewhere e.kind e)) h ∙ ap (λ (b : Bool). cond b (act_there e.kind prior e) (act_elsewhere e.kind e)) (eq-eqb own own refl) in
+    let own_act : act own prior e ≡ act_there e.kind prior e = ap (λ (o : Option ℕ). cond (is_number o own) (act_there e.kind prior e) (act_elsewhere e.kind e)) h
+    ∙ ap (λ (b : Bool). cond b (act_there e.kind prior e) (act_elsewhere e.kind e)) (eq-eqb own own refl) in
     elim (cases_eq own member) [
       | inl same ↦ subst (λ (k : ℕ). undos_after (of_member k undos) (act k prior e) ≡ of_member k (undos_by (act own prior e) own undos)) same (undos_own own (act own prior e) undos)
       | inr differs ↦
-          ap (undos_after (of_member member undos)) (ap (λ (o : Option ℕ). cond (is_number o member) (act_there e.kind prior e) (act_elsewhere e.kind e)) h ∙ ap (λ (b : Bool). cond b (act_there e.kind prior e) (act_elsewhere e.kind e)) (ne_eqb own member differs))
+          ap (undos_after (of_member member undos)) (ap (λ (o : Option ℕ). cond (is_number o member) (act_there e.kind prior e) (act_elsewhere e.kind e)) h
+          ∙ ap (λ (b : Bool). cond b (act_there e.kind prior e) (act_elsewhere e.kind e)) (ne_eqb own member differs))
           ∙ undos_there_other member own e.kind prior e undos differs
           ∙ ap (λ (a : Act). of_member member (undos_by a own undos)) (sym own_act)
     ]
@@ -226,12 +235,14 @@ real_elsewhere (NextReceiver number) e = tt
 real_elsewhere (PreviousReceiver number) e = tt
 
 real_act : (member : ℕ) (prior : Option Entry) (e : Entry) → IsRealIfTold (act member prior e)
-real_act member prior e = elim (is_number e.member member) as (λ b. IsRealIfTold (cond b (act_there e.kind prior e) (act_elsewhere e.kind e))) [ true ↦ real_there e.kind prior e | false ↦ real_elsewhere e.kind e ]
+real_act member prior e = elim (is_number e.member member) as (λ b. IsRealIfTold
+    (cond b (act_there e.kind prior e) (act_elsewhere e.kind e))) [ true ↦ real_there e.kind prior e | false ↦ real_elsewhere e.kind e ]
 
 AreReal : List MemberChange → Type 0
 AreReal undos = AllByRecursion (λ (c : MemberChange). is_real c.change ≡ true) undos
 
-real_noted : (s : State) (member : ℕ) (cycle : Option ℕ) (c : Change) (undos : List MemberChange) → c.cycle ≡ cycle → MayChange s c → (is_none c.before ≡ false → is_real c ≡ true) → AreReal undos → AreReal (noted_of cycle (record { member = member; change = c }) undos)
+real_noted : (s : State) (member : ℕ) (cycle : Option ℕ) (c : Change) (undos : List MemberChange) → c.cycle ≡ cycle → MayChange s c → (is_none c.before ≡ false → is_real c ≡ true)
+    → AreReal undos → AreReal (noted_of cycle (record { member = member; change = c }) undos)
 unfolding AreReal
 real_noted s member None c undos e h r all = all
 real_noted s member (Some n) c undos e h r all = (r (told c.before c.cycle e h.before), all) where
@@ -243,8 +254,10 @@ real_by : (s : State) (member : ℕ) (a : Act) (undos : List MemberChange) → M
 unfolding AreReal IsRealIfTold
 real_by s member (Changed c) undos h r all = real_noted s member c.cycle c undos refl h r all
 real_by s member (Began n) undos h r all = all
-real_by s member (Committed n) undos h r all = each-filter (λ (c : MemberChange). is_real c.change ≡ true) (λ (c : MemberChange). is_real c.change ≡ true) (λ (c : MemberChange). is_not_in n c.change) undos (λ c _ w. w) all
-real_by s member (RolledBack n) undos h r all = each-filter (λ (c : MemberChange). is_real c.change ≡ true) (λ (c : MemberChange). is_real c.change ≡ true) (λ (c : MemberChange). is_not_in n c.change) undos (λ c _ w. w) all
+real_by s member (Committed n) undos h r all = each-filter (λ (c : MemberChange). is_real c.change ≡ true) (λ (c : MemberChange). is_real c.change ≡ true)
+    (λ (c : MemberChange). is_not_in n c.change) undos (λ c _ w. w) all
+real_by s member (RolledBack n) undos h r all = each-filter (λ (c : MemberChange). is_real c.change ≡ true) (λ (c : MemberChange). is_real c.change ≡ true)
+    (λ (c : MemberChange). is_not_in n c.change) undos (λ c _ w. w) all
 real_by s member (Journaled images number) undos h r all = all
 real_by s member (Stood place image) undos h r all = all
 real_by s member Cleared undos h r all = all
@@ -259,7 +272,8 @@ pub record IsLinked (s : ℕ → State) (all : List MemberChange) : Type 0 where
   pub undos : (member : ℕ) → (s member).undos ≡ of_member member all
   pub real : AllByRecursion (λ (c : MemberChange). IsTrue (is_real c.change)) all
 
-linked_step : (s : ℕ → State) (undos : List MemberChange) (prior : Option Entry) (e : Entry) → IsLinked s undos → ((member : ℕ) → MayFollow (s member) (act member prior e)) → IsLinked (λ member. step (s member) (act member prior e)) (undos_by (act (named e.member) prior e) (named e.member) undos)
+linked_step : (s : ℕ → State) (undos : List MemberChange) (prior : Option Entry) (e : Entry) → IsLinked s undos → ((member : ℕ) → MayFollow (s member) (act member prior e))
+    → IsLinked (λ member. step (s member) (act member prior e)) (undos_by (act (named e.member) prior e) (named e.member) undos)
 unfolding AreReal
 linked_step s undos prior e l h = record {
   cycles = λ member.
@@ -270,7 +284,8 @@ linked_step s undos prior e l h = record {
   real = real_by (s (named e.member)) (named e.member) (act (named e.member) prior e) undos (h (named e.member)) (real_act (named e.member) prior e) l.real;
 }
 
-pub linked : (entries : List Entry) (s : ℕ → State) (undos : List MemberChange) (prior : Option Entry) → IsLinked s undos → ((member : ℕ) → CanReplay (s member) (acts member prior entries)) → IsLinked (λ member. replay (s member) (acts member prior entries)) (undos_of undos prior entries)
+pub linked : (entries : List Entry) (s : ℕ → State) (undos : List MemberChange) (prior : Option Entry) → IsLinked s undos → ((member : ℕ) → CanReplay (s member) (acts member prior entries))
+    → IsLinked (λ member. replay (s member) (acts member prior entries)) (undos_of undos prior entries)
 linked [] s undos prior l h = l
 linked (e ∷ entries) s undos prior l h =
     linked entries (λ member. step (s member) (act member prior e)) (undos_by (act (named e.member) prior e) (named e.member) undos) (Some e)

@@ -44,29 +44,34 @@ elsewhere (PreviousReceiver number) e slots = refl
 slots_in-with_same : (number : ℕ) (slots : List Slot) (members : List NumberedSlots) → slots_in number (with_slots number slots members) ≡ slots
 slots_in-with_same number slots [] = rw (eq-eqb number number refl) refl
 slots_in-with_same number slots (m ∷ members) = at (m.number == number) refl (slots_in-with_same number slots members) where
-  at : (b : Bool) → m.number == number ≡ b → slots_in number (with_slots number slots members) ≡ slots → slots_in number (cond b (record { number = number; slots = slots } ∷ members) (m ∷ with_slots number slots members)) ≡ slots
+  at : (b : Bool) → m.number == number ≡ b → slots_in number (with_slots number slots members) ≡ slots
+      → slots_in number (cond b (record { number = number; slots = slots } ∷ members) (m ∷ with_slots number slots members)) ≡ slots
   at true e more = rw (eq-eqb number number refl) refl
   at false e more = rw e more
 
 slots_in-with_other : (number other : ℕ) (slots : List Slot) (members : List NumberedSlots) → (number ≡ other → ⊥) → slots_in other (with_slots number slots members) ≡ slots_in other members
 slots_in-with_other number other slots [] differs = rw (ne_eqb number other differs) refl
 slots_in-with_other number other slots (m ∷ members) differs = at (m.number == number) refl (slots_in-with_other number other slots members differs) where
-  at : (b : Bool) → m.number == number ≡ b → slots_in other (with_slots number slots members) ≡ slots_in other members → slots_in other (cond b (record { number = number; slots = slots } ∷ members) (m ∷ with_slots number slots members)) ≡ cond (m.number == other) m.slots (slots_in other members)
+  at : (b : Bool) → m.number == number ≡ b → slots_in other (with_slots number slots members) ≡ slots_in other members
+      → slots_in other (cond b (record { number = number; slots = slots } ∷ members) (m ∷ with_slots number slots members)) ≡ cond (m.number == other) m.slots (slots_in other members)
   at true e more = rw (ne_eqb number other differs, ne_eqb m.number other (λ f. differs (sym (eqb-true m.number number e) ∙ f))) refl
   at false e more = ap (λ (r : List Slot). cond (m.number == other) m.slots r) more
 
 act_not_there : (number : ℕ) (prior : Option Entry) (e : Entry) (slots : List Slot) → is_number e.member number ≡ false → moved slots (act number prior e) ≡ slots
 act_not_there number prior e slots h = ap (λ (b : Bool). moved slots (cond b (act_there e.kind prior e) (act_elsewhere e.kind e))) h ∙ elsewhere e.kind e slots
 
-member_moved-at : (number : ℕ) (named : Option ℕ) (prior : Option Entry) (e : Entry) (members : List NumberedSlots) → e.member ≡ named → slots_in number (member_moved named prior e members) ≡ moved (slots_in number members) (act number prior e)
+member_moved-at : (number : ℕ) (named : Option ℕ) (prior : Option Entry) (e : Entry) (members : List NumberedSlots) → e.member ≡ named
+    → slots_in number (member_moved named prior e members) ≡ moved (slots_in number members) (act number prior e)
 member_moved-at number None prior e members h = sym (act_not_there number prior e (slots_in number members) (ap (λ (o : Option ℕ). is_number o number) h))
 member_moved-at number (Some own) prior e members h = elim (cases_eq own number) [
-  | inl same ↦ subst (λ (q : ℕ). slots_in q (with_slots own (moved (slots_in own members) (act own prior e)) members) ≡ moved (slots_in q members) (act q prior e)) same (slots_in-with_same own (moved (slots_in own members) (act own prior e)) members)
+  | inl same ↦ subst (λ (q : ℕ). slots_in q (with_slots own (moved (slots_in own members) (act own prior e)) members) ≡ moved (slots_in q members) (act q prior e)) same
+      (slots_in-with_same own (moved (slots_in own members) (act own prior e)) members)
   | inr differs ↦ slots_in-with_other own number (moved (slots_in own members) (act own prior e)) members differs
       ∙ sym (act_not_there number prior e (slots_in number members) (ap (λ (o : Option ℕ). is_number o number) h ∙ ne_eqb own number differs))
 ]
 
-pub members_after-each : (number : ℕ) (members : List NumberedSlots) (prior : Option Entry) (entries : List Entry) → slots_in number (members_after members prior entries) ≡ all_moved (slots_in number members) (acts number prior entries)
+pub members_after-each : (number : ℕ) (members : List NumberedSlots) (prior : Option Entry) (entries : List Entry)
+    → slots_in number (members_after members prior entries) ≡ all_moved (slots_in number members) (acts number prior entries)
 members_after-each number members prior [] = refl
 members_after-each number members prior (e ∷ entries) =
     members_after-each number (member_moved e.member prior e members) (Some e) entries

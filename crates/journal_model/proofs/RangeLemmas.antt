@@ -70,11 +70,13 @@ no_gaps range h = neither (list_any is_gap range) (list_any is_renumbering range
   neither : (a b : Bool) → a || b ≡ false → (a ≡ false) × (b ≡ false)
   neither a b h = grind (arith, nat_tests)
 
-first_passes : (o : Option RangeFault) (faults : List (Option RangeFault)) (answer : Result RangeDone RangeFault) (d : RangeDone) → first_fault (o ∷ faults) answer ≡ Ok d → (o ≡ None) × (first_fault faults answer ≡ Ok d)
+first_passes : (o : Option RangeFault) (faults : List (Option RangeFault)) (answer : Result RangeDone RangeFault) (d : RangeDone) → first_fault (o ∷ faults) answer ≡ Ok d
+    → (o ≡ None) × (first_fault faults answer ≡ Ok d)
 first_passes None faults answer d h = (refl, h)
 first_passes (Some fault) faults answer d h = absurd (cc)
 
-done_by : (first last : ℕ) (changes : List Numbered) (r : Result (List Slot) RangeFault) (d : RangeDone) → done first last changes r ≡ Ok d → (r ≡ Ok d.slots) × (d.first ≡ first) × (d.last ≡ last) × (d.changes ≡ changes)
+done_by : (first last : ℕ) (changes : List Numbered) (r : Result (List Slot) RangeFault) (d : RangeDone) → done first last changes r ≡ Ok d
+    → (r ≡ Ok d.slots) × (d.first ≡ first) × (d.last ≡ last) × (d.changes ≡ changes)
 done_by first last changes (Ok slots) d h =
     let e : record { first = first; last = last; changes = changes; slots = slots } ≡ d = cc in
     (ap (λ (x : RangeDone). Ok x.slots) e, ap (λ (x : RangeDone). x.first) (sym e), ap (λ (x : RangeDone). x.last) (sym e), ap (λ (x : RangeDone). x.changes) (sym e))
@@ -89,13 +91,15 @@ pub record Went (walk : List Numbered → List Slot → Result (List Slot) Range
   pub ends : d.last ≡ last
   pub changes : d.changes ≡ numbered first part
 
-pub remove_range-went : (first : ℕ) (range : List Act) (slots : List Slot) (d : RangeDone) → remove_range first range slots ≡ Ok d → Went remove (removed_from first range) (first + length range - 1) (removed_part range) slots d
+pub remove_range-went : (first : ℕ) (range : List Act) (slots : List Slot) (d : RangeDone) → remove_range first range slots ≡ Ok d
+    → Went remove (removed_from first range) (first + length range - 1) (removed_part range) slots d
 remove_range-went first range slots d h =
     let begins = removed_from first range in
     let part = removed_part range in
     let fits = numbered begins part in
     let answer = done begins (first + length range - 1) fits (remove fits slots) in
-    let a = first_passes (straddled (reverse (numbered first range)) fits) (first_gap (reverse (placed begins part)) ∷ first_renumbering (reverse (placed begins part)) ∷ first_lacking (reverse fits) ∷ []) answer d h in
+    let a = first_passes (straddled (reverse (numbered first range)) fits)
+    (first_gap (reverse (placed begins part)) ∷ first_renumbering (reverse (placed begins part)) ∷ first_lacking (reverse fits) ∷ []) answer d h in
     let b = first_passes (first_gap (reverse (placed begins part))) (first_renumbering (reverse (placed begins part)) ∷ first_lacking (reverse fits) ∷ []) answer d a.1 in
     let c = first_passes (first_renumbering (reverse (placed begins part))) (first_lacking (reverse fits) ∷ []) answer d b.1 in
     let e = first_passes (first_lacking (reverse fits)) [] answer d c.1 in
@@ -108,12 +112,14 @@ remove_range-went first range slots d h =
       changes = w.3;
     }
   where
-    no_such : (p : Act → Bool) (fault : ℕ → RangeFault) (begins : ℕ) (part : List Act) → option_map (λ (x : Placed). fault x.sequence) (find (λ (x : Placed). p x.act) (reverse (placed begins part))) ≡ None → list_any p part ≡ false
+    no_such : (p : Act → Bool) (fault : ℕ → RangeFault) (begins : ℕ) (part : List Act)
+        → option_map (λ (x : Placed). fault x.sequence) (find (λ (x : Placed). p x.act) (reverse (placed begins part))) ≡ None → list_any p part ≡ false
     no_such p fault begins part g =
         sym (list_any-reverse (λ (x : Placed). p x.act) (placed begins part) ∙ placed-any p begins part)
         ∙ none_found (λ (x : Placed). p x.act) (reverse (placed begins part)) (no_map (λ (x : Placed). fault x.sequence) _ g)
 
-pub apply_range-went : (first : ℕ) (range : List Act) (slots : List Slot) (d : RangeDone) → apply_range first range slots ≡ Ok d → Went apply first (first + length (applied_part range) - 1) (applied_part range) slots d
+pub apply_range-went : (first : ℕ) (range : List Act) (slots : List Slot) (d : RangeDone) → apply_range first range slots ≡ Ok d
+    → Went apply first (first + length (applied_part range) - 1) (applied_part range) slots d
 apply_range-went first range slots d h =
     let part = applied_part range in
     let fits = numbered first part in
@@ -130,16 +136,19 @@ apply_range-went first range slots d h =
       changes = w.3;
     }
   where
-    no_such : (p : Act → Bool) (fault : ℕ → RangeFault) (part : List Act) → option_map (λ (x : Placed). fault x.sequence) (find (λ (x : Placed). p x.act) (placed first part)) ≡ None → list_any p part ≡ false
+    no_such : (p : Act → Bool) (fault : ℕ → RangeFault) (part : List Act) → option_map (λ (x : Placed). fault x.sequence) (find (λ (x : Placed). p x.act) (placed first part)) ≡ None
+        → list_any p part ≡ false
     no_such p fault part g =
         sym (placed-any p first part)
         ∙ none_found (λ (x : Placed). p x.act) (placed first part) (no_map (λ (x : Placed). fault x.sequence) _ g)
 
 module _ (place first : ℕ) where
-  pub remove_range-touched : (before range after : List Act) (slots : List Slot) (d : RangeDone) → IsChained place None (before ++ (range ++ after)) → remove_range first range slots ≡ Ok d → IsTrue (touches place (changes (removed_part range))) → slot_at place (before ++ not_removed range) (removed_part range ++ after) ≡ Some (slot_of d.slots place)
+  pub remove_range-touched : (before range after : List Act) (slots : List Slot) (d : RangeDone) → IsChained place None (before ++ (range ++ after)) → remove_range first range slots ≡ Ok d
+      → IsTrue (touches place (changes (removed_part range))) → slot_at place (before ++ not_removed range) (removed_part range ++ after) ≡ Some (slot_of d.slots place)
   remove_range-touched before range after slots d chained h t =
       let w = remove_range-went first range slots d h in
-      removed-touched place (removed_from first range) (before ++ not_removed range) (removed_part range) after slots d.slots (subst (λ (all : List Act). IsChained place None all) parts chained) w.whole w.walked t
+      removed-touched place (removed_from first range) (before ++ not_removed range) (removed_part range) after slots d.slots
+      (subst (λ (all : List Act). IsChained place None all) parts chained) w.whole w.walked t
     where
       assoc : (xs ys zs : List Act) → xs ++ (ys ++ zs) ≡ (xs ++ ys) ++ zs
       assoc [] ys zs = refl
@@ -151,15 +160,18 @@ module _ (place first : ℕ) where
           ∙ ap (λ (all : List Act). before ++ all) (sym (assoc (not_removed range) (removed_part range) after))
           ∙ assoc before (not_removed range) (removed_part range ++ after)
 
-  pub remove_range-others : (range : List Act) (slots : List Slot) (d : RangeDone) → remove_range first range slots ≡ Ok d → IsFalse (touches place (changes (removed_part range))) → slot_of d.slots place ≡ slot_of slots place
+  pub remove_range-others : (range : List Act) (slots : List Slot) (d : RangeDone) → remove_range first range slots ≡ Ok d → IsFalse (touches place (changes (removed_part range)))
+      → slot_of d.slots place ≡ slot_of slots place
   remove_range-others range slots d h t = removed-others place (removed_from first range) (removed_part range) slots d.slots (remove_range-went first range slots d h).walked t
 
-  pub apply_range-touched : (before range after : List Act) (slots : List Slot) (d : RangeDone) → apply_range first range slots ≡ Ok d → IsTrue (touches place (changes (applied_part range))) → slot_at place (before ++ applied_part range) (not_applied range ++ after) ≡ Some (slot_of d.slots place)
+  pub apply_range-touched : (before range after : List Act) (slots : List Slot) (d : RangeDone) → apply_range first range slots ≡ Ok d
+      → IsTrue (touches place (changes (applied_part range))) → slot_at place (before ++ applied_part range) (not_applied range ++ after) ≡ Some (slot_of d.slots place)
   apply_range-touched before range after slots d h t =
       let w = apply_range-went first range slots d h in
       applied-touched place first before (applied_part range) (not_applied range ++ after) slots d.slots w.whole w.walked t
 
-  pub apply_range-others : (range : List Act) (slots : List Slot) (d : RangeDone) → apply_range first range slots ≡ Ok d → IsFalse (touches place (changes (applied_part range))) → slot_of d.slots place ≡ slot_of slots place
+  pub apply_range-others : (range : List Act) (slots : List Slot) (d : RangeDone) → apply_range first range slots ≡ Ok d → IsFalse (touches place (changes (applied_part range)))
+      → slot_of d.slots place ≡ slot_of slots place
   apply_range-others range slots d h t = applied-others_of place first (applied_part range) slots d.slots (apply_range-went first range slots d h).walked t
 
 -- ---- a closed range at the journal's end
@@ -169,7 +181,8 @@ not_straddled [] part h = refl
 not_straddled (n ∷ walk) [] h = let e = h refl in absurd (cc)
 not_straddled (n ∷ walk) (m ∷ part) h = refl
 
-done_whole : (first last : ℕ) (range : List Act) (slots : List Slot) (r : Result (List Slot) RangeFault) → IsOkAnd r (λ given. HasSameRecords given slots) → IsOkAnd (done first last (numbered first range) r) (λ d. RemovesWhole first range slots d)
+done_whole : (first last : ℕ) (range : List Act) (slots : List Slot) (r : Result (List Slot) RangeFault) → IsOkAnd r (λ given. HasSameRecords given slots)
+    → IsOkAnd (done first last (numbered first range) r) (λ d. RemovesWhole first range slots d)
 done_whole first last range slots (Ok given) h = record { from = refl; changes = refl; records = h }
 done_whole first last range slots (Err fault) h = absurd h
 
@@ -180,12 +193,14 @@ by_parts first begins range part slots =
     ∷ first_gap (reverse (placed begins part)) ∷ first_renumbering (reverse (placed begins part)) ∷ first_lacking (reverse (numbered begins part)) ∷ [])
     (done begins (first + length range - 1) (numbered begins part) (remove (numbered begins part) slots))
 
-finds_no : (p : Act → Bool) (fault : ℕ → RangeFault) (first : ℕ) (range : List Act) → list_any p range ≡ false → option_map (λ (x : Placed). fault x.sequence) (find (λ (x : Placed). p x.act) (reverse (placed first range))) ≡ None
+finds_no : (p : Act → Bool) (fault : ℕ → RangeFault) (first : ℕ) (range : List Act) → list_any p range ≡ false
+    → option_map (λ (x : Placed). fault x.sequence) (find (λ (x : Placed). p x.act) (reverse (placed first range))) ≡ None
 finds_no p fault first range h =
     ap (option_map (λ (x : Placed). fault x.sequence))
     (finds_none (λ (x : Placed). p x.act) (reverse (placed first range)) (list_any-reverse (λ (x : Placed). p x.act) (placed first range) ∙ placed-any p first range ∙ h))
 
-pub remove_range-whole : (first : ℕ) (range : List Act) (s : State) → CanReplay s range → IsTrue (is_closed range) → IsFalse (list_any is_break range) → IsFalse (list_any lacks_before (numbered first range)) → IsOkAnd (remove_range first range (all_moved s.slots range)) (λ d. RemovesWhole first range s.slots d)
+pub remove_range-whole : (first : ℕ) (range : List Act) (s : State) → CanReplay s range → IsTrue (is_closed range) → IsFalse (list_any is_break range)
+    → IsFalse (list_any lacks_before (numbered first range)) → IsOkAnd (remove_range first range (all_moved s.slots range)) (λ d. RemovesWhole first range s.slots d)
 unfolding by_parts
 remove_range-whole first range s r closed b told =
     let slots = all_moved s.slots range in
@@ -198,10 +213,12 @@ remove_range-whole first range s r closed b told =
     let a : straddled (reverse (numbered first range)) (numbered first range) ≡ None = not_straddled (reverse (numbered first range)) (numbered first range) (λ e. ap reverse e) in
     let g : first_gap (reverse (placed first range)) ≡ None = finds_no is_gap (λ k. Gap k) first range gaps.0 in
     let m : first_renumbering (reverse (placed first range)) ≡ None = finds_no is_renumbering (λ k. NotRemovable k) first range gaps.1 in
-    let l : first_lacking (reverse (numbered first range)) ≡ None = ap (option_map (λ (x : Numbered). NeedsBoth x.sequence)) (finds_none lacks_before (reverse (numbered first range)) (list_any-reverse lacks_before (numbered first range) ∙ told)) in
+    let l : first_lacking (reverse (numbered first range)) ≡ None = ap (option_map (λ (x : Numbered). NeedsBoth x.sequence))
+    (finds_none lacks_before (reverse (numbered first range)) (list_any-reverse lacks_before (numbered first range) ∙ told)) in
     let end = done first (first + length range - 1) (numbered first range) (remove (numbered first range) slots) in
     let goes : by_parts first first range range slots ≡ end =
-    ap (λ (o : Option RangeFault). first_fault (o ∷ first_gap (reverse (placed first range)) ∷ first_renumbering (reverse (placed first range)) ∷ first_lacking (reverse (numbered first range)) ∷ []) end) a
+    ap (λ (o : Option RangeFault). first_fault (o ∷ first_gap (reverse (placed first range)) ∷ first_renumbering (reverse (placed first range)) ∷ first_lacking
+    (reverse (numbered first range)) ∷ []) end) a
     ∙ ap (λ (o : Option RangeFault). first_fault (o ∷ first_renumbering (reverse (placed first range)) ∷ first_lacking (reverse (numbered first range)) ∷ []) end) g
     ∙ ap (λ (o : Option RangeFault). first_fault (o ∷ first_lacking (reverse (numbered first range)) ∷ []) end) m
     ∙ ap (λ (o : Option RangeFault). first_fault (o ∷ []) end) l in

@@ -47,17 +47,21 @@ IsAlone-test c (d ∷ undos) h =
 pub back-untouched : (place : ℕ) (undos : List Change) (slot : Slot) → touches place undos ≡ false → back place undos slot ≡ slot
 back-untouched place [] slot h = refl
 back-untouched place (c ∷ undos) slot h = at (c.place == place) refl h (back-untouched place undos (cond (c.place == place) (before_of c) slot)) where
-  at : (t : Bool) → c.place == place ≡ t → t || touches place undos ≡ false → (touches place undos ≡ false → back place undos (cond (c.place == place) (before_of c) slot) ≡ cond (c.place == place) (before_of c) slot) → back place undos (cond (c.place == place) (before_of c) slot) ≡ slot
+  at : (t : Bool) → c.place == place ≡ t → t || touches place undos ≡ false
+      → (touches place undos ≡ false → back place undos (cond (c.place == place) (before_of c) slot) ≡ cond (c.place == place) (before_of c) slot)
+      → back place undos (cond (c.place == place) (before_of c) slot) ≡ slot
   at true e g more = absurd (cc)
   at false e g more = more g ∙ ap (λ (t : Bool). cond t (before_of c) slot) e
 
-restored_there : (place : ℕ) (undos all : List Change) (slots : List Slot) → is_restored undos all slots ≡ true → touches place undos ≡ true → back place all (slot_of slots place) ≡ slot_of slots place
+restored_there : (place : ℕ) (undos all : List Change) (slots : List Slot) → is_restored undos all slots ≡ true → touches place undos ≡ true
+    → back place all (slot_of slots place) ≡ slot_of slots place
 restored_there place [] all slots h t = absurd (cc)
 restored_there place (c ∷ undos) all slots h t =
     let tests = and_parts (is_same_slot (back c.place all (slot_of slots c.place)) (slot_of slots c.place)) (is_restored undos all slots) h in
     at tests.0 (restored_there place undos all slots tests.1) (c.place == place) refl t
   where
-    at : is_same_slot (back c.place all (slot_of slots c.place)) (slot_of slots c.place) ≡ true → (touches place undos ≡ true → back place all (slot_of slots place) ≡ slot_of slots place) → (w : Bool) → c.place == place ≡ w → w || touches place undos ≡ true → back place all (slot_of slots place) ≡ slot_of slots place
+    at : is_same_slot (back c.place all (slot_of slots c.place)) (slot_of slots c.place) ≡ true → (touches place undos ≡ true → back place all (slot_of slots place) ≡ slot_of slots place)
+        → (w : Bool) → c.place == place ≡ w → w || touches place undos ≡ true → back place all (slot_of slots place) ≡ slot_of slots place
     at here more true e g = subst (λ (q : ℕ). back q all (slot_of slots q) ≡ slot_of slots q) (eqb-true c.place place e) (is_same_slot-same _ _ here)
     at here more false e g = more g
 
@@ -136,7 +140,8 @@ met None cycle slot h = h.1
 pub apply-replayed : (range : List Act) (s : State) (first : ℕ) → CanReplay s range → list_any is_break range ≡ false → apply (numbered first range) s.slots ≡ Ok (all_moved s.slots range)
 apply-replayed [] s first h b = refl
 apply-replayed (Changed c ∷ range) s first h b =
-    ap (λ (r : Result (List Slot) RangeFault). r then apply (numbered (first + 1) range)) (redo-goes (record { sequence = first; change = c }) s.slots h.0.place (met c.before c.cycle (slot_of s.slots c.place) h.0.before))
+    ap (λ (r : Result (List Slot) RangeFault). r then apply (numbered (first + 1) range))
+    (redo-goes (record { sequence = first; change = c }) s.slots h.0.place (met c.before c.cycle (slot_of s.slots c.place) h.0.before))
     ∙ apply-replayed range (step s (Changed c)) (first + 1) h.1 b
 apply-replayed (Began n ∷ range) s first h b = apply-replayed range (step s (Began n)) (first + 1) h.1 b
 apply-replayed (Committed n ∷ range) s first h b = apply-replayed range (step s (Committed n)) (first + 1) h.1 b
@@ -149,7 +154,8 @@ apply-replayed (Ended ∷ range) s first h b = absurd (cc)
 apply-replayed (Nothing ∷ range) s first h b = apply-replayed range (step s Nothing) (first + 1) h.1 b
 
 -- and is removed at the journal's end
-pub remove-replayed : (range : List Act) (s : State) (first : ℕ) → CanReplay s range → list_any is_break range ≡ false → list_any lacks_before (numbered first range) ≡ false → IsOkAnd (remove (numbered first range) (all_moved s.slots range)) (λ given. HasSameRecords given s.slots)
+pub remove-replayed : (range : List Act) (s : State) (first : ℕ) → CanReplay s range → list_any is_break range ≡ false → list_any lacks_before (numbered first range) ≡ false
+    → IsOkAnd (remove (numbered first range) (all_moved s.slots range)) (λ given. HasSameRecords given s.slots)
 remove-replayed range s first h b told = remove-gives_back (numbered first range) s.slots (all_moved s.slots range) (apply-replayed range s first h b) told
 
 -- ---- the entries of a record
@@ -160,7 +166,8 @@ module _ (place : ℕ) where
   agrees (Some v) None cycle slot k h = tt
   agrees (Some v) (Some side) cycle slot k h = k ∙ h
 
-  so_put : (slots : List Slot) (other : ℕ) (new : Slot) (known : Option Slot) → IsSo known (slot_of slots place) → IsSo (cond (other == place) (Some new) known) (slot_of (put_slot slots other new) place)
+  so_put : (slots : List Slot) (other : ℕ) (new : Slot) (known : Option Slot) → IsSo known (slot_of slots place)
+      → IsSo (cond (other == place) (Some new) known) (slot_of (put_slot slots other new) place)
   so_put slots other new known k = elim (cases_eq other place) [
     | inl e ↦ rw (eq-eqb other place e) (sym (subst (λ (q : ℕ). slot_of (put_slot slots other new) q ≡ new) e (slot_of-put_same slots other new)))
     | inr differs ↦ rw (ne_eqb other place differs, slot_of-put_other slots other place new differs) k
@@ -207,7 +214,8 @@ module _ (place : ℕ) where
   first_so : (ys : List Act) (s : State) (side : Slot) → CanReplay s ys → touches place (changes (before_break ys)) ≡ true → first_before place (changes ys) ≡ Some side → side ≡ slot_of s.slots place
   first_so [] s side h t e = absurd (cc)
   first_so (Changed c ∷ ys) s side h t e = at (c.place == place) refl t e (first_so ys (step s (Changed c)) side h.1) where
-    at : (b : Bool) → c.place == place ≡ b → b || touches place (changes (before_break ys)) ≡ true → cond b c.before (first_before place (changes ys)) ≡ Some side → (touches place (changes (before_break ys)) ≡ true → first_before place (changes ys) ≡ Some side → side ≡ slot_of (put_slot s.slots c.place c.after) place) → side ≡ slot_of s.slots place
+    at : (b : Bool) → c.place == place ≡ b → b || touches place (changes (before_break ys)) ≡ true → cond b c.before (first_before place (changes ys)) ≡ Some side
+        → (touches place (changes (before_break ys)) ≡ true → first_before place (changes ys) ≡ Some side → side ≡ slot_of (put_slot s.slots c.place c.after) place) → side ≡ slot_of s.slots place
     at true f t e more = before_side c.before c.cycle (slot_of s.slots c.place) side h.0.before e ∙ ap (slot_of s.slots) (eqb-true c.place place f)
     at false f t e more = more t e ∙ slot_of-put_other s.slots c.place place c.after (eqb-false c.place place f)
   first_so (Began n ∷ ys) s side h t e = first_so ys (step s (Began n)) side h.1 t e
@@ -224,7 +232,9 @@ module _ (place : ℕ) where
   slot_by None first slot now k w e = w e
   slot_by (Some v) first slot now k w e = let f : v ≡ slot = cc in sym f ∙ k
 
-  pub slot_at-replay : (before xs ys : List Act) (s : State) (slot : Slot) → IsSo (known_after place None before) (slot_of s.slots place) → CanReplay s (xs ++ ys) → IsTrue (touches place (changes (before_break ys))) → slot_at place (before ++ xs) ys ≡ Some slot → slot ≡ slot_of (replay s xs).slots place
+  pub slot_at-replay : (before xs ys : List Act) (s : State) (slot : Slot) → IsSo (known_after place None before) (slot_of s.slots place) → CanReplay s (xs ++ ys)
+      → IsTrue (touches place (changes (before_break ys))) → slot_at place (before ++ xs) ys ≡ Some slot → slot ≡ slot_of (replay s xs).slots place
   slot_at-replay before xs ys s slot k h t e =
-      let known : IsSo (known_after place None (before ++ xs)) (slot_of (replay s xs).slots place) = subst (λ (o : Option Slot). IsSo o (slot_of (replay s xs).slots place)) (sym (known_after-append place None before xs)) (so_after xs s (known_after place None before) k) in
+      let known : IsSo (known_after place None (before ++ xs)) (slot_of (replay s xs).slots place) = subst (λ (o : Option Slot). IsSo o (slot_of (replay s xs).slots place))
+      (sym (known_after-append place None before xs)) (so_after xs s (known_after place None before) k) in
       slot_by (known_after place None (before ++ xs)) (first_before place (changes ys)) slot (slot_of (replay s xs).slots place) known (first_so ys (replay s xs) slot (CanReplay-back s xs ys h) t) e

@@ -62,12 +62,14 @@ unfolding taken_back
 undoing-step n s c undos u = record {
   own = u.own.1;
   winds = λ place. subst (λ (v : Slot). WindsAt place v undos) (at place (cases_eq c.place place)) (u.winds place).1;
-  within = each-weaker (λ (d : Change). d.place < length s.slots) (λ (d : Change). d.place < length (put_slot s.slots c.place (before_of c))) undos (λ d w. omega (arith, length-put_slot s.slots c.place (before_of c))) u.within.1;
+  within = each-weaker (λ (d : Change). d.place < length s.slots) (λ (d : Change). d.place < length (put_slot s.slots c.place (before_of c))) undos
+      (λ d w. omega (arith, length-put_slot s.slots c.place (before_of c))) u.within.1;
   alone = subst (λ (all : List Change). AllByRecursion (OwnPlace all) undos) (sym (noted_own n c (inverse c) s.undos u.own.0)) (more undos u.own.1 u.alone.1);
   begun = u.begun;
 } where
   at : (place : ℕ) → (c.place ≡ place) ⊎ (c.place ≡ place → ⊥) → cond (c.place == place) (before_of c) (slot_of s.slots place) ≡ slot_of (put_slot s.slots c.place (before_of c)) place
-  at place (inl e) = ap (λ (b : Bool). cond b (before_of c) (slot_of s.slots place)) (eq-eqb c.place place e) ∙ sym (subst (λ (q : ℕ). slot_of (put_slot s.slots c.place (before_of c)) q ≡ before_of c) e (slot_of-put_same s.slots c.place (before_of c)))
+  at place (inl e) = ap (λ (b : Bool). cond b (before_of c) (slot_of s.slots place)) (eq-eqb c.place place e)
+      ∙ sym (subst (λ (q : ℕ). slot_of (put_slot s.slots c.place (before_of c)) q ≡ before_of c) e (slot_of-put_same s.slots c.place (before_of c)))
   at place (inr differs) = ap (λ (b : Bool). cond b (before_of c) (slot_of s.slots place)) (ne_eqb c.place place differs) ∙ sym (slot_of-put_other s.slots c.place place (before_of c) differs)
 
   more : (us : List Change) → AllByRecursion (λ (d : Change). d.cycle ≡ Some n) us → AllByRecursion (OwnPlace s.undos) us → AllByRecursion (OwnPlace (inverse c ∷ s.undos)) us
@@ -84,7 +86,8 @@ cycles-undone [] s = refl
 cycles-undone (c ∷ undos) s = cycles-undone undos (step s (Changed (inverse c)))
 
 -- the changes that take back are of the commit cycle too
-others-undone : (n : ℕ) (undos : List Change) (s : State) → AllByRecursion (λ (c : Change). c.cycle ≡ Some n) undos → filter (is_not_in n) (replay s (undo_acts undos)).undos ≡ filter (is_not_in n) s.undos
+others-undone : (n : ℕ) (undos : List Change) (s : State) → AllByRecursion (λ (c : Change). c.cycle ≡ Some n) undos
+    → filter (is_not_in n) (replay s (undo_acts undos)).undos ≡ filter (is_not_in n) s.undos
 unfolding taken_back
 others-undone n [] s h = refl
 others-undone n (c ∷ undos) s h =
@@ -93,7 +96,8 @@ others-undone n (c ∷ undos) s h =
     ∙ ap (λ (b : Bool). cond (not b) (inverse c ∷ filter (is_not_in n) s.undos) (filter (is_not_in n) s.undos)) (ap (λ (o : Option ℕ). is_number o n) h.0 ∙ eq-eqb n n refl)
 
 -- taking back and then undoing leads to where undoing leads
-back-taken : (n place : ℕ) (undos : List Change) (s : State) → Undoing n s undos → back place (filter (is_in n) (replay s (undo_acts undos)).undos) (slot_of (replay s (undo_acts undos)).slots place) ≡ back place (filter (is_in n) s.undos) (slot_of s.slots place)
+back-taken : (n place : ℕ) (undos : List Change) (s : State) → Undoing n s undos
+    → back place (filter (is_in n) (replay s (undo_acts undos)).undos) (slot_of (replay s (undo_acts undos)).slots place) ≡ back place (filter (is_in n) s.undos) (slot_of s.slots place)
 unfolding taken_back
 back-taken n place [] s u = refl
 back-taken n place (c ∷ undos) s u =
@@ -107,7 +111,8 @@ back-taken n place (c ∷ undos) s u =
 
     at : (c.place ≡ place) ⊎ (c.place ≡ place → ⊥) → cond (c.place == place) c.after (slot_of (put_slot s.slots c.place (before_of c)) place) ≡ slot_of s.slots place
     at (inl e) = ap (λ (b : Bool). cond b c.after (slot_of (put_slot s.slots c.place (before_of c)) place)) (eq-eqb c.place place e) ∙ sym ((u.winds place).0 e)
-    at (inr differs) = ap (λ (b : Bool). cond b c.after (slot_of (put_slot s.slots c.place (before_of c)) place)) (ne_eqb c.place place differs) ∙ slot_of-put_other s.slots c.place place (before_of c) differs
+    at (inr differs) = ap (λ (b : Bool). cond b c.after (slot_of (put_slot s.slots c.place (before_of c)) place)) (ne_eqb c.place place differs)
+        ∙ slot_of-put_other s.slots c.place place (before_of c) differs
 
 named : (cycle : Option ℕ) (n : ℕ) → is_number cycle n ≡ true → cycle ≡ Some n
 named None n h = absurd (cc)
@@ -122,8 +127,10 @@ undoing-start n s i begun = record {
   begun = begun;
 } where
   by : (place : ℕ) (cycle : Option ℕ) (b : Bool) → is_number cycle n ≡ b → AreOf place cycle s.undos → WindsAt place (slot_of s.slots place) (filter (is_in n) s.undos)
-  by place cycle true e h = WindsAt-filter place (is_in n) s.undos _ (each-weaker (λ (c : Change). c.place ≡ place → c.cycle ≡ cycle) (λ (c : Change). c.place ≡ place → is_in n c ≡ true) s.undos (λ c w f. ap (λ (o : Option ℕ). is_number o n) (w f) ∙ e) h) (i.winds place)
-  by place cycle false e h = WindsAt-none place (is_in n) s.undos _ (each-weaker (λ (c : Change). c.place ≡ place → c.cycle ≡ cycle) (λ (c : Change). c.place ≡ place → is_in n c ≡ false) s.undos (λ c w f. ap (λ (o : Option ℕ). is_number o n) (w f) ∙ e) h)
+  by place cycle true e h = WindsAt-filter place (is_in n) s.undos _ (each-weaker (λ (c : Change). c.place ≡ place → c.cycle ≡ cycle) (λ (c : Change). c.place ≡ place
+      → is_in n c ≡ true) s.undos (λ c w f. ap (λ (o : Option ℕ). is_number o n) (w f) ∙ e) h) (i.winds place)
+  by place cycle false e h = WindsAt-none place (is_in n) s.undos _ (each-weaker (λ (c : Change). c.place ≡ place → c.cycle ≡ cycle) (λ (c : Change). c.place ≡ place
+      → is_in n c ≡ false) s.undos (λ c w f. ap (λ (o : Option ℕ). is_number o n) (w f) ∙ e) h)
 
   at : (place : ℕ) → (cycle : Option ℕ) × AreOf place cycle s.undos → WindsAt place (slot_of s.slots place) (filter (is_in n) s.undos)
   at place o = by place o.0 (is_number o.0 n) refl o.1
@@ -205,7 +212,8 @@ restarts (n ∷ ns) s i e =
     let can = can_roll_back n s i begun in
     let next = replay s front in
     let alike : all_rollback_acts ns next.undos ≡ all_rollback_acts ns s.undos = ap (all_rollback_acts ns) (undos-rolled_back n s i begun) ∙ sym (rest-alike n ns s.undos own.1) in
-    let more : Restarts next (all_rollback_acts ns s.undos) = subst (λ (acts : List Act). Restarts next acts) alike (restarts ns next (sound-replay s front i can) (cycles-rolled_back n s i begun ∙ own.0)) in
+    let more : Restarts next (all_rollback_acts ns s.undos) = subst (λ (acts : List Act). Restarts next acts) alike
+    (restarts ns next (sound-replay s front i can) (cycles-rolled_back n s i begun ∙ own.0)) in
     (CanReplay-append s front (all_rollback_acts ns s.undos) can more.0, ap (λ (r : State). r.cycles) (replay-append s front (all_rollback_acts ns s.undos)) ∙ more.1)
 
 -- ---- a block that does so, among entries that do nothing to the member
@@ -264,7 +272,8 @@ after-block (Changed c ∷ block) s t e = after-block block (step s (Changed c))
 after-block (Began n ∷ block) s t e = after-block block (step s (Began n)) (step t (Began n)) (ap (λ (r : State). with_next 0 (step r (Began n))) e)
 after-block (Committed n ∷ block) s t e = after-block block (step s (Committed n)) (step t (Committed n)) (ap (λ (r : State). with_next 0 (step r (Committed n))) e)
 after-block (RolledBack n ∷ block) s t e = after-block block (step s (RolledBack n)) (step t (RolledBack n)) (ap (λ (r : State). with_next 0 (step r (RolledBack n))) e)
-after-block (Journaled images number ∷ block) s t e = after-block block (step s (Journaled images number)) (step t (Journaled images number)) (ap (λ (r : State). with_next 0 (step r (Journaled images number))) e)
+after-block (Journaled images number ∷ block) s t e = after-block block (step s (Journaled images number)) (step t (Journaled images number))
+    (ap (λ (r : State). with_next 0 (step r (Journaled images number))) e)
 after-block (Stood place image ∷ block) s t e = after-block block (step s (Stood place image)) (step t (Stood place image)) (ap (λ (r : State). with_next 0 (step r (Stood place image))) e)
 after-block (Cleared ∷ block) s t e = after-block block (step s Cleared) (step t Cleared) (ap (λ (r : State). with_next 0 (step r Cleared)) e)
 after-block (Reorganized ∷ block) s t e = after-block block (step s Reorganized) (step t Reorganized) (ap (λ (r : State). with_next 0 (step r Reorganized)) e)
@@ -281,7 +290,8 @@ begins_none-undo (c ∷ undos) = (tt, begins_none-undo undos)
 
 begins_none-all : (cycles : List ℕ) (undos : List Change) → AllByRecursion BeginsNone (all_rollback_acts cycles undos)
 begins_none-all [] undos = tt
-begins_none-all (n ∷ cycles) undos = begins_none-append (rollback_acts n undos) (all_rollback_acts cycles undos) (begins_none-append (undo_acts (filter (is_in n) undos)) (RolledBack n ∷ []) (begins_none-undo (filter (is_in n) undos)) (tt, tt)) (begins_none-all cycles undos)
+begins_none-all (n ∷ cycles) undos = begins_none-append (rollback_acts n undos) (all_rollback_acts cycles undos)
+    (begins_none-append (undo_acts (filter (is_in n) undos)) (RolledBack n ∷ []) (begins_none-undo (filter (is_in n) undos)) (tt, tt)) (begins_none-all cycles undos)
 
 -- ---- the journal with restart's entries
 
@@ -323,5 +333,6 @@ module _ (next : ℕ) (slots : List Slot) (journal block : List Act) (r : CanRep
   settled-restarted =
       let whole = all_undone-settled next slots (journal ++ block) CanReplay-restarted in
       let before = all_undone-settled next slots journal r in
-      let same : all_undone (replay (state_at next slots) (journal ++ block)) ≡ all_undone (replay (state_at next slots) journal) = nothing_open (replay (state_at next slots) (journal ++ block)) cycles-restarted ∙ slots-restarted in
+      let same : all_undone (replay (state_at next slots) (journal ++ block)) ≡ all_undone (replay (state_at next slots) journal) = nothing_open
+      (replay (state_at next slots) (journal ++ block)) cycles-restarted ∙ slots-restarted in
       record { records = λ place. sym (whole.records place) ∙ ap (λ (s : List Slot). slot_of s place) same ∙ before.records place }

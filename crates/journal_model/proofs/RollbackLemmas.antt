@@ -20,7 +20,8 @@ use Rattle.journal_model.proofs.MemberLemmas.{acts-append}
 
 numbered_from-append : (sequence : ℕ) (xs ys : List Draft) → numbered_from sequence (xs ++ ys) ≡ numbered_from sequence xs ++ numbered_from (sequence + length xs) ys
 numbered_from-append sequence [] ys = ap (λ (n : ℕ). numbered_from n ys) (omega arith)
-numbered_from-append sequence (d ∷ xs) ys = ap (λ (rest : List Entry). numbered d sequence ∷ rest) (numbered_from-append (sequence + 1) xs ys ∙ ap (λ (n : ℕ). numbered_from (sequence + 1) xs ++ numbered_from n ys) (omega arith))
+numbered_from-append sequence (d ∷ xs) ys = ap (λ (rest : List Entry). numbered d sequence ∷ rest) (numbered_from-append (sequence + 1) xs ys
+    ∙ ap (λ (n : ℕ). numbered_from (sequence + 1) xs ++ numbered_from n ys) (omega arith))
 
 -- what drafts do to a member, behind an entry and from a sequence on
 does : (member : ℕ) → Option Entry → ℕ → List Draft → List Act
@@ -48,7 +49,8 @@ unless_of : ℕ → ℕ → List Act → List Act
 unless_of member own acts = cond (own == member) acts []
 
 -- an entry of one member, read for any
-read : (member own : ℕ) (prior : Option Entry) (e : Entry) (x : Act) → e.member ≡ Some own → act_there e.kind prior e ≡ x → act_elsewhere e.kind e ≡ Nothing → act member prior e ≡ cond (own == member) x Nothing
+read : (member own : ℕ) (prior : Option Entry) (e : Entry) (x : Act) → e.member ≡ Some own → act_there e.kind prior e ≡ x → act_elsewhere e.kind e ≡ Nothing
+    → act member prior e ≡ cond (own == member) x Nothing
 read member own prior e x named there elsewhere =
     ap (λ (o : Option ℕ). cond (is_number o member) (act_there e.kind prior e) (act_elsewhere e.kind e)) named
     ∙ ap (λ (a : Act). cond (own == member) a (act_elsewhere e.kind e)) there
@@ -66,7 +68,9 @@ second_of false c first a f e = ap (λ (x : Act). somethings (x ∷ a ∷ [])) f
 pub of_member-filter : (member : ℕ) (p : Change → Bool) (undos : List MemberChange) → of_member member (filter (λ (c : MemberChange). p c.change) undos) ≡ filter p (of_member member undos)
 of_member-filter member p [] = refl
 of_member-filter member p (c ∷ undos) = at (p c.change) (c.member == member) refl refl (of_member-filter member p undos) where
-  at : (a b : Bool) → p c.change ≡ a → c.member == member ≡ b → of_member member (filter (λ (d : MemberChange). p d.change) undos) ≡ filter p (of_member member undos) → of_member member (cond a (c ∷ filter (λ (d : MemberChange). p d.change) undos) (filter (λ (d : MemberChange). p d.change) undos)) ≡ filter p (cond b (c.change ∷ of_member member undos) (of_member member undos))
+  at : (a b : Bool) → p c.change ≡ a → c.member == member ≡ b → of_member member (filter (λ (d : MemberChange). p d.change) undos) ≡ filter p (of_member member undos)
+      → of_member member (cond a (c ∷ filter (λ (d : MemberChange). p d.change) undos) (filter (λ (d : MemberChange). p d.change) undos)) ≡ filter p
+      (cond b (c.change ∷ of_member member undos) (of_member member undos))
   at true true e f more = rw (f, e) (ap (λ (rest : List Change). c.change ∷ rest) more)
   at true false e f more = rw f more
   at false true e f more = rw e more
@@ -83,11 +87,13 @@ module _ (job : Option (List ℕ)) (moment : ℕ) where
   same_place : (place : ℕ) → place + 1 - 1 ≡ place
   same_place place = omega arith
 
-  placed_at : (c : MemberChange) (before after : Slot) → Changed (record { place = c.change.place + 1 - 1; cycle = c.change.cycle; before = Some before; after = after }) ≡ Changed (back_to c after before)
+  placed_at : (c : MemberChange) (before after : Slot) → Changed (record { place = c.change.place + 1 - 1; cycle = c.change.cycle; before = Some before; after = after }) ≡ Changed
+      (back_to c after before)
   unfolding back_to
   placed_at c before after = ap (λ (place : ℕ). Changed (record { place = place; cycle = c.change.cycle; before = Some before; after = after })) (same_place c.change.place)
 
-  change-does : (member : ℕ) (c : MemberChange) (given changed : Slot) → is_live given || is_live changed ≡ true → Does member (change_drafts job moment c (undo_kinds given changed)) (unless_of member c.member (Changed (back_to c given changed) ∷ []))
+  change-does : (member : ℕ) (c : MemberChange) (given changed : Slot) → is_live given || is_live changed ≡ true
+      → Does member (change_drafts job moment c (undo_kinds given changed)) (unless_of member c.member (Changed (back_to c given changed) ∷ []))
   unfolding does Does unless_of back_to draft_of
   change-does member c Deleted Deleted real prior sequence = absurd (cc)
   change-does member c (Live b) Deleted real prior sequence =
@@ -116,7 +122,8 @@ module _ (job : Option (List ℕ)) (moment : ℕ) where
   unfolding unless_of
   unless_of-append member own c rest = elim (own == member) as (λ b. cond b (Changed (inverse c) ∷ []) [] ++ undo_acts rest ≡ undo_acts (cond b (c ∷ rest) rest)) [ true ↦ refl | false ↦ refl ]
 
-  undos-do : (member : ℕ) (undos : List MemberChange) → AllByRecursion (λ (c : MemberChange). is_real c.change ≡ true) undos → Does member (undo_drafts job moment undos) (undo_acts (of_member member undos))
+  undos-do : (member : ℕ) (undos : List MemberChange) → AllByRecursion (λ (c : MemberChange). is_real c.change ≡ true) undos
+      → Does member (undo_drafts job moment undos) (undo_acts (of_member member undos))
   unfolding does Does back_to
   undos-do member [] real prior sequence = refl
   undos-do member (c ∷ undos) real prior sequence =
@@ -129,24 +136,31 @@ module _ (job : Option (List ℕ)) (moment : ℕ) where
   unfolding does Does
   rolled_back-does member n prior sequence = refl
 
-  rollback-does : (member n : ℕ) (undos : List MemberChange) → AllByRecursion (λ (c : MemberChange). is_real c.change ≡ true) undos → Does member (rollback_drafts job moment n undos) (rollback_acts n (of_member member undos))
+  rollback-does : (member n : ℕ) (undos : List MemberChange) → AllByRecursion (λ (c : MemberChange). is_real c.change ≡ true) undos
+      → Does member (rollback_drafts job moment n undos) (rollback_acts n (of_member member undos))
   rollback-does member n undos real =
       subst (λ (own : List Change). Does member (rollback_drafts job moment n undos) (undo_acts own ++ RolledBack n ∷ [])) (of_member-filter member (is_in n) undos)
       (does-append member (undo_drafts job moment (filter (λ (c : MemberChange). is_in n c.change) undos)) (cycle_draft job moment n CommitCycleRolledBack ∷ [])
       (undo_acts (of_member member (filter (λ (c : MemberChange). is_in n c.change) undos))) (RolledBack n ∷ [])
-      (undos-do member (filter (λ (c : MemberChange). is_in n c.change) undos) (each-filter (λ (c : MemberChange). is_real c.change ≡ true) (λ (c : MemberChange). is_real c.change ≡ true) (λ (c : MemberChange). is_in n c.change) undos (λ c _ w. w) real))
+      (undos-do member (filter (λ (c : MemberChange). is_in n c.change) undos)
+      (each-filter (λ (c : MemberChange). is_real c.change ≡ true) (λ (c : MemberChange). is_real c.change ≡ true) (λ (c : MemberChange). is_in n c.change) undos (λ c _ w. w) real))
       (rolled_back-does member n))
 
-  rollbacks-do : (member : ℕ) (cycles : List ℕ) (undos : List MemberChange) → AllByRecursion (λ (c : MemberChange). is_real c.change ≡ true) undos → Does member (all_rollback_drafts job moment cycles undos) (all_rollback_acts cycles (of_member member undos))
+  rollbacks-do : (member : ℕ) (cycles : List ℕ) (undos : List MemberChange) → AllByRecursion (λ (c : MemberChange). is_real c.change ≡ true) undos
+      → Does member (all_rollback_drafts job moment cycles undos) (all_rollback_acts cycles (of_member member undos))
   unfolding does Does
   rollbacks-do member [] undos real prior sequence = refl
-  rollbacks-do member (n ∷ cycles) undos real prior sequence = does-append member (rollback_drafts job moment n undos) (all_rollback_drafts job moment cycles undos) (rollback_acts n (of_member member undos)) (all_rollback_acts cycles (of_member member undos)) (rollback-does member n undos real) (rollbacks-do member cycles undos real) prior sequence
+  rollbacks-do member (n ∷ cycles) undos real prior sequence = does-append member (rollback_drafts job moment n undos) (all_rollback_drafts job moment cycles undos)
+      (rollback_acts n (of_member member undos)) (all_rollback_acts cycles (of_member member undos)) (rollback-does member n undos real) (rollbacks-do member cycles undos real) prior sequence
 
-  restart-does : (member : ℕ) (cycles : List ℕ) (undos : List MemberChange) → AllByRecursion (λ (c : MemberChange). is_real c.change ≡ true) undos → Does member (restart_drafts job moment cycles undos) (all_rollback_acts cycles (of_member member undos))
+  restart-does : (member : ℕ) (cycles : List ℕ) (undos : List MemberChange) → AllByRecursion (λ (c : MemberChange). is_real c.change ≡ true) undos
+      → Does member (restart_drafts job moment cycles undos) (all_rollback_acts cycles (of_member member undos))
   unfolding does Does
   restart-does member [] undos real prior sequence = refl
   restart-does member (n ∷ cycles) undos real prior sequence = rollbacks-do member (n ∷ cycles) undos real (Some (numbered (library_draft job moment AbnormalEnd) sequence)) (sequence + 1)
 
-  pub restart_drafts-do : (member : ℕ) (cycles : List ℕ) (undos : List MemberChange) (prior : Option Entry) (sequence : ℕ) → AllByRecursion (λ (c : MemberChange). IsTrue (is_real c.change)) undos → somethings (acts member prior (numbered_from sequence (restart_drafts job moment cycles undos))) ≡ all_rollback_acts cycles (of_member member undos)
+  pub restart_drafts-do : (member : ℕ) (cycles : List ℕ) (undos : List MemberChange) (prior : Option Entry) (sequence : ℕ)
+      → AllByRecursion (λ (c : MemberChange). IsTrue (is_real c.change)) undos
+      → somethings (acts member prior (numbered_from sequence (restart_drafts job moment cycles undos))) ≡ all_rollback_acts cycles (of_member member undos)
   unfolding does Does
   restart_drafts-do member cycles undos prior sequence real = restart-does member cycles undos real prior sequence

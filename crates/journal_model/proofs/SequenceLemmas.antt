@@ -54,15 +54,18 @@ module _ (place : ℕ) where
       let m = ok_from_then (remove ns slots) (undo n) given h in
       let u = undone n m.0 given m.2 in
       left_by n.change (unnumbered ns) (slot_of slots place) (slot_of m.0 place) (slot_of given place) (left ns slots m.0 m.1)
-      (λ e. u.told ∙ ap Some (sym (ap (λ (s : List Slot). slot_of s place) u.now ∙ subst (λ (q : ℕ). slot_of (put_slot m.0 n.change.place u.side) q ≡ u.side) e (slot_of-put_same m.0 n.change.place u.side))))
+      (λ e. u.told ∙ ap Some (sym (ap (λ (s : List Slot). slot_of s place) u.now
+      ∙ subst (λ (q : ℕ). slot_of (put_slot m.0 n.change.place u.side) q ≡ u.side) e (slot_of-put_same m.0 n.change.place u.side))))
       (λ differs. ap (λ (s : List Slot). slot_of s place) u.now ∙ slot_of-put_other m.0 n.change.place place u.side differs)
 
-  removed_there : (first : ℕ) (range : List Act) (slots given : List Slot) → remove (numbered first range) slots ≡ Ok given → touches place (changes range) ≡ true → first_before place (changes range) ≡ Some (slot_of given place)
+  removed_there : (first : ℕ) (range : List Act) (slots given : List Slot) → remove (numbered first range) slots ≡ Ok given → touches place (changes range) ≡ true
+      → first_before place (changes range) ≡ Some (slot_of given place)
   unfolding Left
   removed_there first range slots given h t =
       (subst (λ (cs : List Change). Left cs (slot_of slots place) (slot_of given place)) (unnumbered-numbered first range) (left (numbered first range) slots given h)).0 t
 
-  pub removed-others : (first : ℕ) (range : List Act) (slots given : List Slot) → remove (numbered first range) slots ≡ Ok given → touches place (changes range) ≡ false → slot_of given place ≡ slot_of slots place
+  pub removed-others : (first : ℕ) (range : List Act) (slots given : List Slot) → remove (numbered first range) slots ≡ Ok given → touches place (changes range) ≡ false
+      → slot_of given place ≡ slot_of slots place
   unfolding Left
   removed-others first range slots given h t =
       (subst (λ (cs : List Change). Left cs (slot_of slots place) (slot_of given place)) (unnumbered-numbered first range) (left (numbered first range) slots given h)).1 t
@@ -87,10 +90,12 @@ module _ (place : ℕ) where
   agreed (Some slot) side h = ap Some h
 
   -- what is known before a range without breaks is the before side of its first change
-  known_there : (xs : List Act) (known : Option Slot) (side : Slot) (ys : List Act) → IsChained place known (xs ++ ys) → list_any is_break xs ≡ false → first_before place (changes xs) ≡ Some side → or_else known (Some side) ≡ Some side
+  known_there : (xs : List Act) (known : Option Slot) (side : Slot) (ys : List Act) → IsChained place known (xs ++ ys) → list_any is_break xs ≡ false
+      → first_before place (changes xs) ≡ Some side → or_else known (Some side) ≡ Some side
   known_there [] known side ys h b f = absurd (cc)
   known_there (Changed c ∷ xs) known side ys h b f = at (c.place == place) refl f (known_there xs (known_by place known (Changed c)) side ys h.1 b) where
-    at : (t : Bool) → c.place == place ≡ t → cond t c.before (first_before place (changes xs)) ≡ Some side → (first_before place (changes xs) ≡ Some side → or_else (cond (c.place == place) (Some c.after) known) (Some side) ≡ Some side) → or_else known (Some side) ≡ Some side
+    at : (t : Bool) → c.place == place ≡ t → cond t c.before (first_before place (changes xs)) ≡ Some side
+        → (first_before place (changes xs) ≡ Some side → or_else (cond (c.place == place) (Some c.after) known) (Some side) ≡ Some side) → or_else known (Some side) ≡ Some side
     at true e g more = agreed known side (subst (λ (o : Option Slot). Agrees known o) g (h.0 (eqb-true c.place place e)))
     at false e g more = subst (λ (t : Bool). or_else (cond t (Some c.after) known) (Some side) ≡ Some side) e (more g)
   known_there (Began n ∷ xs) known side ys h b f = known_there xs known side ys h.1 b f
@@ -103,11 +108,13 @@ module _ (place : ℕ) where
   known_there (Ended ∷ xs) known side ys h b f = absurd (cc)
   known_there (Nothing ∷ xs) known side ys h b f = known_there xs known side ys h.1 b f
 
-  pub removed-touched : (first : ℕ) (before range after : List Act) (slots given : List Slot) → IsChained place None (before ++ (range ++ after)) → list_any is_break range ≡ false → remove (numbered first range) slots ≡ Ok given → touches place (changes range) ≡ true → slot_at place before (range ++ after) ≡ Some (slot_of given place)
+  pub removed-touched : (first : ℕ) (before range after : List Act) (slots given : List Slot) → IsChained place None (before ++ (range ++ after)) → list_any is_break range ≡ false
+      → remove (numbered first range) slots ≡ Ok given → touches place (changes range) ≡ true → slot_at place before (range ++ after) ≡ Some (slot_of given place)
   removed-touched first before range after slots given chained whole h t =
       let there = removed_there first range slots given h t in
       let known = known_after place None before in
-      let e : first_before place (changes (range ++ after)) ≡ Some (slot_of given place) = ap (first_before place) (changes-append range after) ∙ first_before-append (changes range) (changes after) t ∙ there in
+      let e : first_before place (changes (range ++ after)) ≡ Some (slot_of given place) = ap (first_before place) (changes-append range after)
+      ∙ first_before-append (changes range) (changes after) t ∙ there in
       rw e (known_there range known (slot_of given place) after (IsChained-rest None before (range ++ after) chained) whole there)
 
   -- ---- what applying leaves at a place
@@ -126,7 +133,9 @@ module _ (place : ℕ) where
   known_after-untouched : (xs : List Act) (known : Option Slot) → list_any is_break xs ≡ false → touches place (changes xs) ≡ false → known_after place known xs ≡ known
   known_after-untouched [] known b t = refl
   known_after-untouched (Changed c ∷ xs) known b t = at (c.place == place) refl t (known_after-untouched xs (known_by place known (Changed c)) b) where
-    at : (w : Bool) → c.place == place ≡ w → w || touches place (changes xs) ≡ false → (touches place (changes xs) ≡ false → known_after place (cond (c.place == place) (Some c.after) known) xs ≡ cond (c.place == place) (Some c.after) known) → known_after place (cond (c.place == place) (Some c.after) known) xs ≡ known
+    at : (w : Bool) → c.place == place ≡ w → w || touches place (changes xs) ≡ false
+        → (touches place (changes xs) ≡ false → known_after place (cond (c.place == place) (Some c.after) known) xs ≡ cond (c.place == place) (Some c.after) known)
+        → known_after place (cond (c.place == place) (Some c.after) known) xs ≡ known
     at true e g more = absurd (cc)
     at false e g more = more g ∙ ap (λ (w : Bool). cond w (Some c.after) known) e
   known_after-untouched (Began n ∷ xs) known b t = known_after-untouched xs known b t
@@ -140,7 +149,8 @@ module _ (place : ℕ) where
   known_after-untouched (Nothing ∷ xs) known b t = known_after-untouched xs known b t
 
   -- applied changes after this one are of other places, or the last of them is at this one
-  applied_last : (xs : List Act) (first : ℕ) (known : Option Slot) (slots given : List Slot) → apply (numbered first xs) slots ≡ Ok given → list_any is_break xs ≡ false → touches place (changes xs) ≡ true → known_after place known xs ≡ Some (slot_of given place)
+  applied_last : (xs : List Act) (first : ℕ) (known : Option Slot) (slots given : List Slot) → apply (numbered first xs) slots ≡ Ok given → list_any is_break xs ≡ false
+      → touches place (changes xs) ≡ true → known_after place known xs ≡ Some (slot_of given place)
   applied_last [] first known slots given h b t = absurd (cc)
   applied_last (Changed c ∷ xs) first known slots given h b t = at (touches place (changes xs)) refl (applied_last xs (first + 1) (known_by place known (Changed c)) m.0 given m.2 b) where
     m : (middle : List Slot) × (redo (record { sequence = first; change = c }) slots ≡ Ok middle) × (apply (numbered (first + 1) xs) middle ≡ Ok given)
@@ -149,7 +159,8 @@ module _ (place : ℕ) where
     r : Redone (record { sequence = first; change = c }) slots m.0
     r = redone (record { sequence = first; change = c }) slots m.0 m.1
 
-    at : (w : Bool) → touches place (changes xs) ≡ w → (touches place (changes xs) ≡ true → known_after place (known_by place known (Changed c)) xs ≡ Some (slot_of given place)) → known_after place (known_by place known (Changed c)) xs ≡ Some (slot_of given place)
+    at : (w : Bool) → touches place (changes xs) ≡ w → (touches place (changes xs) ≡ true → known_after place (known_by place known (Changed c)) xs ≡ Some (slot_of given place))
+        → known_after place (known_by place known (Changed c)) xs ≡ Some (slot_of given place)
     at true e more = more e
     at false e more =
         let here : c.place == place ≡ true = only (c.place == place) (touches place (changes xs)) t e in
@@ -169,9 +180,12 @@ module _ (place : ℕ) where
   applied_last (Ended ∷ xs) first known slots given h b t = absurd (cc)
   applied_last (Nothing ∷ xs) first known slots given h b t = applied_last xs (first + 1) known slots given h b t
 
-  pub applied-touched : (first : ℕ) (before range after : List Act) (slots given : List Slot) → list_any is_break range ≡ false → apply (numbered first range) slots ≡ Ok given → touches place (changes range) ≡ true → slot_at place (before ++ range) after ≡ Some (slot_of given place)
+  pub applied-touched : (first : ℕ) (before range after : List Act) (slots given : List Slot) → list_any is_break range ≡ false → apply (numbered first range) slots ≡ Ok given
+      → touches place (changes range) ≡ true → slot_at place (before ++ range) after ≡ Some (slot_of given place)
   applied-touched first before range after slots given whole h t =
-      ap (λ (known : Option Slot). or_else known (first_before place (changes after))) (known_after-append None before range ∙ applied_last range first (known_after place None before) slots given h whole t)
+      ap (λ (known : Option Slot). or_else known (first_before place (changes after))) (known_after-append None before range
+      ∙ applied_last range first (known_after place None before) slots given h whole t)
 
-  pub applied-others_of : (first : ℕ) (range : List Act) (slots given : List Slot) → apply (numbered first range) slots ≡ Ok given → touches place (changes range) ≡ false → slot_of given place ≡ slot_of slots place
+  pub applied-others_of : (first : ℕ) (range : List Act) (slots given : List Slot) → apply (numbered first range) slots ≡ Ok given → touches place (changes range) ≡ false
+      → slot_of given place ≡ slot_of slots place
   applied-others_of first range slots given h t = applied-others (numbered first range) slots given h (ap (touches place) (unnumbered-numbered first range) ∙ t)

@@ -65,7 +65,8 @@ same_live (x ∷ a) (y ∷ b) h =
       | false ↦ same_live a b (λ place. h (suc place))
     ]
 
-pub same_put : (a b : List Slot) (place : ℕ) (new : Slot) → ((other : ℕ) → slot_of a other ≡ slot_of b other) → (other : ℕ) → slot_of (put_slot a place new) other ≡ slot_of (put_slot b place new) other
+pub same_put : (a b : List Slot) (place : ℕ) (new : Slot) → ((other : ℕ) → slot_of a other ≡ slot_of b other) → (other : ℕ)
+    → slot_of (put_slot a place new) other ≡ slot_of (put_slot b place new) other
 same_put a b place new h other = elim (cases_eq place other) [
   | inl e ↦ subst (λ (q : ℕ). slot_of (put_slot a place new) q ≡ slot_of (put_slot b place new) q) e (slot_of-put_same a place new ∙ sym (slot_of-put_same b place new))
   | inr differs ↦ slot_of-put_other a place other new differs ∙ h other ∙ sym (slot_of-put_other b place other new differs)
@@ -80,7 +81,8 @@ filter-false (x ∷ xs) = filter-false xs
 pub back-none : (place : ℕ) (p : Change → Bool) (undos : List Change) (slot : Slot) → AgreeAt place p (λ _. false) undos → back place (filter p undos) slot ≡ slot
 back-none place p undos slot h = back-filters place p (λ _. false) undos slot h ∙ ap (λ (us : List Change). back place us slot) (filter-false undos)
 
-both_put : (slots t : List Slot) (place : ℕ) (new : Slot) (lost : List Change) → ((other : ℕ) → slot_of t other ≡ back other lost (slot_of slots other)) → ((slot : Slot) → back place lost slot ≡ slot) → (other : ℕ) → slot_of (put_slot t place new) other ≡ back other lost (slot_of (put_slot slots place new) other)
+both_put : (slots t : List Slot) (place : ℕ) (new : Slot) (lost : List Change) → ((other : ℕ) → slot_of t other ≡ back other lost (slot_of slots other))
+    → ((slot : Slot) → back place lost slot ≡ slot) → (other : ℕ) → slot_of (put_slot t place new) other ≡ back other lost (slot_of (put_slot slots place new) other)
 both_put slots t place new lost same free other = elim (cases_eq place other) [
   | inl e ↦ subst (λ (q : ℕ). slot_of (put_slot t place new) q ≡ back q lost (slot_of (put_slot slots place new) q)) e
       (slot_of-put_same t place new ∙ sym (slot_of-put_same slots place new) ∙ sym (free _))
@@ -105,16 +107,19 @@ module _ (commit : ℕ → Bool) where
   lost-noted : (c : Change) (undos : List Change) (b : Bool) → stays commit c.cycle ≡ b → lost commit (c ∷ undos) ≡ cond (not b) (c ∷ lost commit undos) (lost commit undos)
   lost-noted c undos b e = ap (λ (t : Bool). cond (not t) (c ∷ lost commit undos) (lost commit undos)) e
 
-  same-changed : (s : State) (t : List Slot) (c : Change) (cycle : Option ℕ) (b : Bool) → c.cycle ≡ cycle → stays commit cycle ≡ b → IsSound s → MayChange s c → ((place : ℕ) → slot_of t place ≡ back place (lost commit s.undos) (slot_of s.slots place))
+  same-changed : (s : State) (t : List Slot) (c : Change) (cycle : Option ℕ) (b : Bool) → c.cycle ≡ cycle → stays commit cycle ≡ b → IsSound s → MayChange s c
+      → ((place : ℕ) → slot_of t place ≡ back place (lost commit s.undos) (slot_of s.slots place))
       → (place : ℕ) → slot_of (cond b (put_slot t c.place c.after) t) place ≡ back place (lost commit (noted cycle c s.undos)) (slot_of (put_slot s.slots c.place c.after) place)
   same-changed s t c None false e f i h same place = absurd (cc)
   same-changed s t c None true e f i h same place =
       both_put s.slots t c.place c.after (lost commit s.undos) same
-      (λ slot. back-free c.place (lost commit s.undos) slot (each-filter (λ (d : Change). d.place ≡ c.place → ⊥) (λ (d : Change). d.place ≡ c.place → ⊥) (loses commit) s.undos (λ d _ w. w) (none_of_open s c e i h)))
+      (λ slot. back-free c.place (lost commit s.undos) slot (each-filter (λ (d : Change). d.place ≡ c.place → ⊥) (λ (d : Change). d.place ≡ c.place
+      → ⊥) (loses commit) s.undos (λ d _ w. w) (none_of_open s c e i h)))
       place
   same-changed s t c (Some n) true e f i h same place =
       let kept : stays commit c.cycle ≡ true = ap (stays commit) e ∙ f in
-      let none : AgreeAt c.place (loses commit) (λ _. false) s.undos = each-weaker (λ (d : Change). d.place ≡ c.place → d.cycle ≡ c.cycle) (λ (d : Change). d.place ≡ c.place → loses commit d ≡ false) s.undos (λ d w g. ap (λ (o : Option ℕ). not (stays commit o)) (w g) ∙ ap not kept) h.alone in
+      let none : AgreeAt c.place (loses commit) (λ _. false) s.undos = each-weaker (λ (d : Change). d.place ≡ c.place → d.cycle ≡ c.cycle) (λ (d : Change). d.place ≡ c.place
+      → loses commit d ≡ false) s.undos (λ d w g. ap (λ (o : Option ℕ). not (stays commit o)) (w g) ∙ ap not kept) h.alone in
       both_put s.slots t c.place c.after (lost commit s.undos) same (λ slot. back-none c.place (loses commit) s.undos slot none) place
       ∙ ap (λ (us : List Change). back place us (slot_of (put_slot s.slots c.place c.after) place)) (sym (lost-noted c s.undos true kept))
   same-changed s t c (Some n) false e f i h same place =
@@ -154,7 +159,8 @@ module _ (commit : ℕ → Bool) where
   lost_in n None e f = absurd (cc)
   lost_in n (Some m) e f = let g : commit m ≡ false = ap commit (eqb-true m n f) ∙ e in rw g refl
 
-  same-rolled_back : (n place : ℕ) (undos : List Change) (slot : Slot) → commit n ≡ false → (cycle : Option ℕ) × AreOf place cycle undos → back place (filter (is_in n) undos) slot ≡ slot → back place (lost commit undos) slot ≡ back place (lost commit (filter (is_not_in n) undos)) slot
+  same-rolled_back : (n place : ℕ) (undos : List Change) (slot : Slot) → commit n ≡ false → (cycle : Option ℕ) × AreOf place cycle undos → back place (filter (is_in n) undos) slot ≡ slot
+      → back place (lost commit undos) slot ≡ back place (lost commit (filter (is_not_in n) undos)) slot
   unfolding lost_of
   same-rolled_back n place undos slot e o restored = at (is_number o.0 n) refl where
     of : (P : Change → Type 0) → ((c : Change) → (c.place ≡ place → c.cycle ≡ o.0) → P c) → AllByRecursion P undos
@@ -180,18 +186,22 @@ module _ (commit : ℕ → Bool) where
 
   all_moved-kept : (t : List Slot) (a : Act) (rest : List Act) → all_moved t (filter (is_kept commit) (a ∷ rest)) ≡ all_moved (kept_moved t a) (filter (is_kept commit) rest)
   unfolding kept_moved
-  all_moved-kept t a rest = elim (is_kept commit a) as (λ b. all_moved t (cond b (a ∷ filter (is_kept commit) rest) (filter (is_kept commit) rest)) ≡ all_moved (cond b (moved t a) t) (filter (is_kept commit) rest)) [ true ↦ refl | false ↦ refl ]
+  all_moved-kept t a rest = elim (is_kept commit a) as (λ b. all_moved t (cond b (a ∷ filter (is_kept commit) rest) (filter (is_kept commit) rest)) ≡ all_moved (cond b (moved t a) t)
+      (filter (is_kept commit) rest)) [ true ↦ refl | false ↦ refl ]
 
-  same_free : (s : State) (t : List Slot) → s.undos ≡ [] → ((place : ℕ) → slot_of t place ≡ back place (lost commit s.undos) (slot_of s.slots place)) → (place : ℕ) → slot_of t place ≡ slot_of s.slots place
+  same_free : (s : State) (t : List Slot) → s.undos ≡ [] → ((place : ℕ) → slot_of t place ≡ back place (lost commit s.undos) (slot_of s.slots place)) → (place : ℕ)
+      → slot_of t place ≡ slot_of s.slots place
   same_free s t e same place = same place ∙ ap (λ (us : List Change). back place (lost commit us) (slot_of s.slots place)) e
 
-  free_same : (s : State) (t slots : List Slot) → s.undos ≡ [] → ((place : ℕ) → slot_of t place ≡ slot_of slots place) → (place : ℕ) → slot_of t place ≡ back place (lost commit s.undos) (slot_of slots place)
+  free_same : (s : State) (t slots : List Slot) → s.undos ≡ [] → ((place : ℕ) → slot_of t place ≡ slot_of slots place) → (place : ℕ)
+      → slot_of t place ≡ back place (lost commit s.undos) (slot_of slots place)
   free_same s t slots e same place = same place ∙ ap (λ (us : List Change). back place (lost commit us) (slot_of slots place)) (sym e)
 
   unless_same : (n m : ℕ) → m == n ≡ false → n == m ≡ false
   unless_same n m h = ne_eqb n m (λ e. eqb-false m n h (sym e))
 
-  settling-step : (s : State) (t : List Slot) (a : Act) (rest : List Act) → IsSound s → MayFollow s a → CanReplay (step s a) rest → IsSettling commit s t (a ∷ rest) → IsSettling commit (step s a) (kept_moved t a) rest
+  settling-step : (s : State) (t : List Slot) (a : Act) (rest : List Act) → IsSound s → MayFollow s a → CanReplay (step s a) rest → IsSettling commit s t (a ∷ rest)
+      → IsSettling commit (step s a) (kept_moved t a) rest
   unfolding kept_moved
   settling-step s t (Changed c) rest i h r k = record {
     same = same-changed s t c c.cycle (stays commit c.cycle) refl refl i h k.same;
@@ -253,17 +263,21 @@ module _ (commit : ℕ → Bool) where
 
   -- ---- the whole journal
 
-  all_lost : (s : State) (undos : List Change) → ((n : ℕ) → is_one_of s.cycles n ≡ true → commit n ≡ false) → AllByRecursion (λ (c : Change). HasOpen s.cycles c.cycle) undos → AllByRecursion (λ (c : Change). loses commit c ≡ true) undos
+  all_lost : (s : State) (undos : List Change) → ((n : ℕ) → is_one_of s.cycles n ≡ true → commit n ≡ false) → AllByRecursion (λ (c : Change). HasOpen s.cycles c.cycle) undos
+      → AllByRecursion (λ (c : Change). loses commit c ≡ true) undos
   all_lost s undos w h = each-weaker (λ (c : Change). HasOpen s.cycles c.cycle) (λ (c : Change). loses commit c ≡ true) undos (λ c o. at c.cycle o) h where
     at : (cycle : Option ℕ) → HasOpen s.cycles cycle → not (stays commit cycle) ≡ true
     at None o = absurd o
     at (Some n) o = rw (w n o) refl
 
-  settling-replay : (rest : List Act) (s : State) (t : List Slot) → IsSound s → CanReplay s rest → IsSettling commit s t rest → (place : ℕ) → slot_of (all_moved t (filter (is_kept commit) rest)) place ≡ back place (replay s rest).undos (slot_of (replay s rest).slots place)
+  settling-replay : (rest : List Act) (s : State) (t : List Slot) → IsSound s → CanReplay s rest → IsSettling commit s t rest → (place : ℕ)
+      → slot_of (all_moved t (filter (is_kept commit) rest)) place ≡ back place (replay s rest).undos (slot_of (replay s rest).slots place)
   settling-replay [] s t i r k place = k.same place ∙ ap (λ (us : List Change). back place us (slot_of s.slots place)) (filter-all (loses commit) s.undos (all_lost s s.undos k.fate_open i.of_open))
   settling-replay (a ∷ rest) s t i r k place =
       ap (λ (slots : List Slot). slot_of slots place) (all_moved-kept t a rest)
       ∙ settling-replay rest (step s a) (kept_moved t a) (sound-step s a i r.0) r.1 (settling-step s t a rest i r.0 r.1 k) place
 
-pub settled-replay : (next : ℕ) (slots : List Slot) (journal : List Act) → CanReplay (state_at next slots) journal → (place : ℕ) → slot_of (settled slots journal) place ≡ back place (replay (state_at next slots) journal).undos (slot_of (replay (state_at next slots) journal).slots place)
-settled-replay next slots journal r = settling-replay (has_commit journal) journal (state_at next slots) slots (sound-start next slots) r (record { same = λ place. refl; fate_open = λ n w. refl; fate_later = λ n w. refl })
+pub settled-replay : (next : ℕ) (slots : List Slot) (journal : List Act) → CanReplay (state_at next slots) journal → (place : ℕ)
+    → slot_of (settled slots journal) place ≡ back place (replay (state_at next slots) journal).undos (slot_of (replay (state_at next slots) journal).slots place)
+settled-replay next slots journal r = settling-replay (has_commit journal) journal (state_at next slots) slots (sound-start next slots) r
+    (record { same = λ place. refl; fate_open = λ n w. refl; fate_later = λ n w. refl })

@@ -52,7 +52,14 @@ pub solo-at : (place : ℕ) (undos : List Change) → Solo undos → (cycle : Op
 solo-at place [] h = (None, tt)
 solo-at place (c ∷ undos) h = at (cases_eq c.place place) (solo-at place undos h.1) where
   at : (c.place ≡ place) ⊎ (c.place ≡ place → ⊥) → (cycle : Option ℕ) × AreOf place cycle undos → (cycle : Option ℕ) × AreOf place cycle (c ∷ undos)
-  at (inl e) more = (c.cycle, ((λ _. refl), each-weaker (λ (d : Change). d.place ≡ c.place → d.cycle ≡ c.cycle) (λ (d : Change). d.place ≡ place → d.cycle ≡ c.cycle) undos (λ d w f. w (f ∙ sym e)) h.0))
+  at (inl e) more = (
+    c.cycle,
+    (
+      (λ _. refl),
+      each-weaker (λ (d : Change). d.place ≡ c.place → d.cycle ≡ c.cycle) (λ (d : Change). d.place ≡ place
+          → d.cycle ≡ c.cycle) undos (λ d w f. w (f ∙ sym e)) h.0,
+    ),
+  )
   at (inr differs) more = (more.0, ((λ e. absurd (differs e)), more.1))
 
 pub Solo-filter : (p : Change → Bool) (undos : List Change) → Solo undos → Solo (filter p undos)
@@ -72,7 +79,8 @@ back-other place c undos slot differs = ap (λ (b : Bool). back place undos (con
 pub back-filters : (place : ℕ) (p q : Change → Bool) (undos : List Change) (slot : Slot) → AgreeAt place p q undos → back place (filter p undos) slot ≡ back place (filter q undos) slot
 back-filters place p q [] slot h = refl
 back-filters place p q (c ∷ undos) slot h = at (cases_eq c.place place) (p c) (q c) h.0 (λ v. back-filters place p q undos v h.1) where
-  at : (c.place ≡ place) ⊎ (c.place ≡ place → ⊥) → (a b : Bool) → (c.place ≡ place → a ≡ b) → ((v : Slot) → back place (filter p undos) v ≡ back place (filter q undos) v) → back place (cond a (c ∷ filter p undos) (filter p undos)) slot ≡ back place (cond b (c ∷ filter q undos) (filter q undos)) slot
+  at : (c.place ≡ place) ⊎ (c.place ≡ place → ⊥) → (a b : Bool) → (c.place ≡ place → a ≡ b) → ((v : Slot) → back place (filter p undos) v ≡ back place (filter q undos) v)
+      → back place (cond a (c ∷ filter p undos) (filter p undos)) slot ≡ back place (cond b (c ∷ filter q undos) (filter q undos)) slot
   at o true true w more = more _
   at o false false w more = more slot
   at (inl e) true false w more = let f = w e in absurd (cc)
@@ -85,7 +93,8 @@ back-filters place p q (c ∷ undos) slot h = at (cases_eq c.place place) (p c) 
 pub WindsAt-filter : (place : ℕ) (p : Change → Bool) (undos : List Change) (slot : Slot) → AgreeAt place p (λ _. true) undos → WindsAt place slot undos → WindsAt place slot (filter p undos)
 WindsAt-filter place p [] slot h w = tt
 WindsAt-filter place p (c ∷ undos) slot h w = at (cases_eq c.place place) (p c) h.0 (WindsAt-filter place p undos _ h.1 w.1) where
-  at : (c.place ≡ place) ⊎ (c.place ≡ place → ⊥) → (a : Bool) → (c.place ≡ place → a ≡ true) → WindsAt place (cond (c.place == place) (before_of c) slot) (filter p undos) → WindsAt place slot (cond a (c ∷ filter p undos) (filter p undos))
+  at : (c.place ≡ place) ⊎ (c.place ≡ place → ⊥) → (a : Bool) → (c.place ≡ place → a ≡ true) → WindsAt place (cond (c.place == place) (before_of c) slot) (filter p undos)
+      → WindsAt place slot (cond a (c ∷ filter p undos) (filter p undos))
   at o true f more = (w.0, more)
   at (inl e) false f more = let g = f e in absurd (cc)
   at (inr differs) false f more = subst (λ (b : Bool). WindsAt place (cond b (before_of c) slot) (filter p undos)) (ne_eqb c.place place differs) more
@@ -93,7 +102,8 @@ WindsAt-filter place p (c ∷ undos) slot h w = at (cases_eq c.place place) (p c
 pub WindsAt-none : (place : ℕ) (p : Change → Bool) (undos : List Change) (slot : Slot) → AgreeAt place p (λ _. false) undos → WindsAt place slot (filter p undos)
 WindsAt-none place p [] slot h = tt
 WindsAt-none place p (c ∷ undos) slot h = at (cases_eq c.place place) (p c) h.0 (λ v. WindsAt-none place p undos v h.1) where
-  at : (c.place ≡ place) ⊎ (c.place ≡ place → ⊥) → (a : Bool) → (c.place ≡ place → a ≡ false) → ((v : Slot) → WindsAt place v (filter p undos)) → WindsAt place slot (cond a (c ∷ filter p undos) (filter p undos))
+  at : (c.place ≡ place) ⊎ (c.place ≡ place → ⊥) → (a : Bool) → (c.place ≡ place → a ≡ false) → ((v : Slot) → WindsAt place v (filter p undos))
+      → WindsAt place slot (cond a (c ∷ filter p undos) (filter p undos))
   at o false f more = more slot
   at (inl e) true f more = let g = f e in absurd (cc)
   at (inr differs) true f more = ((λ e. absurd (differs e)), more _)
@@ -126,7 +136,8 @@ pub none_of_open : (s : State) (c : Change) → c.cycle ≡ None → IsSound s �
 none_of_open s c e i h = none_alone c s.cycles s.undos e h.alone i.of_open
 
 AreWithin-put : (slots : List Slot) (place : ℕ) (new : Slot) (undos : List Change) → AreWithin slots undos → AreWithin (put_slot slots place new) undos
-AreWithin-put slots place new undos h = each-weaker (λ (c : Change). c.place < length slots) (λ (c : Change). c.place < length (put_slot slots place new)) undos (λ c w. omega (arith, length-put_slot slots place new)) h
+AreWithin-put slots place new undos h = each-weaker (λ (c : Change). c.place < length slots) (λ (c : Change). c.place < length (put_slot slots place new)) undos
+    (λ c w. omega (arith, length-put_slot slots place new)) h
 
 changed_to : (s : State) (c : Change) → List Change → State
 changed_to s c undos = record { slots = put_slot s.slots c.place c.after; cycles = s.cycles; undos = undos; next = s.next + 1 }
@@ -168,7 +179,8 @@ has_open-other cycles n (Some m) d h = one_of-filter cycles n m h (grind (arith,
 
 -- whether a change of the place is in a commit cycle
 in_at : (place n : ℕ) (cycle : Option ℕ) (b : Bool) (undos : List Change) → not (is_number cycle n) ≡ b → AreOf place cycle undos → AgreeAt place (is_not_in n) (λ _. b) undos
-in_at place n cycle b undos e h = each-weaker (λ (c : Change). c.place ≡ place → c.cycle ≡ cycle) (λ (c : Change). c.place ≡ place → is_not_in n c ≡ b) undos (λ c w f. ap (λ (o : Option ℕ). not (is_number o n)) (w f) ∙ e) h
+in_at place n cycle b undos e h = each-weaker (λ (c : Change). c.place ≡ place → c.cycle ≡ cycle) (λ (c : Change). c.place ≡ place
+    → is_not_in n c ≡ b) undos (λ c w f. ap (λ (o : Option ℕ). not (is_number o n)) (w f) ∙ e) h
 
 ended_to : State → ℕ → State
 ended_to s n = record { slots = s.slots; cycles = filter (is_other n) s.cycles; undos = filter (is_not_in n) s.undos; next = s.next + 1 }
@@ -177,7 +189,8 @@ sound-ended : (s : State) (n : ℕ) → IsSound s → IsSound (ended_to s n)
 unfolding ended_to
 sound-ended s n i = record {
   solo = Solo-filter (is_not_in n) s.undos i.solo;
-  of_open = each-filter (λ (c : Change). HasOpen s.cycles c.cycle) (λ (c : Change). HasOpen (filter (is_other n) s.cycles) c.cycle) (is_not_in n) s.undos (λ c d h. has_open-other s.cycles n c.cycle d h) i.of_open;
+  of_open = each-filter (λ (c : Change). HasOpen s.cycles c.cycle) (λ (c : Change). HasOpen (filter (is_other n) s.cycles) c.cycle) (is_not_in n) s.undos
+      (λ c d h. has_open-other s.cycles n c.cycle d h) i.of_open;
   older = λ m w. let f : m < s.next = i.older m (one_of-filtered (is_other n) s.cycles m w) in omega arith;
   distinct = Distinct-filter (is_other n) s.cycles i.distinct;
   winds = λ place. at place (solo-at place s.undos i.solo) (not (is_number (solo-at place s.undos i.solo).0 n)) refl;

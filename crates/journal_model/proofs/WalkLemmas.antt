@@ -14,7 +14,8 @@ pub ok_from_cond : (b : Bool) (slots after : List Slot) (fault : RangeFault) →
 ok_from_cond true slots after fault h = (refl, cc)
 ok_from_cond false slots after fault h = absurd (cc)
 
-pub ok_from_then : (r : Result (List Slot) RangeFault) (f : List Slot → Result (List Slot) RangeFault) (after : List Slot) → (r then f) ≡ Ok after → (middle : List Slot) × (r ≡ Ok middle) × (f middle ≡ Ok after)
+pub ok_from_then : (r : Result (List Slot) RangeFault) (f : List Slot → Result (List Slot) RangeFault) (after : List Slot) → (r then f) ≡ Ok after
+    → (middle : List Slot) × (r ≡ Ok middle) × (f middle ≡ Ok after)
 ok_from_then (Ok middle) f after h = (middle, refl, h)
 ok_from_then (Err fault) f after h = absurd (cc)
 
@@ -56,10 +57,12 @@ redone n slots after h =
     let tests = and_parts (leb n.change.place (length slots)) (is_met n.change.before (slot_of slots n.change.place)) parts.0 in
     record { there = leb-true n.change.place (length slots) tests.0; met = tests.1; now = sym parts.1 }
 
-pub redo-goes : (n : Numbered) (slots : List Slot) → n.change.place ≤ length slots → is_met n.change.before (slot_of slots n.change.place) ≡ true → redo n slots ≡ Ok (put_slot slots n.change.place n.change.after)
+pub redo-goes : (n : Numbered) (slots : List Slot) → n.change.place ≤ length slots → is_met n.change.before (slot_of slots n.change.place) ≡ true
+    → redo n slots ≡ Ok (put_slot slots n.change.place n.change.after)
 redo-goes n slots there met = rw (le-leb n.change.place (length slots) there, met) refl
 
-pub undo-goes : (n : Numbered) (slots : List Slot) (side : Slot) → n.change.before ≡ Some side → n.change.place < length slots → slot_of slots n.change.place ≡ n.change.after → undo n slots ≡ Ok (put_slot slots n.change.place side)
+pub undo-goes : (n : Numbered) (slots : List Slot) (side : Slot) → n.change.before ≡ Some side → n.change.place < length slots → slot_of slots n.change.place ≡ n.change.after
+    → undo n slots ≡ Ok (put_slot slots n.change.place side)
 undo-goes n slots side told there stood = rw (told, lt-ltb n.change.place (length slots) there, stood, is_same_slot-itself n.change.after) refl
 
 -- ---- removing, then applying
@@ -124,7 +127,13 @@ remove-applied (n ∷ rest) slots after h told =
     let stood : slot_of slots n.change.place ≡ s.0 = sym (is_same_slot-same s.0 _ (subst (λ (o : Option Slot). is_met o (slot_of slots n.change.place) ≡ true) s.1 r.met)) in
     let same : HasSameRecords more.0 (put_slot slots n.change.place n.change.after) = subst (λ (x : List Slot). HasSameRecords more.0 x) r.now more.2 in
     let shown : slot_of more.0 n.change.place ≡ n.change.after = same.records n.change.place ∙ slot_of-put_same slots n.change.place n.change.after in
-    let wide : n.change.place < length more.0 = omega (arith, length-removed rest after more.0 more.1, length-applied rest m.0 after m.2, ap length r.now, length-put_slot slots n.change.place n.change.after) in (
+    let wide : n.change.place < length more.0 = omega (
+      arith,
+      length-removed rest after more.0 more.1,
+      length-applied rest m.0 after m.2,
+      ap length r.now,
+      length-put_slot slots n.change.place n.change.after,
+    ) in (
       put_slot more.0 n.change.place s.0,
       ap (λ (x : Result (List Slot) RangeFault). x then undo n) more.1 ∙ undo-goes n more.0 s.0 s.1 wide shown,
       same_put more.0 slots n.change.place n.change.after same s.0 stood,
@@ -133,7 +142,8 @@ remove-applied (n ∷ rest) slots after h told =
     or_parts : (a b : Bool) → a || b ≡ false → (a ≡ false) × (b ≡ false)
     or_parts a b h = grind (arith, nat_tests)
 
-pub remove-gives_back : (changes : List Numbered) (slots after : List Slot) → apply changes slots ≡ Ok after → list_any lacks_before changes ≡ false → IsOkAnd (remove changes after) (λ given. HasSameRecords given slots)
+pub remove-gives_back : (changes : List Numbered) (slots after : List Slot) → apply changes slots ≡ Ok after → list_any lacks_before changes ≡ false
+    → IsOkAnd (remove changes after) (λ given. HasSameRecords given slots)
 unfolding GivesBack
 remove-gives_back changes slots after h told =
     let r = remove-applied changes slots after h told in

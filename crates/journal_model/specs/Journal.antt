@@ -3,12 +3,12 @@
 use Rattle.std.specs.Prelude.{ℕ, ◌+◌, ◌≡◌, List, [], ◌∷◌, ◌++◌, length, Option, Some, None, ⊤}
 use Rattle.std.specs.List.{AllByRecursion}
 use Rattle.entry_codec.specs.declared.entries.Entry.{Entry}
-use Rattle.entry_codec.specs.declared.kinds.EntryKind.TheVariants.{FileDeleted}
+use Rattle.entry_codec.specs.declared.kinds.EntryKind.TheVariants.{FileDeleted, CommitCycleStarted}
 use Rattle.member_slots.specs.declared.slot.Slot.{Slot}
 use Rattle.member_slots.specs.Member.{IsMember}
 use Rattle.journal_model.specs.Acts.{Act, acts, entry_before}
 use Rattle.journal_model.specs.Replay.{State, state_at, replay}
-use Rattle.journal_model.specs.Replayable.{CanReplay, IsFree}
+use Rattle.journal_model.specs.Replayable.{CanReplay, IsFree, IsOpen}
 use Rattle.journal_model.specs.Settled.{settled}
 use Rattle.journal_model.specs.ManyMembers.{NumberedSlots, slots_in}
 use Rattle.journal_model.specs.Pairs.{AreInPairs}
@@ -21,6 +21,8 @@ pub record Journal : Type 0 where
   pub checkpoint : ℕ
   pub catalogue : Catalogue
   pub members : List NumberedSlots
+  -- the number of the first receiver that is kept
+  pub receiver : ℕ
   -- the entries that are kept from before the checkpoint, up to its sequence, and those after it
   pub kept : List Entry
   pub later : List Entry
@@ -61,6 +63,12 @@ abbrev pub AreNumbered : ℕ → List Entry → Type 0
 AreNumbered first [] = ⊤
 AreNumbered first (e ∷ entries) = (e.sequence ≡ first) × AreNumbered (first + 1) entries
 
+-- each commit cycle that an entry names is open, but for the entry that begins it
+abbrev pub NamesOpen : Journal → Type 0
+NamesOpen j =
+    (front rest : List Entry) (e : Entry) → j.later ≡ front ++ e ∷ rest → (e.kind ≡ CommitCycleStarted → ⊥)
+    → IsOpen (replay (start_of j 0) (acts 0 (entry_before None j.kept) front)).cycles e.group
+
 -- a file is deleted while no open commit cycle has changed a member of it
 abbrev pub DeletesFree : Journal → Type 0
 DeletesFree j =
@@ -88,7 +96,11 @@ HasPlaceIn d c e = OfMember (member_numbered e.member c) (λ (m : CatalogMember)
 abbrev pub StaysMembers : Descriptions → Journal → Type 0
 StaysMembers d j =
     (front rest : List Entry) (member : CatalogMember) → j.later ≡ front ++ rest → member_numbered (Some member.number) (catalogue_after j.catalogue front) ≡ Some member
-    → IsMember (record { record_length = record_length d (catalogue_after j.catalogue front) member; slots = (replay (start_of j member.number) (acts member.number (entry_before None j.kept) front)).slots })
+    → IsMember (record {
+      record_length = record_length d (catalogue_after j.catalogue front) member;
+      slots =
+          (replay (start_of j member.number) (acts member.number (entry_before None j.kept) front)).slots;
+    })
 
 pub record CanReplayJournal (d : Descriptions) (j : Journal) : Type 0 where
   pub first : ℕ
@@ -97,6 +109,7 @@ pub record CanReplayJournal (d : Descriptions) (j : Journal) : Type 0 where
   pub later : AreNumbered (j.checkpoint + 1) j.later
   pub enters : MayEnterAll d j.catalogue j.later
   pub replays : (member : ℕ) → CanReplay (start_of j member) (acts_after j member)
+  pub names : NamesOpen j
   pub deletes : DeletesFree j
   pub pairs : AreInPairs None (entries j)
   -- kept entries are judged where the checkpoint has their member

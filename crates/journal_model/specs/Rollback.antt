@@ -66,7 +66,15 @@ undo_kinds Deleted Deleted = []
 
 abbrev pub change_drafts : (job : Option (List ℕ)) (moment : ℕ) → MemberChange → List EntryKind → List Draft
 change_drafts job moment c [] = []
-change_drafts job moment c (kind ∷ kinds) = record { job = job; moment = moment; group = c.change.cycle; member = Some c.member; rrn = Some (c.change.place + 1); kind = kind } ∷ change_drafts job moment c kinds
+change_drafts job moment c (kind ∷ kinds) = record {
+  job = job;
+  moment = moment;
+  group = c.change.cycle;
+  member = Some c.member;
+  rrn = Some
+      (c.change.place + 1);
+  kind = kind;
+} ∷ change_drafts job moment c kinds
 
 abbrev pub undo_drafts : (job : Option (List ℕ)) (moment : ℕ) → List MemberChange → List Draft
 undo_drafts job moment [] = []

@@ -12,5 +12,6 @@ pub fn entries_are_read_alike()
 
 /// The entries of a library's journal do to each member what they do to it alone.
 pub fn members_are_apart()
-    ensures { (number : ℕ) (members : List NumberedSlots) (prior : Option Entry) (entries : List Entry) → slots_in number (members_after members prior entries) ≡ all_moved (slots_in number members) (acts number prior entries) }
+    ensures { (number : ℕ) (members : List NumberedSlots) (prior : Option Entry) (entries : List Entry)
+        → slots_in number (members_after members prior entries) ≡ all_moved (slots_in number members) (acts number prior entries) }
 {}

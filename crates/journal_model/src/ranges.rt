@@ -36,33 +36,44 @@ pub fn walks_go_in_parts()
 /// can be removed where each before side is there, which gives its records back; the place of an added record stays.
 pub fn each_way_undoes_the_other()
     ensures removed { (changes : List Numbered) (slots after : List Slot) → remove changes slots ≡ Ok after → apply changes after ≡ Ok slots }
-    ensures applied { (changes : List Numbered) (slots after : List Slot) → apply changes slots ≡ Ok after → IsFalse (list_any lacks_before changes) → IsOkAnd (remove changes after) (λ given. HasSameRecords given slots) }
+    ensures applied { (changes : List Numbered) (slots after : List Slot) → apply changes slots ≡ Ok after → IsFalse (list_any lacks_before changes)
+        → IsOkAnd (remove changes after) (λ given. HasSameRecords given slots) }
 {}
 
 /// A removal leaves each record that the range changes as it was at the sequence before the range, and every other
 /// record as it is. The range has no break of the member, and the entries of each record follow one from the other.
 pub fn removal_goes_back()
-    ensures touched { (place first : ℕ) (before range after : List Act) (slots given : List Slot) → IsChained place None (before ++ (range ++ after)) → IsFalse (list_any is_break range) → remove (numbered first range) slots ≡ Ok given → IsTrue (touches place (changes range)) → slot_at place before (range ++ after) ≡ Some (slot_of given place) }
-    ensures others { (place first : ℕ) (range : List Act) (slots given : List Slot) → remove (numbered first range) slots ≡ Ok given → IsFalse (touches place (changes range)) → slot_of given place ≡ slot_of slots place }
+    ensures touched { (place first : ℕ) (before range after : List Act) (slots given : List Slot) → IsChained place None (before ++ (range ++ after)) → IsFalse (list_any is_break range)
+        → remove (numbered first range) slots ≡ Ok given → IsTrue (touches place (changes range)) → slot_at place before (range ++ after) ≡ Some (slot_of given place) }
+    ensures others { (place first : ℕ) (range : List Act) (slots given : List Slot) → remove (numbered first range) slots ≡ Ok given → IsFalse (touches place (changes range))
+        → slot_of given place ≡ slot_of slots place }
 {}
 
 /// Applying leaves each record that the range changes as it was at the last sequence of the range, and every other
 /// record as it is.
 pub fn applying_goes_forward()
-    ensures touched { (place first : ℕ) (before range after : List Act) (slots given : List Slot) → IsFalse (list_any is_break range) → apply (numbered first range) slots ≡ Ok given → IsTrue (touches place (changes range)) → slot_at place (before ++ range) after ≡ Some (slot_of given place) }
-    ensures others { (place first : ℕ) (range : List Act) (slots given : List Slot) → apply (numbered first range) slots ≡ Ok given → IsFalse (touches place (changes range)) → slot_of given place ≡ slot_of slots place }
+    ensures touched { (place first : ℕ) (before range after : List Act) (slots given : List Slot) → IsFalse (list_any is_break range)
+        → apply (numbered first range) slots ≡ Ok given → IsTrue (touches place (changes range)) → slot_at place (before ++ range) after ≡ Some (slot_of given place) }
+    ensures others { (place first : ℕ) (range : List Act) (slots given : List Slot) → apply (numbered first range) slots ≡ Ok given → IsFalse (touches place (changes range))
+        → slot_of given place ≡ slot_of slots place }
 {}
 
 /// The same of the two commands, where they aren't refused: of the closed part, which has no break then.
 pub fn commands_go_back_and_forward()
-    ensures removed { (place first : ℕ) (before range after : List Act) (slots : List Slot) (done : RangeDone) → IsChained place None (before ++ (range ++ after)) → remove_range first range slots ≡ Ok done → IsTrue (touches place (changes (removed_part range))) → slot_at place (before ++ not_removed range) (removed_part range ++ after) ≡ Some (slot_of done.slots place) }
-    ensures not_removed { (place first : ℕ) (range : List Act) (slots : List Slot) (done : RangeDone) → remove_range first range slots ≡ Ok done → IsFalse (touches place (changes (removed_part range))) → slot_of done.slots place ≡ slot_of slots place }
-    ensures applied { (place first : ℕ) (before range after : List Act) (slots : List Slot) (done : RangeDone) → apply_range first range slots ≡ Ok done → IsTrue (touches place (changes (applied_part range))) → slot_at place (before ++ applied_part range) (not_applied range ++ after) ≡ Some (slot_of done.slots place) }
-    ensures not_applied { (place first : ℕ) (range : List Act) (slots : List Slot) (done : RangeDone) → apply_range first range slots ≡ Ok done → IsFalse (touches place (changes (applied_part range))) → slot_of done.slots place ≡ slot_of slots place }
+    ensures removed { (place first : ℕ) (before range after : List Act) (slots : List Slot) (done : RangeDone) → IsChained place None (before ++ (range ++ after))
+        → remove_range first range slots ≡ Ok done → IsTrue (touches place (changes (removed_part range)))
+        → slot_at place (before ++ not_removed range) (removed_part range ++ after) ≡ Some (slot_of done.slots place) }
+    ensures not_removed { (place first : ℕ) (range : List Act) (slots : List Slot) (done : RangeDone) → remove_range first range slots ≡ Ok done
+        → IsFalse (touches place (changes (removed_part range))) → slot_of done.slots place ≡ slot_of slots place }
+    ensures applied { (place first : ℕ) (before range after : List Act) (slots : List Slot) (done : RangeDone) → apply_range first range slots ≡ Ok done
+        → IsTrue (touches place (changes (applied_part range))) → slot_at place (before ++ applied_part range) (not_applied range ++ after) ≡ Some (slot_of done.slots place) }
+    ensures not_applied { (place first : ℕ) (range : List Act) (slots : List Slot) (done : RangeDone) → apply_range first range slots ≡ Ok done
+        → IsFalse (touches place (changes (applied_part range))) → slot_of done.slots place ≡ slot_of slots place }
 {}
 
 /// A closed range at the journal's end, without a break of the member and with each before side there, is removed whole
 /// and gives back the records from which it was replayed.
 pub fn closed_range_is_removed_whole()
-    ensures { (first : ℕ) (range : List Act) (s : State) → CanReplay s range → IsTrue (is_closed range) → IsFalse (list_any is_break range) → IsFalse (list_any lacks_before (numbered first range)) → IsOkAnd (remove_range first range (all_moved s.slots range)) (λ done. RemovesWhole first range s.slots done) }
+    ensures { (first : ℕ) (range : List Act) (s : State) → CanReplay s range → IsTrue (is_closed range) → IsFalse (list_any is_break range)
+        → IsFalse (list_any lacks_before (numbered first range)) → IsOkAnd (remove_range first range (all_moved s.slots range)) (λ done. RemovesWhole first range s.slots done) }
 {}

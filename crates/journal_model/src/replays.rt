@@ -21,7 +21,8 @@ pub fn test_tells()
 /// the member as replaying leaves it. At the journal's end it can be removed, where each before side is there.
 pub fn replayed_range_fits()
     ensures applied { (range : List Act) (s : State) (first : ℕ) → CanReplay s range → IsFalse (list_any is_break range) → apply (numbered first range) s.slots ≡ Ok (all_moved s.slots range) }
-    ensures removed { (range : List Act) (s : State) (first : ℕ) → CanReplay s range → IsFalse (list_any is_break range) → IsFalse (list_any lacks_before (numbered first range)) → IsOkAnd (remove (numbered first range) (all_moved s.slots range)) (λ given. HasSameRecords given s.slots) }
+    ensures removed { (range : List Act) (s : State) (first : ℕ) → CanReplay s range → IsFalse (list_any is_break range) → IsFalse (list_any lacks_before (numbered first range))
+        → IsOkAnd (remove (numbered first range) (all_moved s.slots range)) (λ given. HasSameRecords given s.slots) }
 {}
 
 /// In a journal that can be replayed the entries of each record follow one from the other.
@@ -32,12 +33,15 @@ pub fn replayed_records_are_chained()
 
 /// Replaying a journal, and then undoing each open commit cycle backwards, leaves the settled records.
 pub fn undoing_settles()
-    ensures { (next : ℕ) (slots : List Slot) (journal : List Act) → CanReplay (state_at next slots) journal → HasSameRecords (all_undone (replay (state_at next slots) journal)) (settled slots journal) }
+    ensures { (next : ℕ) (slots : List Slot) (journal : List Act) → CanReplay (state_at next slots) journal
+        → HasSameRecords (all_undone (replay (state_at next slots) journal)) (settled slots journal) }
 {}
 
 /// What the journal tells of a record at a sequence is its slot when the entries up to there are replayed. Entries kept
 /// from before the checkpoint tell nothing else of the record than the checkpoint; the record is changed after the
 /// sequence, before the next break of the member.
 pub fn slots_at_sequences()
-    ensures { (place : ℕ) (before replayed later : List Act) (s : State) (slot : Slot) → IsSo (known_after place None before) (slot_of s.slots place) → CanReplay s (replayed ++ later) → IsTrue (touches place (changes (before_break later))) → slot_at place (before ++ replayed) later ≡ Some slot → slot ≡ slot_of (replay s replayed).slots place }
+    ensures { (place : ℕ) (before replayed later : List Act) (s : State) (slot : Slot) → IsSo (known_after place None before) (slot_of s.slots place)
+        → CanReplay s (replayed ++ later) → IsTrue (touches place (changes (before_break later))) → slot_at place (before ++ replayed) later ≡ Some slot
+        → slot ≡ slot_of (replay s replayed).slots place }
 {}

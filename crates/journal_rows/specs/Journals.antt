@@ -84,7 +84,8 @@ abbrev pub removed_plain : List Entry
 removed_plain = plain
     ++ (of_member 9 (ChangesRemoved 3 8 5) ∷ starts 10 ∷ of_record 11 (Some 10) 2 (RecordAddedAtNumber (codes "B")) ∷ [])
     ++ updated 12 (Some 10) 1 (codes "A1") (codes "A")
-    ++ (of_record 14 (Some 10) 3 (RecordDeleted (Some (codes "C"))) ∷ of_record 15 (Some 10) 2 (RecordDeleted (Some (codes "B"))) ∷ of_record 16 (Some 10) 1 (RecordDeleted (Some (codes "A"))) ∷ committed 17 10 ∷ [])
+    ++ (of_record 14 (Some 10) 3 (RecordDeleted (Some (codes "C"))) ∷ of_record 15 (Some 10) 2 (RecordDeleted (Some (codes "B"))) ∷ of_record 16 (Some 10) 1
+    (RecordDeleted (Some (codes "A"))) ∷ committed 17 10 ∷ [])
 
 -- the member is cleared, and its journaling ends and begins again
 abbrev pub broken : List Entry
@@ -113,3 +114,7 @@ undone_half = pending
 -- another commit cycle, or a change outside commitment control, takes a record that an open one has changed
 abbrev pub overtaken : Option ℕ → List Entry
 overtaken cycle = interleaved ++ (starts 21 ∷ starts 22 ∷ []) ++ updated 23 (Some 21) 1 (codes "A2") (codes "A3") ++ updated 25 cycle 1 (codes "A3") (codes "A4")
+
+-- the before image in front of an update is of another record
+abbrev pub misplaced : List Entry
+misplaced = created ++ (of_record 3 None 1 (RecordAdded (codes "A")) ∷ of_record 4 None 2 (BeforeImage (codes "A")) ∷ of_record 5 None 1 (AfterImage true (codes "B")) ∷ [])

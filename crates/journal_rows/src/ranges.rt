@@ -3,7 +3,7 @@ ghost use Rattle.std.specs.Prelude.{◌≡◌, List, [], ◌∷◌, Err, codes};
 ghost use Rattle.member_slots.specs.declared.slot.Slot.TheVariants.{Live, Deleted};
 ghost use Rattle.journal_model.specs.Walks.{Straddled, Gap, NotRemovable, NeedsBoth, DoesNotFit};
 ghost use Rattle.journal_model.specs.Ranges.{first_of, last_of};
-ghost use Rattle.journal_rows.specs.Journals.{of_one, plain, removed_plain, interleaved, after_only, half_kept, broken, of_another};
+ghost use Rattle.journal_rows.specs.Journals.{of_one, plain, removed_plain, interleaved, after_only, half_kept, broken, of_another, misplaced};
 ghost use Rattle.journal_rows.specs.Outcomes.{outcome, removed, applied, slots_after};
 
 /// Three adds, an update and a delete are removed, and applied again.
@@ -51,7 +51,11 @@ pub fn interleaved_ranges()
 pub fn refusals()
     ensures needs_both { removed 3 4 after_only (Live (codes "B") ∷ []) ≡ Err (NeedsBoth 4) }
     ensures applied_without { applied 3 4 after_only (Deleted ∷ []) ≡ outcome 3 4 2 (Live (codes "B") ∷ []) }
+    // Any live slot meets a before side that the journal lacks, and a deleted one doesn't.
+    ensures applied_to_live { applied 4 4 after_only (Live (codes "Z") ∷ []) ≡ outcome 4 4 1 (Live (codes "B") ∷ []) }
+    ensures applied_to_deleted { applied 4 4 after_only (Deleted ∷ []) ≡ Err (DoesNotFit 4 1) }
     ensures needs_both_first { removed 3 6 half_kept (Live (codes "Z") ∷ []) ≡ Err (NeedsBoth 4) }
+    ensures of_another_record { removed 5 5 misplaced (Live (codes "B") ∷ []) ≡ Err (NeedsBoth 5) }
     ensures does_not_fit { removed 5 6 half_kept (Live (codes "Z") ∷ []) ≡ Err (DoesNotFit 6 1) }
     ensures not_removable { removed 3 5 broken (Live (codes "B") ∷ []) ≡ Err (NotRemovable 4) }
     ensures not_applicable { applied 3 5 broken [] ≡ Err (NotRemovable 4) }
