@@ -1,0 +1,6 @@
+pub mod Asks
+pub mod Refusals
+pub mod Replies
+pub mod Requests
+pub mod Values
+pub mod Variables
