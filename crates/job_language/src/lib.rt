@@ -8,4 +8,5 @@ pub mod progress;
 pub mod refusals;
 pub mod statements;
 pub mod steps;
+mod values;
 mod variables;

@@ -76,9 +76,7 @@ impl Variables {
         ensures before { self.new.before ≡ self.old.before }
     {
         while let Some(Change { variable, before }) = self.changes.pop() {
-            if variable < self.values.len() {
-                self.values[variable] = before;
-            }
+            put(&mut self.values, variable, before);
         }
     }
 
@@ -88,5 +86,13 @@ impl Variables {
         ensures before { self.new.before ≡ self.old.now }
     {
         self.changes.clear();
+    }
+}
+
+fn put(values: &mut Vec<Value>, variable: usize, value: Value)
+    ensures { values.new.items ≡ slice_set values.old.items variable value }
+{
+    if variable < values.len() {
+        values[variable] = value;
     }
 }
