@@ -1,11 +1,12 @@
 -- The request that a statement makes with the variables' values. `None`: a variable is of the wrong kind, and the job ends.
-use Rattle.std.specs.Prelude.{ℕ, ◌≤◌, ◌-◌, ◌^◌, Bool, nat_le, if◌then◌else◌, Option, Some, None, List, [], ◌∷◌, slice_get, option_map}
+use Rattle.std.specs.Prelude.{ℕ, ◌-◌, ◌^◌, nat_le, if◌then◌else◌, Option, Some, None, List, [], ◌∷◌, slice_get, option_map}
 use Rattle.std.specs.Option.{option_and_then}
 use Rattle.field_types.specs.declared.values.Value.{Value}
 use Rattle.library_model.specs.declared.requests.Request.{Request}
 use Rattle.library_model.specs.declared.requests.Request.TheVariants as request
 use Rattle.library_model.specs.declared.requests.RangeEnd.{RangeEnd}
 use Rattle.library_model.specs.declared.requests.RangeEnd.TheVariants as range_end
+use Rattle.library_model.specs.declared.requests.DisplayJournal.{DisplayJournal}
 use Rattle.library_model.specs.declared.requests.JournaledChanges.{JournaledChanges}
 use Rattle.library_model.specs.declared.requests.Limit.{Limit}
 use Rattle.library_model.specs.declared.requests.Limit.TheVariants as limit
@@ -36,7 +37,7 @@ use Rattle.job_language.specs.declared.forms.ChainForm.{ChainForm}
 use Rattle.job_language.specs.declared.forms.WriteForm.{WriteForm}
 use Rattle.job_language.specs.declared.forms.UpdateForm.{UpdateForm}
 use Rattle.job_language.specs.declared.forms.RequestForm.{RequestForm}
-use Rattle.job_language.specs.declared.forms.RequestForm.TheVariants.{Fixed, DeleteReceiver, DisplayJournal, ApplyChanges, RemoveChanges, SetLowerLimit, SetGreaterThan, ReadEqual as ReadEqualForm_, ReadPriorEqual, Chain, Write, Update}
+use Rattle.job_language.specs.declared.forms.RequestForm.TheVariants.{Fixed, DeleteReceiver, DisplayJournal as DisplayForm, ApplyChanges, RemoveChanges, SetLowerLimit, SetGreaterThan, ReadEqual as ReadKey, ReadPriorEqual, Chain, Write, Update}
 
 -- the whole number from 0 up to the most that a variable has; a text and any other number are of the wrong kind
 abbrev pub whole_value : ℕ → Option Value → Option ℕ
@@ -106,18 +107,18 @@ write_of values form =
 abbrev pub update_of : List Value → UpdateForm → Option UpdateRecord
 update_of values form = option_map (λ given. record { open_id = form.open_id; values = given }) (given_of values form.values)
 
-abbrev pub display_of : Option ℕ → Option ℕ → Option Request
-display_of from to = both (λ first last. Some (request.DisplayJournal (record { from = first; to = last }))) from to
+abbrev pub display_of : Option ℕ → Option ℕ → Option DisplayJournal
+display_of from to = both (λ first last. Some (record { from = first; to = last })) from to
 
 abbrev pub request_of : List Value → RequestForm → Option Request
 request_of values (Fixed asked) = Some asked
 request_of values (DeleteReceiver operand) = option_map (λ number. request.DeleteReceiver (record { number = number })) (record_number values operand)
-request_of values (DisplayJournal from to) = display_of (sequence_of values from) (sequence_of values to)
+request_of values (DisplayForm from to) = option_map request.DisplayJournal (display_of (sequence_of values from) (sequence_of values to))
 request_of values (ApplyChanges form) = option_map request.ApplyChanges (changes_of values form)
 request_of values (RemoveChanges form) = option_map request.RemoveChanges (changes_of values form)
 request_of values (SetLowerLimit form) = option_map request.SetLowerLimit (position_of values form)
 request_of values (SetGreaterThan form) = option_map request.SetGreaterThan (position_of values form)
-request_of values (ReadEqualForm_ form) = option_map request.ReadEqual (read_equal_of values form)
+request_of values (ReadKey form) = option_map request.ReadEqual (read_equal_of values form)
 request_of values (ReadPriorEqual form) = option_map request.ReadPriorEqual (read_equal_of values form)
 request_of values (Chain form) = option_map request.Chain (chain_of values form)
 request_of values (Write form) = option_map request.Write (write_of values form)

@@ -6,6 +6,7 @@ pub mod forms;
 pub mod operands;
 pub mod progress;
 pub mod refusals;
+mod requests;
 pub mod statements;
 pub mod steps;
 mod values;

@@ -1,6 +1,7 @@
 //! The names of refusals, and MONMSG.
 ghost use Rattle.std.specs.Prelude.{◌≡◌};
-ghost use Rattle.job_language.specs.Refusals.{refusal_of, takes};
+ghost use Rattle.std.specs.List.{list_any};
+ghost use Rattle.job_language.specs.Refusals.{refusal_of, is_same, takes};
 
 use library_model::replies::Reply;
 use std::marker::Model;
@@ -90,6 +91,14 @@ pub struct Monitor {
     pub target: Option<usize>,
 }
 
+impl Refusal {
+    fn is(self, other: Refusal) -> bool
+        ensures { result ≡ is_same self other }
+    {
+        self == other
+    }
+}
+
 impl Monitored {
     /// Whether the refusal is taken.
     pub fn takes(&self, refusal: Refusal) -> bool
@@ -97,9 +106,15 @@ impl Monitored {
     {
         match self {
             Monitored::Any => true,
-            Monitored::Named(names) => names.as_slice().iter().any(|name| *name == refusal),
+            Monitored::Named(names) => names_one(names.as_slice(), refusal),
         }
     }
+}
+
+fn names_one(names: &[Refusal], refusal: Refusal) -> bool
+    ensures { result ≡ list_any (λ name. is_same name refusal) names.now }
+{
+    names.iter().any(|name| name.is(refusal))
 }
 
 /// The name of the refusal; `None` for a reply that is none.
