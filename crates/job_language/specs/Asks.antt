@@ -215,7 +215,7 @@ ends (End reason line) = true
 
 -- the reply ends the job by itself, with no more statements
 abbrev pub reply_ends : Option Statement → Option Reply → Bool
-reply_ends None last = true
+reply_ends None last = false
 reply_ends (Some statement) None = false
 reply_ends (Some statement) (Some reply) = ends (reply_step statement reply)
 

@@ -1,4 +1,5 @@
 pub mod Asks
+pub mod Positions
 pub mod Refusals
 pub mod Replies
 pub mod Requests

@@ -189,9 +189,14 @@ fn put_into(into: &[usize], fields: &[Value], variables: &mut Variables) -> Resu
     ensures now { OnOk result (variables.new.now ≡ put_into into.now fields.now variables.old.now) }
     ensures before { variables.new.before ≡ variables.old.before }
 {
-    for (variable, field) in into.iter().zip(fields) {
+    let mut rest = fields;
+    for variable in into {
+        let [field, others @ ..] = rest else {
+            return Ok(());
+        };
         let value = field.copied(variables.allocator())?;
         variables.set(*variable, value)?;
+        rest = others;
     }
     Ok(())
 }
