@@ -3,6 +3,7 @@ use Rattle.std.proofs.Common.{◌≡◌, ℕ, zero, suc, ◌+◌, ◌-◌, ◌<�
 use Rattle.field_types.specs.declared.values.Value.{Value}
 use Rattle.library_model.specs.declared.replies.Reply.{Reply}
 use Rattle.library_model.specs.declared.requests.EndReason.{EndReason}
+use Rattle.library_model.specs.declared.requests.EndReason.TheVariants.{Normal, Statements}
 use Rattle.job_language.specs.declared.statements.Statement.{Statement}
 use Rattle.job_language.specs.declared.statements.Script.{Script}
 use Rattle.job_language.specs.declared.steps.Step.{Step}
@@ -21,7 +22,7 @@ unfolding run_from
 run_from-suc left statements place values = refl
 
 -- where there is no statement the script has ended
-pub run_from-past : (left : ℕ) (statements : List Statement) (place : ℕ) (values : List Value) → slice_get statements place ≡ None → run_from left statements place values ≡ record { stage = Ended Rattle.library_model.specs.declared.requests.EndReason.TheVariants.Normal 0; left = left; values = values }
+pub run_from-past : (left : ℕ) (statements : List Statement) (place : ℕ) (values : List Value) → slice_get statements place ≡ None → run_from left statements place values ≡ record { stage = Ended Normal 0; left = left; values = values }
 run_from-past zero statements place values past = run_from-zero statements place values ∙ rw past refl
 run_from-past (suc left) statements place values past = run_from-suc left statements place values ∙ rw past refl
 
@@ -32,10 +33,40 @@ run_from-one (suc left) statements place values statement there some =
     let less : suc left - 1 ≡ left = omega arith in
     run_from-suc left statements place values ∙ rw (there, less) refl
 
-pub run_from-none : (left : ℕ) (statements : List Statement) (place : ℕ) (values : List Value) (statement : Statement) → slice_get statements place ≡ Some statement → left ≡ 0 → run_from left statements place values ≡ record { stage = Ended Rattle.library_model.specs.declared.requests.EndReason.TheVariants.Statements 0; left = left; values = values }
+pub run_from-none : (left : ℕ) (statements : List Statement) (place : ℕ) (values : List Value) (statement : Statement) → slice_get statements place ≡ Some statement → left ≡ 0 → run_from left statements place values ≡ record { stage = Ended Statements 0; left = left; values = values }
 run_from-none zero statements place values statement there none = run_from-zero statements place values ∙ rw there refl
 run_from-none (suc left) statements place values statement there none = absurd (omega arith)
+
+module _ (left : ℕ) (statements : List Statement) (place : ℕ) (values after : List Value) (statement : Statement) (there : slice_get statements place ≡ Some statement) (some : left ≡ 0 → ⊥) (is : after ≡ values_after statement.action values) where
+  pub run_from-goes : (to : ℕ) → step_of statement values ≡ GoOn to → run_from (left - 1) statements to after ≡ run_from left statements place values
+  run_from-goes to step = sym (run_from-one left statements place values statement there (omega arith) ∙ rw (step, is) refl)
+
+  pub run_from-asks : step_of statement values ≡ Ask → record { stage = Asking place; left = left - 1; values = after } ≡ run_from left statements place values
+  run_from-asks step = sym (run_from-one left statements place values statement there (omega arith) ∙ rw (step, is) refl)
+
+  pub run_from-ends : (reason : EndReason) (line : ℕ) → step_of statement values ≡ End reason line → record { stage = Ended reason line; left = left - 1; values = after } ≡ run_from left statements place values
+  run_from-ends reason line step = sym (run_from-one left statements place values statement there (omega arith) ∙ rw (step, is) refl)
 
 pub after_replies-more : (script : Script) (state : JobState) (replies : List Reply) (reply : Reply) → after_replies script state (replies ++ reply ∷ []) ≡ state_after script (after_replies script state replies) (Some reply)
 after_replies-more script state [] reply = refl
 after_replies-more script state (r ∷ replies) reply = after_replies-more script (state_after script state (Some r)) replies reply
+
+-- after a reply that ends the job it has ended
+pub ended-replied : (statements : List Statement) (stage : Stage) (state : JobState) (last : Option Reply) → has_ended statements stage last ≡ true → state.stage ≡ stage → is_ended (goes_on statements stage state last).stage ≡ true
+ended-replied statements NotBegun state last h is = absurd cc
+ended-replied statements (Asking place) state None h is = by-statement (slice_get statements place) h
+  where
+    by-statement : (s : Option Statement) → reply_ends s None ≡ true → is_ended state.stage ≡ true
+    by-statement None h = absurd cc
+    by-statement (Some statement) h = absurd cc
+ended-replied statements (Asking place) state (Some reply) h is = by-statement (slice_get statements place) h
+  where
+    by-step : (step : Step) (after : List Value) (goes : ℕ → JobState) → ends step ≡ true → is_ended (stands step place state.left after goes).stage ≡ true
+    by-step (GoOn to) after goes h = absurd cc
+    by-step Ask after goes h = absurd cc
+    by-step (End reason line) after goes h = refl
+    by-statement : (s : Option Statement) → reply_ends s (Some reply) ≡ true → is_ended (reply_to s statements place state reply).stage ≡ true
+    by-statement None h = absurd cc
+    by-statement (Some statement) h =
+        by-step (reply_step statement reply) (values_replied statement.action reply state.values) (λ to. run_from state.left statements to (values_replied statement.action reply state.values)) h
+ended-replied statements (Ended reason line) state last h is = rw is refl
