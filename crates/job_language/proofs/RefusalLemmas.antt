@@ -1,5 +1,5 @@
 -- The numbers of refusals are those by which the code tells them apart.
-use Rattle.std.proofs.Common.{◌≡◌, Bool, ◌==◌, refl, ap, ◌∙◌}
+use Rattle.std.proofs.Common.{◌≡◌, refl}
 use denote.Enum.Bare.{sameb}
 use denote.Enum.Declared.{tag_of}
 use Rattle.job_language.specs.contracts.refusals.Refusal.{the_type}

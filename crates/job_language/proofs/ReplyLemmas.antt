@@ -1,5 +1,5 @@
 -- What a record without fields leaves in the variables.
-use Rattle.std.proofs.Common.{◌≡◌, ℕ, ◌≤◌, List, [], ◌∷◌, length, refl, arith}
+use Rattle.std.proofs.Common.{◌≡◌, ℕ, List, [], ◌∷◌, length, refl, arith}
 use Rattle.field_types.specs.declared.values.Value.{Value}
 use Rattle.job_language.specs.Replies.{put_into}
 

@@ -1,5 +1,5 @@
 -- Values set back, the last change first.
-use Rattle.std.proofs.Common.{◌≡◌, ℕ, zero, suc, ◌<◌, ◌≤◌, List, [], ◌∷◌, ◌++◌, length, slice_set, get_or, refl, sym, ◌∙◌, ap, arith}
+use Rattle.std.proofs.Common.{◌≡◌, ℕ, zero, suc, List, [], ◌∷◌, ◌++◌, slice_set, get_or, refl, ◌∙◌, ap}
 use Rattle.field_types.specs.declared.values.Value.{Value}
 use Rattle.job_language.specs.declared.variables.Change.{Change}
 use Rattle.job_language.specs.Variables.{without}

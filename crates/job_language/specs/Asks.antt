@@ -1,6 +1,6 @@
 -- What a job asks next: a function of its script, of the replies that it has had, and of whether the history is full.
 -- (CL programs: the statements, MONMSG; the bound on statements and the reasons of ENDJOB are our own.)
-use Rattle.std.specs.Prelude.{◌≡◌, ℕ, zero, suc, Bool, true, false, ◌||◌, if◌then◌else◌, Option, Some, None, List, [], ◌∷◌, slice_get, slice_set}
+use Rattle.std.specs.Prelude.{ℕ, zero, suc, Bool, true, false, if◌then◌else◌, Option, Some, None, List, [], ◌∷◌, slice_get, slice_set}
 use Rattle.std.specs.Option.{is_some, unwrap_or}
 use Rattle.field_types.specs.declared.values.Value.{Value}
 use Rattle.library_model.specs.declared.requests.Request.{Request}

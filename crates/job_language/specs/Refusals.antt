@@ -1,5 +1,5 @@
 -- Which refusal a reply is, and which refusals a MONMSG takes. (CL, MONMSG.)
-use Rattle.std.specs.Prelude.{ℕ, Bool, true, ◌==◌, Option, Some, None, List}
+use Rattle.std.specs.Prelude.{ℕ, Bool, true, ◌==◌, Option, Some, None}
 use Rattle.std.specs.List.{list_any}
 use Rattle.library_model.specs.declared.replies.Reply.{Reply}
 use Rattle.library_model.specs.declared.replies.Reply.TheVariants as reply

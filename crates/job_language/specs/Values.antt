@@ -1,6 +1,6 @@
 -- What operands, expressions and conditions give with the variables' values. `None`: there is no value, and the job ends.
 -- (CL, arithmetic and relational expressions.)
-use Rattle.std.specs.Prelude.{ℕ, Bool, Option, Some, None, List, slice_get, option_map}
+use Rattle.std.specs.Prelude.{Bool, Option, Some, None, List, slice_get, option_map}
 use Rattle.std.specs.Option.{option_and_then}
 use Rattle.std.specs.declared.cmp.Ordering.{Ordering}
 use Rattle.std.specs.Ordering.{is_eq, is_ne, is_lt, is_le, is_gt, is_ge}

@@ -1,5 +1,5 @@
 -- The variables' values, and those that they had when the last request was made.
-use Rattle.std.specs.Prelude.{ℕ, List, [], ◌∷◌, slice_set}
+use Rattle.std.specs.Prelude.{List, [], ◌∷◌, slice_set}
 use Rattle.field_types.specs.declared.values.Value.{Value}
 use Rattle.job_language.specs.declared.variables.Change.{Change}
 

@@ -1,6 +1,5 @@
-use Rattle.std.proofs.Common.{◌≡◌, ◌∙◌, sym, refl, Some, None, slice_get, length}
+use Rattle.std.proofs.Common.{◌∙◌, sym, refl, length}
 use Rattle.std.proofs.lemmas.Option.{slice_get_read, slice_get_past}
-use Rattle.job_language.specs.Asks.{run_from}
 use Rattle.job_language.proofs.StateLemmas.{run_from-none, run_from-past, run_from-goes, run_from-asks, run_from-ends}
 use Rattle.job_language.proofs.progress.run_from.Goals as goal
 

@@ -1,4 +1,4 @@
-use Rattle.std.proofs.Common.{◌≡◌, ◌∙◌, sym, arith, drop, length}
+use Rattle.std.proofs.Common.{◌∙◌, sym, arith, drop}
 use Rattle.job_language.proofs.ReplyLemmas.{put_into-short}
 use Rattle.job_language.proofs.steps.put_into.Goals as goal
 

@@ -1,4 +1,4 @@
-use Rattle.std.proofs.Common.{◌≡◌, ◌∙◌, sym, refl, Some, None, slice_get, length}
+use Rattle.std.proofs.Common.{◌∙◌, sym, refl, length}
 use Rattle.std.proofs.lemmas.Option.{slice_get_read}
 use Rattle.job_language.proofs.progress.Position.reply.Goals as goal
 

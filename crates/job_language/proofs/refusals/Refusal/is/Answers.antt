@@ -1,4 +1,4 @@
-use Rattle.std.proofs.Common.{◌≡◌, ◌∙◌}
+use Rattle.std.proofs.Common.{◌∙◌}
 use Rattle.job_language.proofs.RefusalLemmas.{same}
 use Rattle.job_language.proofs.refusals.Refusal.is.Goals as goal
 

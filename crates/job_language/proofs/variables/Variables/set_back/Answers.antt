@@ -1,4 +1,4 @@
-use Rattle.std.proofs.Common.{◌≡◌, ◌∙◌, sym, ap}
+use Rattle.std.proofs.Common.{◌∙◌, sym, ap}
 use Rattle.job_language.specs.Variables.{without}
 use Rattle.job_language.proofs.VariableLemmas.{without-more}
 use Rattle.job_language.proofs.variables.Variables.set_back.Goals as goal
