@@ -1,17 +1,14 @@
 -- How a job's state follows from one statement, and from one reply more.
-use Rattle.std.proofs.Common.{◌≡◌, ℕ, zero, suc, ◌-◌, ◌<◌, true, Option, Some, None, List, [], ◌∷◌, ◌++◌, slice_get, refl, sym, ◌∙◌, arith}
+use Rattle.std.proofs.Common.{◌≡◌, ℕ, zero, suc, ◌-◌, ◌<◌, Some, None, List, [], ◌∷◌, ◌++◌, slice_get, refl, sym, ◌∙◌, arith}
 use Rattle.field_types.specs.declared.values.Value.{Value}
 use Rattle.library_model.specs.declared.replies.Reply.{Reply}
 use Rattle.library_model.specs.declared.requests.EndReason.{EndReason}
 use Rattle.library_model.specs.declared.requests.EndReason.TheVariants.{Normal, Statements}
 use Rattle.job_language.specs.declared.statements.Statement.{Statement}
 use Rattle.job_language.specs.declared.statements.Script.{Script}
-use Rattle.job_language.specs.declared.steps.Step.{Step}
 use Rattle.job_language.specs.declared.steps.Step.TheVariants.{GoOn, Ask, End}
-use Rattle.job_language.specs.declared.progress.Stage.{Stage}
-use Rattle.job_language.specs.declared.progress.Stage.TheVariants.{NotBegun, Asking, Ended}
-use Rattle.job_language.specs.Asks.{JobState, run_none, run_one, run_from, stands, step_of, values_after, state_after, after_replies, goes_on, reply_to, reply_step, values_replied, has_ended, reply_ends, ends}
-use Rattle.job_language.specs.Positions.{is_ended}
+use Rattle.job_language.specs.declared.progress.Stage.TheVariants.{Asking, Ended}
+use Rattle.job_language.specs.Asks.{JobState, run_none, run_one, run_from, stands, step_of, values_after, state_after, after_replies}
 
 pub run_from-zero : (statements : List Statement) (place : ℕ) (values : List Value) → run_from zero statements place values ≡ run_none (slice_get statements place) values
 unfolding run_from
@@ -50,23 +47,3 @@ module _ (left : ℕ) (statements : List Statement) (place : ℕ) (values after 
 pub after_replies-more : (script : Script) (state : JobState) (replies : List Reply) (reply : Reply) → after_replies script state (replies ++ reply ∷ []) ≡ state_after script (after_replies script state replies) (Some reply)
 after_replies-more script state [] reply = refl
 after_replies-more script state (r ∷ replies) reply = after_replies-more script (state_after script state (Some r)) replies reply
-
--- after a reply that ends the job it has ended
-pub ended-replied : (statements : List Statement) (stage : Stage) (state : JobState) (last : Option Reply) → has_ended statements stage last ≡ true → state.stage ≡ stage → is_ended (goes_on statements stage state last).stage ≡ true
-ended-replied statements NotBegun state last h is = absurd cc
-ended-replied statements (Asking place) state None h is = by-statement (slice_get statements place) h
-  where
-    by-statement : (s : Option Statement) → reply_ends s None ≡ true → is_ended state.stage ≡ true
-    by-statement None h = absurd cc
-    by-statement (Some statement) h = absurd cc
-ended-replied statements (Asking place) state (Some reply) h is = by-statement (slice_get statements place) h
-  where
-    by-step : (step : Step) (after : List Value) (goes : ℕ → JobState) → ends step ≡ true → is_ended (stands step place state.left after goes).stage ≡ true
-    by-step (GoOn to) after goes h = absurd cc
-    by-step Ask after goes h = absurd cc
-    by-step (End reason line) after goes h = refl
-    by-statement : (s : Option Statement) → reply_ends s (Some reply) ≡ true → is_ended (reply_to s statements place state reply).stage ≡ true
-    by-statement None h = absurd cc
-    by-statement (Some statement) h =
-        by-step (reply_step statement reply) (values_replied statement.action reply state.values) (λ to. run_from state.left statements to (values_replied statement.action reply state.values)) h
-ended-replied statements (Ended reason line) state last h is = rw is refl

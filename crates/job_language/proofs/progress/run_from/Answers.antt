@@ -15,10 +15,10 @@ loop-statement-preserved c =
     let there = slice_get_read c.args.statements.now (length c.args.statements.now) c.loop-statement.place c.in-Some.statement.now refl c.in-Some.ensures.lookup.3.0 c.in-Some.ensures.lookup.1 in
     record {
       runs =
-        run_from-goes c.loop-statement.left c.args.statements.now c.loop-statement.place c.loop-statement.variables.now c.run.new.variables.now c.in-Some.statement.now there c.if-left-eq0.false c.in_ok-to.ensures.values
-        c.in-GoOn.to (sym c.in_ok-to.ensures.step ∙ c.in-GoOn.is)
-        ∙ c.loop-statement.invariant.runs;
-      before = c.in_ok-to.ensures.before ∙ c.loop-statement.invariant.before
+          run_from-goes c.loop-statement.left c.args.statements.now c.loop-statement.place c.loop-statement.variables.now c.run.new.variables.now c.in-Some.statement.now there c.if-left-eq0.false c.in_ok-to.ensures.values
+          c.in-GoOn.to (sym c.in_ok-to.ensures.step ∙ c.in-GoOn.is)
+          ∙ c.loop-statement.invariant.runs;
+      before = c.in_ok-to.ensures.before ∙ c.loop-statement.invariant.before;
     }
 
 pub returns-in-Ask-clause-state : goal.returns-in-Ask-clause-state
