@@ -1,5 +1,8 @@
 use crate::forms::{RequestForm, WriteForm};
-use crate::operands::{Condition, Expression, GivenOperands, Operand, Operator, Relation, Targets};
+use crate::operands::{
+    Condition, Expression, GivenOperands, NumberOperand, Operand, Operator, Relation,
+    SequenceOperand, Targets,
+};
 use crate::progress::Progress;
 use crate::statements::{Action, RequestStatement, Script, Statement, Statements};
 use field_types::names::Name;
@@ -8,6 +11,7 @@ use library_model::replies::Reply;
 use library_model::requests::{EndReason, Request};
 use library_model::value_lists::Values;
 use std::alloc::{AllocError, Global};
+use std::process::Abort;
 use std::test::Fail;
 
 fn whole(units: i128) -> Value {
@@ -115,5 +119,86 @@ fn loop_writes_three_records(rt: HostRuntime) -> Result<(), Fail> {
     assert_eq!(rt; asked(&mut progress, &script, Some(&added))?, Some(2));
     assert_eq!(rt; asked(&mut progress, &script, Some(&added))?, Some(3));
     assert_eq!(rt; asked(&mut progress, &script, Some(&added))?, Some(-1));
+    Ok(())
+}
+
+/// `DSPJRN FROMENT(&V) TOENT(9)` at line 7
+fn display() -> RequestForm {
+    RequestForm::DisplayJournal {
+        from: SequenceOperand::Variable(0),
+        to: SequenceOperand::Literal(9),
+    }
+}
+
+/// `DLTJRNRCV RCV(&V)` at line 7
+fn delete() -> RequestForm {
+    RequestForm::DeleteReceiver(NumberOperand::Variable(0))
+}
+
+fn alone(alloc: Global, form: RequestForm) -> Statement {
+    Statement {
+        line: 7,
+        action: Action::Request(RequestStatement {
+            form,
+            monitor: None,
+            into: Targets::from_vec(Vec::new(alloc)),
+        }),
+        next: 1,
+    }
+}
+
+/// Whether the request at line 7 has no value with a variable of these units and this scale.
+fn is_refused(
+    alloc: Global,
+    units: i128,
+    scale: u8,
+    form: RequestForm,
+) -> Result<bool, AllocError> {
+    let mut statements = Vec::new(alloc);
+    statements.push(alone(alloc, form))?;
+    let mut variables = Vec::new(alloc);
+    variables.push(Value::Number(Dec { units, scale }))?;
+    let script = Script {
+        variables: Values::from_vec(variables),
+        statements: Statements::from_vec(statements),
+    };
+    let mut progress = Progress::new(alloc, &script)?;
+    ends(&mut progress, &script)
+}
+
+fn ends(progress: &mut Progress, script: &Script) -> Result<bool, AllocError> {
+    Ok(match progress.next(script, None, true)? {
+        Request::EndJob(args) => args.reason == EndReason::Expression && args.line == 7,
+        _ => false,
+    })
+}
+
+/// Units and scale of a variable, and whether RCV and FROMENT refuse it.
+const EDGES: [(i128, u8, bool, bool); 6] = [
+    (4_294_967_295, 0, false, false),
+    (429_496_729_500, 2, false, false),
+    (4_294_967_296, 0, true, false),
+    (18_446_744_073_709_551_616, 0, true, true),
+    (5, 1, true, true),
+    (-1, 0, true, true),
+];
+
+fn judges(
+    rt: &impl Abort,
+    alloc: Global,
+    rows: &[(i128, u8, bool, bool)],
+) -> Result<(), AllocError> {
+    for (row, (units, scale, number, sequence)) in rows.iter().enumerate() {
+        let refused = is_refused(alloc, *units, *scale, delete())?;
+        assert_eq!(rt; refused, *number, "RCV of row {row}");
+        let refused = is_refused(alloc, *units, *scale, display())?;
+        assert_eq!(rt; refused, *sequence, "FROMENT of row {row}");
+    }
+    Ok(())
+}
+
+#[test]
+fn numbers_in_variables(rt: HostRuntime) -> Result<(), Fail> {
+    judges(&rt, rt.alloc(), &EDGES)?;
     Ok(())
 }
