@@ -1,0 +1,5 @@
+mod FallLemmas
+mod RefusalLemmas
+mod ReplyLemmas
+mod StateLemmas
+mod VariableLemmas

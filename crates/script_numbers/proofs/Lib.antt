@@ -1,0 +1,5 @@
+mod OrderLemmas
+mod SplitLemmas
+mod SumLemmas
+mod TextLemmas
+mod ZeroLemmas
