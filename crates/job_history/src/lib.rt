@@ -2,8 +2,8 @@
 #![tactic(auto)]
 
 mod counting;
-pub mod limits;
 pub mod history;
+pub mod limits;
 #[cfg(test)]
 mod tests;
 

@@ -1,8 +1,8 @@
 //! The listing of a run: a line for each call with its reply. Its texts stand in `specs/`.
 #![tactic(auto)]
 
-pub mod history_listing;
 mod entries;
+pub mod history_listing;
 mod parameters;
 mod replies;
 mod requests;

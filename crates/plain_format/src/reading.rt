@@ -10,8 +10,8 @@ use crate::draft::Draft;
 use crate::formats::{Field, Format};
 use field_types::names::Name;
 use std::alloc::{AllocError, Global};
-use text_lines::decimals::decimal;
 use text_lines::characters;
+use text_lines::decimals::decimal;
 use text_lines::lines::{blanks_before, is_blank, name_alone, split_line};
 
 /// What a line of a source says.
