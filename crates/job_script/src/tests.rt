@@ -1,6 +1,6 @@
 //! Inputs that are read, and inputs with the line at which each is at fault.
-use crate::progress::{AskError, Progress};
 use crate::input::{InputError, read_input};
+use crate::progress::{AskError, Progress};
 use crate::scripts::{Script, Scripts};
 use field_types::names::Name;
 use library_model::replies::Reply;

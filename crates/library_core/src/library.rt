@@ -106,9 +106,7 @@ pub fn call<S: Store>(
     ensures store { library.new.store ≡ library.old.store }
     ensures alive { library.new.failed ≡ false }
 {
-    let done = library
-        .contents
-        .perform(job, timestamp, sources, request);
+    let done = library.contents.perform(job, timestamp, sources, request);
     reply_of(done)
 }
 

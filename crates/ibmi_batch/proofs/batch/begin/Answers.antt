@@ -13,15 +13,18 @@ use Rattle.ibmi_batch.proofs.batch.begin.Goals as goal
 pub returns-in-Err-Script-clause-refused : goal.returns-in-Err-Script-clause-refused
 returns-in-Err-Script-clause-refused g c =
     let words : are_run_words (map string_bytes c.args.words.now) ≡ true = search rules in
-    let here = c.in-Err-Script.ensures.fault c.in-Err-Script.line (ap Err c.in-Err-Script.field-0-is) in
-    (words, λ tells. record {
-      left = c.in-Ok.ensures.nothing_left tells;
-      fault = subst (λ line. IsFirstFault (lines_of (g.I.Source.left c.args.input.now)) line) (sym c.in-Err-Script.line-is) (subst (λ bytes. IsFirstFault (lines_of bytes) c.in-Err-Script.line) (c.as_slice.ensures.value ∙ sym (c.in-Ok.ensures.whole tells)) here);
-      short = subst (λ bytes. length bytes ≤ MOST_INPUT) (sym (c.in-Ok.ensures.whole tells)) c.in-Ok.ensures.within;
-    }, λ tells input.
-      let input_here = subst (λ bytes. IsInput (lines_of bytes)) (c.in-Ok.ensures.whole tells ∙ sym c.as_slice.ensures.value) input in
-      let no_memory = c.in-Err-Script.ensures.accepted input_here in
-      absurd cc)
+    let here = c.in-Err-Script.ensures.fault c.in-Err-Script.line (ap Err c.in-Err-Script.field-0-is) in (
+      words,
+      λ tells. record {
+        left = c.in-Ok.ensures.nothing_left tells;
+        fault = subst (λ line. IsFirstFault (lines_of (g.I.Source.left c.args.input.now)) line) (sym c.in-Err-Script.line-is) (subst (λ bytes. IsFirstFault (lines_of bytes) c.in-Err-Script.line) (c.as_slice.ensures.value ∙ sym (c.in-Ok.ensures.whole tells)) here);
+        short = subst (λ bytes. length bytes ≤ MOST_INPUT) (sym (c.in-Ok.ensures.whole tells)) c.in-Ok.ensures.within;
+      },
+      λ tells input.
+          let input_here = subst (λ bytes. IsInput (lines_of bytes)) (c.in-Ok.ensures.whole tells ∙ sym c.as_slice.ensures.value) input in
+          let no_memory = c.in-Err-Script.ensures.accepted input_here in
+          absurd cc,
+    )
 
 pub returns-in-Ok-new-clause-begins : goal.returns-in-Ok-new-clause-begins
 returns-in-Ok-new-clause-begins g c =
