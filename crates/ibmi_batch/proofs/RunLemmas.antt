@@ -13,7 +13,7 @@ use Rattle.job_runner.specs.Places.{BeginsJobs}
 use Rattle.job_runner.specs.Session.{SessionOver, HasMade}
 use Rattle.ibmi_batch.specs.declared.status.Status.{Status}
 use Rattle.ibmi_batch.specs.declared.status.Status.TheVariants.{Done, Words, ReadFault, TooLong, Script, NotALibrary, Damaged, StoreFault, WriteFault, NoMemory, JobsEnded, Exists}
-use Rattle.ibmi_batch.specs.Outcome.{Reading, Writing, IsStart, IsWholeRun, Listed, NothingWritten, Ran, WasRun, Comes, IsInOrder, IsOrderly, IsOutcome, Starts, Begins, Refuses}
+use Rattle.ibmi_batch.specs.Outcome.{Reading, Writing, IsStart, IsWholeRun, Listed, NothingWritten, HasRun, WasRun, Comes, IsInOrder, IsOrderly, IsOutcome, Starts, Begins, Refuses}
 
 -- a library with nothing in it, and jobs begun over it
 pub stands-begun : {S : Type 0} (old new : LibraryOver S) (names : List (List ℕ)) → Stands old empty_library → BeginsJobs old new names → Stands new (begun empty_library names)
@@ -47,26 +47,26 @@ listed-wider : (scripts : Scripts) (given wider : List Call → Type 0) (writing
 listed-wider scripts given wider writing part widens listed =
     record { calls = listed.calls; run = listed.run; timestamps = widens listed.calls listed.timestamps; written = listed.written }
 
-pub Ran-wider : (status : Status) (scripts : Scripts) (given wider : List Call → Type 0) (writing : Writing) → ((calls : List Call) → given calls → wider calls) → Ran status scripts given writing → Ran status scripts wider writing
-Ran-wider Done scripts given wider writing widens ran = listed-wider scripts given wider writing _ widens ran
-Ran-wider JobsEnded scripts given wider writing widens ran = listed-wider scripts given wider writing _ widens ran
-Ran-wider WriteFault scripts given wider writing widens ran = (listed-wider scripts given wider writing _ widens ran.0, ran.1)
-Ran-wider NoMemory scripts given wider writing widens ran = ran
-Ran-wider Words scripts given wider writing widens ran = ran
-Ran-wider ReadFault scripts given wider writing widens ran = ran
-Ran-wider TooLong scripts given wider writing widens ran = ran
-Ran-wider (Script line) scripts given wider writing widens ran = ran
-Ran-wider NotALibrary scripts given wider writing widens ran = ran
-Ran-wider (Damaged area at) scripts given wider writing widens ran = ran
-Ran-wider StoreFault scripts given wider writing widens ran = ran
-Ran-wider Exists scripts given wider writing widens ran = ran
+pub HasRun-wider : (status : Status) (scripts : Scripts) (given wider : List Call → Type 0) (writing : Writing) → ((calls : List Call) → given calls → wider calls) → HasRun status scripts given writing → HasRun status scripts wider writing
+HasRun-wider Done scripts given wider writing widens ran = listed-wider scripts given wider writing _ widens ran
+HasRun-wider JobsEnded scripts given wider writing widens ran = listed-wider scripts given wider writing _ widens ran
+HasRun-wider WriteFault scripts given wider writing widens ran = (listed-wider scripts given wider writing _ widens ran.0, ran.1)
+HasRun-wider NoMemory scripts given wider writing widens ran = ran
+HasRun-wider Words scripts given wider writing widens ran = ran
+HasRun-wider ReadFault scripts given wider writing widens ran = ran
+HasRun-wider TooLong scripts given wider writing widens ran = ran
+HasRun-wider (Script line) scripts given wider writing widens ran = ran
+HasRun-wider NotALibrary scripts given wider writing widens ran = ran
+HasRun-wider (Damaged area at) scripts given wider writing widens ran = ran
+HasRun-wider StoreFault scripts given wider writing widens ran = ran
+HasRun-wider Exists scripts given wider writing widens ran = ran
 
 module _ {S C : Type 0} (reading : Reading) (store : S) (clock : C) (session : SessionOver S C) (given : List Call → Type 0) (writing : Writing) (begins : Begins reading store clock session) where
-  was-run : (status : Status) → Ran status session.scripts given writing → WasRun status reading given writing
+  was-run : (status : Status) → HasRun status session.scripts given writing → WasRun status reading given writing
   was-run status ran = record { words = begins.words; left = begins.left; scripts = session.scripts; read = begins.read; ran = ran }
 
   -- a session that began has run
-  pub outcome-ran : (status : Status) → Ran status session.scripts given writing → IsOutcome status reading given writing
+  pub outcome-ran : (status : Status) → HasRun status session.scripts given writing → IsOutcome status reading given writing
   outcome-ran Done ran = record { comes = was-run Done ran; complete = λ tells order. tt }
   outcome-ran JobsEnded ran = record { comes = was-run JobsEnded ran; complete = λ tells order. tt }
   outcome-ran WriteFault ran = record { comes = was-run WriteFault ran; complete = λ tells order. ran.1 }

@@ -72,19 +72,19 @@ abbrev pub NothingWritten : Writing → Type 0
 NothingWritten writing = writing.tells → writing.new ≡ writing.old
 
 -- what a session has done and written at a status that it can come to
-abbrev pub Ran : Status → Scripts → (List Call → Type 0) → Writing → Type 0
-Ran Done scripts given writing = Listed scripts given writing (IsListing scripts writing false)
-Ran JobsEnded scripts given writing = Listed scripts given writing (IsListing scripts writing true)
-Ran WriteFault scripts given writing = Listed scripts given writing (IsPart scripts writing) × writing.rose
-Ran NoMemory scripts given writing = NothingWritten writing
-Ran Words scripts given writing = ⊥
-Ran ReadFault scripts given writing = ⊥
-Ran TooLong scripts given writing = ⊥
-Ran (Script line) scripts given writing = ⊥
-Ran NotALibrary scripts given writing = ⊥
-Ran (Damaged area at) scripts given writing = ⊥
-Ran StoreFault scripts given writing = ⊥
-Ran Exists scripts given writing = ⊥
+abbrev pub HasRun : Status → Scripts → (List Call → Type 0) → Writing → Type 0
+HasRun Done scripts given writing = Listed scripts given writing (IsListing scripts writing false)
+HasRun JobsEnded scripts given writing = Listed scripts given writing (IsListing scripts writing true)
+HasRun WriteFault scripts given writing = Listed scripts given writing (IsPart scripts writing) × writing.rose
+HasRun NoMemory scripts given writing = NothingWritten writing
+HasRun Words scripts given writing = ⊥
+HasRun ReadFault scripts given writing = ⊥
+HasRun TooLong scripts given writing = ⊥
+HasRun (Script line) scripts given writing = ⊥
+HasRun NotALibrary scripts given writing = ⊥
+HasRun (Damaged area at) scripts given writing = ⊥
+HasRun StoreFault scripts given writing = ⊥
+HasRun Exists scripts given writing = ⊥
 
 -- the words were those of a run, the input was read to its end and is one, and the jobs of its scripts ran
 pub record WasRun (status : Status) (reading : Reading) (given : List Call → Type 0) (writing : Writing) : Type 0 where
@@ -92,7 +92,7 @@ pub record WasRun (status : Status) (reading : Reading) (given : List Call → T
   pub left : reading.tells → reading.left ≡ []
   pub scripts : Scripts
   pub read : IsRead reading scripts
-  pub ran : Ran status scripts given writing
+  pub ran : HasRun status scripts given writing
 
 -- Words comes where the words are not those of a run; nothing is read or written
 pub record WordsRefused (reading : Reading) (writing : Writing) : Type 0 where
@@ -100,10 +100,10 @@ pub record WordsRefused (reading : Reading) (writing : Writing) : Type 0 where
   pub written : NothingWritten writing
 
 -- the words were those of a run, and nothing was written; what the input was
-pub record InputRefused (reading : Reading) (writing : Writing) (why : Type 0) : Type 0 where
+pub record InputRefused (reading : Reading) (writing : Writing) (cause : Type 0) : Type 0 where
   pub words : are_run_words reading.words ≡ true
   pub written : NothingWritten writing
-  pub why : why
+  pub why : cause
 
 -- the input was read to its end, and the line is the first at which no input goes on
 pub record ScriptRefused (reading : Reading) (line : ℕ) : Type 0 where
@@ -165,8 +165,8 @@ pub record Begins {S C : Type 0} (reading : Reading) (store : S) (clock : C) (se
   pub read : IsRead reading session.scripts
   pub starts : Starts session
   pub calls : session.calls ≡ []
-  pub store : session.library.store ≡ store
-  pub clock : session.clock ≡ clock
+  pub same_store : session.library.store ≡ store
+  pub same_clock : session.clock ≡ clock
 
 -- why no session begins
 abbrev pub Refuses : Status → Reading → Type 0

@@ -4,7 +4,7 @@ ghost use Rattle.store_model.specs.Faults.{Rose};
 ghost use Rattle.job_runner.specs.Ended.{has_ended, has_early_end, ends_early};
 ghost use Rattle.job_runner.specs.Made.{AreGiven};
 ghost use Rattle.ibmi_batch.specs.Words.{are_run_words};
-ghost use Rattle.ibmi_batch.specs.Outcome.{IsOutcome, IsWholeRun, Starts, Begins, Refuses, Ran};
+ghost use Rattle.ibmi_batch.specs.Outcome.{IsOutcome, IsWholeRun, Starts, Begins, Refuses, HasRun};
 
 use crate::limits::MOST_INPUT;
 use crate::status::Status;
@@ -103,7 +103,7 @@ fn run_session<S: Store, O: Sink, C: Clock>(
 ) -> (Status, S, C)
     requires calls { session.calls ≡ [] }
     requires stands { Starts session }
-    ensures ran { Ran result.0 session.scripts (AreGiven C.gives session.clock result.2) (record { tells = O.tells; old = O.taken out.old; new = O.taken out.new; rose = Rose (O.faults out.old) (O.faults out.new) }) }
+    ensures ran { HasRun result.0 session.scripts (AreGiven C.gives session.clock result.2) (record { tells = O.tells; old = O.taken out.old; new = O.taken out.new; rose = Rose (O.faults out.old) (O.faults out.new) }) }
     ensures store { result.1 ≡ session.library.store }
 {
     let ran = session.run_in_order();
@@ -123,7 +123,7 @@ fn write_listing<S: Store, O: Sink, C: Clock>(
     out: &mut O,
 ) -> Status
     requires { IsWholeRun session.now.scripts session.now.calls }
-    ensures { Ran result session.now.scripts (λ calls. calls ≡ session.now.calls) (record { tells = O.tells; old = O.taken out.old; new = O.taken out.new; rose = Rose (O.faults out.old) (O.faults out.new) }) }
+    ensures { HasRun result session.now.scripts (λ calls. calls ≡ session.now.calls) (record { tells = O.tells; old = O.taken out.old; new = O.taken out.new; rose = Rose (O.faults out.old) (O.faults out.new) }) }
 {
     let calls = session.history();
     let text = match listing(alloc, session.names(), calls) {
