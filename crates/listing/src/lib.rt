@@ -2,6 +2,8 @@
 #![tactic(auto)]
 
 mod entries;
+#[cfg(test)]
+mod entry_tests;
 pub mod history_listing;
 mod parameters;
 mod replies;
