@@ -1,6 +1,6 @@
 //! Inputs that are read, and inputs with the line at which each is at fault.
 use crate::input::{InputError, read_input};
-use crate::progress::{AskError, Progress};
+use crate::progress::Progress;
 use crate::scripts::{Script, Scripts};
 use field_types::names::Name;
 use library_model::replies::Reply;
@@ -296,8 +296,11 @@ fn first_asked(
     alloc: Global,
     script: &Script,
     progress: &mut Progress,
-) -> Result<(&'static str, u32), AskError> {
-    let request = progress.next(alloc, script, None, false, true)?;
+) -> Result<(&'static str, u32), Fail> {
+    let request = progress
+        .next(alloc, script, None, false, true)
+        .ok()
+        .ok_or("no request")?;
     Ok(told(&request))
 }
 
@@ -306,8 +309,11 @@ fn asked_after(
     script: &Script,
     progress: &mut Progress,
     reply: Reply,
-) -> Result<(&'static str, u32), AskError> {
-    let request = progress.next(alloc, script, Some(&reply), false, true)?;
+) -> Result<(&'static str, u32), Fail> {
+    let request = progress
+        .next(alloc, script, Some(&reply), false, true)
+        .ok()
+        .ok_or("no request")?;
     Ok(told(&request))
 }
 
@@ -335,8 +341,10 @@ fn statements_are_asked_in_order(rt: HostRuntime) -> Result<(), Fail> {
         asked_after(alloc, script, &mut progress, Reply::NotFound)?,
         ("ENDJOB", 8)
     );
-    let mut short = progress;
-    let request = full.next(alloc, script, Some(&Reply::Done), true, false)?;
+    let request = full
+        .next(alloc, script, Some(&Reply::Done), true, false)
+        .ok()
+        .ok_or("no request")?;
     assert_eq!(rt; told(&request), ("ENDJOB", 0));
     Ok(())
 }
