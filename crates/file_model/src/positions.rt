@@ -1,0 +1,1 @@
+//! The positions of an open. `specs/Positions.antt` has what a read finds from each.
