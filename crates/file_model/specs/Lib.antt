@@ -1,1 +1,3 @@
 pub mod KeyOrder
+pub mod Views
+pub mod Selection

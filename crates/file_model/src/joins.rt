@@ -2,6 +2,7 @@
 use crate::paths::PathSpec;
 use crate::views::ViewField;
 use field_types::lists::ListOf;
+use field_types::texts::Image;
 use key_spec::KeyPart;
 
 /// A pair of fields with equal values (JFLD).
@@ -24,7 +25,7 @@ pub struct Secondary {
     /// The order of several records that match (JDUPSEQ): `Absent` where none is given.
     pub sequence: KeyPart,
     /// The image that stands for a missing record where the join has JDFTVAL.
-    pub default: ListOf<u8>,
+    pub default: Image,
 }
 
 /// A field of a join format, and the file that has it, by its place in JFILE (JREF).
