@@ -1,3 +1,5 @@
 pub mod KeyOrder
 pub mod Views
 pub mod Selection
+pub mod Sorting
+pub mod Paths
