@@ -3,3 +3,5 @@ pub mod Views
 pub mod Selection
 pub mod Sorting
 pub mod Paths
+pub mod Joins
+pub mod Positions

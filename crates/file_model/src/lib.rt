@@ -5,6 +5,5 @@
 
 pub mod joins;
 pub mod paths;
-pub mod positions;
 pub mod rules;
 pub mod views;

@@ -1,1 +1,0 @@
-//! The positions of an open. `specs/Positions.antt` has what a read finds from each.
