@@ -2,3 +2,4 @@ pub mod Files
 pub mod Found
 pub mod Rules
 pub mod Customers
+pub mod LogicalFormats

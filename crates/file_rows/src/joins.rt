@@ -3,11 +3,11 @@ ghost use Rattle.std.specs.Prelude.{◌≡◌, List, [], ◌∷◌, ◌++◌, So
 ghost use Rattle.std.specs.Option.{option_map};
 ghost use Rattle.key_spec.specs.declared.KeyPart.TheVariants.{Absent};
 ghost use Rattle.file_model.specs.KeyOrder.{Ascending, Missing};
-ghost use Rattle.file_model.specs.Joins.{RecordAt, NoRecord};
+ghost use Rattle.file_model.specs.Joins.{RecordAt, NoRecord, secondary_path};
 ghost use Rattle.file_model.specs.Positions.{Start, End, On, Past, KeyBound, next_from, prior_from, chain_key};
 ghost use Rattle.file_rows.specs.Files.{number, whole, of_records};
-ghost use Rattle.file_rows.specs.Customers.{with_orders, greatest_first, customers, with_equal_orders, chained, three_files};
-ghost use Rattle.file_rows.specs.Found.{images_of, rows_to_read, reads, reads_back, row_numbers, row_rrns};
+ghost use Rattle.file_rows.specs.Customers.{orders, with_orders, greatest_first, customers, with_equal_orders, chained, three_files};
+ghost use Rattle.file_rows.specs.Found.{rrns_of, images_of, rows_to_read, reads, reads_back, row_numbers, row_rrns};
 
 /// Customers with their orders, the greatest amount first; a customer without orders has a row by JDFTVAL alone.
 pub fn customers_with_orders()
@@ -39,4 +39,10 @@ pub fn three_in_a_chain()
     ensures found { images_of (chained false) (three_files ((0xC2 ∷ number 5) ∷ (0xC1 ∷ number 6) ∷ [])) ≡ (number 1 ++ 0xC1 ∷ number 6) ∷ [] }
     // The second has no record: the third is joined by the second's defaults.
     ensures by_defaults { images_of (chained true) (of_records 1 (number 1 ∷ []) ∷ of_records 3 ((0xC1 ∷ number 6) ∷ (0x40 ∷ number 7) ∷ []) ∷ []) ≡ (number 1 ++ 0x40 ∷ number 7) ∷ [] }
+{}
+
+/// The path of a secondary file has its records by the joined fields, and then by JDUPSEQ.
+pub fn kept_paths()
+    ensures secondary { rrns_of (secondary_path (orders greatest_first)) customers ≡ 2 ∷ 1 ∷ [] }
+    ensures ties { rrns_of (secondary_path (orders greatest_first)) with_equal_orders ≡ 2 ∷ 4 ∷ 1 ∷ [] }
 {}
