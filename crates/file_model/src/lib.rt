@@ -4,6 +4,7 @@
 #![tactic(auto)]
 
 pub mod joins;
+pub mod laws;
 pub mod paths;
 pub mod rules;
 pub mod views;
