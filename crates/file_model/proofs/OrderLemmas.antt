@@ -19,10 +19,10 @@ use Rattle.file_model.specs.Joins.{Match, NoRecord, RecordAt, RowPlace, compare_
 greater-less : {A : Type 0} → Greater ≡ Less → A
 greater-less h = absurd (true≢false (ap is_gt h))
 
-less-equal : {A : Type 0} → Less ≡ Equal → A
+pub less-equal : {A : Type 0} → Less ≡ Equal → A
 less-equal h = absurd (true≢false (ap is_lt h))
 
-greater-equal : {A : Type 0} → Greater ≡ Equal → A
+pub greater-equal : {A : Type 0} → Greater ≡ Equal → A
 greater-equal h = absurd (true≢false (ap is_gt h))
 
 -- ---- values

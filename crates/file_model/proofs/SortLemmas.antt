@@ -16,10 +16,10 @@ less-of Equal h = absurd (true≢false (sym h))
 less-of Greater h = absurd (true≢false (sym h))
 
 module _ {A : Type 0} (compare : A → A → Ordering) where
-  put-before : (x z : A) (l : List A) → is_lt (compare x z) ≡ true → put_in_order compare x (z ∷ l) ≡ x ∷ z ∷ l
+  pub put-before : (x z : A) (l : List A) → is_lt (compare x z) ≡ true → put_in_order compare x (z ∷ l) ≡ x ∷ z ∷ l
   put-before x z l h = cond-true (is_lt (compare x z)) (x ∷ z ∷ l) (z ∷ put_in_order compare x l) h
 
-  put-behind : (x z : A) (l : List A) → is_lt (compare x z) ≡ false → put_in_order compare x (z ∷ l) ≡ z ∷ put_in_order compare x l
+  pub put-behind : (x z : A) (l : List A) → is_lt (compare x z) ≡ false → put_in_order compare x (z ∷ l) ≡ z ∷ put_in_order compare x l
   put-behind x z l h = cond-false (is_lt (compare x z)) (x ∷ z ∷ l) (z ∷ put_in_order compare x l) h
 
   -- which of two items is put first makes no difference

@@ -3,7 +3,10 @@ ghost use Rattle.std.specs.Prelude.{◌≡◌, ◌≢◌, ◌∷◌, ◌++◌, L
 ghost use Rattle.std.specs.Cmp.{IsTotalOrder};
 ghost use Rattle.key_spec.specs.declared.Ties.{Ties};
 ghost use Rattle.file_model.specs.KeyOrder.{compare_values, compare_keys};
-ghost use Rattle.file_model.specs.Paths.{PathEntry, compare_entries};
+ghost use Rattle.file_model.specs.Paths.{PathEntry, compare_entries, path};
+ghost use Rattle.file_model.specs.declared.paths.PathSpec.{PathSpec};
+ghost use Rattle.member_slots.specs.Members.{NumberedMembers};
+ghost use Rattle.std.specs.List.Sorted.{IsStrictlySortedBy};
 ghost use Rattle.file_model.specs.Sorting.{in_order, put_in_order};
 ghost use Rattle.std.specs.declared.cmp.Ordering.TheVariants.{Equal};
 ghost use Rattle.file_model.specs.Joins.{compare_places};
@@ -21,4 +24,9 @@ pub fn entry_is_put_in_its_place()
     ensures { (ties : Ties) (front : List PathEntry) (entry : PathEntry) (after : List PathEntry)
         → All (λ other. compare_entries ties other entry ≢ Equal) front
         → in_order (compare_entries ties) (front ++ entry ∷ after) ≡ put_in_order (compare_entries ties) entry (in_order (compare_entries ties) (front ++ after)) }
+{}
+
+/// Each entry of a path comes before those after it, so no record of a format is there twice.
+pub fn paths_are_in_order()
+    ensures { (spec : PathSpec) (members : NumberedMembers) → IsStrictlySortedBy (compare_entries spec.ties) (path spec members) }
 {}
