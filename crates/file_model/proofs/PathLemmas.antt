@@ -33,7 +33,7 @@ Pairwise R (x ∷ xs) = AllByRecursion (R x) xs × Pairwise R xs
 
 -- ---- what holds of each item
 
-weaker : {A : Type 0} (P Q : A → Type 0) → ((x : A) → P x → Q x) → (xs : List A) → AllByRecursion P xs → AllByRecursion Q xs
+pub weaker : {A : Type 0} (P Q : A → Type 0) → ((x : A) → P x → Q x) → (xs : List A) → AllByRecursion P xs → AllByRecursion Q xs
 weaker P Q so [] all = tt
 weaker P Q so (x ∷ xs) all = (so x all.0, weaker P Q so xs all.1)
 
@@ -41,17 +41,17 @@ always : {A : Type 0} (P : A → Type 0) → ((x : A) → P x) → (xs : List A)
 always P so [] = tt
 always P so (x ∷ xs) = (so x, always P so xs)
 
-all-filter : {A : Type 0} (P : A → Type 0) (test : A → Bool) (xs : List A) → AllByRecursion P xs → AllByRecursion P (filter test xs)
+pub all-filter : {A : Type 0} (P : A → Type 0) (test : A → Bool) (xs : List A) → AllByRecursion P xs → AllByRecursion P (filter test xs)
 all-filter P test [] all = tt
 all-filter P test (x ∷ xs) all =
     let rest = all-filter P test xs all.1 in
     cond_both (test x) (x ∷ filter test xs) (filter test xs) (AllByRecursion P) (λ _. (all.0, rest)) (λ _. rest)
 
-all-map : {A B : Type 0} (P : B → Type 0) (f : A → B) (xs : List A) → AllByRecursion (λ x. P (f x)) xs → AllByRecursion P (map f xs)
+pub all-map : {A B : Type 0} (P : B → Type 0) (f : A → B) (xs : List A) → AllByRecursion (λ x. P (f x)) xs → AllByRecursion P (map f xs)
 all-map P f [] all = tt
 all-map P f (x ∷ xs) all = (all.0, all-map P f xs all.1)
 
-all-append : {A : Type 0} (P : A → Type 0) (xs ys : List A) → AllByRecursion P xs → AllByRecursion P ys → AllByRecursion P (xs ++ ys)
+pub all-append : {A : Type 0} (P : A → Type 0) (xs ys : List A) → AllByRecursion P xs → AllByRecursion P ys → AllByRecursion P (xs ++ ys)
 all-append P [] ys all more = more
 all-append P (x ∷ xs) ys all more = (all.0, all-append P xs ys all.1 more)
 
@@ -127,19 +127,18 @@ records-rise rrn (Deleted ∷ slots) = records-rise (rrn + 1) slots
 -- ---- entries
 
 -- not both of one format and of one record
-Apart : PathEntry → PathEntry → Type 0
+abbrev pub Apart : PathEntry → PathEntry → Type 0
 Apart a b = a.format ≡ b.format → a.rrn ≡ b.rrn → ⊥
 
 entries_of-apart : (number : ℕ) (format : PathFormat) (members : NumberedMembers) → Pairwise Apart (entries_of number format members)
-unfolding Apart
 entries_of-apart number format members =
-    pairwise-map Apart (entry_of number format) (selected_of format members)
-        (pairwise-weaker (λ p q. p.0 < q.0) (λ p q. number ≡ number → p.0 ≡ q.0 → ⊥) (λ p q h _ same. omega (arith, h, same)) (selected_of format members)
+    pairwise-map Apart (entry_of number format) (selected_of format (member_of format.member members).slots)
+        (pairwise-weaker (λ p q. p.0 < q.0) (λ p q. number ≡ number → p.0 ≡ q.0 → ⊥) (λ p q h _ same. omega (arith, h, same)) (selected_of format (member_of format.member members).slots)
             (pairwise-filter (λ p q. p.0 < q.0) (λ pair. selects format.rules pair.1) (records (member_of format.member members)) (records-rise 1 (member_of format.member members).slots)))
 
 entries_of-format : (number : ℕ) (format : PathFormat) (members : NumberedMembers) → AllByRecursion (λ e. e.format ≡ number) (entries_of number format members)
 entries_of-format number format members =
-    all-map (λ e. e.format ≡ number) (entry_of number format) (selected_of format members) (always (λ p. number ≡ number) (λ p. refl) (selected_of format members))
+    all-map (λ e. e.format ≡ number) (entry_of number format) (selected_of format (member_of format.member members).slots) (always (λ p. number ≡ number) (λ p. refl) (selected_of format (member_of format.member members).slots))
 
 entries_from-format : (number : ℕ) (formats : List PathFormat) (members : NumberedMembers) → AllByRecursion (λ e. number ≤ e.format) (entries_from number formats members)
 entries_from-format number [] members = tt
@@ -149,7 +148,6 @@ entries_from-format number (format ∷ formats) members =
         (weaker (λ e. number + 1 ≤ e.format) (λ e. number ≤ e.format) (λ e h. omega (arith, h)) (entries_from (number + 1) formats members) (entries_from-format (number + 1) formats members))
 
 entries_from-apart : (number : ℕ) (formats : List PathFormat) (members : NumberedMembers) → Pairwise Apart (entries_from number formats members)
-unfolding Apart
 entries_from-apart number [] members = tt
 entries_from-apart number (format ∷ formats) members =
     pairwise-append Apart (entries_of number format members) (entries_from (number + 1) formats members)
@@ -174,8 +172,7 @@ ties-equal : (ties : Ties) (a b : ℕ) → compare_ties ties a b ≡ Equal → a
 ties-equal Rising a b h = nat_cmp-IsAntisymmetric a b h
 ties-equal Falling a b h = sym (nat_cmp-IsAntisymmetric b a h)
 
-apart-differ : (ties : Ties) (a b : PathEntry) → Apart a b → compare_entries ties a b ≢ Equal
-unfolding Apart
+pub apart-differ : (ties : Ties) (a b : PathEntry) → Apart a b → compare_entries ties a b ≢ Equal
 apart-differ ties a b apart same =
     let behind = second-equal (compare_keys a.key b.key) (ordering_then (nat_cmp a.format b.format) (compare_ties ties a.rrn b.rrn)) same in
     apart (nat_cmp-IsAntisymmetric a.format b.format (first-equal (nat_cmp a.format b.format) (compare_ties ties a.rrn b.rrn) behind))

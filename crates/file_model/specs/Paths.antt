@@ -8,7 +8,8 @@ use Rattle.std.specs.declared.cmp.Ordering.{Ordering}
 use Rattle.std.specs.Ordering.{nat_cmp, ordering_then, is_eq}
 use Rattle.key_spec.specs.declared.Ties.{Ties}
 use Rattle.key_spec.specs.declared.Ties.TheVariants.{Rising, Falling}
-use Rattle.member_slots.specs.Member.{records}
+use Rattle.member_slots.specs.declared.slot.Slot.{Slot}
+use Rattle.member_slots.specs.Member.{records_from}
 use Rattle.member_slots.specs.Members.{NumberedMembers, member_of}
 use Rattle.file_model.specs.declared.paths.PathFormat.{PathFormat}
 use Rattle.file_model.specs.declared.paths.PathSpec.{PathSpec}
@@ -45,13 +46,17 @@ path_key format image = key_of format.key (view_of format.fields image)
 abbrev pub entry_of : ℕ → PathFormat → ℕ × List ℕ → PathEntry
 entry_of number format pair = record { key = path_key format pair.1; format = number; rrn = pair.0 }
 
--- the records that a format selects of its member, in arrival order
-abbrev pub selected_of : PathFormat → NumberedMembers → List (ℕ × List ℕ)
-selected_of format members = filter (λ pair. selects format.rules pair.1) (records (member_of format.member members))
+-- the records that a format selects of these slots, in arrival order
+abbrev pub selected_of : PathFormat → List Slot → List (ℕ × List ℕ)
+selected_of format slots = filter (λ pair. selects format.rules pair.1) (records_from 1 slots)
+
+-- the entries of a format over these slots, in arrival order
+abbrev pub entries_in : ℕ → PathFormat → List Slot → List PathEntry
+entries_in number format slots = map (entry_of number format) (selected_of format slots)
 
 -- the entries of a format, in arrival order
 abbrev pub entries_of : ℕ → PathFormat → NumberedMembers → List PathEntry
-entries_of number format members = map (entry_of number format) (selected_of format members)
+entries_of number format members = entries_in number format (member_of format.member members).slots
 
 -- the entries of the formats from this number on, not yet in order
 abbrev pub entries_from : ℕ → List PathFormat → NumberedMembers → List PathEntry
