@@ -16,7 +16,7 @@ use Rattle.file_model.specs.Paths.{PathEntry, compare_entries, entry_of, entries
 use Rattle.file_model.specs.Selection.{selects}
 use Rattle.file_model.specs.Sorting.{put_in_order, in_order}
 use Rattle.file_model.proofs.OrderLemmas.{compare_entries-total}
-use Rattle.file_model.proofs.PathLemmas.{weaker, all-filter, all-map, all-append, Apart, apart-differ}
+use Rattle.file_model.proofs.PathLemmas.{weaker, all-filter, all-map, all-append, apart-differ}
 use Rattle.file_model.proofs.SortLemmas.{in_order-middle}
 
 records-append : (rrn : ℕ) (front back : List Slot) → records_from rrn (front ++ back) ≡ records_from rrn front ++ records_from (rrn + length front) back
@@ -72,40 +72,43 @@ module _ (number : ℕ) (format : PathFormat) where
       let entry = entry_of number format (1 + length front, image) in
       let P : PathEntry → Type 0 = λ x. compare_entries ties x entry ≢ Equal in
       All-from_recursion P (before ++ from 1 front)
-          (all-append P before (from 1 front)
-              (weaker (λ e. e.format < number) P (λ e h. apart-differ ties e entry (λ same _. omega (arith, h, same))) before (recursion_from_All (λ e. e.format < number) before lower))
-              (all-map P (entry_of number format) (filter (λ pair. selects format.rules pair.1) (records_from 1 front))
-                  (weaker (λ p. p.0 < 1 + length front) (λ p. P (entry_of number format p)) (λ p h. apart-differ ties (entry_of number format p) entry (λ _ same. omega (arith, h, same)))
-                      (filter (λ pair. selects format.rules pair.1) (records_from 1 front))
-                      (all-filter (λ p. p.0 < 1 + length front) (λ pair. selects format.rules pair.1) (records_from 1 front) (records-high 1 front)))))
+      (all-append P before (from 1 front)
+      (weaker (λ e. e.format < number) P (λ e h. apart-differ ties e entry (λ same _. omega (arith, h, same))) before (recursion_from_All (λ e. e.format < number) before lower))
+      (all-map P (entry_of number format) (filter (λ pair. selects format.rules pair.1) (records_from 1 front))
+      (weaker (λ p. p.0 < 1 + length front) (λ p. P (entry_of number format p)) (λ p h. apart-differ ties (entry_of number format p) entry (λ _ same. omega (arith, h, same)))
+      (filter (λ pair. selects format.rules pair.1) (records_from 1 front))
+      (all-filter (λ p. p.0 < 1 + length front) (λ pair. selects format.rules pair.1) (records_from 1 front) (records-high 1 front)))))
 
   pub path-changed : (ties : Ties) (before after : List PathEntry) (front back : List Slot) (image : List ℕ) → All (λ e. e.format < number) before
       → in_order (compare_entries ties) (before ++ entries_in number format (front ++ Live image ∷ back) ++ after)
-        ≡ (if selects format.rules image
-           then put_in_order (compare_entries ties) (entry_of number format (1 + length front, image)) (in_order (compare_entries ties) (before ++ entries_in number format (front ++ Deleted ∷ back) ++ after))
-           else in_order (compare_entries ties) (before ++ entries_in number format (front ++ Deleted ∷ back) ++ after))
+      ≡ (if selects format.rules image
+      then put_in_order (compare_entries ties) (entry_of number format (1 + length front, image)) (in_order (compare_entries ties) (before ++ entries_in number format (front ++ Deleted ∷ back) ++ after))
+      else in_order (compare_entries ties) (before ++ entries_in number format (front ++ Deleted ∷ back) ++ after))
   unfolding from
   path-changed ties before after front back image lower = by (selects format.rules image) refl
     where
       entry : PathEntry
       entry = entry_of number format (1 + length front, image)
+
       without : List PathEntry
       without = in_order (compare_entries ties) (before ++ entries_in number format (front ++ Deleted ∷ back) ++ after)
+
       taken : without ≡ in_order (compare_entries ties) ((before ++ from 1 front) ++ (from (1 + length front + 1) back ++ after))
       taken = ap (in_order (compare_entries ties)) (ap (λ t. (before ++ t) ++ after) (from-append 1 front (Deleted ∷ back)) ∙ regrouped before (from 1 front) (from (1 + length front + 1) back) after)
+
       by : (b : Bool) → selects format.rules image ≡ b
           → in_order (compare_entries ties) (before ++ entries_in number format (front ++ Live image ∷ back) ++ after)
-            ≡ (if selects format.rules image then put_in_order (compare_entries ties) entry without else without)
+          ≡ (if selects format.rules image then put_in_order (compare_entries ties) entry without else without)
       by true h =
           ap (in_order (compare_entries ties))
-              (ap (λ t. (before ++ t) ++ after) (from-append 1 front (Live image ∷ back) ∙ ap (λ t. from 1 front ++ t) (from-selected (1 + length front) image back h))
-              ∙ regrouped before (from 1 front) (entry ∷ from (1 + length front + 1) back) after)
+          (ap (λ t. (before ++ t) ++ after) (from-append 1 front (Live image ∷ back) ∙ ap (λ t. from 1 front ++ t) (from-selected (1 + length front) image back h))
+          ∙ regrouped before (from 1 front) (entry ∷ from (1 + length front + 1) back) after)
           ∙ in_order-middle (compare_entries ties) (compare_entries-total ties) (before ++ from 1 front) entry (from (1 + length front + 1) back ++ after) (differs ties before front image lower)
           ∙ ap (put_in_order (compare_entries ties) entry) (sym taken)
           ∙ sym (cond-true (selects format.rules image) (put_in_order (compare_entries ties) entry without) without h)
       by false h =
           ap (in_order (compare_entries ties))
-              (ap (λ t. (before ++ t) ++ after) (from-append 1 front (Live image ∷ back) ∙ ap (λ t. from 1 front ++ t) (from-omitted (1 + length front) image back h))
-              ∙ regrouped before (from 1 front) (from (1 + length front + 1) back) after)
+          (ap (λ t. (before ++ t) ++ after) (from-append 1 front (Live image ∷ back) ∙ ap (λ t. from 1 front ++ t) (from-omitted (1 + length front) image back h))
+          ∙ regrouped before (from 1 front) (from (1 + length front + 1) back) after)
           ∙ sym taken
           ∙ sym (cond-false (selects format.rules image) (put_in_order (compare_entries ties) entry without) without h)

@@ -1,12 +1,12 @@
 -- The orders of values, keys, entries and rows are total.
-use Rattle.std.specs.Prelude.{◌≡◌, ℕ, List, [], ◌∷◌, Bool, true, false}
+use Rattle.std.specs.Prelude.{◌≡◌, ℕ}
 use mathlib.Core.Path.{refl, sym, ◌∙◌, ap}
 use mathlib.Core.Bool.{true≢false}
 use Rattle.std.specs.declared.cmp.Ordering.{Ordering}
 use Rattle.std.specs.declared.cmp.Ordering.TheVariants.{Less, Equal, Greater}
-use Rattle.std.specs.Ordering.{nat_cmp, ordering_reverse, ordering_then, is_lt, is_gt, on, flip_args, then_cmp}
+use Rattle.std.specs.Ordering.{nat_cmp, ordering_reverse, is_lt, is_gt, on, then_cmp}
 use Rattle.std.specs.Cmp.{IsTotalOrder, nat_cmp_total, on_total, back_total, then_total}
-use Rattle.std.specs.Cmp.Lexicographic.{slice_cmp, lists_total, nat_list_cmp_total}
+use Rattle.std.specs.Cmp.Lexicographic.{lists_total, nat_list_cmp_total}
 use Rattle.decimal_order.proofs.OrderLemmas.{compare_numbers-total}
 use Rattle.field_types.specs.declared.values.Value.{Value}
 use Rattle.field_types.specs.declared.values.Value.TheVariants.{Chars, Number}
@@ -129,7 +129,7 @@ ties-total Falling = back_total nat_cmp_total
 pub compare_entries-total : (ties : Ties) → IsTotalOrder (compare_entries ties)
 compare_entries-total ties =
     then_total (on_total (λ (e : PathEntry). e.key) compare_keys-total)
-        (then_total (on_total (λ (e : PathEntry). e.format) nat_cmp_total) (on_total (λ (e : PathEntry). e.rrn) (ties-total ties)))
+    (then_total (on_total (λ (e : PathEntry). e.format) nat_cmp_total) (on_total (λ (e : PathEntry). e.rrn) (ties-total ties)))
 
 -- ---- rows
 

@@ -1,14 +1,13 @@
 -- Why the entries of a path are strictly in order: no two are of one record of one format.
-use Rattle.std.specs.Prelude.{◌≡◌, ◌≢◌, ◌≤◌, ◌<◌, ℕ, ◌+◌, List, [], ◌∷◌, ◌++◌, Bool, true, false, ⊤, cond, filter, map}
+use Rattle.std.specs.Prelude.{◌≡◌, ◌≢◌, ◌≤◌, ◌<◌, ℕ, ◌+◌, List, [], ◌∷◌, ◌++◌, Bool, ⊤, filter, map}
 use mathlib.Core.Path.{refl, sym, ◌∙◌, ap, subst}
-use mathlib.Core.Bool.{true≢false}
 use Rattle.std.proofs.Common.{arith}
 use Rattle.std.proofs.lemmas.Bool.{cond_both}
 use Rattle.std.specs.List.{AllByRecursion}
 use Rattle.std.specs.List.Sorted.{IsStrictlySortedBy}
 use Rattle.std.specs.declared.cmp.Ordering.{Ordering}
 use Rattle.std.specs.declared.cmp.Ordering.TheVariants.{Less, Equal, Greater}
-use Rattle.std.specs.Ordering.{nat_cmp, ordering_reverse, ordering_then, is_lt, is_gt}
+use Rattle.std.specs.Ordering.{nat_cmp, ordering_reverse, ordering_then, is_lt}
 use Rattle.std.specs.Cmp.{IsTotalOrder}
 use Rattle.std.specs.FinMap.{nat_cmp-IsAntisymmetric}
 use Rattle.key_spec.specs.declared.Ties.{Ties}
@@ -96,11 +95,11 @@ put-strict compare o x (z ∷ xs) differ sorted = by (compare x z) refl (put-str
     by : (order : Ordering) → compare x z ≡ order → IsStrictlySortedBy compare (put_in_order compare x xs) → IsStrictlySortedBy compare (put_in_order compare x (z ∷ xs))
     by Less h rest =
         subst (IsStrictlySortedBy compare) (sym (put-before compare x z xs (ap is_lt h)))
-            ((h, weaker (λ y. compare z y ≡ Less) (λ y. compare x y ≡ Less) (λ y. o.trans x z y h) xs sorted.0), sorted)
+        ((h, weaker (λ y. compare z y ≡ Less) (λ y. compare x y ≡ Less) (λ y. o.trans x z y h) xs sorted.0), sorted)
     by Equal h rest = absurd (differ.0 h)
     by Greater h rest =
         subst (IsStrictlySortedBy compare) (sym (put-behind compare x z xs (ap is_lt h)))
-            (all-put compare (λ y. compare z y ≡ Less) x xs (o.antisymm z x ∙ ap ordering_reverse h) sorted.0, rest)
+        (all-put compare (λ y. compare z y ≡ Less) x xs (o.antisymm z x ∙ ap ordering_reverse h) sorted.0, rest)
 
 in_order-strict : {A : Type 0} (compare : A → A → Ordering) → IsTotalOrder compare → (xs : List A)
     → Pairwise (λ x y. compare x y ≢ Equal) xs → IsStrictlySortedBy compare (in_order compare xs)
@@ -133,8 +132,8 @@ Apart a b = a.format ≡ b.format → a.rrn ≡ b.rrn → ⊥
 entries_of-apart : (number : ℕ) (format : PathFormat) (members : NumberedMembers) → Pairwise Apart (entries_of number format members)
 entries_of-apart number format members =
     pairwise-map Apart (entry_of number format) (selected_of format (member_of format.member members).slots)
-        (pairwise-weaker (λ p q. p.0 < q.0) (λ p q. number ≡ number → p.0 ≡ q.0 → ⊥) (λ p q h _ same. omega (arith, h, same)) (selected_of format (member_of format.member members).slots)
-            (pairwise-filter (λ p q. p.0 < q.0) (λ pair. selects format.rules pair.1) (records (member_of format.member members)) (records-rise 1 (member_of format.member members).slots)))
+    (pairwise-weaker (λ p q. p.0 < q.0) (λ p q. number ≡ number → p.0 ≡ q.0 → ⊥) (λ p q h _ same. omega (arith, h, same)) (selected_of format (member_of format.member members).slots)
+    (pairwise-filter (λ p q. p.0 < q.0) (λ pair. selects format.rules pair.1) (records (member_of format.member members)) (records-rise 1 (member_of format.member members).slots)))
 
 entries_of-format : (number : ℕ) (format : PathFormat) (members : NumberedMembers) → AllByRecursion (λ e. e.format ≡ number) (entries_of number format members)
 entries_of-format number format members =
@@ -144,17 +143,17 @@ entries_from-format : (number : ℕ) (formats : List PathFormat) (members : Numb
 entries_from-format number [] members = tt
 entries_from-format number (format ∷ formats) members =
     all-append (λ e. number ≤ e.format) (entries_of number format members) (entries_from (number + 1) formats members)
-        (weaker (λ e. e.format ≡ number) (λ e. number ≤ e.format) (λ e h. omega (arith, h)) (entries_of number format members) (entries_of-format number format members))
-        (weaker (λ e. number + 1 ≤ e.format) (λ e. number ≤ e.format) (λ e h. omega (arith, h)) (entries_from (number + 1) formats members) (entries_from-format (number + 1) formats members))
+    (weaker (λ e. e.format ≡ number) (λ e. number ≤ e.format) (λ e h. omega (arith, h)) (entries_of number format members) (entries_of-format number format members))
+    (weaker (λ e. number + 1 ≤ e.format) (λ e. number ≤ e.format) (λ e h. omega (arith, h)) (entries_from (number + 1) formats members) (entries_from-format (number + 1) formats members))
 
 entries_from-apart : (number : ℕ) (formats : List PathFormat) (members : NumberedMembers) → Pairwise Apart (entries_from number formats members)
 entries_from-apart number [] members = tt
 entries_from-apart number (format ∷ formats) members =
     pairwise-append Apart (entries_of number format members) (entries_from (number + 1) formats members)
-        (entries_of-apart number format members) (entries_from-apart (number + 1) formats members)
-        (weaker (λ a. a.format ≡ number) (λ a. AllByRecursion (Apart a) (entries_from (number + 1) formats members))
-            (λ a here. weaker (λ b. number + 1 ≤ b.format) (Apart a) (λ b h same _. omega (arith, here, h, same)) (entries_from (number + 1) formats members) (entries_from-format (number + 1) formats members))
-            (entries_of number format members) (entries_of-format number format members))
+    (entries_of-apart number format members) (entries_from-apart (number + 1) formats members)
+    (weaker (λ a. a.format ≡ number) (λ a. AllByRecursion (Apart a) (entries_from (number + 1) formats members))
+    (λ a here. weaker (λ b. number + 1 ≤ b.format) (Apart a) (λ b h same _. omega (arith, here, h, same)) (entries_from (number + 1) formats members) (entries_from-format (number + 1) formats members))
+    (entries_of number format members) (entries_of-format number format members))
 
 -- ---- the path
 
@@ -176,9 +175,9 @@ pub apart-differ : (ties : Ties) (a b : PathEntry) → Apart a b → compare_ent
 apart-differ ties a b apart same =
     let behind = second-equal (compare_keys a.key b.key) (ordering_then (nat_cmp a.format b.format) (compare_ties ties a.rrn b.rrn)) same in
     apart (nat_cmp-IsAntisymmetric a.format b.format (first-equal (nat_cmp a.format b.format) (compare_ties ties a.rrn b.rrn) behind))
-        (ties-equal ties a.rrn b.rrn (second-equal (nat_cmp a.format b.format) (compare_ties ties a.rrn b.rrn) behind))
+    (ties-equal ties a.rrn b.rrn (second-equal (nat_cmp a.format b.format) (compare_ties ties a.rrn b.rrn) behind))
 
 pub path-strict : (spec : PathSpec) (members : NumberedMembers) → IsStrictlySortedBy (compare_entries spec.ties) (path spec members)
 path-strict spec members =
     in_order-strict (compare_entries spec.ties) (compare_entries-total spec.ties) (entries_from 0 spec.formats members)
-        (pairwise-weaker Apart (λ a b. compare_entries spec.ties a b ≢ Equal) (apart-differ spec.ties) (entries_from 0 spec.formats members) (entries_from-apart 0 spec.formats members))
+    (pairwise-weaker Apart (λ a b. compare_entries spec.ties a b ≢ Equal) (apart-differ spec.ties) (entries_from 0 spec.formats members) (entries_from-apart 0 spec.formats members))

@@ -29,6 +29,7 @@ module _ {A : Type 0} (compare : A → A → Ordering) where
     where
       behind : is_lt (compare y x) ≡ false
       behind = ap is_lt (o.antisymm y x ∙ ap ordering_reverse less)
+
       by : (b : Bool) → is_lt (compare x z) ≡ b → (c : Bool) → is_lt (compare y z) ≡ c
           → put_in_order compare x (put_in_order compare y l) ≡ put_in_order compare y (put_in_order compare x l)
           → put_in_order compare x (put_in_order compare y (z ∷ l)) ≡ put_in_order compare y (put_in_order compare x (z ∷ l))

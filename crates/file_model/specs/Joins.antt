@@ -82,7 +82,7 @@ compare_matched a b = compare_matches a.match b.match
 abbrev pub matches_of : Secondary → NumberedMembers → JoinRow → List Matched
 matches_of file members row =
     in_order compare_matched
-        (map (matched file) (filter (λ pair. list_all (is_joined (image_in file.from row.images) pair.1) file.pairs) (records (member_of file.member members))))
+    (map (matched file) (filter (λ pair. list_all (is_joined (image_in file.from row.images) pair.1) file.pairs) (records (member_of file.member members))))
 
 -- a row with one file more
 abbrev pub row_with : JoinRow → Matched → JoinRow

@@ -42,5 +42,5 @@ pub fn path_follows_a_change()
         → All (λ entry. entry.format < number) before
         → in_order (compare_entries ties) (before ++ entries_in number format (front ++ Live image ∷ back) ++ after)
         ≡ (let without = in_order (compare_entries ties) (before ++ entries_in number format (front ++ Deleted ∷ back) ++ after) in
-            if selects format.rules image then put_in_order (compare_entries ties) (entry_of number format (1 + length front, image)) without else without) }
+        if selects format.rules image then put_in_order (compare_entries ties) (entry_of number format (1 + length front, image)) without else without) }
 {}

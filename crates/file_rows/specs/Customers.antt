@@ -51,7 +51,7 @@ customers = of_records 1 (number 1 ∷ number 2 ∷ []) ∷ of_records 2 ((numbe
 abbrev pub with_equal_orders : NumberedMembers
 with_equal_orders =
     of_records 1 (number 2 ∷ number 1 ∷ [])
-        ∷ of_slots 2 (Live (number 2 ++ number 10) ∷ Live (number 1 ++ number 10) ∷ Deleted ∷ Live (number 1 ++ number 10) ∷ []) ∷ []
+    ∷ of_slots 2 (Live (number 2 ++ number 10) ∷ Live (number 1 ++ number 10) ∷ Deleted ∷ Live (number 1 ++ number 10) ∷ []) ∷ []
 
 -- a second file by number, whose letters a third one has
 abbrev pub chained : (keeps_missing : Bool) → JoinSpec
@@ -59,8 +59,8 @@ chained keeps_missing = record {
   primary = by_number false false Rising;
   secondaries =
       record { member = 2; from = 0; pairs = pair_of (field_at three_digits 0) (field_at three_digits 0) ∷ []; sequence = Absent; default = number 0 ++ (0x40 ∷ []) }
-          ∷ record { member = 3; from = 1; pairs = pair_of (field_at (characters 1) 2) (field_at (characters 1) 0) ∷ []; sequence = Absent; default = 0x40 ∷ number 0 }
-          ∷ [];
+      ∷ record { member = 3; from = 1; pairs = pair_of (field_at (characters 1) 2) (field_at (characters 1) 0) ∷ []; sequence = Absent; default = 0x40 ∷ number 0 }
+      ∷ [];
   keeps_missing = keeps_missing;
   fields = of_file 0 (field_at three_digits 0) ∷ of_file 1 (field_at (characters 1) 2) ∷ of_file 2 (field_at three_digits 1) ∷ [];
 }

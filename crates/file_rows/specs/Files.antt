@@ -1,5 +1,5 @@
 -- What the files of the rows are made of: fields, images, members and paths.
-use Rattle.std.specs.Prelude.{ℕ, ◌+◌, Bool, true, false, List, [], ◌∷◌, ◌++◌, map, Option, Some, None, pos}
+use Rattle.std.specs.Prelude.{ℕ, Bool, false, List, [], ◌∷◌, ◌++◌, map, None, pos}
 use Rattle.field_types.specs.declared.kinds.Kind.TheVariants.{Char, Packed}
 use Rattle.field_types.specs.declared.kinds.FieldType.{FieldType}
 use Rattle.field_types.specs.declared.values.Value.{Value}
@@ -9,7 +9,6 @@ use Rattle.field_values.specs.Packed.{packed_bytes}
 use Rattle.key_spec.specs.declared.KeyPart.{KeyPart}
 use Rattle.key_spec.specs.declared.KeyPart.TheVariants.{Field, Absent}
 use Rattle.key_spec.specs.declared.Ties.{Ties}
-use Rattle.key_spec.specs.declared.Ties.TheVariants.{Rising, Falling}
 use Rattle.member_slots.specs.declared.slot.Slot.{Slot}
 use Rattle.member_slots.specs.declared.slot.Slot.TheVariants.{Live}
 use Rattle.member_slots.specs.Member.{MemberState}

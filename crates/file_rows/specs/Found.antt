@@ -4,7 +4,7 @@ use Rattle.std.specs.Option.{option_map}
 use Rattle.member_slots.specs.Members.{NumberedMembers}
 use Rattle.file_model.specs.declared.paths.PathSpec.{PathSpec}
 use Rattle.file_model.specs.declared.joins.JoinSpec.{JoinSpec}
-use Rattle.file_model.specs.Joins.{RowPlace, JoinRow, Match, NoRecord, RecordAt, rows_of, row_image}
+use Rattle.file_model.specs.Joins.{RowPlace, Match, NoRecord, RecordAt, rows_of, row_image}
 use Rattle.file_model.specs.Paths.{PathEntry, path}
 use Rattle.file_model.specs.Positions.{Position, On, Reading, next_from, prior_from, path_reading, join_reading}
 

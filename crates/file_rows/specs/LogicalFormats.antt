@@ -1,5 +1,5 @@
 -- The logical formats of the rows: over records of a name and a number.
-use Rattle.std.specs.Prelude.{ℕ, Bool, true, false, List, [], ◌∷◌, ◌++◌, codes}
+use Rattle.std.specs.Prelude.{ℕ, Bool, true, false, List, [], ◌∷◌, codes}
 use Rattle.field_types.specs.declared.kinds.Kind.TheVariants.{Packed}
 use Rattle.field_types.specs.declared.kinds.FieldType.{FieldType}
 use Rattle.record_fmt.specs.declared.formats.Field.{Field}
@@ -19,7 +19,7 @@ piece offset length = record { offset = offset; length = length }
 abbrev pub named_and_numbered : List Field
 named_and_numbered =
     record { name = codes "NAME"; ty = characters 5; offset = 0; default = text []; text = [] }
-        ∷ record { name = codes "NO"; ty = three_digits; offset = 5; default = whole 0; text = [] } ∷ []
+    ∷ record { name = codes "NO"; ty = three_digits; offset = 5; default = whole 0; text = [] } ∷ []
 
 -- NM, RENAME(NAME)
 abbrev pub renamed : List LogicalField
@@ -41,5 +41,5 @@ concatenated = field (characters 3) (Concatenated (piece 5 1 ∷ piece 0 2 ∷ [
 abbrev pub three_names : List Field
 three_names =
     record { name = codes "A"; ty = characters 2; offset = 0; default = text []; text = [] }
-        ∷ record { name = codes "B"; ty = characters 3; offset = 2; default = text (codes "B"); text = [] }
-        ∷ record { name = codes "C"; ty = characters 1; offset = 5; default = text []; text = [] } ∷ []
+    ∷ record { name = codes "B"; ty = characters 3; offset = 2; default = text (codes "B"); text = [] }
+    ∷ record { name = codes "C"; ty = characters 1; offset = 5; default = text []; text = [] } ∷ []

@@ -1,9 +1,7 @@
 -- The select and omit statements of the rows: over records of one character and a number.
-use Rattle.std.specs.Prelude.{ℕ, List, [], ◌∷◌, ◌++◌, Option, Some, None, codes}
-use Rattle.field_types.specs.declared.values.Value.{Value}
+use Rattle.std.specs.Prelude.{ℕ, List, [], ◌∷◌, ◌++◌, Option, None, codes}
 use Rattle.member_slots.specs.Members.{NumberedMembers}
 use Rattle.file_model.specs.declared.views.ViewField.{ViewField}
-use Rattle.file_model.specs.declared.rules.Relation.{Relation}
 use Rattle.file_model.specs.declared.rules.Relation.TheVariants.{Equals, Above}
 use Rattle.file_model.specs.declared.rules.Test.{Test}
 use Rattle.file_model.specs.declared.rules.Test.TheVariants.{Literal}
@@ -41,7 +39,7 @@ one_test choice field test = rules (statement choice (condition field test ∷ [
 abbrev pub x_or_not_above_ten : List Statement
 x_or_not_above_ten =
     statement Select (condition letter (Literal Equals (text (codes "X"))) ∷ [])
-        ∷ statement Omit (condition amount (Literal Above (whole 10)) ∷ []) ∷ []
+    ∷ statement Omit (condition amount (Literal Above (whole 10)) ∷ []) ∷ []
 
 -- ('X', 20), ('Y', 20), ('Y', 5)
 abbrev pub lettered : NumberedMembers

@@ -25,7 +25,7 @@ pub fn one_keyword()
 /// Two positions, the second descending; a deleted record is not in the path.
 pub fn two_positions()
     ensures { let spec = one_format false Rising (format_of 1 all_records (field_at (characters 1) 0 ∷ field_at three_digits 1 ∷ [])
-            (part_at (characters 1) 0 ∷ Field three_digits 1 true false ∷ [])) in
+        (part_at (characters 1) 0 ∷ Field three_digits 1 true false ∷ [])) in
         rrns_of spec (of_slots 1 (Live (codes "B" ++ number 1) ∷ Live (codes "A" ++ number 1) ∷ Deleted ∷ Live (codes "A" ++ number 2) ∷ []) ∷ []) ≡ 4 ∷ 2 ∷ 1 ∷ [] }
 {}
 
