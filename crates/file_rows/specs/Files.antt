@@ -9,6 +9,7 @@ use Rattle.field_values.specs.Packed.{packed_bytes}
 use Rattle.key_spec.specs.declared.KeyPart.{KeyPart}
 use Rattle.key_spec.specs.declared.KeyPart.TheVariants.{Field, Absent}
 use Rattle.key_spec.specs.declared.Ties.{Ties}
+use Rattle.key_spec.specs.declared.Ties.TheVariants.{Rising}
 use Rattle.member_slots.specs.declared.slot.Slot.{Slot}
 use Rattle.member_slots.specs.declared.slot.Slot.TheVariants.{Live}
 use Rattle.member_slots.specs.Member.{MemberState}
@@ -89,6 +90,14 @@ headers_and_details ties = record {
       ∷ format_of 2 all_records (field_at three_digits 0 ∷ field_at three_digits 2 ∷ []) (part_at three_digits 0 ∷ part_at three_digits 2 ∷ []) ∷ [];
   unique = false;
   ties = ties;
+}
+
+-- members 1 and 2, the second of which has *NONE for the number that the first has
+abbrev pub beside_no_key : (descend : Bool) → PathSpec
+beside_no_key descend = record {
+  formats = format_of 1 all_records (field_at three_digits 0 ∷ []) (Field three_digits 0 descend false ∷ []) ∷ format_of 2 all_records [] (Absent ∷ []) ∷ [];
+  unique = false;
+  ties = Rising;
 }
 
 -- headers 1 and 2, details (1, 2), (1, 1) and (2, 1)

@@ -3,10 +3,10 @@ ghost use Rattle.std.specs.Prelude.{◌≡◌, List, [], ◌∷◌, ◌++◌, So
 ghost use Rattle.key_spec.specs.declared.Ties.TheVariants.{Rising, Falling};
 ghost use Rattle.key_spec.specs.declared.KeyPart.TheVariants.{Field};
 ghost use Rattle.member_slots.specs.declared.slot.Slot.TheVariants.{Live, Deleted};
-ghost use Rattle.file_model.specs.Paths.{repeated_in, other_with_key, entries_from};
+ghost use Rattle.file_model.specs.Paths.{repeated_in};
 ghost use Rattle.file_model.specs.Positions.{Start};
-ghost use Rattle.file_rows.specs.Files.{number, minus, of_records, of_slots, three_digits, characters, field_at, part_at, format_of, one_format, by_number, all_records};
-ghost use Rattle.file_rows.specs.Found.{rrns_of, reading_of, reads, numbers};
+ghost use Rattle.file_rows.specs.Files.{number, minus, of_records, of_slots, three_digits, characters, field_at, part_at, format_of, one_format, by_number, beside_no_key, all_records};
+ghost use Rattle.file_rows.specs.Found.{rrns_of, places_of, reading_of, reads, numbers};
 
 /// Records -5, 5 and -7 by a key with DESCEND and ABSVAL, with LIFO; the fourth READ finds no record.
 pub fn last_in_first_out()
@@ -49,4 +49,10 @@ pub fn unique_key()
         repeated_in spec (of_records 1 (codes "C" ∷ codes "B" ∷ codes "A" ∷ codes "B" ∷ codes "A" ∷ []) ∷ []) ≡ Some 2 }
     ensures free { let spec = one_format true Rising (format_of 1 all_records (field_at (characters 1) 0 ∷ []) (part_at (characters 1) 0 ∷ [])) in
         repeated_in spec (of_slots 1 (Deleted ∷ Live (codes "A") ∷ []) ∷ []) ≡ None }
+{}
+
+/// A position that a format lacks comes first where values descend, too.
+pub fn missing_position()
+    ensures ascending { places_of (beside_no_key false) (of_records 1 (number 1 ∷ number 2 ∷ []) ∷ of_records 2 (number 3 ∷ []) ∷ []) ≡ (1, 1) ∷ (0, 1) ∷ (0, 2) ∷ [] }
+    ensures descending { places_of (beside_no_key true) (of_records 1 (number 1 ∷ number 2 ∷ []) ∷ of_records 2 (number 3 ∷ []) ∷ []) ≡ (1, 1) ∷ (0, 2) ∷ (0, 1) ∷ [] }
 {}

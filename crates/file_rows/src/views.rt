@@ -34,6 +34,8 @@ pub fn other_types()
     ensures too_wide { base_image named_and_numbered wider (Some (whole 1000) ∷ None ∷ []) None ≡ Err (BadField 1 TooWide) }
     ensures decimals { base_image named_and_numbered wider (Some (Number (record { units = pos 15; scale = 1 })) ∷ None ∷ []) None ≡ Err (BadField 1 TooManyDecimals) }
     ensures text_too_wide { base_image named_and_numbered wider (None ∷ Some (text (codes "ABCDEF")) ∷ []) None ≡ Err (BadField 2 TooWide) }
+    // It fits neither: the logical field has its decimals, but not its digits.
+    ensures logical_first { base_image named_and_numbered wider (Some (Number (record { units = pos 1000005; scale = 1 })) ∷ None ∷ []) None ≡ Err (BadField 1 TooWide) }
     // The first field at fault is told.
     ensures first { base_image named_and_numbered wider (Some (text []) ∷ Some (whole 1) ∷ []) None ≡ Err (BadField 1 WrongKind) }
 {}
