@@ -1,5 +1,5 @@
 -- What the files of the rows are made of: fields, images, members and paths.
-use Rattle.std.specs.Prelude.{ℕ, Bool, false, List, [], ◌∷◌, ◌++◌, map, None, pos}
+use Rattle.std.specs.Prelude.{ℕ, Bool, true, false, List, [], ◌∷◌, ◌++◌, map, None, pos}
 use Rattle.field_types.specs.declared.kinds.Kind.TheVariants.{Char, Packed}
 use Rattle.field_types.specs.declared.kinds.FieldType.{FieldType}
 use Rattle.field_types.specs.declared.values.Value.{Value}
@@ -92,13 +92,15 @@ headers_and_details ties = record {
   ties = ties;
 }
 
--- members 1 and 2, the second of which has *NONE for the number that the first has
-abbrev pub beside_no_key : (descend : Bool) → PathSpec
-beside_no_key descend = record {
-  formats = format_of 1 all_records (field_at three_digits 0 ∷ []) (Field three_digits 0 descend false ∷ []) ∷ format_of 2 all_records [] (Absent ∷ []) ∷ [];
-  unique = false;
-  ties = Rising;
-}
+-- member 1 by a number that descends, and member 2, which has *NONE there
+abbrev pub keyed : PathFormat
+keyed = format_of 1 all_records (field_at three_digits 0 ∷ []) (Field three_digits 0 true false ∷ [])
+
+abbrev pub unkeyed : PathFormat
+unkeyed = format_of 2 all_records [] (Absent ∷ [])
+
+abbrev pub two_formats : (first second : PathFormat) → PathSpec
+two_formats first second = record { formats = first ∷ second ∷ []; unique = false; ties = Rising }
 
 -- headers 1 and 2, details (1, 2), (1, 1) and (2, 1)
 abbrev pub orders_with_lines : NumberedMembers

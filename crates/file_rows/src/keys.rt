@@ -5,7 +5,7 @@ ghost use Rattle.key_spec.specs.declared.KeyPart.TheVariants.{Field};
 ghost use Rattle.member_slots.specs.declared.slot.Slot.TheVariants.{Live, Deleted};
 ghost use Rattle.file_model.specs.Paths.{repeated_in};
 ghost use Rattle.file_model.specs.Positions.{Start};
-ghost use Rattle.file_rows.specs.Files.{number, minus, of_records, of_slots, three_digits, characters, field_at, part_at, format_of, one_format, by_number, beside_no_key, all_records};
+ghost use Rattle.file_rows.specs.Files.{number, minus, of_records, of_slots, three_digits, characters, field_at, part_at, format_of, one_format, by_number, two_formats, keyed, unkeyed, all_records};
 ghost use Rattle.file_rows.specs.Found.{rrns_of, places_of, reading_of, reads, numbers};
 
 /// Records -5, 5 and -7 by a key with DESCEND and ABSVAL, with LIFO; the fourth READ finds no record.
@@ -53,6 +53,6 @@ pub fn unique_key()
 
 /// A position that a format lacks comes first where values descend, too.
 pub fn missing_position()
-    ensures ascending { places_of (beside_no_key false) (of_records 1 (number 1 ∷ number 2 ∷ []) ∷ of_records 2 (number 3 ∷ []) ∷ []) ≡ (1, 1) ∷ (0, 1) ∷ (0, 2) ∷ [] }
-    ensures descending { places_of (beside_no_key true) (of_records 1 (number 1 ∷ number 2 ∷ []) ∷ of_records 2 (number 3 ∷ []) ∷ []) ≡ (1, 1) ∷ (0, 2) ∷ (0, 1) ∷ [] }
+    ensures behind { places_of (two_formats keyed unkeyed) (of_records 1 (number 1 ∷ number 2 ∷ []) ∷ of_records 2 (number 3 ∷ []) ∷ []) ≡ (1, 1) ∷ (0, 2) ∷ (0, 1) ∷ [] }
+    ensures in_front { places_of (two_formats unkeyed keyed) (of_records 1 (number 1 ∷ number 2 ∷ []) ∷ of_records 2 (number 3 ∷ []) ∷ []) ≡ (0, 1) ∷ (1, 2) ∷ (1, 1) ∷ [] }
 {}
