@@ -5,3 +5,4 @@ pub mod Sorting
 pub mod Paths
 pub mod Joins
 pub mod Positions
+pub mod FilePaths

@@ -2,7 +2,11 @@
 use Rattle.std.specs.Prelude.{ℕ, Bool, true, false, List, [], ◌∷◌, codes}
 use Rattle.field_types.specs.declared.kinds.Kind.TheVariants.{Packed}
 use Rattle.field_types.specs.declared.kinds.FieldType.{FieldType}
-use Rattle.record_fmt.specs.declared.formats.Field.{Field}
+use Rattle.record_fmt.specs.declared.formats.Field.{Field as RecordField}
+use Rattle.key_spec.specs.declared.KeyPart.TheVariants.{Field}
+use Rattle.key_spec.specs.declared.KeySpec.{KeySpec}
+use Rattle.key_spec.specs.declared.Ties.TheVariants.{Rising}
+use Rattle.file_model.specs.declared.views.ViewField.{ViewField}
 use Rattle.file_model.specs.declared.views.Piece.{Piece}
 use Rattle.file_model.specs.declared.views.FieldSource.{FieldSource}
 use Rattle.file_model.specs.declared.views.FieldSource.TheVariants.{Copied, Converted, Concatenated, Substring}
@@ -16,7 +20,7 @@ abbrev pub piece : (offset length : ℕ) → Piece
 piece offset length = record { offset = offset; length = length }
 
 -- NAME 5A and NO 3P 0, with the defaults of their types
-abbrev pub named_and_numbered : List Field
+abbrev pub named_and_numbered : List RecordField
 named_and_numbered =
     record { name = codes "NAME"; ty = characters 5; offset = 0; default = text []; text = [] }
     ∷ record { name = codes "NO"; ty = three_digits; offset = 5; default = whole 0; text = [] } ∷ []
@@ -38,8 +42,20 @@ wider = field (record { kind = Packed; length = 7; decimals = 2 }) (Converted th
 abbrev pub concatenated : List LogicalField
 concatenated = field (characters 3) (Concatenated (piece 5 1 ∷ piece 0 2 ∷ [])) false ∷ field (characters 3) (Copied 2) false ∷ []
 
-abbrev pub three_names : List Field
+abbrev pub three_names : List RecordField
 three_names =
     record { name = codes "A"; ty = characters 2; offset = 0; default = text []; text = [] }
     ∷ record { name = codes "B"; ty = characters 3; offset = 2; default = text (codes "B"); text = [] }
     ∷ record { name = codes "C"; ty = characters 1; offset = 5; default = text []; text = [] } ∷ []
+
+-- the number, and then the name from the last to the first
+abbrev pub by_number_then_name : KeySpec
+by_number_then_name = record { parts = Field three_digits 5 false false ∷ Field (characters 5) 0 true false ∷ []; unique = false; ties = Rising }
+
+-- a logical format that shows the number first
+abbrev pub number_then_name : List ViewField
+number_then_name = record { ty = three_digits; source = Copied 5 } ∷ record { ty = characters 5; source = Copied 0 } ∷ []
+
+-- the same key, where the number stands first
+abbrev pub number_of_logical_then_name : KeySpec
+number_of_logical_then_name = record { parts = Field three_digits 0 false false ∷ Field (characters 5) 2 true false ∷ []; unique = false; ties = Rising }

@@ -7,4 +7,5 @@ mod joins;
 mod keys;
 mod positions;
 mod selection;
+mod shared;
 mod views;
