@@ -92,9 +92,12 @@ headers_and_details ties = record {
   ties = ties;
 }
 
--- member 1 by a number that descends, and member 2, which has *NONE there
+-- a member by a number that descends, member 1 so, and member 2, which has *NONE there
+abbrev pub keyed_over : ℕ → PathFormat
+keyed_over member = format_of member all_records (field_at three_digits 0 ∷ []) (Field three_digits 0 true false ∷ [])
+
 abbrev pub keyed : PathFormat
-keyed = format_of 1 all_records (field_at three_digits 0 ∷ []) (Field three_digits 0 true false ∷ [])
+keyed = keyed_over 1
 
 abbrev pub unkeyed : PathFormat
 unkeyed = format_of 2 all_records [] (Absent ∷ [])
