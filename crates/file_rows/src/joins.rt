@@ -31,6 +31,14 @@ pub fn equal_orders()
         (On (record { primary = record { key = Ascending (whole 1) ∷ []; format = 0; rrn = 2 }; matches = NoRecord ∷ [] }))) ≡ Some (2 ∷ 2 ∷ []) }
 {}
 
+/// The open stands on the row of an order that is gone, and its customer has no other: the row with defaults is before it.
+pub fn last_order_is_gone()
+    ensures next { option_map row_rrns (next_from (rows_to_read (with_orders Absent true) customers)
+        (On (record { primary = record { key = Ascending (whole 2) ∷ []; format = 0; rrn = 2 }; matches = RecordAt Missing 7 ∷ [] }))) ≡ None }
+    ensures prior { option_map row_rrns (prior_from (rows_to_read (with_orders Absent true) customers)
+        (On (record { primary = record { key = Ascending (whole 2) ∷ []; format = 0; rrn = 2 }; matches = RecordAt Missing 7 ∷ [] }))) ≡ Some (2 ∷ 0 ∷ []) }
+{}
+
 /// A third file that is joined from the second.
 pub fn three_in_a_chain()
     ensures none { images_of (chained false) (three_files []) ≡ [] }
