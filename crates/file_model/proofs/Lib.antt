@@ -1,0 +1,4 @@
+pub mod OrderLemmas
+pub mod SortLemmas
+pub mod PathLemmas
+pub mod ChangeLemmas

@@ -1,0 +1,5 @@
+pub mod Files
+pub mod Found
+pub mod Rules
+pub mod Customers
+pub mod LogicalFormats
