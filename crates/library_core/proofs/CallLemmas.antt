@@ -1,5 +1,5 @@
 -- From the memory to the state: where the memory's answer is the change's, the library has the state of the step.
-use Rattle.std.proofs.Common.{◌≡◌, ℕ, ◌+◌, false, IsTrue, List, [], ◌++◌, length, Result, Ok, Err, IsErrOf, inl, inr, refl, sym, ◌∙◌, ap, subst, arith, length-append, IfErr}
+use Rattle.std.proofs.Common.{◌≡◌, ℕ, ◌+◌, false, IsTrue, List, [], ◌∷◌, ◌++◌, length, Result, Ok, Err, IsErrOf, inl, inr, refl, sym, ◌∙◌, ap, subst, arith, length-append, IfErr}
 use Rattle.library_model.specs.declared.requests.Request.{Request}
 use Rattle.library_model.specs.declared.requests.Request.TheVariants as request
 use Rattle.library_model.specs.declared.replies.Reply.{Reply}
@@ -7,7 +7,7 @@ use Rattle.library_model.specs.declared.replies.Reply.TheVariants.{NoMemory}
 use Rattle.library_model.specs.declared.sources.NamedSource.{NamedSource}
 use Rattle.library_core.specs.declared.stop.Stop.{Stop}
 use Rattle.library_core.specs.declared.stop.Stop.TheVariants as stop
-use Rattle.library_model.specs.State.{Memory, State, JobState, JournalState, memory_of, with_journal, job_at, last_of_journal}
+use Rattle.library_model.specs.State.{Memory, State, JobState, JournalState, memory_of, with_journal, job_at, new_job, last_of_journal}
 use Rattle.library_model.specs.Change.{Change, unjournaled, changed, deposited}
 use Rattle.library_model.specs.Running.{is_running, is_end_job, runs_after}
 use Rattle.library_model.specs.NeedsMemory.{needs_memory}
@@ -17,7 +17,7 @@ use Rattle.library_model.specs.History.{Outcome, Standing, Failed, Comes}
 use Rattle.library_core.specs.Parts.{LibraryOver}
 use Rattle.library_core.specs.Answers.{Answers, reply_of}
 use Rattle.library_core.specs.Stands.{Stands, IsAt, Goes, IsReady}
-use Rattle.library_core.proofs.StepLemmas.{Leaves, change-leaves}
+use Rattle.library_core.proofs.StepLemmas.{Leaves, change-leaves, running-append}
 
 -- a memory is that of the state with a journal as long as it says
 stands_for : (m : Memory) (journal : JournalState) → m.last_entry ≡ last_of_journal journal → m ≡ memory_of (with_journal journal m)
@@ -93,5 +93,13 @@ pub IsReady-on : {S : Type 0} (job other : ℕ) (r : Request) (old new : Library
 IsReady-on job other r old new ready goes_on alive runs joint = record {
   alive = alive;
   running = rw (runs other, runs-on job r old.memory.jobs other goes_on) ready.running;
+  joint = joint;
+}
+
+-- nor does a job that begins keep it from that
+pub IsReady-begun : {S : Type 0} (job : ℕ) (name : List ℕ) (old new : LibraryOver S) → IsReady job old → IsJoint new.memory → new.failed ≡ old.failed → new.memory ≡ record old.memory { jobs = old.memory.jobs ++ new_job name ∷ [] } → IsReady job new
+IsReady-begun job name old new ready joint alive begun = record {
+  alive = alive ∙ ready.alive;
+  running = subst (λ (m : Memory). IsTrue (is_running (job_at job m.jobs))) (sym begun) (running-append job old.memory.jobs (new_job name ∷ []) ready.running);
   joint = joint;
 }

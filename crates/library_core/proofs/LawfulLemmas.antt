@@ -107,9 +107,9 @@ IsThere-with_member : (fields : List Field) (members : NumberedMembers) (other n
 IsThere-with_member fields members other number member there holds =
     elim (cases_eq other number) [
       | inl same ↦ (
-        let before : is_some (member_at number members) ≡ true = subst (λ (n : ℕ). is_some (member_at n members) ≡ true) same (IsThere-is_some fields (member_at other members) there) in
-        let here : member_at other (with_member number member members) ≡ Some member = ap (λ (n : ℕ). member_at n (with_member number member members)) same ∙ item_at-with_item_same number member members before in
-        subst (IsThere fields) (sym here) (holds same))
+          let before : is_some (member_at number members) ≡ true = subst (λ (n : ℕ). is_some (member_at n members) ≡ true) same (IsThere-is_some fields (member_at other members) there) in
+          let here : member_at other (with_member number member members) ≡ Some member = ap (λ (n : ℕ). member_at n (with_member number member members)) same ∙ item_at-with_item_same number member members before in
+          subst (IsThere fields) (sym here) (holds same))
       | inr differ ↦ subst (IsThere fields) (sym (item_at-with_item_other other number member members differ)) there
     ]
 
@@ -222,9 +222,9 @@ module _ (s : Memory) (name : List ℕ) (file : FileState) (lawful : IsLibrary s
   OpensMember-without opened absent holds =
       elim (same_name name opened.file) as (λ b. same_name name opened.file ≡ b → OpensMember opened.member (named opened.file (without_file name s.files))) [
         | true ↦ λ same. (
-          let here : named opened.file s.files ≡ Some file = ap (λ (n : List ℕ). named n s.files) (sym (same_name-equal name opened.file same)) ∙ there in
-          let has : has_number file.members opened.member ≡ true = subst (OpensMember opened.member) here holds in
-          absurd cc)
+            let here : named opened.file s.files ≡ Some file = ap (λ (n : List ℕ). named n s.files) (sym (same_name-equal name opened.file same)) ∙ there in
+            let has : has_number file.members opened.member ≡ true = subst (OpensMember opened.member) here holds in
+            absurd cc)
         | false ↦ λ differ. subst (OpensMember opened.member) (sym (named-without_other name opened.file s.files differ)) holds
       ] refl
 
@@ -239,10 +239,10 @@ module _ (s : Memory) (name : List ℕ) (file : FileState) (lawful : IsLibrary s
   number-other other another number owns =
       elim (has_number file.members number) as (λ b. has_number file.members number ≡ b → b ≡ false) [
         | true ↦ λ has. (
-          let same : name ≡ other = lawful.apart name other file another number (record { there = there; has = has }) (Owns-without other another number owns) in
-          let equal : same_name name other ≡ true = subst (λ (n : List ℕ). same_name name n ≡ true) same (same_name-self name) in
-          let differ = (named-without name other s.files another owns.there).1 in
-          absurd cc)
+            let same : name ≡ other = lawful.apart name other file another number (record { there = there; has = has }) (Owns-without other another number owns) in
+            let equal : same_name name other ≡ true = subst (λ (n : List ℕ). same_name name n ≡ true) same (same_name-self name) in
+            let differ = (named-without name other s.files another owns.there).1 in
+            absurd cc)
         | false ↦ λ has. refl
       ] refl
 

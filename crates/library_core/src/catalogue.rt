@@ -96,6 +96,13 @@ impl File {
         self.described.format()
     }
 
+    /// The number of the member of that name.
+    pub fn member(&self, name: &Name) -> Option<u32>
+        ensures { result ≡ named name.now self.now.members }
+    {
+        self.members.named(name)
+    }
+
     /// Its members.
     pub fn members(&self) -> &MemberNames
         ensures { result.now ≡ self.now.members }

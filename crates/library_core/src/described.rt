@@ -9,7 +9,7 @@ ghost use Rattle.library_core.specs.Described.{described_file};
 
 use crate::stop::Stop;
 use dds_physical::{PhysicalSpec, Refs, physical, refers_to};
-use dds_source::reading::read_source;
+use dds_source::read_source;
 use dds_source::specifications::Source;
 use field_types::names::Name;
 use field_types::texts::SourceText;

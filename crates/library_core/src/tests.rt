@@ -19,6 +19,7 @@ use library_model::requests::{
 use library_model::sources::{NamedSource, Sources};
 use library_model::value_lists::GivenValues;
 use std::alloc::Global;
+use std::process::Abort;
 use store_model::MemoryStore;
 
 const SOURCES: [(&str, &str); 5] = [
@@ -126,89 +127,139 @@ const UNKNOWN: DdsFault = DdsFault {
 /// Records, and what they refuse.
 const RECORDS: [(By, Ask, Answer); 33] = [
     (By::First, Ask::Create("CUST", "CUST"), Answer::Done),
-    (By::First, Ask::Create("CUST", "CUST"), Answer::NameExists("CUST")),
-    (By::First, Ask::Create("ITEM", "NONE"), Answer::NoSuchName("NONE")),
-    (By::First, Ask::Create("ITEM", "VARLEN"), Answer::DdsFault(UNKNOWN)),
     (
-        By::First, Ask::Open("CUST", "CUST", "CUST", OpenOption::All),
-        Answer::Done,
-    ),
-    (
-        By::First, Ask::Open("CUST", "CUST", "CUST", OpenOption::All),
+        By::First,
+        Ask::Create("CUST", "CUST"),
         Answer::NameExists("CUST"),
     ),
     (
-        By::First, Ask::Open("ITEM", "ITEM", "ITEM", OpenOption::All),
+        By::First,
+        Ask::Create("ITEM", "NONE"),
+        Answer::NoSuchName("NONE"),
+    ),
+    (
+        By::First,
+        Ask::Create("ITEM", "VARLEN"),
+        Answer::DdsFault(UNKNOWN),
+    ),
+    (
+        By::First,
+        Ask::Open("CUST", "CUST", "CUST", OpenOption::All),
+        Answer::Done,
+    ),
+    (
+        By::First,
+        Ask::Open("CUST", "CUST", "CUST", OpenOption::All),
+        Answer::NameExists("CUST"),
+    ),
+    (
+        By::First,
+        Ask::Open("ITEM", "ITEM", "ITEM", OpenOption::All),
         Answer::NoSuchName("ITEM"),
     ),
     (
-        By::First, Ask::Open("OTHER", "CUST", "MISS", OpenOption::All),
+        By::First,
+        Ask::Open("OTHER", "CUST", "MISS", OpenOption::All),
         Answer::NoSuchName("MISS"),
     ),
-    (By::First, Ask::Write("CUST", &[Given::Chars(ABC)]), Answer::Added(1)),
     (
-        By::First, Ask::Chain("CUST", 1),
+        By::First,
+        Ask::Write("CUST", &[Given::Chars(ABC)]),
+        Answer::Added(1),
+    ),
+    (
+        By::First,
+        Ask::Chain("CUST", 1),
         Answer::Record(1, "CUSTR", &[Given::Chars(b"\xC1\xC2\xC3\x40\x40")]),
     ),
     (By::First, Ask::Chain("CUST", 2), Answer::NotFound),
     (By::First, Ask::Chain("CUST", 0), Answer::NotFound),
-    (By::First, Ask::Chain("CUST", 4_294_967_295), Answer::NotFound),
-    (By::First, Ask::Write("CUST", &[Given::Chars(HELLO)]), Answer::Added(2)),
     (
-        By::First, Ask::Chain("CUST", 2),
+        By::First,
+        Ask::Chain("CUST", 4_294_967_295),
+        Answer::NotFound,
+    ),
+    (
+        By::First,
+        Ask::Write("CUST", &[Given::Chars(HELLO)]),
+        Answer::Added(2),
+    ),
+    (
+        By::First,
+        Ask::Chain("CUST", 2),
         Answer::Record(2, "CUSTR", &[Given::Chars(HELLO)]),
     ),
     (
-        By::First, Ask::Write("CUST", &[Given::Chars(HELLOS)]),
+        By::First,
+        Ask::Write("CUST", &[Given::Chars(HELLOS)]),
         Answer::BadField(1, ValueFault::TooWide),
     ),
     (
-        By::First, Ask::Write("CUST", &[Given::Chars(ABC), Given::Chars(ABC)]),
+        By::First,
+        Ask::Write("CUST", &[Given::Chars(ABC), Given::Chars(ABC)]),
         Answer::Count,
     ),
     (
-        By::First, Ask::Write("CUST", &[Given::Whole(7)]),
+        By::First,
+        Ask::Write("CUST", &[Given::Whole(7)]),
         Answer::BadField(1, ValueFault::WrongKind),
     ),
-    (By::First, Ask::Write("CUST", &[Given::Nothing]), Answer::Added(3)),
     (
-        By::First, Ask::Chain("CUST", 3),
+        By::First,
+        Ask::Write("CUST", &[Given::Nothing]),
+        Answer::Added(3),
+    ),
+    (
+        By::First,
+        Ask::Chain("CUST", 3),
         Answer::Record(3, "CUSTR", &[Given::Chars(b"\x40\x40\x40\x40\x40")]),
     ),
     (
-        By::First, Ask::Open("READ", "CUST", "CUST", OpenOption::Input),
+        By::First,
+        Ask::Open("READ", "CUST", "CUST", OpenOption::Input),
         Answer::Done,
     ),
-    (By::First, Ask::Write("READ", &[Given::Chars(ABC)]), Answer::WrongOpen),
+    (
+        By::First,
+        Ask::Write("READ", &[Given::Chars(ABC)]),
+        Answer::WrongOpen,
+    ),
     (By::First, Ask::Chain("NONE", 1), Answer::NoSuchName("NONE")),
     (By::First, Ask::Create("TYPED", "TYPED"), Answer::Done),
     (
-        By::First, Ask::Open("TYPED", "TYPED", "TYPED", OpenOption::All),
+        By::First,
+        Ask::Open("TYPED", "TYPED", "TYPED", OpenOption::All),
         Answer::Done,
     ),
     (
-        By::First, Ask::Write("TYPED", &[Given::Whole(1000), Given::Nothing]),
+        By::First,
+        Ask::Write("TYPED", &[Given::Whole(1000), Given::Nothing]),
         Answer::BadField(1, ValueFault::TooWide),
     ),
     (
-        By::First, Ask::Write("TYPED", &[Given::Whole(1), Given::Chars(NO_DATE)]),
+        By::First,
+        Ask::Write("TYPED", &[Given::Whole(1), Given::Chars(NO_DATE)]),
         Answer::BadField(2, ValueFault::BadDate),
     ),
     (
-        By::First, Ask::Write("TYPED", &[Given::Whole(1)]),
+        By::First,
+        Ask::Write("TYPED", &[Given::Whole(1)]),
         Answer::Count,
     ),
     (By::First, Ask::Chain("TYPED", 1), Answer::NotFound),
     (
-        By::First, Ask::Write("TYPED", &[Given::Whole(1), Given::Nothing]),
+        By::First,
+        Ask::Write("TYPED", &[Given::Whole(1), Given::Nothing]),
         Answer::Added(1),
     ),
     (
-        By::First, Ask::Chain("TYPED", 1),
+        By::First,
+        Ask::Chain("TYPED", 1),
         Answer::Record(1, "TYPEDR", &[Given::Whole(1), Given::Chars(FIRST_DATE)]),
     ),
     (
-        By::First, Ask::Chain("CUST", 2),
+        By::First,
+        Ask::Chain("CUST", 2),
         Answer::Record(2, "CUSTR", &[Given::Chars(HELLO)]),
     ),
     (By::First, Ask::Chain("TYPED", 2), Answer::NotFound),
@@ -225,7 +276,11 @@ const DELETED: [(By, Ask, Answer); 21] = [
         Ask::Open("CUST", "CUST", "CUST", OpenOption::All),
         Answer::Done,
     ),
-    (By::Second, Ask::Write("CUST", &[Given::Chars(ABC)]), Answer::Added(1)),
+    (
+        By::Second,
+        Ask::Write("CUST", &[Given::Chars(ABC)]),
+        Answer::Added(1),
+    ),
     (By::First, Ask::Delete("CUST"), Answer::Dependents("ORD")),
     (By::First, Ask::Delete("ORD"), Answer::Done),
     (By::First, Ask::Delete("ORD"), Answer::NoSuchName("ORD")),
@@ -261,7 +316,11 @@ const DELETED: [(By, Ask, Answer); 21] = [
         Ask::Chain("MINE", 1),
         Answer::Record(1, "CUSTR", &[Given::Chars(b"\xC1\xC2\xC3\x40\x40")]),
     ),
-    (By::First, Ask::Create("ITEM", "NONE"), Answer::NoSuchName("NONE")),
+    (
+        By::First,
+        Ask::Create("ITEM", "NONE"),
+        Answer::NoSuchName("NONE"),
+    ),
 ];
 
 fn named(text: &str) -> Option<Name> {
@@ -389,8 +448,12 @@ fn begin_jobs(library: &mut Library<MemoryStore>, name: &Name) -> Option<Jobs>
     ensures first { IfSome result (λ jobs. IsReady jobs.first library.new) }
     ensures second { IfSome result (λ jobs. IsReady jobs.second library.new) }
 {
-    let first = library.begin_job(name).ok()?;
-    let second = library.begin_job(name).ok()?;
+    let Ok(first) = library.begin_job(name) else {
+        return None;
+    };
+    let Ok(second) = library.begin_job(name) else {
+        return None;
+    };
     Some(Jobs { first, second })
 }
 
