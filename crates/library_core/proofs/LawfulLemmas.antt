@@ -16,7 +16,9 @@ use Rattle.library_model.specs.OpenFile.{with_open}
 use Rattle.library_model.specs.ChainRecord.{record_in}
 use Rattle.library_model.specs.CreatePhysicalFile.{with_file}
 use Rattle.library_model.specs.DeleteFile.{has_number, has_open_over, first_user, without_file, without_members}
+use Rattle.library_model.specs.declared.requests.DeleteFile.{DeleteFile}
 use Rattle.library_core.specs.Parts.{Held}
+use Rattle.library_core.specs.Plans.{IsUnused}
 use Rattle.library_core.specs.Lawful.{HoldsValues, HasRecords, IsThere, Owns, OpensMember, OpenHolds, OpensHold, IsLibrary}
 use Rattle.library_core.proofs.MemberLemmas.{item_at-put_item_other, item_at-put_item_same, item_at-with_item_other, item_at-with_item_same, item_at-without_item_other}
 use Rattle.library_core.proofs.FileLemmas.{same_name-equal, same_name-self, named-append, named-without_other, named-without}
@@ -253,6 +255,13 @@ module _ (s : Memory) (name : List ℕ) (file : FileState) (lawful : IsLibrary s
     opens = jobs-unused s (record s { files = without_file name s.files; members = without_members file.members s.members }) file.members OpensMember-without 1 s.jobs unused lawful.opens;
     numbers = numbers-without_members file.members s.members s.next_member lawful.numbers;
   }
+
+-- the file of that name is the one that no job has open
+pub closed-IsUnused : (m : Memory) (args : DeleteFile) (file other : FileState) → IsUnused m args other → file_named args.file m ≡ Some file → first_user file.members 1 m.jobs ≡ None
+closed-IsUnused m args file other unused there =
+    let same : Some other ≡ Some file = sym unused.there ∙ there in
+    let e : other ≡ file = cc in
+    subst (λ (f : FileState). first_user f.members 1 m.jobs ≡ None) e unused.closed
 
 -- OPNDBF, ENDJOB and new jobs: a change of one job.
 

@@ -2,6 +2,7 @@ pub mod MemberLemmas
 pub mod FileLemmas
 pub mod LawfulLemmas
 pub mod ReadLemmas
+pub mod RecordLemmas
 pub mod StepLemmas
 pub mod CallLemmas
 pub mod MapLemmas

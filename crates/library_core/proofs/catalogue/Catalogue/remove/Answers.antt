@@ -6,4 +6,4 @@ pub returns-clause-removed : goal.returns-clause-removed
 returns-clause-removed c =
     rw (← c.self.view_is)
     (c.shift_remove.ensures.entries
-    ∙ remove_entry-distinct c.args.name.now c.self.inside.files.entries c.len-_len.ensures.unique)
+    ∙ remove_entry-distinct c.args.name.now c.self.inside.files.entries c.len-len.ensures.unique)
