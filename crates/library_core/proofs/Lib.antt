@@ -1,6 +1,7 @@
 pub mod MemberLemmas
+pub mod FileLemmas
 pub mod LawfulLemmas
-pub mod LengthLemmas
+pub mod ReadLemmas
 pub mod StepLemmas
 pub mod CallLemmas
 pub mod MapLemmas

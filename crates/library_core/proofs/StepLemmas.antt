@@ -8,15 +8,17 @@ use Rattle.library_model.specs.declared.replies.Reply.{Reply}
 use Rattle.library_model.specs.declared.sources.NamedSource.{NamedSource}
 use Rattle.library_model.specs.declared.replies.RecordRead.{RecordRead}
 use Rattle.library_model.specs.declared.requests.CreatePhysicalFile.{CreatePhysicalFile}
+use Rattle.library_model.specs.declared.requests.DeleteFile.{DeleteFile}
 use Rattle.library_model.specs.declared.requests.OpenFile.{OpenFile}
 use Rattle.library_model.specs.declared.requests.WriteRecord.{WriteRecord}
 use Rattle.library_model.specs.declared.requests.ChainRecord.{ChainRecord}
 use Rattle.library_model.specs.declared.requests.EndJob.{EndJob}
-use Rattle.library_model.specs.State.{Memory, OpenState, JobState, job_at, job_changed, new_job}
+use Rattle.library_model.specs.State.{Memory, FileState, OpenState, JobState, job_at, job_changed, new_job}
 use Rattle.library_model.specs.Change.{Change, does}
 use Rattle.library_model.specs.OpenFile.{with_open, new_open, open_plan, open_change}
 use Rattle.library_model.specs.EndJob.{ended_job, end_change}
 use Rattle.library_model.specs.CreatePhysicalFile.{NewFile, create_plan, create_change}
+use Rattle.library_model.specs.DeleteFile.{delete_plan, delete_change}
 use Rattle.library_model.specs.WriteRecord.{NewRecord, write_plan, write_change}
 use Rattle.library_model.specs.ChainRecord.{chain_plan, chain_change}
 use Rattle.library_model.specs.Running.{is_running, runs_after}
@@ -94,6 +96,9 @@ end-leaves m job args running = record {
 create-leaves : (m : Memory) (job : ℕ) (args : CreatePhysicalFile) (plan : NewFile) → Leaves job (request.CreatePhysicalFile args) m (create_change m args plan)
 create-leaves m job args plan = record { runs = λ other. refl; numbered = omega arith; joint = λ joint. record { idle = joint.idle } }
 
+delete-leaves : (m : Memory) (job : ℕ) (args : DeleteFile) (file : FileState) → Leaves job (request.DeleteFile args) m (delete_change m args file)
+delete-leaves m job args file = record { runs = λ other. refl; numbered = omega arith; joint = λ joint. record { idle = joint.idle } }
+
 write-leaves : (m : Memory) (job : ℕ) (args : WriteRecord) (plan : NewRecord) → Leaves job (request.Write args) m (write_change m plan)
 write-leaves m job args plan = record { runs = λ other. refl; numbered = omega arith; joint = λ joint. record { idle = joint.idle } }
 
@@ -104,6 +109,7 @@ chain-leaves m job args read = record { runs = λ other. refl; numbered = omega 
 pub change-leaves : (sources : List NamedSource) (m : Memory) (job timestamp : ℕ) (r : Request) (c : Change) → IsTrue (is_running (job_at job m.jobs)) → change sources m job timestamp r ≡ Ok c → Leaves job r m c
 unfolding change
 change-leaves sources m job timestamp (request.CreatePhysicalFile args) c running done = does-leaves (create_change m args) (create_plan sources m args) job (request.CreatePhysicalFile args) m c (create-leaves m job args) done
+change-leaves sources m job timestamp (request.DeleteFile args) c running done = does-leaves (delete_change m args) (delete_plan m args) job (request.DeleteFile args) m c (delete-leaves m job args) done
 change-leaves sources m job timestamp (request.OpenFile args) c running done = does-leaves (open_change m job args) (open_plan m job args) job (request.OpenFile args) m c (λ number. open-leaves m job args number running) done
 change-leaves sources m job timestamp (request.Write args) c running done = does-leaves (write_change m) (write_plan m job args) job (request.Write args) m c (write-leaves m job args) done
 change-leaves sources m job timestamp (request.Chain args) c running done = does-leaves (chain_change m) (chain_plan m job args) job (request.Chain args) m c (chain-leaves m job args) done

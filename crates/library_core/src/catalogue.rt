@@ -1,11 +1,15 @@
 //! The files of the library in order of creation, found by their names, with room for more.
-ghost use Rattle.std.specs.Prelude.{◌≡◌, ◌-◌, ◌≤◌, None, [], ◌∷◌, ◌++◌, length, OnOk, OnErr, IfOk, option_map, option_copied};
+ghost use Rattle.std.specs.Prelude.{◌≡◌, ◌-◌, ◌≤◌, None, Some, [], ◌∷◌, ◌++◌, length, OnOk, OnErr, IfOk, IsSome, option_map, option_copied};
+ghost use Rattle.record_fmt.specs.Layout.{IsLaidOut};
 ghost use Rattle.library_model.specs.Named.{named};
+ghost use Rattle.library_model.specs.State.{fields_of};
+ghost use Rattle.library_model.specs.DeleteFile.{file_refers, first_dependent, has_number, without_file};
 
+use crate::described::Described;
+use dds_physical::Refs;
 use field_types::names::Name;
-use field_types::texts::SourceText;
 use indexmap::IndexMap;
-use plain_format::formats::Format;
+use record_fmt::formats::Format;
 use std::alloc::{AllocError, Global};
 use std::marker::Model;
 
@@ -34,6 +38,13 @@ impl MemberNames {
         Ok(MemberNames { members })
     }
 
+    /// The members in order of creation.
+    pub fn as_slice(&self) -> &[(Name, u32)]
+        ensures { result.now ≡ self.now }
+    {
+        self.members.as_slice()
+    }
+
     /// The number of the member of that name.
     pub fn named(&self, name: &Name) -> Option<u32>
         ensures { result ≡ named name.now self.now }
@@ -45,13 +56,19 @@ impl MemberNames {
         }
         None
     }
+
+    /// Whether one of them has that number.
+    pub fn has_number(&self, number: u32) -> bool
+        ensures { result ≡ has_number self.now number }
+    {
+        self.members.iter().any(|(_, other)| *other == number)
+    }
 }
 
 /// A physical file.
 #[derive(Drop)]
 pub struct File {
-    source: SourceText,
-    format: Format,
+    described: Described,
     members: MemberNames,
 }
 
@@ -60,33 +77,37 @@ impl Model for File {
 
     ghost Value = { FileState };
 
-    ghost view = { λ f. record { source = f.source; format = f.format; members = f.members } };
+    ghost view = { λ f. record { source = f.described.source; spec = f.described.spec; members = f.members } };
 }
 
 impl File {
-    /// A file of that source and format, with that member.
-    pub fn new(source: SourceText, format: Format, members: MemberNames) -> File
-        ensures { result ≡ record { source = source; format = format; members = members } }
+    /// The file that a source describes, with that member.
+    pub fn new(described: Described, members: MemberNames) -> File
+        ensures { result ≡ record { source = described.source; spec = described.spec; members = members } }
     {
-        File {
-            source,
-            format,
-            members,
-        }
+        File { described, members }
     }
 
     /// The record format.
     pub fn format(&self) -> &Format
-        ensures { result.now ≡ self.now.format }
+        ensures format { result.now ≡ self.now.spec.format }
+        ensures laid_out { IsLaidOut (fields_of self.now) }
     {
-        &self.format
+        self.described.format()
     }
 
-    /// The number of the member of that name.
-    pub fn member(&self, name: &Name) -> Option<u32>
-        ensures { result ≡ named name.now self.now.members }
+    /// Its members.
+    pub fn members(&self) -> &MemberNames
+        ensures { result.now ≡ self.now.members }
     {
-        self.members.named(name)
+        &self.members
+    }
+
+    /// Whether its source names the file in REF or REFFLD.
+    pub fn refers_to(&self, file: &Name) -> bool
+        ensures { result ≡ file_refers file.now self.now }
+    {
+        self.described.refers_to(file)
     }
 }
 
@@ -129,6 +150,18 @@ impl Catalogue {
         self.files.get(name)
     }
 
+    /// The first file, by creation, whose source names that file. It looks at every source.
+    pub fn first_dependent(&self, name: &Name) -> Option<Name>
+        ensures { result ≡ first_dependent name.now self.now.files }
+    {
+        for (other, file) in self.files.iter() {
+            if file.refers_to(name) {
+                return Some(*other);
+            }
+        }
+        None
+    }
+
     /// Makes room for one file more.
     pub fn make_room(&mut self) -> Result<(), AllocError>
         ensures unchanged { self.new.files ≡ self.old.files }
@@ -145,5 +178,27 @@ impl Catalogue {
         ensures { self.new.files ≡ self.old.files ++ (name, file) ∷ [] }
     {
         let _replaced = self.files.insert(name, file).unwrap();
+    }
+
+    /// Takes a file out; the others keep their order.
+    pub fn remove(&mut self, name: &Name) -> File
+        requires { IsSome (named name.now self.old.files) }
+        ensures file { named name.now self.old.files ≡ Some result }
+        ensures removed { self.new.files ≡ without_file name.now self.old.files }
+    {
+        // No two files have one name.
+        let _len = self.files.len();
+        self.files.shift_remove(name).unwrap()
+    }
+}
+
+impl Refs for Catalogue {
+    ghost formats = { λ c name. option_map (λ file. file.spec.format) (named name c.files) };
+
+    fn format_of(&self, file: &Name) -> Option<&Format> {
+        match self.named(file) {
+            Some(file) => Some(file.format()),
+            None => None,
+        }
     }
 }

@@ -1,15 +1,20 @@
 //! CHAIN.
-ghost use Rattle.std.specs.Prelude.{◌≡◌, Ok, IfOk, IsTrue};
+ghost use Rattle.std.specs.Prelude.{◌≡◌, true, is_some, length, IfOk, IsTrue};
+ghost use Rattle.record_fmt.specs.Layout.{record_length};
+ghost use Rattle.record_fmt.specs.Records.{record_held};
 ghost use Rattle.library_model.specs.State.{job_at};
 ghost use Rattle.library_model.specs.Running.{is_running};
-ghost use Rattle.library_model.specs.ChainRecord.{chain_plan, chain_record};
+ghost use Rattle.library_model.specs.ChainRecord.{chain_plan, chain_record, values_shown};
 ghost use Rattle.library_core.specs.Answers.{Gives, Answers};
 
 use crate::contents::Contents;
 use crate::stop::Stop;
+use field_values::fields::ImageFault;
 use library_model::replies::{RecordRead, Reply};
 use library_model::requests::{ChainRecord, ChainTo};
 use library_model::value_lists::Values;
+use record_fmt::formats::Format;
+use std::alloc::{AllocError, Global};
 
 impl Contents {
     /// Reads the record of a relative record number.
@@ -34,11 +39,24 @@ impl Contents {
         let Some(image) = self.live_image(opened.member(), rrn) else {
             return Err(Stop::Refused(Reply::NotFound));
         };
-        let values = file.format().unpack(self.alloc, image)?;
+        let values = values_shown(self.alloc, file.format(), image)?;
         Ok(RecordRead {
             format: file.format().name,
             rrn,
-            values: Values::from_vec(values),
+            values,
         })
+    }
+}
+
+/// The values that a record shows, in which one stands in each field.
+fn values_shown(alloc: Global, format: &Format, image: &[u8]) -> Result<Values, AllocError>
+    requires long { length image.now ≡ record_length format.now.fields }
+    requires held { is_some (record_held format.now.fields image.now) ≡ true }
+    ensures { IfOk result (λ values. values ≡ values_shown format.now.fields image.now) }
+{
+    match format.unpack(alloc, image) {
+        Ok(values) => Ok(Values::from_vec(values)),
+        Err(ImageFault::NoMemory) => Err(AllocError),
+        Err(ImageFault::BadImage(_)) => unreachable!(),
     }
 }

@@ -1,40 +1,21 @@
 //! CRTPF.
-ghost use Rattle.std.specs.Prelude.{◌≡◌, ◌∷◌, [], Err, Ok, IfOk, OnOk, IsTrue, IsSome, option_map};
-ghost use Rattle.library_model.specs.SourceList.{text_of};
+ghost use Rattle.std.specs.Prelude.{◌≡◌, ◌∷◌, [], Ok, IfOk, OnOk};
 ghost use Rattle.library_model.specs.declared.replies.Reply.TheVariants.{Done};
 ghost use Rattle.library_model.specs.Change.{unjournaled};
-ghost use Rattle.library_model.specs.CreatePhysicalFile.{create_plan, create_physical_file, described, new_file, with_file};
+ghost use Rattle.library_model.specs.CreatePhysicalFile.{create_plan, create_physical_file, new_file, with_file};
 ghost use Rattle.library_core.specs.Answers.{Gives, Answers};
-ghost use Rattle.library_core.specs.Plans.{IsNewFile, HasFileRoom, Describes};
+ghost use Rattle.library_core.specs.Plans.{IsNewFile, HasFileRoom};
 
 use crate::catalogue::{File, MemberNames};
 use crate::contents::{Contents, no_such_name};
+use crate::described::Described;
 use crate::stop::Stop;
-use field_types::texts::SourceText;
 use library_model::limits::{LAST_MEMBER, MOST_FILES};
 use library_model::replies::{LimitKind, Reply};
 use library_model::requests::CreatePhysicalFile;
 use library_model::sources::Sources;
 use member_slots::member::Member;
-use plain_format::formats::Format;
-use plain_format::reading::{FormatError, read_format};
 use std::alloc::AllocError;
-use std::marker::Model;
-
-/// What a new file is made of: a source, and the format that it describes.
-#[derive(Drop)]
-struct NewFile {
-    source: SourceText,
-    format: Format,
-}
-
-impl Model for NewFile {
-    ghost use Rattle.library_model.specs.CreatePhysicalFile.{NewFile as ToMake};
-
-    ghost Value = { ToMake };
-
-    ghost view = { λ f. record { source = f.source; format = f.format } };
-}
 
 impl Contents {
     /// Makes a physical file and its first member.
@@ -51,7 +32,7 @@ impl Contents {
     }
 
     #[tactic(auto, unfolding(library_model::specs::CreatePhysicalFile::create_plan))]
-    fn plan_create(&self, sources: &Sources, args: &CreatePhysicalFile) -> Result<NewFile, Stop>
+    fn plan_create(&self, sources: &Sources, args: &CreatePhysicalFile) -> Result<Described, Stop>
         ensures plan { Gives result (create_plan sources.now self.now.memory args.now) }
         ensures new { IfOk result (λ plan. IsNewFile self.now.memory args.now) }
     {
@@ -70,37 +51,16 @@ impl Contents {
                 number: u64::from(LAST_MEMBER),
             }));
         }
-        match self.described(sources, args)? {
-            Some(plan) => Ok(plan),
+        match sources.text(&args.source) {
+            Some(text) => Described::read(self.alloc, text, &self.catalogue),
             None => Err(no_such_name(args.source)),
-        }
-    }
-
-    /// The source and its format, where there is such a source.
-    fn described(
-        &self,
-        sources: &Sources,
-        args: &CreatePhysicalFile,
-    ) -> Result<Option<NewFile>, Stop>
-        ensures { Describes result (described (text_of sources.now args.now.source)) }
-    {
-        let Some(source) = sources.text(&args.source) else {
-            return Ok(None);
-        };
-        match read_format(self.alloc, source.as_bytes()) {
-            Ok(format) => Ok(Some(NewFile {
-                source: source.copied(self.alloc)?,
-                format,
-            })),
-            Err(FormatError::NoMemory) => Err(Stop::NoMemory),
-            Err(FormatError::NotPlain) => Ok(None),
         }
     }
 
     fn prepare_create(
         &mut self,
         args: &CreatePhysicalFile,
-        plan: NewFile,
+        plan: Described,
     ) -> Result<File, AllocError>
         ensures unchanged { self.new.memory ≡ self.old.memory }
         ensures file { IfOk result (λ file. file ≡ new_file args.now.file self.old.memory.next_member plan) }
@@ -109,8 +69,7 @@ impl Contents {
         let members = MemberNames::first(self.alloc, args.file, self.next_member)?;
         self.catalogue.make_room()?;
         self.members.make_room()?;
-        let NewFile { source, format } = plan;
-        Ok(File::new(source, format, members))
+        Ok(File::new(plan, members))
     }
 
     fn apply_create(&mut self, args: &CreatePhysicalFile, file: File) -> Reply
@@ -120,7 +79,7 @@ impl Contents {
         ensures { unjournaled self.new.memory result ≡ unjournaled (with_file self.old.memory args.now.file file) Done }
     {
         let number = self.next_member;
-        let member = Member::new(self.alloc, file.format().record_length());
+        let member = Member::new(self.alloc, file.format().length());
         self.members.put(number, member).unwrap();
         self.catalogue.add(args.file, file);
         self.next_member = number + 1;

@@ -1,12 +1,15 @@
 //! The jobs that have begun, by number from 1, and what each has opened.
 ghost use Rattle.std.specs.Prelude.{◌≡◌, ◌+◌, ◌-◌, ◌<◌, ◌≤◌, None, [], ◌∷◌, ◌++◌, length, IsTrue, IfOk, OnOk, OnErr};
+ghost use Rattle.std.specs.List.{list_any};
 ghost use Rattle.library_model.specs.declared.limits.TheConstants.{MOST_OPENS};
 ghost use Rattle.library_model.specs.Named.{named};
 ghost use Rattle.library_model.specs.State.{job_at, opens_of, new_job, job_changed};
 ghost use Rattle.library_model.specs.EndJob.{ended_job};
 ghost use Rattle.library_model.specs.Running.{is_running};
 ghost use Rattle.library_model.specs.OpenFile.{with_open};
+ghost use Rattle.library_model.specs.DeleteFile.{has_number, has_open_over, first_user};
 
+use crate::catalogue::MemberNames;
 use field_types::names::Name;
 use indexmap::IndexMap;
 use library_model::limits::MOST_OPENS;
@@ -110,6 +113,18 @@ impl Opens {
         self.opens.get(name).copied()
     }
 
+    /// Whether one of them is over one of these members.
+    pub fn are_over(&self, members: &MemberNames) -> bool
+        ensures { result ≡ list_any (λ entry. has_number members.now entry.1.member) self.now }
+    {
+        for (_, opened) in self.opens.iter() {
+            if members.has_number(opened.member()) {
+                return true;
+            }
+        }
+        false
+    }
+
     /// One open more.
     pub fn add(&mut self, name: Name, opened: Open)
         requires absent { named name self.old ≡ None }
@@ -163,6 +178,13 @@ impl Job {
         &self.opens
     }
 
+    /// Whether it has an open over one of these members.
+    pub fn has_open_over(&self, members: &MemberNames) -> bool
+        ensures { result ≡ has_open_over members.now self.now }
+    {
+        self.opens.are_over(members)
+    }
+
     /// Opens a member.
     pub fn add_open(&mut self, name: Name, opened: Open)
         requires absent { named name self.old.opens ≡ None }
@@ -188,12 +210,14 @@ pub struct Jobs {
 }
 
 impl Model for Jobs {
-    ghost use Rattle.std.specs.Prelude.{List};
+    ghost use Rattle.std.specs.Prelude.{List, ◌≤◌, length};
     ghost use Rattle.library_model.specs.State.{JobState};
 
     ghost Value = { List JobState };
 
     ghost view = { λ j. j.jobs.items };
+
+    ghost invariant = { λ j. length j.jobs.items ≤ 4294967295 };
 }
 
 impl Jobs {
@@ -235,6 +259,13 @@ impl Jobs {
         job.opens()
     }
 
+    /// The first job that has an open over one of these members, by its number.
+    pub fn first_user(&self, members: &MemberNames) -> Option<u32>
+        ensures { result ≡ first_user members.now 1 self.now }
+    {
+        first_user(&self.jobs, members)
+    }
+
     /// Adds an open to a job.
     pub fn add_open(&mut self, number: u32, name: Name, opened: Open)
         requires running { IsTrue (is_running (job_at number self.old)) }
@@ -254,4 +285,16 @@ impl Jobs {
         let job = &mut self.jobs[number as usize - 1];
         job.end();
     }
+}
+
+fn first_user(jobs: &[Job], members: &MemberNames) -> Option<u32>
+    requires { length jobs.now ≤ 4294967295 }
+    ensures { result ≡ first_user members.now 1 jobs.now }
+{
+    for (i, job) in jobs.iter().enumerate() {
+        if job.has_open_over(members) {
+            return Some(i as u32 + 1);
+        }
+    }
+    None
 }

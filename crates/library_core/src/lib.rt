@@ -5,6 +5,8 @@ mod catalogue;
 mod chain_record;
 mod contents;
 mod create_physical_file;
+mod delete_file;
+mod described;
 mod end_job;
 mod jobs;
 pub mod library;

@@ -138,12 +138,12 @@ impl Contents {
     {
         match request {
             Request::CreatePhysicalFile(args) => self.create_physical_file(sources, args),
+            Request::DeleteFile(args) => self.delete_file(args),
             Request::OpenFile(args) => self.open_file(job, args),
             Request::Write(args) => self.write_record(job, args),
             Request::Chain(args) => self.chain_record(job, args),
             Request::EndJob(_) => Ok(self.end_job(job)),
             Request::CreateLogicalFile(_)
-            | Request::DeleteFile(_)
             | Request::AddMember(_)
             | Request::ClearMember(_)
             | Request::ReorganizeMember(_)

@@ -1,7 +1,10 @@
 //! Why a request does nothing.
 ghost use Rattle.std.specs.Prelude.{◌≡◌};
 ghost use Rattle.library_core.specs.declared.stop.Stop.TheVariants.{NoMemory};
+ghost use Rattle.library_core.specs.Described.{unread, undescribed};
 
+use dds_physical::PhysicalError;
+use dds_source::faults::SourceError;
 use library_model::replies::Reply;
 use std::alloc::{AllocError, AllocFailed};
 
@@ -26,5 +29,27 @@ impl<T: Drop> From<AllocFailed<T>> for Stop {
 
     fn from(_error: AllocFailed<T>) -> Stop {
         Stop::NoMemory
+    }
+}
+
+impl From<SourceError> for Stop {
+    ghost from_gives = { λ error stop. stop ≡ unread error };
+
+    fn from(error: SourceError) -> Stop {
+        match error {
+            SourceError::NoMemory => Stop::NoMemory,
+            SourceError::Fault(fault) => Stop::Refused(Reply::DdsFault(fault)),
+        }
+    }
+}
+
+impl From<PhysicalError> for Stop {
+    ghost from_gives = { λ error stop. stop ≡ undescribed error };
+
+    fn from(error: PhysicalError) -> Stop {
+        match error {
+            PhysicalError::NoMemory => Stop::NoMemory,
+            PhysicalError::Fault(fault) => Stop::Refused(Reply::DdsFault(fault)),
+        }
     }
 }

@@ -1,10 +1,12 @@
 //! WRITE.
-ghost use Rattle.std.specs.Prelude.{◌≡◌, ◌≤◌, Ok, IfOk, OnOk, IsTrue, IsSome};
+ghost use Rattle.std.specs.Prelude.{◌≡◌, ◌≤◌, true, None, is_some, length, IfOk, OnOk, IsTrue, IsSome};
 ghost use Rattle.member_slots.specs.Members.{member_at};
 ghost use Rattle.library_model.specs.State.{job_at};
 ghost use Rattle.library_model.specs.Running.{is_running};
 ghost use Rattle.library_model.specs.Change.{unjournaled};
-ghost use Rattle.library_model.specs.WriteRecord.{write_plan, write_change, write_record, format_or_refused};
+ghost use Rattle.library_model.specs.WriteRecord.{write_plan, write_change, write_record, format_or_refused, packed};
+ghost use Rattle.record_fmt.specs.Layout.{record_length};
+ghost use Rattle.record_fmt.specs.Records.{record_given, record_held};
 ghost use Rattle.library_core.specs.Answers.{Gives, Allows, Answers};
 ghost use Rattle.library_core.specs.Plans.{IsNewRecord, HasSlotRoom};
 
@@ -12,10 +14,12 @@ use crate::contents::{Contents, no_such_name};
 use crate::stop::Stop;
 use field_types::names::Name;
 use field_types::texts::Image;
+use field_types::values::Value;
 use library_model::replies::Reply;
 use library_model::requests::{OpenOption, WriteRecord};
-use plain_format::packing::PackFault;
-use std::alloc::AllocError;
+use record_fmt::formats::{Format, PackFault};
+use record_laws::new_record_holds;
+use std::alloc::{AllocError, Global};
 use std::marker::Model;
 
 /// A record to add, and the number of its member.
@@ -56,11 +60,7 @@ impl Contents {
         if opened.option() == OpenOption::Input {
             return Err(Stop::Refused(Reply::WrongOpen));
         }
-        let image = match file.format().pack(self.alloc, args.values.as_slice()) {
-            Ok(image) => image,
-            Err(PackFault::NoMemory) => return Err(Stop::NoMemory),
-            Err(PackFault::Refused(fault)) => return Err(Stop::Refused(Reply::BadValue(fault))),
-        };
+        let image = packed(self.alloc, file.format(), args.values.as_slice())?;
         if self.is_full(opened.member()) {
             return Err(Stop::Refused(Reply::MemberFull));
         }
@@ -96,5 +96,21 @@ fn check_format(named: Option<Name>, format: &Name) -> Result<(), Stop>
     match named {
         Some(name) if name != *format => Err(no_such_name(name)),
         Some(_) | None => Ok(()),
+    }
+}
+
+/// The image of a record with the given values.
+fn packed(alloc: Global, format: &Format, given: &[Option<Value>]) -> Result<Image, Stop>
+    ensures packed { Gives result (packed (record_given format.now.fields given.now None)) }
+    ensures long { IfOk result (λ image. length image ≡ record_length format.now.fields) }
+    ensures held { IfOk result (λ image. is_some (record_held format.now.fields image) ≡ true) }
+{
+    // The fields lie one behind the other, so a record that is packed holds a value of each.
+    let _fields = format.fields.as_slice();
+    new_record_holds();
+    match format.pack_given(alloc, given, None) {
+        Ok(image) => Ok(Image::from_vec(image)),
+        Err(PackFault::NoMemory) => Err(Stop::NoMemory),
+        Err(PackFault::Refused(fault)) => Err(Stop::Refused(Reply::BadValue(fault))),
     }
 }

@@ -1,4 +1,4 @@
--- Which requests the library answers so far: CRTPF, OPNDBF without commitment, WRITE at the end, CHAIN without a lock, ENDJOB.
+-- Which requests the library answers so far: CRTPF, DLTF, OPNDBF without commitment, WRITE at the end, CHAIN without a lock, ENDJOB.
 use Rattle.std.specs.Prelude.{Bool, true, false, ◌&&◌, not}
 use Rattle.std.specs.Option.{is_none}
 use Rattle.library_model.specs.declared.requests.Request.{Request}
@@ -18,12 +18,12 @@ locks_nothing Default = false
 
 abbrev pub is_built : Request → Bool
 is_built (CreatePhysicalFile args) = true
+is_built (DeleteFile args) = true
 is_built (OpenFile args) = not args.commit && is_file_path args.access_path
 is_built (Write args) = is_none args.record_number
 is_built (Chain args) = locks_nothing args.lock
 is_built (EndJob args) = true
 is_built (CreateLogicalFile args) = false
-is_built (DeleteFile args) = false
 is_built (AddMember args) = false
 is_built (ClearMember args) = false
 is_built (ReorganizeMember args) = false

@@ -1,48 +1,66 @@
--- CRTPF: a physical file and its first member, made from a source. (CL reference, CRTPF; Database Programming.)
+-- CRTPF: a physical file and its first member, made from a source. (CL reference, CRTPF; Database Programming; DDS for Physical and Logical Files.)
 use Rattle.std.specs.Prelude.{ℕ, ◌+◌, nat_le, nat_lt, Option, Some, None, Result, Ok, Err, List, [], ◌∷◌, ◌++◌, length}
 use Rattle.std.specs.Option.{is_some, option_map}
 use Rattle.member_slots.specs.Member.{empty_member}
 use Rattle.member_slots.specs.Members.{put_member}
-use Rattle.plain_format.specs.declared.formats.Format.{Format}
-use Rattle.plain_format.specs.Packing.{record_length}
-use Rattle.plain_format.specs.PlainSource.{format_of}
+use Rattle.record_fmt.specs.declared.formats.Format.{Format}
+use Rattle.record_fmt.specs.Layout.{record_length}
+use Rattle.dds_source.specs.declared.faults.DdsFault.{DdsFault}
+use Rattle.dds_source.specs.declared.specifications.Source.{Source}
+use Rattle.dds_source.specs.Reading.{source_of}
+use Rattle.dds_physical.specs.declared.physical_files.PhysicalSpec.{PhysicalSpec}
+use Rattle.dds_physical.specs.Physical.{physical_of}
 use Rattle.library_model.specs.declared.limits.TheConstants.{MOST_FILES, LAST_MEMBER}
 use Rattle.library_model.specs.declared.requests.CreatePhysicalFile.{CreatePhysicalFile}
 use Rattle.library_model.specs.declared.sources.NamedSource.{NamedSource}
 use Rattle.library_model.specs.declared.replies.Reply.{Reply}
-use Rattle.library_model.specs.declared.replies.Reply.TheVariants.{NameExists, LimitReached, Done}
+use Rattle.library_model.specs.declared.replies.Reply.TheVariants.{NameExists, LimitReached, Done, DdsFault as DdsFaultReply}
 use Rattle.library_model.specs.declared.replies.LimitKind.TheVariants.{Files, MemberNumbers}
 use Rattle.library_model.specs.SourceList.{text_of}
-use Rattle.library_model.specs.State.{Memory, FileState, file_named}
+use Rattle.library_model.specs.State.{Memory, FileState, file_named, fields_of}
 use Rattle.library_model.specs.Change.{Change, unjournaled, does}
 use Rattle.library_model.specs.Refusals.{◌>>=◌, refuse_if, named_or_refused}
 
--- what a file is made of: a source, and the format that it describes
+-- what a file is made of: a source, and what it describes
 pub record NewFile : Type 0 where
   pub source : List ℕ
-  pub format : Format
+  pub spec : PhysicalSpec
 
--- The source of this name and its format. A source that has none yet counts as not there.
-abbrev pub described : Option (List ℕ) → Option NewFile
-described None = None
-described (Some text) = option_map (λ format. record { source = text; format = format }) (format_of text)
+-- the record formats that a source may refer to: those of the files that are there
+abbrev pub formats_of : Memory → List ℕ → Option Format
+formats_of m name = option_map (λ file. file.spec.format) (file_named name m)
+
+-- what a source that was read describes, or the first fault
+abbrev pub described_by : (List ℕ → Option Format) → Result Source DdsFault → Result PhysicalSpec DdsFault
+described_by formats (Ok source) = physical_of formats source
+described_by formats (Err fault) = Err fault
+
+-- what a text describes, or its first fault
+abbrev pub described : (List ℕ → Option Format) → List ℕ → Result PhysicalSpec DdsFault
+described formats text = described_by formats (source_of text)
+
+abbrev pub spec_or_refused : Result PhysicalSpec DdsFault → Result PhysicalSpec Reply
+spec_or_refused (Ok spec) = Ok spec
+spec_or_refused (Err fault) = Err (DdsFaultReply fault)
 
 unfoldable pub create_plan : List NamedSource → Memory → CreatePhysicalFile → Result NewFile Reply
 create_plan sources m args = do
   _ ← refuse_if (is_some (file_named args.file m)) (NameExists args.file)
   _ ← refuse_if (nat_le MOST_FILES (length m.files)) (LimitReached Files MOST_FILES)
   _ ← refuse_if (nat_lt LAST_MEMBER m.next_member) (LimitReached MemberNumbers LAST_MEMBER)
-  named_or_refused args.source (described (text_of sources args.source))
+  text ← named_or_refused args.source (text_of sources args.source)
+  spec ← spec_or_refused (described (formats_of m) text)
+  Ok (record { source = text; spec = spec })
 
 -- the file, with a member of its name
 abbrev pub new_file : List ℕ → ℕ → NewFile → FileState
-new_file name number plan = record { source = plan.source; format = plan.format; members = (name, number) ∷ [] }
+new_file name number plan = record { source = plan.source; spec = plan.spec; members = (name, number) ∷ [] }
 
 -- one file more, whose first member has the next number
 abbrev pub with_file : Memory → List ℕ → FileState → Memory
 with_file m name file = record m {
   files = m.files ++ (name, file) ∷ [];
-  members = put_member m.next_member (empty_member (record_length file.format.fields)) m.members;
+  members = put_member m.next_member (empty_member (record_length (fields_of file))) m.members;
   next_member = m.next_member + 1;
 }
 

@@ -4,6 +4,7 @@ pub mod State
 pub mod Change
 pub mod Refusals
 pub mod CreatePhysicalFile
+pub mod DeleteFile
 pub mod OpenFile
 pub mod WriteRecord
 pub mod ChainRecord

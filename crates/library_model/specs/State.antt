@@ -2,16 +2,21 @@
 -- (Database Programming, "Setting up physical files" and "Opening a database file"; Journal Management.)
 use Rattle.std.specs.Prelude.{ℕ, zero, suc, ◌+◌, ◌-◌, Bool, false, if◌then◌else◌, ◌==◌, Option, Some, None, List, [], ◌∷◌, ◌++◌, length, map, slice_get}
 use Rattle.entry_codec.specs.declared.entries.Entry.{Entry}
-use Rattle.plain_format.specs.declared.formats.Format.{Format}
+use Rattle.record_fmt.specs.declared.formats.Field.{Field}
+use Rattle.dds_physical.specs.declared.physical_files.PhysicalSpec.{PhysicalSpec}
 use Rattle.member_slots.specs.Members.{NumberedMembers}
 use Rattle.library_model.specs.declared.requests.OpenOption.{OpenOption}
 use Rattle.library_model.specs.Named.{Named, named}
 
--- a physical file: the data description from which it was made, what that says, and the numbers of its members
+-- a physical file: the data description from which it was made, the record format and key that it describes, and the numbers of the members
 pub record FileState : Type 0 where
   pub source : List ℕ
-  pub format : Format
+  pub spec : PhysicalSpec
   pub members : Named ℕ
+
+-- the fields of a file's records
+abbrev pub fields_of : FileState → List Field
+fields_of file = file.spec.format.fields
 
 -- an open of a job: the file, what it may do, and the number of the member
 pub record OpenState : Type 0 where

@@ -9,6 +9,7 @@ use Rattle.library_model.specs.State.{Memory, State, memory_of}
 use Rattle.library_model.specs.Change.{Change, changed}
 use Rattle.library_model.specs.NeedsMemory.{needs_memory}
 use Rattle.library_model.specs.CreatePhysicalFile.{create_physical_file}
+use Rattle.library_model.specs.DeleteFile.{delete_file}
 use Rattle.library_model.specs.OpenFile.{open_file}
 use Rattle.library_model.specs.WriteRecord.{write_record}
 use Rattle.library_model.specs.ChainRecord.{chain_record}
@@ -17,12 +18,12 @@ use Rattle.library_model.specs.EndJob.{end_job}
 -- what a request of a job at a time does to the memory, or its refusal; those that refuse for want of memory have no step yet, and is_built keeps them out
 unfoldable pub change : List NamedSource → Memory → ℕ → ℕ → Request → Result Change Reply
 change sources m job timestamp (CreatePhysicalFile args) = create_physical_file sources m args
+change sources m job timestamp (DeleteFile args) = delete_file m args
 change sources m job timestamp (OpenFile args) = open_file m job args
 change sources m job timestamp (Write args) = write_record m job args
 change sources m job timestamp (Chain args) = chain_record m job args
 change sources m job timestamp (EndJob args) = end_job m job
 change sources m job timestamp (CreateLogicalFile args) = Err NoMemory
-change sources m job timestamp (DeleteFile args) = Err NoMemory
 change sources m job timestamp (AddMember args) = Err NoMemory
 change sources m job timestamp (ClearMember args) = Err NoMemory
 change sources m job timestamp (ReorganizeMember args) = Err NoMemory

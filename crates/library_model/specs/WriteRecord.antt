@@ -3,7 +3,7 @@ use Rattle.std.specs.Prelude.{ℕ, ◌+◌, Bool, true, false, not, Option, Some
 use Rattle.member_slots.specs.Member.{is_full, appended}
 use Rattle.member_slots.specs.Members.{member_of, with_member}
 use Rattle.field_types.specs.declared.faults.RecordFault.{RecordFault}
-use Rattle.plain_format.specs.Packing.{image_of}
+use Rattle.record_fmt.specs.Records.{record_given}
 use Rattle.library_model.specs.declared.requests.WriteRecord.{WriteRecord}
 use Rattle.library_model.specs.declared.requests.OpenOption.{OpenOption}
 use Rattle.library_model.specs.declared.requests.OpenOption.TheVariants.{Input, All}
@@ -11,7 +11,7 @@ use Rattle.library_model.specs.declared.replies.Reply.{Reply}
 use Rattle.library_model.specs.declared.replies.Reply.TheVariants.{NoSuchName, WrongOpen, BadValue, MemberFull, Added}
 use Rattle.library_model.specs.declared.replies.Missing.TheVariants.{Name}
 use Rattle.library_model.specs.Named.{same_name}
-use Rattle.library_model.specs.State.{Memory}
+use Rattle.library_model.specs.State.{Memory, fields_of}
 use Rattle.library_model.specs.Change.{Change, unjournaled, does}
 use Rattle.library_model.specs.Refusals.{◌>>=◌, refuse_if, opened_file}
 
@@ -37,9 +37,9 @@ packed (Err fault) = Err (BadValue fault)
 unfoldable pub write_plan : Memory → ℕ → WriteRecord → Result NewRecord Reply
 write_plan m job args = do
   its ← opened_file args.open_id job m
-  _ ← format_or_refused args.format its.file.format.name
+  _ ← format_or_refused args.format its.file.spec.format.name
   _ ← refuse_if (is_input its.opened.option) WrongOpen
-  image ← packed (image_of its.file.format.fields args.values)
+  image ← packed (record_given (fields_of its.file) args.values None)
   _ ← refuse_if (is_full (member_of its.opened.member m.members)) MemberFull
   Ok (record { member = its.opened.member; image = image })
 

@@ -1,0 +1,68 @@
+//! A source that was read, and the file that it describes.
+ghost use Rattle.std.specs.Prelude.{◌≡◌};
+ghost use Rattle.dds_physical.specs.References.{refers_to};
+ghost use Rattle.record_fmt.specs.Layout.{IsLaidOut};
+ghost use Rattle.library_model.specs.DeleteFile.{source_refers};
+ghost use Rattle.dds_source.specs.Reading.{source_of};
+ghost use Rattle.library_core.specs.Answers.{Gives};
+ghost use Rattle.library_core.specs.Described.{described_file};
+
+use crate::stop::Stop;
+use dds_physical::{PhysicalSpec, Refs, physical, refers_to};
+use dds_source::reading::read_source;
+use dds_source::specifications::Source;
+use field_types::names::Name;
+use field_types::texts::SourceText;
+use record_fmt::formats::Format;
+use std::alloc::Global;
+use std::marker::Model;
+
+/// The text of a source, and what it describes.
+#[derive(Drop)]
+pub struct Described {
+    text: SourceText,
+    /// The text as it was read, so that DLTF need not read it again.
+    source: Source,
+    spec: PhysicalSpec,
+}
+
+impl Model for Described {
+    ghost use Rattle.std.specs.Prelude.{◌≡◌, Ok};
+    ghost use Rattle.dds_source.specs.Reading.{source_of};
+    ghost use Rattle.library_model.specs.CreatePhysicalFile.{NewFile};
+
+    ghost Value = { NewFile };
+
+    ghost view = { λ d. record { source = d.text; spec = d.spec } };
+
+    ghost invariant = { λ d. source_of d.text ≡ Ok d.source };
+}
+
+impl Described {
+    /// Reads a source, which may refer to the files of `refs`.
+    pub fn read<R: Refs>(alloc: Global, text: &SourceText, refs: &R) -> Result<Described, Stop>
+        ensures { Gives result (described_file (R.formats refs.now) text.now) }
+    {
+        let source = read_source(alloc, text.as_bytes())?;
+        let spec = physical(alloc, &source, refs)?;
+        let text = text.copied(alloc)?;
+        Ok(Described { text, source, spec })
+    }
+
+    /// The record format.
+    pub fn format(&self) -> &Format
+        ensures format { result.now ≡ self.now.spec.format }
+        ensures laid_out { IsLaidOut self.now.spec.format.fields }
+    {
+        // Its fields lie one behind the other.
+        let _fields = self.spec.format.fields.as_slice();
+        &self.spec.format
+    }
+
+    /// Whether the source names the file in REF or REFFLD.
+    pub fn refers_to(&self, file: &Name) -> bool
+        ensures { result ≡ source_refers file.now (source_of self.now.source) }
+    {
+        refers_to(&self.source, file)
+    }
+}
