@@ -1,8 +1,6 @@
 //! `ibmi RUN folder`: runs the jobs of an input and prints every call with its reply.
-//! The run itself stands in the crate `ibmi_batch`; here are the real source, sink and clock.
+//! The run itself stands in the crate `ibmi_batch`, the real source, sink and clock in the crate `outside`.
 #![tactic(auto)]
-
-mod outside;
 
 use ibmi_batch::batch::program;
 use ibmi_batch::status::Status;

@@ -4,7 +4,5 @@
 mod counting;
 pub mod history;
 pub mod limits;
-#[cfg(test)]
-mod tests;
 
 pub use library_model::calls::Call;

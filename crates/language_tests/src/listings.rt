@@ -1,8 +1,8 @@
 //! Listings, requests, replies and values as the reference of the commands prints them, worked out by hand.
-use crate::history_listing::listing;
-use crate::replies::push_reply;
-use crate::requests::push_request;
-use crate::texts::push_values;
+use listing::history_listing::listing;
+use listing::replies::push_reply;
+use listing::requests::push_request;
+use listing::texts::push_values;
 use commit_level::Level;
 use dds_source::{DdsCause, DdsFault};
 use ebc_text::to_ebcdic;

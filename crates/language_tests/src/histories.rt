@@ -1,6 +1,6 @@
 //! A history of one call.
-use crate::Call;
-use crate::history::History;
+use job_history::Call;
+use job_history::history::History;
 use library_model::replies::Reply;
 use library_model::requests::{EndJob, EndReason, Request};
 use std::test::Fail;

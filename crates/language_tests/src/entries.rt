@@ -1,5 +1,5 @@
 //! Entries of the journal as they are printed, worked out by hand from the form of a line.
-use crate::entries::push_entry;
+use listing::entries::push_entry;
 use commit_level::Level;
 use entry_codec::{Entry, EntryKind, FileKind, Images};
 use field_types::names::Name;
