@@ -1,16 +1,15 @@
 -- The calls of the worked rows, and what they lead to.
-use Rattle.std.specs.Prelude.{ℕ, ◌+◌, Bool, true, false, Option, Some, None, List, [], ◌∷◌, codes}
+use Rattle.std.specs.Prelude.{ℕ, ◌+◌, Bool, false, Some, None, List, [], ◌∷◌, codes}
 use Rattle.commit_level.specs.declared.Level.{Level}
 use Rattle.entry_codec.specs.declared.kinds.Images.TheVariants.{Both}
 use Rattle.entry_codec.specs.declared.kinds.Images.{Images}
 use Rattle.field_types.specs.declared.values.Value.TheVariants.{Chars}
 use Rattle.library_model.specs.declared.requests.Request.{Request}
 use Rattle.library_model.specs.declared.requests.Request.TheVariants as request
-use Rattle.library_model.specs.declared.requests.OpenOption.{OpenOption}
-use Rattle.library_model.specs.declared.requests.OpenOption.TheVariants.{All, Input}
+use Rattle.library_model.specs.declared.requests.OpenOption.TheVariants.{All}
 use Rattle.library_model.specs.declared.requests.AccessPath.TheVariants.{File}
 use Rattle.library_model.specs.declared.requests.LockOption.{LockOption}
-use Rattle.library_model.specs.declared.requests.LockOption.TheVariants.{Default, No}
+use Rattle.library_model.specs.declared.requests.LockOption.TheVariants.{Default}
 use Rattle.library_model.specs.declared.requests.ChainTo.TheVariants as chain_to
 use Rattle.library_model.specs.declared.requests.Limit.TheVariants as limit
 use Rattle.library_model.specs.declared.requests.RangeEnd.{RangeEnd}
@@ -51,8 +50,8 @@ journal images = request.StartJournaling (record { file = cust; member = cust; i
 abbrev pub open_as : List ℕ → (commit : Bool) → Request
 open_as name commit = request.OpenFile (record { file = cust; option = All; member = cust; open_id = name; commit = commit; access_path = File })
 
-abbrev pub open : Request
-open = open_as cust false
+abbrev pub opens : Request
+opens = open_as cust false
 
 abbrev pub close : List ℕ → Request
 close name = request.CloseFile (record { open_id = name })
@@ -114,4 +113,4 @@ end_job = request.EndJob (record { reason = Normal; line = 0 })
 -- J1 journals the file with both images, opens it, and writes A, B and C
 abbrev pub three_customers : List Asked
 three_customers =
-    by 1 (journal Both) ∷ by 1 open ∷ by 1 (write cust (codes "A")) ∷ by 1 (write cust (codes "B")) ∷ by 1 (write cust (codes "C")) ∷ []
+    by 1 (journal Both) ∷ by 1 opens ∷ by 1 (write cust (codes "A")) ∷ by 1 (write cust (codes "B")) ∷ by 1 (write cust (codes "C")) ∷ []

@@ -1,13 +1,11 @@
 -- The library of the worked rows: one file of customers, each with a name of five characters, and the jobs J1 and J2.
-use Rattle.std.specs.Prelude.{ℕ, ◌-◌, Bool, false, true, List, [], ◌∷◌, ◌++◌, length, replicate, map, Some, None, codes}
+use Rattle.std.specs.Prelude.{ℕ, ◌-◌, false, true, List, [], ◌∷◌, ◌++◌, length, replicate, Some, None, codes}
 use Rattle.entry_codec.specs.declared.entries.Entry.{Entry}
 use Rattle.entry_codec.specs.declared.kinds.FileKind.TheVariants.{Physical}
 use Rattle.entry_codec.specs.declared.kinds.EntryKind.TheVariants.{FileCreated}
 use Rattle.field_types.specs.declared.kinds.Kind.TheVariants.{Char}
 use Rattle.field_types.specs.declared.kinds.FieldType.{FieldType}
-use Rattle.field_types.specs.declared.values.Value.{Value}
 use Rattle.field_types.specs.declared.values.Value.TheVariants.{Chars}
-use Rattle.key_spec.specs.declared.KeyPart.{KeyPart}
 use Rattle.key_spec.specs.declared.KeyPart.TheVariants.{Field as KeyField}
 use Rattle.key_spec.specs.declared.KeySpec.{KeySpec}
 use Rattle.key_spec.specs.declared.Ties.TheVariants.{Rising}

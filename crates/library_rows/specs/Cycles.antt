@@ -5,7 +5,7 @@ use Rattle.entry_codec.specs.declared.kinds.Images.TheVariants.{Both}
 use Rattle.library_model.specs.declared.requests.Request.TheVariants as request
 use Rattle.library_model.specs.declared.requests.RangeEnd.TheVariants.{Sequence}
 use Rattle.library_rows.specs.Customers.{cust}
-use Rattle.library_rows.specs.Calls.{Asked, by, three_customers, journal, open, open_as, close, write, chain, update, delete, remove, start_commitment}
+use Rattle.library_rows.specs.Calls.{Asked, by, three_customers, journal, opens, open_as, close, write, chain, update, delete, remove, start_commitment}
 
 -- an open under commitment
 abbrev pub opened : List ℕ
@@ -28,7 +28,7 @@ changes job rrn name = by job (chain opened rrn) ∷ by job (update opened name)
 -- two records; a cycle over record 1; then one over record 1 by J1 and one over record 2 by J2, interleaved. All is closed.
 abbrev pub interleaved : List Asked
 interleaved =
-    (by 1 (journal Both) ∷ by 1 open ∷ by 1 (write cust (codes "A")) ∷ by 1 (write cust (codes "B")) ∷ by 1 (close cust)
+    (by 1 (journal Both) ∷ by 1 opens ∷ by 1 (write cust (codes "A")) ∷ by 1 (write cust (codes "B")) ∷ by 1 (close cust)
     ∷ by 1 (start_commitment Chg) ∷ by 2 (start_commitment Chg) ∷ by 1 (open_as opened true) ∷ by 2 (open_as opened true) ∷ [])
     ++ changes 1 1 (codes "A1") ++ (by 1 request.Commit ∷ []) ++ changes 1 1 (codes "A2") ++ changes 2 2 (codes "B2") ++ (by 1 request.Commit ∷ [])
     ++ changes 2 2 (codes "B3") ++ (by 2 request.Commit ∷ by 1 (close opened) ∷ by 2 (close opened) ∷ [])

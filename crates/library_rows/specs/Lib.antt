@@ -5,3 +5,4 @@ pub mod Ranges
 pub mod Locks
 pub mod Cycles
 pub mod KeyedCalls
+pub mod MemberCalls

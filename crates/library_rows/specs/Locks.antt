@@ -2,11 +2,11 @@
 use Rattle.std.specs.Prelude.{ℕ, true, List, [], ◌∷◌, ◌++◌, take, map, codes}
 use Rattle.commit_level.specs.declared.Level.{Level}
 use Rattle.field_types.specs.declared.values.Value.TheVariants.{Chars}
-use Rattle.library_model.specs.declared.requests.LockOption.TheVariants.{Default, No}
+use Rattle.library_model.specs.declared.requests.LockOption.TheVariants.{No}
 use Rattle.library_model.specs.declared.replies.Reply.{Reply}
 use Rattle.library_model.specs.declared.replies.Reply.TheVariants.{Record}
 use Rattle.library_rows.specs.Customers.{cust, no_key, held}
-use Rattle.library_rows.specs.Calls.{Asked, by, three_customers, open, open_as, write, chain, chain_with, start_commitment}
+use Rattle.library_rows.specs.Calls.{Asked, by, three_customers, opens, open_as, write, chain, chain_with, start_commitment}
 use Rattle.library_rows.specs.Shown.{Locked, locked, led_to}
 
 -- a customer that was read
@@ -15,7 +15,7 @@ row rrn name = Record (record { format = codes "CUSTR"; rrn = rrn; values = Char
 
 -- J1 holds record 3, J2 has opened the file
 abbrev pub two_jobs : List Asked
-two_jobs = three_customers ++ by 1 (chain cust 3) ∷ by 2 open ∷ []
+two_jobs = three_customers ++ by 1 (chain cust 3) ∷ by 2 opens ∷ []
 
 -- four records, and an open U under commitment at a level
 abbrev pub at_level : Level → List Asked

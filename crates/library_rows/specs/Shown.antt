@@ -1,5 +1,5 @@
 -- What a row compares of the state that calls lead to.
-use Rattle.std.specs.Prelude.{ℕ, ◌-◌, List, [], ◌∷◌, ◌++◌, Option, drop, map}
+use Rattle.std.specs.Prelude.{ℕ, List, Option, drop, map}
 use Rattle.entry_codec.specs.declared.entries.Entry.{Entry}
 use Rattle.entry_codec.specs.declared.kinds.EntryKind.{EntryKind}
 use Rattle.member_slots.specs.declared.slot.Slot.{Slot}
@@ -9,7 +9,7 @@ use Rattle.key_spec.specs.declared.KeySpec.{KeySpec}
 use Rattle.library_model.specs.declared.replies.Reply.{Reply}
 use Rattle.library_steps.specs.State.{State}
 use Rattle.library_rows.specs.Customers.{library}
-use Rattle.library_rows.specs.Calls.{Asked, Led, run}
+use Rattle.library_rows.specs.Calls.{Asked, run}
 
 -- the slots of the member
 abbrev pub slots : State → List Slot

@@ -5,5 +5,6 @@
 mod commitment;
 mod keys;
 mod locks;
+mod members;
 mod ranges;
 mod receivers;

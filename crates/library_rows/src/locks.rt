@@ -5,7 +5,7 @@ ghost use Rattle.field_types.specs.declared.values.Value.TheVariants.{Chars};
 ghost use Rattle.library_model.specs.declared.requests.LockOption.TheVariants.{Default, No};
 ghost use Rattle.library_model.specs.declared.replies.Reply.TheVariants.{Done, Record, RecordInUse, NoCurrentRecord, HeldToBoundary};
 ghost use Rattle.library_rows.specs.Customers.{cust, no_key};
-ghost use Rattle.library_rows.specs.Calls.{by, three_customers, open, read, chain, chain_with, unlock};
+ghost use Rattle.library_rows.specs.Calls.{by, three_customers, opens, read, chain, chain_with, unlock};
 ghost use Rattle.library_rows.specs.Shown.{locked, lock, replies_behind, led_to};
 ghost use Rattle.library_rows.specs.Locks.{row, two_jobs, at_level, levels};
 

@@ -5,7 +5,7 @@ ghost use Rattle.member_slots.specs.declared.slot.Slot.TheVariants.{Deleted};
 ghost use Rattle.library_model.specs.declared.requests.RangeEnd.TheVariants.{First, Last, Sequence};
 ghost use Rattle.library_model.specs.declared.replies.Reply.TheVariants.{Done, Range, DoesNotFit, Straddled, NoSuchEntry, Gap, InUse};
 ghost use Rattle.library_rows.specs.Customers.{cust, no_key, held, customer};
-ghost use Rattle.library_rows.specs.Calls.{by, three_customers, open, close, chain, update, delete, remove, apply};
+ghost use Rattle.library_rows.specs.Calls.{by, three_customers, opens, close, chain, update, delete, remove, apply};
 ghost use Rattle.library_rows.specs.Shown.{slots, entries_behind, told, replies_behind, led_to};
 ghost use Rattle.library_rows.specs.Ranges.{spoiled, removed, applied};
 
@@ -37,5 +37,5 @@ pub fn ranges_are_refused()
     ensures straddled { replies_behind no_key applied (by 1 (remove (Sequence 11) (Sequence 11)) ∷ []) ≡ Straddled 10 ∷ [] }
     ensures past_the_last { replies_behind no_key applied (by 1 (remove (Sequence 27) First) ∷ []) ≡ NoSuchEntry ∷ [] }
     ensures gap { replies_behind no_key applied (by 1 (remove (Sequence 8) (Sequence 2)) ∷ []) ≡ Gap 2 ∷ [] }
-    ensures in_use { replies_behind no_key applied (by 2 open ∷ by 1 (remove Last First) ∷ []) ≡ Done ∷ InUse 2 ∷ [] }
+    ensures in_use { replies_behind no_key applied (by 2 opens ∷ by 1 (remove Last First) ∷ []) ≡ Done ∷ InUse 2 ∷ [] }
 {}

@@ -1,6 +1,6 @@
 -- UPDATE, DELETE and UNLOCK: the current record of an open is changed, goes, or is given up. (Database Programming, "Updating database records",
 -- "Deleting database records" and "Releasing record locks".)
-use Rattle.std.specs.Prelude.{ℕ, ◌==◌, ◌&&◌, ◌||◌, Bool, true, false, not, Option, Some, None, Result, Ok, Err, List, if◌then◌else◌, unwrap_or}
+use Rattle.std.specs.Prelude.{ℕ, ◌==◌, ◌&&◌, ◌||◌, Bool, not, None, Result, Ok, if◌then◌else◌, unwrap_or}
 use Rattle.std.specs.List.{list_any}
 use Rattle.member_slots.specs.declared.slot.Slot.TheVariants.{Live, Deleted}
 use Rattle.record_fmt.specs.Records.{record_given}
@@ -10,9 +10,9 @@ use Rattle.library_model.specs.declared.requests.OpenName.{OpenName}
 use Rattle.library_model.specs.declared.requests.UpdateRecord.{UpdateRecord}
 use Rattle.library_model.specs.declared.replies.Reply.{Reply}
 use Rattle.library_model.specs.declared.replies.Reply.TheVariants.{WrongOpen, NoCurrentRecord, HeldToBoundary, Done}
-use Rattle.library_steps.specs.State.{Memory, OpenState, JobState, fields_of, with_job, with_opens}
+use Rattle.library_steps.specs.State.{Memory, OpenState, fields_of, with_job, with_opens}
 use Rattle.library_steps.specs.Change.{Change, unjournaled, does}
-use Rattle.library_steps.specs.Refusals.{◌>>=◌, found, refuse_if, sequences_left, OpenedFile, opened_file, named_or_refused}
+use Rattle.library_steps.specs.Refusals.{◌>>=◌, found, refuse_if, sequences_left, opened_file}
 use Rattle.library_steps.specs.Locking.{holder_of, record_of, locks_left, with_locks}
 use Rattle.library_steps.specs.Records.{live_record, slot_there}
 use Rattle.library_steps.specs.UniqueKeys.{keys_free}

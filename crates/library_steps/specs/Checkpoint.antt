@@ -1,5 +1,5 @@
 -- CHKPT: the state of the last sequence is saved, as entries whose replay gives it. (Our own.)
-use Rattle.std.specs.Prelude.{ℕ, ◌+◌, nat_lt, Bool, true, false, ◌&&◌, not, Option, Some, None, Result, Ok, Err, List, [], ◌∷◌, ◌++◌, flat_map, length, min, unwrap_or, if◌then◌else◌}
+use Rattle.std.specs.Prelude.{ℕ, nat_lt, Bool, true, ◌&&◌, Option, Some, None, Result, Ok, List, [], ◌∷◌, ◌++◌, flat_map, length, min, unwrap_or, if◌then◌else◌}
 use Rattle.std.specs.List.{filter_map}
 use Rattle.std.specs.Option.{is_none, option_map, option_map_or}
 use Rattle.entry_codec.specs.declared.entries.Entry.{Entry}
@@ -15,10 +15,10 @@ use Rattle.library_model.specs.declared.replies.Reply.TheVariants.{PendingChange
 use Rattle.library_model.specs.declared.replies.LimitKind.TheVariants.{BlockBytes}
 use Rattle.library_model.specs.Named.{Named}
 use Rattle.library_steps.specs.declared.limits.TheConstants.{MOST_BLOCK_BYTES}
-use Rattle.library_steps.specs.State.{Memory, FileState, MemberStatus, JobState}
+use Rattle.library_steps.specs.State.{Memory, FileState, MemberStatus}
 use Rattle.library_steps.specs.Change.{Change, does}
 use Rattle.library_steps.specs.Refusals.{◌>>=◌, refuse_if, refuse_with}
-use Rattle.library_steps.specs.Ranges.{entry_bytes}
+use Rattle.library_steps.specs.EntrySizes.{entry_bytes}
 
 -- ---- the state as entries: of no job and no moment, and without a sequence but for that of the member's last break
 

@@ -1,8 +1,8 @@
 -- STRCMTCTL, ENDCMTCTL, COMMIT and ROLLBACK. (Commitment Control. That ENDCMTCTL is refused while changes are pending, and what ROLLBACK does to
 -- opens that aren't under commitment, are our own.)
-use Rattle.std.specs.Prelude.{ℕ, ◌+◌, ◌==◌, Bool, true, false, not, Option, Some, None, Result, Ok, Err, List, [], ◌∷◌, ◌++◌, map, if◌then◌else◌}
+use Rattle.std.specs.Prelude.{ℕ, ◌+◌, Bool, false, Option, Some, None, Result, List, [], ◌∷◌, if◌then◌else◌}
 use Rattle.std.specs.List.{list_any}
-use Rattle.std.specs.Option.{is_some, is_none, option_map}
+use Rattle.std.specs.Option.{is_some}
 use Rattle.commit_level.specs.declared.Level.{Level}
 use Rattle.entry_codec.specs.declared.entries.Draft.{Draft}
 use Rattle.entry_codec.specs.declared.kinds.EntryKind.TheVariants.{CommitmentStarted, CommitmentEnded, CommitCycleCommitted}
@@ -10,8 +10,6 @@ use Rattle.lock_table.specs.declared.lock.Lock.{Lock}
 use Rattle.lock_table.specs.declared.levels.Call.{Call}
 use Rattle.lock_table.specs.declared.levels.Call.TheVariants.{Commit, Rollback, EndCommitment}
 use Rattle.lock_table.specs.Levels.{locks_after}
-use Rattle.member_slots.specs.Members.{NumberedMembers, member_of}
-use Rattle.file_model.specs.Positions.{Start}
 use Rattle.journal_model.specs.Replay.{before_of}
 use Rattle.journal_model.specs.Rollback.{MemberChange, rollback_drafts}
 use Rattle.library_model.specs.declared.requests.StartCommitment.{StartCommitment}

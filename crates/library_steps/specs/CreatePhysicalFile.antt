@@ -1,5 +1,5 @@
 -- CRTPF: a physical file and its first member, made from a source. (CL reference, CRTPF; Database Programming; DDS for Physical and Logical Files.)
-use Rattle.std.specs.Prelude.{ℕ, ◌+◌, true, false, nat_le, nat_lt, Option, Some, None, Result, Ok, Err, List, [], ◌∷◌, ◌++◌, length}
+use Rattle.std.specs.Prelude.{ℕ, ◌+◌, true, false, nat_le, nat_lt, Option, None, Result, Ok, Err, List, [], ◌∷◌, ◌++◌, length}
 use Rattle.std.specs.Option.{is_some, option_map}
 use Rattle.entry_codec.specs.declared.kinds.FileKind.TheVariants.{Physical}
 use Rattle.entry_codec.specs.declared.kinds.EntryKind.TheVariants.{FileCreated}

@@ -1,9 +1,9 @@
 -- STRJRNPF and ENDJRNPF: journaling of a member begins, with its records as they stand, or ends. (Journal Management, "Starting journaling".)
-use Rattle.std.specs.Prelude.{ℕ, ◌+◌, true, false, Option, Some, None, Result, Ok, Err, List, [], ◌∷◌, length}
+use Rattle.std.specs.Prelude.{ℕ, ◌+◌, true, false, Some, None, Result, Ok, [], ◌∷◌, length}
 use Rattle.std.specs.Option.{is_some, is_none}
 use Rattle.entry_codec.specs.declared.kinds.Images.{Images}
 use Rattle.entry_codec.specs.declared.kinds.EntryKind.TheVariants.{JournalingStarted, JournalingEnded}
-use Rattle.member_slots.specs.Member.{MemberState, records}
+use Rattle.member_slots.specs.Member.{records}
 use Rattle.member_slots.specs.Members.{member_of}
 use Rattle.library_model.specs.declared.requests.FileMember.{FileMember}
 use Rattle.library_model.specs.declared.requests.StartJournaling.{StartJournaling}
@@ -13,7 +13,7 @@ use Rattle.library_steps.specs.State.{Memory, MemberStatus, with_status}
 use Rattle.library_steps.specs.Change.{Change, journaled, does}
 use Rattle.library_steps.specs.Refusals.{◌>>=◌, refuse_if, sequences_left, member_of_file}
 use Rattle.library_steps.specs.Uses.{user_of, unused}
-use Rattle.library_steps.specs.Drafts.{Author, author_of, member_draft, initial_drafts}
+use Rattle.library_steps.specs.Drafts.{author_of, member_draft, initial_drafts}
 
 -- ---- STRJRNPF
 

@@ -13,6 +13,7 @@ pub mod MemberCommands
 pub mod Journaling
 pub mod Receivers
 pub mod JournalReads
+pub mod EntrySizes
 pub mod Ranges
 pub mod Checkpoint
 pub mod Commitment

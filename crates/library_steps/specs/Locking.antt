@@ -1,13 +1,12 @@
 -- What a call asks of the record locks, and what it leaves of them. (Db2 for i, record locks; Commitment Control, lock levels.)
-use Rattle.std.specs.Prelude.{ℕ, ◌==◌, ◌&&◌, nat_lt, Bool, true, false, if◌then◌else◌, Option, Some, None, Result, Ok, List, length}
+use Rattle.std.specs.Prelude.{ℕ, ◌==◌, ◌&&◌, nat_lt, Bool, if◌then◌else◌, Option, None, Result, List, length}
 use Rattle.std.specs.List.{list_any}
-use Rattle.std.specs.Option.{option_and_then, option_map}
+use Rattle.std.specs.Option.{option_and_then}
 use Rattle.commit_level.specs.declared.Level.{Level}
 use Rattle.lock_table.specs.declared.lock.Lock.{Lock}
 use Rattle.lock_table.specs.declared.lock.Holder.{Holder}
 use Rattle.lock_table.specs.declared.lock.RecordId.{RecordId}
 use Rattle.lock_table.specs.declared.levels.Call.{Call}
-use Rattle.lock_table.specs.declared.levels.Wanted.{Wanted}
 use Rattle.lock_table.specs.declared.table.TheConstants.{MOST_LOCKS}
 use Rattle.lock_table.specs.Levels.{asked, locks_after}
 use Rattle.lock_table.specs.Table.{blocker}

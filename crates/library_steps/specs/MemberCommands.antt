@@ -1,5 +1,5 @@
 -- ADDPFM, CLRPFM and RGZPFM: a member is added, loses its records, or loses its deleted places. (CL reference; Database Programming, "Physical file members".)
-use Rattle.std.specs.Prelude.{ℕ, ◌+◌, true, false, nat_le, nat_lt, Bool, Option, Some, None, Result, Ok, Err, List, [], ◌∷◌, ◌++◌, length, map, if◌then◌else◌}
+use Rattle.std.specs.Prelude.{ℕ, ◌+◌, true, false, nat_le, nat_lt, Bool, Result, Ok, List, [], ◌∷◌, ◌++◌, length, map, if◌then◌else◌}
 use Rattle.std.specs.Option.{is_some}
 use Rattle.entry_codec.specs.declared.entries.Draft.{Draft}
 use Rattle.entry_codec.specs.declared.kinds.EntryKind.{EntryKind}
@@ -16,7 +16,7 @@ use Rattle.library_model.specs.Named.{Named, named, same_name}
 use Rattle.library_steps.specs.declared.limits.TheConstants.{MOST_MEMBERS}
 use Rattle.library_steps.specs.State.{Memory, FileState, MemberStatus, file_named, fields_of, with_status}
 use Rattle.library_steps.specs.Change.{Change, journaled, does}
-use Rattle.library_steps.specs.Refusals.{◌>>=◌, refuse_if, named_or_refused, sequences_left, FoundMember, member_of_file}
+use Rattle.library_steps.specs.Refusals.{◌>>=◌, refuse_if, named_or_refused, sequences_left, member_of_file}
 use Rattle.library_steps.specs.Uses.{user_of, unused}
 use Rattle.library_steps.specs.Drafts.{author_of, member_draft}
 use Rattle.library_steps.specs.CreatePhysicalFile.{new_status}

@@ -1,5 +1,5 @@
 -- OPNDBF and CLOF: an open of a member under a name of the job's own. (CL reference, OPNDBF, CLOF; Database Programming, "Opening a database file".)
-use Rattle.std.specs.Prelude.{ℕ, ◌+◌, nat_le, Bool, true, false, not, Option, Some, None, Result, Ok, Err, List, [], ◌∷◌, ◌++◌, length, filter, if◌then◌else◌}
+use Rattle.std.specs.Prelude.{ℕ, ◌+◌, nat_le, Bool, true, false, not, None, Result, Ok, List, [], ◌∷◌, ◌++◌, length, filter}
 use Rattle.std.specs.Option.{is_some, is_none}
 use Rattle.lock_table.specs.declared.levels.Call.TheVariants.{Close}
 use Rattle.file_model.specs.Positions.{Start}

@@ -1,16 +1,14 @@
 -- APYJRNCHG and RMVJRNCHG: the changes of a range of the journal are made again in a member, or taken out of it. What fits and what is done is
 -- the journal's meaning; here are the refusals around it, and the entries that tell of it. (Journal Management, "Applying journaled changes".)
-use Rattle.std.specs.Prelude.{ℕ, ◌+◌, ◌*◌, ◌==◌, nat_lt, true, false, Bool, Option, Some, None, Result, Ok, Err, List, [], ◌∷◌, ◌++◌, length, map, reverse}
+use Rattle.std.specs.Prelude.{ℕ, ◌+◌, ◌*◌, ◌==◌, nat_lt, true, Option, Some, None, Result, Ok, Err, List, [], ◌∷◌, ◌++◌, length, map, reverse}
 use Rattle.std.specs.List.{sum_by}
 use Rattle.std.specs.Option.{is_none}
 use Rattle.entry_codec.specs.declared.entries.Entry.{Entry}
 use Rattle.entry_codec.specs.declared.entries.Draft.{Draft}
 use Rattle.entry_codec.specs.declared.kinds.EntryKind.{EntryKind}
 use Rattle.entry_codec.specs.declared.kinds.EntryKind.TheVariants.{ChangesApplied, ChangesRemoved, CommitCycleStarted, CommitCycleCommitted}
-use Rattle.entry_codec.specs.Spelling.{spelling}
 use Rattle.member_slots.specs.declared.slot.Slot.{Slot}
-use Rattle.member_slots.specs.declared.slot.Slot.TheVariants.{Live, Deleted}
-use Rattle.member_slots.specs.Member.{MemberState}
+use Rattle.member_slots.specs.declared.slot.Slot.TheVariants.{Deleted}
 use Rattle.member_slots.specs.Members.{NumberedMembers, member_of, with_member}
 use Rattle.journal_model.specs.Acts.{Act, acts}
 use Rattle.journal_model.specs.Places.{slot_of, put_slot}
@@ -29,6 +27,7 @@ use Rattle.library_steps.specs.Refusals.{◌>>=◌, refuse_if, sequences_left, m
 use Rattle.library_steps.specs.Uses.{user_of, unused}
 use Rattle.library_steps.specs.Drafts.{Author, author_of, member_draft, cycle_draft, slot_drafts}
 use Rattle.library_steps.specs.UniqueKeys.{unique_paths, all_apart}
+use Rattle.library_steps.specs.EntrySizes.{entry_bytes}
 use Rattle.library_steps.specs.JournalReads.{first_kept, are_there, are_kept, entries_between, prior_to}
 
 -- ---- the range
@@ -123,9 +122,6 @@ pub record RangeWork : Type 0 where
   pub range : Range
   pub done : RangeDone
   pub drafts : List Draft
-
-abbrev pub entry_bytes : List Entry → ℕ
-entry_bytes entries = sum_by (λ entry. length (spelling entry)) entries
 
 -- the member's limits and keys allow it
 abbrev pub allowed : RangeWork → Memory → Result RangeWork Reply

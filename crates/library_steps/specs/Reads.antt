@@ -1,6 +1,6 @@
 -- SETLL, SETGT, READ, READP, READE, READPE and CHAIN: positions and records. (RPG operation codes; Database Programming, "Reading database records".
 -- That a refused read leaves position and locks, and that a position set gives up the current record, are our own.)
-use Rattle.std.specs.Prelude.{ℕ, ◌==◌, Bool, true, false, Option, Some, None, Result, Ok, Err, List, if◌then◌else◌}
+use Rattle.std.specs.Prelude.{ℕ, ◌==◌, Option, Some, None, Result, Ok, Err, List, if◌then◌else◌}
 use Rattle.lock_table.specs.declared.levels.Call.{Call}
 use Rattle.lock_table.specs.declared.levels.Call.TheVariants.{InputRead, UpdateRead, Position as PositionCall}
 use Rattle.file_model.specs.KeyOrder.{KeyValue}
@@ -20,10 +20,9 @@ use Rattle.library_model.specs.declared.requests.ChainTo.TheVariants.{Key, Recor
 use Rattle.library_model.specs.declared.requests.ChainRecord.{ChainRecord}
 use Rattle.library_model.specs.declared.replies.Reply.{Reply}
 use Rattle.library_model.specs.declared.replies.Reply.TheVariants.{EndOfFile, BeginOfFile, NotFound, WrongOpen, Record, Done}
-use Rattle.library_model.specs.Named.{same_name}
 use Rattle.library_steps.specs.State.{Memory, OpenState, JobState, with_job, with_opens}
 use Rattle.library_steps.specs.Change.{Change, unjournaled, does}
-use Rattle.library_steps.specs.Refusals.{◌>>=◌, found, refuse_if, OpenedFile, opened_file}
+use Rattle.library_steps.specs.Refusals.{◌>>=◌, found, OpenedFile, opened_file}
 use Rattle.library_steps.specs.Locking.{locks_left, with_locks, not_locked, few_locks}
 use Rattle.library_steps.specs.Records.{is_keyed, reading_of, key_asked, number_asked, live_record, record_shown}
 

@@ -1,5 +1,5 @@
 -- CHGJRN and DLTJRNRCV: a new receiver is attached, or receivers are given up. (Journal Management, "Managing receivers".)
-use Rattle.std.specs.Prelude.{ℕ, ◌+◌, ◌==◌, ◌&&◌, ◌||◌, true, false, Bool, not, nat_le, nat_lt, Option, Some, None, Result, Ok, Err, List, [], ◌∷◌, unwrap_or}
+use Rattle.std.specs.Prelude.{ℕ, ◌+◌, ◌==◌, ◌&&◌, ◌||◌, true, false, Bool, not, nat_le, nat_lt, Option, Some, None, Result, Ok, List, [], ◌∷◌, unwrap_or}
 use Rattle.std.specs.List.{find}
 use Rattle.std.specs.Option.{option_map, option_map_or}
 use Rattle.entry_codec.specs.declared.entries.Entry.{Entry}

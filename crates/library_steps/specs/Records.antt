@@ -1,8 +1,7 @@
 -- What an open reads: the records of its member, by the file's key or in arrival order; and the positions that requests set.
 -- (Database Programming, "Reading database records" and "Setting a position in the file".)
-use Rattle.std.specs.Prelude.{ℕ, ◌+◌, ◌==◌, ◌&&◌, nat_lt, Bool, true, false, not, Option, Some, None, Result, Ok, Err, List, [], ◌∷◌, length, unwrap_or, if◌then◌else◌}
+use Rattle.std.specs.Prelude.{ℕ, ◌+◌, ◌&&◌, nat_lt, Bool, true, false, Option, Some, None, Result, Ok, Err, List, [], ◌∷◌, length, unwrap_or, if◌then◌else◌}
 use Rattle.field_types.specs.declared.values.Value.{Value}
-use Rattle.field_types.specs.declared.kinds.FieldType.{FieldType}
 use Rattle.field_types.specs.declared.faults.ValueFault.{ValueFault}
 use Rattle.field_types.specs.declared.faults.ValueFault.TheVariants.{WrongKind}
 use Rattle.field_types.specs.declared.faults.RecordFault.{RecordFault}
@@ -14,7 +13,7 @@ use Rattle.key_spec.specs.declared.KeyPart.{KeyPart}
 use Rattle.key_spec.specs.declared.KeyPart.TheVariants as parts
 use Rattle.member_slots.specs.declared.slot.Slot.{Slot}
 use Rattle.member_slots.specs.declared.slot.Slot.TheVariants.{Live, Deleted}
-use Rattle.member_slots.specs.Member.{MemberState, slot_at}
+use Rattle.member_slots.specs.Member.{slot_at}
 use Rattle.member_slots.specs.Members.{member_of}
 use Rattle.file_model.specs.FilePaths.{physical_path}
 use Rattle.file_model.specs.KeyOrder.{KeyValue, given_key}
@@ -26,7 +25,6 @@ use Rattle.library_model.specs.declared.replies.RecordRead.{RecordRead}
 use Rattle.library_model.specs.declared.replies.Reply.{Reply}
 use Rattle.library_model.specs.declared.replies.Reply.TheVariants.{WrongOpen, BadValue}
 use Rattle.library_steps.specs.State.{Memory, FileState, OpenState, fields_of}
-use Rattle.library_steps.specs.Refusals.{refuse_if, refuse_with}
 
 -- the record that stands in a slot
 abbrev pub record_in : Option Slot → Option (List ℕ)

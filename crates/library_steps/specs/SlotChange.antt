@@ -1,6 +1,6 @@
 -- What the change of a record does besides its slot: its entries, its commit cycle, and whether its member has been changed.
 -- (Journal Management, "Before-images and after-images"; Commitment Control, "Commit cycle identifier".)
-use Rattle.std.specs.Prelude.{ℕ, ◌+◌, ◌-◌, ◌==◌, ◌&&◌, ◌||◌, nat_lt, Bool, true, false, not, Option, Some, None, Result, Ok, Err, List, [], ◌∷◌, ◌++◌, length, unwrap_or, if◌then◌else◌}
+use Rattle.std.specs.Prelude.{ℕ, ◌+◌, ◌-◌, ◌==◌, ◌&&◌, ◌||◌, nat_lt, Bool, true, false, not, Option, Some, None, Result, Ok, List, [], ◌∷◌, ◌++◌, length, unwrap_or, if◌then◌else◌}
 use Rattle.std.specs.List.{find, list_any, sum_by}
 use Rattle.std.specs.Option.{option_map, option_and_then, is_some}
 use Rattle.entry_codec.specs.declared.entries.Draft.{Draft}

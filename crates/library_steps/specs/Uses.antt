@@ -1,6 +1,6 @@
 -- Which jobs use a member: by an open over it, by a change of an open commit cycle, or by a lock that is kept to the boundary.
 -- (Database Programming, allocation of members; Commitment Control. That the least such job is named is our own.)
-use Rattle.std.specs.Prelude.{ℕ, ◌+◌, ◌==◌, ◌&&◌, ◌||◌, Bool, false, if◌then◌else◌, Option, Some, None, Result, List, [], ◌∷◌}
+use Rattle.std.specs.Prelude.{ℕ, ◌+◌, ◌==◌, ◌&&◌, ◌||◌, Bool, if◌then◌else◌, Option, Some, None, Result, List, [], ◌∷◌}
 use Rattle.std.specs.List.{list_any}
 use Rattle.lock_table.specs.declared.lock.Lock.{Lock}
 use Rattle.lock_table.specs.Lock.{is_boundary_in}

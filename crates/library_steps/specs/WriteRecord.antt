@@ -1,5 +1,5 @@
 -- WRITE: a record added past the last place of the member, or at a deleted place. (Database Programming, "Adding database records".)
-use Rattle.std.specs.Prelude.{ℕ, ◌+◌, ◌*◌, ◌==◌, ◌||◌, nat_lt, Bool, true, false, not, Option, Some, None, Result, Ok, Err, List, length, if◌then◌else◌}
+use Rattle.std.specs.Prelude.{ℕ, ◌+◌, ◌==◌, ◌||◌, nat_lt, Bool, true, false, not, Option, Some, None, Result, Ok, Err, List, length}
 use Rattle.std.specs.Option.{is_some}
 use Rattle.member_slots.specs.declared.slot.Slot.TheVariants.{Live, Deleted}
 use Rattle.member_slots.specs.Member.{is_full}
@@ -19,9 +19,9 @@ use Rattle.library_model.specs.Named.{same_name}
 use Rattle.library_steps.specs.declared.limits.TheConstants.{MOST_LIBRARY_BYTES}
 use Rattle.library_steps.specs.State.{Memory, OpenState, fields_of}
 use Rattle.library_steps.specs.Change.{Change, does}
-use Rattle.library_steps.specs.Refusals.{◌>>=◌, refuse_if, sequences_left, OpenedFile, opened_file}
+use Rattle.library_steps.specs.Refusals.{◌>>=◌, refuse_if, sequences_left, opened_file}
 use Rattle.library_steps.specs.Locking.{locks_left, with_locks, not_locked, few_locks}
-use Rattle.library_steps.specs.Records.{live_record, slot_there}
+use Rattle.library_steps.specs.Records.{live_record}
 use Rattle.library_steps.specs.UniqueKeys.{keys_free}
 use Rattle.library_steps.specs.Ranges.{library_bytes}
 use Rattle.library_steps.specs.SlotChange.{NewSlot, not_held, few_changes, is_behind_last, slot_change}
