@@ -1,0 +1,56 @@
+-- DLTF: a physical file is gone, and its members with it. (CL reference, DLTF; Database Programming.)
+use Rattle.std.specs.Prelude.{ℕ, Bool, true, false, if◌then◌else◌, not, filter, Option, Some, None, Result, Ok, Err, List, [], ◌∷◌}
+use Rattle.entry_codec.specs.declared.kinds.EntryKind.TheVariants.{FileDeleted}
+use Rattle.member_slots.specs.Members.{NumberedMembers, without_member}
+use Rattle.dds_source.specs.declared.faults.DdsFault.{DdsFault}
+use Rattle.dds_source.specs.declared.specifications.Source.{Source}
+use Rattle.dds_source.specs.Reading.{source_of}
+use Rattle.dds_physical.specs.References.{refers_to}
+use Rattle.library_model.specs.declared.requests.DeleteFile.{DeleteFile}
+use Rattle.library_model.specs.declared.replies.Reply.{Reply}
+use Rattle.library_model.specs.declared.replies.Reply.TheVariants.{Dependents, Done}
+use Rattle.library_model.specs.Named.{Named, same_name}
+use Rattle.library_steps.specs.State.{Memory, FileState, MemberStatus, file_named}
+use Rattle.library_steps.specs.Change.{Change, journaled, does}
+use Rattle.library_steps.specs.Refusals.{◌>>=◌, refuse_with, named_or_refused, sequences_left}
+use Rattle.library_steps.specs.Uses.{user_of_any, unused}
+use Rattle.library_steps.specs.Drafts.{author_of, library_draft}
+
+-- a source that was read names the file in REF or REFFLD
+abbrev pub source_refers : List ℕ → Result Source DdsFault → Bool
+source_refers name (Ok source) = refers_to name source
+source_refers name (Err fault) = false
+
+abbrev pub file_refers : List ℕ → FileState → Bool
+file_refers name file = source_refers name (source_of file.source)
+
+-- the first file, by creation, that refers to the one of this name
+abbrev pub first_dependent : List ℕ → Named FileState → Option (List ℕ)
+first_dependent name [] = None
+first_dependent name (entry ∷ files) = if file_refers name entry.1 then Some entry.0 else first_dependent name files
+
+-- the file that is to go
+unfoldable pub delete_plan : Memory → DeleteFile → Result FileState Reply
+delete_plan m args = do
+  _ ← sequences_left m
+  file ← named_or_refused args.file (file_named args.file m)
+  _ ← refuse_with Dependents (first_dependent args.file m.files)
+  _ ← unused (user_of_any file.members m)
+  Ok file
+
+abbrev pub without_file : List ℕ → Named FileState → Named FileState
+without_file name files = filter (λ entry. not (same_name name entry.0)) files
+
+abbrev pub without_members : Named MemberStatus → NumberedMembers → NumberedMembers
+without_members [] members = members
+without_members (entry ∷ others) members = without_members others (without_member entry.1.number members)
+
+abbrev pub deleted : DeleteFile → FileState → Memory → Memory
+deleted args file m = record m { files = without_file args.file m.files; members = without_members file.members m.members }
+
+abbrev pub delete_change : Memory → ℕ → (timestamp : ℕ) → DeleteFile → FileState → Change
+delete_change m job timestamp args file =
+    journaled (library_draft (author_of m job timestamp) (FileDeleted args.file) ∷ []) true Done (deleted args file m)
+
+abbrev pub delete_file : Memory → ℕ → (timestamp : ℕ) → DeleteFile → Result Change Reply
+delete_file m job timestamp args = does (delete_change m job timestamp args) (delete_plan m args)

@@ -1,0 +1,5 @@
+//! What each request of a job does to the library: its state, its refusals in order, its effect, its reply, and the entries that it
+//! deposits. Nothing runs here. Begin with `specs/State.antt`, then `specs/Step.antt`.
+#![tactic(auto)]
+
+pub mod limits;
