@@ -1,12 +1,12 @@
 -- Which lines of a job's statements are at fault: rules, of which each stands by itself. (CL programs: DCL, labels, MONMSG, DO groups.)
-use Rattle.std.specs.Prelude.{ℕ, Bool, true, false, if◌then◌else◌, ◌&&◌, ◌||◌, not, nat_lt, Option, Some, None, List, [], ◌∷◌, ◌++◌}
+use Rattle.std.specs.Prelude.{ℕ, Bool, true, false, ◌&&◌, ◌||◌, not, nat_lt, Option, Some, None, List, [], ◌∷◌, ◌++◌}
 use Rattle.std.specs.Option.{is_some, is_none}
 use Rattle.library_model.specs.Named.{Named, named}
 use Rattle.statement_syntax.specs.declared.Written.{Written}
 use Rattle.script_builder.specs.declared.phrases.Block.{Block}
 use Rattle.script_builder.specs.Phrases.{nesting_of, target_of, variable_of, is_declaration, is_else, is_monitor, is_request}
 use Rattle.script_builder.specs.Nestings.{depth_after, closes_none, blocks_after, closes_then, depth_behind}
-use Rattle.script_builder.specs.Ways.{count_of, with_name, labels_of}
+use Rattle.script_builder.specs.Ways.{count_of, with_new, labels_of}
 
 -- a line where it is at fault, before others
 abbrev pub noted : Bool → ℕ → List ℕ → List ℕ
@@ -50,6 +50,10 @@ stray_elses (w ∷ ws) blocks after_then =
     let nesting = nesting_of w.phrase in
     noted (is_else w.phrase && not after_then) w.line (stray_elses ws (blocks_after blocks nesting) (closes_then blocks nesting))
 
+abbrev pub with_name : Option (List ℕ) → ℕ → Named ℕ → Named ℕ
+with_name None line names = names
+with_name (Some name) line names = (name, line) ∷ names
+
 -- the variables that are declared, and the labels, each with its line
 abbrev pub variables_of : List Written → Named ℕ
 variables_of [] = []
@@ -62,9 +66,7 @@ labelled_lines (w ∷ ws) = with_name w.label w.line (labelled_lines ws)
 -- a name that an earlier line has
 abbrev pub repeated : Named ℕ → Named ℕ → List ℕ
 repeated [] earlier = []
-repeated (n ∷ names) earlier =
-    let again = is_some (named n.0 earlier) in
-    noted again n.1 (repeated names (if again then earlier else earlier ++ n ∷ []))
+repeated (n ∷ names) earlier = noted (is_some (named n.0 earlier)) n.1 (repeated names (with_new n.0 n.1 earlier))
 
 abbrev pub is_missing : Option (List ℕ) → Named ℕ → Bool
 is_missing None labels = false
@@ -84,4 +86,4 @@ plain_faults written end =
 abbrev pub faults_of : List Written → ℕ → List ℕ
 faults_of written end =
     plain_faults written end ++ stray_elses written [] false ++ repeated (variables_of written) [] ++ repeated (labelled_lines written) []
-    ++ missing_labels written (labels_of written (count_of written) 0)
+    ++ missing_labels written (labels_of written (count_of written) 0 [])

@@ -62,5 +62,5 @@ statements_of (w ∷ ws) (way ∷ ways) labels =
 abbrev pub script_of : List Written → Script
 script_of written =
     let total = count_of written in
-    let labels = labels_of written total 0 in
+    let labels = labels_of written total 0 [] in
     record { variables = literals_of written; statements = statements_of written (ways_of written labels total []) labels }

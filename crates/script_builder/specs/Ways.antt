@@ -1,7 +1,7 @@
 -- Where each statement leads. Places count the statements of the script from 0; past the last the script ends.
 -- (CL programs: IF, ELSE, DOWHILE, GOTO; places are our own.)
-use Rattle.std.specs.Prelude.{ℕ, zero, suc, ◌-◌, Bool, true, false, if◌then◌else◌, ◌&&◌, ◌||◌, not, Option, Some, None, List, [], ◌∷◌}
-use Rattle.std.specs.Option.{unwrap_or}
+use Rattle.std.specs.Prelude.{ℕ, zero, suc, ◌-◌, Bool, true, false, if◌then◌else◌, ◌&&◌, ◌||◌, not, Option, Some, None, List, [], ◌∷◌, ◌++◌}
+use Rattle.std.specs.Option.{is_some, unwrap_or}
 use Rattle.library_model.specs.Named.{Named, named}
 use Rattle.statement_syntax.specs.declared.Written.{Written}
 use Rattle.script_builder.specs.declared.phrases.Block.{Block}
@@ -25,20 +25,20 @@ count_of (w ∷ ws) = counted (counts w.phrase) (count_of ws)
 abbrev pub place_of : List Written → ℕ → ℕ
 place_of rest total = total - count_of rest
 
--- a name of something, before others
-abbrev pub with_name : Option (List ℕ) → ℕ → Named ℕ → Named ℕ
-with_name None number names = names
-with_name (Some name) number names = (name, number) ∷ names
+-- one name more, unless it's there already
+abbrev pub with_new : List ℕ → ℕ → Named ℕ → Named ℕ
+with_new name number names = if is_some (named name names) then names else names ++ (name, number) ∷ []
 
-abbrev pub outside : ℕ → Option (List ℕ) → Option (List ℕ)
-outside zero label = label
-outside (suc depth) label = None
+abbrev pub with_label : ℕ → Option (List ℕ) → ℕ → Named ℕ → Named ℕ
+with_label zero None place labels = labels
+with_label zero (Some label) place labels = with_new label place labels
+with_label (suc depth) label place labels = labels
 
--- the labels that stand outside blocks; each names the place of the next statement that counts
-abbrev pub labels_of : List Written → ℕ → ℕ → Named ℕ
-labels_of [] total depth = []
-labels_of (w ∷ ws) total depth =
-    with_name (outside depth w.label) (place_of (w ∷ ws) total) (labels_of ws total (depth_after depth (nesting_of w.phrase)))
+-- the labels that stand outside blocks, after those before; each names the place of the next statement that counts
+abbrev pub labels_of : List Written → ℕ → ℕ → Named ℕ → Named ℕ
+labels_of [] total depth before = before
+labels_of (w ∷ ws) total depth before =
+    labels_of ws total (depth_after depth (nesting_of w.phrase)) (with_label depth w.label (place_of (w ∷ ws) total) before)
 
 abbrev pub label_place : Named ℕ → List ℕ → ℕ
 label_place labels label = unwrap_or (named label labels) 0

@@ -1,0 +1,33 @@
+-- The less of two numbers, and the least of some.
+use Rattle.std.proofs.Common.{◌≡◌, ℕ, Bool, true, false, Option, Some, None, List, [], ◌∷◌, ◌++◌, refl, sym, ap, ◌∙◌, arith}
+use Rattle.std.specs.Prelude.{min}
+use Rattle.script_builder.specs.Least.{lesser, least}
+use Rattle.script_builder.specs.Faults.{noted}
+
+pub lesser-none : (a : Option ℕ) → lesser a None ≡ a
+lesser-none None = refl
+lesser-none (Some a) = refl
+
+pub lesser_assoc : (a b c : Option ℕ) → lesser (lesser a b) c ≡ lesser a (lesser b c)
+lesser_assoc None b c = refl
+lesser_assoc (Some a) None c = refl
+lesser_assoc (Some a) (Some b) None = refl
+lesser_assoc (Some a) (Some b) (Some c) = let same : min (min a b) c ≡ min a (min b c) = omega arith in ap (λ n. Some n) same
+
+-- one line more that may be at fault
+pub noted_step : (first : Option ℕ) (bad : Bool) (line : ℕ) (lines : List ℕ) → lesser (lesser first (least (noted bad line []))) (least lines) ≡ lesser first (least (noted bad line lines))
+noted_step first true line lines = lesser_assoc first (Some line) (least lines)
+noted_step first false line lines = lesser_assoc first None (least lines)
+
+pub least-append : (xs ys : List ℕ) → least (xs ++ ys) ≡ lesser (least xs) (least ys)
+least-append [] ys = refl
+least-append (x ∷ xs) ys = ap (lesser (Some x)) (least-append xs ys) ∙ sym (lesser_assoc (Some x) (least xs) (least ys))
+
+lesser-some : (x : ℕ) (b : Option ℕ) → lesser (Some x) b ≡ None → ⊥
+lesser-some x None is = cc
+lesser-some x (Some y) is = cc
+
+-- what has no least is empty
+pub least-none : (xs : List ℕ) → least xs ≡ None → xs ≡ []
+least-none [] is = refl
+least-none (x ∷ xs) is = absurd (lesser-some x (least xs) is)
