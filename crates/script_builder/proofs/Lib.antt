@@ -1,3 +1,6 @@
 mod EndLemmas
+mod LawLemmas
 mod LeastLemmas
+mod LoopLemmas
+mod StackLemmas
 mod WayLemmas

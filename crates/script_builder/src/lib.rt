@@ -17,6 +17,8 @@ pub mod phrases;
 mod repeats;
 pub mod rests;
 mod stack;
+#[cfg(test)]
+mod tests;
 pub mod ways;
 
 use crate::names::Names;
