@@ -4,7 +4,7 @@ ghost use Rattle.script_builder.specs.Ways.{label_place};
 ghost use Rattle.script_builder.specs.Scripts.{added, literals_of, statements_of};
 ghost use Rattle.script_builder.specs.Parts.{no_part, part_of, part_with};
 
-use crate::names::Names;
+use crate::name_table::NameTable;
 use crate::ways::Way;
 use field_types::names::Name;
 use field_types::values::Value;
@@ -22,7 +22,7 @@ pub struct Part {
     pub monitor: Option<Monitor>,
 }
 
-fn label_place(label: Option<Name>, labels: &Names) -> Option<usize>
+fn label_place(label: Option<Name>, labels: &NameTable) -> Option<usize>
     ensures { result ≡ option_map (label_place labels.now) label }
 {
     match label {
@@ -51,7 +51,7 @@ fn no_part() -> Part
     }
 }
 
-fn part(written: Written, way: Way, monitor: Option<Monitor>, labels: &Names) -> Part
+fn part_of(written: Written, way: Way, monitor: Option<Monitor>, labels: &NameTable) -> Part
     ensures { result ≡ part_of written way monitor labels.now }
 {
     let Written {
@@ -134,7 +134,7 @@ pub(crate) fn assembled(
     alloc: Global,
     mut statements: Vec<Written>,
     ways: &[Way],
-    labels: &Names,
+    labels: &NameTable,
 ) -> Result<Script, AllocError>
     requires { length statements.items ≤ length ways.now }
     ensures literals { IfOk result (λ script. script.variables ≡ literals_of statements.items) }
@@ -144,7 +144,7 @@ pub(crate) fn assembled(
     let mut made = Vec::new(alloc);
     let mut monitor = None;
     while let Some(written) = statements.pop() {
-        let part = part(written, ways[statements.len()], monitor, labels);
+        let part = part_of(written, ways[statements.len()], monitor, labels);
         push_value(&mut literals, part.literal)?;
         push_statement(&mut made, part.statement)?;
         monitor = part.monitor;

@@ -1,6 +1,7 @@
 //! Open blocks, by `specs/Nestings.antt`.
 ghost use Rattle.std.specs.Prelude.{◌≡◌, ◌+◌, ◌^◌, ◌<◌, OnOk};
 ghost use Rattle.script_builder.specs.Nestings.{depth_after, closes_none, blocks_after, closes_then};
+ghost use Rattle.script_builder.specs.Ways.{is_closing};
 
 use crate::phrases::{Block, Nesting};
 use crate::stack::Stack;
@@ -15,6 +16,17 @@ pub(crate) fn depth_after(depth: usize, nesting: Nesting) -> usize
         Nesting::Opens(_) => depth + 1,
         Nesting::Closes => depth.saturating_sub(1),
         Nesting::Stays => depth,
+    }
+}
+
+/// Whether it's an ENDDO.
+pub(crate) fn is_closing(nesting: Nesting) -> bool
+    ensures { result ≡ is_closing nesting }
+{
+    match nesting {
+        Nesting::Opens(_) => false,
+        Nesting::Closes => true,
+        Nesting::Stays => false,
     }
 }
 

@@ -4,8 +4,8 @@ ghost use Rattle.script_builder.specs.Least.{least, lesser};
 ghost use Rattle.script_builder.specs.Faults.{noted, late_declarations, stray_monitors, stray_ends, labels_inside, open_at_end, stray_elses, missing_labels, plain_faults};
 
 use crate::blocks::{closes_none, closes_then, depth_after, nest};
-use crate::names::Names;
-use crate::phrases::{begins_else, declares, monitors, nesting, requests, target};
+use crate::name_table::NameTable;
+use crate::phrases::{begins_else, declares, monitors, nesting_of, requests, target};
 use crate::stack::Stack;
 use statement_syntax::Written;
 use std::alloc::{AllocError, Global};
@@ -67,7 +67,7 @@ fn stray_end(statements: &[Written]) -> Option<u32>
     let mut first = None;
     let mut depth = 0;
     for statement in statements {
-        let nesting = nesting(&statement.phrase);
+        let nesting = nesting_of(&statement.phrase);
         first = noting(first, closes_none(depth, nesting), statement.line);
         depth = depth_after(depth, nesting);
     }
@@ -82,7 +82,7 @@ fn inner_label(statements: &[Written]) -> Option<u32>
     let mut depth = 0;
     for statement in statements {
         first = noting(first, statement.label.is_some() && depth > 0, statement.line);
-        depth = depth_after(depth, nesting(&statement.phrase));
+        depth = depth_after(depth, nesting_of(&statement.phrase));
     }
     first
 }
@@ -93,7 +93,7 @@ fn open_block(statements: &[Written], end_line: u32) -> Option<u32>
 {
     let mut depth = 0;
     for statement in statements {
-        depth = depth_after(depth, nesting(&statement.phrase));
+        depth = depth_after(depth, nesting_of(&statement.phrase));
     }
     noting(None, depth > 0, end_line)
 }
@@ -118,7 +118,7 @@ pub(crate) fn stray_else(alloc: Global, statements: &[Written]) -> Result<Option
     for statement in statements {
         let begins_else = begins_else(&statement.phrase);
         first = noting(first, begins_else && !after_then, statement.line);
-        let nesting = nesting(&statement.phrase);
+        let nesting = nesting_of(&statement.phrase);
         after_then = closes_then(&blocks, nesting);
         nest(&mut blocks, nesting)?;
     }
@@ -126,7 +126,7 @@ pub(crate) fn stray_else(alloc: Global, statements: &[Written]) -> Result<Option
 }
 
 /// A statement that goes to a label which stands nowhere outside blocks.
-pub(crate) fn missing_label(statements: &[Written], labels: &Names) -> Option<u32>
+pub(crate) fn missing_label(statements: &[Written], labels: &NameTable) -> Option<u32>
     ensures { result ≡ least (missing_labels statements.now labels.now) }
 {
     let mut first = None;

@@ -12,7 +12,7 @@ ghost use Rattle.script_builder.specs.declared.BuildError.TheVariants.{NoMemory}
 pub mod assembly;
 mod blocks;
 mod faults;
-mod names;
+mod name_table;
 pub mod phrases;
 mod repeats;
 pub mod rests;
@@ -21,7 +21,7 @@ mod stack;
 mod tests;
 pub mod ways;
 
-use crate::names::Names;
+use crate::name_table::NameTable;
 use job_language::statements::Script;
 use statement_syntax::{Written, WrittenStatements};
 use std::alloc::{AllocError, Global};
@@ -47,7 +47,7 @@ impl From<AllocError> for BuildError {
 fn first_fault(
     alloc: Global,
     statements: &[Written],
-    labels: &Names,
+    labels: &NameTable,
     end_line: u32,
 ) -> Result<Option<u32>, AllocError>
     requires { labels.now ≡ labels_of statements.now (count_of statements.now) 0 [] }

@@ -42,7 +42,7 @@ pub(crate) fn does_count(phrase: &Phrase) -> bool
 }
 
 /// What a statement does to the open blocks.
-pub(crate) fn nesting(phrase: &Phrase) -> Nesting
+pub(crate) fn nesting_of(phrase: &Phrase) -> Nesting
     ensures { result ≡ nesting_of phrase.now }
 {
     match phrase {

@@ -7,8 +7,8 @@ ghost use Rattle.script_builder.specs.Ways.{count_of, labels_of, with_label};
 
 use crate::blocks::depth_after;
 use crate::faults::noting;
-use crate::names::Names;
-use crate::phrases::{does_count, nesting, variable};
+use crate::name_table::NameTable;
+use crate::phrases::{does_count, nesting_of, variable};
 use field_types::names::Name;
 use statement_syntax::Written;
 use std::alloc::{AllocError, Global};
@@ -16,7 +16,7 @@ use std::alloc::{AllocError, Global};
 /// The less of a line and that of a name, where the name is among the earlier ones.
 fn noting_name(
     first: Option<u32>,
-    earlier: &mut Names,
+    earlier: &mut NameTable,
     name: Option<Name>,
     line: u32,
 ) -> Result<Option<u32>, AllocError>
@@ -39,7 +39,7 @@ pub(crate) fn repeated_variable(
     ensures { IfOk result (λ first. first ≡ least (repeated (variables_of statements.now) [])) }
 {
     let mut first = None;
-    let mut earlier = Names::new(alloc);
+    let mut earlier = NameTable::new(alloc);
     for statement in statements {
         first = noting_name(first, &mut earlier, variable(&statement.phrase), statement.line)?;
     }
@@ -54,7 +54,7 @@ pub(crate) fn repeated_label(
     ensures { IfOk result (λ first. first ≡ least (repeated (labelled_lines statements.now) [])) }
 {
     let mut first = None;
-    let mut earlier = Names::new(alloc);
+    let mut earlier = NameTable::new(alloc);
     for statement in statements {
         first = noting_name(first, &mut earlier, statement.label, statement.line)?;
     }
@@ -62,7 +62,7 @@ pub(crate) fn repeated_label(
 }
 
 fn note_label(
-    labels: &mut Names,
+    labels: &mut NameTable,
     depth: usize,
     label: Option<Name>,
     place: usize,
@@ -78,15 +78,15 @@ fn note_label(
 }
 
 /// The labels that stand outside blocks, with their places.
-pub(crate) fn labels(alloc: Global, statements: &[Written]) -> Result<Names, AllocError>
+pub(crate) fn labels(alloc: Global, statements: &[Written]) -> Result<NameTable, AllocError>
     ensures { IfOk result (λ labels. labels ≡ labels_of statements.now (count_of statements.now) 0 []) }
 {
-    let mut labels = Names::new(alloc);
+    let mut labels = NameTable::new(alloc);
     let mut depth = 0;
     let mut place = 0;
     for statement in statements {
         note_label(&mut labels, depth, statement.label, place)?;
-        depth = depth_after(depth, nesting(&statement.phrase));
+        depth = depth_after(depth, nesting_of(&statement.phrase));
         place += usize::from(does_count(&statement.phrase));
     }
     Ok(labels)

@@ -3,7 +3,8 @@ ghost use Rattle.std.specs.Prelude.{◌≡◌, ◌+◌, ◌^◌, ◌<◌, [], On
 ghost use Rattle.script_builder.specs.Ways.{count_of};
 ghost use Rattle.script_builder.specs.Rests.{ahead_before, ends_after, rests_of};
 
-use crate::phrases::{Nesting, begins_else, does_count, nesting};
+use crate::blocks::is_closing;
+use crate::phrases::{Nesting, begins_else, does_count, nesting_of};
 use crate::stack::Stack;
 use statement_syntax::{Phrase, Written};
 use std::alloc::{AllocError, Global};
@@ -52,7 +53,7 @@ fn landing_before(phrase: &Phrase, here: Landing) -> Landing
     }
     Landing {
         count: here.count,
-        leaves: nesting(phrase) == Nesting::Closes || here.leaves,
+        leaves: is_closing(nesting_of(phrase)) || here.leaves,
     }
 }
 
@@ -92,7 +93,7 @@ pub(crate) fn rests(alloc: Global, statements: &[Written]) -> Result<Vec<Rest>, 
             here: ahead.here,
             behind,
         })?;
-        pass(&mut ends, nesting(phrase), ahead)?;
+        pass(&mut ends, nesting_of(phrase), ahead)?;
         ahead = ahead_before(phrase, ahead, behind);
     }
     rests.reverse();

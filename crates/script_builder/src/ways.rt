@@ -4,8 +4,8 @@ ghost use Rattle.script_builder.specs.Phrases.{nesting_of};
 ghost use Rattle.script_builder.specs.Ways.{count_of, next_of, ways_of};
 ghost use Rattle.script_builder.specs.Rests.{rests_of, lead, exit_by, exits_by, otherwise_by, way_by};
 
-use crate::names::Names;
-use crate::phrases::{Block, Nesting, does_count, nesting, target};
+use crate::name_table::NameTable;
+use crate::phrases::{Block, Nesting, does_count, nesting_of, target};
 use crate::rests::{Landing, Rest};
 use crate::stack::Stack;
 use field_types::names::Name;
@@ -71,7 +71,7 @@ fn otherwise(nesting: Nesting, rest: Rest, total: usize, exits: &Stack<usize>) -
     }
 }
 
-fn next(target: Option<Name>, labels: &Names, on: usize) -> usize
+fn next(target: Option<Name>, labels: &NameTable, on: usize) -> usize
     ensures { result ≡ next_of target labels.now on }
 {
     match target {
@@ -81,18 +81,18 @@ fn next(target: Option<Name>, labels: &Names, on: usize) -> usize
 }
 
 /// The way of a statement at this place, and the exits of the blocks that are open after it.
-fn way(
+fn way_by(
     phrase: &Phrase,
     place: usize,
     rest: Rest,
-    labels: &Names,
+    labels: &NameTable,
     total: usize,
     exits: &mut Stack<usize>,
 ) -> Result<Way, AllocError>
     ensures way { IfOk result (λ way. way ≡ way_by phrase.now rest labels.now total exits.old exits.new) }
     ensures exits { OnOk result (exits.new ≡ exits_by (nesting_of phrase.now) place rest total exits.old) }
 {
-    let nesting = nesting(phrase);
+    let nesting = nesting_of(phrase);
     let otherwise = otherwise(nesting, rest, total, exits);
     enter(exits, nesting, place, rest, total)?;
     let on = lead(rest.here, total, exits);
@@ -107,7 +107,7 @@ pub(crate) fn ways(
     alloc: Global,
     statements: &[Written],
     rests: &[Rest],
-    labels: &Names,
+    labels: &NameTable,
     total: usize,
 ) -> Result<Vec<Way>, AllocError>
     requires rests { rests.now ≡ rests_of statements.now }
@@ -119,7 +119,7 @@ pub(crate) fn ways(
     let mut place = 0;
     for i in 0..statements.len() {
         let phrase = &statements[i].phrase;
-        let way = way(phrase, place, rests[i], labels, total, &mut exits)?;
+        let way = way_by(phrase, place, rests[i], labels, total, &mut exits)?;
         ways.push(way)?;
         place += usize::from(does_count(phrase));
     }

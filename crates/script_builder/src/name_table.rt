@@ -11,11 +11,11 @@ use std::marker::Model;
 
 /// Names in the order in which they came.
 #[derive(Drop)]
-pub(crate) struct Names {
+pub(crate) struct NameTable {
     numbers: IndexMap<Name, usize>,
 }
 
-impl Model for Names {
+impl Model for NameTable {
     ghost use Rattle.std.specs.Prelude.{ℕ};
     ghost use Rattle.library_model.specs.Named.{Named};
 
@@ -24,12 +24,12 @@ impl Model for Names {
     ghost view = { λ n. n.numbers.entries };
 }
 
-impl Names {
+impl NameTable {
     /// No names.
-    pub(crate) fn new(alloc: Global) -> Names
+    pub(crate) fn new(alloc: Global) -> NameTable
         ensures { result ≡ [] }
     {
-        Names {
+        NameTable {
             numbers: IndexMap::new(alloc),
         }
     }
