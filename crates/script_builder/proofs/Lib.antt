@@ -2,5 +2,6 @@ mod EndLemmas
 mod LawLemmas
 mod LeastLemmas
 mod LoopLemmas
+mod MemoryLemmas
 mod StackLemmas
 mod WayLemmas

@@ -1,5 +1,6 @@
 -- Which lines of a job's statements are at fault: rules, of which each stands by itself. (CL programs: DCL, labels, MONMSG, DO groups.)
-use Rattle.std.specs.Prelude.{ℕ, Bool, true, false, ◌&&◌, ◌||◌, not, nat_lt, Option, Some, None, List, [], ◌∷◌, ◌++◌}
+use Rattle.std.specs.Prelude.{◌≡◌, ◌⊎◌, IsTrue, ℕ, Bool, true, false, ◌&&◌, ◌||◌, not, nat_lt, Option, Some, None, List, [], ◌∷◌, ◌++◌}
+use Rattle.std.specs.List.{list_any}
 use Rattle.std.specs.Option.{is_some, is_none}
 use Rattle.library_model.specs.Named.{Named, named}
 use Rattle.statement_syntax.specs.declared.Written.{Written}
@@ -77,6 +78,10 @@ abbrev pub missing_labels : List Written → Named ℕ → List ℕ
 missing_labels [] labels = []
 missing_labels (w ∷ ws) labels = noted (is_missing (target_of w.phrase) labels) w.line (missing_labels ws labels)
 
+-- a statement with a name, or an ELSE: whether its line is at fault takes memory to notice
+abbrev pub takes_memory : Written → Bool
+takes_memory w = is_some w.label || is_some (target_of w.phrase) || is_some (variable_of w.phrase) || is_else w.phrase
+
 -- the faults that are noticed without memory
 abbrev pub plain_faults : List Written → ℕ → List ℕ
 plain_faults written end =
@@ -87,3 +92,7 @@ abbrev pub faults_of : List Written → ℕ → List ℕ
 faults_of written end =
     plain_faults written end ++ stray_elses written [] false ++ repeated (variables_of written) [] ++ repeated (labelled_lines written) []
     ++ missing_labels written (labels_of written (count_of written) 0 [])
+
+-- there is no fault that is noticed without memory, or it takes memory to notice whether one comes before it
+abbrev pub TakesMemory : List Written → ℕ → Type 0
+TakesMemory written end = (plain_faults written end ≡ []) ⊎ IsTrue (list_any takes_memory written)

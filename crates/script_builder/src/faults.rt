@@ -1,11 +1,12 @@
 //! The least line at fault, rule by rule, by `specs/Faults.antt`. Those that need no memory come first.
 ghost use Rattle.std.specs.Prelude.{◌≡◌, false, [], IfOk};
 ghost use Rattle.script_builder.specs.Least.{least, lesser};
-ghost use Rattle.script_builder.specs.Faults.{noted, late_declarations, stray_monitors, stray_ends, labels_inside, open_at_end, stray_elses, missing_labels, plain_faults};
+ghost use Rattle.script_builder.specs.Faults.{noted, late_declarations, stray_monitors, stray_ends, labels_inside, open_at_end, stray_elses, missing_labels, plain_faults, takes_memory};
+ghost use Rattle.std.specs.List.{list_any};
 
 use crate::blocks::{closes_none, closes_then, depth_after, nest};
 use crate::name_table::NameTable;
-use crate::phrases::{begins_else, declares, monitors, nesting_of, requests, target};
+use crate::phrases::{begins_else, declares, monitors, nesting_of, requests, target, variable};
 use crate::stack::Stack;
 use statement_syntax::Written;
 use std::alloc::{AllocError, Global};
@@ -138,4 +139,16 @@ pub(crate) fn missing_label(statements: &[Written], labels: &NameTable) -> Optio
         first = noting(first, missing, statement.line);
     }
     first
+}
+
+/// Whether a rule that needs memory may judge one of them.
+pub(crate) fn takes_memory(statements: &[Written]) -> bool
+    ensures { result ≡ list_any takes_memory statements.now }
+{
+    statements.iter().any(|statement| {
+        statement.label.is_some()
+            || target(&statement.phrase).is_some()
+            || variable(&statement.phrase).is_some()
+            || begins_else(&statement.phrase)
+    })
 }

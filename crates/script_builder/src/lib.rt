@@ -2,10 +2,11 @@
 //! Begin with `specs/Faults.antt` and `specs/Scripts.antt`.
 #![tactic(auto)]
 
-ghost use Rattle.std.specs.Prelude.{◌≡◌, ℕ, Some, [], IfOk, IsErrOf};
+ghost use Rattle.std.specs.Prelude.{◌≡◌, ℕ, Some, [], length, IfOk, IfSome, IfNone, IsErrOf};
 ghost use Rattle.script_builder.specs.Least.{least};
 ghost use Rattle.script_builder.specs.Ways.{count_of, labels_of};
-ghost use Rattle.script_builder.specs.Faults.{faults_of};
+ghost use Rattle.script_builder.specs.Faults.{faults_of, plain_faults, TakesMemory};
+ghost use Rattle.script_builder.specs.Laws.{LeadWithin};
 ghost use Rattle.script_builder.specs.Scripts.{script_of};
 ghost use Rattle.script_builder.specs.declared.BuildError.TheVariants.{NoMemory};
 
@@ -43,17 +44,30 @@ impl From<AllocError> for BuildError {
     }
 }
 
-/// The first line at fault.
+/// The first line at fault, where that is certain without memory.
+fn certain_fault(statements: &[Written], end_line: u32, plain: Option<u32>) -> Option<u32>
+    requires { plain ≡ least (plain_faults statements.now end_line) }
+    ensures first { IfSome result (λ line. least (faults_of statements.now end_line) ≡ Some line) }
+    ensures none { IfNone result (TakesMemory statements.now end_line) }
+{
+    if faults::takes_memory(statements) {
+        return None;
+    }
+    plain
+}
+
+/// The first line at fault, where the plain rules find this one.
 fn first_fault(
     alloc: Global,
     statements: &[Written],
-    labels: &NameTable,
     end_line: u32,
+    plain: Option<u32>,
+    labels: &NameTable,
 ) -> Result<Option<u32>, AllocError>
-    requires { labels.now ≡ labels_of statements.now (count_of statements.now) 0 [] }
+    requires plain { plain ≡ least (plain_faults statements.now end_line) }
+    requires labels { labels.now ≡ labels_of statements.now (count_of statements.now) 0 [] }
     ensures { IfOk result (λ first. first ≡ least (faults_of statements.now end_line)) }
 {
-    let plain = faults::plain_fault(statements, end_line);
     let elses = faults::lesser(plain, faults::stray_else(alloc, statements)?);
     let variables = faults::lesser(elses, repeats::repeated_variable(alloc, statements)?);
     let repeated = faults::lesser(variables, repeats::repeated_label(alloc, statements)?);
@@ -61,6 +75,21 @@ fn first_fault(
         repeated,
         faults::missing_label(statements, labels),
     ))
+}
+
+fn script(
+    alloc: Global,
+    statements: WrittenStatements,
+    labels: &NameTable,
+) -> Result<Script, AllocError>
+    requires { labels.now ≡ labels_of statements (count_of statements) 0 [] }
+    ensures { IfOk result (λ script. script ≡ script_of statements) }
+{
+    let written = statements.as_slice();
+    let total = rests::count(written);
+    let rests = rests::rests(alloc, written)?;
+    let ways = ways::ways(alloc, written, rests.as_slice(), labels, total)?;
+    assembly::assembled(alloc, statements.into_vec(), ways.as_slice(), labels)
 }
 
 /// The script of a job's statements, which end at the card on the line `end_line`.
@@ -71,16 +100,18 @@ pub fn build(
 ) -> Result<Script, BuildError>
     ensures sound { IfOk result (λ _. faults_of statements end_line ≡ []) }
     ensures script { IfOk result (λ script. script ≡ script_of statements) }
+    ensures within { IfOk result (λ script. LeadWithin script.statements (length script.statements)) }
     ensures fault { (line : ℕ) → IsErrOf result (BuildError.Fault line) → least (faults_of statements end_line) ≡ Some line }
+    ensures memory { IsErrOf result BuildError.NoMemory → TakesMemory statements end_line }
 {
     let written = statements.as_slice();
-    let labels = repeats::labels(alloc, written)?;
-    if let Some(line) = first_fault(alloc, written, &labels, end_line)? {
+    let plain = faults::plain_fault(written, end_line);
+    if let Some(line) = certain_fault(written, end_line, plain) {
         return Err(BuildError::Fault { line });
     }
-    let total = rests::count(written);
-    let rests = rests::rests(alloc, written)?;
-    let ways = ways::ways(alloc, written, rests.as_slice(), &labels, total)?;
-    let script = assembly::assembled(alloc, statements.into_vec(), ways.as_slice(), &labels)?;
-    Ok(script)
+    let labels = repeats::labels(alloc, written)?;
+    if let Some(line) = first_fault(alloc, written, end_line, plain, &labels)? {
+        return Err(BuildError::Fault { line });
+    }
+    Ok(script(alloc, statements, &labels)?)
 }
