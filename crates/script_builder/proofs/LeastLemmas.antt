@@ -1,6 +1,6 @@
 -- The less of two numbers, and the least of some.
-use Rattle.std.proofs.Common.{◌≡◌, ℕ, Bool, true, false, Option, Some, None, List, [], ◌∷◌, ◌++◌, refl, sym, ap, ◌∙◌, arith}
-use Rattle.std.specs.Prelude.{min}
+use Rattle.std.proofs.Common.{◌≡◌, ℕ, Bool, true, false, Option, Some, None, List, [], ◌∷◌, ◌++◌, refl, sym, ap, ◌∙◌, inl, arith}
+use Rattle.std.specs.Prelude.{◌⊎◌, min, IfSome, IfNone}
 use Rattle.script_builder.specs.Least.{lesser, least}
 use Rattle.script_builder.specs.Faults.{noted}
 
@@ -31,3 +31,19 @@ lesser-some x (Some y) is = cc
 pub least-none : (xs : List ℕ) → least xs ≡ None → xs ≡ []
 least-none [] is = refl
 least-none (x ∷ xs) is = absurd (lesser-some x (least xs) is)
+
+pub least-five : (a b c d e : List ℕ) → least (a ++ b ++ c ++ d ++ e) ≡ lesser (lesser (lesser (lesser (least a) (least b)) (least c)) (least d)) (least e)
+least-five a b c d e =
+    least-append (a ++ b ++ c ++ d) e
+    ∙ ap (λ x. lesser x (least e)) (least-append (a ++ b ++ c) d
+    ∙ ap (λ x. lesser x (least d)) (least-append (a ++ b) c
+    ∙ ap (λ x. lesser x (least c)) (least-append a b)))
+
+-- a line that is the least of some, and what it means that there is none
+pub least-some : (first : Option ℕ) (xs : List ℕ) → first ≡ least xs → IfSome first (λ line. least xs ≡ Some line)
+least-some None xs is = tt
+least-some (Some line) xs is = sym is
+
+pub least-empty : (first : Option ℕ) (xs : List ℕ) (P : Type 0) → first ≡ least xs → IfNone first ((xs ≡ []) ⊎ P)
+least-empty None xs P is = inl (least-none xs (sym is))
+least-empty (Some line) xs P is = tt

@@ -1,3 +1,4 @@
+mod AssemblyLemmas
 mod EndLemmas
 mod LawLemmas
 mod LeastLemmas

@@ -1,5 +1,6 @@
 -- The ways by what was noted are those of the statements.
-use Rattle.std.proofs.Common.{◌≡◌, ℕ, zero, suc, ◌+◌, ◌-◌, ◌<◌, ◌≤◌, Bool, true, false, List, [], ◌∷◌, length, get_or, drop, refl, sym, ap, ◌∙◌, arith}
+use Rattle.std.proofs.Common.{◌≡◌, ℕ, zero, suc, ◌+◌, ◌-◌, ◌<◌, ◌≤◌, Bool, true, false, List, [], ◌∷◌, ◌++◌, length, get_or, drop, refl, sym, ap, ◌∙◌, arith}
+use Rattle.std.proofs.lemmas.List.{append_assoc, drop_more}
 use Rattle.library_model.specs.Named.{Named}
 use Rattle.statement_syntax.specs.declared.Written.{Written}
 use Rattle.script_builder.specs.declared.phrases.Block.{Block}
@@ -58,3 +59,27 @@ ways_of-more w ws labels total place exits inside way here inside_is way_is =
         ap (λ p. exits_after (nesting_of w.phrase) p ws total exits) at ∙ sym (exits_by-rest (nesting_of w.phrase) place ws total exits) ∙ sym inside_is in
     ap (λ after. way_of w ws labels total exits after ∷ ways_of ws labels total after) same
     ∙ ap (λ first. first ∷ ways_of ws labels total inside) (sym (way_by-rest w ws labels total exits inside) ∙ sym way_is)
+
+-- one way more
+pub ways_step : (ws : List Written) (rests : List Rest) (i : ℕ) (x : Written) (d : Rest) (labels : Named ℕ) (total place : ℕ) (exits inside : List ℕ) (way : Way) (made new whole : List Way) →
+  rests ≡ rests_of ws → i < length ws → place + count_of (drop i ws) ≡ total →
+  inside ≡ exits_by (nesting_of (get_or ws i x).phrase) place (get_or rests i d) total exits →
+  way ≡ way_by (get_or ws i x).phrase (get_or rests i d) labels total exits inside →
+  new ≡ made ++ way ∷ [] → made ++ ways_of (drop i ws) labels total exits ≡ whole →
+  new ++ ways_of (drop (i + 1) ws) labels total inside ≡ whole
+ways_step ws rests i x d labels total place exits inside way made new whole rests_is within here inside_is way_is new_is before =
+    let w = get_or ws i x in
+    let rest = drop (i + 1) ws in
+    let split : drop i ws ≡ w ∷ rest = drop_more ws i x within in
+    let same : suc i ≡ i + 1 = omega arith in
+    let noted : get_or rests i d ≡ rest_of rest = ap (λ r. get_or r i d) rests_is ∙ get_or-rests_of ws i d within ∙ ap (λ n. rest_of (drop n ws)) same in
+    let more : ways_of (w ∷ rest) labels total exits ≡ way ∷ ways_of rest labels total inside =
+        ways_of-more w rest labels total place exits inside way
+        (ap (λ ys. place + count_of ys) (sym split) ∙ here)
+        (inside_is ∙ ap (λ r. exits_by (nesting_of w.phrase) place r total exits) noted)
+        (way_is ∙ ap (λ r. way_by w.phrase r labels total exits inside) noted) in
+    ap (λ n. n ++ ways_of rest labels total inside) new_is
+    ∙ append_assoc made (way ∷ []) (ways_of rest labels total inside)
+    ∙ ap (λ l. made ++ l) (sym more)
+    ∙ ap (λ ys. made ++ ways_of ys labels total exits) (sym split)
+    ∙ before

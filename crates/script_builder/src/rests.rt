@@ -1,7 +1,7 @@
 //! What stands behind each statement, by `specs/Rests.antt`: noted from the last statement to the first.
 ghost use Rattle.std.specs.Prelude.{◌≡◌, ◌+◌, ◌^◌, ◌<◌, [], OnOk, IfOk};
-ghost use Rattle.script_builder.specs.Ways.{count_of};
-ghost use Rattle.script_builder.specs.Rests.{ahead_before, ends_after, rests_of};
+ghost use Rattle.script_builder.specs.Ways.{count_of, is_closing};
+ghost use Rattle.script_builder.specs.Rests.{ahead_before, ends_after, landing_before, rests_of};
 
 use crate::blocks::is_closing;
 use crate::phrases::{Nesting, begins_else, does_count, nesting_of};
