@@ -1,5 +1,5 @@
 -- The last of some statements is taken.
-use Rattle.std.proofs.Common.{◌≡◌, ℕ, ◌+◌, ◌<◌, ◌≤◌, Option, List, [], ◌∷◌, ◌++◌, length, get_or, take, drop, refl, sym, ap, ◌∙◌, arith}
+use Rattle.std.proofs.Common.{◌≡◌, ℕ, ◌+◌, ◌<◌, ◌≤◌, Option, List, [], ◌∷◌, ◌++◌, length, get_or, take, drop, sym, ap, ◌∙◌, arith}
 use Rattle.std.specs.Prelude.{reverse}
 use Rattle.std.proofs.lemmas.List.{drop_more, take_more, reverse-reverse}
 use Rattle.field_types.specs.declared.values.Value.{Value}
@@ -58,8 +58,8 @@ literals_step all later w literal old new all_is is new_is old_is =
     new_is ∙ ap (λ l. added l old) is ∙ ap (added (literal_of w.phrase)) old_is ∙ ap literals_of (sym all_is)
 
 pub statements_step : (all later : List Written) (ways later_ways : List Way) (labels : Named ℕ) (w : Written) (way : Way) (statement : Option Statement) (old new : List Statement) → all ≡ w ∷ later →
-  ways ≡ way ∷ later_ways → statement ≡ statement_of (action_of w.phrase way.otherwise (monitor_of later labels)) w.line way.next → new ≡ added statement old →
-  old ≡ statements_of later later_ways labels → new ≡ statements_of all ways labels
+    ways ≡ way ∷ later_ways → statement ≡ statement_of (action_of w.phrase way.otherwise (monitor_of later labels)) w.line way.next → new ≡ added statement old →
+    old ≡ statements_of later later_ways labels → new ≡ statements_of all ways labels
 statements_step all later ways later_ways labels w way statement old new all_is ways_is is new_is old_is =
     new_is
     ∙ ap (λ s. added s old) is

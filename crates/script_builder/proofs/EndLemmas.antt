@@ -31,7 +31,7 @@ nth-under [] k = refl
 nth-under (a ∷ ends) k = refl
 
 nth-after : (nesting : Nesting) (ws : List Written) (k : ℕ) → ((j : ℕ) → nth (ends_of ws) j ≡ ahead_of (behind_block ws j)) →
-  nth (ends_after nesting (ahead_of ws) (ends_of ws)) k ≡ ahead_of (if closes_none k nesting then ws else behind_block ws (depth_after k nesting))
+    nth (ends_after nesting (ahead_of ws) (ends_of ws)) k ≡ ahead_of (if closes_none k nesting then ws else behind_block ws (depth_after k nesting))
 unfolding nth
 nth-after (Opens block) ws zero before = nth-under (ends_of ws) zero ∙ before (suc zero)
 nth-after (Opens block) ws (suc k) before = nth-under (ends_of ws) (suc k) ∙ before (suc (suc k))
@@ -80,8 +80,8 @@ pub record Noted (ws : List Written) (left : ℕ) (ahead : Ahead) (ends : List A
   pub rests_is : reverse items ≡ rests_of (drop left ws)
 
 pub noted_before : (ws : List Written) (left before : ℕ) (x : Written) (ahead behind new_ahead : Ahead) (ends new_ends : List Ahead) (nesting : Nesting) (items new_items : List Rest) → before + 1 ≡ left →
-  left ≤ length ws → Noted ws left ahead ends items → behind ≡ unwrap_or (top ends) (ahead_of []) → nesting ≡ nesting_of (get_or ws before x).phrase → new_ends ≡ ends_after nesting ahead ends →
-  new_ahead ≡ ahead_before (get_or ws before x).phrase ahead behind → new_items ≡ items ++ record { here = ahead.here; behind = behind } ∷ [] → Noted ws before new_ahead new_ends new_items
+    left ≤ length ws → Noted ws left ahead ends items → behind ≡ unwrap_or (top ends) (ahead_of []) → nesting ≡ nesting_of (get_or ws before x).phrase → new_ends ≡ ends_after nesting ahead ends →
+    new_ahead ≡ ahead_before (get_or ws before x).phrase ahead behind → new_items ≡ items ++ record { here = ahead.here; behind = behind } ∷ [] → Noted ws before new_ahead new_ends new_items
 noted_before ws left before x ahead behind new_ahead ends new_ends nesting items new_items less few noted behind_is nesting_is ends_is ahead_is items_is =
     let w = get_or ws before x in
     let rest = drop left ws in

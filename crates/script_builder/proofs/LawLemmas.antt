@@ -1,5 +1,5 @@
 -- A script has the statements that count, and leads to none past its end.
-use Rattle.std.proofs.Common.{◌≡◌, ℕ, zero, suc, ◌-◌, ◌≤◌, Bool, true, false, Option, Some, None, List, [], ◌∷◌, ◌++◌, length, refl, sym, ap, ◌∙◌, subst, arith}
+use Rattle.std.proofs.Common.{◌≡◌, ℕ, zero, suc, ◌≤◌, Bool, true, false, Option, Some, None, List, [], ◌∷◌, ◌++◌, length, refl, sym, ap, ◌∙◌, subst, arith}
 use Rattle.std.specs.Prelude.{IfSome, option_map, if◌then◌else◌}
 use Rattle.std.specs.Option.{is_some, unwrap_or}
 use Rattle.std.specs.Map.{lookup}
@@ -14,12 +14,12 @@ use Rattle.script_builder.specs.declared.phrases.Nesting.{Nesting}
 use Rattle.script_builder.specs.declared.phrases.Nesting.TheVariants.{Opens, Closes, Stays}
 use Rattle.script_builder.specs.Phrases.{counts, nesting_of, target_of}
 use Rattle.script_builder.specs.Nestings.{top, under, depth_after, behind_block}
-use Rattle.script_builder.specs.Ways.{counted, count_of, place_of, with_new, with_label, labels_of, label_place, leaves, leading, goes_on, past_else, exits_after, next_of, otherwise_of, ways_of}
+use Rattle.script_builder.specs.Ways.{counted, count_of, place_of, with_label, labels_of, label_place, leaves, leading, goes_on, past_else, exits_after, next_of, otherwise_of, ways_of}
 use Rattle.script_builder.specs.Scripts.{added, action_of, statement_of, monitor_by, monitor_of, statements_of, script_of}
 use Rattle.script_builder.specs.Laws.{MonitorsWithin, LeadWithin}
 
 length-added : (phrase : Phrase) (otherwise : ℕ) (monitor : Option Monitor) (line next : ℕ) (rest : List Statement) →
-  length (added (statement_of (action_of phrase otherwise monitor) line next) rest) ≡ counted (counts phrase) (length rest)
+    length (added (statement_of (action_of phrase otherwise monitor) line next) rest) ≡ counted (counts phrase) (length rest)
 length-added (Declare variable value) otherwise monitor line next rest = refl
 length-added (ChangeVariable variable value) otherwise monitor line next rest = refl
 length-added (IfGoto condition label) otherwise monitor line next rest = refl
@@ -142,7 +142,7 @@ monitor_of-within [] labels end all = tt
 monitor_of-within (w ∷ ws) labels end all = monitor_by-within w.phrase labels end all
 
 added-within : (phrase : Phrase) (otherwise : ℕ) (monitor : Option Monitor) (line next : ℕ) (rest : List Statement) (end : ℕ) → otherwise ≤ end → next ≤ end → MonitorsWithin monitor end →
-  LeadWithin rest end → LeadWithin (added (statement_of (action_of phrase otherwise monitor) line next) rest) end
+    LeadWithin rest end → LeadWithin (added (statement_of (action_of phrase otherwise monitor) line next) rest) end
 added-within (Declare variable value) otherwise monitor line next rest end low le watch all = all
 added-within (ChangeVariable variable value) otherwise monitor line next rest end low le watch all = (le, tt, all)
 added-within (IfGoto condition label) otherwise monitor line next rest end low le watch all = (le, low, all)
@@ -156,7 +156,7 @@ added-within Return otherwise monitor line next rest end low le watch all = (le,
 added-within (Request form into) otherwise monitor line next rest end low le watch all = (le, watch, all)
 
 statements_of-within : (ws : List Written) (labels : Named ℕ) (total : ℕ) (exits : List ℕ) → Placed labels total → Bounded exits total →
-  LeadWithin (statements_of ws (ways_of ws labels total exits) labels) total
+    LeadWithin (statements_of ws (ways_of ws labels total exits) labels) total
 statements_of-within [] labels total exits placed all = tt
 statements_of-within (w ∷ ws) labels total exits placed all =
     let inside = exits_after (nesting_of w.phrase) (place_of (w ∷ ws) total) ws total exits in

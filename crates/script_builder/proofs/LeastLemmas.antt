@@ -1,25 +1,15 @@
 -- The less of two numbers, and the least of some.
-use Rattle.std.proofs.Common.{◌≡◌, ℕ, Bool, true, false, Option, Some, None, List, [], ◌∷◌, ◌++◌, refl, sym, ap, ◌∙◌, inl, arith}
+use Rattle.std.proofs.Common.{◌≡◌, ℕ, Option, Some, None, List, [], ◌∷◌, ◌++◌, refl, sym, ap, ◌∙◌, inl, arith}
 use Rattle.std.specs.Prelude.{◌⊎◌, min, IfSome, IfNone}
 use Rattle.script_builder.specs.Least.{lesser, least}
-use Rattle.script_builder.specs.Faults.{noted}
 
-pub lesser-none : (a : Option ℕ) → lesser a None ≡ a
-lesser-none None = refl
-lesser-none (Some a) = refl
-
-pub lesser_assoc : (a b c : Option ℕ) → lesser (lesser a b) c ≡ lesser a (lesser b c)
+lesser_assoc : (a b c : Option ℕ) → lesser (lesser a b) c ≡ lesser a (lesser b c)
 lesser_assoc None b c = refl
 lesser_assoc (Some a) None c = refl
 lesser_assoc (Some a) (Some b) None = refl
 lesser_assoc (Some a) (Some b) (Some c) = let same : min (min a b) c ≡ min a (min b c) = omega arith in ap (λ n. Some n) same
 
--- one line more that may be at fault
-pub noted_step : (first : Option ℕ) (bad : Bool) (line : ℕ) (lines : List ℕ) → lesser (lesser first (least (noted bad line []))) (least lines) ≡ lesser first (least (noted bad line lines))
-noted_step first true line lines = lesser_assoc first (Some line) (least lines)
-noted_step first false line lines = lesser_assoc first None (least lines)
-
-pub least-append : (xs ys : List ℕ) → least (xs ++ ys) ≡ lesser (least xs) (least ys)
+least-append : (xs ys : List ℕ) → least (xs ++ ys) ≡ lesser (least xs) (least ys)
 least-append [] ys = refl
 least-append (x ∷ xs) ys = ap (lesser (Some x)) (least-append xs ys) ∙ sym (lesser_assoc (Some x) (least xs) (least ys))
 

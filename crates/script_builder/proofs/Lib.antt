@@ -2,7 +2,6 @@ mod AssemblyLemmas
 mod EndLemmas
 mod LawLemmas
 mod LeastLemmas
-mod LoopLemmas
 mod MemoryLemmas
 mod StackLemmas
 mod WayLemmas

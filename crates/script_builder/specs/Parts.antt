@@ -1,9 +1,8 @@
 -- What one statement adds to a script. (Our own.)
-use Rattle.std.specs.Prelude.{ℕ, Option, Some, None, List}
+use Rattle.std.specs.Prelude.{ℕ, Option, Some, None}
 use Rattle.library_model.specs.Named.{Named}
 use Rattle.job_language.specs.declared.refusals.Monitor.{Monitor}
 use Rattle.job_language.specs.declared.statements.Action.{Action}
-use Rattle.job_language.specs.declared.statements.Statement.{Statement}
 use Rattle.statement_syntax.specs.declared.Written.{Written}
 use Rattle.script_builder.specs.declared.ways.Way.{Way}
 use Rattle.script_builder.specs.declared.assembly.Part.{Part}

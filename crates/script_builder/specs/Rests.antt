@@ -1,5 +1,5 @@
 -- What the pass from the last statement to the first notes, so that each way is known without another look at the statements. (Our own.)
-use Rattle.std.specs.Prelude.{ℕ, zero, ◌-◌, Bool, true, false, if◌then◌else◌, ◌&&◌, ◌||◌, not, Option, Some, None, List, [], ◌∷◌}
+use Rattle.std.specs.Prelude.{ℕ, ◌-◌, if◌then◌else◌, ◌&&◌, ◌||◌, not, List, [], ◌∷◌}
 use Rattle.library_model.specs.Named.{Named}
 use Rattle.statement_syntax.specs.declared.Phrase.{Phrase}
 use Rattle.statement_syntax.specs.declared.Written.{Written}

@@ -5,7 +5,6 @@ use Rattle.library_model.specs.Named.{Named}
 use Rattle.job_language.specs.declared.refusals.Monitor.{Monitor}
 use Rattle.job_language.specs.declared.statements.Action.{Action}
 use Rattle.job_language.specs.declared.statements.Action.TheVariants.{ChangeVariable as ChangeAction, If, Else as ElseAction, DoWhile as DoWhileAction, Goto as GotoAction, Return as ReturnAction, Request as RequestAction}
-use Rattle.job_language.specs.declared.statements.RequestStatement.{RequestStatement}
 use Rattle.job_language.specs.declared.statements.Statement.{Statement}
 use Rattle.job_language.specs.declared.statements.Script.{Script}
 use Rattle.statement_syntax.specs.declared.Phrase.{Phrase}

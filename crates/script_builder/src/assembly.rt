@@ -72,19 +72,31 @@ fn part_of(written: Written, way: Way, monitor: Option<Monitor>, labels: &NameTa
         Phrase::IfGoto {
             condition,
             label: _,
-        } => part_with(line, next, Action::If {
-            condition,
-            otherwise,
-        }),
-        Phrase::IfDo(condition) => part_with(line, next, Action::If {
-            condition,
-            otherwise,
-        }),
+        } => part_with(
+            line,
+            next,
+            Action::If {
+                condition,
+                otherwise,
+            },
+        ),
+        Phrase::IfDo(condition) => part_with(
+            line,
+            next,
+            Action::If {
+                condition,
+                otherwise,
+            },
+        ),
         Phrase::Else => part_with(line, next, Action::Else),
-        Phrase::DoWhile(condition) => part_with(line, next, Action::DoWhile {
-            condition,
-            otherwise,
-        }),
+        Phrase::DoWhile(condition) => part_with(
+            line,
+            next,
+            Action::DoWhile {
+                condition,
+                otherwise,
+            },
+        ),
         Phrase::EndDo => no_part(),
         Phrase::Goto(_) => part_with(line, next, Action::Goto),
         Phrase::Monitor { takes, label } => Part {

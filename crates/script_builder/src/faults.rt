@@ -82,7 +82,11 @@ fn inner_label(statements: &[Written]) -> Option<u32>
     let mut first = None;
     let mut depth = 0;
     for statement in statements {
-        first = noting(first, statement.label.is_some() && depth > 0, statement.line);
+        first = noting(
+            first,
+            statement.label.is_some() && depth > 0,
+            statement.line,
+        );
         depth = depth_after(depth, nesting_of(&statement.phrase));
     }
     first

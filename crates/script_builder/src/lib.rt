@@ -71,10 +71,7 @@ fn first_fault(
     let elses = faults::lesser(plain, faults::stray_else(alloc, statements)?);
     let variables = faults::lesser(elses, repeats::repeated_variable(alloc, statements)?);
     let repeated = faults::lesser(variables, repeats::repeated_label(alloc, statements)?);
-    Ok(faults::lesser(
-        repeated,
-        faults::missing_label(statements, labels),
-    ))
+    Ok(faults::lesser(repeated, faults::missing_label(statements, labels)))
 }
 
 fn script(

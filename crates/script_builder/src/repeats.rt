@@ -41,7 +41,12 @@ pub(crate) fn repeated_variable(
     let mut first = None;
     let mut earlier = NameTable::new(alloc);
     for statement in statements {
-        first = noting_name(first, &mut earlier, variable(&statement.phrase), statement.line)?;
+        first = noting_name(
+            first,
+            &mut earlier,
+            variable(&statement.phrase),
+            statement.line,
+        )?;
     }
     Ok(first)
 }

@@ -62,7 +62,11 @@ fn ahead_before(phrase: &Phrase, ahead: Ahead, behind: Ahead) -> Ahead
     ensures { result ≡ ahead_before phrase.now ahead behind }
 {
     let here = landing_before(phrase, ahead.here);
-    let past_else = if begins_else(phrase) { behind.here } else { here };
+    let past_else = if begins_else(phrase) {
+        behind.here
+    } else {
+        here
+    };
     Ahead { here, past_else }
 }
 

@@ -127,11 +127,32 @@ fn fault(alloc: Global, rows: Rows) -> Result<u32, Fail> {
 const FAULTS: [(Rows, u32); 28] = [
     // Nothing is at fault.
     (&[], 0),
-    (&[("", Declare("I")), ("", While(3)), ("", Count), ("", Ask(1)), ("", End)], 0),
-    (&[("", If(0)), ("", End), ("L", Else), ("", End), ("", Goto("L"))], 0),
+    (
+        &[
+            ("", Declare("I")),
+            ("", While(3)),
+            ("", Count),
+            ("", Ask(1)),
+            ("", End),
+        ],
+        0,
+    ),
+    (
+        &[
+            ("", If(0)),
+            ("", End),
+            ("L", Else),
+            ("", End),
+            ("", Goto("L")),
+        ],
+        0,
+    ),
     // DCL
     (&[("", Ask(1)), ("", Declare("A"))], 2),
-    (&[("", Declare("A")), ("", Declare("B")), ("", Declare("A"))], 3),
+    (
+        &[("", Declare("A")), ("", Declare("B")), ("", Declare("A"))],
+        3,
+    ),
     // labels
     (&[("L", Ask(1)), ("", Ask(2)), ("L", Ask(3))], 3),
     (&[("", If(0)), ("L", Ask(1)), ("", End)], 2),
@@ -147,10 +168,32 @@ const FAULTS: [(Rows, u32); 28] = [
     (&[("", Ask(1)), ("", Monitor("")), ("", Monitor(""))], 3),
     // ELSE
     (&[("", Else), ("", End)], 1),
-    (&[("", If(0)), ("", End), ("", Ask(1)), ("", Else), ("", End)], 4),
-    (&[("", Declare("I")), ("", While(1)), ("", End), ("", Else), ("", End)], 4),
+    (
+        &[("", If(0)), ("", End), ("", Ask(1)), ("", Else), ("", End)],
+        4,
+    ),
+    (
+        &[
+            ("", Declare("I")),
+            ("", While(1)),
+            ("", End),
+            ("", Else),
+            ("", End),
+        ],
+        4,
+    ),
     (&[("", If(0)), ("", Else), ("", End), ("", End)], 2),
-    (&[("", If(0)), ("", End), ("", Else), ("", End), ("", Else), ("", End)], 5),
+    (
+        &[
+            ("", If(0)),
+            ("", End),
+            ("", Else),
+            ("", End),
+            ("", Else),
+            ("", End),
+        ],
+        5,
+    ),
     // ENDDO
     (&[("", Ask(1)), ("", End)], 2),
     (&[("", If(0)), ("", End), ("", End), ("", If(0))], 3),
@@ -187,7 +230,11 @@ fn trace(alloc: Global, script: &Script) -> Result<Vec<u32>, Fail> {
         if number == 0 || number >= 1000 {
             break;
         }
-        last = Some(if number < 50 { Reply::Done } else { Reply::NotFound });
+        last = Some(if number < 50 {
+            Reply::Done
+        } else {
+            Reply::NotFound
+        });
     }
     Ok(trace)
 }
@@ -203,10 +250,44 @@ fn asked(request: &Request) -> u32 {
 
 const RUNS: [(Rows, &[u32]); 12] = [
     (&[], &[0]),
-    (&[("", Declare("I")), ("", While(3)), ("", Count), ("", Ask(7)), ("", End)], &[7, 7, 7, 0]),
-    (&[("", If(0)), ("", Ask(1)), ("", End), ("", Else), ("", Ask(2)), ("", End), ("", Ask(3))], &[1, 3, 0]),
-    (&[("", If(1)), ("", Ask(1)), ("", End), ("", Else), ("", Ask(2)), ("", End), ("", Ask(3))], &[2, 3, 0]),
-    (&[("", If(1)), ("", Ask(1)), ("", End), ("", Ask(3))], &[3, 0]),
+    (
+        &[
+            ("", Declare("I")),
+            ("", While(3)),
+            ("", Count),
+            ("", Ask(7)),
+            ("", End),
+        ],
+        &[7, 7, 7, 0],
+    ),
+    (
+        &[
+            ("", If(0)),
+            ("", Ask(1)),
+            ("", End),
+            ("", Else),
+            ("", Ask(2)),
+            ("", End),
+            ("", Ask(3)),
+        ],
+        &[1, 3, 0],
+    ),
+    (
+        &[
+            ("", If(1)),
+            ("", Ask(1)),
+            ("", End),
+            ("", Else),
+            ("", Ask(2)),
+            ("", End),
+            ("", Ask(3)),
+        ],
+        &[2, 3, 0],
+    ),
+    (
+        &[("", If(1)), ("", Ask(1)), ("", End), ("", Ask(3))],
+        &[3, 0],
+    ),
     (
         &[
             ("", Declare("I")),
@@ -246,10 +327,43 @@ const RUNS: [(Rows, &[u32]); 12] = [
         &[1, 1, 0],
     ),
     (&[("", Goto("L")), ("", Ask(1)), ("L", Ask(2))], &[2, 0]),
-    (&[("", Declare("I")), ("L", Count), ("", Ask(1)), ("", IfGoto(3, "L")), ("", Return), ("", Ask(2))], &[1, 1, 1, 0]),
-    (&[("", Ask(50)), ("", Monitor("L")), ("", Ask(1)), ("L", Ask(2))], &[50, 2, 0]),
-    (&[("", If(0)), ("", Ask(50)), ("", Monitor("")), ("", End), ("", Else), ("", Ask(1)), ("", End), ("", Ask(2))], &[50, 2, 0]),
-    (&[("", Ask(1)), ("", Monitor("")), ("", Ask(50)), ("", Return)], &[1, 50, 1003]),
+    (
+        &[
+            ("", Declare("I")),
+            ("L", Count),
+            ("", Ask(1)),
+            ("", IfGoto(3, "L")),
+            ("", Return),
+            ("", Ask(2)),
+        ],
+        &[1, 1, 1, 0],
+    ),
+    (
+        &[
+            ("", Ask(50)),
+            ("", Monitor("L")),
+            ("", Ask(1)),
+            ("L", Ask(2)),
+        ],
+        &[50, 2, 0],
+    ),
+    (
+        &[
+            ("", If(0)),
+            ("", Ask(50)),
+            ("", Monitor("")),
+            ("", End),
+            ("", Else),
+            ("", Ask(1)),
+            ("", End),
+            ("", Ask(2)),
+        ],
+        &[50, 2, 0],
+    ),
+    (
+        &[("", Ask(1)), ("", Monitor("")), ("", Ask(50)), ("", Return)],
+        &[1, 50, 1003],
+    ),
 ];
 
 fn run(rt: &impl Abort, alloc: Global, rows: &[(Rows, &[u32])]) -> Result<(), Fail> {

@@ -8,5 +8,5 @@ pub returns : goal.returns
 returns c =
     let s = c.args.statements.now in
     let five =
-        least-five (plain_faults s c.args.end_line) (stray_elses s [] false) (repeated (variables_of s) []) (repeated (labelled_lines s) []) (missing_labels s (labels_of s (count_of s) 0 [])) in
+    least-five (plain_faults s c.args.end_line) (stray_elses s [] false) (repeated (variables_of s) []) (repeated (labelled_lines s) []) (missing_labels s (labels_of s (count_of s) 0 [])) in
     cc (c.in_ok-stray_else.ensures, c.in_ok-repeated_variable.ensures, c.in_ok-repeated_label.ensures)

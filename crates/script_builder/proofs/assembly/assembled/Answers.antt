@@ -18,12 +18,12 @@ loop-written-preserved c =
     let less : count + 1 ≡ before = omega (arith, c.in-Some.ensures.len) in
     let few : count < length all = omega (arith, c.loop-written.invariant.few) in
     let taken : Taken all c.pop.new.self.items count w before =
-        taken_one all c.loop-written.statements.items c.pop.new.self.items count before w c.loop-written.invariant.taken c.loop-written.invariant.few less c.in-Some.ensures.items in
+    taken_one all c.loop-written.statements.items c.pop.new.self.items count before w c.loop-written.invariant.taken c.loop-written.invariant.few less c.in-Some.ensures.items in
     let within : count < length ways = omega (arith, c.requires) in
     let here : drop count ways ≡ get_or ways c.len.result none ∷ drop before ways =
-        drop_more ways count none within ∙ ap (λ n. get_or ways count none ∷ drop n ways) less ∙ ap (λ n. get_or ways n none ∷ drop before ways) (sym c.len.ensures) in
+    drop_more ways count none within ∙ ap (λ n. get_or ways count none ∷ drop n ways) less ∙ ap (λ n. get_or ways n none ∷ drop before ways) (sym c.len.ensures) in
     let part : Adds (drop before all) (drop before ways) labels w (get_or ways c.len.result none) c.part_of-part.result =
-        adds (drop before all) (drop before ways) labels w (get_or ways c.len.result none) c.loop-written.monitor c.part_of-part.result c.part_of-part.ensures c.loop-written.invariant.monitor in
+    adds (drop before all) (drop before ways) labels w (get_or ways c.len.result none) c.loop-written.monitor c.part_of-part.result c.part_of-part.ensures c.loop-written.invariant.monitor in
     record {
       taken = taken.front;
       few = omega arith;

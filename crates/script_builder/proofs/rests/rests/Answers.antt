@@ -12,13 +12,13 @@ loop-left-preserved c =
     let before = c.loop-left.left - 1 in
     let less : before + 1 ≡ c.loop-left.left = omega arith in
     let noted : Noted ws c.loop-left.left c.loop-left.ahead c.loop-left.ends c.loop-left.rests.items =
-        record { ahead_is = c.loop-left.invariant.ahead; ends_is = c.loop-left.invariant.ends; rests_is = c.loop-left.invariant.rests } in
+    record { ahead_is = c.loop-left.invariant.ahead; ends_is = c.loop-left.invariant.ends; rests_is = c.loop-left.invariant.rests } in
     let new : Noted ws before c.ahead_before-ahead.result c.pass.new.ends c.push.new.self.items =
-        noted_before ws c.loop-left.left before c.index-statements-left.result c.loop-left.ahead c.unwrap_or-behind.result c.ahead_before-ahead.result c.loop-left.ends c.pass.new.ends
-        c.nesting_of.result c.loop-left.rests.items c.push.new.self.items
-        less c.loop-left.invariant.within noted
-        (c.unwrap_or-behind.ensures ∙ ap (λ t. unwrap_or t (ahead_of [])) c.top.ensures)
-        c.nesting_of.ensures c.in_ok-pass.ensures c.ahead_before-ahead.ensures c.in_ok-push.ensures.items in
+    noted_before ws c.loop-left.left before c.index-statements-left.result c.loop-left.ahead c.unwrap_or-behind.result c.ahead_before-ahead.result c.loop-left.ends c.pass.new.ends
+    c.nesting_of.result c.loop-left.rests.items c.push.new.self.items
+    less c.loop-left.invariant.within noted
+    (c.unwrap_or-behind.ensures ∙ ap (λ t. unwrap_or t (ahead_of [])) c.top.ensures)
+    c.nesting_of.ensures c.in_ok-pass.ensures c.ahead_before-ahead.ensures c.in_ok-push.ensures.items in
     record {
       within = omega arith;
       ahead = new.ahead_is;

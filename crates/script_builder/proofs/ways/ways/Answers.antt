@@ -1,5 +1,4 @@
 use Rattle.std.proofs.Common.{false, ap, length, arith, rules}
-use Rattle.std.proofs.lemmas.Grind.{common_steps}
 use Rattle.std.proofs.lemmas.List.{drop_more}
 use Rattle.script_builder.specs.declared.rests.Rest.{Rest}
 use Rattle.script_builder.specs.Ways.{count_of}

@@ -1,4 +1,4 @@
-use Rattle.std.proofs.Common.{◌≡◌, ◌+◌, ◌≤◌, ◌++◌, [], length, drop}
+use Rattle.std.proofs.Common.{◌≡◌, ◌+◌, ◌≤◌, ◌++◌, [], drop}
 use Rattle.script_builder.specs.Ways.{count_of, ways_of}
 use Rattle.script_builder.proofs.ways.ways.Given as goal
 
