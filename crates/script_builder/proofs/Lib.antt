@@ -1,0 +1,7 @@
+mod AssemblyLemmas
+mod EndLemmas
+mod LawLemmas
+mod LeastLemmas
+mod MemoryLemmas
+mod StackLemmas
+mod WayLemmas

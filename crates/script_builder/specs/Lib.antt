@@ -1,0 +1,9 @@
+pub mod Faults
+pub mod Laws
+pub mod Least
+pub mod Nestings
+pub mod Parts
+pub mod Phrases
+pub mod Rests
+pub mod Scripts
+pub mod Ways
