@@ -1,4 +1,4 @@
-//! Tests of the job language and of its texts: what a job asks, the history, the listing.
+//! Tests of the history of a run and of its texts.
 #![tactic(auto)]
 
 #[cfg(test)]
@@ -7,5 +7,3 @@ mod entries;
 mod histories;
 #[cfg(test)]
 mod listings;
-#[cfg(test)]
-mod scripts;

@@ -1,10 +1,10 @@
-use job_language::forms::{RequestForm, WriteForm};
-use job_language::operands::{
+use crate::forms::{RequestForm, WriteForm};
+use crate::operands::{
     Condition, Expression, GivenOperands, NumberOperand, Operand, Operator, Relation,
     SequenceOperand, Targets,
 };
-use job_language::progress::Progress;
-use job_language::statements::{Action, RequestStatement, Script, Statement, Statements};
+use crate::progress::Progress;
+use crate::statements::{Action, RequestStatement, Script, Statement, Statements};
 use field_types::names::Name;
 use field_types::values::{Dec, Value};
 use library_model::replies::Reply;
