@@ -1,0 +1,122 @@
+-- Values in a parameter's parentheses: literals and variables, alone, in lists, in expressions and in conditions.
+-- (CL reference, "Expressions"; which variables stand where is our own.)
+use Rattle.std.specs.Prelude.{ℕ, ◌-◌, ◌^◌, Bool, nat_eq, nat_le, if◌then◌else◌, Option, Some, None, List, [], ◌∷◌, codes, position, option_and_then, option_map}
+use Rattle.std.specs.Option.{option_map_or}
+use Rattle.field_types.specs.SystemName.{is_name}
+use Rattle.library_model.specs.Named.{same_name}
+use Rattle.script_numbers.specs.Arithmetic.{whole_of}
+use Rattle.job_language.specs.declared.operands.Operand.{Operand}
+use Rattle.job_language.specs.declared.operands.Operand.TheVariants.{Literal, Variable}
+use Rattle.job_language.specs.declared.operands.Operator.{Operator}
+use Rattle.job_language.specs.declared.operands.Operator.TheVariants.{Plus, Minus, Times}
+use Rattle.job_language.specs.declared.operands.Expression.{Expression}
+use Rattle.job_language.specs.declared.operands.Expression.TheVariants.{Single, Calculation}
+use Rattle.job_language.specs.declared.operands.Relation.{Relation}
+use Rattle.job_language.specs.declared.operands.Relation.TheVariants.{Equal, NotEqual, Less, LessOrEqual, Greater, GreaterOrEqual}
+use Rattle.job_language.specs.declared.operands.Condition.{Condition}
+use Rattle.job_language.specs.declared.operands.NumberOperand.{NumberOperand}
+use Rattle.job_language.specs.declared.operands.NumberOperand.TheVariants as number
+use Rattle.job_language.specs.declared.operands.SequenceOperand.{SequenceOperand}
+use Rattle.job_language.specs.declared.operands.SequenceOperand.TheVariants as sequence
+use Rattle.statement_reader.specs.Commands.{is_word}
+use Rattle.statement_reader.specs.Literals.{number_of, literal_of}
+use Rattle.statement_reader.specs.Parameters.{behind}
+use Rattle.statement_reader.specs.Words.{only, three}
+
+-- what each of a list gives, where each gives something
+abbrev pub onto_others : {A : Type 0} → Option A → Option (List A) → Option (List A)
+onto_others None others = None
+onto_others (Some first) None = None
+onto_others (Some first) (Some others) = Some (first ∷ others)
+
+abbrev pub each : {A B : Type 0} → (A → Option B) → List A → Option (List B)
+each f [] = Some []
+each f (x ∷ xs) = onto_others (f x) (each f xs)
+
+-- a list of one or more
+abbrev pub not_empty : {A : Type 0} → Option (List A) → Option (List A)
+not_empty None = None
+not_empty (Some []) = None
+not_empty (Some (first ∷ others)) = Some (first ∷ others)
+
+-- the number of the variable of this name, from 0
+abbrev pub number_in : List (List ℕ) → List ℕ → Option ℕ
+number_in variables name = position (same_name name) variables
+
+-- the number of a variable that is declared, by what stands behind its &
+unfoldable pub declared : List (List ℕ) → List ℕ → Option ℕ
+declared variables name = if is_name name then number_in variables name else None
+
+abbrev pub variable_of : List (List ℕ) → List ℕ → Option ℕ
+variable_of variables word = option_and_then (declared variables) (behind (codes "&") word)
+
+-- a variable, or a literal
+unfoldable pub operand_of : List (List ℕ) → List ℕ → Option Operand
+operand_of variables word =
+    option_map_or (λ name. option_map Variable (declared variables name)) (behind (codes "&") word) (option_map Literal (literal_of word))
+
+-- KEY has one value or more
+unfoldable pub operands_of : List (List ℕ) → List (List ℕ) → Option (List Operand)
+operands_of variables words = not_empty (each (operand_of variables) words)
+
+-- a value of VAL, or *N
+unfoldable pub given_operand : List (List ℕ) → List ℕ → Option (Option Operand)
+given_operand variables word = if is_word (codes "*N") word then Some None else option_map Some (operand_of variables word)
+
+-- VAL has one value or more
+unfoldable pub given_operands : List (List ℕ) → List (List ℕ) → Option (List (Option Operand))
+given_operands variables words = not_empty (each (given_operand variables) words)
+
+-- TO has one variable or more
+unfoldable pub targets_of : List (List ℕ) → List (List ℕ) → Option (List ℕ)
+targets_of variables words = not_empty (each (variable_of variables) words)
+
+abbrev pub operator_of : List ℕ → Option Operator
+operator_of word =
+    if is_word (codes "+") word then Some Plus
+    else (if is_word (codes "-") word then Some Minus else (if is_word (codes "*") word then Some Times else None))
+
+-- x, or x and y with an operator between them
+abbrev pub calculation_of : List (List ℕ) → List ℕ × List ℕ × List ℕ → Option Expression
+calculation_of variables parts =
+    option_and_then (λ operator. option_and_then (λ left. option_map (λ right. Calculation left operator right)
+    (operand_of variables parts.2)) (operand_of variables parts.0)) (operator_of parts.1)
+
+unfoldable pub expression_of : List (List ℕ) → List (List ℕ) → Option Expression
+expression_of variables words =
+    option_map_or (calculation_of variables) (three words) (option_and_then (λ word. option_map Single (operand_of variables word)) (only words))
+
+abbrev pub relation_of : List ℕ → Option Relation
+relation_of word =
+    if is_word (codes "*EQ") word then Some Equal
+    else (if is_word (codes "*NE") word then Some NotEqual
+    else (if is_word (codes "*LT") word then Some Less
+    else (if is_word (codes "*LE") word then Some LessOrEqual
+    else (if is_word (codes "*GT") word then Some Greater
+    else (if is_word (codes "*GE") word then Some GreaterOrEqual else None)))))
+
+-- x op y
+abbrev pub comparison_of : List (List ℕ) → List ℕ × List ℕ × List ℕ → Option Condition
+comparison_of variables parts =
+    option_and_then (λ relation. option_and_then (λ left. option_map (λ right. record { left = left; relation = relation; right = right })
+    (operand_of variables parts.2)) (operand_of variables parts.0)) (relation_of parts.1)
+
+unfoldable pub condition_of : List (List ℕ) → List (List ℕ) → Option Condition
+condition_of variables words = option_and_then (comparison_of variables) (three words)
+
+-- the number that a literal is, where it is whole and from 0 up to this one
+abbrev pub at_most : ℕ → ℕ → Option ℕ
+at_most most whole = if nat_le whole most then Some whole else None
+
+unfoldable pub whole_up_to : ℕ → List ℕ → Option ℕ
+whole_up_to most word = option_and_then (at_most most) (option_and_then whole_of (number_of word))
+
+-- RRN and RCV
+unfoldable pub number_operand : List (List ℕ) → List ℕ → Option NumberOperand
+number_operand variables word =
+    option_map_or (λ name. option_map number.Variable (declared variables name)) (behind (codes "&") word) (option_map number.Literal (whole_up_to (2 ^ 32 - 1) word))
+
+-- FROMENT and TOENT
+unfoldable pub sequence_operand : List (List ℕ) → List ℕ → Option SequenceOperand
+sequence_operand variables word =
+    option_map_or (λ name. option_map sequence.Variable (declared variables name)) (behind (codes "&") word) (option_map sequence.Literal (whole_up_to (2 ^ 64 - 1) word))

@@ -1,0 +1,95 @@
+//! Literals, by `specs/Literals.antt`.
+ghost use Rattle.std.specs.Prelude.{◌≡◌, ◌<◌, ◌×◌, length, MatchOption, Some, IfOk};
+ghost use Rattle.statement_reader.specs.Literals.{onto, quoted, hexadecimal, literal_of, ended};
+
+use crate::numbers::number;
+use crate::parameters::behind;
+use ebc_text::to_ebcdic_byte;
+use field_types::texts::Text;
+use field_types::values::Value;
+use std::alloc::{AllocError, Global};
+use text_lines::characters::hex_byte;
+
+/// The literal that a word is.
+#[tactic(auto, unfolding(crate::specs::Literals::literal_of))]
+pub fn literal(alloc: Global, word: &[u8]) -> Result<Option<Value>, AllocError>
+    ensures { IfOk result (λ value. value ≡ literal_of word.now) }
+{
+    if let Some(text) = behind(word, b"'") {
+        quoted(alloc, text)
+    } else if let Some(digits) = behind(word, b"X'") {
+        hexadecimal(alloc, digits)
+    } else {
+        match number(word) {
+            Some(number) => Ok(Some(Value::Number(number))),
+            None => Ok(None),
+        }
+    }
+}
+
+fn quoted(alloc: Global, text: &[u8]) -> Result<Option<Value>, AllocError>
+    ensures { IfOk result (λ value. value ≡ option_map Value.Chars (quoted text.now)) }
+{
+    let mut bytes = Vec::new(alloc);
+    let mut rest = text;
+    while let Some((byte, others)) = next_character(rest) {
+        bytes.push(byte)?;
+        rest = others;
+    }
+    Ok(text_before(bytes, rest))
+}
+
+fn hexadecimal(alloc: Global, text: &[u8]) -> Result<Option<Value>, AllocError>
+    ensures { IfOk result (λ value. value ≡ option_map Value.Chars (hexadecimal text.now)) }
+{
+    let mut bytes = Vec::new(alloc);
+    let mut rest = text;
+    while let Some((byte, others)) = next_pair(rest) {
+        bytes.push(byte)?;
+        rest = others;
+    }
+    Ok(text_before(bytes, rest))
+}
+
+/// The text of these bytes, where nothing but the apostrophe that ends it is left.
+fn text_before(bytes: Vec<u8>, rest: &[u8]) -> Option<Value>
+    ensures { result ≡ option_map (λ end. Value.Chars (bytes.items ++ end)) (ended rest.now) }
+{
+    if rest == b"'".as_slice() {
+        Some(Value::Chars(Text::from_vec(bytes)))
+    } else {
+        None
+    }
+}
+
+/// The byte of the next character, and what is behind it.
+fn next_character(text: &[u8]) -> Option<(u8, &[u8])>
+    ensures { MatchOption result (quoted text.now ≡ ended text.now) (λ next. (quoted text.now ≡ onto (Some next.0) (quoted next.1.now)) × (length next.1.now < length text.now)) }
+{
+    let [first, rest @ ..] = text else {
+        return None;
+    };
+    if *first != b'\'' {
+        let byte = to_ebcdic_byte(*first)?;
+        return Some((byte, rest));
+    }
+    let [second, rest @ ..] = rest else {
+        return None;
+    };
+    if *second != b'\'' {
+        return None;
+    }
+    let byte = to_ebcdic_byte(b'\'')?;
+    Some((byte, rest))
+}
+
+/// The byte of the next pair of digits, and what is behind it.
+fn next_pair(text: &[u8]) -> Option<(u8, &[u8])>
+    ensures { MatchOption result (hexadecimal text.now ≡ ended text.now) (λ next. (hexadecimal text.now ≡ onto (Some next.0) (hexadecimal next.1.now)) × (length next.1.now < length text.now)) }
+{
+    let [high, low, rest @ ..] = text else {
+        return None;
+    };
+    let byte = hex_byte(*high, *low)?;
+    Some((byte, rest))
+}
