@@ -11,8 +11,9 @@ use Rattle.statement_syntax.specs.declared.Phrase.{Phrase}
 use Rattle.statement_syntax.specs.declared.Phrase.TheVariants.{Declare, ChangeVariable, IfGoto, IfDo, Else, DoWhile, Goto, Monitor}
 use Rattle.statement_reader.specs.Arguments.{name_of, name_in, word_in, stands}
 use Rattle.statement_reader.specs.Commands.{is_word}
+use Rattle.statement_reader.specs.Lists.{each, not_empty}
 use Rattle.statement_reader.specs.Literals.{literal_of}
-use Rattle.statement_reader.specs.Operands.{each, not_empty, variable_of, expression_of, condition_of}
+use Rattle.statement_reader.specs.Operands.{variable_of, expression_of, condition_of}
 use Rattle.statement_reader.specs.Parameters.{behind, given, has_only}
 use Rattle.statement_reader.specs.RefusalNames.{refusal_named}
 use Rattle.statement_reader.specs.Words.{words, only}

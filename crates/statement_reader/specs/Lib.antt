@@ -1,6 +1,7 @@
 pub mod Arguments
 pub mod Commands
 pub mod Control
+pub mod Lists
 pub mod Literals
 pub mod Operands
 pub mod Parameters

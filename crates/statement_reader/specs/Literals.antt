@@ -1,6 +1,6 @@
 -- Literals: '..' with an apostrophe written twice, X'..', and numbers. The characters of a text stand for their bytes in code page 037.
 -- (CL reference, "Constant values".)
-use Rattle.std.specs.Prelude.{ℕ, ◌+◌, ◌-◌, pos, ◌-ℤ◌, Bool, ◌&&◌, ◌==◌, nat_eq, nat_le, if◌then◌else◌, Option, Some, None, List, [], ◌∷◌, length, take, drop, codes, option_and_then, option_map}
+use Rattle.std.specs.Prelude.{ℕ, ◌+◌, ◌-◌, pos, neg_ℤ, Bool, ◌&&◌, ◌==◌, nat_eq, nat_le, if◌then◌else◌, Option, Some, None, List, [], ◌∷◌, length, take, drop, codes, option_and_then, option_map}
 use Rattle.std.specs.Option.{option_map_or}
 use Rattle.std.specs.List.{prefix_len}
 use Rattle.std.specs.Cmp.Lexicographic.{pointwise}
@@ -10,15 +10,11 @@ use Rattle.field_types.specs.declared.values.Value.{Value}
 use Rattle.field_types.specs.declared.values.Value.TheVariants.{Chars, Number}
 use Rattle.text_lines.specs.Characters.{hex_digit_value, hex_byte}
 use Rattle.text_lines.specs.Decimal.{is_digit, digits_from}
+use Rattle.statement_reader.specs.Lists.{onto_others}
 use Rattle.statement_reader.specs.Words.{has_text}
 use Rattle.statement_reader.specs.Parameters.{behind}
+use Rattle.statement_reader.specs.declared.numbers.Digits.{Digits}
 use Rattle.statement_reader.specs.declared.numbers.TheConstants.{MOST_DIGITS, MOST_UNITS}
-
--- a byte in front of others
-abbrev pub onto : Option ℕ → Option (List ℕ) → Option (List ℕ)
-onto None bytes = None
-onto (Some byte) None = None
-onto (Some byte) (Some bytes) = Some (byte ∷ bytes)
 
 -- no bytes, where nothing but the apostrophe that ends a literal is left
 abbrev pub ended : List ℕ → Option (List ℕ)
@@ -29,36 +25,38 @@ abbrev pub quoted : List ℕ → Option (List ℕ)
 quoted [] = None
 quoted (c ∷ []) = if c == 39 then Some [] else None
 quoted (c ∷ d ∷ text) =
-    if c == 39 then (if d == 39 then onto (ebcdic_of 39) (quoted text) else None) else onto (ebcdic_of c) (quoted (d ∷ text))
+    if c == 39 then (if d == 39 then onto_others (ebcdic_of 39) (quoted text) else None) else onto_others (ebcdic_of c) (quoted (d ∷ text))
 
 -- the bytes of pairs of digits up to the apostrophe that ends them
 abbrev pub hexadecimal : List ℕ → Option (List ℕ)
 hexadecimal [] = None
 hexadecimal (c ∷ []) = if c == 39 then Some [] else None
-hexadecimal (c ∷ d ∷ text) = onto (hex_byte (hex_digit_value c) (hex_digit_value d)) (hexadecimal text)
+hexadecimal (c ∷ d ∷ text) = onto_others (hex_byte (hex_digit_value c) (hex_digit_value d)) (hexadecimal text)
 
--- the number of digits before and behind a point, from 1 to 31 in all
-abbrev pub scaled : List ℕ → List ℕ → Option Dec
+-- digits before and behind a point, from 1 to 31 in all: their number without the point, and how many stand behind it
+abbrev pub scaled : List ℕ → List ℕ → Option Digits
 scaled whole fraction =
     if has_text whole && nat_le (length whole + length fraction) MOST_DIGITS
-    then option_map (λ units. record { units = pos units; scale = length fraction }) (option_and_then (λ units. digits_from MOST_UNITS units fraction) (digits_from MOST_UNITS 0 whole))
+    then option_map (λ units. record { units = units; scale = length fraction }) (option_and_then (λ units. digits_from MOST_UNITS units fraction) (digits_from MOST_UNITS 0 whole))
     else None
 
--- the number of these digits, and of what stands behind them: nothing, or a point and more digits
-abbrev pub pointed : List ℕ → List ℕ → Option Dec
+-- these digits, and what stands behind them: nothing, or a point and more digits
+abbrev pub pointed : List ℕ → List ℕ → Option Digits
 pointed whole [] = scaled whole []
 pointed whole (c ∷ fraction) = if (c == 46) && has_text fraction then scaled whole fraction else None
 
--- the number without a sign
-unfoldable pub unsigned : List ℕ → Option Dec
+unfoldable pub unsigned : List ℕ → Option Digits
 unsigned text = pointed (take (prefix_len is_digit text) text) (drop (prefix_len is_digit text) text)
 
-abbrev pub negated : Dec → Dec
-negated number = record { units = pos 0 -ℤ number.units; scale = number.scale }
+abbrev pub positive : Digits → Dec
+positive digits = record { units = pos digits.units; scale = digits.scale }
+
+abbrev pub negative : Digits → Dec
+negative digits = record { units = neg_ℤ (pos digits.units); scale = digits.scale }
 
 -- the number of a word: an optional -, digits, and optionally a point and digits
 unfoldable pub number_of : List ℕ → Option Dec
-number_of word = option_map_or (λ digits. option_map negated (unsigned digits)) (behind (codes "-") word) (unsigned word)
+number_of word = option_map_or (λ digits. option_map negative (unsigned digits)) (behind (codes "-") word) (option_map positive (unsigned word))
 
 -- the literal that a word is
 unfoldable pub literal_of : List ℕ → Option Value

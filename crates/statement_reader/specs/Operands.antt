@@ -19,25 +19,10 @@ use Rattle.job_language.specs.declared.operands.NumberOperand.TheVariants as num
 use Rattle.job_language.specs.declared.operands.SequenceOperand.{SequenceOperand}
 use Rattle.job_language.specs.declared.operands.SequenceOperand.TheVariants as sequence
 use Rattle.statement_reader.specs.Commands.{is_word}
+use Rattle.statement_reader.specs.Lists.{each, not_empty}
 use Rattle.statement_reader.specs.Literals.{number_of, literal_of}
 use Rattle.statement_reader.specs.Parameters.{behind}
 use Rattle.statement_reader.specs.Words.{only, three}
-
--- what each of a list gives, where each gives something
-abbrev pub onto_others : {A : Type 0} → Option A → Option (List A) → Option (List A)
-onto_others None others = None
-onto_others (Some first) None = None
-onto_others (Some first) (Some others) = Some (first ∷ others)
-
-abbrev pub each : {A B : Type 0} → (A → Option B) → List A → Option (List B)
-each f [] = Some []
-each f (x ∷ xs) = onto_others (f x) (each f xs)
-
--- a list of one or more
-abbrev pub not_empty : {A : Type 0} → Option (List A) → Option (List A)
-not_empty None = None
-not_empty (Some []) = None
-not_empty (Some (first ∷ others)) = Some (first ∷ others)
 
 -- the number of the variable of this name, from 0
 abbrev pub number_in : List (List ℕ) → List ℕ → Option ℕ

@@ -1,17 +1,17 @@
 -- What a statement of a job's script says: an optional label with a colon, a command, and its parameters. (CL reference, "Command syntax".)
-use Rattle.std.specs.Prelude.{ℕ, suc, ◌==◌, if◌then◌else◌, Option, Some, None, List, [], ◌∷◌, take, drop, position, option_and_then, option_map}
+use Rattle.std.specs.Prelude.{ℕ, ◌+◌, not, ◌&&◌, ◌==◌, if◌then◌else◌, Option, Some, None, List, [], ◌∷◌, take, drop, slice_index, option_and_then, option_map}
 use Rattle.std.specs.Option.{option_map_or}
 use Rattle.std.specs.List.{prefix_len}
 use Rattle.field_types.specs.SystemName.{is_name}
 use Rattle.library_model.specs.declared.requests.Request.TheVariants as request
 use Rattle.statement_syntax.specs.declared.Phrase.{Phrase}
 use Rattle.statement_syntax.specs.declared.Phrase.TheVariants.{EndDo, Return}
-use Rattle.text_lines.specs.Lines.{is_blank, word_length}
+use Rattle.text_lines.specs.Lines.{is_blank}
 use Rattle.statement_reader.specs.Commands.{command_of, parameters_of}
 use Rattle.statement_reader.specs.Control.{declaration, change, test, otherwise, while_loop, jump, monitor}
 use Rattle.statement_reader.specs.Parameters.{has_only}
 use Rattle.statement_reader.specs.Requests.{plain, create_physical, create_logical, delete_file, add_member, clear_member, reorganize_member, end_journaling, start_journaling, delete_receiver, display_journal, apply_changes, remove_changes, start_commitment, open_file, close_file, delete_record, unlock_record, set_lower_limit, set_greater_than, read, read_prior, read_equal, read_prior_equal, chain, write, update}
-use Rattle.statement_reader.specs.Words.{words}
+use Rattle.statement_reader.specs.Words.{unindented, words}
 use Rattle.statement_reader.specs.declared.commands.Command.{Command}
 use Rattle.statement_reader.specs.declared.commands.Command.TheVariants.{Declare, ChangeVariable, If, Else, DoWhile, EndDo as EndDoCommand, Goto, Monitor, Return as ReturnCommand, CreatePhysicalFile, CreateLogicalFile, DeleteFile, AddMember, ClearMember, ReorganizeMember, StartJournaling, EndJournaling, ChangeJournal, DeleteReceiver, Checkpoint, DisplayJournal, ApplyChanges, RemoveChanges, StartCommitment, EndCommitment, Commit, Rollback, OpenFile, CloseFile, SetLowerLimit, SetGreaterThan, Read, ReadPrior, ReadEqual, ReadPriorEqual, Chain, Write, Update, Delete, Unlock}
 use Rattle.statement_reader.specs.declared.reading.Said.{Said}
@@ -71,18 +71,18 @@ phrase_of variables (word ∷ statement) = option_and_then (commanded variables 
 abbrev pub said : Option (List ℕ) → Phrase → Said
 said label phrase = record { label = label; phrase = phrase }
 
--- where a colon stands in the first word
+-- how many characters stand before the first blank or colon
+abbrev pub label_length : List ℕ → ℕ
+label_length text = prefix_len (λ c. not (is_blank c) && not (c == 58)) text
+
+-- where a colon stands before which there is no blank
 abbrev pub colon_in : List ℕ → Option ℕ
-colon_in text = position (λ c. c == 58) (take (word_length text) text)
+colon_in text = if slice_index text (label_length text) == 58 then Some (label_length text) else None
 
 -- a label of so many characters, and what is said behind its colon
 abbrev pub labelled : List (List ℕ) → List ℕ → ℕ → Option Said
 labelled variables text colon =
-    if is_name (take colon text) then option_map (said (Some (take colon text))) (phrase_of variables (words (drop (suc colon) text))) else None
-
--- what stands behind the blanks at the front of a text
-abbrev pub unindented : List ℕ → List ℕ
-unindented text = drop (prefix_len is_blank text) text
+    if is_name (take colon text) then option_map (said (Some (take colon text))) (phrase_of variables (words (drop (colon + 1) text))) else None
 
 -- what the text of a statement says with these variables declared; None where it is no statement
 unfoldable pub statement_of : List (List ℕ) → List ℕ → Option Said

@@ -1,6 +1,7 @@
 -- The words of a text: blanks separate them, but not between apostrophes and not in parentheses.
 -- (CL reference, "Command syntax".)
-use Rattle.std.specs.Prelude.{ℕ, zero, suc, ◌+◌, ◌-◌, Bool, true, false, not, ◌&&◌, ◌==◌, if◌then◌else◌, Option, Some, None, List, [], ◌∷◌, filter}
+use Rattle.std.specs.Prelude.{ℕ, zero, suc, ◌+◌, ◌-◌, Bool, true, false, not, ◌&&◌, ◌==◌, if◌then◌else◌, Option, Some, None, List, [], ◌∷◌, drop, filter}
+use Rattle.std.specs.List.{prefix_len}
 use Rattle.text_lines.specs.Lines.{is_blank, onto_first}
 use Rattle.statement_reader.specs.declared.words.Nesting.{Nesting}
 
@@ -33,6 +34,10 @@ has_text (c ∷ text) = true
 -- the words: the pieces that aren't empty
 unfoldable pub words : List ℕ → List (List ℕ)
 words text = filter has_text (pieces outside text)
+
+-- what stands behind the blanks at the front of a text
+abbrev pub unindented : List ℕ → List ℕ
+unindented text = drop (prefix_len is_blank text) text
 
 -- how many characters stand before the first blank that separates
 abbrev pub piece_length : Nesting → List ℕ → ℕ

@@ -1,6 +1,7 @@
 //! Literals, by `specs/Literals.antt`.
-ghost use Rattle.std.specs.Prelude.{◌≡◌, ◌<◌, ◌×◌, length, MatchOption, Some, IfOk};
-ghost use Rattle.statement_reader.specs.Literals.{onto, quoted, hexadecimal, literal_of, ended};
+ghost use Rattle.std.specs.Prelude.{◌≡◌, ◌<◌, ◌≤◌, ◌∷◌, length, MatchOption, IfOk, option_map};
+ghost use Rattle.statement_reader.specs.Lists.{onto_others, with_front};
+ghost use Rattle.statement_reader.specs.Literals.{quoted, hexadecimal, literal_of, ended};
 
 use crate::numbers::number;
 use crate::parameters::behind;
@@ -52,8 +53,9 @@ fn hexadecimal(alloc: Global, text: &[u8]) -> Result<Option<Value>, AllocError>
 }
 
 /// The text of these bytes, where nothing but the apostrophe that ends it is left.
+#[tactic(auto, using(crate::proofs::ListLemmas::with_front_end))]
 fn text_before(bytes: Vec<u8>, rest: &[u8]) -> Option<Value>
-    ensures { result ≡ option_map (λ end. Value.Chars (bytes.items ++ end)) (ended rest.now) }
+    ensures { result ≡ option_map Value.Chars (with_front bytes.items (ended rest.now)) }
 {
     if rest == b"'".as_slice() {
         Some(Value::Chars(Text::from_vec(bytes)))
@@ -64,32 +66,51 @@ fn text_before(bytes: Vec<u8>, rest: &[u8]) -> Option<Value>
 
 /// The byte of the next character, and what is behind it.
 fn next_character(text: &[u8]) -> Option<(u8, &[u8])>
-    ensures { MatchOption result (quoted text.now ≡ ended text.now) (λ next. (quoted text.now ≡ onto (Some next.0) (quoted next.1.now)) × (length next.1.now < length text.now)) }
+    ensures { MatchOption result (quoted text.now ≡ ended text.now) (λ next. (quoted text.now ≡ onto_others (Some next.0) (quoted next.1.now)) × (length next.1.now < length text.now)) }
 {
-    let [first, rest @ ..] = text else {
-        return None;
-    };
-    if *first != b'\'' {
-        let byte = to_ebcdic_byte(*first)?;
-        return Some((byte, rest));
+    match text {
+        [] => None,
+        [character, rest @ ..] => {
+            if *character == b'\'' {
+                second_apostrophe(rest)
+            } else {
+                byte_before(to_ebcdic_byte(*character), rest)
+            }
+        }
     }
-    let [second, rest @ ..] = rest else {
-        return None;
-    };
-    if *second != b'\'' {
-        return None;
+}
+
+/// The byte of two apostrophes, by the text behind the first.
+fn second_apostrophe(text: &[u8]) -> Option<(u8, &[u8])>
+    ensures { MatchOption result (quoted (39 ∷ text.now) ≡ ended (39 ∷ text.now)) (λ next. (quoted (39 ∷ text.now) ≡ onto_others (Some next.0) (quoted next.1.now)) × (length next.1.now ≤ length text.now)) }
+{
+    match text {
+        [] => None,
+        [character, rest @ ..] => {
+            if *character == b'\'' {
+                byte_before(to_ebcdic_byte(b'\''), rest)
+            } else {
+                None
+            }
+        }
     }
-    let byte = to_ebcdic_byte(b'\'')?;
-    Some((byte, rest))
 }
 
 /// The byte of the next pair of digits, and what is behind it.
 fn next_pair(text: &[u8]) -> Option<(u8, &[u8])>
-    ensures { MatchOption result (hexadecimal text.now ≡ ended text.now) (λ next. (hexadecimal text.now ≡ onto (Some next.0) (hexadecimal next.1.now)) × (length next.1.now < length text.now)) }
+    ensures { MatchOption result (hexadecimal text.now ≡ ended text.now) (λ next. (hexadecimal text.now ≡ onto_others (Some next.0) (hexadecimal next.1.now)) × (length next.1.now < length text.now)) }
 {
-    let [high, low, rest @ ..] = text else {
-        return None;
-    };
-    let byte = hex_byte(*high, *low)?;
-    Some((byte, rest))
+    match text {
+        [high, low, rest @ ..] => byte_before(hex_byte(*high, *low), rest),
+        _ => None,
+    }
+}
+
+fn byte_before(byte: Option<u8>, rest: &[u8]) -> Option<(u8, &[u8])>
+    ensures { option_map (λ next. (next.0, next.1.now)) result ≡ option_map (λ byte. (byte, rest.now)) byte }
+{
+    match byte {
+        Some(byte) => Some((byte, rest)),
+        None => None,
+    }
 }

@@ -1,8 +1,8 @@
 //! Numbers, by `specs/Literals.antt`.
-ghost use Rattle.std.specs.Prelude.{◌≡◌, ◌≤◌, length, take, drop, option_and_then, IfSome};
+ghost use Rattle.std.specs.Prelude.{◌≡◌, ◌≤◌, length, IfSome};
 ghost use Rattle.std.specs.List.{prefix_len};
 ghost use Rattle.text_lines.specs.Decimal.{is_digit, digits_from};
-ghost use Rattle.statement_reader.specs.Literals.{scaled, pointed, unsigned, negated, number_of};
+ghost use Rattle.statement_reader.specs.Literals.{scaled, pointed, unsigned, number_of};
 ghost use Rattle.statement_reader.specs.Operands.{whole_up_to};
 
 use crate::parameters::behind;
@@ -16,32 +16,40 @@ pub const MOST_DIGITS: usize = 31;
 /// The largest number of that many digits.
 pub const MOST_UNITS: u128 = 9_999_999_999_999_999_999_999_999_999_999;
 
+/// The digits of a number, as a number without the point, and how many stand behind it.
+#[derive(Clone, Copy)]
+struct Digits {
+    units: u128,
+    scale: u8,
+}
+
 /// The number that a word is.
 #[tactic(auto, unfolding(crate::specs::Literals::number_of))]
 pub fn number(word: &[u8]) -> Option<Dec>
     ensures { result ≡ number_of word.now }
 {
-    match behind(word, b"-") {
-        Some(digits) => match unsigned(digits) {
-            Some(number) => Some(negated(number)),
+    if let Some(digits) = behind(word, b"-") {
+        return match unsigned(digits) {
+            Some(digits) => Some(Dec {
+                units: -(digits.units as i128),
+                scale: digits.scale,
+            }),
             None => None,
-        },
-        None => unsigned(word),
+        };
     }
-}
-
-fn negated(number: Dec) -> Dec
-    ensures { result ≡ negated number }
-{
-    Dec {
-        units: 0 - number.units,
-        scale: number.scale,
+    match unsigned(word) {
+        Some(digits) => Some(Dec {
+            units: digits.units as i128,
+            scale: digits.scale,
+        }),
+        None => None,
     }
 }
 
 #[tactic(auto, unfolding(crate::specs::Literals::unsigned))]
-fn unsigned(text: &[u8]) -> Option<Dec>
-    ensures { result ≡ unsigned text.now }
+fn unsigned(text: &[u8]) -> Option<Digits>
+    ensures digits { result ≡ unsigned text.now }
+    ensures small { IfSome result (λ digits. digits.units ≤ MOST_UNITS) }
 {
     let (whole, rest) = text.split_at(digits_before(text));
     pointed(whole, rest)
@@ -55,8 +63,9 @@ fn digits_before(text: &[u8]) -> usize
     text.iter().take_while(|&&byte| is_digit(byte)).count()
 }
 
-fn pointed(whole: &[u8], rest: &[u8]) -> Option<Dec>
-    ensures { result ≡ pointed whole.now rest.now }
+fn pointed(whole: &[u8], rest: &[u8]) -> Option<Digits>
+    ensures digits { result ≡ pointed whole.now rest.now }
+    ensures small { IfSome result (λ digits. digits.units ≤ MOST_UNITS) }
 {
     match rest {
         [] => scaled(whole, rest),
@@ -70,10 +79,11 @@ fn pointed(whole: &[u8], rest: &[u8]) -> Option<Dec>
     }
 }
 
-fn scaled(whole: &[u8], fraction: &[u8]) -> Option<Dec>
-    ensures { result ≡ scaled whole.now fraction.now }
+fn scaled(whole: &[u8], fraction: &[u8]) -> Option<Digits>
+    ensures digits { result ≡ scaled whole.now fraction.now }
+    ensures small { IfSome result (λ digits. digits.units ≤ MOST_UNITS) }
 {
-    if whole.is_empty() || fraction.len() > MOST_DIGITS || whole.len() > MOST_DIGITS - fraction.len() {
+    if whole.is_empty() || whole.len() + fraction.len() > MOST_DIGITS {
         return None;
     }
     let Some(units) = digits_after(0, whole) else {
@@ -82,8 +92,8 @@ fn scaled(whole: &[u8], fraction: &[u8]) -> Option<Dec>
     let Some(units) = digits_after(units, fraction) else {
         return None;
     };
-    Some(Dec {
-        units: units as i128,
+    Some(Digits {
+        units,
         scale: fraction.len() as u8,
     })
 }

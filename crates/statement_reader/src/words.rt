@@ -1,6 +1,6 @@
 //! The words of a text: blanks separate them, but not between apostrophes and not in parentheses.
 ghost use Rattle.std.specs.Prelude.{◌≡◌, ◌<◌, ◌≤◌, ◌+◌, ◌^◌, ◌∷◌, [], length, MatchOption, option_copied, option_map};
-ghost use Rattle.statement_reader.specs.Words.{after, is_outside, outside, piece_length, words, only, three};
+ghost use Rattle.statement_reader.specs.Words.{after, is_outside, outside, piece_length, unindented, words, only, three};
 
 use text_lines::lines::{blanks_before, is_blank};
 
@@ -50,13 +50,19 @@ impl Nesting {
 pub fn next_word(text: &[u8]) -> Option<(&[u8], &[u8])>
     ensures { MatchOption result (words text.now ≡ []) (λ found. (words text.now ≡ found.0.now ∷ words found.1.now) × (length found.1.now < length text.now)) }
 {
-    let blanks = blanks_before(text);
-    let text = &text[blanks..];
+    let text = unindented(text);
     if text.is_empty() {
-        return None;
+        None
+    } else {
+        Some(text.split_at(piece_length(text)))
     }
-    let length = piece_length(text);
-    Some((&text[..length], &text[length..]))
+}
+
+/// What stands behind the blanks at the front of a text.
+pub fn unindented(text: &[u8]) -> &[u8]
+    ensures { result.now ≡ unindented text.now }
+{
+    &text[blanks_before(text)..]
 }
 
 /// How many characters stand before the first blank that separates words.

@@ -1,0 +1,4 @@
+pub mod ListLemmas
+pub mod LiteralLemmas
+pub mod NumberLemmas
+pub mod WordLemmas
