@@ -1,4 +1,5 @@
 pub mod ListLemmas
 pub mod LiteralLemmas
 pub mod NumberLemmas
+pub mod VariableLemmas
 pub mod WordLemmas

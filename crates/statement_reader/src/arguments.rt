@@ -3,7 +3,7 @@ ghost use Rattle.std.specs.Prelude.{◌≡◌, option_copied, option_map, IfOk};
 ghost use Rattle.statement_reader.specs.Words.{words};
 ghost use Rattle.statement_reader.specs.Arguments.{word_in, name_of, name_in, stands, name_or, images_of, images_in, option_of, option_in, commit_of, commit_in, access_path_of, access_path_in, lock_of, lock_in, level_of, level_in, end_of, end_in, format_of, format_in, place_of, place_in, number_at, sequence_at, key_in, values_in, targets_in};
 
-use crate::operands::{given_operands, number_operand, operands, sequence_operand, targets};
+use crate::operands::{given_operands, number_operand, operands_of, sequence_operand, targets_of};
 use crate::parameters::{Parameter, given};
 use crate::variables::Variables;
 use crate::words::only;
@@ -41,11 +41,11 @@ pub fn name_in(text: &[u8], parameter: Parameter) -> Option<Name>
     let Some(word) = word_in(text, parameter) else {
         return None;
     };
-    name(word)
+    name_of(word)
 }
 
 /// The name that a word is.
-pub fn name(word: &[u8]) -> Option<Name>
+pub fn name_of(word: &[u8]) -> Option<Name>
     ensures { result ≡ name_of word.now }
 {
     Name::from_bytes(word)
@@ -63,7 +63,7 @@ pub fn name_or(text: &[u8], parameter: Parameter, default: Name) -> Option<Name>
     }
 }
 
-fn images(word: &[u8]) -> Option<Images>
+fn images_of(word: &[u8]) -> Option<Images>
     ensures { result ≡ images_of word.now }
 {
     if word == b"*AFTER".as_slice() {
@@ -86,10 +86,10 @@ pub fn images_in(text: &[u8]) -> Option<Images>
     let Some(word) = word_in(text, Parameter::Images) else {
         return None;
     };
-    images(word)
+    images_of(word)
 }
 
-fn option(word: &[u8]) -> Option<OpenOption>
+fn option_of(word: &[u8]) -> Option<OpenOption>
     ensures { result ≡ option_of word.now }
 {
     if word == b"*INP".as_slice() {
@@ -112,10 +112,10 @@ pub fn option_in(text: &[u8]) -> Option<OpenOption>
     let Some(word) = word_in(text, Parameter::Option) else {
         return None;
     };
-    option(word)
+    option_of(word)
 }
 
-fn commit(word: &[u8]) -> Option<bool>
+fn commit_of(word: &[u8]) -> Option<bool>
     ensures { result ≡ commit_of word.now }
 {
     if word == b"*NO".as_slice() {
@@ -138,10 +138,10 @@ pub fn commit_in(text: &[u8]) -> Option<bool>
     let Some(word) = word_in(text, Parameter::Commit) else {
         return None;
     };
-    commit(word)
+    commit_of(word)
 }
 
-fn access_path(word: &[u8]) -> Option<AccessPath>
+fn access_path_of(word: &[u8]) -> Option<AccessPath>
     ensures { result ≡ access_path_of word.now }
 {
     if word == b"*FILE".as_slice() {
@@ -164,10 +164,10 @@ pub fn access_path_in(text: &[u8]) -> Option<AccessPath>
     let Some(word) = word_in(text, Parameter::AccessPath) else {
         return None;
     };
-    access_path(word)
+    access_path_of(word)
 }
 
-fn lock(word: &[u8]) -> Option<LockOption>
+fn lock_of(word: &[u8]) -> Option<LockOption>
     ensures { result ≡ lock_of word.now }
 {
     if word == b"*DFT".as_slice() {
@@ -190,10 +190,10 @@ pub fn lock_in(text: &[u8]) -> Option<LockOption>
     let Some(word) = word_in(text, Parameter::Lock) else {
         return None;
     };
-    lock(word)
+    lock_of(word)
 }
 
-fn level(word: &[u8]) -> Option<Level>
+fn level_of(word: &[u8]) -> Option<Level>
     ensures { result ≡ level_of word.now }
 {
     if word == b"*CHG".as_slice() {
@@ -215,10 +215,10 @@ pub fn level_in(text: &[u8]) -> Option<Level>
     let Some(word) = word_in(text, Parameter::LockLevel) else {
         return None;
     };
-    level(word)
+    level_of(word)
 }
 
-fn end(variables: &Variables, word: &[u8]) -> Option<EndForm>
+fn end_of(variables: &Variables, word: &[u8]) -> Option<EndForm>
     ensures { result ≡ end_of variables.now word.now }
 {
     if word == b"*FIRST".as_slice() {
@@ -249,16 +249,16 @@ pub fn end_in(
     let Some(word) = word_in(text, parameter) else {
         return None;
     };
-    end(variables, word)
+    end_of(variables, word)
 }
 
-fn format(word: &[u8]) -> Option<Option<Name>>
+fn format_of(word: &[u8]) -> Option<Option<Name>>
     ensures { result ≡ format_of word.now }
 {
     if word == b"*FILE".as_slice() {
         return Some(None);
     }
-    match name(word) {
+    match name_of(word) {
         Some(name) => Some(Some(name)),
         None => None,
     }
@@ -275,10 +275,10 @@ pub fn format_in(text: &[u8]) -> Option<Option<Name>>
     let Some(word) = word_in(text, Parameter::Format) else {
         return None;
     };
-    format(word)
+    format_of(word)
 }
 
-fn place(variables: &Variables, word: &[u8]) -> Option<Option<NumberOperand>>
+fn place_of(variables: &Variables, word: &[u8]) -> Option<Option<NumberOperand>>
     ensures { result ≡ place_of variables.now word.now }
 {
     if word == b"*END".as_slice() {
@@ -301,7 +301,7 @@ pub fn place_in(variables: &Variables, text: &[u8]) -> Option<Option<NumberOpera
     let Some(word) = word_in(text, Parameter::RecordNumber) else {
         return None;
     };
-    place(variables, word)
+    place_of(variables, word)
 }
 
 /// RRN and RCV
@@ -344,7 +344,7 @@ pub fn key_in(
     ensures { IfOk result (λ key. key ≡ key_in variables.now (words text.now)) }
 {
     match given(text, Parameter::Key) {
-        Some(inner) => operands(alloc, variables, inner),
+        Some(inner) => operands_of(alloc, variables, inner),
         None => Ok(None),
     }
 }
@@ -374,7 +374,7 @@ pub fn targets_in(
     ensures { IfOk result (λ into. into ≡ targets_in variables.now (words text.now)) }
 {
     match given(text, Parameter::To) {
-        Some(inner) => targets(alloc, variables, inner),
+        Some(inner) => targets_of(alloc, variables, inner),
         None => Ok(Some(Targets::from_vec(Vec::new(alloc)))),
     }
 }

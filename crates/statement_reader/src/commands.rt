@@ -90,7 +90,8 @@ pub enum Command {
 }
 
 /// The command of a word; ENDJOB is none.
-pub fn command(word: &[u8]) -> Option<Command>
+#[tactic(auto, unfolding(crate::specs::Commands::command_of))]
+pub fn command_named(word: &[u8]) -> Option<Command>
     ensures { result ≡ command_of word.now }
 {
     control_command(word)
@@ -101,6 +102,7 @@ pub fn command(word: &[u8]) -> Option<Command>
         .or(record_command(word))
 }
 
+#[tactic(auto, unfolding(crate::specs::Commands::control_command))]
 fn control_command(word: &[u8]) -> Option<Command>
     ensures { result ≡ control_command word.now }
 {
@@ -127,6 +129,7 @@ fn control_command(word: &[u8]) -> Option<Command>
     }
 }
 
+#[tactic(auto, unfolding(crate::specs::Commands::file_command))]
 fn file_command(word: &[u8]) -> Option<Command>
     ensures { result ≡ file_command word.now }
 {
@@ -147,6 +150,7 @@ fn file_command(word: &[u8]) -> Option<Command>
     }
 }
 
+#[tactic(auto, unfolding(crate::specs::Commands::journal_command))]
 fn journal_command(word: &[u8]) -> Option<Command>
     ensures { result ≡ journal_command word.now }
 {
@@ -171,6 +175,7 @@ fn journal_command(word: &[u8]) -> Option<Command>
     }
 }
 
+#[tactic(auto, unfolding(crate::specs::Commands::commitment_command))]
 fn commitment_command(word: &[u8]) -> Option<Command>
     ensures { result ≡ commitment_command word.now }
 {
@@ -187,6 +192,7 @@ fn commitment_command(word: &[u8]) -> Option<Command>
     }
 }
 
+#[tactic(auto, unfolding(crate::specs::Commands::position_command))]
 fn position_command(word: &[u8]) -> Option<Command>
     ensures { result ≡ position_command word.now }
 {
@@ -203,6 +209,7 @@ fn position_command(word: &[u8]) -> Option<Command>
     }
 }
 
+#[tactic(auto, unfolding(crate::specs::Commands::record_command))]
 fn record_command(word: &[u8]) -> Option<Command>
     ensures { result ≡ record_command word.now }
 {

@@ -3,9 +3,9 @@ ghost use Rattle.std.specs.Prelude.{◌≡◌, IfOk};
 ghost use Rattle.statement_reader.specs.Words.{words};
 ghost use Rattle.statement_reader.specs.Control.{label_of, jump_of, jump_in, has_do, condition_in, is_any, monitored_of, monitored_in, execute_in, new_variable, variable_in, literal_in, expression_in, declaration, change, branch, test, otherwise, while_loop, jump, monitor};
 
-use crate::arguments::{name, name_in, stands, word_in};
-use crate::literals::literal;
-use crate::operands::{condition, expression, variable};
+use crate::arguments::{name_in, name_of, stands, word_in};
+use crate::literals::literal_of;
+use crate::operands::{condition_of, expression_of, variable_of};
 use crate::parameters::{Parameter, behind, given, has_only};
 use crate::refusal_names::refusal_named;
 use crate::variables::Variables;
@@ -17,7 +17,7 @@ use job_language::refusals::{Monitored, Refusals};
 use statement_syntax::Phrase;
 use std::alloc::{AllocError, Global};
 
-fn label(text: &[u8]) -> Option<Name>
+fn label_of(text: &[u8]) -> Option<Name>
     ensures { result ≡ label_of (words text.now) }
 {
     if has_only(text, &[Parameter::Label]) {
@@ -36,7 +36,7 @@ fn jump_of(text: &[u8]) -> Option<Name>
         return None;
     };
     if verb == b"GOTO".as_slice() {
-        label(rest)
+        label_of(rest)
     } else {
         None
     }
@@ -71,7 +71,7 @@ fn condition_in(
     ensures { IfOk result (λ condition. condition ≡ condition_in variables.now (words text.now)) }
 {
     match given(text, Parameter::Condition) {
-        Some(inner) => condition(alloc, variables, inner),
+        Some(inner) => condition_of(alloc, variables, inner),
         None => Ok(None),
     }
 }
@@ -86,7 +86,7 @@ fn is_any(text: &[u8]) -> bool
 }
 
 /// The refusals of MSGID.
-fn monitored(alloc: Global, text: &[u8]) -> Result<Option<Monitored>, AllocError>
+fn monitored_of(alloc: Global, text: &[u8]) -> Result<Option<Monitored>, AllocError>
     ensures { IfOk result (λ takes. takes ≡ monitored_of (words text.now)) }
 {
     if is_any(text) {
@@ -113,7 +113,7 @@ fn monitored_in(alloc: Global, text: &[u8]) -> Result<Option<Monitored>, AllocEr
     ensures { IfOk result (λ takes. takes ≡ monitored_in (words text.now)) }
 {
     match given(text, Parameter::Message) {
-        Some(inner) => monitored(alloc, inner),
+        Some(inner) => monitored_of(alloc, inner),
         None => Ok(None),
     }
 }
@@ -142,7 +142,7 @@ fn new_variable(text: &[u8]) -> Option<Name>
     let Some(spelled) = behind(word, b"&") else {
         return None;
     };
-    name(spelled)
+    name_of(spelled)
 }
 
 #[tactic(auto, unfolding(crate::specs::Control::variable_in))]
@@ -152,7 +152,7 @@ fn variable_in(variables: &Variables, text: &[u8]) -> Option<usize>
     let Some(word) = word_in(text, Parameter::Variable) else {
         return None;
     };
-    variable(variables, word)
+    variable_of(variables, word)
 }
 
 #[tactic(auto, unfolding(crate::specs::Control::literal_in))]
@@ -160,7 +160,7 @@ fn literal_in(alloc: Global, text: &[u8]) -> Result<Option<Value>, AllocError>
     ensures { IfOk result (λ value. value ≡ literal_in (words text.now)) }
 {
     match word_in(text, Parameter::Value) {
-        Some(word) => literal(alloc, word),
+        Some(word) => literal_of(alloc, word),
         None => Ok(None),
     }
 }
@@ -174,7 +174,7 @@ fn expression_in(
     ensures { IfOk result (λ value. value ≡ expression_in variables.now (words text.now)) }
 {
     match given(text, Parameter::Value) {
-        Some(inner) => expression(alloc, variables, inner),
+        Some(inner) => expression_of(alloc, variables, inner),
         None => Ok(None),
     }
 }

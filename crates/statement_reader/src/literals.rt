@@ -3,7 +3,7 @@ ghost use Rattle.std.specs.Prelude.{◌≡◌, ◌<◌, ◌≤◌, ◌∷◌, le
 ghost use Rattle.statement_reader.specs.Lists.{onto_others, with_front};
 ghost use Rattle.statement_reader.specs.Literals.{quoted, hexadecimal, literal_of, ended};
 
-use crate::numbers::number;
+use crate::numbers::number_of;
 use crate::parameters::behind;
 use ebc_text::to_ebcdic_byte;
 use field_types::texts::Text;
@@ -13,7 +13,7 @@ use text_lines::characters::hex_byte;
 
 /// The literal that a word is.
 #[tactic(auto, unfolding(crate::specs::Literals::literal_of))]
-pub fn literal(alloc: Global, word: &[u8]) -> Result<Option<Value>, AllocError>
+pub fn literal_of(alloc: Global, word: &[u8]) -> Result<Option<Value>, AllocError>
     ensures { IfOk result (λ value. value ≡ literal_of word.now) }
 {
     if let Some(text) = behind(word, b"'") {
@@ -21,7 +21,7 @@ pub fn literal(alloc: Global, word: &[u8]) -> Result<Option<Value>, AllocError>
     } else if let Some(digits) = behind(word, b"X'") {
         hexadecimal(alloc, digits)
     } else {
-        match number(word) {
+        match number_of(word) {
             Some(number) => Ok(Some(Value::Number(number))),
             None => Ok(None),
         }

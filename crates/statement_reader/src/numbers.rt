@@ -25,7 +25,7 @@ struct Digits {
 
 /// The number that a word is.
 #[tactic(auto, unfolding(crate::specs::Literals::number_of))]
-pub fn number(word: &[u8]) -> Option<Dec>
+pub fn number_of(word: &[u8]) -> Option<Dec>
     ensures { result ≡ number_of word.now }
 {
     if let Some(digits) = behind(word, b"-") {
@@ -123,7 +123,7 @@ pub fn whole_up_to(word: &[u8], most: u128) -> Option<u128>
     ensures value { result ≡ whole_up_to most word.now }
     ensures small { IfSome result (λ n. n ≤ most) }
 {
-    let Some(number) = number(word) else {
+    let Some(number) = number_of(word) else {
         return None;
     };
     let Some(whole) = whole(number) else {

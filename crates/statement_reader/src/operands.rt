@@ -3,7 +3,7 @@ ghost use Rattle.std.specs.Prelude.{◌≡◌, ◌×◌, option_map, IfOk};
 ghost use Rattle.statement_reader.specs.Words.{words};
 ghost use Rattle.statement_reader.specs.Operands.{declared, variable_of, operand_of, operands_of, given_operand, given_operands, targets_of, operator_of, calculation_of, expression_of, relation_of, comparison_of, condition_of, number_operand, sequence_operand};
 
-use crate::literals::literal;
+use crate::literals::literal_of;
 use crate::numbers::whole_up_to;
 use crate::parameters::behind;
 use crate::variables::Variables;
@@ -26,7 +26,7 @@ fn declared(variables: &Variables, name: &[u8]) -> Option<usize>
 }
 
 /// The number of the variable that a word names.
-pub fn variable(variables: &Variables, word: &[u8]) -> Option<usize>
+pub fn variable_of(variables: &Variables, word: &[u8]) -> Option<usize>
     ensures { result ≡ variable_of variables.now word.now }
 {
     let Some(name) = behind(word, b"&") else {
@@ -36,7 +36,7 @@ pub fn variable(variables: &Variables, word: &[u8]) -> Option<usize>
 }
 
 #[tactic(auto, unfolding(crate::specs::Operands::operand_of))]
-fn operand(
+fn operand_of(
     alloc: Global,
     variables: &Variables,
     word: &[u8],
@@ -49,14 +49,14 @@ fn operand(
             None => Ok(None),
         };
     }
-    match literal(alloc, word)? {
+    match literal_of(alloc, word)? {
         Some(value) => Ok(Some(Operand::Literal(value))),
         None => Ok(None),
     }
 }
 
 /// The values of KEY.
-pub fn operands(
+pub fn operands_of(
     alloc: Global,
     variables: &Variables,
     text: &[u8],
@@ -66,7 +66,7 @@ pub fn operands(
     let mut operands = Vec::new(alloc);
     let mut rest = text;
     while let Some((word, others)) = next_word(rest) {
-        let Some(next) = operand(alloc, variables, word)? else {
+        let Some(next) = operand_of(alloc, variables, word)? else {
             return Ok(None);
         };
         operands.push(next)?;
@@ -90,7 +90,7 @@ fn given_operand(
     if word == b"*N".as_slice() {
         return Ok(Some(None));
     }
-    match operand(alloc, variables, word)? {
+    match operand_of(alloc, variables, word)? {
         Some(operand) => Ok(Some(Some(operand))),
         None => Ok(None),
     }
@@ -121,7 +121,7 @@ pub fn given_operands(
 }
 
 /// The variables of TO.
-pub fn targets(
+pub fn targets_of(
     alloc: Global,
     variables: &Variables,
     text: &[u8],
@@ -131,7 +131,7 @@ pub fn targets(
     let mut targets = Vec::new(alloc);
     let mut rest = text;
     while let Some((word, others)) = next_word(rest) {
-        let Some(next) = variable(variables, word) else {
+        let Some(next) = variable_of(variables, word) else {
             return Ok(None);
         };
         targets.push(next)?;
@@ -144,7 +144,7 @@ pub fn targets(
     }
 }
 
-fn operator(word: &[u8]) -> Option<Operator>
+fn operator_of(word: &[u8]) -> Option<Operator>
     ensures { result ≡ operator_of word.now }
 {
     if word == b"+".as_slice() {
@@ -160,7 +160,7 @@ fn operator(word: &[u8]) -> Option<Operator>
 
 /// The value that CHGVAR gives.
 #[tactic(auto, unfolding(crate::specs::Operands::expression_of))]
-pub fn expression(
+pub fn expression_of(
     alloc: Global,
     variables: &Variables,
     text: &[u8],
@@ -168,18 +168,18 @@ pub fn expression(
     ensures { IfOk result (λ value. value ≡ expression_of variables.now (words text.now)) }
 {
     if let Some((left, operator, right)) = three(text) {
-        return calculation(alloc, variables, left, operator, right);
+        return calculation_of(alloc, variables, left, operator, right);
     }
     let Some(word) = only(text) else {
         return Ok(None);
     };
-    match operand(alloc, variables, word)? {
+    match operand_of(alloc, variables, word)? {
         Some(operand) => Ok(Some(Expression::Single(operand))),
         None => Ok(None),
     }
 }
 
-fn calculation(
+fn calculation_of(
     alloc: Global,
     variables: &Variables,
     left: &[u8],
@@ -188,13 +188,13 @@ fn calculation(
 ) -> Result<Option<Expression>, AllocError>
     ensures { IfOk result (λ value. value ≡ calculation_of variables.now (left.now, sign.now, right.now)) }
 {
-    let Some(operator) = operator(sign) else {
+    let Some(operator) = operator_of(sign) else {
         return Ok(None);
     };
-    let Some(left) = operand(alloc, variables, left)? else {
+    let Some(left) = operand_of(alloc, variables, left)? else {
         return Ok(None);
     };
-    let Some(right) = operand(alloc, variables, right)? else {
+    let Some(right) = operand_of(alloc, variables, right)? else {
         return Ok(None);
     };
     Ok(Some(Expression::Calculation {
@@ -204,7 +204,7 @@ fn calculation(
     }))
 }
 
-fn relation(word: &[u8]) -> Option<Relation>
+fn relation_of(word: &[u8]) -> Option<Relation>
     ensures { result ≡ relation_of word.now }
 {
     if word == b"*EQ".as_slice() {
@@ -226,7 +226,7 @@ fn relation(word: &[u8]) -> Option<Relation>
 
 /// What IF and DOWHILE compare.
 #[tactic(auto, unfolding(crate::specs::Operands::condition_of))]
-pub fn condition(
+pub fn condition_of(
     alloc: Global,
     variables: &Variables,
     text: &[u8],
@@ -234,12 +234,12 @@ pub fn condition(
     ensures { IfOk result (λ condition. condition ≡ condition_of variables.now (words text.now)) }
 {
     match three(text) {
-        Some((left, relation, right)) => comparison(alloc, variables, left, relation, right),
+        Some((left, relation, right)) => comparison_of(alloc, variables, left, relation, right),
         None => Ok(None),
     }
 }
 
-fn comparison(
+fn comparison_of(
     alloc: Global,
     variables: &Variables,
     left: &[u8],
@@ -248,13 +248,13 @@ fn comparison(
 ) -> Result<Option<Condition>, AllocError>
     ensures { IfOk result (λ condition. condition ≡ comparison_of variables.now (left.now, sign.now, right.now)) }
 {
-    let Some(relation) = relation(sign) else {
+    let Some(relation) = relation_of(sign) else {
         return Ok(None);
     };
-    let Some(left) = operand(alloc, variables, left)? else {
+    let Some(left) = operand_of(alloc, variables, left)? else {
         return Ok(None);
     };
-    let Some(right) = operand(alloc, variables, right)? else {
+    let Some(right) = operand_of(alloc, variables, right)? else {
         return Ok(None);
     };
     Ok(Some(Condition {

@@ -4,7 +4,7 @@ ghost use Rattle.std.specs.List.{prefix_len};
 ghost use Rattle.statement_reader.specs.Words.{words};
 ghost use Rattle.statement_reader.specs.Statements.{command_phrase, phrase_of, label_length, colon_in, labelled, statement_of};
 
-use crate::commands::{Command, command};
+use crate::commands::{Command, command_named};
 use crate::control::{change, declaration, jump, monitor, otherwise, test, while_loop};
 use crate::file_requests::{
     add_member, clear_member, close_file, create_logical, create_physical, delete_file,
@@ -112,7 +112,7 @@ fn phrase(
     let Some((word, statement)) = next_word(text) else {
         return Ok(None);
     };
-    let Some(command) = command(word) else {
+    let Some(command) = command_named(word) else {
         return Ok(None);
     };
     if has_only(statement, command.parameters()) {
