@@ -1,5 +1,5 @@
 -- What a parameter gives, and what it gives where it stands nowhere. (CL reference, the parameters of each command.)
-use Rattle.std.specs.Prelude.{ℕ, Bool, true, false, nat_eq, if◌then◌else◌, Option, Some, None, List, [], ◌∷◌, codes, option_and_then, option_map}
+use Rattle.std.specs.Prelude.{ℕ, Bool, true, false, nat_eq, if◌then◌else◌, Option, Some, None, List, [], ◌∷◌, codes, option_map}
 use Rattle.std.specs.Option.{option_map_or}
 use Rattle.field_types.specs.SystemName.{is_name}
 use Rattle.commit_level.specs.declared.Level.{Level}
@@ -18,6 +18,7 @@ use Rattle.job_language.specs.declared.operands.SequenceOperand.{SequenceOperand
 use Rattle.job_language.specs.declared.forms.EndForm.{EndForm}
 use Rattle.job_language.specs.declared.forms.EndForm.TheVariants as end_form
 use Rattle.statement_reader.specs.Commands.{is_word}
+use Rattle.statement_reader.specs.Lists.{let_some}
 use Rattle.statement_reader.specs.Operands.{operands_of, given_operands, targets_of, number_operand, sequence_operand}
 use Rattle.statement_reader.specs.Parameters.{given}
 use Rattle.statement_reader.specs.Words.{words, only}
@@ -26,14 +27,14 @@ use Rattle.statement_reader.specs.declared.parameters.Parameter.TheVariants as p
 
 -- the word alone in the parentheses of a parameter
 unfoldable pub word_in : Parameter → List (List ℕ) → Option (List ℕ)
-word_in parameter statement = option_and_then (λ text. only (words text)) (given parameter statement)
+word_in parameter statement = let_some (given parameter statement) (λ text. only (words text))
 
 abbrev pub name_of : List ℕ → Option (List ℕ)
 name_of word = if is_name word then Some word else None
 
 -- a name
 unfoldable pub name_in : Parameter → List (List ℕ) → Option (List ℕ)
-name_in parameter statement = option_and_then name_of (word_in parameter statement)
+name_in parameter statement = let_some (word_in parameter statement) name_of
 
 -- whether the parameter stands nowhere
 abbrev pub stands : Parameter → List (List ℕ) → Bool
@@ -79,7 +80,7 @@ place_of variables word = if is_word (codes "*END") word then Some None else opt
 
 -- what a word of the parameter says, and a default where the parameter stands nowhere
 abbrev pub choice : {A : Type 0} → (List ℕ → Option A) → A → Parameter → List (List ℕ) → Option A
-choice of default parameter statement = if stands parameter statement then option_and_then of (word_in parameter statement) else Some default
+choice of default parameter statement = if stands parameter statement then let_some (word_in parameter statement) of else Some default
 
 unfoldable pub images_in : List (List ℕ) → Option Images
 images_in statement = choice images_of images.After parameter.Images statement
@@ -97,7 +98,7 @@ unfoldable pub lock_in : List (List ℕ) → Option LockOption
 lock_in statement = choice lock_of lock.Default parameter.Lock statement
 
 unfoldable pub level_in : List (List ℕ) → Option Level
-level_in statement = option_and_then level_of (word_in parameter.LockLevel statement)
+level_in statement = let_some (word_in parameter.LockLevel statement) level_of
 
 unfoldable pub end_in : Parameter → EndForm → List (List ℕ) → List (List ℕ) → Option EndForm
 end_in parameter default variables statement = choice (end_of variables) default parameter statement
@@ -109,17 +110,17 @@ unfoldable pub place_in : List (List ℕ) → List (List ℕ) → Option (Option
 place_in variables statement = choice (place_of variables) None parameter.RecordNumber statement
 
 unfoldable pub number_at : Parameter → List (List ℕ) → List (List ℕ) → Option NumberOperand
-number_at parameter variables statement = option_and_then (number_operand variables) (word_in parameter statement)
+number_at parameter variables statement = let_some (word_in parameter statement) (number_operand variables)
 
 unfoldable pub sequence_at : Parameter → List (List ℕ) → List (List ℕ) → Option SequenceOperand
-sequence_at parameter variables statement = option_and_then (sequence_operand variables) (word_in parameter statement)
+sequence_at parameter variables statement = let_some (word_in parameter statement) (sequence_operand variables)
 
 -- KEY, VAL and TO
 unfoldable pub key_in : List (List ℕ) → List (List ℕ) → Option (List Operand)
-key_in variables statement = option_and_then (λ text. operands_of variables (words text)) (given parameter.Key statement)
+key_in variables statement = let_some (given parameter.Key statement) (λ text. operands_of variables (words text))
 
 unfoldable pub values_in : List (List ℕ) → List (List ℕ) → Option (List (Option Operand))
-values_in variables statement = option_and_then (λ text. given_operands variables (words text)) (given parameter.Values statement)
+values_in variables statement = let_some (given parameter.Values statement) (λ text. given_operands variables (words text))
 
 unfoldable pub targets_in : List (List ℕ) → List (List ℕ) → Option (List ℕ)
 targets_in variables statement = option_map_or (λ text. targets_of variables (words text)) (given parameter.To statement) (Some [])

@@ -1,5 +1,10 @@
--- Lists of what each of others gives.
+-- What is made of things that may be missing: one after another, and lists of them.
 use Rattle.std.specs.Prelude.{Option, Some, None, List, [], ◌∷◌, ◌++◌}
+
+-- what a thing leads to, where it is there
+abbrev pub let_some : {A B : Type 0} → Option A → (A → Option B) → Option B
+let_some None next = None
+let_some (Some thing) next = next thing
 
 -- a thing in front of others, where all are there
 abbrev pub onto_others : {A : Type 0} → Option A → Option (List A) → Option (List A)

@@ -1,6 +1,6 @@
 -- Literals: '..' with an apostrophe written twice, X'..', and numbers. The characters of a text stand for their bytes in code page 037.
 -- (CL reference, "Constant values".)
-use Rattle.std.specs.Prelude.{ℕ, ◌+◌, ◌-◌, pos, neg_ℤ, Bool, ◌&&◌, ◌==◌, nat_eq, nat_le, if◌then◌else◌, Option, Some, None, List, [], ◌∷◌, length, take, drop, codes, option_and_then, option_map}
+use Rattle.std.specs.Prelude.{ℕ, ◌+◌, ◌-◌, pos, neg_ℤ, Bool, ◌&&◌, ◌==◌, nat_eq, nat_le, if◌then◌else◌, Option, Some, None, List, [], ◌∷◌, length, take, drop, codes, option_map}
 use Rattle.std.specs.Option.{option_map_or}
 use Rattle.std.specs.List.{prefix_len}
 use Rattle.std.specs.Cmp.Lexicographic.{pointwise}
@@ -10,7 +10,7 @@ use Rattle.field_types.specs.declared.values.Value.{Value}
 use Rattle.field_types.specs.declared.values.Value.TheVariants.{Chars, Number}
 use Rattle.text_lines.specs.Characters.{hex_digit_value, hex_byte}
 use Rattle.text_lines.specs.Decimal.{is_digit, digits_from}
-use Rattle.statement_reader.specs.Lists.{onto_others}
+use Rattle.statement_reader.specs.Lists.{let_some, onto_others}
 use Rattle.statement_reader.specs.Words.{has_text}
 use Rattle.statement_reader.specs.Parameters.{behind}
 use Rattle.statement_reader.specs.declared.numbers.Digits.{Digits}
@@ -37,7 +37,7 @@ hexadecimal (c ∷ d ∷ text) = onto_others (hex_byte (hex_digit_value c) (hex_
 abbrev pub scaled : List ℕ → List ℕ → Option Digits
 scaled whole fraction =
     if has_text whole && nat_le (length whole + length fraction) MOST_DIGITS
-    then option_map (λ units. record { units = units; scale = length fraction }) (option_and_then (λ units. digits_from MOST_UNITS units fraction) (digits_from MOST_UNITS 0 whole))
+    then let_some (digits_from MOST_UNITS 0 whole) (λ front. let_some (digits_from MOST_UNITS front fraction) (λ units. Some (record { units = units; scale = length fraction })))
     else None
 
 -- these digits, and what stands behind them: nothing, or a point and more digits

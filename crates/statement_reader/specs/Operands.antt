@@ -1,6 +1,6 @@
 -- Values in a parameter's parentheses: literals and variables, alone, in lists, in expressions and in conditions.
 -- (CL reference, "Expressions"; which variables stand where is our own.)
-use Rattle.std.specs.Prelude.{ℕ, ◌-◌, ◌^◌, Bool, nat_eq, nat_le, if◌then◌else◌, Option, Some, None, List, [], ◌∷◌, codes, position, option_and_then, option_map}
+use Rattle.std.specs.Prelude.{ℕ, ◌-◌, ◌^◌, Bool, nat_eq, nat_le, if◌then◌else◌, Option, Some, None, List, [], ◌∷◌, codes, position, option_map}
 use Rattle.std.specs.Option.{option_map_or}
 use Rattle.field_types.specs.SystemName.{is_name}
 use Rattle.library_model.specs.Named.{same_name}
@@ -19,7 +19,7 @@ use Rattle.job_language.specs.declared.operands.NumberOperand.TheVariants as num
 use Rattle.job_language.specs.declared.operands.SequenceOperand.{SequenceOperand}
 use Rattle.job_language.specs.declared.operands.SequenceOperand.TheVariants as sequence
 use Rattle.statement_reader.specs.Commands.{is_word}
-use Rattle.statement_reader.specs.Lists.{each, not_empty}
+use Rattle.statement_reader.specs.Lists.{let_some, each, not_empty}
 use Rattle.statement_reader.specs.Literals.{number_of, literal_of}
 use Rattle.statement_reader.specs.Parameters.{behind}
 use Rattle.statement_reader.specs.Words.{only, three}
@@ -33,7 +33,7 @@ unfoldable pub declared : List (List ℕ) → List ℕ → Option ℕ
 declared variables name = if is_name name then number_in variables name else None
 
 abbrev pub variable_of : List (List ℕ) → List ℕ → Option ℕ
-variable_of variables word = option_and_then (declared variables) (behind (codes "&") word)
+variable_of variables word = let_some (behind (codes "&") word) (declared variables)
 
 -- a variable, or a literal
 unfoldable pub operand_of : List (List ℕ) → List ℕ → Option Operand
@@ -62,14 +62,16 @@ operator_of word =
     else (if is_word (codes "-") word then Some Minus else (if is_word (codes "*") word then Some Times else None))
 
 -- x, or x and y with an operator between them
-abbrev pub calculation_of : List (List ℕ) → List ℕ × List ℕ × List ℕ → Option Expression
-calculation_of variables parts =
-    option_and_then (λ operator. option_and_then (λ left. option_map (λ right. Calculation left operator right)
-    (operand_of variables parts.2)) (operand_of variables parts.0)) (operator_of parts.1)
+abbrev pub calculation_of : List (List ℕ) → List ℕ → List ℕ → List ℕ → Option Expression
+calculation_of variables first sign second =
+    let_some (operator_of sign) (λ operator.
+    let_some (operand_of variables first) (λ left.
+    let_some (operand_of variables second) (λ right.
+    Some (Calculation left operator right))))
 
 unfoldable pub expression_of : List (List ℕ) → List (List ℕ) → Option Expression
 expression_of variables words =
-    option_map_or (calculation_of variables) (three words) (option_and_then (λ word. option_map Single (operand_of variables word)) (only words))
+    option_map_or (λ parts. calculation_of variables parts.0 parts.1 parts.2) (three words) (let_some (only words) (λ word. option_map Single (operand_of variables word)))
 
 abbrev pub relation_of : List ℕ → Option Relation
 relation_of word =
@@ -81,20 +83,24 @@ relation_of word =
     else (if is_word (codes "*GE") word then Some GreaterOrEqual else None)))))
 
 -- x op y
-abbrev pub comparison_of : List (List ℕ) → List ℕ × List ℕ × List ℕ → Option Condition
-comparison_of variables parts =
-    option_and_then (λ relation. option_and_then (λ left. option_map (λ right. record { left = left; relation = relation; right = right })
-    (operand_of variables parts.2)) (operand_of variables parts.0)) (relation_of parts.1)
+abbrev pub comparison_of : List (List ℕ) → List ℕ → List ℕ → List ℕ → Option Condition
+comparison_of variables first sign second =
+    let_some (relation_of sign) (λ relation.
+    let_some (operand_of variables first) (λ left.
+    let_some (operand_of variables second) (λ right.
+    Some (record { left = left; relation = relation; right = right }))))
 
 unfoldable pub condition_of : List (List ℕ) → List (List ℕ) → Option Condition
-condition_of variables words = option_and_then (comparison_of variables) (three words)
+condition_of variables words = let_some (three words) (λ parts. comparison_of variables parts.0 parts.1 parts.2)
 
 -- the number that a literal is, where it is whole and from 0 up to this one
 abbrev pub at_most : ℕ → ℕ → Option ℕ
 at_most most whole = if nat_le whole most then Some whole else None
 
 unfoldable pub whole_up_to : ℕ → List ℕ → Option ℕ
-whole_up_to most word = option_and_then (at_most most) (option_and_then whole_of (number_of word))
+whole_up_to most word =
+    let_some (number_of word) (λ number.
+    let_some (whole_of number) (at_most most))
 
 -- RRN and RCV
 unfoldable pub number_operand : List (List ℕ) → List ℕ → Option NumberOperand

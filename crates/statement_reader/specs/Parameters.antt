@@ -1,7 +1,8 @@
 -- The parameters of a statement: NAME(..), each at most once and in any order. (CL reference, "Command parameters".)
-use Rattle.std.specs.Prelude.{ℕ, ◌-◌, Bool, ◌==◌, if◌then◌else◌, nat_eq, Option, Some, None, is_some, List, [], ◌∷◌, length, take, drop, codes, count_by, option_and_then}
+use Rattle.std.specs.Prelude.{ℕ, ◌-◌, Bool, ◌==◌, if◌then◌else◌, nat_eq, Option, Some, None, is_some, List, [], ◌∷◌, length, take, drop, codes, count_by}
 use Rattle.std.specs.Option.{option_or}
 use Rattle.std.specs.Cmp.Lexicographic.{pointwise}
+use Rattle.statement_reader.specs.Lists.{let_some}
 use Rattle.statement_reader.specs.declared.parameters.Parameter.{Parameter}
 use Rattle.statement_reader.specs.declared.parameters.Parameter.TheVariants as parameter
 
@@ -45,7 +46,9 @@ before back text =
 
 -- what a word has in the parentheses of this parameter. No value has a parenthesis outside apostrophes, so what closes too early is refused there
 abbrev pub inside : Parameter → List ℕ → Option (List ℕ)
-inside parameter word = option_and_then (before (codes ")")) (option_and_then (behind (codes "(")) (behind (spelled parameter) word))
+inside parameter word =
+    let_some (behind (spelled parameter) word) (λ rest.
+    let_some (behind (codes "(") rest) (before (codes ")")))
 
 -- what the first of these words that is this parameter has in its parentheses
 abbrev pub given : Parameter → List (List ℕ) → Option (List ℕ)

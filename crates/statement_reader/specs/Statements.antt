@@ -1,5 +1,5 @@
 -- What a statement of a job's script says: an optional label with a colon, a command, and its parameters. (CL reference, "Command syntax".)
-use Rattle.std.specs.Prelude.{ℕ, ◌+◌, not, ◌&&◌, ◌==◌, if◌then◌else◌, Option, Some, None, List, [], ◌∷◌, take, drop, slice_index, option_and_then, option_map}
+use Rattle.std.specs.Prelude.{ℕ, ◌+◌, not, ◌&&◌, ◌==◌, if◌then◌else◌, Option, Some, None, List, [], ◌∷◌, take, drop, slice_index, option_map}
 use Rattle.std.specs.Option.{option_map_or}
 use Rattle.std.specs.List.{prefix_len}
 use Rattle.field_types.specs.SystemName.{is_name}
@@ -9,6 +9,7 @@ use Rattle.statement_syntax.specs.declared.Phrase.TheVariants.{EndDo, Return}
 use Rattle.text_lines.specs.Lines.{is_blank}
 use Rattle.statement_reader.specs.Commands.{command_of, parameters_of}
 use Rattle.statement_reader.specs.Control.{declaration, change, test, otherwise, while_loop, jump, monitor}
+use Rattle.statement_reader.specs.Lists.{let_some}
 use Rattle.statement_reader.specs.Parameters.{has_only}
 use Rattle.statement_reader.specs.Requests.{plain, create_physical, create_logical, delete_file, add_member, clear_member, reorganize_member, end_journaling, start_journaling, delete_receiver, display_journal, apply_changes, remove_changes, start_commitment, open_file, close_file, delete_record, unlock_record, set_lower_limit, set_greater_than, read, read_prior, read_equal, read_prior_equal, chain, write, update}
 use Rattle.statement_reader.specs.Words.{unindented, words}
@@ -66,7 +67,7 @@ commanded variables statement command =
 -- what a command and its parameters say
 unfoldable pub phrase_of : List (List ℕ) → List (List ℕ) → Option Phrase
 phrase_of variables [] = None
-phrase_of variables (word ∷ statement) = option_and_then (commanded variables statement) (command_of word)
+phrase_of variables (word ∷ statement) = let_some (command_of word) (commanded variables statement)
 
 abbrev pub said : Option (List ℕ) → Phrase → Said
 said label phrase = record { label = label; phrase = phrase }

@@ -212,6 +212,7 @@ pub fn change(
 }
 
 /// IF with THEN(GOTO CMDLBL(l))
+#[tactic(auto, unfolding(crate::specs::Control::branch))]
 fn branch(
     alloc: Global,
     variables: &Variables,

@@ -186,7 +186,7 @@ fn calculation_of(
     sign: &[u8],
     right: &[u8],
 ) -> Result<Option<Expression>, AllocError>
-    ensures { IfOk result (λ value. value ≡ calculation_of variables.now (left.now, sign.now, right.now)) }
+    ensures { IfOk result (λ value. value ≡ calculation_of variables.now left.now sign.now right.now) }
 {
     let Some(operator) = operator_of(sign) else {
         return Ok(None);
@@ -246,7 +246,7 @@ fn comparison_of(
     sign: &[u8],
     right: &[u8],
 ) -> Result<Option<Condition>, AllocError>
-    ensures { IfOk result (λ condition. condition ≡ comparison_of variables.now (left.now, sign.now, right.now)) }
+    ensures { IfOk result (λ condition. condition ≡ comparison_of variables.now left.now sign.now right.now) }
 {
     let Some(relation) = relation_of(sign) else {
         return Ok(None);

@@ -59,6 +59,7 @@ fn limit_by_word(word: &[u8]) -> Option<LimitForm>
 }
 
 /// KEY(*LOVAL) and KEY(*HIVAL)
+#[tactic(auto, unfolding(crate::specs::Requests::limit_word))]
 fn limit_word(text: &[u8]) -> Option<LimitForm>
     ensures { result ≡ limit_word (words text.now) }
 {
@@ -68,6 +69,7 @@ fn limit_word(text: &[u8]) -> Option<LimitForm>
     limit_by_word(word)
 }
 
+#[tactic(auto, unfolding(crate::specs::Requests::key_limit))]
 fn key_limit(
     alloc: Global,
     variables: &Variables,

@@ -2,10 +2,10 @@
 use crate::reading::{Said, read_statement};
 use crate::variables::Variables;
 use field_types::names::Name;
-use field_types::values::Value;
+use field_types::values::{Dec, Value};
 use job_language::forms::RequestForm;
-use job_language::operands::{Expression, NumberOperand, Operand};
-use library_model::requests::{AccessPath, OpenOption, Request};
+use job_language::operands::NumberOperand;
+use library_model::requests::{AccessPath, OpenFile, OpenOption, Request};
 use statement_syntax::Phrase;
 use std::alloc::Global;
 use std::process::Abort;
@@ -198,6 +198,52 @@ fn is_read(alloc: Global, variables: &Variables, text: &[u8]) -> Result<bool, Fa
     Ok(read_statement(alloc, variables, text)?.is_some())
 }
 
+fn read(alloc: Global, text: &[u8]) -> Result<Said, Fail> {
+    let variables = declared(alloc, &[b"A", b"B"])?;
+    let said = read_statement(alloc, &variables, text)?;
+    Ok(said.ok_or("no statement")?)
+}
+
+fn opened(said: &Said) -> Option<OpenFile> {
+    match &said.phrase {
+        Phrase::Request {
+            form: RequestForm::Fixed(Request::OpenFile(open)),
+            ..
+        } => Some(*open),
+        _ => None,
+    }
+}
+
+fn record_number(said: &Said) -> Option<NumberOperand> {
+    match &said.phrase {
+        Phrase::Request {
+            form: RequestForm::Write(write),
+            ..
+        } => write.record_number,
+        _ => None,
+    }
+}
+
+fn number(said: &Said) -> Option<Dec> {
+    match &said.phrase {
+        Phrase::Declare {
+            value: Value::Number(number),
+            ..
+        } => Some(*number),
+        _ => None,
+    }
+}
+
+fn text(said: &Said) -> &[u8] {
+    match &said.phrase {
+        Phrase::Declare {
+            value: Value::Chars(text),
+            ..
+        } => text.as_bytes(),
+        _ => b"",
+    }
+}
+
 #[test]
 fn statements(rt: HostRuntime) -> Result<(), Fail> {
     are_read(&rt, rt.alloc(), &STATEMENTS, true)
@@ -206,4 +252,50 @@ fn statements(rt: HostRuntime) -> Result<(), Fail> {
 #[test]
 fn faults(rt: HostRuntime) -> Result<(), Fail> {
     are_read(&rt, rt.alloc(), &FAULTS, false)
+}
+
+#[test]
+fn opens(rt: HostRuntime) -> Result<(), Fail> {
+    let said = read(rt.alloc(), b"OPEN: OPNDBF FILE(F)")?;
+    assert!(rt; said.label.is_some_and(|label| label.as_bytes() == b"OPEN".as_slice()));
+    let open = opened(&said).ok_or("no open")?;
+    assert!(rt; open.member == open.file && open.open_id == open.file);
+    assert!(rt; open.option == OpenOption::Input && open.access_path == AccessPath::File);
+    assert!(rt; !open.commit);
+    let said = read(
+        rt.alloc(),
+        b"OPNDBF ACCPTH(*ARRIVAL) COMMIT(*YES) OPNID(O) MBR(M) OPTION(*ALL) FILE(F)",
+    )?;
+    let open = opened(&said).ok_or("no open")?;
+    assert!(rt; open.member.as_bytes() == b"M".as_slice() && open.open_id.as_bytes() == b"O".as_slice());
+    assert!(rt; open.option == OpenOption::All && open.access_path == AccessPath::Arrival);
+    assert!(rt; open.commit);
+    Ok(())
+}
+
+#[test]
+fn values(rt: HostRuntime) -> Result<(), Fail> {
+    let said = read(rt.alloc(), b"DCL VAR(&N) VALUE(-12.50)")?;
+    let read_number = number(&said).ok_or("no number")?;
+    assert!(rt; read_number.units == -1250 && read_number.scale == 2);
+    let said = read(rt.alloc(), b"DCL VAR(&N) VALUE('it''s')")?;
+    assert_eq!(rt; text(&said), b"\x89\xA3\x7D\xA2".as_slice());
+    let said = read(rt.alloc(), b"DCL VAR(&N) VALUE(X'c1C2')")?;
+    assert_eq!(rt; text(&said), b"\xC1\xC2".as_slice());
+    let said = read(rt.alloc(), b"WRITE OPNID(O) RRN(&B) VAL(1)")?;
+    assert!(rt; matches!(record_number(&said), Some(NumberOperand::Variable(1))));
+    let said = read(rt.alloc(), b"WRITE OPNID(O) RRN(4294967295.0) VAL(1)")?;
+    assert!(rt; matches!(record_number(&said), Some(NumberOperand::Literal(4294967295))));
+    Ok(())
+}
+
+/// Texts of 16 MiB that are no statement.
+#[test]
+fn hostile(rt: HostRuntime) -> Result<(), Fail> {
+    for byte in [b'(', b'\'', b'A', b' '] {
+        let text = vec![in rt.alloc(); byte; 1 << 24]?;
+        let variables = Variables::new(rt.alloc());
+        assert!(rt; !is_read(rt.alloc(), &variables, text.as_slice())?);
+    }
+    Ok(())
 }
