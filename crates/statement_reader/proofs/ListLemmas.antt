@@ -15,6 +15,11 @@ module _ {A : Type 0} where
   with_front_nil None = refl
   with_front_nil (Some others) = refl
 
+  -- one more thing in front
+  pub taken : (front longer : List A) (next : A) (here there all : Option (List A)) → longer ≡ front ++ next ∷ [] → here ≡ onto_others (Some next) there → with_front front here ≡ all → with_front longer there ≡ all
+  taken front longer next here there all pushed first so_far =
+      ap (λ list. with_front list there) pushed ∙ sym (with_front_onto front next there) ∙ ap (with_front front) (sym first) ∙ so_far
+
   pub not_empty_some : (list : List A) → (length list ≡ 0 → ⊥) → not_empty (Some list) ≡ Some list
   not_empty_some [] some = absurd (some refl)
   not_empty_some (x ∷ xs) some = refl
@@ -23,11 +28,23 @@ module _ {A : Type 0} where
   not_empty_none [] none = refl
   not_empty_none (x ∷ xs) none = absurd (omega arith)
 
-module _ {A B : Type 0} where
-  -- one more
-  pub each_more : (f : A → Option B) (front : List B) (x : A) (xs : List A) (next : B) → Some next ≡ f x → with_front front (each f (x ∷ xs)) ≡ with_front (front ++ next ∷ []) (each f xs)
-  each_more f front x xs next given = ap (λ y. with_front front (onto_others y (each f xs))) (sym given) ∙ with_front_onto front next (each f xs)
+module _ {A B : Type 0} (f : A → Option B) where
+  -- one more of the list
+  pub each_step : (front : List B) (left : List A) (x : A) (xs all : List A) (next : B) (longer : List B) → left ≡ x ∷ xs → Some next ≡ f x → longer ≡ front ++ next ∷ [] → with_front front (each f left) ≡ each f all → with_front longer (each f xs) ≡ each f all
+  each_step front left x xs all next longer first given pushed here =
+      ap (λ list. with_front list (each f xs)) pushed
+      ∙ sym (with_front_onto front next (each f xs))
+      ∙ ap (λ y. with_front front (onto_others y (each f xs))) given
+      ∙ ap (λ list. with_front front (each f list)) (sym first)
+      ∙ here
 
   -- one that gives nothing
-  pub each_none : (f : A → Option B) (front : List B) (x : A) (xs : List A) → None ≡ f x → with_front front (each f (x ∷ xs)) ≡ None
-  each_none f front x xs none = ap (λ y. with_front front (onto_others y (each f xs))) (sym none)
+  pub each_stop : (front : List B) (left : List A) (x : A) (xs all : List A) → left ≡ x ∷ xs → None ≡ f x → with_front front (each f left) ≡ each f all → each f all ≡ None
+  each_stop front left x xs all first none here =
+      sym here
+      ∙ ap (λ list. with_front front (each f list)) first
+      ∙ ap (λ y. with_front front (onto_others y (each f xs))) (sym none)
+
+  -- nothing left
+  pub each_end : (front : List B) (left all : List A) → left ≡ [] → with_front front (each f left) ≡ each f all → each f all ≡ Some front
+  each_end front left all nothing here = sym here ∙ ap (λ list. with_front front (each f list)) nothing ∙ with_front_end front

@@ -76,13 +76,13 @@ first-word (c ∷ text) some =
         | false ↦ λ none more. word-here c text none ]) is in
     decided (is_blank c) refl some
 
+words-nil : words [] ≡ []
+unfolding words
+words-nil = refl
+
 -- nothing but blanks
 pub no-word : (text : List ℕ) → length (unindented text) ≡ 0 → words text ≡ []
 no-word [] none = words-nil
-  where
-  words-nil : words [] ≡ []
-  unfolding words
-  words-nil = refl
 no-word (c ∷ text) none =
     let one : 1 + prefix_len is_blank text ≡ suc (prefix_len is_blank text) = omega arith in
     let decided : (v : Bool) → is_blank c ≡ v → length (drop (cond v (1 + prefix_len is_blank text) 0) (c ∷ text)) ≡ 0 → words (c ∷ text) ≡ [] =
@@ -91,16 +91,12 @@ no-word (c ∷ text) none =
         | false ↦ λ other empty. absurd (omega arith) ]) is in
     decided (is_blank c) refl none
 
--- a character of a piece
-pub piece_length-more : (nesting : Nesting) (i : ℕ) (text : List ℕ) → i < length text → is_outside nesting && is_blank (get_or text i 0) ≡ false → piece_length nesting (drop i text) ≡ 1 + piece_length (after nesting (get_or text i 0)) (drop (i + 1) text)
-piece_length-more nesting i text within inside =
-    rw (add-one, drop-cons text i 0) (cond-false (is_outside nesting && is_blank (get_or text i 0)) 0 (1 + piece_length (after nesting (get_or text i 0)) (drop (suc i) text)) inside)
+-- a word and what is behind it, as they are found
+pub found-from : (text body word rest : List ℕ) (n : ℕ) → body ≡ unindented text → 0 < length body → n ≡ piece_length outside body → word ≡ take n body → rest ≡ drop n body → (words text ≡ word ∷ words rest) × (length rest < length text)
+found-from text body word rest n is some length_is front back =
+    let here : 0 < length (unindented text) = omega (arith, ap length is) in
+    let cut : n ≡ piece_length outside (unindented text) = length_is ∙ ap (piece_length outside) is in
+    rw (front, back, cut, is) (first-word text here)
 
--- the blank behind a piece
-pub piece_length-ends : (nesting : Nesting) (i : ℕ) (text : List ℕ) → i < length text → is_outside nesting && is_blank (get_or text i 0) ≡ true → piece_length nesting (drop i text) ≡ 0
-piece_length-ends nesting i text within blank =
-    rw (drop-cons text i 0) (cond-true (is_outside nesting && is_blank (get_or text i 0)) 0 (1 + piece_length (after nesting (get_or text i 0)) (drop (suc i) text)) blank)
-
--- a character opens one parenthesis at most
-pub after-depth : (nesting : Nesting) (c : ℕ) → (after nesting c).depth ≤ nesting.depth + 1
-after-depth nesting c = grind arith
+pub nothing-from : (text body : List ℕ) → body ≡ unindented text → length body ≡ 0 → words text ≡ []
+nothing-from text body is none = no-word text (sym (ap length is) ∙ none)

@@ -8,4 +8,5 @@ pub mod Parameters
 pub mod RefusalNames
 pub mod Requests
 pub mod Statements
+pub mod Variables
 pub mod Words

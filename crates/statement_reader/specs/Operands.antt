@@ -1,9 +1,8 @@
 -- Values in a parameter's parentheses: literals and variables, alone, in lists, in expressions and in conditions.
 -- (CL reference, "Expressions"; which variables stand where is our own.)
-use Rattle.std.specs.Prelude.{ℕ, ◌-◌, ◌^◌, Bool, nat_eq, nat_le, if◌then◌else◌, Option, Some, None, List, [], ◌∷◌, codes, position, option_map}
+use Rattle.std.specs.Prelude.{ℕ, ◌-◌, ◌^◌, nat_le, if◌then◌else◌, Option, Some, None, List, [], ◌∷◌, codes, option_map}
 use Rattle.std.specs.Option.{option_map_or}
 use Rattle.field_types.specs.SystemName.{is_name}
-use Rattle.library_model.specs.Named.{same_name}
 use Rattle.script_numbers.specs.Arithmetic.{whole_of}
 use Rattle.job_language.specs.declared.operands.Operand.{Operand}
 use Rattle.job_language.specs.declared.operands.Operand.TheVariants.{Literal, Variable}
@@ -22,11 +21,8 @@ use Rattle.statement_reader.specs.Commands.{is_word}
 use Rattle.statement_reader.specs.Lists.{let_some, each, not_empty}
 use Rattle.statement_reader.specs.Literals.{number_of, literal_of}
 use Rattle.statement_reader.specs.Parameters.{behind}
+use Rattle.statement_reader.specs.Variables.{number_in}
 use Rattle.statement_reader.specs.Words.{only, three}
-
--- the number of the variable of this name, from 0
-abbrev pub number_in : List (List ℕ) → List ℕ → Option ℕ
-number_in variables name = position (same_name name) variables
 
 -- the number of a variable that is declared, by what stands behind its &
 unfoldable pub declared : List (List ℕ) → List ℕ → Option ℕ

@@ -107,7 +107,7 @@ fn next_pair(text: &[u8]) -> Option<(u8, &[u8])>
 }
 
 fn byte_before(byte: Option<u8>, rest: &[u8]) -> Option<(u8, &[u8])>
-    ensures { option_map (λ next. (next.0, next.1.now)) result ≡ option_map (λ byte. (byte, rest.now)) byte }
+    ensures { MatchOption result (byte ≡ None) (λ next. (byte ≡ Some next.0) × (next.1.now ≡ rest.now)) }
 {
     match byte {
         Some(byte) => Some((byte, rest)),

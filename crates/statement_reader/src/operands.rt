@@ -1,5 +1,5 @@
 //! Literals and variables: alone, in lists, in expressions and in conditions. By `specs/Operands.antt`.
-ghost use Rattle.std.specs.Prelude.{◌≡◌, ◌×◌, option_map, IfOk};
+ghost use Rattle.std.specs.Prelude.{◌≡◌, option_map, IfOk};
 ghost use Rattle.statement_reader.specs.Words.{words};
 ghost use Rattle.statement_reader.specs.Operands.{declared, variable_of, operand_of, operands_of, given_operand, given_operands, targets_of, operator_of, calculation_of, expression_of, relation_of, comparison_of, condition_of, number_operand, sequence_operand};
 

@@ -1,6 +1,6 @@
 //! The variables that a job has declared.
 ghost use Rattle.std.specs.Prelude.{◌≡◌, None, [], ◌∷◌, ◌++◌, OnOk, OnErr};
-ghost use Rattle.statement_reader.specs.Operands.{number_in};
+ghost use Rattle.statement_reader.specs.Variables.{number_in};
 
 use field_types::names::Name;
 use indexmap::IndexSet;
