@@ -29,22 +29,19 @@ module _ {A : Type 0} where
   not_empty_none (x ∷ xs) none = absurd (omega arith)
 
 module _ {A B : Type 0} (f : A → Option B) where
-  -- one more of the list
-  pub each_step : (front : List B) (left : List A) (x : A) (xs all : List A) (next : B) (longer : List B) → left ≡ x ∷ xs → Some next ≡ f x → longer ≡ front ++ next ∷ [] → with_front front (each f left) ≡ each f all → with_front longer (each f xs) ≡ each f all
-  each_step front left x xs all next longer first given pushed here =
-      ap (λ list. with_front list (each f xs)) pushed
-      ∙ sym (with_front_onto front next (each f xs))
-      ∙ ap (λ y. with_front front (onto_others y (each f xs))) given
-      ∙ ap (λ list. with_front front (each f list)) (sym first)
-      ∙ here
-
   -- one that gives nothing
-  pub each_stop : (front : List B) (left : List A) (x : A) (xs all : List A) → left ≡ x ∷ xs → None ≡ f x → with_front front (each f left) ≡ each f all → each f all ≡ None
+  pub each_stop : (front : List B) (left : List A) (x : A) (xs all : List A) → left ≡ x ∷ xs → None ≡ f x → with_front front (each f left) ≡ each f all → None ≡ not_empty (each f all)
   each_stop front left x xs all first none here =
-      sym here
-      ∙ ap (λ list. with_front front (each f list)) first
-      ∙ ap (λ y. with_front front (onto_others y (each f xs))) (sym none)
+      ap not_empty (sym (ap (λ y. with_front front (onto_others y (each f xs))) (sym none)) ∙ ap (λ list. with_front front (each f list)) (sym first) ∙ here)
 
   -- nothing left
-  pub each_end : (front : List B) (left all : List A) → left ≡ [] → with_front front (each f left) ≡ each f all → each f all ≡ Some front
+  each_end : (front : List B) (left all : List A) → left ≡ [] → with_front front (each f left) ≡ each f all → each f all ≡ Some front
   each_end front left all nothing here = sym here ∙ ap (λ list. with_front front (each f list)) nothing ∙ with_front_end front
+
+  pub each_empty : (front list : List B) (left all : List A) → left ≡ [] → list ≡ front → length list ≡ 0 → with_front front (each f left) ≡ each f all → None ≡ not_empty (each f all)
+  each_empty front list left all nothing made empty here =
+      sym (ap not_empty (each_end front left all nothing here ∙ ap (λ l. Some l) (sym made)) ∙ not_empty_none list empty)
+
+  pub each_some : (front list : List B) (left all : List A) → left ≡ [] → list ≡ front → (length list ≡ 0 → ⊥) → with_front front (each f left) ≡ each f all → Some list ≡ not_empty (each f all)
+  each_some front list left all nothing made some here =
+      sym (ap not_empty (each_end front left all nothing here ∙ ap (λ l. Some l) (sym made)) ∙ not_empty_some list some)

@@ -5,6 +5,7 @@ use Rattle.std.specs.Option.{option_map_or}
 use Rattle.field_types.specs.declared.values.Value.{Value}
 use Rattle.job_language.specs.declared.operands.Condition.{Condition}
 use Rattle.job_language.specs.declared.operands.Expression.{Expression}
+use Rattle.job_language.specs.declared.refusals.Refusal.{Refusal}
 use Rattle.job_language.specs.declared.refusals.Monitored.{Monitored}
 use Rattle.job_language.specs.declared.refusals.Monitored.TheVariants.{Any, Named}
 use Rattle.statement_syntax.specs.declared.Phrase.{Phrase}
@@ -43,8 +44,11 @@ condition_in variables statement = let_some (given parameter.Condition statement
 abbrev pub is_any : List (List ℕ) → Bool
 is_any words = option_map_or (is_word (codes "*ANY")) (only words) false
 
+unfoldable pub named_of : List (List ℕ) → Option (List Refusal)
+named_of words = not_empty (each refusal_named words)
+
 unfoldable pub monitored_of : List (List ℕ) → Option Monitored
-monitored_of words = if is_any words then Some Any else option_map Named (not_empty (each refusal_named words))
+monitored_of words = if is_any words then Some Any else option_map Named (named_of words)
 
 unfoldable pub monitored_in : List (List ℕ) → Option Monitored
 monitored_in statement = let_some (given parameter.Message statement) (λ text. monitored_of (words text))

@@ -1,7 +1,7 @@
 //! The statements that are no requests, by `specs/Control.antt`.
 ghost use Rattle.std.specs.Prelude.{◌≡◌, IfOk};
 ghost use Rattle.statement_reader.specs.Words.{words};
-ghost use Rattle.statement_reader.specs.Control.{label_of, jump_of, jump_in, has_do, condition_in, is_any, monitored_of, monitored_in, execute_in, new_variable, variable_in, literal_in, expression_in, declaration, change, branch, test, otherwise, while_loop, jump, monitor};
+ghost use Rattle.statement_reader.specs.Control.{label_of, jump_of, jump_in, has_do, condition_in, is_any, named_of, monitored_of, monitored_in, execute_in, new_variable, variable_in, literal_in, expression_in, declaration, change, branch, test, otherwise, while_loop, jump, monitor};
 
 use crate::arguments::{name_in, name_of, stands, word_in};
 use crate::literals::literal_of;
@@ -85,13 +85,10 @@ fn is_any(text: &[u8]) -> bool
     }
 }
 
-/// The refusals of MSGID.
-fn monitored_of(alloc: Global, text: &[u8]) -> Result<Option<Monitored>, AllocError>
-    ensures { IfOk result (λ takes. takes ≡ monitored_of (words text.now)) }
+/// The names of MSGID.
+fn named_of(alloc: Global, text: &[u8]) -> Result<Option<Refusals>, AllocError>
+    ensures { IfOk result (λ names. names ≡ named_of (words text.now)) }
 {
-    if is_any(text) {
-        return Ok(Some(Monitored::Any));
-    }
     let mut names = Vec::new(alloc);
     let mut rest = text;
     while let Some((word, others)) = next_word(rest) {
@@ -101,10 +98,25 @@ fn monitored_of(alloc: Global, text: &[u8]) -> Result<Option<Monitored>, AllocEr
         names.push(next)?;
         rest = others;
     }
-    if names.is_empty() {
+    let names = Refusals::from_vec(names);
+    if names.as_slice().is_empty() {
         Ok(None)
     } else {
-        Ok(Some(Monitored::Named(Refusals::from_vec(names))))
+        Ok(Some(names))
+    }
+}
+
+/// The refusals of MSGID.
+#[tactic(auto, unfolding(crate::specs::Control::monitored_of))]
+fn monitored_of(alloc: Global, text: &[u8]) -> Result<Option<Monitored>, AllocError>
+    ensures { IfOk result (λ takes. takes ≡ monitored_of (words text.now)) }
+{
+    if is_any(text) {
+        return Ok(Some(Monitored::Any));
+    }
+    match named_of(alloc, text)? {
+        Some(names) => Ok(Some(Monitored::Named(names))),
+        None => Ok(None),
     }
 }
 

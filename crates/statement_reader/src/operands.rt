@@ -72,10 +72,11 @@ pub fn operands_of(
         operands.push(next)?;
         rest = others;
     }
-    if operands.is_empty() {
+    let operands = Operands::from_vec(operands);
+    if operands.as_slice().is_empty() {
         Ok(None)
     } else {
-        Ok(Some(Operands::from_vec(operands)))
+        Ok(Some(operands))
     }
 }
 
@@ -113,10 +114,11 @@ pub fn given_operands(
         operands.push(next)?;
         rest = others;
     }
-    if operands.is_empty() {
+    let operands = GivenOperands::from_vec(operands);
+    if operands.as_slice().is_empty() {
         Ok(None)
     } else {
-        Ok(Some(GivenOperands::from_vec(operands)))
+        Ok(Some(operands))
     }
 }
 
@@ -137,10 +139,11 @@ pub fn targets_of(
         targets.push(next)?;
         rest = others;
     }
-    if targets.is_empty() {
+    let targets = Targets::from_vec(targets);
+    if targets.as_slice().is_empty() {
         Ok(None)
     } else {
-        Ok(Some(Targets::from_vec(targets)))
+        Ok(Some(targets))
     }
 }
 
