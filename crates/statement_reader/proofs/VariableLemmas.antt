@@ -10,7 +10,7 @@ module _ {A : Type 0} (p : A → Bool) where
   within (x ∷ xs) some =
       let others = within xs in
       let decided : (v : Bool) → (v || list_any p xs) ≡ true → cond (not v) (1 + position_or_len p xs) 0 < length (x ∷ xs) =
-          λ v. elim v as (λ w. (w || list_any p xs) ≡ true → cond (not w) (1 + position_or_len p xs) 0 < length (x ∷ xs)) [ true ↦ λ _. omega arith | false ↦ λ here. omega (arith, others here) ] in
+      λ v. elim v as (λ w. (w || list_any p xs) ≡ true → cond (not w) (1 + position_or_len p xs) 0 < length (x ∷ xs)) [ true ↦ λ _. omega arith | false ↦ λ here. omega (arith, others here) ] in
       decided (p x) some
 
   pub absent_nowhere : (xs : List A) → position p xs ≡ None → list_any p xs ≡ false

@@ -39,10 +39,10 @@ words-behind nesting (c ∷ text) =
     let others = words-behind (after nesting c) text in
     let one : 1 + piece_length (after nesting c) text ≡ suc (piece_length (after nesting c) text) = omega arith in
     let at_blank : is_outside nesting && is_blank c ≡ true → filter has_text (pieces outside text) ≡ words (c ∷ text) =
-        λ both. sym (words-blank c text (and_parts (is_outside nesting) (is_blank c) both).1) in
+    λ both. sym (words-blank c text (and_parts (is_outside nesting) (is_blank c) both).1) in
     let decided : (v : Bool) → is_outside nesting && is_blank c ≡ v → filter has_text (behind_first (drop (cond v 0 (1 + piece_length (after nesting c) text)) (c ∷ text))) ≡ words (drop (cond v 0 (1 + piece_length (after nesting c) text)) (c ∷ text)) =
-        λ v is. (elim v as (λ w. is_outside nesting && is_blank c ≡ w → filter has_text (behind_first (drop (cond w 0 (1 + piece_length (after nesting c) text)) (c ∷ text))) ≡ words (drop (cond w 0 (1 + piece_length (after nesting c) text)) (c ∷ text)))
-        [ true ↦ at_blank | false ↦ λ _. rw one others ]) is in
+    λ v is. (elim v as (λ w. is_outside nesting && is_blank c ≡ w → filter has_text (behind_first (drop (cond w 0 (1 + piece_length (after nesting c) text)) (c ∷ text))) ≡ words (drop (cond w 0 (1 + piece_length (after nesting c) text)) (c ∷ text)))
+    [ true ↦ at_blank | false ↦ λ _. rw one others ]) is in
     decided (is_outside nesting && is_blank c) refl
 
 -- the first word, where no blank stands before it
@@ -71,9 +71,10 @@ first-word (c ∷ text) some =
     let others = first-word text in
     let one : 1 + prefix_len is_blank text ≡ suc (prefix_len is_blank text) = omega arith in
     let decided : (v : Bool) → is_blank c ≡ v → 0 < length (drop (cond v (1 + prefix_len is_blank text) 0) (c ∷ text)) → BeginsWithWord (c ∷ text) (drop (cond v (1 + prefix_len is_blank text) 0) (c ∷ text)) =
-        λ v is. (elim v as (λ w. is_blank c ≡ w → 0 < length (drop (cond w (1 + prefix_len is_blank text) 0) (c ∷ text)) → BeginsWithWord (c ∷ text) (drop (cond w (1 + prefix_len is_blank text) 0) (c ∷ text)))
-        [ true ↦ λ blank more. rw one (let found = others (rw one at more) in (words-blank c text blank ∙ found.0, omega (arith, found.1)))
-        | false ↦ λ none more. word-here c text none ]) is in
+    λ v is. (elim v as (λ w. is_blank c ≡ w → 0 < length (drop (cond w (1 + prefix_len is_blank text) 0) (c ∷ text)) → BeginsWithWord (c ∷ text) (drop (cond w (1 + prefix_len is_blank text) 0) (c ∷ text))) [
+      | true ↦ λ blank more. rw one (let found = others (rw one at more) in (words-blank c text blank ∙ found.0, omega (arith, found.1)))
+      | false ↦ λ none more. word-here c text none
+    ]) is in
     decided (is_blank c) refl some
 
 words-nil : words [] ≡ []
@@ -86,9 +87,10 @@ no-word [] none = words-nil
 no-word (c ∷ text) none =
     let one : 1 + prefix_len is_blank text ≡ suc (prefix_len is_blank text) = omega arith in
     let decided : (v : Bool) → is_blank c ≡ v → length (drop (cond v (1 + prefix_len is_blank text) 0) (c ∷ text)) ≡ 0 → words (c ∷ text) ≡ [] =
-        λ v is. (elim v as (λ w. is_blank c ≡ w → length (drop (cond w (1 + prefix_len is_blank text) 0) (c ∷ text)) ≡ 0 → words (c ∷ text) ≡ [])
-        [ true ↦ λ blank empty. words-blank c text blank ∙ no-word text (rw one at empty)
-        | false ↦ λ other empty. absurd (omega arith) ]) is in
+    λ v is. (elim v as (λ w. is_blank c ≡ w → length (drop (cond w (1 + prefix_len is_blank text) 0) (c ∷ text)) ≡ 0 → words (c ∷ text) ≡ []) [
+      | true ↦ λ blank empty. words-blank c text blank ∙ no-word text (rw one at empty)
+      | false ↦ λ other empty. absurd (omega arith)
+    ]) is in
     decided (is_blank c) refl none
 
 -- a word and what is behind it, as they are found

@@ -306,11 +306,7 @@ pub fn place_in(variables: &Variables, text: &[u8]) -> Option<Option<NumberOpera
 
 /// RRN and RCV
 #[tactic(auto, unfolding(crate::specs::Arguments::number_at))]
-pub fn number_at(
-    variables: &Variables,
-    text: &[u8],
-    parameter: Parameter,
-) -> Option<NumberOperand>
+pub fn number_at(variables: &Variables, text: &[u8], parameter: Parameter) -> Option<NumberOperand>
     ensures { result ≡ number_at parameter variables.now (words text.now) }
 {
     let Some(word) = word_in(text, parameter) else {

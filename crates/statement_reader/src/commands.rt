@@ -237,16 +237,22 @@ fn record_command(word: &[u8]) -> Option<Command>
 }
 
 const OF_FILE: &[Parameter] = &[Parameter::File];
+
 const OF_NEW_FILE: &[Parameter] = &[Parameter::File, Parameter::Source];
+
 const OF_MEMBER: &[Parameter] = &[Parameter::File, Parameter::Member];
+
 const OF_JOURNALING: &[Parameter] = &[Parameter::File, Parameter::Member, Parameter::Images];
+
 const OF_RANGE: &[Parameter] = &[Parameter::FromEntry, Parameter::ToEntry];
+
 const OF_CHANGES: &[Parameter] = &[
     Parameter::File,
     Parameter::Member,
     Parameter::FromEntry,
     Parameter::ToEntry,
 ];
+
 const OF_OPEN: &[Parameter] = &[
     Parameter::File,
     Parameter::Option,
@@ -255,18 +261,18 @@ const OF_OPEN: &[Parameter] = &[
     Parameter::Commit,
     Parameter::AccessPath,
 ];
-const OF_POSITION: &[Parameter] = &[
-    Parameter::OpenId,
-    Parameter::Key,
-    Parameter::RecordNumber,
-];
+
+const OF_POSITION: &[Parameter] = &[Parameter::OpenId, Parameter::Key, Parameter::RecordNumber];
+
 const OF_READ: &[Parameter] = &[Parameter::OpenId, Parameter::Lock, Parameter::To];
+
 const OF_READ_EQUAL: &[Parameter] = &[
     Parameter::OpenId,
     Parameter::Key,
     Parameter::Lock,
     Parameter::To,
 ];
+
 const OF_CHAIN: &[Parameter] = &[
     Parameter::OpenId,
     Parameter::Key,
@@ -274,6 +280,7 @@ const OF_CHAIN: &[Parameter] = &[
     Parameter::Lock,
     Parameter::To,
 ];
+
 const OF_WRITE: &[Parameter] = &[
     Parameter::OpenId,
     Parameter::Format,

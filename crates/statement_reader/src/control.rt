@@ -225,11 +225,7 @@ pub fn change(
 
 /// IF with THEN(GOTO CMDLBL(l))
 #[tactic(auto, unfolding(crate::specs::Control::branch))]
-fn branch(
-    alloc: Global,
-    variables: &Variables,
-    text: &[u8],
-) -> Result<Option<Phrase>, AllocError>
+fn branch(alloc: Global, variables: &Variables, text: &[u8]) -> Result<Option<Phrase>, AllocError>
     ensures { IfOk result (λ phrase. phrase ≡ branch variables.now (words text.now)) }
 {
     let Some(label) = jump_in(text, Parameter::Then) else {
@@ -243,11 +239,7 @@ fn branch(
 
 /// IF
 #[tactic(auto, unfolding(crate::specs::Control::test))]
-pub fn test(
-    alloc: Global,
-    variables: &Variables,
-    text: &[u8],
-) -> Result<Option<Phrase>, AllocError>
+pub fn test(alloc: Global, variables: &Variables, text: &[u8]) -> Result<Option<Phrase>, AllocError>
     ensures { IfOk result (λ phrase. phrase ≡ test variables.now (words text.now)) }
 {
     if !has_do(text, Parameter::Then) {

@@ -73,10 +73,7 @@ pub fn delete_file(alloc: Global, text: &[u8]) -> Option<Phrase>
     let Some(file) = name_in(text, Parameter::File) else {
         return None;
     };
-    Some(plain(
-        alloc,
-        Request::DeleteFile(DeleteFile { file }),
-    ))
+    Some(plain(alloc, Request::DeleteFile(DeleteFile { file })))
 }
 
 /// FILE and MBR
@@ -202,8 +199,5 @@ pub fn close_file(alloc: Global, text: &[u8]) -> Option<Phrase>
     let Some(open_id) = name_in(text, Parameter::OpenId) else {
         return None;
     };
-    Some(plain(
-        alloc,
-        Request::CloseFile(OpenName { open_id }),
-    ))
+    Some(plain(alloc, Request::CloseFile(OpenName { open_id })))
 }

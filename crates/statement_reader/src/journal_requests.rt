@@ -38,12 +38,7 @@ pub fn display_journal(alloc: Global, variables: &Variables, text: &[u8]) -> Opt
 }
 
 #[tactic(auto, unfolding(crate::specs::Requests::changes))]
-fn changes(
-    variables: &Variables,
-    text: &[u8],
-    first: EndForm,
-    last: EndForm,
-) -> Option<ChangesForm>
+fn changes(variables: &Variables, text: &[u8], first: EndForm, last: EndForm) -> Option<ChangesForm>
     ensures { result ≡ changes first last variables.now (words text.now) }
 {
     let Some(named) = file_member(text) else {
@@ -93,8 +88,5 @@ pub fn start_commitment(alloc: Global, text: &[u8]) -> Option<Phrase>
     let Some(level) = level_in(text) else {
         return None;
     };
-    Some(plain(
-        alloc,
-        Request::StartCommitment(StartCommitment { level }),
-    ))
+    Some(plain(alloc, Request::StartCommitment(StartCommitment { level })))
 }

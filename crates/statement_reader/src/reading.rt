@@ -102,11 +102,7 @@ fn labelled(
 
 /// What a command and its parameters say.
 #[tactic(auto, unfolding(crate::specs::Statements::phrase_of))]
-fn phrase(
-    alloc: Global,
-    variables: &Variables,
-    text: &[u8],
-) -> Result<Option<Phrase>, AllocError>
+fn phrase(alloc: Global, variables: &Variables, text: &[u8]) -> Result<Option<Phrase>, AllocError>
     ensures { IfOk result (λ phrase. phrase ≡ phrase_of variables.now (words text.now)) }
 {
     let Some((word, statement)) = next_word(text) else {

@@ -26,10 +26,7 @@ pub fn delete_record(alloc: Global, text: &[u8]) -> Option<Phrase>
     let Some(open_id) = name_in(text, Parameter::OpenId) else {
         return None;
     };
-    Some(plain(
-        alloc,
-        Request::Delete(OpenName { open_id }),
-    ))
+    Some(plain(alloc, Request::Delete(OpenName { open_id })))
 }
 
 /// UNLOCK
@@ -40,10 +37,7 @@ pub fn unlock_record(alloc: Global, text: &[u8]) -> Option<Phrase>
     let Some(open_id) = name_in(text, Parameter::OpenId) else {
         return None;
     };
-    Some(plain(
-        alloc,
-        Request::Unlock(OpenName { open_id }),
-    ))
+    Some(plain(alloc, Request::Unlock(OpenName { open_id })))
 }
 
 fn limit_by_word(word: &[u8]) -> Option<LimitForm>
@@ -157,11 +151,7 @@ pub fn set_greater_than(
 
 /// READ
 #[tactic(auto, unfolding(crate::specs::Requests::read))]
-pub fn read(
-    alloc: Global,
-    variables: &Variables,
-    text: &[u8],
-) -> Result<Option<Phrase>, AllocError>
+pub fn read(alloc: Global, variables: &Variables, text: &[u8]) -> Result<Option<Phrase>, AllocError>
     ensures { IfOk result (λ phrase. phrase ≡ read variables.now (words text.now)) }
 {
     let Some(open_id) = name_in(text, Parameter::OpenId) else {
@@ -364,8 +354,5 @@ pub fn update(
     let Some(values) = values_in(alloc, variables, text)? else {
         return Ok(None);
     };
-    Ok(Some(asking(
-        alloc,
-        RequestForm::Update(UpdateForm { open_id, values }),
-    )))
+    Ok(Some(asking(alloc, RequestForm::Update(UpdateForm { open_id, values }))))
 }

@@ -7,7 +7,7 @@ use job_language::forms::RequestForm;
 use job_language::operands::NumberOperand;
 use library_model::requests::{AccessPath, OpenFile, OpenOption, Request};
 use statement_syntax::Phrase;
-use std::alloc::Global;
+use std::alloc::{AllocError, Global};
 use std::process::Abort;
 use std::test::Fail;
 
@@ -257,7 +257,10 @@ fn faults(rt: HostRuntime) -> Result<(), Fail> {
 #[test]
 fn opens(rt: HostRuntime) -> Result<(), Fail> {
     let said = read(rt.alloc(), b"OPEN: OPNDBF FILE(F)")?;
-    assert!(rt; said.label.is_some_and(|label| label.as_bytes() == b"OPEN".as_slice()));
+    assert!(rt;
+        said.label
+            .is_some_and(|label| label.as_bytes() == b"OPEN".as_slice())
+    );
     let open = opened(&said).ok_or("no open")?;
     assert!(rt; open.member == open.file && open.open_id == open.file);
     assert!(rt; open.option == OpenOption::Input && open.access_path == AccessPath::File);
@@ -267,7 +270,9 @@ fn opens(rt: HostRuntime) -> Result<(), Fail> {
         b"OPNDBF ACCPTH(*ARRIVAL) COMMIT(*YES) OPNID(O) MBR(M) OPTION(*ALL) FILE(F)",
     )?;
     let open = opened(&said).ok_or("no open")?;
-    assert!(rt; open.member.as_bytes() == b"M".as_slice() && open.open_id.as_bytes() == b"O".as_slice());
+    assert!(rt;
+        open.member.as_bytes() == b"M".as_slice() && open.open_id.as_bytes() == b"O".as_slice()
+    );
     assert!(rt; open.option == OpenOption::All && open.access_path == AccessPath::Arrival);
     assert!(rt; open.commit);
     Ok(())
@@ -285,17 +290,36 @@ fn values(rt: HostRuntime) -> Result<(), Fail> {
     let said = read(rt.alloc(), b"WRITE OPNID(O) RRN(&B) VAL(1)")?;
     assert!(rt; matches!(record_number(&said), Some(NumberOperand::Variable(1))));
     let said = read(rt.alloc(), b"WRITE OPNID(O) RRN(4294967295.0) VAL(1)")?;
-    assert!(rt; matches!(record_number(&said), Some(NumberOperand::Literal(4294967295))));
+    assert!(rt;
+        matches!(
+            record_number(&said),
+            Some(NumberOperand::Literal(4294967295))
+        )
+    );
     Ok(())
 }
 
-/// Texts of 16 MiB that are no statement.
-#[test]
-fn hostile(rt: HostRuntime) -> Result<(), Fail> {
-    for byte in [b'(', b'\'', b'A', b' '] {
-        let text = vec![in rt.alloc(); byte; 1 << 24]?;
-        let variables = Variables::new(rt.alloc());
-        assert!(rt; !is_read(rt.alloc(), &variables, text.as_slice())?);
+/// Pieces that are no statement however often they stand one behind the other.
+const HOSTILE: [&[u8]; 6] = [b"(", b"'", b"A", b" ", b"X'C1' ", b"CRTPF FILE(F) "];
+
+fn repeated(alloc: Global, piece: &[u8]) -> Result<Vec<u8>, AllocError> {
+    let mut text = Vec::new(alloc);
+    for _ in 0..100_000u32 {
+        text.extend_from_slice(piece)?;
+    }
+    Ok(text)
+}
+
+fn are_refused(rt: &impl Abort, alloc: Global, pieces: &[&[u8]]) -> Result<(), Fail> {
+    let variables = Variables::new(alloc);
+    for piece in pieces {
+        let text = repeated(alloc, piece)?;
+        assert!(rt; !is_read(alloc, &variables, text.as_slice())?);
     }
     Ok(())
+}
+
+#[test]
+fn hostile(rt: HostRuntime) -> Result<(), Fail> {
+    are_refused(&rt, rt.alloc(), &HOSTILE)
 }
