@@ -1,8 +1,7 @@
 -- Words one after another: where the first ends, and what is behind it.
-use Rattle.std.proofs.Common.{◌≡◌, ℕ, suc, ◌+◌, ◌<◌, ◌≤◌, Bool, true, false, cond, not, ◌&&◌, List, [], ◌∷◌, length, take, drop, get_or, eqb, refl, ap, ◌∙◌, sym, arith, drop-cons, length-drop, add-one}
+use Rattle.std.proofs.Common.{◌≡◌, ℕ, suc, ◌+◌, ◌<◌, Bool, true, false, cond, ◌&&◌, List, [], ◌∷◌, length, take, drop, refl, ap, ◌∙◌, sym, arith, length-drop}
 use Rattle.std.specs.List.{prefix_len, filter}
-use Rattle.std.proofs.lemmas.Bool.{and_parts, cond-true, cond-false, cases_Bool}
-use Rattle.std.proofs.lemmas.List.{drop_all}
+use Rattle.std.proofs.lemmas.Bool.{and_parts, cond-true, cond-false}
 use Rattle.text_lines.specs.Lines.{is_blank, onto_first}
 use Rattle.statement_reader.specs.declared.words.Nesting.{Nesting}
 use Rattle.statement_reader.specs.Words.{after, is_outside, outside, pieces, piece_length, has_text, words, unindented}

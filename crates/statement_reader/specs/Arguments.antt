@@ -1,5 +1,5 @@
 -- What a parameter gives, and what it gives where it stands nowhere. (CL reference, the parameters of each command.)
-use Rattle.std.specs.Prelude.{ℕ, Bool, true, false, nat_eq, if◌then◌else◌, Option, Some, None, List, [], ◌∷◌, codes, option_map}
+use Rattle.std.specs.Prelude.{ℕ, Bool, true, false, if◌then◌else◌, Option, Some, None, List, [], codes, option_map}
 use Rattle.std.specs.Option.{option_map_or}
 use Rattle.field_types.specs.SystemName.{is_name}
 use Rattle.commit_level.specs.declared.Level.{Level}

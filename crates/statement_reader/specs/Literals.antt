@@ -1,6 +1,6 @@
 -- Literals: '..' with an apostrophe written twice, X'..', and numbers. The characters of a text stand for their bytes in code page 037.
 -- (CL reference, "Constant values".)
-use Rattle.std.specs.Prelude.{ℕ, ◌+◌, ◌-◌, pos, neg_ℤ, Bool, ◌&&◌, ◌==◌, nat_eq, nat_le, if◌then◌else◌, Option, Some, None, List, [], ◌∷◌, length, take, drop, codes, option_map}
+use Rattle.std.specs.Prelude.{ℕ, ◌+◌, pos, neg_ℤ, ◌&&◌, ◌==◌, nat_eq, nat_le, if◌then◌else◌, Option, Some, None, List, [], ◌∷◌, length, take, drop, codes, option_map}
 use Rattle.std.specs.Option.{option_map_or}
 use Rattle.std.specs.List.{prefix_len}
 use Rattle.std.specs.Cmp.Lexicographic.{pointwise}

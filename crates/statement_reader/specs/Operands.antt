@@ -1,6 +1,6 @@
 -- Values in a parameter's parentheses: literals and variables, alone, in lists, in expressions and in conditions.
 -- (CL reference, "Expressions"; which variables stand where is our own.)
-use Rattle.std.specs.Prelude.{ℕ, ◌-◌, ◌^◌, nat_le, if◌then◌else◌, Option, Some, None, List, [], ◌∷◌, codes, option_map}
+use Rattle.std.specs.Prelude.{ℕ, ◌-◌, ◌^◌, nat_le, if◌then◌else◌, Option, Some, None, List, codes, option_map}
 use Rattle.std.specs.Option.{option_map_or}
 use Rattle.field_types.specs.SystemName.{is_name}
 use Rattle.script_numbers.specs.Arithmetic.{whole_of}

@@ -1,6 +1,6 @@
 -- The statements that are requests, by their parameters, with every default filled in: MBR and OPNID of OPNDBF are FILE's name.
 -- (CL reference; the record commands from READ to UNLOCK and CHKPT are our own.)
-use Rattle.std.specs.Prelude.{ℕ, Option, Some, None, List, [], ◌∷◌, if◌then◌else◌, codes}
+use Rattle.std.specs.Prelude.{ℕ, Option, Some, None, List, [], if◌then◌else◌, codes}
 use Rattle.std.specs.Option.{option_or}
 use Rattle.library_model.specs.declared.requests.FileMember.{FileMember}
 use Rattle.library_model.specs.declared.requests.Request.{Request}

@@ -1,6 +1,6 @@
 -- The words of a text: blanks separate them, but not between apostrophes and not in parentheses.
 -- (CL reference, "Command syntax".)
-use Rattle.std.specs.Prelude.{ℕ, zero, suc, ◌+◌, ◌-◌, Bool, true, false, not, ◌&&◌, ◌==◌, if◌then◌else◌, Option, Some, None, List, [], ◌∷◌, drop, filter}
+use Rattle.std.specs.Prelude.{ℕ, ◌+◌, ◌-◌, Bool, true, false, not, ◌&&◌, ◌==◌, if◌then◌else◌, Option, Some, None, List, [], ◌∷◌, drop, filter}
 use Rattle.std.specs.List.{prefix_len}
 use Rattle.text_lines.specs.Lines.{is_blank, onto_first}
 use Rattle.statement_reader.specs.declared.words.Nesting.{Nesting}
