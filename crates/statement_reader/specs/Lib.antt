@@ -1,0 +1,12 @@
+pub mod Arguments
+pub mod Commands
+pub mod Control
+pub mod Lists
+pub mod Literals
+pub mod Operands
+pub mod Parameters
+pub mod RefusalNames
+pub mod Requests
+pub mod Statements
+pub mod Variables
+pub mod Words
