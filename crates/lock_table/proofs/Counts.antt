@@ -1,5 +1,5 @@
 -- How many locks are held once one more is, and others are not.
-use Rattle.std.proofs.Common.{◌≡◌, ℕ, ◌+◌, ◌-◌, ◌<◌, ◌≤◌, Bool, true, false, not, ◌&&◌, ◌==◌, cond, List, [], ◌∷◌, length, refl, sym, ap, ◌∙◌, suc, arith}
+use Rattle.std.proofs.Common.{◌≡◌, ℕ, ◌+◌, ◌-◌, ◌<◌, ◌≤◌, Bool, true, false, not, ◌==◌, cond, List, [], ◌∷◌, length, refl, sym, ap, ◌∙◌, suc, arith}
 use Rattle.std.specs.List.{filter, AllByRecursion, Contains}
 use Rattle.std.specs.List.Sorted.{IsStrictlySortedBy}
 use Rattle.std.specs.Ordering.{is_eq, match_ordering, nat_cmp}
@@ -18,7 +18,7 @@ use Rattle.lock_table.specs.declared.lock.Lock.{Lock}
 use Rattle.lock_table.specs.Lock.{is_of_open, is_open, lock_by, lock_cmp}
 use Rattle.lock_table.specs.Table.{Locks, IsTable, HasRoom, spare, with_item, with_lock, with_lock_by, without_lock, freed, after_read}
 use Rattle.lock_table.proofs.InOrder.{filter-with_item, with_item-there}
-use Rattle.lock_table.proofs.Kept.{filter-has, filter-swap, filter-wider, length-filter-≤, length-with_item}
+use Rattle.lock_table.proofs.Kept.{filter-has, filter-swap, length-filter-≤, length-with_item}
 use Rattle.lock_table.proofs.Locks.{lock_cmp-same, lock_cmp-total}
 use Rattle.lock_table.proofs.Releases.{freed-without_lock, length-without_lock}
 

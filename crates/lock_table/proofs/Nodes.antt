@@ -1,5 +1,5 @@
 -- A tree whose locks are in order, around its node: what is true of its two sides, and what a search makes of them.
-use Rattle.std.proofs.Common.{◌≡◌, ℕ, ◌+◌, ◌≤◌, ◌<◌, nat_le, Bool, true, false, not, ◌&&◌, ◌||◌, ◌==◌, cond, Box, Option, None, Some, List, [], ◌∷◌, ◌++◌, length, refl, sym, ap, ◌∙◌, arith, subst, append_assoc, length-append}
+use Rattle.std.proofs.Common.{◌≡◌, ℕ, ◌+◌, ◌≤◌, ◌<◌, nat_le, Bool, true, false, not, ◌==◌, cond, Box, Option, None, Some, List, [], ◌∷◌, ◌++◌, length, refl, sym, ap, ◌∙◌, arith, subst, append_assoc, length-append}
 use Rattle.std.specs.Prelude.{if◌then◌else◌}
 use Rattle.std.specs.List.{filter, find, AllByRecursion}
 use Rattle.std.specs.List.Sorted.{IsStrictlySortedBy}
@@ -19,11 +19,11 @@ use Rattle.lock_table.specs.declared.tree.Top.TheVariants.{Empty, At}
 use Rattle.lock_table.specs.Lock.{lock_cmp}
 use Rattle.lock_table.specs.Table.{freed, with_lock, without_lock}
 use Rattle.lock_table.specs.Index.{is_ahead, is_part, part_cmp}
-use Rattle.lock_table.specs.Tree.{locks_at, locks_of}
+use Rattle.lock_table.specs.Tree.{locks_at}
 use Rattle.lock_table.proofs.InOrder.{filter-all}
 use Rattle.lock_table.proofs.Kept.{length-filter-≤}
 use Rattle.lock_table.proofs.Locks.{IsBelow, lock_cmp-total, part_cmp-falls}
-use Rattle.lock_table.proofs.Sides.{AreSides, sides, each_map, each-append, each_front, each_back, filter-here, filter-left, filter-right, filter-out, with_item-left, with_item-right, with_item-here, without-left, without-right, without-here}
+use Rattle.lock_table.proofs.Sides.{AreSides, sides, each_map, each-append, each_front, filter-here, filter-left, filter-right, filter-out, with_item-left, with_item-right, with_item-here, without-left, without-right, without-here}
 
 -- the locks of a node, whose sides are in order
 pub record IsNode (locks left : List Lock) (lock : Lock) (right : List Lock) : Type 0 where

@@ -1,4 +1,4 @@
-use Rattle.std.proofs.Common.{List, ◌==◌, ◌+◌, length, arith, sym, ap, ◌∙◌}
+use Rattle.std.proofs.Common.{List, ◌==◌, length, arith, sym}
 use Rattle.std.specs.List.{filter}
 use Rattle.lock_table.specs.declared.lock.Lock.{Lock}
 use Rattle.lock_table.specs.Index.{is_part}

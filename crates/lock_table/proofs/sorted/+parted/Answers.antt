@@ -1,8 +1,7 @@
-use Rattle.std.proofs.Common.{◌≡◌, true, false, Box, arith, sym, subst, ap, ◌∙◌}
+use Rattle.std.proofs.Common.{Box, arith, sym, ap, ◌∙◌}
 use Rattle.std.specs.declared.alloc.Global.{Global}
 use Rattle.lock_table.specs.declared.tree.Node.{Node}
-use Rattle.lock_table.specs.declared.lock.Lock.{Lock}
-use Rattle.lock_table.specs.Index.{is_ahead, part_cmp}
+use Rattle.lock_table.specs.Index.{is_ahead}
 use Rattle.lock_table.proofs.Nodes.{at_node, ahead-joined, behind-joined, length-sides}
 use Rattle.lock_table.proofs.sorted.+parted.Goals as goal
 

@@ -1,6 +1,5 @@
 use Rattle.std.proofs.Common.{true, refl, ap, ◌∙◌}
 use Rattle.std.specs.List.{list_any}
-use Rattle.lock_table.specs.declared.lock.Lock.{Lock}
 use Rattle.lock_table.specs.declared.lock.Reach.TheVariants.{Boundary}
 use Rattle.lock_table.specs.declared.part.Part.TheVariants.{OnRecord}
 use Rattle.lock_table.specs.Lock.{is_of_group_on, is_of_open_on}
