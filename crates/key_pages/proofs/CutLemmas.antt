@@ -1,7 +1,6 @@
 -- A list in two parts: what an entry between them is in the whole.
-use Rattle.std.proofs.Common.{◌≡◌, ℕ, List, [], ◌∷◌, ◌++◌, length, take, drop, ap, sym, ◌∙◌, refl, arith}
+use Rattle.std.proofs.Common.{◌≡◌, ℕ, List, [], ◌∷◌, ◌++◌, length, ap, sym, ◌∙◌, refl}
 use Rattle.std.specs.Prelude.{insert}
-use Rattle.std.proofs.lemmas.List.{append-nil, append_assoc, take-append-le, drop-append-le, take_all, drop_all}
 
 module _ {X : Type 0} where
   cut_at : (front back : List X) (e : X) → insert (front ++ back) (length front) e ≡ front ++ e ∷ back

@@ -1,8 +1,5 @@
 -- The page that was free holds the entry alone.
 use Rattle.std.proofs.Common.{◌≡◌, ◌∙◌, [], ◌∷◌, ◌++◌, ap, arith}
-use Rattle.std.proofs.lemmas.List.Elements.{All-cons, All-nil}
-use Rattle.key_pages.specs.declared.page.TheConstants.{MOST_PAGE_ENTRIES}
-use Rattle.key_pages.specs.PageList.{AreSized}
 use Rattle.key_pages.proofs.PageLemmas.{AreSized-one, last-taken}
 use Rattle.key_pages.proofs.directory.Directory.insert_first.Goals as goal
 
