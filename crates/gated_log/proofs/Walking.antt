@@ -3,13 +3,13 @@ use Rattle.std.proofs.Common.{◌≡◌, ◌≢◌, inr, ℕ, suc, ◌+◌, ◌^
 use Rattle.std.proofs.lemmas.List.{drop_more, drop-drop, get_or-take, take_all}
 use Rattle.byteorder.specs.Endian.{big_bytes, big_number}
 use Rattle.byteorder.specs.Numbers.{big_from-take}
-use Rattle.gated_log.specs.Blocks.{header, block_bytes, MayBegin, Opens, Spells, sizes, HasNoBlock, IsFaultAt, HasNoHeader, IsDamagedAt, extent}
+use Rattle.gated_log.specs.Blocks.{header, block_bytes, IsLog, MayBegin, Opens, Spells, sizes, HasNoBlock, IsFaultAt, HasNoHeader, IsDamagedAt, extent}
 use Rattle.gated_log.specs.Places.{lengths_of}
-use Rattle.gated_log.specs.Walk.{HasBlock, IsWalked}
+use Rattle.gated_log.specs.Walk.{HasBlock, IsClosed, IsWalked, IsWalkedTo}
 use Rattle.gated_log.specs.declared.log.Place.{Place}
 use Rattle.gated_log.specs.declared.fault.LogFault.TheVariants.{Damaged}
 use Rattle.gated_log.proofs.Numbers.{length-block_bytes, front_header}
-use Rattle.gated_log.proofs.Blocks.{block_number, opens-push, sizes-push, lengths_of-push}
+use Rattle.gated_log.proofs.Blocks.{block_number, opens-push, placed_end, placed-push, sizes-push, lengths_of-push}
 
 -- the area and the place of a damage
 pub damaged_is : {T : Type 0} (area place a at : ℕ) → IsErrOf {T = T} (Err (Damaged area place)) (Damaged a at) → (a ≡ area) × (at ≡ place)
@@ -117,3 +117,14 @@ walked_breaks area first version seen places gate at walked is fault = inr (reco
   opens = walked.opens;
   fault = subst (λ (n : ℕ). IsFaultAt n (drop gate seen) at) (is ∙ ap (λ (l : List ℕ). 32 + extent l) walked.lengths) fault;
 })
+
+-- ---- without the places
+pub walked_to-further : (area first version : ℕ) (seen : List ℕ) (place : Place) (gate : ℕ) → IsWalkedTo area first version seen gate → HasBlock (drop gate seen) place → place.at ≡ gate + 5 → IsWalkedTo area first version seen (gate + 5 + place.length)
+walked_to-further area first version seen place gate walked found at =
+    (walked.0 ++ place ∷ [], walked_further area first version seen walked.0 (walked.0 ++ place ∷ []) place gate walked.1 found refl, placed-push 32 walked.0 gate place walked.2 at)
+
+pub walked_to-log : (area first version : ℕ) (seen : List ℕ) (gate : ℕ) → IsWalkedTo area first version seen gate → IsClosed (drop gate seen) → IsLog area seen
+walked_to-log area first version seen gate walked shut = (first, version, walked.1.blocks, walked_spells area first version seen shut.0 walked.0 gate walked.1 shut.1)
+
+pub walked_to-breaks : (area first version : ℕ) (seen : List ℕ) (gate at : ℕ) → IsWalkedTo area first version seen gate → IsFaultAt gate (drop gate seen) at → IsDamagedAt area seen at
+walked_to-breaks area first version seen gate at walked fault = walked_breaks area first version seen walked.0 gate at walked.1 (placed_end 32 walked.0 gate walked.2) fault

@@ -47,6 +47,10 @@ pub record Spells (area first version : ℕ) (blocks : List (List ℕ)) (bytes :
   pub header : bytes ≡ header area first version ++ body
   pub opens : Opens blocks body (0 ∷ rest)
 
+-- they are so with some first sequence, version and blocks
+abbrev pub IsLog : ℕ → List ℕ → Type 0
+IsLog area bytes = (first : ℕ) × (version : ℕ) × (blocks : List (List ℕ)) × Spells area first version blocks bytes
+
 -- how far behind the first gate the gate behind blocks of these lengths stands
 abbrev pub extent : List ℕ → ℕ
 extent [] = 0

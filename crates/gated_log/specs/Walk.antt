@@ -1,7 +1,7 @@
 -- How far an area was read, gate by gate, while its log is opened.
 use Rattle.std.specs.Prelude.{◌≡◌, ◌≢◌, ℕ, ◌+◌, ◌^◌, ◌<◌, ◌≤◌, List, [], ◌∷◌, ◌++◌, length, drop, Option, Some, None}
 use Rattle.gated_log.specs.Blocks.{header, block_bytes, MayBegin, Opens, sizes}
-use Rattle.gated_log.specs.Places.{lengths_of}
+use Rattle.gated_log.specs.Places.{ArePlaced, lengths_of}
 use Rattle.gated_log.specs.declared.log.Place.{Place}
 
 -- behind an open gate stands a block of the place's length, and then the rest
@@ -35,3 +35,7 @@ pub record IsWalked (area first version : ℕ) (bytes : List ℕ) (places : List
   pub header : bytes ≡ header area first version ++ body
   pub opens : Opens blocks body (drop gate bytes)
   pub lengths : lengths_of places ≡ sizes blocks
+
+-- the same with the places of some blocks
+abbrev pub IsWalkedTo : ℕ → ℕ → ℕ → List ℕ → ℕ → Type 0
+IsWalkedTo area first version bytes gate = (places : List Place) × IsWalked area first version bytes places gate × ArePlaced 32 places gate

@@ -1,10 +1,10 @@
 //! Opens a log: walks from gate to gate, and trusts no byte. `log.rt` has the log itself.
-ghost use Rattle.std.specs.Prelude.{◌≡◌, ◌+◌, ◌-◌, ◌<◌, ◌≤◌, ◌^◌, ℕ, [], length, take, drop, min, IfOk, IsErr, IsErrOf};
+ghost use Rattle.std.specs.Prelude.{◌≡◌, ◌+◌, ◌-◌, ◌<◌, ◌≤◌, ◌^◌, ℕ, [], length, take, drop, min, IfOk, OnOk, IsErr, IsErrOf};
 ghost use Rattle.store_model.specs.Disk.{Stays, IsDurable};
 ghost use Rattle.store_model.specs.Faults.{Rose};
-ghost use Rattle.gated_log.specs.Blocks.{MayBegin, IsDamagedAt, IsFaultAt, HasNoHeader, Spells};
+ghost use Rattle.gated_log.specs.Blocks.{IsDamagedAt, IsFaultAt, IsLog, HasNoHeader};
 ghost use Rattle.gated_log.specs.Log.{HasBlocks};
-ghost use Rattle.gated_log.specs.Walk.{IsFound, IsBehind, IsWalked};
+ghost use Rattle.gated_log.specs.Walk.{IsFound, IsBehind, IsWalked, IsWalkedTo};
 
 use crate::LogFault;
 use crate::layout::{CLOSED, HEADER, Head, head_of, length_of};
@@ -18,6 +18,7 @@ pub fn open<S: Store>(alloc: Global, store: &mut S, area: u32) -> Result<Log, Lo
     ensures opened { IfOk result (λ log. S.tells → HasBlocks log (S.disk store.new)) }
     ensures area { IfOk result (λ log. log.area ≡ area) }
     ensures damaged { (a at : ℕ) → IsErrOf result (LogFault.Damaged a at) → (a ≡ area) × (S.tells → IsDamagedAt area ((S.disk store.old).seen area) at) }
+    ensures memory { IsErrOf result LogFault.NoMemory → S.tells → IsLog area ((S.disk store.old).seen area) }
     ensures stays { Stays (S.disk store.old) (S.disk store.new) }
     ensures cause { IsErrOf result LogFault.StoreFault → Rose (S.disk store.old).faults (S.disk store.new).faults }
 {
@@ -27,8 +28,15 @@ pub fn open<S: Store>(alloc: Global, store: &mut S, area: u32) -> Result<Log, Lo
     let mut places = Vec::new(alloc);
     let mut gate = HEADER as u64;
     while let Some(place) = next_place(store, area, gate, size)? {
-        places.push(place)?;
         gate = place.at + u64::from(place.length);
+        match places.push(place) {
+            Ok(()) => {}
+            Err(_) => {
+                // A damage behind it is told all the same.
+                walk_on(store, area, head, gate, size)?;
+                return Err(LogFault::NoMemory);
+            }
+        }
     }
     Ok(Log {
         area,
@@ -38,12 +46,38 @@ pub fn open<S: Store>(alloc: Global, store: &mut S, area: u32) -> Result<Log, Lo
     })
 }
 
+/// Walks from this gate to the closed one, and keeps no place.
+fn walk_on<S: Store>(
+    store: &mut S,
+    area: u32,
+    head: Head,
+    from: u64,
+    size: u64,
+) -> Result<(), LogFault>
+    requires size { S.tells → size ≡ length ((S.disk store.old).seen area) }
+    requires bound { size ≤ 2 ^ 62 }
+    requires inside { from ≤ size }
+    requires walked { S.tells → IsWalkedTo area head.first head.version ((S.disk store.old).seen area) from }
+    ensures whole { OnOk result (S.tells → IsLog area ((S.disk store.old).seen area)) }
+    ensures damaged { (a at : ℕ) → IsErrOf result (LogFault.Damaged a at) → (a ≡ area) × (S.tells → IsDamagedAt area ((S.disk store.old).seen area) at) }
+    ensures no_memory { IsErrOf result LogFault.NoMemory → ⊥ }
+    ensures stays { Stays (S.disk store.old) (S.disk store.new) }
+    ensures cause { IsErrOf result LogFault.StoreFault → Rose (S.disk store.old).faults (S.disk store.new).faults }
+{
+    let mut gate = from;
+    while let Some(place) = next_place(store, area, gate, size)? {
+        gate = place.at + u64::from(place.length);
+    }
+    Ok(())
+}
+
 /// What the area's header says.
 fn read_head<S: Store>(store: &mut S, area: u32, size: u64) -> Result<Head, LogFault>
     requires { S.tells → size ≡ length ((S.disk store.old).seen area) }
     ensures head { IfOk result (λ head. S.tells → IsWalked area head.first head.version ((S.disk store.old).seen area) [] 32) }
     ensures whole { IfOk result (λ _. 32 ≤ size) }
     ensures damaged { (a at : ℕ) → IsErrOf result (LogFault.Damaged a at) → (a ≡ area) × (at ≡ 0) × (S.tells → HasNoHeader area ((S.disk store.old).seen area)) }
+    ensures no_memory { IsErrOf result LogFault.NoMemory → ⊥ }
     ensures stays { Stays (S.disk store.old) (S.disk store.new) }
     ensures cause { IsErrOf result LogFault.StoreFault → Rose (S.disk store.old).faults (S.disk store.new).faults }
 {
@@ -71,6 +105,7 @@ fn next_place<S: Store>(
     ensures behind { IfOk result (λ found. IsBehind gate size found) }
     ensures inside { IfOk result (λ _. gate < size) }
     ensures damaged { (a at : ℕ) → IsErrOf result (LogFault.Damaged a at) → (a ≡ area) × (S.tells → IsFaultAt gate (drop gate ((S.disk store.old).seen area)) at) }
+    ensures no_memory { IsErrOf result LogFault.NoMemory → ⊥ }
     ensures stays { Stays (S.disk store.old) (S.disk store.new) }
     ensures cause { IsErrOf result LogFault.StoreFault → Rose (S.disk store.old).faults (S.disk store.new).faults }
 {

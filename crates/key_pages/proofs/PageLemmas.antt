@@ -119,6 +119,21 @@ AreSized-push pages page sized large some most least = record {
   least = λ two. let longer = length_push pages page in let more : 0 < length pages = omega arith in All-push (λ p. LEAST_PAGE_ENTRIES ≤ length p) pages page large (least more);
 }
 
+-- no page, and one alone
+pub AreSized-none : AreSized []
+AreSized-none = record {
+  some = All-nil (λ p. 0 < length p);
+  most = All-nil (λ p. length p ≤ MOST_PAGE_ENTRIES);
+  least = λ two. absurd (omega arith);
+}
+
+pub AreSized-one : (page : List Entry) → 0 < length page → length page ≤ MOST_PAGE_ENTRIES → AreSized (page ∷ [])
+AreSized-one page some most = record {
+  some = All-cons (λ p. 0 < length p) page [] some (All-nil (λ p. 0 < length p));
+  most = All-cons (λ p. length p ≤ MOST_PAGE_ENTRIES) page [] most (All-nil (λ p. length p ≤ MOST_PAGE_ENTRIES));
+  least = λ two. absurd (omega arith);
+}
+
 pub entries_of-push : (pages : List (List Entry)) (page before after all : List Entry) → page ++ after ≡ before → entries_of pages ++ before ≡ all → entries_of (pages ++ page ∷ []) ++ after ≡ all
 entries_of-push pages page before after all moved whole =
     ap (λ xs. xs ++ after) (entries_of-append pages (page ∷ []) ∙ ap (λ own. entries_of pages ++ own) (append-nil page))

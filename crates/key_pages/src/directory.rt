@@ -3,6 +3,7 @@
 ghost use Rattle.std.specs.Prelude.{◌≡◌, ◌+◌, ◌-◌, ◌*◌, ◌<◌, ◌≤◌, ◌^◌, ◌/◌, [], ◌∷◌, ◌++◌, length, take, drop, insert, remove, reverse, set, All, List, ℕ, IfOk, IfErr, OnOk, true, false, Contains, Some, slice_index_or, vec_len, vec_capacity};
 ghost use Rattle.std.specs.List.{slice_get};
 ghost use Rattle.std.specs.Option.{option_copied, option_or};
+ghost use Rattle.std.specs.VecDeque.{deque_len, deque_capacity};
 ghost use Rattle.std.specs.List.Sorted.{IsSearchInRange};
 ghost use Rattle.key_pages.specs.declared.entries.Entry.{Entry};
 ghost use Rattle.key_pages.specs.Order.{IsInOrder};
@@ -16,26 +17,29 @@ use crate::page::{FILLED_PAGE_ENTRIES, LEAST_PAGE_ENTRIES, MOST_PAGE_ENTRIES, Pa
 use crate::positions::Position;
 use crate::search;
 use std::alloc::{AllocError, Global};
+use std::collections::VecDeque;
 use std::marker::{Brand, Model};
+use std::mem;
 use std::sync::ledger::{Blank, Ledger};
 
 /// Pages in order, none too small and none too large, and free ones. A page that comes into use was free before, one that
 /// goes out of use is free again, so that only `reserve` takes memory.
 #[derive(Drop)]
 pub(crate) struct Directory {
-    pages: Vec<Page>,
+    pages: VecDeque<Page>,
     free: Vec<Page>,
 }
 
 impl Model for Directory {
     ghost use Rattle.std.specs.Prelude.{◌+◌, vec_len, vec_capacity};
+    ghost use Rattle.std.specs.VecDeque.{deque_len, deque_capacity};
     ghost use Rattle.key_pages.specs.PageList.{PageList, AreKept};
 
     ghost Value = { PageList };
 
     ghost view = { λ directory. record { pages = directory.pages.items; free = vec_len directory.free } };
 
-    ghost invariant = { λ directory. AreKept directory.pages.items directory.free.items (vec_len directory.pages + vec_len directory.free) (vec_capacity directory.pages) (vec_capacity directory.free) };
+    ghost invariant = { λ directory. AreKept directory.pages.items directory.free.items (deque_len directory.pages + vec_len directory.free) (deque_capacity directory.pages) (vec_capacity directory.free) };
 }
 
 impl Directory {
@@ -44,7 +48,7 @@ impl Directory {
         ensures { result ≡ record { pages = []; free = 0 } }
     {
         Directory {
-            pages: Vec::new(alloc),
+            pages: VecDeque::new(alloc),
             free: Vec::new(alloc),
         }
     }
@@ -180,7 +184,7 @@ impl Directory {
     {
         let mut page = self.free.take_last();
         page.push(entry);
-        self.pages.push_reserved(page);
+        self.pages.push_back_reserved(page);
     }
 
     fn insert_within(&mut self, number: usize, place: usize, entry: Entry)
@@ -211,7 +215,6 @@ impl Directory {
     pub(crate) fn remove(&mut self, number: usize, place: usize) -> Entry
         requires number { number < length self.old.pages }
         requires place { place < length (page_at self.old.pages number) }
-        requires free { 0 < self.old.free }
         ensures entry { slice_get (page_at self.old.pages number) place ≡ Some result }
         ensures entries { entries_of self.new.pages ≡ with_page self.old.pages number (remove (page_at self.old.pages number) place) }
         ensures total { length self.new.pages + self.new.free ≡ length self.old.pages + self.old.free }
@@ -234,7 +237,7 @@ impl Directory {
         ensures pages { self.new.pages ≡ [] }
         ensures total { self.new.free ≡ self.old.free + 1 }
     {
-        let mut page = self.pages.take_last();
+        let mut page = self.pages.pop_back().unwrap();
         let entry = page.remove(0);
         self.free.push_reserved(page);
         entry
@@ -257,7 +260,6 @@ impl Directory {
         requires number { number < length self.old.pages }
         requires more { 1 < length self.old.pages }
         requires place { place < length (page_at self.old.pages number) }
-        requires free { 0 < self.old.free }
         ensures entry { slice_get (page_at self.old.pages number) place ≡ Some result }
         ensures entries { entries_of self.new.pages ≡ with_page self.old.pages number (remove (page_at self.old.pages number) place) }
         ensures total { length self.new.pages + self.new.free ≡ length self.old.pages + self.old.free }
@@ -280,7 +282,7 @@ impl Directory {
             let count = filled_len(entries.len());
             let mut page = self.free.take_last();
             move_front(&mut entries, count, &mut page);
-            self.pages.push_reserved(page);
+            self.pages.push_back_reserved(page);
         }
     }
 }
@@ -300,7 +302,7 @@ fn add_free(free: &mut Vec<Page>, count: usize, alloc: Global) -> Result<(), All
     Ok(())
 }
 
-// The lower half stays, the rest moves to the empty page.
+// The shorter part moves to the empty page, the entry on its way, and each entry that moves does so once.
 fn insert_halving(page: &mut Page, place: usize, entry: Entry, into: &mut Page)
     requires place { place ≤ length page.old }
     requires full { length page.old ≡ MOST_PAGE_ENTRIES }
@@ -311,58 +313,56 @@ fn insert_halving(page: &mut Page, place: usize, entry: Entry, into: &mut Page)
 {
     let half = MOST_PAGE_ENTRIES / 2;
     if place < half {
-        page.split(half - 1, into);
-        page.insert(place, entry);
+        page.move_first(place, into);
+        into.push(entry);
+        page.move_first(half - 1 - place, into);
+        mem::swap(page, into);
     } else {
-        page.split(half, into);
-        into.insert(place - half, entry);
+        page.move_last(MOST_PAGE_ENTRIES - place, into);
+        into.push_first(entry);
+        page.move_last(place - half, into);
     }
 }
 
 // Two neighbouring pages become one, or where they have too many entries for that, they share them evenly.
-fn level(pages: &mut Vec<Page>, free: &mut Vec<Page>, left: usize)
+fn level(pages: &mut VecDeque<Page>, free: &mut Vec<Page>, left: usize)
     requires left { left + 1 < length pages.old.items }
     requires least { LEAST_PAGE_ENTRIES ≤ length (page_at pages.old.items left) + length (page_at pages.old.items (left + 1)) }
     requires left_most { length (page_at pages.old.items left) ≤ MOST_PAGE_ENTRIES }
     requires right_most { length (page_at pages.old.items (left + 1)) ≤ MOST_PAGE_ENTRIES }
-    requires free { 0 < vec_len free.old }
     requires empty { All (λ page. page ≡ []) free.old.items }
-    requires room { vec_len pages.old + vec_len free.old ≤ vec_capacity pages.old }
-    requires free_room { vec_len pages.old + vec_len free.old ≤ vec_capacity free.old }
+    requires room { deque_len pages.old + vec_len free.old ≤ deque_capacity pages.old }
+    requires free_room { deque_len pages.old + vec_len free.old ≤ vec_capacity free.old }
     ensures level { (level : List (List Entry)) × AreLevel (page_at pages.old.items left) (page_at pages.old.items (left + 1)) level × (pages.new.items ≡ take left pages.old.items ++ (level ++ drop (left + 2) pages.old.items)) }
     ensures empty { All (λ page. page ≡ []) free.new.items }
-    ensures total { vec_len pages.new + vec_len free.new ≡ vec_len pages.old + vec_len free.old }
-    ensures capacity { vec_capacity pages.old ≤ vec_capacity pages.new }
+    ensures total { deque_len pages.new + vec_len free.new ≡ deque_len pages.old + vec_len free.old }
+    ensures capacity { deque_capacity pages.old ≤ deque_capacity pages.new }
     ensures free_capacity { vec_capacity free.old ≤ vec_capacity free.new }
 {
-    let mut right = pages.remove(left + 1);
-    if pages[left].len() + right.len() <= MOST_PAGE_ENTRIES {
-        pages[left].append(&mut right);
+    let mut right = pages.remove(left + 1).unwrap();
+    let len = right.len();
+    if pages[left].len() + len <= MOST_PAGE_ENTRIES {
+        right.move_first(len, &mut pages[left]);
+        free.push_reserved(right);
     } else {
-        let mut more = free.take_last();
-        share(&mut pages[left], &mut right, &mut more);
-        pages.insert(left + 1, more).unwrap();
+        share(&mut pages[left], &mut right);
+        pages.insert(left + 1, right).unwrap();
     }
-    free.push_reserved(right);
 }
 
-// The left page gets half of the entries, the empty one the rest, the right page none.
-fn share(left: &mut Page, right: &mut Page, into: &mut Page)
+// The left page gets half of the entries, the right page the rest.
+fn share(left: &mut Page, right: &mut Page)
     requires left_most { length left.old ≤ MOST_PAGE_ENTRIES }
     requires right_most { length right.old ≤ MOST_PAGE_ENTRIES }
-    requires empty { into.old ≡ [] }
-    ensures same { left.new ++ into.new ≡ left.old ++ right.old }
+    ensures same { left.new ++ right.new ≡ left.old ++ right.old }
     ensures half { length left.new ≡ (length left.old + length right.old) / 2 }
-    ensures rest { length into.new + length left.new ≡ length left.old + length right.old }
-    ensures none { right.new ≡ [] }
+    ensures rest { length right.new + length left.new ≡ length left.old + length right.old }
 {
     let half = (left.len() + right.len()) / 2;
     if half < left.len() {
-        left.split(half, into);
-        into.append(right);
+        left.move_last(left.len() - half, right);
     } else {
-        right.split(half - left.len(), into);
-        left.append(right);
+        right.move_first(half - left.len(), left);
     }
 }
 

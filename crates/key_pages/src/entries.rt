@@ -8,6 +8,7 @@ ghost use Rattle.key_pages.specs.Search.{IsAt, IsGapFor};
 
 use crate::keys::Key;
 use std::cmp::Ordering;
+use std::collections::VecDeque;
 
 /// What an access path has of a record: its key, the number of its record format within the file, and its relative
 /// record number.
@@ -31,7 +32,7 @@ impl Entry {
         ensures { entry_of result ≡ self.now }
     {
         EntryRef {
-            key: self.key.bytes(),
+            key: self.key.as_bytes(),
             format: self.format,
             rrn: self.rrn,
         }
@@ -49,7 +50,7 @@ pub(crate) fn compare(entry: &Entry, key: &[u8], format: u16, rrn: u32, falling:
     };
     entry
         .key
-        .bytes()
+        .as_bytes()
         .cmp(&key)
         .then(entry.format.cmp(&format).then(ties))
 }
@@ -68,11 +69,15 @@ pub fn are_in_order(entries: &[Entry], falling: bool) -> bool
 }
 
 /// Where the entry is, or where it would go.
-pub(crate) fn find(entries: &[Entry], entry: &EntryRef<'_>, falling: bool) -> Result<usize, usize>
-    requires { IsInOrder falling entries.now }
-    ensures within { IsSearchInRange result (length entries.now) }
-    ensures found { IfOk result (IsAt falling (entry_of entry.now) entries.now) }
-    ensures absent { IfErr result (IsGapFor falling (entry_of entry.now) entries.now) }
+pub(crate) fn find(
+    entries: &VecDeque<Entry>,
+    entry: &EntryRef<'_>,
+    falling: bool,
+) -> Result<usize, usize>
+    requires { IsInOrder falling entries.now.items }
+    ensures within { IsSearchInRange result (length entries.now.items) }
+    ensures found { IfOk result (IsAt falling (entry_of entry.now) entries.now.items) }
+    ensures absent { IfErr result (IsGapFor falling (entry_of entry.now) entries.now.items) }
 {
     let EntryRef { key, format, rrn } = *entry;
     entries.binary_search_by(|other| compare(other, key, format, rrn, falling))

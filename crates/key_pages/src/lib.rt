@@ -15,7 +15,7 @@ mod tests;
 
 pub use counting::Steps;
 pub use entries::{Entry, EntryRef, are_in_order};
-pub use keys::Key;
+pub use keys::{Key, OfKey};
 pub use laws::{insertion, one_order, removal, walk_backward, walk_forward};
 pub use list::Pages;
 pub use page::{FILLED_PAGE_ENTRIES, LEAST_PAGE_ENTRIES, MOST_PAGE_ENTRIES};

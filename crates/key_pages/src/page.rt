@@ -1,9 +1,11 @@
 //! One page of a list: a run of entries. `directory.rt` holds the pages of a list in order.
 
-ghost use Rattle.std.specs.Prelude.{◌≡◌, ◌+◌, ◌-◌, ◌<◌, ◌≤◌, [], ◌∷◌, ◌++◌, length, insert, remove, reverse, IfOk, slice_index_or, vec_len, vec_capacity};
+ghost use Rattle.std.specs.Prelude.{◌≡◌, ◌+◌, ◌-◌, ◌<◌, ◌≤◌, [], ◌∷◌, ◌++◌, length, insert, remove, IfOk, slice_index_or};
+ghost use Rattle.std.specs.VecDeque.{deque_len, deque_capacity};
 
 use crate::entries::Entry;
 use std::alloc::{AllocError, Global};
+use std::collections::VecDeque;
 use std::marker::Model;
 
 /// No page has more entries.
@@ -15,15 +17,16 @@ pub const LEAST_PAGE_ENTRIES: usize = 32;
 /// A page that is filled in order has so many, so that inserts find room in it.
 pub const FILLED_PAGE_ENTRIES: usize = 96;
 
-/// A run of entries with memory for `MOST_PAGE_ENTRIES`. It lies behind one pointer, so that few bytes move where a page
-/// comes between others.
+/// A run of entries with memory for `MOST_PAGE_ENTRIES`, in a ring, so that either end can move. It lies behind one
+/// pointer, so that few bytes move where a page comes between others.
 #[derive(Drop)]
 pub(crate) struct Page {
-    entries: Box<Vec<Entry>>,
+    entries: Box<VecDeque<Entry>>,
 }
 
 impl Model for Page {
-    ghost use Rattle.std.specs.Prelude.{List, ◌≤◌, vec_capacity};
+    ghost use Rattle.std.specs.Prelude.{List, ◌≤◌};
+    ghost use Rattle.std.specs.VecDeque.{deque_capacity};
     ghost use Rattle.key_pages.specs.declared.entries.Entry.{Entry};
     ghost use Rattle.key_pages.specs.declared.page.TheConstants.{MOST_PAGE_ENTRIES};
 
@@ -31,7 +34,7 @@ impl Model for Page {
 
     ghost view = { λ page. page.entries.value.items };
 
-    ghost invariant = { λ page. MOST_PAGE_ENTRIES ≤ vec_capacity page.entries.value };
+    ghost invariant = { λ page. MOST_PAGE_ENTRIES ≤ deque_capacity page.entries.value };
 }
 
 impl Page {
@@ -39,7 +42,7 @@ impl Page {
     pub(crate) fn new(alloc: Global) -> Result<Page, AllocError>
         ensures { IfOk result (λ page. page ≡ []) }
     {
-        let entries = Vec::with_capacity(alloc, MOST_PAGE_ENTRIES)?;
+        let entries = VecDeque::with_capacity(alloc, MOST_PAGE_ENTRIES)?;
         Ok(Page {
             entries: Box::new(alloc, entries)?,
         })
@@ -51,10 +54,10 @@ impl Page {
         self.entries.len()
     }
 
-    pub(crate) fn entries(&self) -> &[Entry]
-        ensures { result.now ≡ self.now }
+    pub(crate) fn entries(&self) -> &VecDeque<Entry>
+        ensures { result.now.items ≡ self.now }
     {
-        self.entries.as_slice()
+        &self.entries
     }
 
     pub(crate) fn first(&self) -> &Entry
@@ -68,7 +71,14 @@ impl Page {
         requires { length self.old < MOST_PAGE_ENTRIES }
         ensures { self.new ≡ self.old ++ entry ∷ [] }
     {
-        self.entries.push_reserved(entry);
+        self.entries.push_back_reserved(entry);
+    }
+
+    pub(crate) fn push_first(&mut self, entry: Entry)
+        requires { length self.old < MOST_PAGE_ENTRIES }
+        ensures { self.new ≡ entry ∷ self.old }
+    {
+        self.entries.push_front_reserved(entry);
     }
 
     pub(crate) fn insert(&mut self, place: usize, entry: Entry)
@@ -86,44 +96,58 @@ impl Page {
         ensures rest { self.new ≡ remove self.old place }
         ensures len { length self.new + 1 ≡ length self.old }
     {
-        self.entries.remove(place)
+        self.entries.remove(place).unwrap()
     }
 
-    /// Moves the entries from this place on to an empty page.
-    pub(crate) fn split(&mut self, place: usize, into: &mut Page)
-        requires within { place ≤ length self.old }
-        requires room { length self.old ≤ MOST_PAGE_ENTRIES }
-        requires empty { into.old ≡ [] }
-        ensures whole { self.new ++ into.new ≡ self.old }
-        ensures kept { length self.new ≡ place }
-        ensures moved { length into.new + place ≡ length self.old }
+    /// Moves so many of the last entries before those of the other page.
+    pub(crate) fn move_last(&mut self, count: usize, into: &mut Page)
+        requires within { count ≤ length self.old }
+        requires room { length into.old + count ≤ MOST_PAGE_ENTRIES }
+        ensures whole { self.new ++ into.new ≡ self.old ++ into.old }
+        ensures kept { length self.new + count ≡ length self.old }
+        ensures moved { length into.new ≡ length into.old + count }
     {
-        move_tail(&mut self.entries, place, &mut into.entries);
+        move_last(&mut self.entries, count, &mut into.entries);
     }
 
-    /// Moves all entries of the other page to the end of this one.
-    pub(crate) fn append(&mut self, other: &mut Page)
-        requires { length self.old + length other.old ≤ MOST_PAGE_ENTRIES }
-        ensures all { self.new ≡ self.old ++ other.old }
-        ensures len { length self.new ≡ length self.old + length other.old }
-        ensures none { other.new ≡ [] }
+    /// Moves so many of the first entries behind those of the other page.
+    pub(crate) fn move_first(&mut self, count: usize, into: &mut Page)
+        requires within { count ≤ length self.old }
+        requires room { length into.old + count ≤ MOST_PAGE_ENTRIES }
+        ensures whole { into.new ++ self.new ≡ into.old ++ self.old }
+        ensures kept { length self.new + count ≡ length self.old }
+        ensures moved { length into.new ≡ length into.old + count }
     {
-        self.entries.append(&mut other.entries).unwrap();
+        move_first(&mut self.entries, count, &mut into.entries);
     }
 }
 
-fn move_tail(from: &mut Vec<Entry>, place: usize, into: &mut Vec<Entry>)
-    requires within { place ≤ vec_len from.old }
-    requires room { vec_len from.old ≤ vec_capacity into.old }
-    requires empty { into.old.items ≡ [] }
-    ensures whole { from.new.items ++ into.new.items ≡ from.old.items }
-    ensures kept { vec_len from.new ≡ place }
-    ensures moved { vec_len into.new + place ≡ vec_len from.old }
-    ensures capacity { vec_capacity from.new ≡ vec_capacity from.old }
-    ensures into_capacity { vec_capacity into.new ≡ vec_capacity into.old }
+fn move_last(from: &mut VecDeque<Entry>, count: usize, into: &mut VecDeque<Entry>)
+    requires within { count ≤ deque_len from.old }
+    requires room { deque_len into.old + count ≤ deque_capacity into.old }
+    ensures whole { from.new.items ++ into.new.items ≡ from.old.items ++ into.old.items }
+    ensures kept { deque_len from.new + count ≡ deque_len from.old }
+    ensures moved { deque_len into.new ≡ deque_len into.old + count }
+    ensures capacity { deque_capacity from.new ≡ deque_capacity from.old }
+    ensures into_capacity { deque_capacity into.new ≡ deque_capacity into.old }
 {
-    while from.len() > place {
-        into.push_reserved(from.take_last());
+    for moved in 0..count {
+        let entry = from.pop_back().unwrap();
+        into.push_front_reserved(entry);
     }
-    into.reverse();
+}
+
+fn move_first(from: &mut VecDeque<Entry>, count: usize, into: &mut VecDeque<Entry>)
+    requires within { count ≤ deque_len from.old }
+    requires room { deque_len into.old + count ≤ deque_capacity into.old }
+    ensures whole { into.new.items ++ from.new.items ≡ into.old.items ++ from.old.items }
+    ensures kept { deque_len from.new + count ≡ deque_len from.old }
+    ensures moved { deque_len into.new ≡ deque_len into.old + count }
+    ensures capacity { deque_capacity from.new ≡ deque_capacity from.old }
+    ensures into_capacity { deque_capacity into.new ≡ deque_capacity into.old }
+{
+    for moved in 0..count {
+        let entry = from.pop_front().unwrap();
+        into.push_back_reserved(entry);
+    }
 }

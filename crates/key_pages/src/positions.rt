@@ -48,8 +48,8 @@ pub(crate) fn side<L: Ledger>(
         Position::Start => Ordering::Greater,
         Position::End => Ordering::Less,
         Position::On { key, format, rrn } => entries::compare(entry, key, format, rrn, falling),
-        Position::Before(part) => between(compare_part(entry.key.bytes(), part).is_lt()),
-        Position::Past(part) => between(compare_part(entry.key.bytes(), part).is_le()),
+        Position::Before(part) => between(compare_part(entry.key.as_bytes(), part).is_lt()),
+        Position::Past(part) => between(compare_part(entry.key.as_bytes(), part).is_le()),
     }
 }
 

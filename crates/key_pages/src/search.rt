@@ -12,21 +12,22 @@ use crate::entries::Entry;
 use crate::page::Page;
 use crate::positions::{self, Position};
 use std::cmp::Ordering;
+use std::collections::VecDeque;
 use std::sync::ledger::Ledger;
 
 /// How many entries lie before the position, or with `itself` also on it.
 pub(crate) fn place<L: Ledger>(
-    entries: &[Entry],
+    entries: &VecDeque<Entry>,
     falling: bool,
     from: &Position<'_>,
     itself: bool,
     steps: &mut Steps<L>,
 ) -> usize
-    requires { IsInOrder falling entries.now }
-    ensures within { result ≤ length entries.now }
-    ensures passed { AllWithin (λ entry. is_passed itself (side_of falling from.now entry) ≡ true) entries.now 0 result }
-    ensures ahead { AllWithin (λ entry. is_passed itself (side_of falling from.now entry) ≡ false) entries.now result (length entries.now) }
-    ensures cost { 2 ^ (steps.new - steps.old) ≤ 2 * length entries.now + 1 }
+    requires { IsInOrder falling entries.now.items }
+    ensures within { result ≤ length entries.now.items }
+    ensures passed { AllWithin (λ entry. is_passed itself (side_of falling from.now entry) ≡ true) entries.now.items 0 result }
+    ensures ahead { AllWithin (λ entry. is_passed itself (side_of falling from.now entry) ≡ false) entries.now.items result (length entries.now.items) }
+    ensures cost { 2 ^ (steps.new - steps.old) ≤ 2 * length entries.now.items + 1 }
     ensures rises { steps.old ≤ steps.new }
 {
     let mut low = 0;
@@ -45,17 +46,17 @@ pub(crate) fn place<L: Ledger>(
 
 /// How many pages begin before the position, or with `itself` also on it.
 pub(crate) fn begun<L: Ledger>(
-    pages: &[Page],
+    pages: &VecDeque<Page>,
     falling: bool,
     from: &Position<'_>,
     itself: bool,
     steps: &mut Steps<L>,
 ) -> usize
-    requires { All (λ page. 0 < length page) pages.now }
-    ensures within { result ≤ length pages.now }
-    ensures passed { 0 < result → begins_passed itself falling from.now (page_at pages.now (result - 1)) ≡ true }
-    ensures ahead { result < length pages.now → begins_passed itself falling from.now (page_at pages.now result) ≡ false }
-    ensures cost { 2 ^ (steps.new - steps.old) ≤ 2 * length pages.now + 1 }
+    requires { All (λ page. 0 < length page) pages.now.items }
+    ensures within { result ≤ length pages.now.items }
+    ensures passed { 0 < result → begins_passed itself falling from.now (page_at pages.now.items (result - 1)) ≡ true }
+    ensures ahead { result < length pages.now.items → begins_passed itself falling from.now (page_at pages.now.items result) ≡ false }
+    ensures cost { 2 ^ (steps.new - steps.old) ≤ 2 * length pages.now.items + 1 }
     ensures rises { steps.old ≤ steps.new }
 {
     let mut low = 0;

@@ -119,7 +119,7 @@ const TIES: [(bool, Position<'static>, u32, u32); 8] = [
 
 fn entry(alloc: Global, key: &[u8], format: u16, rrn: u32) -> Result<Entry, AllocError> {
     Ok(Entry {
-        key: Key::new(Vec::from_slice(alloc, key)?),
+        key: Key::from_slice(alloc, key)?,
         format,
         rrn,
     })
@@ -230,7 +230,7 @@ fn removals_hand_back_what_is_there(rt: HostRuntime) -> Result<(), Fail> {
             .is_none()
     );
     let removed = list.remove(&only.borrowed()).ok_or("removed")?;
-    assert_eq!(rt; removed.key.bytes(), b"A".as_slice());
+    assert_eq!(rt; removed.key.as_bytes(), b"A".as_slice());
     assert_eq!(rt; (removed.format, removed.rrn), (0, 3));
     expect_near(&rt, &list, &Position::Start, 0, 0);
     Ok(())

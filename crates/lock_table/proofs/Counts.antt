@@ -1,5 +1,5 @@
 -- How many locks are held once one more is, and others are not.
-use Rattle.std.proofs.Common.{◌≡◌, ℕ, ◌+◌, ◌-◌, ◌<◌, ◌≤◌, Bool, true, false, not, ◌&&◌, ◌==◌, cond, List, [], ◌∷◌, length, refl, sym, ap, ◌∙◌, suc, arith}
+use Rattle.std.proofs.Common.{◌≡◌, ℕ, ◌+◌, ◌-◌, ◌<◌, ◌≤◌, Bool, true, false, not, ◌==◌, cond, List, [], ◌∷◌, length, refl, sym, ap, ◌∙◌, suc, arith}
 use Rattle.std.specs.List.{filter, AllByRecursion, Contains}
 use Rattle.std.specs.List.Sorted.{IsStrictlySortedBy}
 use Rattle.std.specs.Ordering.{is_eq, match_ordering, nat_cmp}
@@ -15,10 +15,10 @@ use Rattle.lock_table.specs.declared.lock.Reach.TheVariants.{Open, Boundary}
 use Rattle.lock_table.specs.declared.lock.Holder.{Holder}
 use Rattle.lock_table.specs.declared.lock.RecordId.{RecordId}
 use Rattle.lock_table.specs.declared.lock.Lock.{Lock}
-use Rattle.lock_table.specs.Lock.{is_of_job, is_of_open, is_open, lock_by, lock_cmp}
+use Rattle.lock_table.specs.Lock.{is_of_open, is_open, lock_by, lock_cmp}
 use Rattle.lock_table.specs.Table.{Locks, IsTable, HasRoom, spare, with_item, with_lock, with_lock_by, without_lock, freed, after_read}
 use Rattle.lock_table.proofs.InOrder.{filter-with_item, with_item-there}
-use Rattle.lock_table.proofs.Kept.{filter-has, filter-swap, filter-wider, length-filter-≤, length-with_item}
+use Rattle.lock_table.proofs.Kept.{filter-has, filter-swap, length-filter-≤, length-with_item}
 use Rattle.lock_table.proofs.Locks.{lock_cmp-same, lock_cmp-total}
 use Rattle.lock_table.proofs.Releases.{freed-without_lock, length-without_lock}
 
@@ -58,18 +58,6 @@ own n = grind (arith, nat_tests)
 module _ (holder : Holder) (at : RecordId) (kind : LockKind) (held : List Lock) where
   own_open : is_of_open holder (lock_by holder at kind Open) ≡ true
   own_open = rw (own holder.job, own holder.opened) refl
-
-  older_job : (l : Lock) → is_of_open holder l ≡ true → is_of_job holder.job l ≡ true
-  older_job l = both (is_open l.reach) (l.job == holder.job) (l.opened == holder.opened)
-    where
-      both : (a b c : Bool) → (a && (b && c)) ≡ true → (a && b) ≡ true
-      both true true c h = refl
-      both true false c h = h
-      both false b c h = h
-
-  -- the locks of the open are found among those of the job
-  pub older-found : (run : List Lock) (older : ℕ) → run ≡ filter (is_of_job holder.job) held → older ≡ length (filter (is_of_open holder) run) → older ≡ length (filter (is_of_open holder) held)
-  older-found run older is o = o ∙ ap (λ xs. length (filter (is_of_open holder) xs)) is ∙ ap length (filter-wider (is_of_open holder) (is_of_job holder.job) older_job held)
 
   module _ (older : ℕ) (o : older ≡ length (filter (is_of_open holder) held)) where
     pub older-≤ : older ≤ length held

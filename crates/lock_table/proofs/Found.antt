@@ -1,26 +1,26 @@
 -- What is found among the locks of a part, and which job is the least.
-use Rattle.std.proofs.Common.{Bor, ◌≡◌, ℕ, ◌<◌, ◌≤◌, Bool, true, false, not, ◌&&◌, ◌||◌, ◌==◌, cond, min, Option, None, Some, is_some, List, [], ◌∷◌, ◌++◌, length, get_or, refl, sym, ap, ◌∙◌, zero, suc, arith, subst}
+use Rattle.std.proofs.Common.{◌≡◌, ℕ, ◌+◌, ◌<◌, ◌≤◌, nat_le, Bool, true, false, not, ◌&&◌, ◌||◌, ◌==◌, cond, min, Option, None, Some, is_some, List, [], ◌∷◌, length, get_or, refl, sym, ap, ◌∙◌, zero, suc, arith, subst}
 use Rattle.std.specs.Prelude.{IfSome, IfNone}
-use Rattle.std.specs.List.{slice_get, filter, find, All, AllByRecursion, Contains, list_any}
+use Rattle.std.specs.List.{filter, find, All, AllByRecursion, Contains, list_any}
 use Rattle.std.specs.List.Sorted.{IsStrictlySortedBy}
-use Rattle.std.specs.Option.{option_map_or, option_copied}
+use Rattle.std.specs.Option.{option_map_or}
 use Rattle.std.specs.Ordering.{nat_cmp, ordering_then}
 use Rattle.std.specs.declared.cmp.Ordering.{Ordering}
 use Rattle.std.specs.declared.cmp.Ordering.TheVariants.{Less}
 use Rattle.std.proofs.lemmas.Bool.Decides.{nat_tests}
-use Rattle.std.proofs.lemmas.List.Elements.{All-from_recursion, All-weaker}
+use Rattle.std.proofs.lemmas.List.Elements.{All-from_recursion, All-weaker, filter_agree}
 use Rattle.lock_table.specs.declared.lock.LockKind.{LockKind}
 use Rattle.lock_table.specs.declared.lock.Holder.{Holder}
 use Rattle.lock_table.specs.declared.lock.RecordId.{RecordId}
 use Rattle.lock_table.specs.declared.lock.Lock.{Lock}
 use Rattle.lock_table.specs.declared.lock.Reach.TheVariants.{Open, Boundary}
-use Rattle.lock_table.specs.declared.part.Part.TheVariants.{InMember, OnRecord}
-use Rattle.lock_table.specs.Lock.{Clashes, are_apart, blocks, is_boundary_in, is_by, is_in, is_of_job, is_of_open, is_of_open_on, is_on, is_open, lock_cmp}
+use Rattle.lock_table.specs.declared.part.Part.TheVariants.{InMember, OnRecord, Reaching}
+use Rattle.lock_table.specs.Lock.{Clashes, are_apart, blocks, is_boundary_in, is_by, is_in, is_of_group_on, is_of_open, is_of_open_on, is_on, is_open, lock_cmp}
 use Rattle.lock_table.specs.Table.{IsOneOf, least_job, blocker}
-use Rattle.lock_table.specs.Index.{IsBehind, is_part}
-use Rattle.lock_table.proofs.InOrder.{each-filter}
-use Rattle.lock_table.proofs.Kept.{filter-none, list_any-filter}
-use Rattle.lock_table.proofs.Locks.{is_part-kept, is_part-member, is_part-record}
+use Rattle.lock_table.specs.Index.{is_part}
+use Rattle.lock_table.proofs.Kept.{filter-filter, filter-none, list_any-filter}
+use Rattle.lock_table.proofs.Locks.{is_part-kept, is_part-member, is_part-open, is_part-record}
+use Rattle.lock_table.proofs.Sides.{each_map}
 
 or_or : (a b c d : Bool) → ((a || b) || (c || d)) ≡ ((a || c) || (b || d))
 or_or true b c d = refl
@@ -73,20 +73,6 @@ module _ {X : Type 0} where
       ∙ ap (λ b. list_any (λ x. p x && t x) xs || b) (list_any-filter q t xs)
       ∙ list_any-or (λ x. p x && t x) (λ x. q x && t x) xs
       ∙ list_any-agree (λ x. (p x && t x) || (q x && t x)) s same xs
-
-  not_empty : (x : X) (xs : List X) → not (length (x ∷ xs) == 0) ≡ true
-  not_empty x xs = grind (arith, nat_tests)
-
-  pub list_any-not_empty : (p : X → Bool) (xs : List X) → not (length (filter p xs) == 0) ≡ list_any p xs
-  list_any-not_empty p [] = refl
-  list_any-not_empty p (x ∷ xs) = elim (p x) as (λ b. not (length (cond b (x ∷ filter p xs) (filter p xs)) == 0) ≡ (b || list_any p xs)) [ true ↦ not_empty x (filter p xs) | false ↦ list_any-not_empty p xs ]
-
-  pub some_kept : (p s : X → Bool) → ((x : X) → p x ≡ s x) → (xs ys : List X) → ys ≡ filter p xs → not (length ys == 0) ≡ list_any s xs
-  some_kept p s same xs ys is = ap (λ zs. not (length zs == 0)) is ∙ list_any-not_empty p xs ∙ list_any-agree p s same xs
-
-  some_copied : (found : Option (Bor X)) → is_some found ≡ is_some (option_copied found)
-  some_copied None = refl
-  some_copied (Some x) = refl
 
 -- ---- what a look in a part answers, where a wider test says what is looked for
 module _ (q t s : Lock → Bool) (same : (l : Lock) → (q l && t l) ≡ s l) (held locks : List Lock) (found : Option Lock) (run : locks ≡ filter q held) (h : found ≡ find t locks) where
@@ -163,53 +149,103 @@ pub first_lowest : (lock : Lock) (locks : List Lock) → IsStrictlySortedBy lock
 unfolding IsStrictlySortedBy
 first_lowest lock locks s = (omega arith, jobs_rise lock locks s.0)
 
-is_false : (a b : Bool) → (a && b) ≡ false → b ≡ true → a ≡ false
-is_false true b h k = absurd (let e : b ≡ false = h in cc)
-is_false false b h k = refl
+-- ---- the jobs in turn: those before this one have no lock that passes
+abbrev pub NoneBefore : (Lock → Bool) → ℕ → List Lock → Type 0
+NoneBefore t from held = AllByRecursion (λ l. t l ≡ true → from ≤ l.job) held
+
+pub NoneBefore-start : (t : Lock → Bool) (held : List Lock) → NoneBefore t 0 held
+NoneBefore-start t [] = tt
+NoneBefore-start t (x ∷ xs) = (λ h. omega arith, NoneBefore-start t xs)
+
+is_from : (j x : ℕ) → nat_le j x ≡ true → j ≤ x
+is_from j x h = grind (arith, nat_tests)
+
+is_not_from : (j x : ℕ) → nat_le j x ≡ false → x < j
+is_not_from j x h = grind (arith, nat_tests)
+
+-- the job that a search finds, and none lower from there on
+pub record IsNext (from : ℕ) (job : ℕ) (held : List Lock) : Type 0 where
+  pub least : from ≤ job
+  pub lower : AllByRecursion (λ l. from ≤ l.job → job ≤ l.job) held
+
+pub next-found : (from : ℕ) (held : List Lock) (first : Lock) → IsStrictlySortedBy lock_cmp held → find (λ l. nat_le from l.job) held ≡ Some first → IsNext from first.job held
+unfolding IsStrictlySortedBy
+next-found from [] first s h = absurd (cc)
+next-found from (x ∷ xs) first s found =
+    elim (nat_le from x.job) as (λ b. nat_le from x.job ≡ b → cond b (Some x) (find (λ l. nat_le from l.job) xs) ≡ Some first → IsNext from first.job (x ∷ xs)) [
+      | true ↦ λ e h.
+          let same : x ≡ first = cc in
+          subst (λ (l : Lock). IsNext from l.job (x ∷ xs)) same
+          (record {
+            least = is_from from x.job e;
+            lower = each_map (λ l. x.job ≤ l.job) (λ l. from ≤ l.job → x.job ≤ l.job) (λ l k m. k) (x ∷ xs) (first_lowest x xs s);
+          })
+      | false ↦ λ e h.
+          let more : IsNext from first.job xs = next-found from xs first s.1 h in
+          let out : x.job < from = is_not_from from x.job e in
+          record { least = more.least; lower = (λ m. absurd (omega arith), more.lower) }
+    ] refl found
+
+-- what a filter keeps passes, and has what a lock that passes has
+each_kept : (t : Lock → Bool) (P : Lock → Type 0) (xs : List Lock) → AllByRecursion (λ l. t l ≡ true → P l) xs → AllByRecursion P (filter t xs)
+each_kept t P [] h = tt
+each_kept t P (x ∷ xs) h =
+    elim (t x) as (λ b. (b ≡ true → P x) → AllByRecursion P (cond b (x ∷ filter t xs) (filter t xs))) [
+      | true ↦ λ k. (k refl, each_kept t P xs h.1)
+      | false ↦ λ k. each_kept t P xs h.1
+    ] h.0
+
+each_both : (P Q S : Lock → Type 0) → ((l : Lock) → P l → Q l → S l) → (xs : List Lock) → AllByRecursion P xs → AllByRecursion Q xs → AllByRecursion S xs
+each_both P Q S f [] h k = tt
+each_both P Q S f (x ∷ xs) h k = (f x h.0 k.0, each_both P Q S f xs h.1 k.1)
 
 or_false : (a b : Bool) → (a || b) ≡ false → (a ≡ false) × (b ≡ false)
 or_false true b h = absurd (cc)
 or_false false b h = (refl, h)
 
-number_same : (x j : ℕ) → x ≤ j → j ≤ x → (x == j) ≡ true
-number_same x j h k = grind (arith, nat_tests)
+other_job : (p : Bool) (j x : ℕ) → (p && (x == j)) ≡ false → p ≡ true → j ≤ x → j + 1 ≤ x
+other_job p j x h e k = grind (arith, nat_tests)
 
--- the locks of a job are passed over, of which none passes
-skipped : (t : Lock → Bool) (j : ℕ) (before left : List Lock) → AllByRecursion (λ l. l.job ≤ j) before → AllByRecursion (λ l. j ≤ l.job) (before ++ left) → list_any (λ l. t l && is_by j l) (before ++ left) ≡ false → filter t (before ++ left) ≡ filter t left
-skipped t j [] left upto from none = refl
-skipped t j (lock ∷ before) left upto from none =
-    let parts = or_false (t lock && is_by j lock) (list_any (λ l. t l && is_by j l) (before ++ left)) none in
-    let out : t lock ≡ false = is_false (t lock) (is_by j lock) parts.0 (number_same lock.job j upto.0 from.0) in
-    rw out (skipped t j before left upto.1 from.1 parts.1)
+each_out_of : (t : Lock → Bool) (xs : List Lock) → list_any t xs ≡ false → AllByRecursion (λ l. t l ≡ false) xs
+each_out_of t [] h = tt
+each_out_of t (x ∷ xs) h = let parts = or_false (t x) (list_any t xs) h in (parts.0, each_out_of t xs parts.1)
 
-first_of : (locks : List Lock) (lock : Lock) → slice_get locks 0 ≡ Some lock → (others : List Lock) × (locks ≡ lock ∷ others)
-first_of [] lock h = absurd (cc)
-first_of (first ∷ others) lock h = (others, (let same : first ≡ lock = cc in ap (λ l. l ∷ others) same))
+none_from : (from : ℕ) (xs : List Lock) → find (λ l. nat_le from l.job) xs ≡ None → AllByRecursion (λ l. l.job < from) xs
+none_from from [] h = tt
+none_from from (x ∷ xs) found =
+    elim (nat_le from x.job) as (λ b. nat_le from x.job ≡ b → cond b (Some x) (find (λ l. nat_le from l.job) xs) ≡ None → AllByRecursion (λ l. l.job < from) (x ∷ xs)) [
+      | true ↦ λ e h. absurd (cc)
+      | false ↦ λ e h. (is_not_from from x.job e, none_from from xs h)
+    ] refl found
 
-module _ (t : Lock → Bool) (rest : List Lock) (first : Lock) (s : IsStrictlySortedBy lock_cmp rest) (at : slice_get rest 0 ≡ Some first) where
-  from_first : AllByRecursion (λ l. first.job ≤ l.job) rest
-  from_first = let o = first_of rest first at in subst (AllByRecursion (λ l. first.job ≤ l.job)) (sym o.1) (first_lowest first o.0 (subst (IsStrictlySortedBy lock_cmp) o.1 s))
+kept_none : (t : Lock → Bool) (from : ℕ) (xs : List Lock) → NoneBefore t from xs → AllByRecursion (λ l. l.job < from) xs → filter t xs ≡ []
+kept_none t from [] h k = refl
+kept_none t from (x ∷ xs) h k =
+    elim (t x) as (λ b. (b ≡ true → from ≤ x.job) → cond b (x ∷ filter t xs) (filter t xs) ≡ []) [
+      | true ↦ λ m. absurd (let le : from ≤ x.job = m refl in omega (arith, k.0))
+      | false ↦ λ m. kept_none t from xs h.1 k.1
+    ] h.0
 
-  pub least_job-here : list_any (λ l. t l && is_by first.job l) rest ≡ true → least_job (filter t rest) ≡ Some first.job
-  least_job-here some = one_lowest first.job (filter t rest) (each-filter (λ l. first.job ≤ l.job) t rest from_first) (list_any-filter t (is_by first.job) rest ∙ some)
+module _ (t : Lock → Bool) (from : ℕ) (held : List Lock) (s : IsStrictlySortedBy lock_cmp held) (before : NoneBefore t from held) where
+  module _ (first : Lock) (found : find (λ l. nat_le from l.job) held ≡ Some first) where
+    passing : AllByRecursion (λ l. t l ≡ true → first.job ≤ l.job) held
+    passing =
+        each_both (λ l. t l ≡ true → from ≤ l.job) (λ l. from ≤ l.job → first.job ≤ l.job) (λ l. t l ≡ true → first.job ≤ l.job)
+        (λ l h k e. k (h e)) held before (next-found from held first s found).lower
 
-  module _ (left : List Lock) (b : IsBehind first.job rest left) where
-    pub least_job-behind : list_any (λ l. t l && is_by first.job l) rest ≡ false → least_job (filter t left) ≡ least_job (filter t rest)
-    least_job-behind none =
-        let is : rest ≡ b.split.0 ++ left = b.split.1 in
-        sym
-        (ap (λ xs. least_job (filter t xs)) is
-        ∙ ap least_job
-        (skipped t first.job b.split.0 left b.split.2
-        (subst (AllByRecursion (λ l. first.job ≤ l.job)) is from_first)
-        (sym (ap (list_any (λ l. t l && is_by first.job l)) is) ∙ none)))
+    pub next_least : from ≤ first.job
+    next_least = (next-found from held first s found).least
 
-    pub length-behind : length left < length rest
-    length-behind = let o = first_of rest first at in b.fewer first o.0 o.1 (omega arith)
+    pub least_job-here : list_any (λ l. t l && is_by first.job l) held ≡ true → least_job (filter t held) ≡ Some first.job
+    least_job-here some = one_lowest first.job (filter t held) (each_kept t (λ l. first.job ≤ l.job) held passing) (list_any-filter t (is_by first.job) held ∙ some)
 
-pub least_job-empty : (t : Lock → Bool) (rest : List Lock) → slice_get rest 0 ≡ None → least_job (filter t rest) ≡ None
-least_job-empty t [] h = refl
-least_job-empty t (lock ∷ rest) h = absurd (cc)
+    pub NoneBefore-next : list_any (λ l. t l && is_by first.job l) held ≡ false → NoneBefore t (first.job + 1) held
+    NoneBefore-next none =
+        each_both (λ l. t l ≡ true → first.job ≤ l.job) (λ l. (t l && is_by first.job l) ≡ false) (λ l. t l ≡ true → first.job + 1 ≤ l.job)
+        (λ l h k e. other_job (t l) first.job l.job k e (h e)) held passing (each_out_of (λ l. t l && is_by first.job l) held none)
+
+  pub least_job-none : find (λ l. nat_le from l.job) held ≡ None → least_job (filter t held) ≡ None
+  least_job-none found = ap least_job (kept_none t from held before (none_from from held found))
 
 -- ---- nobody blocks: no lock clashes
 none_least : (locks : List Lock) → least_job locks ≡ None → locks ≡ []
@@ -285,31 +321,42 @@ module _ (other : ℕ) (at : RecordId) (kind : LockKind) (locks first_run kept :
     pub stands-second : first ≡ false → (second : Bool) → second ≡ list_any (λ l. are_apart l.kind kind) kept → second ≡ list_any (λ l. is_on at l && (is_by other l && are_apart l.kind kind)) locks
     stands-second h second s = let e : list_any apart first_run ≡ false = sym f ∙ h in s ∙ sym (ap (λ b. b || list_any apart kept) e) ∙ both_reaches
 
--- the same of a job's boundary locks in a member
-pub keeps-in : (job member : ℕ) (locks run : List Lock) → run ≡ filter (is_part (InMember job Boundary member)) locks → not (length run == 0) ≡ list_any (λ l. is_boundary_in member l && is_by job l) locks
-keeps-in job member locks run is =
-    some_kept (is_part (InMember job Boundary member)) (λ l. is_boundary_in member l && is_by job l)
-    (λ l. is_part-member job l member ∙ and_and (is_in member l) (not (is_open l.reach)) (is_by job l)) locks run is
+-- ---- what is found in a part is what a narrower test finds in all
+and_true : (a : Bool) → (a && true) ≡ a
+and_true true = refl
+and_true false = refl
+
+-- a job's boundary locks in a member
+pub keeps-in : (job member : ℕ) (l : Lock) → (is_part (InMember job Boundary member) l && true) ≡ (is_boundary_in member l && is_by job l)
+keeps-in job member l = and_true (is_part (InMember job Boundary member) l) ∙ is_part-member job l member ∙ and_and (is_in member l) (not (is_open l.reach)) (is_by job l)
   where
     and_and : (a b c : Bool) → (a && (b && c)) ≡ ((a && b) && c)
     and_and true b c = refl
     and_and false b c = refl
 
--- the locks of an open are among those of its job
+-- a job's boundary locks on a record
+pub keeps-on : (job : ℕ) (at : RecordId) (l : Lock) → (is_part (OnRecord job Boundary at) l && true) ≡ is_of_group_on job at l
+keeps-on job at l = and_true (is_part (OnRecord job Boundary at) l) ∙ is_part-kept job l at
+
+-- the locks of an open, and those on a record
 module _ (holder : Holder) where
-  narrow : (a b c : Bool) → ((a && b) && (a && (b && c))) ≡ (a && (b && c))
-  narrow true true c = refl
-  narrow true false c = refl
+  narrow : (a b c : Bool) → ((a && b) && c) ≡ (a && (b && c))
+  narrow true b c = refl
   narrow false b c = refl
 
-  narrow_on : (on a b c : Bool) → ((a && b) && (on && (a && (b && c)))) ≡ (on && (a && (b && c)))
+  narrow_on : (on a b c : Bool) → ((on && (a && b)) && c) ≡ (on && (a && (b && c)))
   narrow_on true a b c = narrow a b c
-  narrow_on false true true c = refl
-  narrow_on false true false c = refl
-  narrow_on false false b c = refl
+  narrow_on false a b c = refl
 
-  pub job-open : (l : Lock) → (is_of_job holder.job l && is_of_open holder l) ≡ is_of_open holder l
-  job-open l = narrow (is_open l.reach) (is_by holder.job l) (l.opened == holder.opened)
+  pub part-open : (l : Lock) → (is_part (Reaching holder.job Open) l && (l.opened == holder.opened)) ≡ is_of_open holder l
+  part-open l = ap (λ b. b && (l.opened == holder.opened)) (is_part-open holder.job l) ∙ narrow (is_open l.reach) (is_by holder.job l) (l.opened == holder.opened)
 
-  pub job-open_on : (at : RecordId) (l : Lock) → (is_of_job holder.job l && is_of_open_on holder at l) ≡ is_of_open_on holder at l
-  job-open_on at l = narrow_on (is_on at l) (is_open l.reach) (is_by holder.job l) (l.opened == holder.opened)
+  pub part-open_on : (at : RecordId) (l : Lock) → (is_part (OnRecord holder.job Open at) l && (l.opened == holder.opened)) ≡ is_of_open_on holder at l
+  part-open_on at l = ap (λ b. b && (l.opened == holder.opened)) (is_part-record holder.job l at) ∙ narrow_on (is_on at l) (is_open l.reach) (is_by holder.job l) (l.opened == holder.opened)
+
+  -- how many locks an open has
+  pub count-open_part : (held : List Lock) → length (filter (λ l. l.opened == holder.opened) (filter (is_part (Reaching holder.job Open)) held)) ≡ length (filter (is_of_open holder) held)
+  count-open_part held =
+      ap length
+      (filter-filter (is_part (Reaching holder.job Open)) (λ l. l.opened == holder.opened) held
+      ∙ filter_agree (λ l. is_part (Reaching holder.job Open) l && (l.opened == holder.opened)) (is_of_open holder) part-open held)

@@ -14,7 +14,7 @@ module _ {X : Type 0} {R : X → X → Ordering} (o : IsTotalOrder R) where
   pub Greater-back : (x y : X) → R x y ≡ Less → R y x ≡ Greater
   Greater-back x y h = o.antisymm y x ∙ ap ordering_reverse h
 
-  Less-back : (x y : X) → R x y ≡ Greater → R y x ≡ Less
+  pub Less-back : (x y : X) → R x y ≡ Greater → R y x ≡ Less
   Less-back x y h = o.antisymm y x ∙ ap ordering_reverse h
 
   -- where a search says that the item belongs

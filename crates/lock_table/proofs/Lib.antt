@@ -1,9 +1,8 @@
 pub mod InOrder
+pub mod Sides
 pub mod Kept
 pub mod Locks
-pub mod Searched
-pub mod Runs
-pub mod Orders
+pub mod Nodes
 pub mod Found
 pub mod Releases
 pub mod Stored

@@ -2,3 +2,4 @@ pub mod Lock
 pub mod Table
 pub mod Index
 pub mod Levels
+pub mod Tree

@@ -12,6 +12,7 @@ mod sorted;
 mod table;
 #[cfg(test)]
 mod tests;
+mod tree;
 
 pub use commit_level::Level;
 pub use fault::{InUse, LockFault};

@@ -1,109 +1,137 @@
-//! Lists of locks in strict order: where a lock is put in, where it is taken out, and where a part of the list stands.
+//! Trees of locks in strict order: where a lock is put in, where it is taken out, and where a part of them is taken out.
+ghost use Rattle.std.specs.List.{AllByRecursion};
 ghost use Rattle.std.specs.List.Sorted.{IsStrictlySortedBy};
-ghost use Rattle.std.specs.Ordering.{is_eq, is_lt, is_le};
-ghost use Rattle.std.specs.declared.cmp.Ordering.{Ordering};
-ghost use Rattle.std.specs.Prelude.{◌≡◌, ◌≤◌, ◌+◌, Bool, IfOk, IfErr, length, not, filter, if◌then◌else◌, vec_len, vec_capacity};
+ghost use Rattle.std.specs.Prelude.{◌≡◌, ◌≤◌, ◌+◌, ◌++◌, true, false, length, is_some, if◌then◌else◌, vec_len, vec_capacity};
 ghost use Rattle.lock_table.specs.Lock.{lock_cmp};
 ghost use Rattle.lock_table.specs.Table.{freed, with_lock, without_lock};
-ghost use Rattle.lock_table.specs.Index.{IsBehind, IsFound, IsMissing, IsRun, is_part, part_cmp};
+ghost use Rattle.lock_table.specs.Index.{is_ahead, is_part, part_cmp};
 
+use crate::chosen::{is_there, order};
 use crate::lock::Lock;
 use crate::part::Part;
+use crate::tree::{LockTree, Node, Top, appended, balanced, drained, joined, leaf};
+use std::cmp::Ordering;
+use std::mem;
 
-/// Puts the lock in its place, unless it is there. There is room for what is then held, so no memory is taken.
-pub fn put_lock(locks: &mut Vec<Lock>, lock: Lock)
-    requires ordered { IsStrictlySortedBy lock_cmp locks.old.items }
-    requires room { length (with_lock lock locks.old.items) ≤ vec_capacity locks.old }
-    ensures items { locks.new.items ≡ with_lock lock locks.old.items }
-    ensures capacity { vec_capacity locks.new ≡ vec_capacity locks.old }
+/// Puts the lock in its place, unless it is there. There is a free node for it, so no memory is taken.
+pub fn put_lock(locks: &mut LockTree, free: &mut Vec<Box<Node>>, lock: Lock)
+    requires ordered { IsStrictlySortedBy lock_cmp locks.old }
+    requires room { length (with_lock lock locks.old) ≤ length locks.old + vec_len free.old }
+    ensures locks { locks.new ≡ with_lock lock locks.old }
+    ensures nodes { length locks.new + vec_len free.new ≡ length locks.old + vec_len free.old }
+    ensures capacity { vec_capacity free.new ≡ vec_capacity free.old }
 {
-    if let Err(place) = lock_place(locks, &lock) {
-        match locks.insert(place, lock) {
-            Ok(()) => {}
-            Err(_) => unreachable!(),
+    if is_there(locks, &lock) {
+        return;
+    }
+    let node = free.take_last();
+    let tree = mem::replace(locks, LockTree::new());
+    *locks = inserted(tree, lock, node);
+}
+
+// The lock isn't there yet.
+fn inserted(tree: LockTree, lock: Lock, node: Box<Node>) -> LockTree
+    requires ordered { IsStrictlySortedBy lock_cmp tree }
+    requires missing { length (with_lock lock tree) ≡ length tree + 1 }
+    ensures { result ≡ with_lock lock tree }
+{
+    match tree.top {
+        Top::Empty => leaf(node, lock),
+        Top::At(mut top) => {
+            if order(&lock, &top.lock).is_lt() {
+                let left = mem::replace(&mut top.left, LockTree::new());
+                top.left = inserted(left, lock, node);
+                balanced(top)
+            } else {
+                let right = mem::replace(&mut top.right, LockTree::new());
+                top.right = inserted(right, lock, node);
+                balanced(top)
+            }
         }
     }
 }
 
-/// Takes the lock out, where it is there.
-pub fn take_lock(locks: &mut Vec<Lock>, lock: &Lock)
-    requires { IsStrictlySortedBy lock_cmp locks.old.items }
-    ensures items { locks.new.items ≡ without_lock lock.now locks.old.items }
-    ensures capacity { vec_capacity locks.new ≡ vec_capacity locks.old }
+/// Takes the lock out, where it is there. Its node is free then.
+pub fn take_lock(locks: &mut LockTree, free: &mut Vec<Box<Node>>, lock: &Lock)
+    requires ordered { IsStrictlySortedBy lock_cmp locks.old }
+    requires stored { length locks.old + vec_len free.old ≤ vec_capacity free.old }
+    ensures locks { locks.new ≡ without_lock lock.now locks.old }
+    ensures nodes { length locks.new + vec_len free.new ≡ length locks.old + vec_len free.old }
+    ensures capacity { vec_capacity free.new ≡ vec_capacity free.old }
 {
-    if let Ok(place) = lock_place(locks, lock) {
-        locks.remove(place);
+    let tree = mem::replace(locks, LockTree::new());
+    let (left, node) = removed(tree, lock);
+    *locks = left;
+    if let Some(node) = node {
+        free.push_reserved(node);
     }
 }
 
-/// Whether the lock is there.
-pub fn is_there(locks: &[Lock], lock: &Lock) -> bool
-    requires { IsStrictlySortedBy lock_cmp locks.now }
-    ensures with_it { length (with_lock lock.now locks.now) ≡ length locks.now + (if result then 0 else 1) }
-    ensures without_it { length (without_lock lock.now locks.now) + (if result then 1 else 0) ≡ length locks.now }
+fn removed(tree: LockTree, lock: &Lock) -> (LockTree, Option<Box<Node>>)
+    requires { IsStrictlySortedBy lock_cmp tree }
+    ensures locks { result.0 ≡ without_lock lock.now tree }
+    ensures node { length result.0 + (if is_some result.1 then 1 else 0) ≡ length tree }
 {
-    match lock_place(locks, lock) {
-        Ok(_) => true,
-        Err(_) => false,
+    match tree.top {
+        Top::Empty => (LockTree::new(), None),
+        Top::At(mut top) => {
+            let left = mem::replace(&mut top.left, LockTree::new());
+            let right = mem::replace(&mut top.right, LockTree::new());
+            match order(lock, &top.lock) {
+                Ordering::Less => {
+                    let (left, node) = removed(left, lock);
+                    (joined(left, top, right), node)
+                }
+                Ordering::Equal => (appended(left, right), Some(top)),
+                Ordering::Greater => {
+                    let (right, node) = removed(right, lock);
+                    (joined(left, top, right), node)
+                }
+            }
+        }
     }
 }
 
-// Where the lock stands, or where it belongs.
-fn lock_place(locks: &[Lock], lock: &Lock) -> Result<usize, usize>
-    requires { IsStrictlySortedBy lock_cmp locks.now }
-    ensures found { IfOk result (IsFound lock_cmp lock.now locks.now) }
-    ensures missing { IfErr result (IsMissing lock_cmp lock.now locks.now) }
+/// Takes the locks of a part out. Their nodes are free then.
+pub fn take_locks(locks: &mut LockTree, free: &mut Vec<Box<Node>>, part: Part)
+    requires ordered { IsStrictlySortedBy lock_cmp locks.old }
+    requires stored { length locks.old + vec_len free.old ≤ vec_capacity free.old }
+    ensures locks { locks.new ≡ freed (is_part part) locks.old }
+    ensures nodes { length locks.new + vec_len free.new ≡ length locks.old + vec_len free.old }
+    ensures capacity { vec_capacity free.new ≡ vec_capacity free.old }
 {
-    place_of(locks, lock)
+    let tree = mem::replace(locks, LockTree::new());
+    let (before, rest) = parted(tree, part, false);
+    let (run, after) = parted(rest, part, true);
+    *locks = appended(before, after);
+    drained(run, free);
 }
 
-// The clauses speak of any order that answers as the items' own.
-fn place_of<T: Ord>(items: &[T], item: &T) -> Result<usize, usize>
-    requires { IsStrictlySortedBy T.cmp items.now }
-    ensures found { (R : T → T → Ordering) → ((a b : T) → T.cmp a b ≡ R a b) → IfOk result (IsFound R item.now items.now) }
-    ensures missing { (R : T → T → Ordering) → ((a b : T) → T.cmp a b ≡ R a b) → IfErr result (IsMissing R item.now items.now) }
+// The locks before the part, or with `itself` also those in it, and the other ones.
+fn parted(tree: LockTree, part: Part, itself: bool) -> (LockTree, LockTree)
+    requires { IsStrictlySortedBy lock_cmp tree }
+    ensures whole { tree ≡ result.0 ++ result.1 }
+    ensures ahead { AllByRecursion (λ lock. is_ahead itself (part_cmp part lock) ≡ true) result.0 }
+    ensures behind { AllByRecursion (λ lock. is_ahead itself (part_cmp part lock) ≡ false) result.1 }
 {
-    match items.binary_search(item) {
-        Ok(place) => Ok(place),
-        Err(place) => Err(place),
+    match tree.top {
+        Top::Empty => (LockTree::new(), LockTree::new()),
+        Top::At(mut top) => {
+            let left = mem::replace(&mut top.left, LockTree::new());
+            let right = mem::replace(&mut top.right, LockTree::new());
+            if is_ahead(part.side_of(&top.lock), itself) {
+                let (ahead, behind) = parted(right, part, itself);
+                (joined(left, top, ahead), behind)
+            } else {
+                let (ahead, behind) = parted(left, part, itself);
+                (ahead, joined(behind, top, right))
+            }
+        }
     }
 }
 
-/// The locks of a part, which stand side by side.
-pub fn locks_of(locks: &[Lock], part: Part) -> &[Lock]
-    requires { IsStrictlySortedBy lock_cmp locks.now }
-    ensures { result.now ≡ filter (is_part part) locks.now }
+fn is_ahead(side: Ordering, itself: bool) -> bool
+    ensures { result ≡ is_ahead itself side }
 {
-    let (start, end) = run_of(locks, part);
-    &locks[start..end]
-}
-
-/// Takes the locks of a part out, at once.
-pub fn take_locks(locks: &mut Vec<Lock>, part: Part)
-    requires { IsStrictlySortedBy lock_cmp locks.old.items }
-    ensures items { locks.new.items ≡ freed (is_part part) locks.old.items }
-    ensures capacity { vec_capacity locks.new ≡ vec_capacity locks.old }
-{
-    let (start, end) = run_of(locks, part);
-    let left = locks.len() - (end - start);
-    locks.copy_within(end.., start);
-    locks.truncate(left);
-}
-
-fn run_of(locks: &[Lock], part: Part) -> (usize, usize)
-    requires { IsStrictlySortedBy lock_cmp locks.now }
-    ensures { IsRun (is_part part) locks.now result.0 result.1 }
-{
-    let start = locks.partition_point(|lock| part.side_of(lock).is_lt());
-    let end = locks.partition_point(|lock| part.side_of(lock).is_le());
-    (start, end)
-}
-
-/// The locks behind those of a job, where those before are of no greater job.
-pub fn locks_behind(locks: &[Lock], job: u32) -> &[Lock]
-    requires { IsStrictlySortedBy lock_cmp locks.now }
-    ensures { IsBehind job locks.now result.now }
-{
-    let end = locks.partition_point(|lock| lock.job <= job);
-    &locks[end..]
+    if itself { side.is_le() } else { side.is_lt() }
 }

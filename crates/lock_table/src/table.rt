@@ -1,5 +1,6 @@
 //! The table of all record locks: one list in order, where those of a job stand side by side, its open locks before its
-//! boundary locks. The searches in the list are in sorted.rt and chosen.rt.
+//! boundary locks. It is kept as a tree (tree.rt), so that no lock moves for another one. The searches in it are in
+//! sorted.rt and chosen.rt.
 ghost use Rattle.std.specs.List.{All, Contains, list_any};
 ghost use Rattle.std.specs.Prelude.{true, false, ◌≡◌, ℕ, ◌+◌, ◌<◌, ◌≤◌, ◌==◌, ◌↔◌, Bool, Option, IsOk, IsErrOf, OnOk, OnErr, IfSome, IfNone, Some, None, Err, [], length, filter};
 ghost use Rattle.commit_level.specs.declared.Level.{Level};
@@ -11,11 +12,12 @@ ghost use Rattle.lock_table.specs.Table.{IsTable, IsOneOf, HasRoom, without_lock
 ghost use Rattle.lock_table.specs.Index.{is_part};
 ghost use Rattle.lock_table.specs.Levels.{locks_after};
 
-use crate::chosen::{least_blocker, least_keeper, lock_of_open, lock_of_open_on, locks_of_open};
+use crate::chosen::{count_in, first_in, is_there, least_blocker, least_keeper};
 use crate::fault::{InUse, LockFault};
 use crate::lock::{Holder, Lock, LockKind, Reach, RecordId};
 use crate::part::Part;
-use crate::sorted::{is_there, locks_of, put_lock, take_lock, take_locks};
+use crate::sorted::{put_lock, take_lock, take_locks};
+use crate::tree::{LockTree, Node, add_free};
 use std::alloc::Global;
 use std::marker::Model;
 
@@ -25,20 +27,23 @@ pub const MOST_LOCKS: u32 = 500_000;
 /// The record locks of all jobs.
 #[derive(Drop)]
 pub struct LockTable {
-    locks: Vec<Lock>,
+    locks: LockTree,
+    free: Vec<Box<Node>>,
+    // Those of the locks and the free ones.
+    nodes: usize,
     room: usize,
 }
 
 impl Model for LockTable {
-    ghost use Rattle.std.specs.Vec.{vec_capacity};
+    ghost use Rattle.std.specs.Vec.{vec_len, vec_capacity};
     ghost use Rattle.lock_table.specs.Table.{Locks};
     ghost use Rattle.lock_table.specs.Index.{IsStored};
 
     ghost Value = { Locks };
 
-    ghost view = { λ t. record { held = t.locks.items; room = t.room } };
+    ghost view = { λ t. record { held = t.locks; room = t.room } };
 
-    ghost invariant = { λ t. IsStored t.locks.items t.room (vec_capacity t.locks) };
+    ghost invariant = { λ t. IsStored t.locks t.room t.nodes (vec_len t.free) (vec_capacity t.free) };
 }
 
 /// What a job holds on a record.
@@ -56,7 +61,9 @@ impl LockTable {
         ensures { result ≡ record { held = []; room = 0 } }
     {
         LockTable {
-            locks: Vec::new(alloc),
+            locks: LockTree::new(),
+            free: Vec::new(alloc),
+            nodes: 0,
             room: 0,
         }
     }
@@ -68,7 +75,7 @@ impl LockTable {
         // No two locks that are held clash, and no more than the most are held.
         ensures table { IsTable self.now }
     {
-        self.locks.len() as u32
+        self.held_count() as u32
     }
 
     /// Makes room for so many more locks than are held.
@@ -80,14 +87,17 @@ impl LockTable {
         ensures ready { length self.old.held + more ≤ self.old.room → IsOk result }
         ensures refused { OnErr result (self.new ≡ self.old) }
     {
-        let wanted = self.locks.len() + more as usize;
+        let held = self.nodes - self.free.len();
+        let wanted = held + more as usize;
         if wanted > MOST_LOCKS as usize {
             return Err(LockFault::Full);
         }
-        if wanted > self.room {
-            self.locks.reserve(more as usize)?;
-            self.room = wanted;
+        if wanted > self.nodes {
+            let added = add_free(&mut self.free, held, wanted - self.nodes);
+            self.nodes = held + self.free.len();
+            added?;
         }
+        self.room = self.room.max(wanted);
         Ok(())
     }
 
@@ -104,7 +114,7 @@ impl LockTable {
     pub fn count_after(&self, holder: Holder, at: RecordId, kind: LockKind, reach: Reach) -> u32
         ensures { result ≡ length (after_read holder at kind reach self.now.held) }
     {
-        let left = self.locks.len() - locks_of_open(self.open_locks(holder.job), holder);
+        let left = self.held_count() - self.open_count(holder);
         (left + self.growth(holder.lock(at, kind, reach))) as u32
     }
 
@@ -116,7 +126,7 @@ impl LockTable {
     {
         let to_next_read = holder.lock(at, kind, Reach::Open);
         let to_boundary = holder.lock(at, kind, Reach::Boundary);
-        let left = self.locks.len() - self.shrinkage(to_next_read);
+        let left = self.held_count() - self.shrinkage(to_next_read);
         (left + self.growth(to_boundary)) as u32
     }
 
@@ -220,10 +230,10 @@ impl LockTable {
         ensures by_open { result.by_open ≡ list_any (is_of_open_on holder at) self.now.held }
         ensures to_boundary { result.to_boundary ≡ list_any (is_of_group_on holder.job at) self.now.held }
     {
-        let kept = locks_of(&self.locks, Part::OnRecord(holder.job, Reach::Boundary, at));
+        let kept = Part::OnRecord(holder.job, Reach::Boundary, at);
         Held {
             by_open: self.open_lock_on(holder, at).is_some(),
-            to_boundary: !kept.is_empty(),
+            to_boundary: first_in(&self.locks, kept, None).is_some(),
         }
     }
 
@@ -252,19 +262,27 @@ impl LockTable {
         if is_held { 1 } else { 0 }
     }
 
-    // The job's locks that end at a next read: as a rule one for each of its opens.
-    fn open_locks(&self, job: u32) -> &[Lock]
+    fn held_count(&self) -> usize
+        ensures count { result ≡ length self.now.held }
         ensures table { IsTable self.now }
-        ensures locks { result.now ≡ filter (is_of_job job) self.now.held }
     {
-        locks_of(&self.locks, Part::Reaching(job, Reach::Open))
+        self.nodes - self.free.len()
+    }
+
+    // How many locks of the open end at its next read. It looks at those of the job: as a rule one for each of its opens.
+    fn open_count(&self, holder: Holder) -> usize
+        ensures { result ≡ length (filter (is_of_open holder) self.now.held) }
+    {
+        let part = Part::Reaching(holder.job, Reach::Open);
+        count_in(&self.locks, part, holder.opened)
     }
 
     fn open_lock(&self, holder: Holder) -> Option<Lock>
         ensures some { IfSome result (λ lock. IsOneOf (is_of_open holder) lock self.now.held) }
         ensures none { IfNone result (filter (is_of_open holder) self.now.held ≡ []) }
     {
-        lock_of_open(self.open_locks(holder.job), holder).copied()
+        let part = Part::Reaching(holder.job, Reach::Open);
+        first_in(&self.locks, part, Some(holder.opened))
     }
 
     fn open_lock_on(&self, holder: Holder, at: RecordId) -> Option<Lock>
@@ -272,7 +290,8 @@ impl LockTable {
         ensures some { IfSome result (λ lock. IsOneOf (is_of_open_on holder at) lock self.now.held) }
         ensures none { IfNone result (filter (is_of_open_on holder at) self.now.held ≡ []) }
     {
-        lock_of_open_on(self.open_locks(holder.job), holder, at).copied()
+        let part = Part::OnRecord(holder.job, Reach::Open, at);
+        first_in(&self.locks, part, Some(holder.opened))
     }
 
     // Puts a lock that clashes with none into the list.
@@ -281,14 +300,14 @@ impl LockTable {
         requires alone { All (λ other. Clashes lock other → ⊥) self.old.held }
         ensures { self.new ≡ holding (with_lock lock self.old.held) self.old }
     {
-        put_lock(&mut self.locks, lock);
+        put_lock(&mut self.locks, &mut self.free, lock);
     }
 
     // Takes a lock out, where it is held.
     fn free(&mut self, lock: Lock)
         ensures { self.new ≡ holding (without_lock lock self.old.held) self.old }
     {
-        take_lock(&mut self.locks, &lock);
+        take_lock(&mut self.locks, &mut self.free, &lock);
     }
 
     // Keeps a lock that is held to the boundary.
@@ -296,13 +315,13 @@ impl LockTable {
         requires { Contains self.old.held lock }
         ensures { self.new ≡ holding (with_lock (bound lock) (without_lock lock self.old.held)) self.old }
     {
-        take_lock(&mut self.locks, &lock);
-        put_lock(&mut self.locks, lock.to_boundary());
+        take_lock(&mut self.locks, &mut self.free, &lock);
+        put_lock(&mut self.locks, &mut self.free, lock.to_boundary());
     }
 
     fn free_part(&mut self, part: Part)
         ensures { self.new ≡ holding (freed (is_part part) self.old.held) self.old }
     {
-        take_locks(&mut self.locks, part);
+        take_locks(&mut self.locks, &mut self.free, part);
     }
 }

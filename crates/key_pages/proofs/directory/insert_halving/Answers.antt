@@ -1,15 +1,24 @@
--- The two parts of the page are the page, and the entry goes into one of them.
-use Rattle.std.proofs.Common.{◌∙◌, ◌++◌, ap, arith}
-use Rattle.key_pages.proofs.CutLemmas.{insert-lower, insert-upper}
+-- The entry goes between the part that moved first and the other one.
+use Rattle.std.proofs.Common.{◌∷◌, [], ◌++◌, length, ap, ◌∙◌, arith}
+use Rattle.std.proofs.lemmas.List.{append-nil, append_assoc}
+use Rattle.key_pages.proofs.CutLemmas.{insert-cut}
 use Rattle.key_pages.proofs.directory.insert_halving.Goals as goal
 
 pub returns-then-place-half-clause-entries : goal.returns-then-place-half-clause-entries
 returns-then-place-half-clause-entries c =
-    ap (λ xs. xs ++ c.split.new.into) c.insert.ensures.entries
-    ∙ insert-lower c.args.page.now c.split.new.self c.split.new.into c.args.place c.args.entry c.split.ensures.whole (omega (arith, c.split.ensures.kept))
+    let front = c.move_first.new.into in
+    let back = c.move_first.new.self in
+    ap (λ xs. xs ++ c.swap.new.y) c.swap.ensures.x_after
+    ∙ ap (λ xs. c.move_first-then-place-half.new.into ++ xs) c.swap.ensures.y_after
+    ∙ c.move_first-then-place-half.ensures.whole
+    ∙ ap (λ xs. xs ++ back) c.push.ensures
+    ∙ append_assoc front (c.args.entry ∷ []) back
+    ∙ insert-cut c.args.page.now front back c.args.place c.args.entry (c.move_first.ensures.whole ∙ ap (λ xs. xs ++ c.args.page.now) c.requires.empty) (omega (arith, c.move_first.ensures.moved, ap length c.requires.empty))
 
 pub returns-else-place-half-clause-entries : goal.returns-else-place-half-clause-entries
 returns-else-place-half-clause-entries c =
-    let split = c.split-else-place-half in
-    ap (λ xs. split.new.self ++ xs) c.insert-else-place-half.ensures.entries
-    ∙ insert-upper c.args.page.now split.new.self split.new.into _ c.args.place c.args.entry split.ensures.whole split.ensures.kept (omega arith)
+    let front = c.move_last.new.self in
+    let back = c.move_last.new.into in
+    c.move_last-else-place-half.ensures.whole
+    ∙ ap (λ xs. front ++ xs) c.push_first.ensures
+    ∙ insert-cut c.args.page.now front back c.args.place c.args.entry (c.move_last.ensures.whole ∙ (ap (λ xs. c.args.page.now ++ xs) c.requires.empty ∙ append-nil c.args.page.now)) (omega (arith, c.move_last.ensures.kept, c.requires.full, c.requires.place))

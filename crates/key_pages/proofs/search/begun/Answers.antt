@@ -13,8 +13,8 @@ loop-low-preserved-then-begins_passed g c =
       low_high = omega arith;
       within = c.loop-low.invariant.within;
       passed = λ _.
-          ap (λ n. passes (page_at c.args.pages.now n)) (omega arith)
-          ∙ (ap passes (sym (get_or_read c.args.pages.now _ c.index-pages-number.result (omega arith) c.index-pages-number.is _))
+          ap (λ n. passes (page_at c.args.pages.now.items n)) (omega arith)
+          ∙ (ap passes (sym (get_or_read c.args.pages.now.items _ c.index.result.now (omega arith) c.index.ensures _))
           ∙ (sym c.begins_passed.ensures.passed ∙ c.if-begins_passed.true));
       ahead = c.loop-low.invariant.ahead;
       rises = omega arith;
@@ -30,7 +30,7 @@ loop-low-preserved g c =
       within = omega arith;
       passed = c.loop-low.invariant.passed;
       ahead = λ _.
-          ap passes (sym (get_or_read c.args.pages.now _ c.index-pages-number.result (omega arith) c.index-pages-number.is _))
+          ap passes (sym (get_or_read c.args.pages.now.items _ c.index.result.now (omega arith) c.index.ensures _))
           ∙ (sym c.begins_passed.ensures.passed ∙ c.if-begins_passed.false);
       rises = omega arith;
       left = left-half _ _ c.loop-low.steps _ (c.loop-low.high - c.loop-low.low) _ c.loop-low.invariant.rises c.begins_passed.ensures.cost c.loop-low.invariant.left (omega arith);

@@ -6,12 +6,12 @@ use Rattle.key_pages.proofs.search.begun.Given as goal
 abbrev pub invariant-loop-low : goal.invariant-loop-low
 invariant-loop-low g l = record {
   low_high : l.low ≤ l.high;
-  within : l.high ≤ length l.pages;
-  passed : 0 < l.low → begins_passed l.itself l.falling l.from (page_at l.pages (l.low - 1)) ≡ true;
-  ahead : l.high < length l.pages → begins_passed l.itself l.falling l.from (page_at l.pages l.high) ≡ false;
+  within : l.high ≤ length l.pages.items;
+  passed : 0 < l.low → begins_passed l.itself l.falling l.from (page_at l.pages.items (l.low - 1)) ≡ true;
+  ahead : l.high < length l.pages.items → begins_passed l.itself l.falling l.from (page_at l.pages.items l.high) ≡ false;
   rises : l.fn.steps ≤ l.steps;
-  left : 2 ^ (l.steps - l.fn.steps) * (l.high - l.low) ≤ length l.pages;
-  cost : 2 ^ (l.steps - l.fn.steps) ≤ 2 * length l.pages + 1;
+  left : 2 ^ (l.steps - l.fn.steps) * (l.high - l.low) ≤ length l.pages.items;
+  cost : 2 ^ (l.steps - l.fn.steps) ≤ 2 * length l.pages.items + 1;
 }
 
 abbrev pub decreases-loop-low : goal.decreases-loop-low

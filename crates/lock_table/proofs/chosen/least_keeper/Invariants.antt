@@ -1,15 +1,11 @@
--- No job before those that are left keeps a lock in the member.
-use Rattle.std.proofs.Common.{◌≡◌, length, filter}
-use Rattle.std.specs.List.Sorted.{IsStrictlySortedBy}
-use Rattle.lock_table.specs.Lock.{is_boundary_in, lock_cmp}
-use Rattle.lock_table.specs.Table.{least_job}
+-- No job before this one keeps a lock in the member.
+use Rattle.std.proofs.Common.{◌-◌}
+use Rattle.lock_table.specs.Lock.{is_boundary_in}
+use Rattle.lock_table.proofs.Found.{NoneBefore}
 use Rattle.lock_table.proofs.chosen.least_keeper.Given as goal
 
 abbrev pub invariant-loop-first : goal.invariant-loop-first
-invariant-loop-first l = record {
-  ordered : IsStrictlySortedBy lock_cmp l.rest;
-  same : least_job (filter (is_boundary_in l.member) l.rest) ≡ least_job (filter (is_boundary_in l.member) l.fn.locks);
-}
+invariant-loop-first l = NoneBefore (is_boundary_in l.member) l.from l.tree
 
 abbrev pub decreases-loop-first : goal.decreases-loop-first
-decreases-loop-first l = length l.rest
+decreases-loop-first l = 4294967297 - l.from

@@ -1,13 +1,16 @@
--- What stands before the run and behind it is left.
-use Rattle.std.proofs.Common.{◌∙◌, ◌-◌, List, ap, length, sym, subst, take}
-use Rattle.lock_table.specs.declared.lock.Lock.{Lock}
-use Rattle.lock_table.specs.Index.{IsRun, is_part}
-use Rattle.lock_table.proofs.Runs.{IsRun-taken, gap_closed}
+-- What stands before the part and after it is left.
+use Rattle.std.proofs.Common.{sym, subst, ◌∙◌}
+use Rattle.std.specs.List.Sorted.{IsStrictlySortedBy}
+use Rattle.lock_table.specs.Lock.{lock_cmp}
+use Rattle.lock_table.proofs.Nodes.{freed-parted}
+use Rattle.lock_table.proofs.Sides.{IsStrictlySortedBy-back}
 use Rattle.lock_table.proofs.sorted.take_locks.Goals as goal
 
-pub returns-clause-items : goal.returns-clause-items
-returns-clause-items c =
-    let run : IsRun (is_part c.args.part) c.args.locks.now.items c.run_of-start.result.0 c.run_of-start.result.1 = subst (λ (xs : List Lock). IsRun (is_part c.args.part) xs c.run_of-start.result.0 c.run_of-start.result.1) c.deref.ensures.value c.run_of-start.ensures in
-    c.truncate.ensures.items ∙ ap (take _) c.copy_within.ensures.items
-    ∙ gap_closed c.args.locks.now.items c.run_of-start.result.0 c.run_of-start.result.1 _ _ run.ordered run.within (sym c.deref.ensures.len ∙ ap length c.deref.ensures.value) (ap (λ n. n - (c.run_of-start.result.1 - c.run_of-start.result.0)) c.len.ensures)
-    ∙ IsRun-taken (is_part c.args.part) c.args.locks.now.items c.run_of-start.result.0 c.run_of-start.result.1 run
+pub parted-run-requires : goal.parted-run-requires
+parted-run-requires c = IsStrictlySortedBy-back lock_cmp c.parted-before.result.0 c.parted-before.result.1 (subst (IsStrictlySortedBy lock_cmp) (sym c.replace-tree.ensures.value ∙ c.parted-before.ensures.whole) c.requires.ordered)
+
+pub returns-clause-locks : goal.returns-clause-locks
+returns-clause-locks c =
+    c.appended.ensures
+    ∙ freed-parted c.args.part c.args.locks.now c.parted-before.result.0 c.parted-before.result.1 c.parted-run.result.0 c.parted-run.result.1
+    (sym c.replace-tree.ensures.value ∙ c.parted-before.ensures.whole) c.parted-run.ensures.whole c.parted-before.ensures.ahead c.parted-before.ensures.behind c.parted-run.ensures.ahead c.parted-run.ensures.behind

@@ -1,5 +1,6 @@
 -- What is found in the nearest page is found in the list.
-use Rattle.std.proofs.Common.{◌≡◌, ◌∙◌, ◌<◌, true, length, vec_len, arith}
+use Rattle.std.proofs.Common.{◌≡◌, ◌∙◌, ◌<◌, true, length, arith}
+use Rattle.std.specs.VecDeque.{deque_len}
 use Rattle.std.proofs.lemmas.Bool.Decides.{nat_tests}
 use Rattle.key_pages.specs.declared.positions.Position.TheVariants.{Start}
 use Rattle.key_pages.specs.EntryList.{entry_of}
@@ -14,10 +15,10 @@ near c = rw (← c.self.view_is) at c.nearest-number.ensures
 
 within : (c : goal.After-entries-page) → c.nearest-number.result < length c.self.inside.pages.items
 within c =
-    let some : 0 < vec_len c.self.inside.pages = grind (arith, nat_tests) in
+    let some : 0 < deque_len c.self.inside.pages = grind (arith, nat_tests) in
     omega (arith, some, (near c).within)
 
-page-is : (c : goal.After-entries-page) → c.entries-page.result.now ≡ page_at c.self.inside.pages.items c.nearest-number.result
+page-is : (c : goal.After-entries-page) → c.entries-page.result.now.items ≡ page_at c.self.inside.pages.items c.nearest-number.result
 page-is c = c.entries-page.ensures ∙ page-read c.self.inside.pages.items c.nearest-number.result c.index.result.now (within c) c.index.ensures
 
 pub find-requires : goal.find-requires

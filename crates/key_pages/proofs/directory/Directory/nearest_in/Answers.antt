@@ -8,8 +8,8 @@ use Rattle.key_pages.proofs.directory.Directory.nearest_in.Goals as goal
 pub returns : goal.returns
 returns g c =
     let entry = c.args.entry.now in
-    let sized = rw (← c.deref.ensures.value) at c.self.invariant.sized in
-    let order = rw (← c.self.view_is, ← c.deref.ensures.value) at c.requires.order in
+    let sized = c.self.invariant.sized in
+    let order = rw (← c.self.view_is) at c.requires.order in
     let begun = c.begun-begun.ensures in
-    rw (← c.self.view_is, ← c.deref.ensures.value, c.saturating_sub.ensures)
-    (nearest c.args.falling (On entry.key entry.format entry.rrn) (entry_of entry) (λ e. refl) c.deref.result.now sized.some order c.begun-begun.result begun.within begun.passed begun.ahead)
+    rw (← c.self.view_is, c.saturating_sub.ensures)
+    (nearest c.args.falling (On entry.key entry.format entry.rrn) (entry_of entry) (λ e. refl) c.self.inside.pages.items sized.some order c.begun-begun.result begun.within begun.passed begun.ahead)

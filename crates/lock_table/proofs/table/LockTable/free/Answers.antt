@@ -6,4 +6,4 @@ use Rattle.lock_table.proofs.Stored.{IsStored-filter}
 use Rattle.lock_table.proofs.table.LockTable.free.Goals as goal
 
 pub invariant_of-self : goal.invariant_of-self
-invariant_of-self c = IsStored-filter c.self.inside.locks.items _ _ _ _ c.take_lock.ensures.capacity c.self.invariant (λ l. not (is_eq (lock_cmp l c.args.lock))) c.take_lock.ensures.items
+invariant_of-self c = IsStored-filter _ _ _ _ _ _ _ _ c.take_lock.ensures.capacity c.take_lock.ensures.nodes c.self.invariant (λ l. not (is_eq (lock_cmp l c.args.lock))) c.take_lock.ensures.locks

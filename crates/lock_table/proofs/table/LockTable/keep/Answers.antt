@@ -10,10 +10,12 @@ there : (t u : Locks) (lock : Lock) → t ≡ u → Contains u.held lock → Con
 there t u lock e h = subst (λ v. Contains v.held lock) (sym e) h
 
 pub put_lock-requires-clause-ordered : goal.put_lock-requires-clause-ordered
-put_lock-requires-clause-ordered c = taken-ordered c.self.inside.locks.items c.take_lock.new.locks.items c.self.inside.room _ _ c.self.invariant c.args.lock c.to_boundary.result (there _ _ c.args.lock c.self.view_is c.requires) c.to_boundary.ensures c.take_lock.ensures.items c.take_lock.ensures.capacity
+put_lock-requires-clause-ordered c = taken-ordered _ _ _ _ _ _ _ _ c.self.invariant c.args.lock c.to_boundary.result (there _ _ c.args.lock c.self.view_is c.requires) c.to_boundary.ensures c.take_lock.ensures.locks c.take_lock.ensures.nodes c.take_lock.ensures.capacity
 
 pub put_lock-requires-clause-room : goal.put_lock-requires-clause-room
-put_lock-requires-clause-room c = kept-room c.self.inside.locks.items c.take_lock.new.locks.items c.self.inside.room _ _ c.self.invariant c.args.lock c.to_boundary.result (there _ _ c.args.lock c.self.view_is c.requires) c.to_boundary.ensures c.take_lock.ensures.items c.take_lock.ensures.capacity
+put_lock-requires-clause-room c = kept-room _ _ _ _ _ _ _ _ c.self.invariant c.args.lock c.to_boundary.result (there _ _ c.args.lock c.self.view_is c.requires) c.to_boundary.ensures c.take_lock.ensures.locks c.take_lock.ensures.nodes c.take_lock.ensures.capacity
 
 pub invariant_of-self : goal.invariant_of-self
-invariant_of-self c = IsStored-kept c.self.inside.locks.items c.take_lock.new.locks.items c.self.inside.room _ _ c.self.invariant c.args.lock c.to_boundary.result (there _ _ c.args.lock c.self.view_is c.requires) c.to_boundary.ensures c.take_lock.ensures.items c.take_lock.ensures.capacity _ _ c.put_lock.ensures.capacity c.put_lock.ensures.items
+invariant_of-self c =
+    IsStored-kept _ _ _ _ _ _ _ _ c.self.invariant c.args.lock c.to_boundary.result (there _ _ c.args.lock c.self.view_is c.requires) c.to_boundary.ensures c.take_lock.ensures.locks c.take_lock.ensures.nodes c.take_lock.ensures.capacity
+    _ _ _ c.put_lock.ensures.capacity c.put_lock.ensures.nodes c.put_lock.ensures.locks
