@@ -17,7 +17,7 @@ use Rattle.library_model.specs.History.{Outcome, Standing, Failed, Comes}
 use Rattle.library_core.specs.Parts.{LibraryOver}
 use Rattle.library_core.specs.Answers.{Answers, reply_of}
 use Rattle.library_core.specs.Stands.{Stands, IsAt, Goes, IsReady}
-use Rattle.library_core.proofs.StepLemmas.{Leaves, change-leaves, running-append}
+use Rattle.library_core.proofs.StepLemmas.{Leaves, change-leaves}
 
 -- a memory is that of the state with a journal as long as it says
 stands_for : (m : Memory) (journal : JournalState) → m.last_entry ≡ last_of_journal journal → m ≡ memory_of (with_journal journal m)
@@ -87,19 +87,3 @@ pub joint-answered : (sources : List NamedSource) (old new : Memory) (job timest
 joint-answered sources old new job timestamp r (Ok reply) running answers joint = (change-leaves sources old job timestamp r (unjournaled new reply) running answers).joint joint
 joint-answered sources old new job timestamp r (Err stop.NoMemory) running answers joint = subst IsJoint (sym answers) joint
 joint-answered sources old new job timestamp r (Err (stop.Refused reply)) running answers joint = subst IsJoint (sym answers.0) joint
-
--- a job that may make a call may make one after a call that ends no job
-pub IsReady-on : {S : Type 0} (job other : ℕ) (r : Request) (old new : LibraryOver S) → IsReady other old → is_end_job r ≡ false → new.failed ≡ false → ((n : ℕ) → is_running (job_at n new.memory.jobs) ≡ runs_after job r old.memory.jobs n) → IsJoint new.memory → IsReady other new
-IsReady-on job other r old new ready goes_on alive runs joint = record {
-  alive = alive;
-  running = rw (runs other, runs-on job r old.memory.jobs other goes_on) ready.running;
-  joint = joint;
-}
-
--- nor does a job that begins keep it from that
-pub IsReady-begun : {S : Type 0} (job : ℕ) (name : List ℕ) (old new : LibraryOver S) → IsReady job old → IsJoint new.memory → new.failed ≡ old.failed → new.memory ≡ record old.memory { jobs = old.memory.jobs ++ new_job name ∷ [] } → IsReady job new
-IsReady-begun job name old new ready joint alive begun = record {
-  alive = alive ∙ ready.alive;
-  running = subst (λ (m : Memory). IsTrue (is_running (job_at job m.jobs))) (sym begun) (running-append job old.memory.jobs (new_job name ∷ []) ready.running);
-  joint = joint;
-}

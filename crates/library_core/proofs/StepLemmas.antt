@@ -126,16 +126,3 @@ running-new_job name jobs = let here = last-place name jobs in grind (arith, nat
 
 pub idle-new_job : (name : List ℕ) (jobs : List JobState) → AllByRecursion IsIdle jobs → AllByRecursion IsIdle (jobs ++ new_job name ∷ [])
 idle-new_job name jobs idle = AllByRecursion-append IsIdle jobs (new_job name ∷ []) idle ((λ ended. refl), tt)
-
--- and those that ran still run
-pub running-append : (number : ℕ) (jobs more : List JobState) → IsTrue (is_running (job_at number jobs)) → IsTrue (is_running (job_at number (jobs ++ more)))
-running-append number jobs more running =
-    elim (number == 0) as (λ b. IsTrue (is_running (if b then None else slice_get jobs (number - 1))) → IsTrue (is_running (if b then None else slice_get (jobs ++ more) (number - 1)))) [
-      | true ↦ λ h. h
-      | false ↦ λ h. place-append (number - 1) jobs more h
-    ] running
-  where
-    place-append : (place : ℕ) (jobs more : List JobState) → IsTrue (is_running (slice_get jobs place)) → IsTrue (is_running (slice_get (jobs ++ more) place))
-    place-append place [] more h = absurd cc
-    place-append zero (job ∷ jobs) more h = h
-    place-append (suc place) (job ∷ jobs) more h = place-append place jobs more h

@@ -12,8 +12,6 @@ mod jobs;
 pub mod library;
 mod open_file;
 mod stop;
-#[cfg(test)]
-mod tests;
 mod write_record;
 
 pub use library_model::calls::Call;

@@ -1,5 +1,5 @@
 use Rattle.library_core.specs.Stands.{IsReady}
-use Rattle.library_core.proofs.tests.check_rows.Given as goal
+use Rattle.library_tests.proofs.calls.check_rows.Given as goal
 
 abbrev pub invariant-loop-row : goal.invariant-loop-row
 invariant-loop-row g l = IsReady l.jobs.first l.library × IsReady l.jobs.second l.library

@@ -1,5 +1,5 @@
-use Rattle.library_core.proofs.CallLemmas.{IsReady-on}
-use Rattle.library_core.proofs.tests.ask_library.Goals as goal
+use Rattle.library_tests.proofs.ReadyLemmas.{IsReady-on}
+use Rattle.library_tests.proofs.calls.ask_library.Goals as goal
 
 pub returns-in-First-clause-first : goal.returns-in-First-clause-first
 returns-in-First-clause-first c = IsReady-on c.args.jobs.first c.args.jobs.first c.args.request.now _ _ c.requires.first c.requires.goes_on c.call.ensures.alive c.call.ensures.running c.call.ensures.joint

@@ -5,7 +5,7 @@ ghost use Rattle.library_model.specs.Running.{is_end_job};
 ghost use Rattle.library_model.specs.Joint.{IsJoint};
 ghost use Rattle.library_core.specs.Stands.{IsReady};
 
-use crate::library::{Library, call};
+use library_core::library::{Library, call};
 use dds_source::faults::{DdsCause, DdsFault};
 use field_types::faults::{RecordFault, ValueFault};
 use field_types::names::Name;

@@ -1,0 +1,5 @@
+//! Tests of the library's calls.
+#![tactic(auto)]
+
+#[cfg(test)]
+mod calls;
