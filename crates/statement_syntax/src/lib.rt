@@ -15,11 +15,20 @@ use std::marker::Model;
 #[derive(Drop)]
 pub enum Phrase {
     /// DCL VAR(&v) VALUE(x)
-    Declare { variable: Name, value: Value },
+    Declare {
+        variable: Name,
+        value: Value,
+    },
     /// CHGVAR VAR(&v) VALUE(e)
-    ChangeVariable { variable: usize, value: Expression },
+    ChangeVariable {
+        variable: usize,
+        value: Expression,
+    },
     /// IF COND(c) THEN(GOTO CMDLBL(l))
-    IfGoto { condition: Condition, label: Name },
+    IfGoto {
+        condition: Condition,
+        label: Name,
+    },
     /// IF COND(c) THEN(DO)
     IfDo(Condition),
     /// ELSE CMD(DO)
@@ -38,7 +47,10 @@ pub enum Phrase {
     /// RETURN
     Return,
     /// A request, and the variables of its TO.
-    Request { form: RequestForm, into: Targets },
+    Request {
+        form: RequestForm,
+        into: Targets,
+    },
 }
 
 /// A statement of a job.
