@@ -1,9 +1,9 @@
 //! Entries of the journal as they are printed, worked out by hand from the form of a line.
-use listing::entries::push_entry;
 use commit_level::Level;
 use entry_codec::{Entry, EntryKind, FileKind, Images};
 use field_types::names::Name;
 use field_types::texts::{Image, SourceText};
+use listing::entries::push_entry;
 use std::alloc::{AllocError, Global};
 use std::process::Abort;
 use std::test::Fail;

@@ -1,8 +1,4 @@
 //! Listings, requests, replies and values as the reference of the commands prints them, worked out by hand.
-use listing::history_listing::listing;
-use listing::replies::push_reply;
-use listing::requests::push_request;
-use listing::texts::push_values;
 use commit_level::Level;
 use dds_source::{DdsCause, DdsFault};
 use ebc_text::to_ebcdic;
@@ -20,6 +16,10 @@ use library_model::requests::{
     SetPosition, StartCommitment, StartJournaling, UpdateRecord, WriteRecord,
 };
 use library_model::value_lists::{GivenValues, Values};
+use listing::history_listing::listing;
+use listing::replies::push_reply;
+use listing::requests::push_request;
+use listing::texts::push_values;
 use std::alloc::Global;
 use std::process::Abort;
 use std::test::Fail;

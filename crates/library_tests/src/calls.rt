@@ -5,12 +5,12 @@ ghost use Rattle.library_model.specs.Running.{is_end_job};
 ghost use Rattle.library_model.specs.Joint.{IsJoint};
 ghost use Rattle.library_core.specs.Stands.{IsReady};
 
-use library_core::library::{Library, call};
 use dds_source::faults::{DdsCause, DdsFault};
 use field_types::faults::{RecordFault, ValueFault};
 use field_types::names::Name;
 use field_types::texts::{SourceText, Text};
 use field_types::values::{Dec, Value};
+use library_core::library::{Library, call};
 use library_model::replies::{Missing, Reply};
 use library_model::requests::{
     AccessPath, ChainRecord, ChainTo, CreatePhysicalFile, DeleteFile, EndJob, EndReason,
