@@ -11,8 +11,8 @@ use std::alloc::{AllocError, Global};
 use std::process::Abort;
 use std::test::Fail;
 
-/// Each command with the parameters that it needs, and with all that it may have in another order.
-const STATEMENTS: [&[u8]; 84] = [
+/// Statements that are no requests: each command with the parameters that it needs, and with all in another order.
+const CONTROL: [&[u8]; 28] = [
     b"DCL VAR(&N) VALUE('it''s (a) text')",
     b"DCL VALUE(-12.50) VAR(&N)",
     b"DCL VAR(&N) VALUE(X'c1C2')",
@@ -41,6 +41,10 @@ const STATEMENTS: [&[u8]; 84] = [
     b"DONE:RETURN",
     b"  DONE:   RETURN  ",
     b"\tRETURN\t",
+];
+
+/// Requests on files and on the journal.
+const FILES: [&[u8]; 26] = [
     b"CRTPF FILE(CUST) SRC(CUST)",
     b"CRTPF SRC(S) FILE(F)",
     b"CRTLF FILE(F) SRC(S)",
@@ -67,6 +71,10 @@ const STATEMENTS: [&[u8]; 84] = [
     b"APYJRNCHG TOENT(9) FROMENT(&A) MBR(M) FILE(F)",
     b"RMVJRNCHG FILE(F)",
     b"RMVJRNCHG TOENT(*FIRST) FROMENT(*LAST) MBR(M) FILE(F)",
+];
+
+/// Requests on commitment control, opens and records.
+const RECORDS: [&[u8]; 30] = [
     b"STRCMTCTL LCKLVL(*CHG)",
     b"STRCMTCTL LCKLVL(*CS)",
     b"STRCMTCTL LCKLVL(*ALL)",
@@ -99,8 +107,8 @@ const STATEMENTS: [&[u8]; 84] = [
     b"UNLOCK OPNID(O)",
 ];
 
-/// Texts that are no statements.
-const FAULTS: [&[u8]; 70] = [
+/// Texts whose words are no statement.
+const BAD_WORDS: [&[u8]; 27] = [
     b"",
     b"   ",
     b"ENDJOB",
@@ -128,6 +136,10 @@ const FAULTS: [&[u8]; 70] = [
     b"DONE : RETURN",
     b"A: B: RETURN",
     b"DONE:",
+];
+
+/// Statements with values that are none.
+const BAD_VALUES: [&[u8]; 43] = [
     b"DCL VAR(N) VALUE(1)",
     b"DCL VAR(&N) VALUE(&A)",
     b"DCL VAR(&N) VALUE('a)",
@@ -244,58 +256,87 @@ fn text(said: &Said) -> &[u8] {
     }
 }
 
+fn open_read(alloc: Global, text: &[u8]) -> Result<OpenFile, Fail> {
+    let said = read(alloc, text)?;
+    Ok(opened(&said).ok_or("no open")?)
+}
+
+fn number_read(alloc: Global, text: &[u8]) -> Result<Dec, Fail> {
+    let said = read(alloc, text)?;
+    Ok(number(&said).ok_or("no number")?)
+}
+
+fn reads_text(alloc: Global, statement: &[u8], wanted: &[u8]) -> Result<bool, Fail> {
+    let said = read(alloc, statement)?;
+    Ok(text(&said) == wanted)
+}
+
+fn record_number_read(alloc: Global, text: &[u8]) -> Result<NumberOperand, Fail> {
+    let said = read(alloc, text)?;
+    Ok(record_number(&said).ok_or("no number")?)
+}
+
+fn label_length(alloc: Global, text: &[u8]) -> Result<usize, Fail> {
+    let said = read(alloc, text)?;
+    Ok(said.label.map_or(0, |label| label.as_bytes().len()))
+}
+
 #[test]
 fn statements(rt: HostRuntime) -> Result<(), Fail> {
-    are_read(&rt, rt.alloc(), &STATEMENTS, true)
+    are_read(&rt, rt.alloc(), &CONTROL, true)?;
+    are_read(&rt, rt.alloc(), &FILES, true)
+}
+
+#[test]
+fn requests(rt: HostRuntime) -> Result<(), Fail> {
+    are_read(&rt, rt.alloc(), &RECORDS, true)
 }
 
 #[test]
 fn faults(rt: HostRuntime) -> Result<(), Fail> {
-    are_read(&rt, rt.alloc(), &FAULTS, false)
+    are_read(&rt, rt.alloc(), &BAD_WORDS, false)?;
+    are_read(&rt, rt.alloc(), &BAD_VALUES, false)
 }
 
 #[test]
-fn opens(rt: HostRuntime) -> Result<(), Fail> {
-    let said = read(rt.alloc(), b"OPEN: OPNDBF FILE(F)")?;
-    assert!(rt;
-        said.label
-            .is_some_and(|label| label.as_bytes() == b"OPEN".as_slice())
-    );
-    let open = opened(&said).ok_or("no open")?;
+fn defaults_of_open(rt: HostRuntime) -> Result<(), Fail> {
+    let open = open_read(rt.alloc(), b"OPNDBF FILE(F)")?;
     assert!(rt; open.member == open.file && open.open_id == open.file);
-    assert!(rt; open.option == OpenOption::Input && open.access_path == AccessPath::File);
-    assert!(rt; !open.commit);
-    let said = read(
+    assert!(rt; open.option == OpenOption::Input);
+    assert!(rt; open.access_path == AccessPath::File && !open.commit);
+    Ok(())
+}
+
+#[test]
+fn parameters_of_open(rt: HostRuntime) -> Result<(), Fail> {
+    let open = open_read(
         rt.alloc(),
-        b"OPNDBF ACCPTH(*ARRIVAL) COMMIT(*YES) OPNID(O) MBR(M) OPTION(*ALL) FILE(F)",
+        b"OPNDBF ACCPTH(*ARRIVAL) COMMIT(*YES) OPNID(OP) MBR(MEM) OPTION(*ALL) FILE(F)",
     )?;
-    let open = opened(&said).ok_or("no open")?;
-    assert!(rt;
-        open.member.as_bytes() == b"M".as_slice() && open.open_id.as_bytes() == b"O".as_slice()
-    );
-    assert!(rt; open.option == OpenOption::All && open.access_path == AccessPath::Arrival);
-    assert!(rt; open.commit);
+    assert_eq!(rt; open.member.as_bytes(), b"MEM".as_slice());
+    assert_eq!(rt; open.open_id.as_bytes(), b"OP".as_slice());
+    assert!(rt; open.option == OpenOption::All);
+    assert!(rt; open.access_path == AccessPath::Arrival && open.commit);
+    assert_eq!(rt; label_length(rt.alloc(), b"OPEN: OPNDBF FILE(F)")?, 4);
     Ok(())
 }
 
 #[test]
 fn values(rt: HostRuntime) -> Result<(), Fail> {
-    let said = read(rt.alloc(), b"DCL VAR(&N) VALUE(-12.50)")?;
-    let read_number = number(&said).ok_or("no number")?;
-    assert!(rt; read_number.units == -1250 && read_number.scale == 2);
-    let said = read(rt.alloc(), b"DCL VAR(&N) VALUE('it''s')")?;
-    assert_eq!(rt; text(&said), b"\x89\xA3\x7D\xA2".as_slice());
-    let said = read(rt.alloc(), b"DCL VAR(&N) VALUE(X'c1C2')")?;
-    assert_eq!(rt; text(&said), b"\xC1\xC2".as_slice());
-    let said = read(rt.alloc(), b"WRITE OPNID(O) RRN(&B) VAL(1)")?;
-    assert!(rt; matches!(record_number(&said), Some(NumberOperand::Variable(1))));
-    let said = read(rt.alloc(), b"WRITE OPNID(O) RRN(4294967295.0) VAL(1)")?;
+    let number = number_read(rt.alloc(), b"DCL VAR(&N) VALUE(-12.50)")?;
+    assert!(rt; number.units == -1250 && number.scale == 2);
     assert!(rt;
-        matches!(
-            record_number(&said),
-            Some(NumberOperand::Literal(4294967295))
-        )
+        reads_text(
+            rt.alloc(),
+            b"DCL VAR(&N) VALUE('it''s')",
+            b"\x89\xA3\x7D\xA2"
+        )?
     );
+    assert!(rt; reads_text(rt.alloc(), b"DCL VAR(&N) VALUE(X'c1C2')", b"\xC1\xC2")?);
+    let variable = record_number_read(rt.alloc(), b"WRITE OPNID(O) RRN(&B) VAL(1)")?;
+    assert!(rt; matches!(variable, NumberOperand::Variable(1)));
+    let literal = record_number_read(rt.alloc(), b"WRITE OPNID(O) RRN(4294967295.0) VAL(1)")?;
+    assert!(rt; matches!(literal, NumberOperand::Literal(4294967295)));
     Ok(())
 }
 
