@@ -9,7 +9,7 @@ use std::{fs, io};
 use store_model::{Clock, MemoryStore, OpenGate};
 
 /// Runs the jobs of standard input, and prints the status and the listing.
-pub fn run<R: Files + AllocGlobal + Input + Print + Threads + Wait + Sync, C: Clock + Send>(
+pub fn run<R: Files + AllocGlobal + Input + Print + Threads + Wait + Sync, C: Clock + Send + Drop>(
     rt: &R,
     clock: C,
 ) -> io::Result<C> {

@@ -13,7 +13,10 @@ const MANY: usize = 3_333_333;
 const MOST: usize = 16 * 1024 * 1024;
 
 /// Tries each, and prints what came of it.
-pub fn try_all<R: Files + AllocGlobal + Print, C: Clock>(rt: &R, clock: C) -> io::Result<()> {
+pub fn try_all<R: Files + AllocGlobal + Print, C: Clock + Drop>(
+    rt: &R,
+    clock: C,
+) -> io::Result<()> {
     let many = vec![in rt.alloc(); b'x'; MANY]?;
     fs::write(rt, "many", many.as_slice())?;
     fs::write(rt, "empty", "")?;
@@ -40,7 +43,7 @@ fn taken<I: Read + Drop>(alloc: Global, reader: I) -> Option<usize> {
 }
 
 /// How often the clock gives a moment before the last one.
-fn falls<C: Clock>(clock: C) -> u32 {
+fn falls<C: Clock + Drop>(clock: C) -> u32 {
     let mut clock = clock;
     let mut last = 0;
     let mut falls = 0;

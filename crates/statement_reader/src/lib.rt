@@ -13,7 +13,5 @@ mod parameters;
 pub mod reading;
 mod record_requests;
 mod refusal_names;
-#[cfg(test)]
-mod tests;
 pub mod variables;
 mod words;
