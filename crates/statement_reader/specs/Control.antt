@@ -95,8 +95,8 @@ branch variables statement =
 abbrev pub block : List (List ℕ) → List (List ℕ) → Option Phrase
 block variables statement = let_some (condition_in variables statement) (λ condition. Some (IfDo condition))
 
-unfoldable pub test : List (List ℕ) → List (List ℕ) → Option Phrase
-test variables statement = if has_do parameter.Then statement then block variables statement else branch variables statement
+unfoldable pub choice_of_way : List (List ℕ) → List (List ℕ) → Option Phrase
+choice_of_way variables statement = if has_do parameter.Then statement then block variables statement else branch variables statement
 
 unfoldable pub otherwise : List (List ℕ) → Option Phrase
 otherwise statement = if has_do parameter.Command statement then Some Else else None

@@ -8,7 +8,7 @@ use Rattle.statement_syntax.specs.declared.Phrase.{Phrase}
 use Rattle.statement_syntax.specs.declared.Phrase.TheVariants.{EndDo, Return}
 use Rattle.text_lines.specs.Lines.{is_blank}
 use Rattle.statement_reader.specs.Commands.{command_of, parameters_of}
-use Rattle.statement_reader.specs.Control.{declaration, change, test, otherwise, while_loop, jump, monitor}
+use Rattle.statement_reader.specs.Control.{declaration, change, choice_of_way, otherwise, while_loop, jump, monitor}
 use Rattle.statement_reader.specs.Lists.{let_some}
 use Rattle.statement_reader.specs.Parameters.{has_only}
 use Rattle.statement_reader.specs.Requests.{plain, create_physical, create_logical, delete_file, add_member, clear_member, reorganize_member, end_journaling, start_journaling, delete_receiver, display_journal, apply_changes, remove_changes, start_commitment, open_file, close_file, delete_record, unlock_record, set_lower_limit, set_greater_than, read, read_prior, read_equal, read_prior_equal, chain, write, update}
@@ -21,7 +21,7 @@ use Rattle.statement_reader.specs.declared.reading.Said.{Said}
 unfoldable pub command_phrase : Command → List (List ℕ) → List (List ℕ) → Option Phrase
 command_phrase Declare variables statement = declaration statement
 command_phrase ChangeVariable variables statement = change variables statement
-command_phrase If variables statement = test variables statement
+command_phrase If variables statement = choice_of_way variables statement
 command_phrase Else variables statement = otherwise statement
 command_phrase DoWhile variables statement = while_loop variables statement
 command_phrase EndDoCommand variables statement = Some EndDo

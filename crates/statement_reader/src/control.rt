@@ -1,7 +1,7 @@
 //! The statements that are no requests, by `specs/Control.antt`.
 ghost use Rattle.std.specs.Prelude.{◌≡◌, IfOk};
 ghost use Rattle.statement_reader.specs.Words.{words};
-ghost use Rattle.statement_reader.specs.Control.{label_of, jump_of, jump_in, has_do, condition_in, is_any, named_of, monitored_of, monitored_in, execute_in, new_variable, variable_in, literal_in, expression_in, declaration, change, branch, test, otherwise, while_loop, jump, monitor};
+ghost use Rattle.statement_reader.specs.Control.{label_of, jump_of, jump_in, has_do, condition_in, is_any, named_of, monitored_of, monitored_in, execute_in, new_variable, variable_in, literal_in, expression_in, declaration, change, branch, choice_of_way, otherwise, while_loop, jump, monitor};
 
 use crate::arguments::{name_in, name_of, stands, word_in};
 use crate::literals::literal_of;
@@ -238,9 +238,13 @@ fn branch(alloc: Global, variables: &Variables, text: &[u8]) -> Result<Option<Ph
 }
 
 /// IF
-#[tactic(auto, unfolding(crate::specs::Control::test))]
-pub fn test(alloc: Global, variables: &Variables, text: &[u8]) -> Result<Option<Phrase>, AllocError>
-    ensures { IfOk result (λ phrase. phrase ≡ test variables.now (words text.now)) }
+#[tactic(auto, unfolding(crate::specs::Control::choice_of_way))]
+pub fn choice_of_way(
+    alloc: Global,
+    variables: &Variables,
+    text: &[u8],
+) -> Result<Option<Phrase>, AllocError>
+    ensures { IfOk result (λ phrase. phrase ≡ choice_of_way variables.now (words text.now)) }
 {
     if !has_do(text, Parameter::Then) {
         return branch(alloc, variables, text);

@@ -5,7 +5,7 @@ ghost use Rattle.statement_reader.specs.Words.{words};
 ghost use Rattle.statement_reader.specs.Statements.{command_phrase, phrase_of, label_length, colon_in, labelled, statement_of};
 
 use crate::commands::{Command, command_named};
-use crate::control::{change, declaration, jump, monitor, otherwise, test, while_loop};
+use crate::control::{change, choice_of_way, declaration, jump, monitor, otherwise, while_loop};
 use crate::file_requests::{
     add_member, clear_member, close_file, create_logical, create_physical, delete_file,
     end_journaling, open_file, plain, reorganize_member, start_journaling,
@@ -131,7 +131,7 @@ fn command_phrase(
     match command {
         Command::Declare => declaration(alloc, text),
         Command::ChangeVariable => change(alloc, variables, text),
-        Command::If => test(alloc, variables, text),
+        Command::If => choice_of_way(alloc, variables, text),
         Command::Else => Ok(otherwise(text)),
         Command::DoWhile => while_loop(alloc, variables, text),
         Command::EndDo => Ok(Some(Phrase::EndDo)),
