@@ -46,11 +46,11 @@ fn taken<I: Read + Drop>(alloc: Global, reader: I) -> Option<usize> {
 fn falls<C: Clock + Drop>(clock: C) -> u32 {
     let mut clock = clock;
     let mut last = 0;
-    let mut falls = 0;
+    let mut falls = 0u32;
     for _ in 0..10_000u32 {
         let now = clock.now();
         if now < last {
-            falls += 1;
+            falls = falls.saturating_add(1);
         }
         last = now;
     }
