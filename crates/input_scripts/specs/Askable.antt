@@ -1,0 +1,39 @@
+-- Which statements a job may run so far: those whose request the library answers, whatever its variables hold. (Our own.)
+use Rattle.std.specs.Prelude.{Bool, true, false, not, ◌&&◌, List}
+use Rattle.std.specs.List.{list_all}
+use Rattle.std.specs.Option.{is_none}
+use Rattle.library_model.specs.Built.{is_built, locks_nothing}
+use Rattle.library_model.specs.Running.{is_end_job}
+use Rattle.job_language.specs.declared.forms.RequestForm.{RequestForm}
+use Rattle.job_language.specs.declared.forms.RequestForm.TheVariants.{Fixed, DeleteReceiver, DisplayJournal, ApplyChanges, RemoveChanges, SetLowerLimit, SetGreaterThan, ReadEqual, ReadPriorEqual, Chain, Write, Update}
+use Rattle.job_language.specs.declared.statements.Action.{Action}
+use Rattle.job_language.specs.declared.statements.Action.TheVariants.{ChangeVariable, If, Else as ElseAction, DoWhile, Goto, Return, Request as RequestAction}
+use Rattle.job_language.specs.declared.statements.Script.{Script}
+
+-- the library answers it, and it isn't the end of the job, which a job asks for by itself
+abbrev pub is_askable_form : RequestForm → Bool
+is_askable_form (Fixed request) = is_built request && not (is_end_job request)
+is_askable_form (Chain form) = locks_nothing form.lock
+is_askable_form (Write form) = is_none form.record_number
+is_askable_form (DeleteReceiver operand) = false
+is_askable_form (DisplayJournal from to) = false
+is_askable_form (ApplyChanges form) = false
+is_askable_form (RemoveChanges form) = false
+is_askable_form (SetLowerLimit form) = false
+is_askable_form (SetGreaterThan form) = false
+is_askable_form (ReadEqual form) = false
+is_askable_form (ReadPriorEqual form) = false
+is_askable_form (Update form) = false
+
+-- a statement that asks nothing may be run in any case
+abbrev pub is_askable : Action → Bool
+is_askable (RequestAction args) = is_askable_form args.form
+is_askable (ChangeVariable variable value) = true
+is_askable (If condition otherwise) = true
+is_askable ElseAction = true
+is_askable (DoWhile condition otherwise) = true
+is_askable Goto = true
+is_askable Return = true
+
+abbrev pub is_askable_script : Script → Bool
+is_askable_script script = list_all (λ statement. is_askable statement.action) script.statements

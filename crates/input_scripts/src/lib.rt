@@ -1,0 +1,35 @@
+//! What was read of an input: its sources, its jobs' names, their scripts, and the order of their calls.
+#![tactic(auto)]
+
+use field_types::lists::ListOf;
+use field_types::names::Name;
+use job_language::statements::Script;
+use library_model::sources::Sources;
+
+/// The names of the jobs; job n has the n-th.
+pub type Names = ListOf<Name>;
+
+/// The scripts of the jobs in order.
+pub type ScriptList = ListOf<Script>;
+
+/// Numbers of jobs, from 1.
+pub type JobNumbers = ListOf<u32>;
+
+/// The order in which the jobs' calls are made.
+#[derive(Drop)]
+pub enum Schedule {
+    /// One call of each job in the list; after that the jobs run to their ends in order.
+    Jobs(JobNumbers),
+    /// One call of each job in turn, until all have ended.
+    RoundRobin,
+}
+
+/// What an input says.
+#[derive(Drop)]
+pub struct Scripts {
+    pub sources: Sources,
+    pub names: Names,
+    /// The script of each job, as many as names.
+    pub scripts: ScriptList,
+    pub schedule: Schedule,
+}

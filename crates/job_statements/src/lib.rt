@@ -1,0 +1,2 @@
+//! The statements of a job, read from its lines. Begin with `specs/Texts.antt` and `specs/Reading.antt`.
+#![tactic(auto)]
