@@ -1,0 +1,5 @@
+pub mod ReadingLemmas
+pub mod GivenLemmas
+pub mod BreakLemmas
+pub mod WayLemmas
+pub mod RemoveLemmas
