@@ -3,3 +3,4 @@ pub mod GivenLemmas
 pub mod BreakLemmas
 pub mod WayLemmas
 pub mod RemoveLemmas
+pub mod CommandLemmas

@@ -15,6 +15,7 @@ mod breaks;
 mod change;
 mod changes;
 mod fault;
+pub mod laws;
 mod overlay;
 mod reading;
 mod slot_given;
@@ -39,8 +40,11 @@ pub fn apply(
     entries: &[Entry],
 ) -> Result<Changes, ImagesFault>
     requires { AreNumbered (first_sequence entries.now) entries.now }
-    ensures given { let part = acts number (option_copied prior.entry) entries.now in IfOk result (λ changes. changes ≡ given_forward (numbered (first_sequence entries.now) part)) }
-    ensures done { let part = acts number (option_copied prior.entry) entries.now in let slots = member.now.state.slots in IfOk result (λ changes. applied_answer (first_sequence entries.now) part slots ≡ Ok (range_done (first_sequence entries.now) part (given_slots changes slots))) }
+    ensures given { let part = acts number (option_copied prior.entry) entries.now in
+        IfOk result (λ changes. changes ≡ given_forward (numbered (first_sequence entries.now) part)) }
+    ensures done { let part = acts number (option_copied prior.entry) entries.now in
+        let slots = member.now.state.slots in
+        IfOk result (λ changes. applied_answer (first_sequence entries.now) part slots ≡ Ok (range_done (first_sequence entries.now) part (given_slots changes slots))) }
     ensures fault { TellsFault result (applied_answer (first_sequence entries.now) (acts number (option_copied prior.entry) entries.now) member.now.state.slots) }
 {
     if let Some(fault) = breaks::break_forward(entries, number) {
@@ -61,8 +65,11 @@ pub fn remove(
     entries: &[Entry],
 ) -> Result<Changes, ImagesFault>
     requires { AreNumbered (first_sequence entries.now) entries.now }
-    ensures given { let part = acts number (option_copied prior.entry) entries.now in IfOk result (λ changes. changes ≡ given_back (numbered (first_sequence entries.now) part)) }
-    ensures done { let part = acts number (option_copied prior.entry) entries.now in let slots = member.now.state.slots in IfOk result (λ changes. removed_answer (first_sequence entries.now) part slots ≡ Ok (range_done (first_sequence entries.now) part (given_slots changes slots))) }
+    ensures given { let part = acts number (option_copied prior.entry) entries.now in
+        IfOk result (λ changes. changes ≡ given_back (numbered (first_sequence entries.now) part)) }
+    ensures done { let part = acts number (option_copied prior.entry) entries.now in
+        let slots = member.now.state.slots in
+        IfOk result (λ changes. removed_answer (first_sequence entries.now) part slots ≡ Ok (range_done (first_sequence entries.now) part (given_slots changes slots))) }
     ensures fault { TellsFault result (removed_answer (first_sequence entries.now) (acts number (option_copied prior.entry) entries.now) member.now.state.slots) }
 {
     if let Some(fault) = breaks::break_back(entries, number) {

@@ -152,7 +152,8 @@ impl Overlay {
         change: SlotChange<'_>,
     ) -> Result<(), ImagesFault>
         requires { self.old.count ≡ length (given_slots self.old.given member.now.state.slots) }
-        ensures done { OnOk result (GoesOn (redo (numbered_of change.entry) (given_slots self.old.given member.now.state.slots)) member.now.state.slots (given_after (numbered_of change.entry)) self.old self.new) }
+        ensures done { let slots = member.now.state.slots in
+            OnOk result (GoesOn (redo (numbered_of change.entry) (given_slots self.old.given slots)) slots (given_after (numbered_of change.entry)) self.old self.new) }
         ensures fault { TellsFault result (redo (numbered_of change.entry) (given_slots self.old.given member.now.state.slots)) }
     {
         let place = change.rrn - 1;
@@ -172,7 +173,8 @@ impl Overlay {
         change: SlotChange<'_>,
     ) -> Result<(), ImagesFault>
         requires { self.old.count ≡ length (given_slots self.old.given member.now.state.slots) }
-        ensures done { OnOk result (GoesOn (undo (numbered_of change.entry) (given_slots self.old.given member.now.state.slots)) member.now.state.slots (given_before (numbered_of change.entry)) self.old self.new) }
+        ensures done { let slots = member.now.state.slots in
+            OnOk result (GoesOn (undo (numbered_of change.entry) (given_slots self.old.given slots)) slots (given_before (numbered_of change.entry)) self.old self.new) }
         ensures fault { TellsFault result (undo (numbered_of change.entry) (given_slots self.old.given member.now.state.slots)) }
     {
         let Some(before) = change.sides.before else {
