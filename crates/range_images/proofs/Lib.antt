@@ -1,0 +1,6 @@
+pub mod ReadingLemmas
+pub mod GivenLemmas
+pub mod BreakLemmas
+pub mod WayLemmas
+pub mod RemoveLemmas
+pub mod CommandLemmas

@@ -1,0 +1,5 @@
+pub mod Sides
+pub mod Breaks
+pub mod Faults
+pub mod Given
+pub mod Images
