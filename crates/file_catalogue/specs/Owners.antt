@@ -1,7 +1,7 @@
 -- Which file a member belongs to; no two members of a library have one number. (Database Programming, "Physical file members".)
 use Rattle.std.specs.Prelude.{◌≡◌, ℕ, Bool, true, nat_eq, Option, Some, None, List, [], ◌∷◌, map, if◌then◌else◌}
 use Rattle.std.specs.List.{IsDistinct}
-use Rattle.std.specs.Option.{is_some}
+use Rattle.std.specs.Option.{is_some, option_and_then}
 use Rattle.library_model.specs.Named.{Named, named}
 use Rattle.library_steps.specs.State.{FileState, MemberStatus}
 use Rattle.library_steps.specs.SlotChange.{status_in}
@@ -12,6 +12,10 @@ has_number number members = is_some (status_in number members)
 
 abbrev pub numbers_of : Named MemberStatus → List ℕ
 numbers_of members = map (λ entry. entry.1.number) members
+
+-- the status of the member with this number, where the file is there and has it
+abbrev pub status_of : ℕ → Option FileState → Option MemberStatus
+status_of number file = option_and_then (λ f. status_in number f.members) file
 
 -- the name of the file that has the member with this number
 abbrev pub owner : ℕ → Named FileState → Option (List ℕ)

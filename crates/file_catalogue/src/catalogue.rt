@@ -10,16 +10,16 @@ ghost use Rattle.library_steps.specs.State.{status_changed};
 ghost use Rattle.library_steps.specs.DeleteFile.{first_dependent, without_file};
 ghost use Rattle.library_steps.specs.MemberCommands.{file_changed, with_member_name, renumbered};
 ghost use Rattle.library_steps.specs.Journaling.{journaled_from, no_longer_journaled};
-ghost use Rattle.library_steps.specs.SlotChange.{status_in, status_among, touched};
+ghost use Rattle.library_steps.specs.SlotChange.{status_among, touched};
 ghost use Rattle.file_catalogue.specs.Statuses.{after};
-ghost use Rattle.file_catalogue.specs.Owners.{AreApart, numbers_of, owner};
+ghost use Rattle.file_catalogue.specs.Owners.{AreApart, numbers_of, owner, status_of};
 
 use crate::changes::StatusChange;
 use crate::files::File;
 use crate::owners::{add_owned, remove_owned};
 use crate::status::MemberStatus;
 use dds_physical::Refs;
-use entry_codec::kinds::Images;
+use entry_codec::Images;
 use field_types::names::Name;
 use indexmap::IndexMap;
 use record_fmt::formats::Format;
@@ -81,26 +81,39 @@ impl Catalogue {
         self.files.get(name)
     }
 
+    /// The name of the file that has the member with that number.
+    pub fn owner(&self, number: u32) -> Option<Name>
+        ensures value { result ≡ owner number self.now.files }
+        ensures status { option_and_then (λ name. status_of number (named name self.now.files)) result ≡ status_among number self.now.files }
+    {
+        // No two files have one name.
+        let _len = self.files.len();
+        let Some(name) = self.owners.get(&number) else {
+            return None;
+        };
+        if self.member_in(name, number).is_none() {
+            return None;
+        }
+        Some(*name)
+    }
+
     /// The status of the member with that number.
     pub fn member(&self, number: u32) -> Option<MemberStatus>
         ensures { result ≡ status_among number self.now.files }
     {
-        let name = self.owners.get(&number)?;
-        let file = self.files.get(name)?;
-        file.numbered(number)
+        match self.owner(number) {
+            Some(file) => self.member_in(&file, number),
+            None => None,
+        }
     }
 
-    /// The name of the file that has the member with that number.
-    pub fn owner(&self, number: u32) -> Option<Name>
-        ensures value { result ≡ owner number self.now.files }
-        ensures status { option_and_then (λ name. option_and_then (λ file. status_in number file.members) (named name self.now.files)) result ≡ status_among number self.now.files }
+    /// The status of the member with that number, where the file has it.
+    fn member_in(&self, file: &Name, number: u32) -> Option<MemberStatus>
+        ensures { result ≡ status_of number (named file.now self.now.files) }
     {
-        let name = self.owners.get(&number)?;
-        let file = self.files.get(name)?;
-        if file.numbered(number).is_some() {
-            Some(*name)
-        } else {
-            None
+        match self.files.get(file) {
+            Some(file) => file.numbered(number),
+            None => None,
         }
     }
 
@@ -211,13 +224,13 @@ impl Catalogue {
         ensures files { self.new.files ≡ map (λ entry. (entry.0, status_changed number (after change) entry.1)) self.old.files }
         ensures room { (self.new.room ≡ self.old.room) × (self.new.member_room ≡ self.old.member_room) }
     {
-        let Some(owner) = self.owners.get(&number) else {
-            return
+        let Some(owner) = self.owner(number) else {
+            return;
         };
-        let owner = *owner;
-        if let Some(file) = self.files.get_mut(&owner) {
-            file.change(number, change);
-        }
+        self.files
+            .get_mut(&owner)
+            .unwrap()
+            .change(number, change);
     }
 }
 

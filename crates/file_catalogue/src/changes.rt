@@ -1,5 +1,5 @@
 //! What changes the status of a member.
-use entry_codec::kinds::Images;
+use entry_codec::Images;
 
 /// A change of a member's status.
 #[derive(Clone, Copy)]

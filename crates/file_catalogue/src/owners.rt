@@ -22,6 +22,6 @@ pub(crate) fn remove_owned(owners: &mut IndexMap<u32, Name>, members: &Members)
     ensures { (number : ℕ) → get nat_eq owners.new number ≡ (if has_number number members.now then None else get nat_eq owners.old number) }
 {
     for (_, status) in members.as_slice() {
-        let _owner = owners.swap_remove(status.number());
+        let _owner = owners.swap_remove(&status.number());
     }
 }

@@ -5,7 +5,7 @@ ghost use Rattle.library_steps.specs.MemberCommands.{renumbered};
 ghost use Rattle.file_catalogue.specs.Statuses.{after};
 
 use crate::changes::StatusChange;
-use entry_codec::kinds::Images;
+use entry_codec::Images;
 use std::marker::Model;
 
 /// The status of a member: whether it is journaled, and what became of its records while it wasn't.

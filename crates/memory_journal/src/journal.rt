@@ -5,9 +5,9 @@ ghost use Rattle.library_steps.specs.Receivers.{last_in};
 ghost use Rattle.memory_journal.specs.declared.journal.TheConstants.{GREATEST_SEQUENCE};
 ghost use Rattle.memory_journal.specs.Journal.{empty_journal, last_entry, read, fault_reply, deposited, attached, given_up};
 
+use crate::ends::next_receiver;
 use crate::faults::JournalFault;
-use entry_codec::entries::{Draft, Entry};
-use entry_codec::kinds::EntryKind;
+use entry_codec::{Draft, Entry};
 use library_steps::limits::LAST_RECEIVER;
 use std::alloc::{AllocError, Global};
 use std::marker::Model;
@@ -126,8 +126,8 @@ impl MemoryJournal {
         ensures { result ≡ last_in receiver self.now.journal.entries }
     {
         for entry in self.entries.iter() {
-            if let EntryKind::NextReceiver { number } = entry.kind {
-                if u64::from(number) == u64::from(receiver) + 1 {
+            if let Some(next) = next_receiver(&entry.kind) {
+                if u64::from(next) == u64::from(receiver) + 1 {
                     return Some(entry.sequence);
                 }
             }

@@ -1,6 +1,7 @@
 //! The journal in memory: the entries that are kept, the receivers, and the last checkpoint. Begin with `journal.rt`.
 #![tactic(auto)]
 
+mod ends;
 pub mod faults;
 pub mod journal;
 
