@@ -1,1 +1,2 @@
 pub mod DepositLemmas
+pub mod NumberLemmas

@@ -1,14 +1,15 @@
 -- What the journal holds, what reading entries of it gives, and what attaching a receiver and giving receivers up change.
 -- (Journal Management, "Managing receivers".)
-use Rattle.std.specs.Prelude.{◌≡◌, ℕ, ◌+◌, ◌-◌, ◌≤◌, Result, Ok, Err, List, [], ◌∷◌, ◌++◌, length, drop}
+use Rattle.std.specs.Prelude.{ℕ, ◌+◌, ◌-◌, Result, Ok, List, [], ◌++◌, length, drop, unwrap_or}
 use Rattle.entry_codec.specs.declared.entries.Entry.{Entry}
 use Rattle.entry_codec.specs.declared.entries.Draft.{Draft}
 use Rattle.journal_model.specs.Rollback.{numbered_from}
 use Rattle.library_model.specs.declared.replies.Reply.{Reply}
 use Rattle.library_model.specs.declared.replies.Reply.TheVariants as replies
-use Rattle.library_steps.specs.State.{Memory, Receivers, State, empty_library, memory_of}
+use Rattle.library_steps.specs.State.{Memory, Receivers, empty_library, memory_of}
 use Rattle.library_steps.specs.Refusals.{◌>>=◌}
 use Rattle.library_steps.specs.JournalReads.{are_there, are_kept, entries_between}
+use Rattle.library_steps.specs.Receivers.{last_in}
 use Rattle.memory_journal.specs.declared.faults.JournalFault.{JournalFault}
 use Rattle.memory_journal.specs.declared.faults.JournalFault.TheVariants.{NoSuchEntry, ReceiverGone}
 
@@ -58,3 +59,7 @@ attached number j = record j { receivers = record j.receivers { attached = numbe
 -- the receivers up to this one are gone, and the entries up to this sequence with them
 abbrev pub given_up : (number last : ℕ) → Journal → Journal
 given_up number last j = record j { gone = last; entries = drop (last - j.gone) j.entries; receivers = record j.receivers { first = number + 1 } }
+
+-- the same, up to the last entry of the receiver
+abbrev pub dropped : (number : ℕ) → Journal → Journal
+dropped number j = given_up number (unwrap_or (last_in number j.entries) j.gone) j

@@ -1,9 +1,10 @@
 //! The journal in memory.
-ghost use Rattle.std.specs.Prelude.{◌≡◌, ◌≤◌, ◌<◌, ◌+◌, ◌^◌, [], ◌∷◌, ◌++◌, length, Ok, Err, OnOk, IfOk, IfErr};
+ghost use Rattle.std.specs.Prelude.{◌≡◌, ◌≤◌, ◌<◌, ◌+◌, ◌^◌, [], ◌∷◌, ◌++◌, length, drop, vec_capacity, Ok, Err, OnOk, IfOk, IfErr};
 ghost use Rattle.library_steps.specs.declared.limits.TheConstants.{LAST_RECEIVER};
 ghost use Rattle.library_steps.specs.Receivers.{last_in};
-ghost use Rattle.memory_journal.specs.declared.journal.TheConstants.{GREATEST_SEQUENCE};
-ghost use Rattle.memory_journal.specs.Journal.{empty_journal, last_entry, read, fault_reply, deposited, attached, given_up};
+ghost use Rattle.journal_model.specs.Journal.{AreNumbered};
+ghost use Rattle.memory_journal.specs.declared.journal.TheConstants.{LAST_BEFORE_DEPOSIT};
+ghost use Rattle.memory_journal.specs.Journal.{empty_journal, last_entry, read, fault_reply, deposited, attached, given_up, dropped};
 
 use crate::ends::next_receiver;
 use crate::faults::JournalFault;
@@ -12,8 +13,8 @@ use library_steps::limits::LAST_RECEIVER;
 use std::alloc::{AllocError, Global};
 use std::marker::Model;
 
-/// The greatest sequence that an entry has.
-pub const GREATEST_SEQUENCE: u64 = 9_223_372_036_854_775_807;
+/// The greatest last sequence behind which entries may be deposited.
+pub const LAST_BEFORE_DEPOSIT: u64 = 9_223_372_036_854_775_808;
 
 /// The entries that are kept, the receivers, and the last checkpoint.
 #[derive(Drop)]
@@ -27,7 +28,8 @@ pub struct MemoryJournal {
 
 impl Model for MemoryJournal {
     ghost use Rattle.std.specs.Prelude.{◌≤◌, ◌+◌, ◌-◌, length, vec_capacity, vec_len};
-    ghost use Rattle.memory_journal.specs.declared.journal.TheConstants.{GREATEST_SEQUENCE};
+    ghost use Rattle.journal_model.specs.Journal.{AreNumbered};
+    ghost use Rattle.memory_journal.specs.declared.journal.TheConstants.{LAST_BEFORE_DEPOSIT};
     ghost use Rattle.memory_journal.specs.Journal.{Held};
 
     ghost Value = { Held };
@@ -42,7 +44,7 @@ impl Model for MemoryJournal {
       room = vec_capacity j.entries - vec_len j.entries;
     } };
 
-    ghost invariant = { λ j. j.gone + length j.entries.items ≤ GREATEST_SEQUENCE };
+    ghost invariant = { λ j. (j.gone + length j.entries.items ≤ LAST_BEFORE_DEPOSIT + 2) × AreNumbered (j.gone + 1) j.entries.items };
 }
 
 impl MemoryJournal {
@@ -63,7 +65,8 @@ impl MemoryJournal {
     pub fn bounds(&self) -> (u64, u64)
         ensures first { result.0 ≡ self.now.journal.gone + 1 }
         ensures last { result.1 ≡ last_entry self.now.journal }
-        ensures fits { last_entry self.now.journal ≤ GREATEST_SEQUENCE }
+        ensures fits { last_entry self.now.journal ≤ LAST_BEFORE_DEPOSIT + 2 }
+        ensures numbered { AreNumbered (self.now.journal.gone + 1) self.now.journal.entries }
     {
         (self.gone + 1, self.gone + self.entries.len() as u64)
     }
@@ -80,7 +83,17 @@ impl MemoryJournal {
     /// Gives the draft the next sequence, and answers it.
     pub fn deposit(&mut self, draft: Draft) -> u64
         requires room { 1 ≤ self.old.room }
-        requires left { last_entry self.old.journal < GREATEST_SEQUENCE }
+        requires left { last_entry self.old.journal ≤ LAST_BEFORE_DEPOSIT }
+        ensures sequence { result ≡ last_entry self.old.journal + 1 }
+        ensures deposited { self.new.journal ≡ deposited (draft ∷ []) self.old.journal }
+        ensures room { self.old.room ≤ self.new.room + 1 }
+    {
+        self.push(draft)
+    }
+
+    fn push(&mut self, draft: Draft) -> u64
+        requires room { 1 ≤ self.old.room }
+        requires left { last_entry self.old.journal ≤ LAST_BEFORE_DEPOSIT + 1 }
         ensures sequence { result ≡ last_entry self.old.journal + 1 }
         ensures deposited { self.new.journal ≡ deposited (draft ∷ []) self.old.journal }
         ensures room { self.old.room ≤ self.new.room + 1 }
@@ -107,7 +120,7 @@ impl MemoryJournal {
         Ok(&self.entries.as_slice()[from..from + count])
     }
 
-    /// The receivers that are kept: the number of the first.
+    /// The number of the first receiver that is kept.
     pub fn first_receiver(&self) -> u32
         ensures { result ≡ self.now.journal.receivers.first }
     {
@@ -139,19 +152,28 @@ impl MemoryJournal {
     pub fn switch(&mut self, next: Draft, previous: Draft) -> u32
         requires few { self.old.journal.receivers.attached < LAST_RECEIVER }
         requires room { 2 ≤ self.old.room }
-        requires left { last_entry self.old.journal + 2 ≤ GREATEST_SEQUENCE }
+        requires left { last_entry self.old.journal ≤ LAST_BEFORE_DEPOSIT }
         ensures number { result ≡ self.old.journal.receivers.attached + 1 }
         ensures switched { self.new.journal ≡ attached (self.old.journal.receivers.attached + 1) (deposited (next ∷ previous ∷ []) self.old.journal) }
         ensures room { self.old.room ≤ self.new.room + 2 }
     {
-        let _sequence = self.deposit(next);
-        let _sequence = self.deposit(previous);
+        let _sequence = self.push(next);
+        let _sequence = self.push(previous);
         self.attached += 1;
         self.attached
     }
 
-    /// The receivers up to this one are gone, and the entries up to that sequence with them.
-    pub fn drop_before(&mut self, receiver: u32, last: u64)
+    /// The receivers up to this one are gone, and their entries with them.
+    pub fn drop_before(&mut self, receiver: u32)
+        requires { receiver < self.old.journal.receivers.attached }
+        ensures journal { self.new.journal ≡ dropped receiver self.old.journal }
+        ensures room { self.old.room ≤ self.new.room }
+    {
+        let last = self.last_in(receiver).unwrap_or(self.gone);
+        self.give_up(receiver, last);
+    }
+
+    fn give_up(&mut self, receiver: u32, last: u64)
         requires kept { self.old.journal.gone ≤ last }
         requires there { last ≤ last_entry self.old.journal }
         requires below { receiver < self.old.journal.receivers.attached }
@@ -159,9 +181,7 @@ impl MemoryJournal {
         ensures room { self.old.room ≤ self.new.room }
     {
         let count = (last - self.gone) as usize;
-        let left = self.entries.len() - count;
-        self.entries.rotate_left(count);
-        self.entries.truncate(left);
+        drop_front(&mut self.entries, count);
         self.gone = last;
         self.first = receiver + 1;
     }
@@ -180,4 +200,15 @@ impl MemoryJournal {
     {
         self.checkpoint = sequence;
     }
+}
+
+/// The first entries are gone; the others keep their order, and the memory stays.
+fn drop_front(entries: &mut Vec<Entry>, count: usize)
+    requires { count ≤ length entries.old.items }
+    ensures items { entries.new.items ≡ drop count entries.old.items }
+    ensures capacity { vec_capacity entries.new ≡ vec_capacity entries.old }
+{
+    let left = entries.len() - count;
+    entries.rotate_left(count);
+    entries.truncate(left);
 }
