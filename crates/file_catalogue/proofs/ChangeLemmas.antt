@@ -1,16 +1,16 @@
 -- What becomes of the files, and of who owns their members, when a file is added, taken out or changed.
-use Rattle.std.proofs.Common.{◌≡◌, ◌⊎◌, inl, inr, ℕ, Bool, true, false, cond, not, ◌||◌, ◌==◌, nat_eq, List, [], ◌∷◌, ◌++◌, Option, Some, None, refl, sym, ◌∙◌, ap, subst, map, if◌then◌else◌}
+use Rattle.std.proofs.Common.{◌≡◌, ◌⊎◌, inl, inr, ℕ, Bool, true, false, cond, ◌||◌, ◌==◌, nat_eq, List, [], ◌∷◌, ◌++◌, Option, Some, None, refl, sym, ◌∙◌, ap, subst, map}
 use Rattle.std.proofs.lemmas.Bool.{eqb-true}
 use Rattle.std.specs.List.{AllByRecursion, IsDistinct}
-use Rattle.std.specs.Option.{is_some, option_map}
+use Rattle.std.specs.Option.{option_map}
 use Rattle.std.specs.Map.{keys_of, set_value}
 use Rattle.library_model.specs.Named.{Named, named, same_name}
 use Rattle.library_steps.specs.State.{FileState, MemberStatus, status_changed}
 use Rattle.library_steps.specs.DeleteFile.{without_file}
 use Rattle.library_steps.specs.MemberCommands.{with_member_name, file_changed}
-use Rattle.library_steps.specs.SlotChange.{status_in, status_among}
+use Rattle.library_steps.specs.SlotChange.{status_among}
 use Rattle.file_catalogue.specs.Owners.{has_number, numbers_of, owner, Owns, IsOwned}
-use Rattle.file_catalogue.proofs.NameLemmas.{same_name-equal, same_name-self, same_name-symm, some-equal, named-append, named-without}
+use Rattle.file_catalogue.proofs.NameLemmas.{same_name-equal, same_name-self, some-equal, named-append, named-without}
 use Rattle.file_catalogue.proofs.StatusLemmas.{has_number-cons, changed_in-absent, changed_in-numbers, has_number-changed_in, has_number-push, distinct-push}
 use Rattle.file_catalogue.proofs.OwnerLemmas.{first_differs, owns-behind, owns-first, Unowned, status-unowned, IsOnly}
 
@@ -44,6 +44,7 @@ owned-added files found after name file is fresh distinct says = record {
         ] refl
     owned other another number owns (inr same) =
         says number ∙ ap (λ b. cond b (Some name) (found number)) (ap (λ (x : FileState). has_number number x.members) same.1 ∙ owns.has) ∙ ap Some (sym same.0)
+
     within : (other : List ℕ) (another : FileState) → (named other files ≡ Some another) ⊎ ((other ≡ name) × (file ≡ another)) → IsDistinct nat_eq (numbers_of another.members)
     within other another (inl there) = is.within other another there
     within other another (inr same) = subst (λ (x : FileState). IsDistinct nat_eq (numbers_of x.members)) same.1 distinct
@@ -127,6 +128,7 @@ owned-member_added files found after name member new is fresh says = record {
           | true ↦ λ same e. let was = changed-from (with_member_name member new) (named other files) another e in inl (same, was.0, was.1, was.2)
           | false ↦ λ differ e. inr e
         ] refl (sym (named-file_changed name other (with_member_name member new) files) ∙ there)
+
     old : (other : List ℕ) (another : FileState) (number : ℕ) → Owns files other another number → after number ≡ Some other
     old other another number owns =
         says number ∙
@@ -134,21 +136,25 @@ owned-member_added files found after name member new is fresh says = record {
           | true ↦ λ same. absurd (status-unowned new files fresh other another (subst (λ n. Owns files other another n) (sym (eqb-true new number same)) owns))
           | false ↦ λ differ. is.owned other another number owns
         ] refl
+
     grown : (other : List ℕ) (another : FileState) (number : ℕ) → has_number number another.members ≡ true → same_name name other ≡ true → (file : FileState) → named other files ≡ Some file → with_member_name member new file ≡ another → after number ≡ Some other
     grown other another number has same file there e =
         elim (has_number number file.members) as (λ b. has_number number file.members ≡ b → (b || nat_eq new number) ≡ true → after number ≡ Some other) [
           | true ↦ λ f g. old other file number (record { there = there; has = f })
           | false ↦ λ f g. says number ∙ ap (λ b. cond b (Some name) (found number)) g ∙ ap Some (same_name-equal name other same)
         ] refl (sym (has_number-push number file.members member new) ∙ ap (λ (x : FileState). has_number number x.members) e ∙ has)
+
     owned : (other : List ℕ) (another : FileState) (number : ℕ) → has_number number another.members ≡ true → ((same_name name other ≡ true) × (file : FileState) × (named other files ≡ Some file) × (with_member_name member new file ≡ another)) ⊎ (named other files ≡ Some another) → after number ≡ Some other
     owned other another number has (inl at) = grown other another number has at.0 at.1 at.2 at.3
     owned other another number has (inr there) = old other another number (record { there = there; has = has })
+
     lacks : (other : List ℕ) (file : FileState) → named other files ≡ Some file → has_number new file.members ≡ false
     lacks other file there =
         elim (has_number new file.members) as (λ b. has_number new file.members ≡ b → b ≡ false) [
           | true ↦ λ has. absurd (status-unowned new files fresh other file (record { there = there; has = has }))
           | false ↦ λ f. refl
         ] refl
+
     within : (other : List ℕ) (another : FileState) → ((same_name name other ≡ true) × (file : FileState) × (named other files ≡ Some file) × (with_member_name member new file ≡ another)) ⊎ (named other files ≡ Some another) → IsDistinct nat_eq (numbers_of another.members)
     within other another (inl at) = subst (λ (x : FileState). IsDistinct nat_eq (numbers_of x.members)) at.3 (distinct-push at.1.members member new (lacks other at.1 at.2) (is.within other at.1 at.2))
     within other another (inr there) = is.within other another there
@@ -159,7 +165,7 @@ owned-member_added files found after name member new is fresh says = record {
 abbrev pub each_changed : (FileState → FileState) → Named FileState → Named FileState
 each_changed change files = map (λ entry. (entry.0, change entry.1)) files
 
-named-each_changed : (name : List ℕ) (change : FileState → FileState) (files : Named FileState) → named name (each_changed change files) ≡ option_map change (named name files)
+pub named-each_changed : (name : List ℕ) (change : FileState → FileState) (files : Named FileState) → named name (each_changed change files) ≡ option_map change (named name files)
 named-each_changed name change [] = refl
 named-each_changed name change (entry ∷ files) =
     elim (same_name name entry.0) as (λ b. cond b (Some (change entry.1)) (named name (each_changed change files)) ≡ option_map change (cond b (Some entry.1) (named name files))) [
@@ -167,7 +173,7 @@ named-each_changed name change (entry ∷ files) =
       | false ↦ named-each_changed name change files
     ]
 
-status_changed-absent : (number : ℕ) (change : MemberStatus → MemberStatus) (file : FileState) → has_number number file.members ≡ false → status_changed number change file ≡ file
+pub status_changed-absent : (number : ℕ) (change : MemberStatus → MemberStatus) (file : FileState) → has_number number file.members ≡ false → status_changed number change file ≡ file
 status_changed-absent number change file absent = ap (λ (m : Named MemberStatus). record file { members = m }) (changed_in-absent number change file.members absent)
 
 -- a member without an owner isn't changed

@@ -1,12 +1,12 @@
 -- Which file owns a member, by what the files' names find.
-use Rattle.std.proofs.Common.{◌≡◌, ℕ, Bool, true, false, cond, not, nat_eq, List, [], ◌∷◌, ◌++◌, Option, Some, None, refl, sym, ◌∙◌, ap, subst}
+use Rattle.std.proofs.Common.{◌≡◌, ℕ, true, false, cond, List, [], ◌∷◌, Option, Some, None, refl, sym, ◌∙◌, ap, subst}
 use Rattle.std.specs.List.{AllByRecursion, IsDistinct}
 use Rattle.std.specs.Option.{is_some, option_and_then}
 use Rattle.std.specs.Map.{keys_of}
 use Rattle.library_model.specs.Named.{Named, named, same_name}
-use Rattle.library_steps.specs.State.{FileState, MemberStatus}
+use Rattle.library_steps.specs.State.{FileState}
 use Rattle.library_steps.specs.SlotChange.{status_in, status_among}
-use Rattle.file_catalogue.specs.Owners.{has_number, numbers_of, owner, status_of, Owns, AreApart, IsOwned}
+use Rattle.file_catalogue.specs.Owners.{has_number, owner, status_of, Owns, AreApart, IsOwned}
 use Rattle.file_catalogue.proofs.NameLemmas.{same_name-equal, same_name-self, same_name-symm, some-equal}
 
 pub owned-apart : {files : Named FileState} {found : ℕ → Option (List ℕ)} → IsOwned files found → AreApart files
@@ -78,6 +78,7 @@ owner-status number name file (entry ∷ files) distinct owns only =
         let same : name ≡ entry.0 = only entry.0 entry.1 (owns-first entry files number has) in
         let found : Some entry.1 ≡ Some file = sym (rw (same_name-self entry.0) refl) ∙ ap (λ n. named n (entry ∷ files)) (sym same) ∙ owns.there in
         (ap (λ (x : FileState). status_in number x.members) (some-equal found), ap Some (sym same))
+
     behind : has_number number entry.1.members ≡ false → (named name files ≡ Some file → (status_among number files ≡ status_in number file.members) × (owner number files ≡ Some name)) → (status_among number files ≡ status_in number file.members) × (owner number files ≡ Some name)
     behind lacks rest =
         elim (same_name name entry.0) as (λ b. cond b (Some entry.1) (named name files) ≡ Some file → (status_among number files ≡ status_in number file.members) × (owner number files ≡ Some name)) [
@@ -108,9 +109,9 @@ owner-none {found} number files distinct is at =
 pub owner-stale : {found : ℕ → Option (List ℕ)} (number : ℕ) (name : List ℕ) (files : Named FileState) → IsDistinct same_name (keys_of files) → IsOwned files found → found number ≡ Some name → is_some (status_of number (named name files)) ≡ false → IsOwner number files None
 owner-stale {found} number name files distinct is at lacks =
     let both = unowned-status number files distinct (λ other file owns.
-      let same : name ≡ other = some-equal (sym at ∙ is.owned other file number owns) in
-      let has : is_some (status_of number (named name files)) ≡ true = ap (λ n. is_some (status_of number (named n files))) same ∙ ap (λ o. is_some (status_of number o)) owns.there ∙ owns.has in
-      absurd cc) in
+    let same : name ≡ other = some-equal (sym at ∙ is.owned other file number owns) in
+    let has : is_some (status_of number (named name files)) ≡ true = ap (λ n. is_some (status_of number (named n files))) same ∙ ap (λ o. is_some (status_of number o)) owns.there ∙ owns.has in
+    absurd cc) in
     (sym both.1, sym both.0)
 
 -- the owner is there, and has the member

@@ -1,11 +1,10 @@
 -- What a file's members find by a number, with one member more and with a status changed.
-use Rattle.std.proofs.Common.{◌≡◌, ℕ, Bool, true, false, cond, not, ◌||◌, ◌==◌, nat_eq, List, [], ◌∷◌, ◌++◌, Option, Some, None, refl, sym, ◌∙◌, ap, subst, map, if◌then◌else◌, arith}
+use Rattle.std.proofs.Common.{◌≡◌, ℕ, Bool, true, false, cond, ◌||◌, ◌==◌, nat_eq, List, [], ◌∷◌, ◌++◌, Some, None, refl, sym, ◌∙◌, ap, map, if◌then◌else◌}
 use Rattle.std.specs.List.{AllByRecursion, IsDistinct, find}
 use Rattle.std.specs.Option.{is_some, option_map}
 use Rattle.library_model.specs.Named.{Named}
-use Rattle.library_steps.specs.State.{FileState, MemberStatus, status_changed}
+use Rattle.library_steps.specs.State.{MemberStatus}
 use Rattle.library_steps.specs.CreatePhysicalFile.{new_status}
-use Rattle.library_steps.specs.SlotChange.{status_in}
 use Rattle.library_steps.specs.MemberCommands.{renumbered}
 use Rattle.file_catalogue.specs.Statuses.{after}
 use Rattle.file_catalogue.specs.declared.changes.StatusChange.{StatusChange}

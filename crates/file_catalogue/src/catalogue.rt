@@ -1,12 +1,12 @@
 //! The files of the library in order of creation, found by their names and by their members' numbers, with room for more.
-ghost use Rattle.std.specs.Prelude.{◌≡◌, ◌≤◌, ◌<◌, None, Some, [], ◌∷◌, ◌++◌, length, map, nat_eq, OnOk, IfOk, IfSome, IsSome, option_copied, slice_get};
+ghost use Rattle.std.specs.Prelude.{List, ℕ, ◌≡◌, ◌≤◌, ◌<◌, None, Some, [], ◌∷◌, ◌++◌, length, map, nat_eq, OnOk, IfOk, IfSome, IsSome, option_copied, slice_get};
 ghost use Rattle.std.specs.List.{AllByRecursion, IsDistinct};
 ghost use Rattle.std.specs.Map.{keys_of};
-ghost use Rattle.std.specs.Map.Iter.{deref_pair};
+ghost use Rattle.std.specs.Map.Iter.{ShowsInOrder, deref_pair};
 ghost use Rattle.std.specs.Option.{option_map, option_and_then};
 ghost use Rattle.library_model.specs.Named.{named, same_name};
 ghost use Rattle.library_steps.specs.declared.limits.TheConstants.{MOST_MEMBERS};
-ghost use Rattle.library_steps.specs.State.{status_changed};
+ghost use Rattle.library_steps.specs.State.{FileState, status_changed};
 ghost use Rattle.library_steps.specs.DeleteFile.{first_dependent, without_file};
 ghost use Rattle.library_steps.specs.MemberCommands.{file_changed, with_member_name, renumbered};
 ghost use Rattle.library_steps.specs.Journaling.{journaled_from, no_longer_journaled};
@@ -22,6 +22,7 @@ use dds_physical::Refs;
 use entry_codec::Images;
 use field_types::names::Name;
 use indexmap::IndexMap;
+use indexmap::map::Iter;
 use record_fmt::formats::Format;
 use std::alloc::{AllocError, Global};
 use std::marker::Model;
@@ -74,6 +75,14 @@ impl Catalogue {
         self.files.get_index(place)
     }
 
+    /// The files in order of creation.
+    pub fn iter(&self) -> Iter<'_, Name, File>
+        ensures rest { result ≡ self.now.files }
+        ensures runs { ShowsInOrder (deref_pair {K = List ℕ} {X = FileState}) }
+    {
+        self.files.iter()
+    }
+
     /// The file of that name.
     pub fn named(&self, name: &Name) -> Option<&File>
         ensures { option_copied result ≡ named name.now self.now.files }
@@ -121,7 +130,7 @@ impl Catalogue {
     pub fn first_dependent(&self, name: &Name) -> Option<Name>
         ensures { result ≡ first_dependent name.now self.now.files }
     {
-        for (other, file) in self.files.iter() {
+        for (other, file) in self.iter() {
             if file.refers_to(name) {
                 return Some(*other);
             }
@@ -227,10 +236,7 @@ impl Catalogue {
         let Some(owner) = self.owner(number) else {
             return;
         };
-        self.files
-            .get_mut(&owner)
-            .unwrap()
-            .change(number, change);
+        self.files.get_mut(&owner).unwrap().change(number, change);
     }
 }
 

@@ -1,4 +1,4 @@
-use Rattle.std.proofs.Common.{◌∙◌, sym, ap, nat_eq, Some}
+use Rattle.std.proofs.Common.{◌∙◌, sym, ap, nat_eq}
 use Rattle.std.specs.Map.{set_value}
 use Rattle.std.specs.Option.{option_copied_mut}
 use Rattle.indexmap.specs.IndexMap.{get}
@@ -19,7 +19,7 @@ invariant_of-self c =
     let change = with_member_name c.args.member c.args.number in
     let entries = c.self.inside.files.entries in
     let files = (c.get_mut.follows.holds c.add_member.new.self).0 ∙ ap (set_value (same_name c.args.file.now) entries) c.add_member.ensures
-      ∙ set_value-file_changed c.args.file.now change c.unwrap.result.now entries c.get_mut.ensures.unique there in
+    ∙ set_value-file_changed c.args.file.now change c.unwrap.result.now entries c.get_mut.ensures.unique there in
     rw files
     (owned-member_added entries (get nat_eq c.self.inside.owners) (get nat_eq c.insert.new.self) c.args.file.now c.args.member c.args.number c.self.invariant
     (rw (← c.self.view_is) at c.requires.fresh)

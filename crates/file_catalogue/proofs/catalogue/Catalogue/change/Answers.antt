@@ -1,11 +1,10 @@
-use Rattle.std.proofs.Common.{◌≡◌, ◌∙◌, sym, ap, nat_eq, Some}
+use Rattle.std.proofs.Common.{◌≡◌, ◌∙◌, sym, ap, nat_eq}
 use Rattle.std.specs.Map.{set_value}
 use Rattle.std.specs.Option.{option_copied_mut}
 use Rattle.indexmap.specs.IndexMap.{get}
 use Rattle.library_model.specs.Named.{same_name}
-use Rattle.library_steps.specs.State.{FileState, status_changed}
+use Rattle.library_steps.specs.State.{status_changed}
 use Rattle.file_catalogue.specs.Statuses.{after}
-use Rattle.file_catalogue.specs.Owners.{Owns}
 use Rattle.file_catalogue.proofs.MapLemmas.{lends_some}
 use Rattle.file_catalogue.proofs.NameLemmas.{some-equal}
 use Rattle.file_catalogue.proofs.StatusLemmas.{after-number}
@@ -29,8 +28,8 @@ files c =
     let mine = c.self.invariant.owned c.in-Some.owner it.0 c.args.number it.1 in
     (c.get_mut.follows.holds c.change.new.self).0 ∙ ap (set_value (same_name c.in-Some.owner) entries) c.change.ensures
     ∙ set_value-each_changed c.args.number (after c.args.change) c.in-Some.owner c.unwrap.result.now entries c.get_mut.ensures.unique
-      (sym c.get_mut.ensures.value ∙ ap option_copied_mut c.unwrap.ensures)
-      (λ other another o. some-equal (sym mine ∙ c.self.invariant.owned other another c.args.number o))
+    (sym c.get_mut.ensures.value ∙ ap option_copied_mut c.unwrap.ensures)
+    (λ other another o. some-equal (sym mine ∙ c.self.invariant.owned other another c.args.number o))
 
 pub invariant_of-self : goal.invariant_of-self
 invariant_of-self c =

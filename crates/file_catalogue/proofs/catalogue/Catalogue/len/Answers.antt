@@ -1,5 +1,4 @@
 use Rattle.file_catalogue.proofs.OwnerLemmas.{owned-apart}
-use Rattle.file_catalogue.proofs.ChangeLemmas.{set_value-each_changed}
 use Rattle.file_catalogue.proofs.catalogue.Catalogue.len.Goals as goal
 
 pub returns-clause-apart : goal.returns-clause-apart

@@ -1,4 +1,4 @@
-use Rattle.std.proofs.Common.{◌≡◌, ◌∙◌, sym, ap, None, Some}
+use Rattle.std.proofs.Common.{◌∙◌, sym, ap, None, Some}
 use Rattle.std.specs.Option.{option_copied, is_some}
 use Rattle.file_catalogue.proofs.OwnerLemmas.{IsOwner, owner-some, owner-none, owner-stale}
 use Rattle.file_catalogue.proofs.catalogue.Catalogue.owner.Goals as goal
