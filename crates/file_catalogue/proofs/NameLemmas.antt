@@ -21,14 +21,16 @@ pub some-equal : {A : Type 0} {a b : A} → Some a ≡ Some b → a ≡ b
 some-equal e = cc
 
 -- one file more
-pub named-append : (name other : List ℕ) (files : Named FileState) (new file : FileState) → named name (files ++ (other, new) ∷ []) ≡ Some file → (named name files ≡ Some file) ⊎ ((name ≡ other) × (new ≡ file))
+pub named-append : (name other : List ℕ) (files : Named FileState) (new file : FileState) → named name (files ++ (other, new) ∷ []) ≡ Some file
+    → (named name files ≡ Some file) ⊎ ((name ≡ other) × (new ≡ file))
 named-append name other [] new file found =
     elim (same_name name other) as (λ b. same_name name other ≡ b → cond b (Some new) None ≡ Some file → (None ≡ Some file) ⊎ ((name ≡ other) × (new ≡ file))) [
       | true ↦ λ same e. inr (same_name-equal name other same, cc)
       | false ↦ λ differ e. absurd cc
     ] refl found
 named-append name other (first ∷ files) new file found =
-    elim (same_name name first.0) as (λ b. cond b (Some first.1) (named name (files ++ (other, new) ∷ [])) ≡ Some file → (cond b (Some first.1) (named name files) ≡ Some file) ⊎ ((name ≡ other) × (new ≡ file))) [
+    elim (same_name name first.0) as (λ b. cond b (Some first.1) (named name (files ++ (other, new) ∷ [])) ≡ Some file
+    → (cond b (Some first.1) (named name files) ≡ Some file) ⊎ ((name ≡ other) × (new ≡ file))) [
       | true ↦ λ e. inl e
       | false ↦ λ e. named-append name other files new file e
     ] found
@@ -37,8 +39,10 @@ named-append name other (first ∷ files) new file found =
 pub named-without_other : (gone name : List ℕ) (files : Named FileState) → same_name gone name ≡ false → named name (without_file gone files) ≡ named name files
 named-without_other gone name [] other = refl
 named-without_other gone name (first ∷ files) other =
-    elim (same_name gone first.0) as (λ b. same_name gone first.0 ≡ b → named name (cond (not b) (first ∷ without_file gone files) (without_file gone files)) ≡ cond (same_name name first.0) (Some first.1) (named name files)) [
-      | true ↦ λ same. let apart : same_name name first.0 ≡ false = ap (same_name name) (sym (same_name-equal gone first.0 same)) ∙ nat_list_eq_equiv.symm name gone ∙ other in rw apart (named-without_other gone name files other)
+    elim (same_name gone first.0) as (λ b. same_name gone first.0 ≡ b
+    → named name (cond (not b) (first ∷ without_file gone files) (without_file gone files)) ≡ cond (same_name name first.0) (Some first.1) (named name files)) [
+      | true ↦ λ same. let apart : same_name name first.0 ≡ false = ap (same_name name) (sym (same_name-equal gone first.0 same)) ∙ nat_list_eq_equiv.symm name gone
+          ∙ other in rw apart (named-without_other gone name files other)
       | false ↦ λ differ. ap (λ (o : Option FileState). cond (same_name name first.0) (Some first.1) o) (named-without_other gone name files other)
     ] refl
 
@@ -50,10 +54,12 @@ named-without_self gone (first ∷ files) =
       | false ↦ λ differ. rw differ (named-without_self gone files)
     ] refl
 
-pub named-without : (gone name : List ℕ) (files : Named FileState) (file : FileState) → named name (without_file gone files) ≡ Some file → (named name files ≡ Some file) × (same_name gone name ≡ false)
+pub named-without : (gone name : List ℕ) (files : Named FileState) (file : FileState) → named name (without_file gone files) ≡ Some file
+    → (named name files ≡ Some file) × (same_name gone name ≡ false)
 named-without gone name files file found =
     elim (same_name gone name) as (λ b. same_name gone name ≡ b → (named name files ≡ Some file) × (b ≡ false)) [
-      | true ↦ λ same. let none : named name (without_file gone files) ≡ None = subst (λ (n : List ℕ). named n (without_file gone files) ≡ None) (same_name-equal gone name same) (named-without_self gone files) in absurd cc
+      | true ↦ λ same. let none : named name (without_file gone files)
+          ≡ None = subst (λ (n : List ℕ). named n (without_file gone files) ≡ None) (same_name-equal gone name same) (named-without_self gone files) in absurd cc
       | false ↦ λ differ. (sym (named-without_other gone name files differ) ∙ found, refl)
     ] refl
 
@@ -66,7 +72,9 @@ pub remove_entry-distinct : (gone : List ℕ) (files : Named FileState) → IsDi
 unfolding IsDistinct
 remove_entry-distinct gone [] distinct = refl
 remove_entry-distinct gone (first ∷ files) distinct =
-    elim (same_name gone first.0) as (λ b. same_name gone first.0 ≡ b → cond b files (first ∷ remove_entry (same_name gone) files) ≡ cond (not b) (first ∷ without_file gone files) (without_file gone files)) [
-      | true ↦ λ same. sym (without_file-absent gone files (subst (λ (n : List ℕ). AllByRecursion (λ name. same_name n name ≡ false) (keys_of files)) (sym (same_name-equal gone first.0 same)) distinct.0))
+    elim (same_name gone first.0) as (λ b. same_name gone first.0 ≡ b
+    → cond b files (first ∷ remove_entry (same_name gone) files) ≡ cond (not b) (first ∷ without_file gone files) (without_file gone files)) [
+      | true ↦ λ same. sym (without_file-absent gone files (subst (λ (n : List ℕ). AllByRecursion (λ name. same_name n name
+          ≡ false) (keys_of files)) (sym (same_name-equal gone first.0 same)) distinct.0))
       | false ↦ λ differ. ap (λ (rest : Named FileState). first ∷ rest) (remove_entry-distinct gone files distinct.1)
     ] refl

@@ -19,13 +19,15 @@ numbered-fewer (suc n) first (e ∷ entries) all = subst (λ k. AreNumbered k (d
 pub found-within : (number first : ℕ) (entries : List Entry) (last : ℕ) → AreNumbered first entries → last_in number entries ≡ Some last → (first ≤ last) × (last < first + length entries)
 found-within number first [] last all found = absurd cc
 found-within number first (e ∷ entries) last all found =
-    elim (is_number (number + 1) (next_receiver e.kind)) as (λ b. option_map (λ (x : Entry). x.sequence) (cond b (Some e) (find (λ (x : Entry). is_number (number + 1) (next_receiver x.kind)) entries)) ≡ Some last → (first ≤ last) × (last < first + length (e ∷ entries))) [
+    elim (is_number (number + 1) (next_receiver e.kind)) as (λ b. option_map (λ (x : Entry). x.sequence)
+    (cond b (Some e) (find (λ (x : Entry). is_number (number + 1) (next_receiver x.kind)) entries)) ≡ Some last → (first ≤ last) × (last < first + length (e ∷ entries))) [
       | true ↦ λ f. let same : e.sequence ≡ last = cc in (omega (arith, same, all.0), omega (arith, same, all.0))
       | false ↦ λ f. let rest = found-within number (first + 1) entries last all.1 f in (omega (arith, rest.0), omega (arith, rest.1))
     ] found
 
 -- what is given up with a receiver is kept now
-pub given-within : (number gone : ℕ) (entries : List Entry) → AreNumbered (gone + 1) entries → (gone ≤ unwrap_or (last_in number entries) gone) × (unwrap_or (last_in number entries) gone ≤ gone + length entries)
+pub given-within : (number gone : ℕ) (entries : List Entry) → AreNumbered (gone + 1) entries
+    → (gone ≤ unwrap_or (last_in number entries) gone) × (unwrap_or (last_in number entries) gone ≤ gone + length entries)
 given-within number gone entries all = by (last_in number entries) (λ last found. found-within number (gone + 1) entries last all found)
   where
     by : (o : Option ℕ) → ((last : ℕ) → o ≡ Some last → (gone + 1 ≤ last) × (last < gone + 1 + length entries)) → (gone ≤ unwrap_or o gone) × (unwrap_or o gone ≤ gone + length entries)

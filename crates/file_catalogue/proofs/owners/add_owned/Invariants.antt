@@ -6,4 +6,5 @@ use Rattle.file_catalogue.proofs.owners.add_owned.Given as goal
 abbrev pub invariant-loop-status : goal.invariant-loop-status
 invariant-loop-status l =
     (length (drop l.status-index l.status-items) ≤ spare l.owners) ×
-    ((number : ℕ) → (if has_number number (drop l.status-index l.status-items) then Some l.file else get nat_eq l.owners number) ≡ (if has_number number l.members then Some l.file else get nat_eq l.initial.owners number))
+    ((number : ℕ) → (if has_number number (drop l.status-index l.status-items) then Some l.file else get nat_eq l.owners number)
+    ≡ (if has_number number l.members then Some l.file else get nat_eq l.initial.owners number))

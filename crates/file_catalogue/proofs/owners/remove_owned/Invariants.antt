@@ -5,4 +5,5 @@ use Rattle.file_catalogue.proofs.owners.remove_owned.Given as goal
 
 abbrev pub invariant-loop-status : goal.invariant-loop-status
 invariant-loop-status l =
-    (number : ℕ) → (if has_number number (drop l.status-index l.status-items) then None else get nat_eq l.owners number) ≡ (if has_number number l.members then None else get nat_eq l.initial.owners number)
+    (number : ℕ) → (if has_number number (drop l.status-index l.status-items) then None else get nat_eq l.owners number)
+    ≡ (if has_number number l.members then None else get nat_eq l.initial.owners number)

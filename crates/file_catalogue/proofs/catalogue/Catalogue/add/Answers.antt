@@ -11,7 +11,8 @@ invariant_of-self c =
     let added = on_ok c.insert.result c.unwrap-replaced.result c.unwrap-replaced.ensures c.insert.ensures.entries
     ∙ insert_entry-new (pointwise nat_eq) c.self.inside.files c.args.name c.args.file (rw (← c.self.view_is) at c.requires.absent) in
     rw added
-    (owned-added c.self.inside.files.entries (get nat_eq c.self.inside.owners) (get nat_eq c.add_owned.new.owners) c.args.name c.args.file c.self.invariant (rw (← c.self.view_is) at c.requires.fresh) c.requires.apart (λ number. rw c.members.ensures at (c.add_owned.ensures number)))
+    (owned-added c.self.inside.files.entries (get nat_eq c.self.inside.owners) (get nat_eq c.add_owned.new.owners) c.args.name c.args.file c.self.invariant
+    (rw (← c.self.view_is) at c.requires.fresh) c.requires.apart (λ number. rw c.members.ensures at (c.add_owned.ensures number)))
 
 pub returns : goal.returns
 returns c =
