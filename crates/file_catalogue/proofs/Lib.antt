@@ -1,0 +1,5 @@
+pub mod NameLemmas
+pub mod MapLemmas
+pub mod StatusLemmas
+pub mod OwnerLemmas
+pub mod ChangeLemmas

@@ -1,0 +1,4 @@
+pub mod Statuses
+pub mod Described
+pub mod Parts
+pub mod Owners

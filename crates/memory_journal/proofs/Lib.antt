@@ -1,0 +1,2 @@
+pub mod DepositLemmas
+pub mod NumberLemmas
