@@ -1,0 +1,4 @@
+mod FrontLemmas
+mod LeastLemmas
+mod NameLemmas
+mod SectionLemmas

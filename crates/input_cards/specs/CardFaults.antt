@@ -1,8 +1,8 @@
 -- Which lines of an input are at fault by its cards alone: rules, of which each stands by itself. (Our own.)
-use Rattle.std.specs.Prelude.{ℕ, ◌+◌, Bool, true, false, not, ◌&&◌, if◌then◌else◌, Option, Some, None, List, [], ◌∷◌, ◌++◌, length, nat_lt, nat_le}
+use Rattle.std.specs.Prelude.{ℕ, ◌+◌, Bool, true, false, not, ◌&&◌, ◌||◌, Option, Some, None, List, [], ◌∷◌, ◌++◌, length, nat_lt, nat_le}
 use Rattle.std.specs.List.{list_any}
 use Rattle.std.specs.Option.{is_some, is_none}
-use Rattle.field_types.specs.SystemName.{same_name}
+use Rattle.library_model.specs.Named.{same_name}
 use Rattle.script_builder.specs.Faults.{noted}
 use Rattle.input_cards.specs.declared.cards.Card.{Card}
 use Rattle.input_cards.specs.declared.cards.Card.TheVariants.{Source, Job, Schedule, End}
@@ -89,14 +89,14 @@ repeated_cards name_of most (p ∷ parts) earlier =
     (noted (is_some (name_of p.card) && nat_le most (length earlier)) p.line
     (repeated_cards name_of most parts (with_card (name_of p.card) earlier)))
 
--- the names of the jobs in order
+abbrev pub with_front : Option (List ℕ) → List (List ℕ) → List (List ℕ)
+with_front None names = names
+with_front (Some name) names = name ∷ names
+
+-- the names on the cards of one kind in order
 abbrev pub names_of : (Option Card → Option (List ℕ)) → List Part → List (List ℕ)
 names_of name_of [] = []
 names_of name_of (p ∷ parts) = with_front (name_of p.card) (names_of name_of parts)
-  where
-    abbrev with_front : Option (List ℕ) → List (List ℕ) → List (List ℕ)
-    with_front None names = names
-    with_front (Some name) names = name ∷ names
 
 abbrev pub names_unknown : Option Turns → List (List ℕ) → Bool
 names_unknown None jobs = false
@@ -108,10 +108,16 @@ abbrev pub unknown_turns : List (List ℕ) → List Part → List ℕ
 unknown_turns jobs [] = []
 unknown_turns jobs (p ∷ parts) = noted (names_unknown (turns_in p.card) jobs) p.line (unknown_turns jobs parts)
 
+-- the faults that are noticed without memory
+abbrev pub plain_faults : List (List ℕ) → List Part → List ℕ
+plain_faults lines parts =
+    loose_line lines ++ bad_cards parts ++ after_schedule parts ++ after_end (length lines) parts ++ missing_end (length lines) parts ++ second_schedules parts false
+
+abbrev pub faults_among : List (List ℕ) → List Part → List ℕ
+faults_among lines parts =
+    plain_faults lines parts ++ repeated_cards source_name MOST_SOURCES parts [] ++ repeated_cards job_name MOST_JOBS parts []
+    ++ unknown_turns (names_of job_name parts) parts
+
 -- the lines at fault by the cards alone
 abbrev pub card_faults : List (List ℕ) → List ℕ
-card_faults lines =
-    let parts = parts_of lines in
-    loose_line lines ++ bad_cards parts ++ after_schedule parts ++ after_end (length lines) parts ++ missing_end (length lines) parts
-    ++ second_schedules parts false ++ repeated_cards source_name MOST_SOURCES parts [] ++ repeated_cards job_name MOST_JOBS parts []
-    ++ unknown_turns (names_of job_name parts) parts
+card_faults lines = faults_among lines (parts_of lines)

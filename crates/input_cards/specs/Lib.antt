@@ -1,3 +1,5 @@
-pub mod Cards
-pub mod Sections
 pub mod CardFaults
+pub mod Cards
+pub mod Names
+pub mod SectionTexts
+pub mod Sections

@@ -3,4 +3,10 @@
 #![tactic(auto)]
 
 pub mod cards;
+pub mod faults;
+pub mod kinds;
 pub mod limits;
+pub mod names;
+pub mod reading;
+pub mod section;
+pub mod sections;

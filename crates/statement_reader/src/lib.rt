@@ -14,4 +14,4 @@ pub mod reading;
 mod record_requests;
 mod refusal_names;
 pub mod variables;
-mod words;
+pub mod words;
