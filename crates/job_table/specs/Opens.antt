@@ -1,0 +1,18 @@
+-- What a job's opens are asked: which of them are over a member, and which are under commitment control. (Our own.)
+use Rattle.std.specs.Prelude.{ℕ, ◌+◌, ◌≤◌, ◌==◌, ◌&&◌, Bool, List}
+use Rattle.library_model.specs.declared.limits.TheConstants.{MOST_OPENS}
+use Rattle.library_steps.specs.State.{OpenState}
+
+-- so many opens, and spare room for so many more, are room for as many as a job may have
+pub record HasRoomForAll (count spare : ℕ) : Type 0 where
+  pub few : count ≤ MOST_OPENS
+  pub room : MOST_OPENS ≤ count + spare
+
+abbrev pub is_over : ℕ → List ℕ × OpenState → Bool
+is_over member entry = entry.1.member == member
+
+abbrev pub has_committed : List ℕ × OpenState → Bool
+has_committed entry = entry.1.commit
+
+abbrev pub is_committed_in : ℕ → List ℕ × OpenState → Bool
+is_committed_in number entry = (entry.1.number == number) && entry.1.commit
