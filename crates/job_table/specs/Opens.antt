@@ -1,12 +1,12 @@
 -- What a job's opens are asked: which of them are over a member, and which are under commitment control. (Our own.)
-use Rattle.std.specs.Prelude.{ℕ, ◌+◌, ◌≤◌, ◌==◌, ◌&&◌, Bool, List}
+use Rattle.std.specs.Prelude.{ℕ, ◌≤◌, ◌==◌, ◌&&◌, Bool, List}
 use Rattle.library_model.specs.declared.limits.TheConstants.{MOST_OPENS}
 use Rattle.library_steps.specs.State.{OpenState}
 
--- so many opens, and spare room for so many more, are room for as many as a job may have
-pub record HasRoomForAll (count spare : ℕ) : Type 0 where
+-- so many opens are no more than a job may have, and there is room for as many as that
+pub record HasRoomForAll (count room : ℕ) : Type 0 where
   pub few : count ≤ MOST_OPENS
-  pub room : MOST_OPENS ≤ count + spare
+  pub room_for_all : MOST_OPENS ≤ room
 
 abbrev pub is_over : ℕ → List ℕ × OpenState → Bool
 is_over member entry = entry.1.member == member

@@ -1,5 +1,7 @@
 -- Which job is the first that uses a member, where the jobs tell their opens and changes and the lock table its boundary locks. (Our own.)
 use Rattle.std.specs.Prelude.{◌≡◌, ℕ, ◌≤◌, ◌||◌, Bool, true, Option, Some, None, List, [], ◌∷◌, filter, length, All}
+use Rattle.std.specs.List.{filter_map}
+use Rattle.std.specs.Option.{option_map}
 use Rattle.lock_table.specs.declared.lock.Lock.{Lock}
 use Rattle.lock_table.specs.Lock.{is_boundary_in}
 use Rattle.lock_table.specs.Table.{least_job}
@@ -33,3 +35,7 @@ AreOfJobs jobs locks = All (λ lock. HasBegun (length jobs) lock.job) locks
 abbrev pub least_of_members : (ℕ → Option ℕ) → Named MemberStatus → Option ℕ
 least_of_members user [] = None
 least_of_members user (entry ∷ members) = lesser (user entry.1.number) (least_of_members user members)
+
+-- where the open commit cycles began
+abbrev pub cycle_starts : List JobState → List ℕ
+cycle_starts jobs = filter_map (λ job. option_map (λ cycle. cycle.sequence) job.cycle) jobs

@@ -118,7 +118,7 @@ pub struct Undos {
 }
 
 impl Model for Undos {
-    ghost use Rattle.std.specs.Prelude.{deque_capacity};
+    ghost use Rattle.std.specs.VecDeque.{deque_capacity};
     ghost use Rattle.job_table.specs.Changes.{RoomyChanges, AreWeighed};
 
     ghost Value = { RoomyChanges };

@@ -1,7 +1,6 @@
 //! A job that has begun.
 ghost use Rattle.std.specs.Prelude.{◌≡◌, ◌+◌, ◌<◌, ◌≤◌, true, Some, None, [], length, IfOk, OnOk};
 ghost use Rattle.library_model.specs.declared.limits.TheConstants.{MOST_OPENS};
-ghost use Rattle.library_model.specs.Named.{named};
 ghost use Rattle.library_steps.specs.declared.limits.TheConstants.{MOST_GROUP_BYTES};
 ghost use Rattle.library_steps.specs.State.{new_job, with_opens};
 ghost use Rattle.library_steps.specs.Opens.{with_open, without_open};
@@ -102,7 +101,6 @@ impl Job {
 
     /// Opens a member.
     pub fn add_open(&mut self, args: &OpenFile, member: u32)
-        requires absent { named args.now.open_id self.old.state.opens ≡ None }
         requires few { length self.old.state.opens < MOST_OPENS }
         requires numbered { self.old.state.opened < LAST_OPEN }
         ensures { self.new ≡ record self.old { state = with_open args.now member self.old.state } }

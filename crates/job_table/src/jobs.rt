@@ -1,5 +1,5 @@
 //! The jobs that have begun, by number from 1. A job stands in `job.rt`, and who uses a member in `users.rt`.
-ghost use Rattle.std.specs.Prelude.{◌≡◌, ℕ, ◌+◌, ◌-◌, ◌<◌, ◌≤◌, Some, None, [], ◌∷◌, ◌++◌, length, map, slice_get, slice_index, IsTrue, IfOk, OnOk, OnErr, option_map, option_copied};
+ghost use Rattle.std.specs.Prelude.{◌≡◌, ℕ, ◌+◌, ◌-◌, ◌<◌, ◌≤◌, ◌==◌, Some, None, [], ◌∷◌, ◌++◌, length, map, slice_get, slice_index, IsTrue, IfOk, OnOk, OnErr, option_map, option_copied};
 ghost use Rattle.std.specs.List.{list_any};
 ghost use Rattle.library_model.specs.declared.limits.TheConstants.{MOST_OPENS};
 ghost use Rattle.library_model.specs.Named.{named};
@@ -198,7 +198,6 @@ impl Jobs {
     /// Opens a member.
     pub fn add_open(&mut self, number: u32, args: &OpenFile, member: u32)
         requires running { IsTrue (is_running (job_at number self.old.jobs)) }
-        requires absent { named args.now.open_id (job_of_number number self.old.jobs).opens ≡ None }
         requires few { length (job_of_number number self.old.jobs).opens < MOST_OPENS }
         requires numbered { (job_of_number number self.old.jobs).opened < LAST_OPEN }
         ensures { self.new ≡ record self.old { jobs = job_changed (number - 1) (with_open args.now member) self.old.jobs } }

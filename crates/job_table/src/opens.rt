@@ -9,7 +9,6 @@ ghost use Rattle.job_table.specs.Opens.{is_committed_in, has_committed, is_over}
 use crate::open::Open;
 use crate::positions::{FilePosition, FoundRecord};
 use field_types::names::Name;
-use indexmap::IndexMap;
 use library_model::limits::MOST_OPENS;
 use lock_table::Call;
 use std::alloc::{AllocError, Global};
@@ -45,6 +44,23 @@ impl Model for OpenNumbers {
 }
 
 impl OpenNumbers {
+    fn new() -> OpenNumbers
+        ensures { result ≡ [] }
+    {
+        OpenNumbers {
+            numbers: [0; MOST_OPENS],
+            count: 0,
+        }
+    }
+
+    fn add(&mut self, number: u32)
+        requires { length self.old < MOST_OPENS }
+        ensures { self.new ≡ self.old ++ number ∷ [] }
+    {
+        self.numbers[self.count] = number;
+        self.count += 1;
+    }
+
     /// The numbers in order.
     pub fn as_slice(&self) -> &[u32]
         ensures { result.now ≡ self.now }
@@ -53,25 +69,23 @@ impl OpenNumbers {
     }
 }
 
-/// The opens of a job. There is room for as many as a job may have.
+/// The opens of a job with their names. There is room for as many as a job may have, and closing one gives its room back.
 #[derive(Drop)]
 pub struct Opens {
-    opens: IndexMap<Name, Open>,
+    opens: Vec<(Name, Open)>,
 }
 
 impl Model for Opens {
-    ghost use Rattle.std.specs.Prelude.{◌+◌, ◌≤◌, length};
-    ghost use Rattle.indexmap.specs.IndexMap.{spare};
-    ghost use Rattle.library_model.specs.declared.limits.TheConstants.{MOST_OPENS};
+    ghost use Rattle.std.specs.Prelude.{vec_len, vec_capacity};
     ghost use Rattle.library_model.specs.Named.{Named};
     ghost use Rattle.library_steps.specs.State.{OpenState};
     ghost use Rattle.job_table.specs.Opens.{HasRoomForAll};
 
     ghost Value = { Named OpenState };
 
-    ghost view = { λ o. o.opens.entries };
+    ghost view = { λ o. o.opens.items };
 
-    ghost invariant = { λ o. HasRoomForAll (length o.opens.entries) (spare o.opens) };
+    ghost invariant = { λ o. HasRoomForAll (vec_len o.opens) (vec_capacity o.opens) };
 }
 
 impl Opens {
@@ -80,7 +94,7 @@ impl Opens {
         ensures { IfOk result (λ opens. opens ≡ []) }
     {
         Ok(Opens {
-            opens: IndexMap::with_capacity(alloc, MOST_OPENS)?,
+            opens: Vec::with_capacity(alloc, MOST_OPENS)?,
         })
     }
 
@@ -96,15 +110,20 @@ impl Opens {
     pub fn named(&self, name: &Name) -> Option<&Open>
         ensures { option_copied result ≡ named name.now self.now }
     {
-        self.opens.get(name)
+        for entry in &self.opens {
+            if *name == entry.0 {
+                return Some(&entry.1);
+            }
+        }
+        None
     }
 
     /// Whether one of them is over the member.
     pub fn are_over(&self, member: u32) -> bool
         ensures { result ≡ list_any (is_over member) self.now }
     {
-        for (_, opened) in self.opens.iter() {
-            if opened.member() == member {
+        for entry in &self.opens {
+            if entry.1.member() == member {
                 return true;
             }
         }
@@ -115,8 +134,8 @@ impl Opens {
     pub fn have_committed(&self) -> bool
         ensures { result ≡ list_any has_committed self.now }
     {
-        for (_, opened) in self.opens.iter() {
-            if opened.commit() {
+        for entry in &self.opens {
+            if entry.1.commit() {
                 return true;
             }
         }
@@ -127,31 +146,28 @@ impl Opens {
     pub fn committed(&self) -> OpenNumbers
         ensures { (number : ℕ) → list_any (λ n. n == number) result ≡ list_any (is_committed_in number) self.now }
     {
-        let mut numbers = [0; MOST_OPENS];
-        let mut count = 0;
-        for (_, opened) in self.opens.iter() {
-            if opened.commit() {
-                numbers[count] = opened.number();
-                count += 1;
+        let mut numbers = OpenNumbers::new();
+        for entry in &self.opens {
+            if entry.1.commit() {
+                numbers.add(entry.1.number());
             }
         }
-        OpenNumbers { numbers, count }
+        numbers
     }
 
     /// One open more.
     pub fn add(&mut self, name: Name, opened: Open)
-        requires absent { named name self.old ≡ None }
-        requires few { length self.old < MOST_OPENS }
+        requires { length self.old < MOST_OPENS }
         ensures { self.new ≡ self.old ++ (name, opened) ∷ [] }
     {
-        let _replaced = self.opens.insert(name, opened).unwrap();
+        self.opens.push_reserved((name, opened));
     }
 
     /// Closes the open of that name.
     pub fn remove(&mut self, name: &Name)
         ensures { self.new ≡ filter (λ entry. not (same_name name.now entry.0)) self.old }
     {
-        let _closed = self.opens.shift_remove(name);
+        self.opens.retain(|entry| *name != entry.0);
     }
 
     /// Closes every open.
@@ -165,8 +181,8 @@ impl Opens {
     pub fn change_each(&mut self, change: &OpenChange)
         ensures { self.new ≡ map (λ entry. (entry.0, open_after change.now entry.1)) self.old }
     {
-        for place in 0..self.opens.len() {
-            self.opens[place].make(change);
+        for entry in self.opens.iter_mut() {
+            entry.1.make(change);
         }
     }
 }
