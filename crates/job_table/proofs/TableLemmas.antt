@@ -13,7 +13,6 @@ use Rattle.library_steps.specs.State.{JobState, CycleState, job_at, job_changed,
 use Rattle.library_steps.specs.History.{is_running}
 use Rattle.library_steps.specs.Uses.{changes_in}
 use Rattle.library_steps.specs.SlotChange.{change_bytes, noted, with_cycle}
-use Rattle.library_steps.specs.Commitment.{without_cycle}
 use Rattle.job_table.specs.Changes.{cycle_from, bytes_of, HasRoom}
 use Rattle.job_table.specs.Table.{RoomyJob, JobTable, table_of, job_of_number, changes_held, bytes_held, HasRoomFor, IsCounted}
 

@@ -1,5 +1,5 @@
 -- What a call makes of each open of its job. (Database Programming, "Reading database records"; Commitment Control.)
-use Rattle.std.specs.Prelude.{ℕ, ◌==◌, if◌then◌else◌}
+use Rattle.std.specs.Prelude.{◌==◌, if◌then◌else◌}
 use Rattle.library_steps.specs.State.{OpenState}
 use Rattle.library_steps.specs.Reads.{positioned, has_read}
 use Rattle.library_steps.specs.ChangeRecord.{without_current, without_record}

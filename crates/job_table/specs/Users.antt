@@ -1,10 +1,8 @@
 -- Which job is the first that uses a member, where the jobs tell their opens and changes and the lock table its boundary locks. (Our own.)
-use Rattle.std.specs.Prelude.{◌≡◌, ℕ, ◌≤◌, ◌||◌, Bool, true, Option, Some, None, List, [], ◌∷◌, filter, length, All}
+use Rattle.std.specs.Prelude.{ℕ, ◌≤◌, ◌||◌, Bool, Option, None, List, [], ◌∷◌, length, All}
 use Rattle.std.specs.List.{filter_map}
 use Rattle.std.specs.Option.{option_map}
 use Rattle.lock_table.specs.declared.lock.Lock.{Lock}
-use Rattle.lock_table.specs.Lock.{is_boundary_in}
-use Rattle.lock_table.specs.Table.{least_job}
 use Rattle.library_model.specs.Named.{Named}
 use Rattle.library_steps.specs.State.{MemberStatus, JobState}
 use Rattle.library_steps.specs.Checkpoint.{lesser}

@@ -1,5 +1,5 @@
 //! The open commit cycle of a job, and the room for its changes.
-ghost use Rattle.std.specs.Prelude.{◌≡◌, ◌+◌, ◌≤◌, Some, None, IfSome, OnOk, option_map};
+ghost use Rattle.std.specs.Prelude.{◌≡◌, ◌+◌, ◌≤◌, Some, None, OnOk, option_map};
 ghost use Rattle.library_steps.specs.declared.limits.TheConstants.{MOST_GROUP_BYTES};
 ghost use Rattle.library_steps.specs.Uses.{changes_in};
 ghost use Rattle.library_steps.specs.SlotChange.{change_bytes, noted};

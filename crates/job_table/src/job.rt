@@ -1,5 +1,5 @@
 //! A job that has begun.
-ghost use Rattle.std.specs.Prelude.{◌≡◌, ◌+◌, ◌<◌, ◌≤◌, true, Some, None, [], length, IfOk, OnOk};
+ghost use Rattle.std.specs.Prelude.{◌≡◌, ◌+◌, ◌<◌, ◌≤◌, length, IfOk, OnOk};
 ghost use Rattle.library_model.specs.declared.limits.TheConstants.{MOST_OPENS};
 ghost use Rattle.library_steps.specs.declared.limits.TheConstants.{MOST_GROUP_BYTES};
 ghost use Rattle.library_steps.specs.State.{new_job, with_opens};
@@ -9,6 +9,7 @@ ghost use Rattle.library_steps.specs.SlotChange.{change_bytes, noted, with_cycle
 ghost use Rattle.library_steps.specs.Commitment.{with_level, without_cycle};
 ghost use Rattle.job_table.specs.Changes.{HasRoom, bytes_of, cycle_from};
 ghost use Rattle.job_table.specs.OpenChanges.{open_after};
+ghost use Rattle.job_table.specs.Opens.{AreNumbered};
 ghost use Rattle.job_table.specs.Table.{closed_job};
 
 use crate::changes::{Undo, Undos};
@@ -35,11 +36,14 @@ pub struct Job {
 }
 
 impl Model for Job {
+    ghost use Rattle.job_table.specs.Opens.{AreNumbered};
     ghost use Rattle.job_table.specs.Table.{RoomyJob, job_state};
 
     ghost Value = { RoomyJob };
 
     ghost view = { λ j. record { state = job_state j.name j.ended j.level j.cycle.cycle j.opens j.opened; room = j.cycle.room } };
+
+    ghost invariant = { λ j. AreNumbered j.opens j.opened };
 }
 
 impl Job {
@@ -94,7 +98,8 @@ impl Job {
 
     /// How many opens it has had.
     pub fn opened(&self) -> u32
-        ensures { result ≡ self.now.state.opened }
+        ensures count { result ≡ self.now.state.opened }
+        ensures numbered { AreNumbered self.now.state.opens result }
     {
         self.opened
     }

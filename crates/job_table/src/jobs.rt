@@ -1,10 +1,10 @@
 //! The jobs that have begun, by number from 1. A job stands in `job.rt`, and who uses a member in `users.rt`.
-ghost use Rattle.std.specs.Prelude.{◌≡◌, ℕ, ◌+◌, ◌-◌, ◌<◌, ◌≤◌, ◌==◌, Some, None, [], ◌∷◌, ◌++◌, length, map, slice_get, slice_index, IsTrue, IfOk, OnOk, OnErr, option_map, option_copied};
+ghost use Rattle.std.specs.Prelude.{◌≡◌, ℕ, ◌+◌, ◌-◌, ◌<◌, ◌≤◌, ◌==◌, Some, None, [], ◌∷◌, ◌++◌, length, map, IsTrue, IfOk, OnOk, OnErr, option_map, option_copied};
 ghost use Rattle.std.specs.List.{list_any};
 ghost use Rattle.library_model.specs.declared.limits.TheConstants.{MOST_OPENS};
 ghost use Rattle.library_model.specs.Named.{named};
 ghost use Rattle.library_steps.specs.declared.limits.TheConstants.{MOST_GROUP_CHANGES, MOST_GROUP_BYTES};
-ghost use Rattle.library_steps.specs.State.{JobState, new_job, job_at, job_changed, with_opens};
+ghost use Rattle.library_steps.specs.State.{new_job, job_at, job_changed, with_opens};
 ghost use Rattle.library_steps.specs.History.{is_running};
 ghost use Rattle.library_steps.specs.Opens.{with_open, without_open};
 ghost use Rattle.library_steps.specs.Reads.{open_changed, positioned, has_read};
@@ -14,9 +14,10 @@ ghost use Rattle.library_steps.specs.EndJob.{ended_job};
 ghost use Rattle.library_steps.specs.Locking.{is_committed};
 ghost use Rattle.library_steps.specs.Uses.{changes_in};
 ghost use Rattle.library_steps.specs.SlotChange.{change_bytes, noted, with_cycle, has_changed_record};
-ghost use Rattle.job_table.specs.Changes.{HasRoom, bytes_of, cycle_from};
+ghost use Rattle.job_table.specs.Changes.{cycle_from};
 ghost use Rattle.job_table.specs.OpenChanges.{open_after};
-ghost use Rattle.job_table.specs.Table.{RoomyJob, HasRoomFor, job_of_number, changes_held, bytes_held, closed_job};
+ghost use Rattle.job_table.specs.Opens.{AreNumbered};
+ghost use Rattle.job_table.specs.Table.{HasRoomFor, job_of_number, changes_held, bytes_held, closed_job};
 
 use crate::changes::{Undo, Undos};
 use crate::job::Job;
@@ -158,7 +159,8 @@ impl Jobs {
     /// How many opens it has had.
     pub fn opened(&self, number: u32) -> u32
         requires { IsTrue (is_running (job_at number self.now.jobs)) }
-        ensures { result ≡ (job_of_number number self.now.jobs).opened }
+        ensures count { result ≡ (job_of_number number self.now.jobs).opened }
+        ensures numbered { AreNumbered (job_of_number number self.now.jobs).opens result }
     {
         self.job(number).opened()
     }

@@ -1,10 +1,9 @@
 //! How the first user of a member is found from what the jobs and the lock table tell apart: contracts of functions that do nothing.
-ghost use Rattle.std.specs.Prelude.{◌≡◌, ℕ, List, filter};
-ghost use Rattle.lock_table.specs.declared.lock.Lock.{Lock};
+ghost use Rattle.std.specs.Prelude.{◌≡◌, ℕ, filter};
 ghost use Rattle.lock_table.specs.Lock.{is_boundary_in};
 ghost use Rattle.lock_table.specs.Table.{least_job};
 ghost use Rattle.library_model.specs.Named.{Named};
-ghost use Rattle.library_steps.specs.State.{Memory, MemberStatus, JobState};
+ghost use Rattle.library_steps.specs.State.{Memory, MemberStatus};
 ghost use Rattle.library_steps.specs.Checkpoint.{lesser};
 ghost use Rattle.library_steps.specs.Uses.{user_of, user_of_any};
 ghost use Rattle.job_table.specs.Users.{AreOfJobs, first_user, least_of_members};

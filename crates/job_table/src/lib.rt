@@ -16,3 +16,4 @@ pub use jobs::{Jobs, LAST_OPEN};
 pub use open::Open;
 pub use opens::OpenNumbers;
 pub use positions::{ArrivalPosition, FilePosition, FoundRecord};
+pub use users::lesser;

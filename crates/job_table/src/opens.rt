@@ -1,5 +1,5 @@
 //! The opens of a job in order, found by their names.
-ghost use Rattle.std.specs.Prelude.{◌≡◌, ℕ, ◌+◌, ◌<◌, ◌≤◌, ◌==◌, not, None, [], ◌∷◌, ◌++◌, length, map, filter, IfOk, option_copied};
+ghost use Rattle.std.specs.Prelude.{◌≡◌, ℕ, ◌+◌, ◌<◌, ◌≤◌, ◌==◌, not, [], ◌∷◌, ◌++◌, length, map, filter, IfOk, option_copied};
 ghost use Rattle.std.specs.List.{list_any};
 ghost use Rattle.library_model.specs.declared.limits.TheConstants.{MOST_OPENS};
 ghost use Rattle.library_model.specs.Named.{named, same_name};

@@ -1,9 +1,8 @@
 //! Which job is the first that uses a member, and which commit cycle began first.
-ghost use Rattle.std.specs.Prelude.{◌≡◌, ◌+◌, ◌≤◌, length, map, option_map};
-ghost use Rattle.std.specs.List.{filter_map, list_any};
+ghost use Rattle.std.specs.Prelude.{◌≡◌, ◌≤◌, length, map, option_map};
+ghost use Rattle.std.specs.List.{filter_map};
 ghost use Rattle.library_steps.specs.Checkpoint.{lesser, least_of};
-ghost use Rattle.library_steps.specs.Uses.{first_job, has_changed};
-ghost use Rattle.job_table.specs.Users.{has_in_use, first_user, first_changer};
+ghost use Rattle.job_table.specs.Users.{first_user, first_changer, cycle_starts};
 
 use crate::job::Job;
 use crate::jobs::Jobs;
@@ -67,7 +66,7 @@ fn first_changer(jobs: &[Job], member: u32) -> Option<u32>
 }
 
 fn first_cycle(jobs: &[Job]) -> Option<u64>
-    ensures { result ≡ least_of (filter_map (λ job. option_map (λ cycle. cycle.sequence) job.cycle) (map (λ job. job.state) jobs.now)) }
+    ensures { result ≡ least_of (cycle_starts (map (λ job. job.state) jobs.now)) }
 {
     let mut left = jobs.len();
     let mut first = None;

@@ -1,6 +1,4 @@
-use Rattle.std.proofs.Common.{refl, ap, ◌∙◌}
-use Rattle.library_steps.specs.SlotChange.{noted, with_cycle}
-use Rattle.job_table.specs.Changes.{cycle_from}
+use Rattle.std.proofs.Common.{ap}
 use Rattle.job_table.proofs.TableLemmas.{noted_table, counted_note, few_bytes}
 use Rattle.job_table.proofs.jobs.Jobs.note.Goals as goal
 

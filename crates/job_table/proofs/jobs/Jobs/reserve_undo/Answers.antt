@@ -1,6 +1,5 @@
-use Rattle.std.proofs.Common.{refl, ap}
-use Rattle.library_steps.specs.State.{JobState}
-use Rattle.job_table.proofs.TableLemmas.{counted_kept, jobs_after, unchanged_jobs, room_after}
+use Rattle.std.proofs.Common.{refl}
+use Rattle.job_table.proofs.TableLemmas.{counted_kept, unchanged_jobs, room_after}
 use Rattle.job_table.proofs.jobs.Jobs.reserve_undo.Goals as goal
 
 pub invariant_of-self : goal.invariant_of-self
