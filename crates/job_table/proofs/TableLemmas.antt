@@ -1,5 +1,6 @@
 -- One job of the table set anew: the jobs and the rooms that the table then has, and what is counted of them.
-use Rattle.std.proofs.Common.{◌≡◌, ℕ, zero, suc, not, slice_index, Result, Ok, Err, OnOk, get_or-set_same, length-set, ◌+◌, ◌-◌, ◌<◌, ◌≤◌, ◌==◌, true, false, if◌then◌else◌, IsTrue, Option, Some, None, List, [], ◌∷◌, length, map, slice_get, slice_set, get_or, ne_eqb, add-zero, refl, sym, ◌∙◌, ap, subst, arith}
+use Rattle.std.proofs.Common.{◌≡◌, ℕ, zero, suc, not, slice_index, Result, Ok, Err, OnOk, get_or-set_same, length-set, ◌+◌, ◌-◌, ◌<◌, ◌≤◌, ◌==◌, true, false, if◌then◌else◌}
+use Rattle.std.proofs.Common.{IsTrue, Option, Some, None, List, [], ◌∷◌, length, map, slice_get, slice_set, get_or, ne_eqb, add-zero, refl, sym, ◌∙◌, ap, subst, arith}
 use Rattle.std.specs.List.{sum_by}
 use Rattle.std.proofs.Math.ListN.{get_or-map}
 use Rattle.std.proofs.Math.Seq.{map-set_same}
@@ -18,7 +19,8 @@ use Rattle.job_table.specs.Table.{RoomyJob, JobTable, table_of, job_of_number, c
 
 -- ---- one job changed
 
-pub set-job_changed : (jobs : List JobState) (place : ℕ) (change : JobState → JobState) (job : JobState) → job ≡ get_or jobs place job → slice_set jobs place (change job) ≡ job_changed place change jobs
+pub set-job_changed : (jobs : List JobState) (place : ℕ) (change : JobState → JobState) (job : JobState) → job ≡ get_or jobs place job
+    → slice_set jobs place (change job) ≡ job_changed place change jobs
 set-job_changed [] place change job here = refl
 set-job_changed (first ∷ jobs) zero change job here = ap (λ j. change j ∷ jobs) here
 set-job_changed (first ∷ jobs) (suc place) change job here = ap (λ rest. first ∷ rest) (set-job_changed jobs place change job here)
@@ -29,7 +31,8 @@ length-job_changed zero change (job ∷ jobs) = refl
 length-job_changed (suc place) change (job ∷ jobs) = ap (λ n. suc n) (length-job_changed place change jobs)
 
 -- two changes of a job are one
-pub job_changed-twice : (place : ℕ) (former later : JobState → JobState) (jobs : List JobState) → job_changed place later (job_changed place former jobs) ≡ job_changed place (λ j. later (former j)) jobs
+pub job_changed-twice : (place : ℕ) (former later : JobState → JobState) (jobs : List JobState)
+    → job_changed place later (job_changed place former jobs) ≡ job_changed place (λ j. later (former j)) jobs
 job_changed-twice place former later [] = refl
 job_changed-twice zero former later (job ∷ jobs) = refl
 job_changed-twice (suc place) former later (job ∷ jobs) = ap (λ rest. job ∷ rest) (job_changed-twice place former later jobs)
@@ -46,7 +49,8 @@ pub record Stands (jobs : List JobState) (number : ℕ) : Type 0 where
   pub first : 1 ≤ number
   pub last : number - 1 < length jobs
 
-runs_after : (jobs : List JobState) (place other : ℕ) (change : JobState → JobState) → ((j : JobState) → (change j).ended ≡ j.ended) → is_running (slice_get (job_changed other change jobs) place) ≡ is_running (slice_get jobs place)
+runs_after : (jobs : List JobState) (place other : ℕ) (change : JobState → JobState) → ((j : JobState) → (change j).ended ≡ j.ended)
+    → is_running (slice_get (job_changed other change jobs) place) ≡ is_running (slice_get jobs place)
 runs_after [] place other change same = refl
 runs_after (job ∷ jobs) zero zero change same = ap not (same job)
 runs_after (job ∷ jobs) (suc place) zero change same = refl
@@ -54,10 +58,12 @@ runs_after (job ∷ jobs) zero (suc other) change same = refl
 runs_after (job ∷ jobs) (suc place) (suc other) change same = runs_after jobs place other change same
 
 -- a job that runs does so after a change that doesn't end it
-pub running-after : {new : List JobState} (jobs : List JobState) (number other : ℕ) (change : JobState → JobState) → ((j : JobState) → (change j).ended ≡ j.ended) → new ≡ job_changed other change jobs → IsTrue (is_running (job_at number jobs)) → IsTrue (is_running (job_at number new))
+pub running-after : {new : List JobState} (jobs : List JobState) (number other : ℕ) (change : JobState → JobState) → ((j : JobState) → (change j).ended ≡ j.ended)
+    → new ≡ job_changed other change jobs → IsTrue (is_running (job_at number jobs)) → IsTrue (is_running (job_at number new))
 running-after {new} jobs number other change same after running =
     rw after
-    (elim (number == 0) as (λ b. IsTrue (is_running (if b then None else slice_get jobs (number - 1))) → IsTrue (is_running (if b then None else slice_get (job_changed other change jobs) (number - 1)))) [
+    (elim (number == 0) as
+    (λ b. IsTrue (is_running (if b then None else slice_get jobs (number - 1))) → IsTrue (is_running (if b then None else slice_get (job_changed other change jobs) (number - 1)))) [
       | true ↦ λ h. h
       | false ↦ λ h. rw (runs_after jobs (number - 1) other change same) h
     ] running)
@@ -107,14 +113,16 @@ module _ (items : List RoomyJob) (now : JobTable) (number : ℕ) (job new : Room
       map-set_same (λ j. j.room) items (number - 1) new job (same ∙ ap (λ j. j.room) here) ∙ ap (λ t. t.rooms) view_is
 
   -- the table, where its state is changed and its room stays
-  pub table_after : (change : JobState → JobState) → new ≡ record { state = change job.state; room = job.room } → table_of (slice_set items (number - 1) new) ≡ record { jobs = job_changed (number - 1) change now.jobs; rooms = now.rooms }
+  pub table_after : (change : JobState → JobState) → new ≡ record { state = change job.state; room = job.room }
+      → table_of (slice_set items (number - 1) new) ≡ record { jobs = job_changed (number - 1) change now.jobs; rooms = now.rooms }
   table_after change made =
       let jobs = jobs_after change (ap (λ j. j.state) made) in
       let rooms = rooms_after (ap (λ j. j.room) made) in
       λ i. record { jobs = jobs i; rooms = rooms i }
 
   -- the same, beside what is counted of the jobs
-  pub counted_after : (change : JobState → JobState) (changes bytes : ℕ) → new.state ≡ change job.state → IsCounted (job_changed (number - 1) change now.jobs) changes bytes → IsCounted (map (λ j. j.state) (slice_set items (number - 1) new)) changes bytes
+  pub counted_after : (change : JobState → JobState) (changes bytes : ℕ) → new.state ≡ change job.state → IsCounted (job_changed (number - 1) change now.jobs) changes bytes
+      → IsCounted (map (λ j. j.state) (slice_set items (number - 1) new)) changes bytes
   counted_after change changes bytes made counted = rw (jobs_after change made) counted
 
   -- what is counted of the jobs that are known
@@ -126,12 +134,14 @@ module _ (items : List RoomyJob) (now : JobTable) (number : ℕ) (job new : Room
   unchanged_jobs same = map-set_same (λ j. j.state) items (number - 1) new job (same ∙ ap (λ j. j.state) here) ∙ states_are
 
   -- where its state stays and it has room for one change more, so has the job of the number
-  pub room_after : {A E : Type 0} → new.state ≡ job.state → (result : Result A E) → OnOk result (HasRoom (changes_in new.state.cycle) new.room) → OnOk result (HasRoomFor number (table_of (slice_set items (number - 1) new)))
+  pub room_after : {A E : Type 0} → new.state ≡ job.state → (result : Result A E) → OnOk result (HasRoom (changes_in new.state.cycle) new.room)
+      → OnOk result (HasRoomFor number (table_of (slice_set items (number - 1) new)))
   room_after same (Err e) room = tt
   room_after same (Ok x) room =
       let place : number - 1 < length items = omega (arith, stands.last, ap length (sym states_are), length-map items (λ (j : RoomyJob). j.state)) in
       let there : slice_index (map (λ j. j.room) (slice_set items (number - 1) new)) (number - 1) ≡ new.room =
-      get_or-map-at (λ j. j.room) (slice_set items (number - 1) new) (number - 1) new 0 (omega (arith, length-set items (number - 1) new)) ∙ ap (λ j. j.room) (get_or-set_same items (number - 1) new new place) in
+      get_or-map-at (λ j. j.room) (slice_set items (number - 1) new) (number - 1) new 0 (omega (arith, length-set items (number - 1) new)) ∙ ap (λ j. j.room)
+      (get_or-set_same items (number - 1) new new place) in
       let jobs : job_of_number number (map (λ j. j.state) (slice_set items (number - 1) new)) ≡ new.state =
       ap (job_of_number number) (unchanged_jobs same) ∙ job_is ∙ sym same in
       rw (there, jobs) room
@@ -157,7 +167,8 @@ module _ (jobs : List JobState) (place : ℕ) (job : JobState) (lies : place < l
       rw counted.bytes_are (subst P (sym here) (get_or-le-sum_by (λ j. bytes_of (changes_in j.cycle)) jobs place job lies))
 
   -- the job has so many changes more
-  pub counted-more : (change : JobState → JobState) (n b : ℕ) → length (changes_in (change job).cycle) ≡ length (changes_in job.cycle) + n → bytes_of (changes_in (change job).cycle) ≡ bytes_of (changes_in job.cycle) + b → IsCounted (job_changed place change jobs) (changes + n) (bytes + b)
+  pub counted-more : (change : JobState → JobState) (n b : ℕ) → length (changes_in (change job).cycle) ≡ length (changes_in job.cycle) + n
+      → bytes_of (changes_in (change job).cycle) ≡ bytes_of (changes_in job.cycle) + b → IsCounted (job_changed place change jobs) (changes + n) (bytes + b)
   counted-more change n b longer heavier =
       let count : changes_held (job_changed place change jobs) + length (changes_in job.cycle) ≡ changes_held jobs + length (changes_in (change job).cycle) =
       sum_after (λ j. length (changes_in j.cycle)) change in
@@ -170,7 +181,8 @@ module _ (jobs : List JobState) (place : ℕ) (job : JobState) (lies : place < l
       record { few = omega arith; changes_are = omega arith; bytes_are = omega arith }
 
   -- the job has no changes any more
-  pub counted-less : (change : JobState → JobState) (n b : ℕ) → n ≡ length (changes_in job.cycle) → b ≡ bytes_of (changes_in job.cycle) → (change job).cycle ≡ None → IsCounted (job_changed place change jobs) (changes - n) (bytes - b)
+  pub counted-less : (change : JobState → JobState) (n b : ℕ) → n ≡ length (changes_in job.cycle) → b ≡ bytes_of (changes_in job.cycle) → (change job).cycle ≡ None
+      → IsCounted (job_changed place change jobs) (changes - n) (bytes - b)
   counted-less change n b count weight gone =
       let after : changes_held (job_changed place change jobs) + length (changes_in job.cycle) ≡ changes_held jobs + length (changes_in (change job).cycle) =
       sum_after (λ j. length (changes_in j.cycle)) change in
@@ -203,7 +215,8 @@ module _ (items : List RoomyJob) (now : JobTable) (number : ℕ) (job new : Room
       (counted-kept now.jobs (number - 1) job.state (stands items now number job new view_is running here).last (state_here items now number job new view_is running here) changes bytes
       (counted_now items now number job new view_is running here changes bytes counted) change stays)
 
-  pub counted_end : (n b : ℕ) → n ≡ length (changes_in job.state.cycle) → b ≡ bytes_of (changes_in job.state.cycle) → (change job.state).cycle ≡ None → IsCounted (map (λ j. j.state) items) changes bytes → IsCounted (map (λ j. j.state) (slice_set items (number - 1) new)) (changes - n) (bytes - b)
+  pub counted_end : (n b : ℕ) → n ≡ length (changes_in job.state.cycle) → b ≡ bytes_of (changes_in job.state.cycle) → (change job.state).cycle ≡ None
+      → IsCounted (map (λ j. j.state) items) changes bytes → IsCounted (map (λ j. j.state) (slice_set items (number - 1) new)) (changes - n) (bytes - b)
   counted_end n b count weight gone counted =
       counted_after items now number job new view_is running here change (changes - n) (bytes - b) made
       (counted-less now.jobs (number - 1) job.state (stands items now number job new view_is running here).last (state_here items now number job new view_is running here) changes bytes
@@ -234,7 +247,8 @@ noted-changes sequence (Some cycle) = refl
 module _ (items : List RoomyJob) (now : JobTable) (number : ℕ) (job new : RoomyJob) (view_is : table_of items ≡ now)
     (running : IsTrue (is_running (job_at number now.jobs))) (here : job ≡ get_or items (number - 1) job)
     (sequence : ℕ) (undo : MemberChange) where
-  pub counted_note : (changes bytes : ℕ) → new.state ≡ with_cycle (noted undo (cycle_from sequence job.state.cycle)) job.state → IsCounted (map (λ j. j.state) items) changes bytes → IsCounted (map (λ j. j.state) (slice_set items (number - 1) new)) (changes + 1) (bytes + change_bytes undo)
+  pub counted_note : (changes bytes : ℕ) → new.state ≡ with_cycle (noted undo (cycle_from sequence job.state.cycle)) job.state → IsCounted (map (λ j. j.state) items) changes bytes
+      → IsCounted (map (λ j. j.state) (slice_set items (number - 1) new)) (changes + 1) (bytes + change_bytes undo)
   counted_note changes bytes made counted =
       let same = noted-changes sequence job.state.cycle in
       let longer : length (undo ∷ (cycle_from sequence job.state.cycle).undos) ≡ length (changes_in job.state.cycle) + 1 = ap (λ l. length (undo ∷ l)) same ∙ omega arith in
@@ -244,6 +258,8 @@ module _ (items : List RoomyJob) (now : JobTable) (number : ℕ) (job new : Room
       (counted-more now.jobs (number - 1) job.state (stands items now number job new view_is running here).last (state_here items now number job new view_is running here) changes bytes
       (counted_now items now number job new view_is running here changes bytes counted) (with_cycle (noted undo (cycle_from sequence job.state.cycle))) 1 (change_bytes undo) longer heavier)
 
-  pub noted_table : new ≡ record { state = with_cycle (noted undo (cycle_from sequence job.state.cycle)) job.state; room = job.room } → table_of (slice_set items (number - 1) new) ≡ record { jobs = job_changed (number - 1) (with_cycle (noted undo (cycle_from sequence (job_of_number number now.jobs).cycle))) now.jobs; rooms = now.rooms }
+  pub noted_table : new ≡ record { state = with_cycle (noted undo (cycle_from sequence job.state.cycle)) job.state; room = job.room }
+      → table_of (slice_set items (number - 1) new) ≡ record
+      { jobs = job_changed (number - 1) (with_cycle (noted undo (cycle_from sequence (job_of_number number now.jobs).cycle))) now.jobs; rooms = now.rooms }
   noted_table made =
       rw (job_is items now number job new view_is running here) (table_after items now number job new view_is running here (with_cycle (noted undo (cycle_from sequence job.state.cycle))) made)

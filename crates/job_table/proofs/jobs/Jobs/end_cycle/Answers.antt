@@ -18,7 +18,8 @@ overflow_sub-self-2 c =
 pub invariant_of-self : goal.invariant_of-self
 invariant_of-self c =
     counted_end c.self.inside.jobs.items c.args.self.now c.args.number c.index_mut-job.result.now c.end_cycle-undos.new.self c.self.view_is c.requires c.index_mut-job.ensures.value
-    without_cycle _ _ c.end_cycle-undos.ensures.state _ _ (c.len.ensures ∙ ap (λ l. length l) c.end_cycle-undos.ensures.changes) (c.bytes.ensures ∙ ap bytes_of c.end_cycle-undos.ensures.changes) refl c.self.invariant
+    without_cycle _ _ c.end_cycle-undos.ensures.state _ _ (c.len.ensures ∙ ap (λ l. length l) c.end_cycle-undos.ensures.changes)
+    (c.bytes.ensures ∙ ap bytes_of c.end_cycle-undos.ensures.changes) refl c.self.invariant
 
 pub returns-clause-jobs : goal.returns-clause-jobs
 returns-clause-jobs c =
@@ -28,4 +29,5 @@ returns-clause-jobs c =
 pub returns-clause-changes : goal.returns-clause-changes
 returns-clause-changes c =
     c.end_cycle-undos.ensures.changes
-    ∙ ap (λ j. changes_in j.cycle) (sym (job_is c.self.inside.jobs.items c.args.self.now c.args.number c.index_mut-job.result.now c.end_cycle-undos.new.self c.self.view_is c.requires c.index_mut-job.ensures.value))
+    ∙ ap (λ j. changes_in j.cycle)
+    (sym (job_is c.self.inside.jobs.items c.args.self.now c.args.number c.index_mut-job.result.now c.end_cycle-undos.new.self c.self.view_is c.requires c.index_mut-job.ensures.value))

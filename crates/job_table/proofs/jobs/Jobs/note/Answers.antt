@@ -4,7 +4,8 @@ use Rattle.job_table.proofs.jobs.Jobs.note.Goals as goal
 
 pub note-requires-clause-few : goal.note-requires-clause-few
 note-requires-clause-few c =
-    few_bytes c.self.inside.jobs.items c.args.self.now c.args.number c.index_mut-job.result.now c.self.view_is c.requires.running c.index_mut-job.ensures.value _ _ c.self.invariant c.args.undo c.requires.few_bytes
+    few_bytes c.self.inside.jobs.items c.args.self.now c.args.number c.index_mut-job.result.now c.self.view_is c.requires.running c.index_mut-job.ensures.value _ _ c.self.invariant
+    c.args.undo c.requires.few_bytes
 
 pub invariant_of-self : goal.invariant_of-self
 invariant_of-self c =
