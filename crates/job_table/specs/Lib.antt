@@ -1,0 +1,6 @@
+pub mod Arrival
+pub mod Changes
+pub mod Table
+pub mod Opens
+pub mod OpenChanges
+pub mod Users

@@ -1,0 +1,377 @@
+//! The jobs that have begun, by number from 1. A job stands in `job.rt`, and who uses a member in `users.rt`.
+ghost use Rattle.std.specs.Prelude.{◌≡◌, ℕ, ◌+◌, ◌-◌, ◌<◌, ◌≤◌, ◌==◌, Some, None, [], ◌∷◌, ◌++◌, length, map, IsTrue, IfOk, OnOk, OnErr, option_map, option_copied};
+ghost use Rattle.std.specs.List.{list_any};
+ghost use Rattle.library_model.specs.declared.limits.TheConstants.{MOST_OPENS};
+ghost use Rattle.library_model.specs.Named.{named};
+ghost use Rattle.library_steps.specs.declared.limits.TheConstants.{MOST_GROUP_CHANGES, MOST_GROUP_BYTES};
+ghost use Rattle.library_steps.specs.State.{new_job, job_at, job_changed, with_opens};
+ghost use Rattle.library_steps.specs.History.{is_running};
+ghost use Rattle.library_steps.specs.Opens.{with_open, without_open};
+ghost use Rattle.library_steps.specs.Reads.{open_changed, positioned, has_read};
+ghost use Rattle.library_steps.specs.ChangeRecord.{without_current, without_record};
+ghost use Rattle.library_steps.specs.Commitment.{with_level, without_cycle, committed_open, rolled_back_open, has_committed_open};
+ghost use Rattle.library_steps.specs.EndJob.{ended_job};
+ghost use Rattle.library_steps.specs.Locking.{is_committed};
+ghost use Rattle.library_steps.specs.Uses.{changes_in};
+ghost use Rattle.library_steps.specs.SlotChange.{change_bytes, noted, with_cycle, has_changed_record};
+ghost use Rattle.job_table.specs.Changes.{cycle_from};
+ghost use Rattle.job_table.specs.OpenChanges.{open_after};
+ghost use Rattle.job_table.specs.Opens.{AreNumbered};
+ghost use Rattle.job_table.specs.Table.{HasRoomFor, job_of_number, changes_held, bytes_held, closed_job};
+
+use crate::changes::{Undo, Undos};
+use crate::job::Job;
+use crate::open::Open;
+use crate::opens::{OpenChange, OpenNumbers};
+use crate::positions::{FilePosition, FoundRecord};
+use commit_level::Level;
+use field_types::names::Name;
+use library_model::requests::OpenFile;
+use lock_table::Call;
+use std::alloc::{AllocError, Global};
+use std::marker::Model;
+
+/// The greatest number of an open. A job that has had so many opens has no more.
+pub const LAST_OPEN: u32 = 4_294_967_295;
+
+/// The jobs in order of their numbers. Beside them, contracts see for how many changes each has room.
+#[derive(Drop)]
+pub struct Jobs {
+    alloc: Global,
+    jobs: Vec<Job>,
+    changes: usize,
+    bytes: u64,
+}
+
+impl Model for Jobs {
+    ghost use Rattle.job_table.specs.Table.{JobTable, table_of, IsCounted};
+
+    ghost Value = { JobTable };
+
+    ghost view = { λ j. table_of j.jobs.items };
+
+    ghost invariant = { λ j. IsCounted (table_of j.jobs.items).jobs j.changes j.bytes };
+}
+
+impl Jobs {
+    /// No job has begun.
+    pub fn new(alloc: Global) -> Jobs
+        ensures { result ≡ record { jobs = []; rooms = [] } }
+    {
+        Jobs {
+            alloc,
+            jobs: Vec::new(alloc),
+            changes: 0,
+            bytes: 0,
+        }
+    }
+
+    /// How many have begun.
+    pub fn len(&self) -> usize
+        ensures { result ≡ length self.now.jobs }
+    {
+        self.jobs.len()
+    }
+
+    /// Begins a job and answers its number. It takes the memory of all opens that the job may have.
+    pub fn begin(&mut self, name: Name) -> Result<u32, AllocError>
+        requires { length self.old.jobs < 4294967295 }
+        ensures number { IfOk result (λ n. n ≡ length self.old.jobs + 1) }
+        ensures begun { OnOk result (self.new.jobs ≡ self.old.jobs ++ new_job name ∷ []) }
+        ensures unchanged { OnErr result (self.new ≡ self.old) }
+    {
+        let number = self.jobs.len() as u32 + 1;
+        let job = Job::new(self.alloc, name)?;
+        self.jobs.push(job)?;
+        Ok(number)
+    }
+
+    // ---- looks
+
+    /// Whether the job with that number has begun and not ended.
+    pub fn is_running(&self, number: u32) -> bool
+        ensures { result ≡ is_running (job_at number self.now.jobs) }
+    {
+        if number == 0 || number as usize > self.jobs.len() {
+            return false;
+        }
+        let job = &self.jobs[number as usize - 1];
+        !job.has_ended()
+    }
+
+    /// Its name.
+    pub fn name(&self, number: u32) -> Name
+        requires { IsTrue (is_running (job_at number self.now.jobs)) }
+        ensures { result ≡ (job_of_number number self.now.jobs).name }
+    {
+        self.job(number).name()
+    }
+
+    /// The lock level of its commitment control.
+    pub fn level(&self, number: u32) -> Option<Level>
+        requires { IsTrue (is_running (job_at number self.now.jobs)) }
+        ensures { result ≡ (job_of_number number self.now.jobs).level }
+    {
+        self.job(number).level()
+    }
+
+    /// The sequence of the entry with which its open commit cycle began.
+    pub fn cycle(&self, number: u32) -> Option<u64>
+        requires { IsTrue (is_running (job_at number self.now.jobs)) }
+        ensures { result ≡ option_map (λ cycle. cycle.sequence) (job_of_number number self.now.jobs).cycle }
+    {
+        self.job(number).cycle().sequence()
+    }
+
+    /// The changes of its open commit cycle, the last one first.
+    pub fn undos(&self, number: u32) -> &Undos
+        requires { IsTrue (is_running (job_at number self.now.jobs)) }
+        ensures { result.now.changes ≡ changes_in (job_of_number number self.now.jobs).cycle }
+    {
+        self.job(number).cycle().undos()
+    }
+
+    /// Whether its open commit cycle has a change of the record.
+    pub fn has_changed_record(&self, number: u32, member: u32, rrn: u32) -> bool
+        requires { IsTrue (is_running (job_at number self.now.jobs)) }
+        ensures { result ≡ has_changed_record member rrn (job_of_number number self.now.jobs) }
+    {
+        self.job(number).cycle().undos().have_record(member, rrn)
+    }
+
+    /// Its open of that name.
+    pub fn open_named(&self, number: u32, name: &Name) -> Option<&Open>
+        requires { IsTrue (is_running (job_at number self.now.jobs)) }
+        ensures { option_copied result ≡ named name.now (job_of_number number self.now.jobs).opens }
+    {
+        self.job(number).opens().named(name)
+    }
+
+    /// How many opens it has.
+    pub fn open_count(&self, number: u32) -> usize
+        requires { IsTrue (is_running (job_at number self.now.jobs)) }
+        ensures count { result ≡ length (job_of_number number self.now.jobs).opens }
+        ensures few { result ≤ MOST_OPENS }
+    {
+        self.job(number).opens().len()
+    }
+
+    /// How many opens it has had.
+    pub fn opened(&self, number: u32) -> u32
+        requires { IsTrue (is_running (job_at number self.now.jobs)) }
+        ensures count { result ≡ (job_of_number number self.now.jobs).opened }
+        ensures numbered { AreNumbered (job_of_number number self.now.jobs).opens result }
+    {
+        self.job(number).opened()
+    }
+
+    /// Whether it has an open under commitment control.
+    pub fn has_committed_open(&self, number: u32) -> bool
+        requires { IsTrue (is_running (job_at number self.now.jobs)) }
+        ensures { result ≡ has_committed_open (job_of_number number self.now.jobs) }
+    {
+        self.job(number).opens().have_committed()
+    }
+
+    /// The numbers of its opens under commitment control.
+    pub fn committed_opens(&self, number: u32) -> OpenNumbers
+        requires { IsTrue (is_running (job_at number self.now.jobs)) }
+        ensures { (opened : ℕ) → list_any (λ n. n == opened) result ≡ is_committed (job_of_number number self.now.jobs) opened }
+    {
+        self.job(number).opens().committed()
+    }
+
+    /// How many changes the open commit cycles of all jobs have.
+    pub fn changes_held(&self) -> usize
+        ensures { result ≡ changes_held self.now.jobs }
+    {
+        self.changes
+    }
+
+    /// The bytes of images in the entries that would take these changes back.
+    pub fn bytes_held(&self) -> u64
+        ensures { result ≡ bytes_held self.now.jobs }
+    {
+        self.bytes
+    }
+
+    // ---- opens
+
+    /// Opens a member.
+    pub fn add_open(&mut self, number: u32, args: &OpenFile, member: u32)
+        requires running { IsTrue (is_running (job_at number self.old.jobs)) }
+        requires few { length (job_of_number number self.old.jobs).opens < MOST_OPENS }
+        requires numbered { (job_of_number number self.old.jobs).opened < LAST_OPEN }
+        ensures { self.new ≡ record self.old { jobs = job_changed (number - 1) (with_open args.now member) self.old.jobs } }
+    {
+        let job = &mut self.jobs[number as usize - 1];
+        job.add_open(args, member);
+    }
+
+    /// Closes its open of that name.
+    pub fn remove_open(&mut self, number: u32, name: &Name)
+        requires { IsTrue (is_running (job_at number self.old.jobs)) }
+        ensures { self.new ≡ record self.old { jobs = job_changed (number - 1) (without_open name.now) self.old.jobs } }
+    {
+        let job = &mut self.jobs[number as usize - 1];
+        job.remove_open(name);
+    }
+
+    /// Sets the position of its open with that number.
+    pub fn set_position(&mut self, number: u32, opened: u32, position: FilePosition)
+        requires { IsTrue (is_running (job_at number self.old.jobs)) }
+        ensures { self.new ≡ record self.old { jobs = job_changed (number - 1) (open_changed opened (positioned position)) self.old.jobs } }
+    {
+        self.change_opens(number, &OpenChange::Positioned(opened, position));
+    }
+
+    /// Notes what its open with that number has read.
+    pub fn note_read(&mut self, number: u32, opened: u32, call: Call, entry: FoundRecord)
+        requires { IsTrue (is_running (job_at number self.old.jobs)) }
+        ensures { self.new ≡ record self.old { jobs = job_changed (number - 1) (open_changed opened (has_read call entry)) self.old.jobs } }
+    {
+        self.change_opens(number, &OpenChange::HasRead(opened, call, entry));
+    }
+
+    /// Its open with that number has no current record any more.
+    pub fn give_up_current(&mut self, number: u32, opened: u32)
+        requires { IsTrue (is_running (job_at number self.old.jobs)) }
+        ensures { self.new ≡ record self.old { jobs = job_changed (number - 1) (open_changed opened without_current) self.old.jobs } }
+    {
+        self.change_opens(number, &OpenChange::WithoutCurrent(opened));
+    }
+
+    /// None of its opens has the record as its current one any more.
+    pub fn give_up_record(&mut self, number: u32, member: u32, rrn: u32)
+        requires { IsTrue (is_running (job_at number self.old.jobs)) }
+        ensures { self.new ≡ record self.old { jobs = job_changed (number - 1) (with_opens (without_record member rrn)) self.old.jobs } }
+    {
+        self.change_opens(number, &OpenChange::WithoutRecord(member, rrn));
+    }
+
+    // ---- commitment control
+
+    /// Starts its commitment control.
+    pub fn start_commitment(&mut self, number: u32, level: Level)
+        requires { IsTrue (is_running (job_at number self.old.jobs)) }
+        ensures { self.new ≡ record self.old { jobs = job_changed (number - 1) (with_level (Some level)) self.old.jobs } }
+    {
+        self.set_level(number, Some(level));
+    }
+
+    /// Ends it.
+    pub fn end_commitment(&mut self, number: u32)
+        requires { IsTrue (is_running (job_at number self.old.jobs)) }
+        ensures { self.new ≡ record self.old { jobs = job_changed (number - 1) (with_level None) self.old.jobs } }
+    {
+        self.set_level(number, None);
+    }
+
+    /// Makes room for one change more in its commit cycle.
+    pub fn reserve_undo(&mut self, number: u32) -> Result<(), AllocError>
+        requires { IsTrue (is_running (job_at number self.old.jobs)) }
+        ensures jobs { self.new.jobs ≡ self.old.jobs }
+        ensures room { OnOk result (HasRoomFor number self.new) }
+    {
+        let job = &mut self.jobs[number as usize - 1];
+        job.reserve_undo()
+    }
+
+    /// Keeps a change in its commit cycle. Where none is open, one begins with the entry of that sequence.
+    pub fn note(&mut self, number: u32, sequence: u64, undo: Undo)
+        requires running { IsTrue (is_running (job_at number self.old.jobs)) }
+        requires room { HasRoomFor number self.old }
+        requires few_changes { changes_held self.old.jobs + 1 ≤ MOST_GROUP_CHANGES }
+        requires few_bytes { bytes_held self.old.jobs + change_bytes undo ≤ MOST_GROUP_BYTES }
+        ensures { self.new ≡ record self.old { jobs = job_changed (number - 1) (with_cycle (noted undo (cycle_from sequence (job_of_number number self.old.jobs).cycle))) self.old.jobs } }
+    {
+        self.changes += 1;
+        self.bytes += undo.bytes();
+        let job = &mut self.jobs[number as usize - 1];
+        job.note(sequence, undo);
+    }
+
+    /// Commits: its commit cycle has ended, and its opens under commitment have read nothing since.
+    pub fn commit(&mut self, number: u32)
+        requires { IsTrue (is_running (job_at number self.old.jobs)) }
+        ensures { self.new.jobs ≡ job_changed (number - 1) (λ j. with_opens committed_open (without_cycle j)) self.old.jobs }
+    {
+        let _changes = self.end_cycle(number);
+        self.change_opens(number, &OpenChange::Committed);
+    }
+
+    /// Rolls back, but for the slots of its changes, which it hands out.
+    pub fn rollback(&mut self, number: u32) -> Undos
+        requires { IsTrue (is_running (job_at number self.old.jobs)) }
+        ensures jobs { self.new.jobs ≡ job_changed (number - 1) (λ j. with_opens rolled_back_open (without_cycle j)) self.old.jobs }
+        ensures changes { result.changes ≡ changes_in (job_of_number number self.old.jobs).cycle }
+    {
+        let undos = self.end_cycle(number);
+        self.change_opens(number, &OpenChange::RolledBack);
+        undos
+    }
+
+    /// Ends the job, but for the slots of its changes, which it hands out.
+    pub fn end(&mut self, number: u32) -> Undos
+        requires { IsTrue (is_running (job_at number self.old.jobs)) }
+        ensures jobs { self.new.jobs ≡ job_changed (number - 1) ended_job self.old.jobs }
+        ensures changes { result.changes ≡ changes_in (job_of_number number self.old.jobs).cycle }
+    {
+        let undos = self.end_cycle(number);
+        self.close(number);
+        undos
+    }
+
+    // ---- parts of these
+
+    pub(crate) fn all(&self) -> &[Job]
+        ensures jobs { map (λ job. job.state) result.now ≡ self.now.jobs }
+        ensures few { length result.now ≤ 4294967295 }
+    {
+        &self.jobs
+    }
+
+    fn job(&self, number: u32) -> &Job
+        requires { IsTrue (is_running (job_at number self.now.jobs)) }
+        ensures { result.now.state ≡ job_of_number number self.now.jobs }
+    {
+        &self.jobs[number as usize - 1]
+    }
+
+    fn change_opens(&mut self, number: u32, change: &OpenChange)
+        requires { IsTrue (is_running (job_at number self.old.jobs)) }
+        ensures { self.new ≡ record self.old { jobs = job_changed (number - 1) (with_opens (open_after change.now)) self.old.jobs } }
+    {
+        let job = &mut self.jobs[number as usize - 1];
+        job.change_opens(change);
+    }
+
+    fn set_level(&mut self, number: u32, level: Option<Level>)
+        requires { IsTrue (is_running (job_at number self.old.jobs)) }
+        ensures { self.new ≡ record self.old { jobs = job_changed (number - 1) (with_level level) self.old.jobs } }
+    {
+        let job = &mut self.jobs[number as usize - 1];
+        job.set_level(level);
+    }
+
+    fn end_cycle(&mut self, number: u32) -> Undos
+        requires { IsTrue (is_running (job_at number self.old.jobs)) }
+        ensures jobs { self.new.jobs ≡ job_changed (number - 1) without_cycle self.old.jobs }
+        ensures changes { result.changes ≡ changes_in (job_of_number number self.old.jobs).cycle }
+    {
+        let alloc = self.alloc;
+        let job = &mut self.jobs[number as usize - 1];
+        let undos = job.end_cycle(alloc);
+        self.changes -= undos.len();
+        self.bytes -= undos.bytes();
+        undos
+    }
+
+    fn close(&mut self, number: u32)
+        requires { IsTrue (is_running (job_at number self.old.jobs)) }
+        ensures { self.new ≡ record self.old { jobs = job_changed (number - 1) closed_job self.old.jobs } }
+    {
+        let job = &mut self.jobs[number as usize - 1];
+        job.close();
+    }
+}

@@ -1,0 +1,19 @@
+//! The jobs that have begun: their opens, their lock levels and their open commit cycles. Begin with `jobs.rt`.
+#![tactic(auto)]
+
+mod changes;
+mod cycle;
+mod job;
+pub mod jobs;
+pub mod laws;
+mod open;
+mod opens;
+mod positions;
+mod users;
+
+pub use changes::{Undo, Undos};
+pub use jobs::{Jobs, LAST_OPEN};
+pub use open::Open;
+pub use opens::OpenNumbers;
+pub use positions::{ArrivalPosition, FilePosition, FoundRecord};
+pub use users::lesser;
