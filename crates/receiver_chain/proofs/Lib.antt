@@ -1,0 +1,5 @@
+pub mod Chaining
+pub mod Deposits
+pub mod Firsts
+pub mod LinkLemmas
+pub mod Walks
