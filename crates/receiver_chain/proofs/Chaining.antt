@@ -104,14 +104,13 @@ logs_left n (log ∷ logs) (r ∷ rs) disk c are may m le lt = elim (cases_eq n 
 ]
 
 -- one receiver more, to which the last one before it is tied
-pub leads_further : (first : ℕ) (logs pushed : List LogState) (n further s : ℕ) (log next : LogState) (earlier : List Receiver) (r other : Receiver) (old new : Disk)
-    → LeadsTo first logs n log earlier r old → Stays old new → EndsInLink (n + 1) s r.blocks → pushed ≡ logs ++ log ∷ [] → further ≡ n + 1 → IsLogOf further next other new → Follows (Some s) other.first
-    → LeadsTo first pushed further next (earlier ++ r ∷ []) other new
-leads_further first logs pushed n further s log next earlier r other old new leads stays link push is there follows =
+pub leads_further : (first : ℕ) (logs pushed : List LogState) (n further s : ℕ) (log next : LogState) (earlier : List Receiver) (r other : Receiver) (disk : Disk)
+    → LeadsTo first logs n log earlier r disk → EndsInLink (n + 1) s r.blocks → pushed ≡ logs ++ log ∷ [] → further ≡ n + 1 → IsLogOf further next other disk → Follows (Some s) other.first
+    → LeadsTo first pushed further next (earlier ++ r ∷ []) other disk
+leads_further first logs pushed n further s log next earlier r other disk leads link push is there follows =
     let count : n ≡ first + length earlier = lead_number first (before_first first) earlier n leads.before leads.lead in
     record {
-      logs_of = subst (λ (l : List LogState). AreLogsOf first l (earlier ++ r ∷ []) new) (sym push)
-          (logs-push first logs earlier new n log r (logs_stay first logs earlier old new stays leads.logs_of) count (log_stays n log r old new stays leads.log_of));
+      logs_of = subst (λ (l : List LogState). AreLogsOf first l (earlier ++ r ∷ []) disk) (sym push) (logs-push first logs earlier disk n log r leads.logs_of count leads.log_of);
       before = Some s;
       lead = subst (λ (k : ℕ). LeadTo first (before_first first) (earlier ++ r ∷ []) k (Some s)) (sym is) (lead-push first (before_first first) earlier n s leads.before r leads.lead leads.follows link);
       follows = follows;

@@ -5,7 +5,7 @@ use Rattle.store_model.specs.Disk.{Areas, Disk, May, Does, Leaves, Only}
 use Rattle.gated_log.specs.Blocks.{Spells}
 use Rattle.gated_log.specs.Log.{LogState, Settled, IsSettled, IsWithOrWithout, Anything}
 use Rattle.receiver_chain.specs.Links.{IsNoLink, EndsInNoLink}
-use Rattle.receiver_chain.specs.Receivers.{Kept, LeadTo, area_of, before_first, deposited, AreChained}
+use Rattle.receiver_chain.specs.Receivers.{Kept, LeadTo, area_of, before_first, deposited, with_block, AreChained}
 use Rattle.receiver_chain.specs.Chain.{ChainState, IsLogOf, LeadsTo, Holds, IsHeld, attached_of}
 use Rattle.receiver_chain.proofs.LinkLemmas.{last_block-push}
 use Rattle.receiver_chain.proofs.Chaining.{spelled_same, spells_of, logs_length, logs_apart, logs_spell, logs_left}
@@ -14,7 +14,7 @@ pub held_settled : (chain : ChainState) (disk : Disk) → IsHeld chain disk → 
 held_settled chain disk some = ∥∥₁_map some (λ has. (has.0.attached.blocks, has.1.leads.log_of.settled))
 
 module _ (first room : ℕ) (logs : List LogState) (log : LogState) (kept : Kept) (disk : Disk) (holds : Holds (record { first = first; earlier = logs; attached = log; room = room }) kept disk) where
-  count : first + length logs ≡ first + length kept.earlier
+  pub count : first + length logs ≡ first + length kept.earlier
   count = omega (arith, logs_length first logs kept.earlier disk holds.leads.logs_of)
 
   -- no earlier receiver is in the attached one's area
@@ -37,6 +37,21 @@ module _ (first room : ℕ) (logs : List LogState) (log : LogState) (kept : Kept
   pub earlier_left : (step : List ℕ → List ℕ → Type 0) (c d : Areas) → May disk d → Only log.area step d c → (m : ℕ) → first ≤ m → m < first + length kept.earlier → c (area_of m) ≡ disk.seen (area_of m)
   earlier_left step c d may only m le lt = only.others (area_of m) (apart m le lt) ∙ logs_left first logs kept.earlier disk d holds.leads.logs_of may m le lt
 
+  pub deposit_leads : (block : List ℕ) (new : Disk) (after : LogState) → Does log.area Anything disk new → after.area ≡ log.area → after.first ≡ log.first → after.version ≡ log.version → Settled after (kept.attached.blocks ++ block ∷ []) new
+      → LeadsTo first logs (first + length logs) after kept.earlier (with_block block kept.attached) new
+  deposit_leads block new after does area head version settled = record {
+    logs_of = logs_apart first logs kept.earlier log.area Anything disk new does apart holds.leads.logs_of;
+    before = holds.leads.before;
+    lead = holds.leads.lead;
+    follows = holds.leads.follows;
+    log_of = record {
+      area = area ∙ holds.leads.log_of.area;
+      first = head ∙ holds.leads.log_of.first;
+      version = version ∙ holds.leads.log_of.version;
+      settled = settled;
+    };
+  }
+
   module _ (block : List ℕ) (none : IsNoLink (first + length logs + 1) block) (new : Disk) where
     last_with : EndsInNoLink (first + length logs + 1) (kept.attached.blocks ++ block ∷ [])
     last_with = subst (λ (b : List ℕ). IsNoLink (first + length logs + 1) b) (sym (last_block-push kept.attached.blocks block)) none
@@ -55,18 +70,4 @@ module _ (first room : ℕ) (logs : List LogState) (log : LogState) (kept : Kept
 
     pub deposit_holds : (after : LogState) (less : ℕ) → Does log.area Anything disk new → after.area ≡ log.area → after.first ≡ log.first → after.version ≡ log.version → Settled after (kept.attached.blocks ++ block ∷ []) new
         → Holds (record { first = first; earlier = logs; attached = after; room = less }) (deposited block kept) new
-    deposit_holds after less does area head version settled = record {
-      leads = record {
-        logs_of = logs_apart first logs kept.earlier log.area Anything disk new does apart holds.leads.logs_of;
-        before = holds.leads.before;
-        lead = holds.leads.lead;
-        follows = holds.leads.follows;
-        log_of = record {
-          area = area ∙ holds.leads.log_of.area;
-          first = head ∙ holds.leads.log_of.first;
-          version = version ∙ holds.leads.log_of.version;
-          settled = settled;
-        };
-      };
-      last = last_with;
-    }
+    deposit_holds after less does area head version settled = record { leads = deposit_leads block new after does area head version settled; last = last_with }

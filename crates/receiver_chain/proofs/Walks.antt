@@ -30,7 +30,7 @@ pub led_further : (first n further s : ℕ) (logs pushed : List LogState) (log n
 led_further first n further s logs pushed log next old new led stays link push is has area follows = (
   led.0 ++ led.1 ∷ [],
   receiver_of next has.0,
-  leads_further first logs pushed n further s log next led.0 led.1 (receiver_of next has.0) old new led.2 stays (link led.1.blocks led.2.log_of.settled) push is (log_of further next new has area) follows,
+  leads_further first logs pushed n further s log next led.0 led.1 (receiver_of next has.0) new (leads_stay first logs n log led.0 led.1 old new stays led.2) (link led.1.blocks led.2.log_of.settled) push is (log_of further next new has area) follows,
 )
 
 pub led_holds : (first n : ℕ) (logs : List LogState) (log : LogState) (old new : Disk) → IsLed first logs n log old → Stays old new → n ≡ first + length logs → ((blocks : List (List ℕ)) → Settled log blocks old → EndsInNoLink (n + 1) blocks)

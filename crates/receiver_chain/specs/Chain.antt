@@ -1,9 +1,10 @@
 -- A chain of receivers as its callers see it, and how it stands to the disk. Our own.
 use Rattle.std.specs.Prelude.{ℕ, ◌+◌, ◌≡◌, ◌⊎◌, List, [], ◌∷◌, length}
 use Rattle.store_model.specs.Disk.{Areas, Disk}
+use Rattle.gated_log.specs.Blocks.{frame}
 use Rattle.gated_log.specs.Log.{LogState, Settled}
-use Rattle.receiver_chain.specs.Links.{EndsInNoLink}
-use Rattle.receiver_chain.specs.Receivers.{Receiver, Kept, LeadTo, Follows, area_of, before_first, deposited, AreChained}
+use Rattle.receiver_chain.specs.Links.{EndsInNoLink, IsLink, IsStart}
+use Rattle.receiver_chain.specs.Receivers.{Receiver, Kept, LeadTo, Follows, area_of, before_first, deposited, switched, AreChained}
 
 -- the first receiver that is kept, the logs of those before the attached one, that of the attached one, and for how many
 -- blocks room was made
@@ -56,3 +57,18 @@ IsHeld chain disk = ∥ HasKept chain disk ∥₁
 -- the receivers before or after one block more
 abbrev pub IsWithOrWithout : ℕ → Kept → List ℕ → Areas → Type 0
 IsWithOrWithout first kept block areas = AreChained first kept areas ⊎ AreChained first (deposited block kept) areas
+
+-- the blocks by which one receiver ends and the next one begins, each in its frame
+pub record IsSwitch (attached : ℕ) (nr pr : List ℕ) : Type 0 where
+  pub before : ℕ
+  pub ending : List ℕ
+  pub beginning : List ℕ
+  pub link : IsLink (attached + 1) before ending
+  pub start : IsStart attached (before + 1) beginning
+  pub framed_ending : nr ≡ frame ending
+  pub framed_beginning : pr ≡ frame beginning
+
+-- the receivers before the switch, with the next one that is still empty, or with its first block
+abbrev pub IsSwitching : ℕ → Kept → ℕ → List ℕ → List ℕ → Areas → Type 0
+IsSwitching first kept before ending beginning areas =
+    AreChained first kept areas ⊎ (AreChained first (switched ending (before + 1) kept) areas ⊎ AreChained first (deposited beginning (switched ending (before + 1) kept)) areas)

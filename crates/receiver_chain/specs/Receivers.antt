@@ -3,6 +3,7 @@
 use Rattle.std.specs.Prelude.{ℕ, ◌+◌, ◌≡◌, ◌⊎◌, ◌==◌, if◌then◌else◌, List, [], ◌∷◌, ◌++◌, length, Option, Some, None}
 use Rattle.store_model.specs.Disk.{Areas}
 use Rattle.gated_log.specs.Blocks.{header, MayBegin, Spells, BreaksAt}
+use Rattle.receiver_chain.specs.declared.numbers.TheConstants.{VERSION}
 use Rattle.receiver_chain.specs.Links.{EndsInLink, EndsInNoLink}
 
 -- the first sequence and the version in its header, and its blocks
@@ -34,10 +35,10 @@ abbrev pub deposited : List ℕ → Kept → Kept
 deposited block kept = record kept { attached = with_block block kept.attached }
 
 -- the attached receiver ends in this block, and the next one, which is empty, begins with this sequence
-abbrev pub switched : List ℕ → ℕ → ℕ → Kept → Kept
-switched block first version kept = record {
+abbrev pub switched : List ℕ → ℕ → Kept → Kept
+switched block first kept = record {
   earlier = kept.earlier ++ with_block block kept.attached ∷ [];
-  attached = record { first = first; version = version; blocks = [] };
+  attached = record { first = first; version = VERSION; blocks = [] };
 }
 
 -- ---- areas

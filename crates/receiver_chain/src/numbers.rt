@@ -8,6 +8,9 @@ pub const FIRST_RECEIVER: u32 = 1;
 /// No receiver has a greater number.
 pub const MAX_RECEIVER: u32 = 100_000;
 
+/// The version of the receivers that are made.
+pub const VERSION: u32 = 1;
+
 /// The areas before that of receiver 1 hold root records and checkpoints.
 const AREAS_BEFORE: u32 = 2;
 
