@@ -1,5 +1,5 @@
 -- How receivers follow one another, and what the areas of a chain that is held spell.
-use Rattle.std.proofs.Common.{◌≡◌, ◌≢◌, inl, inr, ℕ, ◌+◌, ◌≤◌, ◌<◌, List, [], ◌∷◌, ◌++◌, length, Option, Some, refl, sym, ◌∙◌, ap, subst, arith}
+use Rattle.std.proofs.Common.{◌≡◌, ◌≢◌, inl, inr, ℕ, zero, suc, ◌+◌, ◌≤◌, ◌<◌, List, [], ◌∷◌, ◌++◌, length, get_or, Option, Some, refl, sym, ◌∙◌, ap, subst, arith}
 use Rattle.std.proofs.lemmas.Bool.{cases_eq}
 use Rattle.store_model.specs.Disk.{Areas, Disk, May, Does, Stays}
 use Rattle.gated_log.specs.Blocks.{Spells}
@@ -102,6 +102,14 @@ logs_left n (log ∷ logs) (r ∷ rs) disk c are may m le lt = elim (cases_eq n 
   | inl same ↦ subst (λ (k : ℕ). c (area_of k) ≡ disk.seen (area_of k)) same (log_left n log r disk c are.0 may)
   | inr other ↦ logs_left (n + 1) logs rs disk c are.1 may m (omega (arith, le, other)) (omega (arith, lt))
 ]
+
+-- the kth of them
+pub log_at : (n : ℕ) (logs : List LogState) (rs : List Receiver) (disk : Disk) (k : ℕ) (last : LogState) (r : Receiver) → AreLogsOf n logs rs disk → k < length rs → IsLogOf (n + k) (get_or logs k last) (get_or rs k r) disk
+log_at n [] [] disk k last r are lt = absurd (omega (arith, lt))
+log_at n [] (x ∷ rs) disk k last r are lt = absurd are
+log_at n (x ∷ logs) [] disk k last r are lt = absurd are
+log_at n (x ∷ logs) (y ∷ rs) disk zero last r are lt = subst (λ (m : ℕ). IsLogOf m x y disk) (omega arith) are.0
+log_at n (x ∷ logs) (y ∷ rs) disk (suc k) last r are lt = subst (λ (m : ℕ). IsLogOf m (get_or logs k last) (get_or rs k r) disk) (omega arith) (log_at (n + 1) logs rs disk k last r are.1 (omega (arith, lt)))
 
 -- one receiver more, to which the last one before it is tied
 pub leads_further : (first : ℕ) (logs pushed : List LogState) (n further s : ℕ) (log next : LogState) (earlier : List Receiver) (r other : Receiver) (disk : Disk)

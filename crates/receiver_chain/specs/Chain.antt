@@ -1,5 +1,5 @@
 -- A chain of receivers as its callers see it, and how it stands to the disk. Our own.
-use Rattle.std.specs.Prelude.{ℕ, ◌+◌, ◌≡◌, ◌⊎◌, List, [], ◌∷◌, length}
+use Rattle.std.specs.Prelude.{ℕ, ◌+◌, ◌-◌, ◌≡◌, ◌⊎◌, ◌==◌, if◌then◌else◌, List, [], ◌∷◌, length, get_or}
 use Rattle.store_model.specs.Disk.{Areas, Disk}
 use Rattle.gated_log.specs.Blocks.{frame}
 use Rattle.gated_log.specs.Log.{LogState, Settled}
@@ -17,6 +17,15 @@ pub record ChainState : Type 0 where
 -- the number of the attached receiver
 abbrev pub attached_of : ChainState → ℕ
 attached_of chain = chain.first + length chain.earlier
+
+-- the log of a receiver that is kept
+abbrev pub log_at : ChainState → ℕ → LogState
+log_at chain receiver = get_or chain.earlier (receiver - chain.first) chain.attached
+
+-- the last sequence up to a receiver's end, where this is the last one of all: it comes before the first one of the next
+-- receiver
+abbrev pub last_of : ChainState → ℕ → ℕ → ℕ
+last_of chain receiver last = if receiver == attached_of chain then last else (log_at chain (receiver + 1)).first - 1
 
 -- the log is that of the receiver, in its area, and a stop leaves of it what a read gives
 pub record IsLogOf (number : ℕ) (log : LogState) (r : Receiver) (disk : Disk) : Type 0 where

@@ -1,7 +1,7 @@
 -- Which receivers do the areas of a store spell, one tied to the next? A format of our own: the manual (Journal
 -- Management, "Journal receivers") says that receivers form a chain, and not how.
-use Rattle.std.specs.Prelude.{ℕ, ◌+◌, ◌≡◌, ◌⊎◌, ◌==◌, if◌then◌else◌, List, [], ◌∷◌, ◌++◌, length, Option, Some, None}
-use Rattle.store_model.specs.Disk.{Areas}
+use Rattle.std.specs.Prelude.{ℕ, ◌+◌, ◌-◌, ◌≡◌, ◌≢◌, ◌≤◌, ◌<◌, ◌⊎◌, ◌==◌, if◌then◌else◌, List, [], ◌∷◌, ◌++◌, length, get_or, drop, Option, Some, None}
+use Rattle.store_model.specs.Disk.{Areas, Disk, May, Cut}
 use Rattle.gated_log.specs.Blocks.{header, MayBegin, Spells, BreaksAt}
 use Rattle.receiver_chain.specs.declared.numbers.TheConstants.{VERSION}
 use Rattle.receiver_chain.specs.Links.{EndsInLink, EndsInNoLink}
@@ -41,6 +41,14 @@ switched block first kept = record {
   attached = record { first = first; version = VERSION; blocks = [] };
 }
 
+-- the receiver of a number from the first kept one on
+abbrev pub receiver_at : ℕ → Kept → ℕ → Receiver
+receiver_at first kept receiver = get_or kept.earlier (receiver - first) kept.attached
+
+-- without so many of the first ones
+abbrev pub dropped : ℕ → Kept → Kept
+dropped n kept = record { earlier = drop n kept.earlier; attached = kept.attached }
+
 -- ---- areas
 
 abbrev pub area_of : ℕ → ℕ
@@ -77,6 +85,15 @@ pub record AreChained (first : ℕ) (kept : Kept) (areas : Areas) : Type 0 where
   pub follows : Follows before kept.attached.first
   pub attached : Spells (area_of (attached_number first kept)) kept.attached.first kept.attached.version kept.attached.blocks (areas (area_of (attached_number first kept)))
   pub last : EndsInNoLink (attached_number first kept + 1) kept.attached.blocks
+
+-- the areas of the receivers from the first to before the next one are whole or cut, the others are as they were
+pub record AreCut (first next : ℕ) (old new : Areas) : Type 0 where
+  pub cut : (number : ℕ) → first ≤ number → number < next → Cut 0 (old (area_of number)) (new (area_of number))
+  pub others : (area : ℕ) → ((number : ℕ) → first ≤ number → number < next → area ≢ area_of number) → new area ≡ old area
+
+-- the same of what a stop might have left
+abbrev pub IsCutOf : Disk → ℕ → ℕ → Areas → Type 0
+IsCutOf disk first next areas = (before : Areas) × May disk before × AreCut first next before areas
 
 -- ---- damage
 

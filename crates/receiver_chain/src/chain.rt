@@ -5,7 +5,7 @@ ghost use Rattle.store_model.specs.Disk.{Does, Leaves};
 ghost use Rattle.store_model.specs.Faults.{Rose};
 ghost use Rattle.gated_log.specs.Blocks.{IsFramed, frame};
 ghost use Rattle.gated_log.specs.Log.{Anything};
-ghost use Rattle.receiver_chain.specs.declared.numbers.TheConstants.{MAX_RECEIVER};
+ghost use Rattle.receiver_chain.specs.declared.numbers.TheConstants.{FIRST_RECEIVER, MAX_RECEIVER};
 ghost use Rattle.receiver_chain.specs.Links.{IsNoLink};
 ghost use Rattle.receiver_chain.specs.Receivers.{Kept, deposited};
 ghost use Rattle.receiver_chain.specs.Chain.{Holds, IsHeld, IsWithOrWithout, attached_of};
@@ -43,7 +43,9 @@ impl Model for Chain {
 impl Chain {
     /// The number of the first receiver that is kept.
     pub fn first(&self) -> u32
-        ensures { result ≡ self.now.first }
+        ensures number { result ≡ self.now.first }
+        ensures least { FIRST_RECEIVER ≤ result }
+        ensures most { attached_of self.now ≤ MAX_RECEIVER }
     {
         self.first
     }
