@@ -120,7 +120,8 @@ leads_further first logs pushed n further s log next earlier r other disk leads 
     record {
       logs_of = subst (λ (l : List LogState). AreLogsOf first l (earlier ++ r ∷ []) disk) (sym push) (logs-push first logs earlier disk n log r leads.logs_of count leads.log_of);
       before = Some s;
-      lead = subst (λ (k : ℕ). LeadTo first (before_first first) (earlier ++ r ∷ []) k (Some s)) (sym is) (lead-push first (before_first first) earlier n s leads.before r leads.lead leads.follows link);
+      lead = subst (λ (k : ℕ). LeadTo first (before_first first) (earlier ++ r ∷ []) k (Some s)) (sym is)
+          (lead-push first (before_first first) earlier n s leads.before r leads.lead leads.follows link);
       follows = follows;
       log_of = there;
     }

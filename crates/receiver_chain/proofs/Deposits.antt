@@ -29,7 +29,8 @@ module _ (first room : ℕ) (logs : List LogState) (log : LogState) (kept : Kept
     before = holds.leads.before;
     lead = subst (λ (k : ℕ). LeadTo first (before_first first) kept.earlier k holds.leads.before) count holds.leads.lead;
     follows = holds.leads.follows;
-    attached = subst (λ (k : ℕ). Spells (area_of k) kept.attached.first kept.attached.version blocks (c (area_of k))) count (spells_of (first + length logs) log kept.attached disk blocks c holds.leads.log_of spells);
+    attached = subst (λ (k : ℕ). Spells (area_of k) kept.attached.first kept.attached.version blocks (c (area_of k))) count
+        (spells_of (first + length logs) log kept.attached disk blocks c holds.leads.log_of spells);
     last = subst (λ (k : ℕ). EndsInNoLink (k + 1) blocks) count last;
   }
 

@@ -39,7 +39,8 @@ pub drop_holds : (first room : ℕ) (logs : List LogState) (log : LogState) (kep
 drop_holds first room logs log kept disk least some holds =
     let same : first + length logs ≡ (first + 1) + length (drop 1 logs) = omega (arith, length-drop 1 logs, some) in
     record {
-      leads = subst (λ (k : ℕ). LeadsTo (first + 1) (drop 1 logs) k log (drop 1 kept.earlier) kept.attached disk) same (leads_drop first (first + length logs) logs log kept.earlier kept.attached disk least some holds.leads);
+      leads = subst (λ (k : ℕ). LeadsTo (first + 1) (drop 1 logs) k log (drop 1 kept.earlier) kept.attached disk) same
+          (leads_drop first (first + length logs) logs log kept.earlier kept.attached disk least some holds.leads);
       last = subst (λ (k : ℕ). Rattle.receiver_chain.specs.Links.EndsInNoLink (k + 1) kept.attached.blocks) same holds.last;
     }
 
@@ -47,7 +48,8 @@ drop_holds first room logs log kept disk least some holds =
 pub drop_cut_holds : (first room : ℕ) (logs : List LogState) (log : LogState) (kept : Kept) (old new : Disk) → 1 ≤ first → 0 < length logs → Does (area_of first) (Cut 0) old new → Holds (record { first = first; earlier = logs; attached = log; room = room }) kept old
     → Holds (record { first = first + 1; earlier = drop 1 logs; attached = log; room = room }) (dropped 1 kept) new
 drop_cut_holds first room logs log kept old new least some does holds =
-    holds_apart (record { first = first + 1; earlier = drop 1 logs; attached = log; room = room }) (dropped 1 kept) (area_of first) (Cut 0) old new does (λ m le lt same. omega (arith, le, same)) (drop_holds first room logs log kept old least some holds)
+    holds_apart (record { first = first + 1; earlier = drop 1 logs; attached = log; room = room }) (dropped 1 kept) (area_of first) (Cut 0) old new does
+    (λ m le lt same. omega (arith, le, same)) (drop_holds first room logs log kept old least some holds)
 
 drop_more : {A : Type 0} (k : ℕ) (xs : List A) → drop 1 (drop k xs) ≡ drop (k + 1) xs
 drop_more k xs = drop-drop 1 k xs
@@ -57,13 +59,15 @@ pub drops_hold : (k first room : ℕ) (logs : List LogState) (log : LogState) (k
     → Holds (record { first = first + k; earlier = drop k logs; attached = log; room = room }) (dropped k kept) disk
 drops_hold zero first room logs log kept disk least some holds = subst (λ (n : ℕ). Holds (record { first = n; earlier = logs; attached = log; room = room }) kept disk) (omega arith) holds
 drops_hold (suc k) first room logs log kept disk least some holds =
-    let here = drop_holds (first + k) room (drop k logs) log (dropped k kept) disk (omega (arith, least)) (omega (arith, length-drop k logs, some)) (drops_hold k first room logs log kept disk least (omega (arith, some)) holds) in
+    let here = drop_holds (first + k) room (drop k logs) log (dropped k kept) disk (omega (arith, least)) (omega (arith, length-drop k logs, some))
+    (drops_hold k first room logs log kept disk least (omega (arith, some)) holds) in
     let next : (first + k) + 1 ≡ first + suc k = omega arith in
     let more : k + 1 ≡ suc k = omega arith in
     subst (λ (n : ℕ). Holds (record { first = n; earlier = drop (suc k) logs; attached = log; room = room }) (dropped (suc k) kept) disk) next
     (subst (λ (n : ℕ). Holds (record { first = (first + k) + 1; earlier = drop n logs; attached = log; room = room }) (dropped n kept) disk) more
     (subst (λ (l : List LogState). Holds (record { first = (first + k) + 1; earlier = l; attached = log; room = room }) (dropped (k + 1) kept) disk) (drop_more k logs)
-    (subst (λ (l : List Receiver). Holds (record { first = (first + k) + 1; earlier = drop 1 (drop k logs); attached = log; room = room }) (record { earlier = l; attached = kept.attached }) disk) (drop_more k kept.earlier) here)))
+    (subst (λ (l : List Receiver). Holds (record { first = (first + k) + 1; earlier = drop 1 (drop k logs); attached = log; room = room }) (record { earlier = l; attached = kept.attached })
+    disk) (drop_more k kept.earlier) here)))
 
 -- one more, after some
 pub dropped_further : (chain : ChainState) (kept : Kept) (disk : Disk) (k : ℕ) → Holds chain (dropped 1 (dropped k kept)) disk → Holds chain (dropped (k + 1) kept) disk
@@ -135,4 +139,5 @@ kept_leaves chain kept receiver old new least from below holds leaves =
     let k = receiver + 1 - chain.first in
     let is : receiver + 1 ≡ chain.first + k = omega (arith, from) in
     leaves_less old new (IsCutOf old chain.first (receiver + 1)) (AreChained (receiver + 1) (dropped k kept)) leaves
-    (λ c cut. subst (λ (n : ℕ). AreChained n (dropped k kept) c) (sym is) (cut_chained chain.first chain.room k chain.earlier chain.attached kept old c least (omega (arith, from, below)) holds (subst (λ (n : ℕ). IsCutOf old chain.first n c) is cut)))
+    (λ c cut. subst (λ (n : ℕ). AreChained n (dropped k kept) c) (sym is) (cut_chained chain.first chain.room k chain.earlier chain.attached kept old c least (omega (arith, from, below))
+    holds (subst (λ (n : ℕ). IsCutOf old chain.first n c) is cut)))

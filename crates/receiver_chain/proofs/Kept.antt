@@ -1,10 +1,11 @@
 -- What keeps a chain held, and how its logs and receivers belong together: for crates that hold chains.
-use Rattle.std.proofs.Common.{◌≢◌, inl, inr, ℕ, ◌-◌, ◌≤◌, ◌<◌, List, length, sym, subst, arith}
+use Rattle.std.proofs.Common.{◌≡◌, ◌∙◌, ◌≢◌, inl, inr, ℕ, ◌-◌, ◌≤◌, ◌<◌, List, length, sym, subst, arith}
 use Rattle.std.proofs.Math.Logic.{∥∥₁_map}
 use Rattle.std.proofs.lemmas.Bool.{cases_eq}
 use Rattle.std.proofs.lemmas.List.{get_or_past}
 use Rattle.store_model.specs.Disk.{Disk, Does, Stays}
 use Rattle.gated_log.specs.Log.{LogState, IsSettled}
+use Rattle.gated_log.proofs.Kept.{settled_same}
 use Rattle.receiver_chain.specs.Receivers.{Receiver, Kept, area_of, receiver_at}
 use Rattle.receiver_chain.specs.Chain.{ChainState, IsLogOf, Holds, IsHeld, attached_of, log_at}
 use Rattle.receiver_chain.proofs.Chaining.{leads_stay, logs_length, logs_apart, log_apart}
@@ -28,7 +29,8 @@ log_of chain kept disk receiver holds from upto =
           (subst (λ (m : ℕ). IsLogOf m chain.attached kept.attached disk) (sym last) holds.leads.log_of))
       | inr before ↦
           let below : k < length kept.earlier = omega (arith, upto, before, sizes) in
-          subst (λ (m : ℕ). IsLogOf m (log_at chain receiver) (receiver_at chain.first kept receiver) disk) (omega (arith, from)) (Rattle.receiver_chain.proofs.Chaining.log_at chain.first chain.earlier kept.earlier disk k chain.attached kept.attached holds.leads.logs_of below)
+          subst (λ (m : ℕ). IsLogOf m (log_at chain receiver) (receiver_at chain.first kept receiver) disk) (omega (arith, from))
+          (Rattle.receiver_chain.proofs.Chaining.log_at chain.first chain.earlier kept.earlier disk k chain.attached kept.attached holds.leads.logs_of below)
     ]
 
 pub held_log : (chain : ChainState) (disk : Disk) (receiver : ℕ) → IsHeld chain disk → chain.first ≤ receiver → receiver ≤ attached_of chain → IsSettled (log_at chain receiver) disk
@@ -48,3 +50,29 @@ holds_apart chain kept area step old new does other holds =
       };
       last = holds.last;
     }
+
+-- a chain that differs in its room alone
+pub holds_same : (old new : ChainState) (kept : Kept) (disk : Disk) → new.first ≡ old.first → new.earlier ≡ old.earlier → new.attached.area ≡ old.attached.area → new.attached.first ≡ old.attached.first
+    → new.attached.version ≡ old.attached.version → new.attached.lengths ≡ old.attached.lengths → Holds old kept disk → Holds new kept disk
+holds_same old new kept disk first earlier area head version lengths holds =
+    subst (λ (f : ℕ). Holds (record { first = f; earlier = new.earlier; attached = new.attached; room = new.room }) kept disk) (sym first)
+    (subst (λ (l : List LogState). Holds (record { first = old.first; earlier = l; attached = new.attached; room = new.room }) kept disk) (sym earlier)
+    (record {
+      leads = record {
+        logs_of = holds.leads.logs_of;
+        before = holds.leads.before;
+        lead = holds.leads.lead;
+        follows = holds.leads.follows;
+        log_of = record {
+          area = area ∙ holds.leads.log_of.area;
+          first = head ∙ holds.leads.log_of.first;
+          version = version ∙ holds.leads.log_of.version;
+          settled = settled_same old.attached new.attached kept.attached.blocks disk area head version lengths holds.leads.log_of.settled;
+        };
+      };
+      last = holds.last;
+    }))
+
+pub is_held_same : (old new : ChainState) (disk : Disk) → new.first ≡ old.first → new.earlier ≡ old.earlier → new.attached.area ≡ old.attached.area → new.attached.first ≡ old.attached.first
+    → new.attached.version ≡ old.attached.version → new.attached.lengths ≡ old.attached.lengths → IsHeld old disk → IsHeld new disk
+is_held_same old new disk first earlier area head version lengths some = ∥∥₁_map some (λ has. (has.0, holds_same old new has.0 disk first earlier area head version lengths has.1))

@@ -54,13 +54,16 @@ one_by n before [] [] r other m k last final areas spelled lead spells none too 
       (subst (λ (j : ℕ). Spells (area_of j) other.first other.version other.blocks (areas (area_of j))) leads.0 same),
 )
 one_by n before [] (y ∷ others) r other m k last final areas spelled lead spells none too leads same never =
-    absurd (not_last n leads.1 y r areas too.0 leads.2 (subst (λ (j : ℕ). Spells (area_of j) r.first r.version r.blocks (areas (area_of j))) lead.0 spells) (subst (λ (j : ℕ). EndsInNoLink (j + 1) r.blocks) lead.0 none))
+    absurd (not_last n leads.1 y r areas too.0 leads.2 (subst (λ (j : ℕ). Spells (area_of j) r.first r.version r.blocks (areas (area_of j))) lead.0 spells)
+    (subst (λ (j : ℕ). EndsInNoLink (j + 1) r.blocks) lead.0 none))
 one_by n before (x ∷ rs) [] r other m k last final areas spelled lead spells none too leads same never =
-    absurd (not_last n lead.1 x other areas spelled.0 lead.2 (subst (λ (j : ℕ). Spells (area_of j) other.first other.version other.blocks (areas (area_of j))) leads.0 same) (subst (λ (j : ℕ). EndsInNoLink (j + 1) other.blocks) leads.0 never))
+    absurd (not_last n lead.1 x other areas spelled.0 lead.2 (subst (λ (j : ℕ). Spells (area_of j) other.first other.version other.blocks (areas (area_of j))) leads.0 same)
+    (subst (λ (j : ℕ). EndsInNoLink (j + 1) other.blocks) leads.0 never))
 one_by n before (x ∷ rs) (y ∷ others) r other m k last final areas spelled lead spells none too leads same never =
     let here = one_receiver (area_of n) x y (areas (area_of n)) spelled.0 too.0 in
     let sequence = one_link (n + 1) leads.1 lead.1 y x (sym here) leads.2 lead.2 in
-    let rest = one_by (n + 1) (Some lead.1) rs others r other m k last final areas spelled.1 lead.3 spells none too.1 (subst (λ (s : ℕ). LeadTo (n + 1) (Some s) others k final) sequence leads.3) same never in
+    let rest = one_by (n + 1) (Some lead.1) rs others r other m k last final areas spelled.1 lead.3 spells none too.1
+    (subst (λ (s : ℕ). LeadTo (n + 1) (Some s) others k final) sequence leads.3) same never in
     (ap (λ (z : Receiver). z ∷ rs) here ∙ ap (λ (l : List Receiver). y ∷ l) rest.0, rest.1)
 
 pub one_chain : (first : ℕ) (kept other : Kept) (areas : Areas) → AreChained first kept areas → AreChained first other areas → kept ≡ other
@@ -77,7 +80,8 @@ never_by n before [] [] r m k last final areas at spelled lead follows spells no
     (subst (λ (o : Option ℕ). IsReceiverDamagedAt (area_of n) o (areas (area_of n)) at) leads.1 (subst (λ (j : ℕ). IsReceiverDamagedAt (area_of j) final (areas (area_of j)) at) leads.0 damaged))
     (subst (λ (j : ℕ). Spells (area_of j) r.first r.version r.blocks (areas (area_of j))) lead.0 spells) (subst (λ (o : Option ℕ). Follows o r.first) lead.1 follows)
 never_by n before [] (y ∷ others) r m k last final areas at spelled lead follows spells none too leads damaged =
-    not_last n leads.1 y r areas too.0 leads.2 (subst (λ (j : ℕ). Spells (area_of j) r.first r.version r.blocks (areas (area_of j))) lead.0 spells) (subst (λ (j : ℕ). EndsInNoLink (j + 1) r.blocks) lead.0 none)
+    not_last n leads.1 y r areas too.0 leads.2 (subst (λ (j : ℕ). Spells (area_of j) r.first r.version r.blocks (areas (area_of j))) lead.0 spells)
+    (subst (λ (j : ℕ). EndsInNoLink (j + 1) r.blocks) lead.0 none)
 never_by n before (x ∷ rs) [] r m k last final areas at spelled lead follows spells none too leads damaged =
     not_both (area_of n) before (areas (area_of n)) at x
     (subst (λ (o : Option ℕ). IsReceiverDamagedAt (area_of n) o (areas (area_of n)) at) leads.1 (subst (λ (j : ℕ). IsReceiverDamagedAt (area_of j) final (areas (area_of j)) at) leads.0 damaged))
@@ -90,7 +94,8 @@ never_by n before (x ∷ rs) (y ∷ others) r m k last final areas at spelled le
 pub never_both : (first area at : ℕ) (kept : Kept) (areas : Areas) → IsChainDamagedAt first areas area at → AreChained first kept areas → ⊥
 never_both first area at kept areas damaged chained =
     never_by first (before_first first) kept.earlier damaged.earlier kept.attached (attached_number first kept) damaged.number chained.before damaged.before areas at
-    chained.earlier chained.lead chained.follows chained.attached chained.last damaged.spelled damaged.lead (subst (λ (n : ℕ). IsReceiverDamagedAt n damaged.before (areas n) at) damaged.here damaged.damaged)
+    chained.earlier chained.lead chained.follows chained.attached chained.last damaged.spelled damaged.lead
+    (subst (λ (n : ℕ). IsReceiverDamagedAt n damaged.before (areas n) at) damaged.here damaged.damaged)
 
 one_place : (area : ℕ) (before : Option ℕ) (bytes : List ℕ) (at other : ℕ) → IsReceiverDamagedAt area before bytes at → IsReceiverDamagedAt area before bytes other → at ≡ other
 one_place area before bytes at other (inl first) (inl second) = first.1 ∙ sym second.1
@@ -102,14 +107,18 @@ damage_by : (n : ℕ) (before : Option ℕ) (rs others : List Receiver) (m k : �
     → AreSpelled n rs areas → LeadTo n before rs m last → IsReceiverDamagedAt (area_of m) last (areas (area_of m)) at
     → AreSpelled n others areas → LeadTo n before others k final → IsReceiverDamagedAt (area_of k) final (areas (area_of k)) other → (m ≡ k) × (at ≡ other)
 damage_by n before [] [] m k last final areas at other spelled lead damaged too leads same =
-    let mine = subst (λ (o : Option ℕ). IsReceiverDamagedAt (area_of n) o (areas (area_of n)) at) lead.1 (subst (λ (j : ℕ). IsReceiverDamagedAt (area_of j) last (areas (area_of j)) at) lead.0 damaged) in
-    let yours = subst (λ (o : Option ℕ). IsReceiverDamagedAt (area_of n) o (areas (area_of n)) other) leads.1 (subst (λ (j : ℕ). IsReceiverDamagedAt (area_of j) final (areas (area_of j)) other) leads.0 same) in
+    let mine = subst (λ (o : Option ℕ). IsReceiverDamagedAt (area_of n) o (areas (area_of n)) at) lead.1
+    (subst (λ (j : ℕ). IsReceiverDamagedAt (area_of j) last (areas (area_of j)) at) lead.0 damaged) in
+    let yours = subst (λ (o : Option ℕ). IsReceiverDamagedAt (area_of n) o (areas (area_of n)) other) leads.1
+    (subst (λ (j : ℕ). IsReceiverDamagedAt (area_of j) final (areas (area_of j)) other) leads.0 same) in
     (lead.0 ∙ sym leads.0, one_place (area_of n) before (areas (area_of n)) at other mine yours)
 damage_by n before [] (y ∷ others) m k last final areas at other spelled lead damaged too leads same =
-    let mine = subst (λ (o : Option ℕ). IsReceiverDamagedAt (area_of n) o (areas (area_of n)) at) lead.1 (subst (λ (j : ℕ). IsReceiverDamagedAt (area_of j) last (areas (area_of j)) at) lead.0 damaged) in
+    let mine = subst (λ (o : Option ℕ). IsReceiverDamagedAt (area_of n) o (areas (area_of n)) at) lead.1
+    (subst (λ (j : ℕ). IsReceiverDamagedAt (area_of j) last (areas (area_of j)) at) lead.0 damaged) in
     absurd (not_both (area_of n) before (areas (area_of n)) at y mine too.0 leads.0)
 damage_by n before (x ∷ rs) [] m k last final areas at other spelled lead damaged too leads same =
-    let yours = subst (λ (o : Option ℕ). IsReceiverDamagedAt (area_of n) o (areas (area_of n)) other) leads.1 (subst (λ (j : ℕ). IsReceiverDamagedAt (area_of j) final (areas (area_of j)) other) leads.0 same) in
+    let yours = subst (λ (o : Option ℕ). IsReceiverDamagedAt (area_of n) o (areas (area_of n)) other) leads.1
+    (subst (λ (j : ℕ). IsReceiverDamagedAt (area_of j) final (areas (area_of j)) other) leads.0 same) in
     absurd (not_both (area_of n) before (areas (area_of n)) other x yours spelled.0 lead.0)
 damage_by n before (x ∷ rs) (y ∷ others) m k last final areas at other spelled lead damaged too leads same =
     let here = one_receiver (area_of n) x y (areas (area_of n)) spelled.0 too.0 in

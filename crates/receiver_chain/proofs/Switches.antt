@@ -1,5 +1,6 @@
 -- What the steps of a switch to the next receiver leave.
-use Rattle.std.proofs.Common.{◌≡◌, ◌≢◌, ◌⊎◌, inl, inr, ℕ, ◌+◌, ◌^◌, ◌≤◌, ◌<◌, List, [], ◌∷◌, ◌++◌, length, take, drop, Some, refl, sym, ◌∙◌, ap, subst, arith, length-append}
+use Rattle.std.proofs.Common.{◌≡◌, ◌≢◌, ◌⊎◌, inl, inr, ℕ, ◌+◌, ◌^◌, ◌≤◌, ◌<◌, List, [], ◌∷◌, ◌++◌, length, take, drop, Some, refl, sym, ◌∙◌, ap, subst, arith, length-append, append_assoc}
+use Rattle.std.proofs.lemmas.List.{map-append}
 use Rattle.byteorder.specs.Endian.{big_number}
 use Rattle.byteorder.specs.Numbers.{big_number-reads_back}
 use Rattle.store_model.specs.Disk.{Areas, Disk, May, Does, Stays, Leaves}
@@ -17,7 +18,7 @@ use Rattle.gated_log.proofs.Kept.{settled_same, settled_apart}
 use Rattle.receiver_chain.specs.declared.numbers.TheConstants.{VERSION}
 use Rattle.receiver_chain.specs.Links.{IsLink, IsNoLink, IsStart, EndsInLink}
 use Rattle.receiver_chain.specs.Receivers.{Kept, LeadTo, area_of, attached_number, before_first, switched, with_block, AreChained}
-use Rattle.receiver_chain.specs.Chain.{ChainState, IsLogOf, AreLogsOf, LeadsTo, Holds, IsSwitch, IsSwitching, attached_of}
+use Rattle.receiver_chain.specs.Chain.{ChainState, IsLogOf, AreLogsOf, LeadsTo, Holds, IsSwitch, IsSwitching, attached_of, firsts, lengths_in}
 use Rattle.receiver_chain.proofs.LinkLemmas.{last_block-push, no_bytes}
 use Rattle.receiver_chain.proofs.Chaining.{lead-push, spelled_same, spelled-push, spells_of, logs_apart, log_apart, logs_spell, logs_left, leads_further}
 use Rattle.receiver_chain.proofs.Deposits.{count, chained_with, earlier_left, deposit_leads, deposit_moment}
@@ -192,3 +193,15 @@ module _ (first room : ℕ) (logs : List LogState) (log : LogState) (kept : Kept
           (leaves_less d2 d3 (Rattle.receiver_chain.specs.Chain.IsWithOrWithout first (switched ending (before + 1) kept) beginning) (IsSwitching first kept before ending beginning)
           (deposit_moment first less pushed next (switched ending (before + 1) kept) d2 ended beginning none d3 third)
           (λ c some. elim some [ inl old ↦ inr (inl old) | inr whole ↦ inr (inr whole) ]))
+
+-- ---- what is known of the logs
+
+pub switch_firsts : (logs pushed : List LogState) (log after last : LogState) (first : ℕ) → pushed ≡ logs ++ after ∷ [] → after.first ≡ log.first → last.first ≡ first → firsts (pushed ++ last ∷ []) ≡ firsts (logs ++ log ∷ []) ++ first ∷ []
+switch_firsts logs pushed log after last first push same is =
+    ap (λ (l : List LogState). firsts (l ++ last ∷ [])) push ∙ map-append (λ (l : LogState). l.first) (logs ++ after ∷ []) (last ∷ []) ∙ ap (λ (f : ℕ). firsts (logs ++ after ∷ []) ++ f ∷ []) is
+    ∙ ap (λ (l : List ℕ). l ++ first ∷ []) (map-append (λ (l : LogState). l.first) logs (after ∷ []) ∙ ap (λ (f : ℕ). firsts logs ++ f ∷ []) same ∙ sym (map-append (λ (l : LogState). l.first) logs (log ∷ [])))
+
+pub switch_lengths : (logs pushed : List LogState) (after last : LogState) (some more : List ℕ) → pushed ≡ logs ++ after ∷ [] → after.lengths ≡ some → last.lengths ≡ more → lengths_in (pushed ++ last ∷ []) ≡ lengths_in logs ++ some ∷ more ∷ []
+switch_lengths logs pushed after last some more push same is =
+    ap (λ (l : List LogState). lengths_in (l ++ last ∷ [])) push ∙ ap (λ (l : List LogState). lengths_in l) (append_assoc logs (after ∷ []) (last ∷ []))
+    ∙ map-append (λ (l : LogState). l.lengths) logs (after ∷ last ∷ []) ∙ ap (λ (f : List ℕ). lengths_in logs ++ f ∷ last.lengths ∷ []) same ∙ ap (λ (f : List ℕ). lengths_in logs ++ some ∷ f ∷ []) is

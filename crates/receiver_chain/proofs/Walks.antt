@@ -61,7 +61,8 @@ pub led_damaged : (first n further s a at : ℕ) (logs : List LogState) (log : L
 led_damaged first n further s a at logs log begun old new led before stays link is here damaged =
     let earlier = led.0 ++ led.1 ∷ [] in
     let number = lead_number first (before_first first) led.0 n led.2.before led.2.lead in
-    let spelled = spelled-push first led.0 led.1 n old.seen (logs_spell first logs led.0 old led.2.logs_of) number (spells_of n log led.1 old led.1.blocks old.seen led.2.log_of led.2.log_of.settled.spells) in
+    let spelled = spelled-push first led.0 led.1 n old.seen (logs_spell first logs led.0 old led.2.logs_of) number
+    (spells_of n log led.1 old led.1.blocks old.seen led.2.log_of led.2.log_of.settled.spells) in
     let lead = lead-push first (before_first first) led.0 n s led.2.before led.1 led.2.lead led.2.follows (link led.1.blocks led.2.log_of.settled) in
     let whole = stays_trans begun old new before stays in
     record {
@@ -71,5 +72,6 @@ led_damaged first n further s a at logs log begun old new led before stays link 
       spelled = spelled_same first earlier old.seen begun.seen spelled (λ m le lt. sym (before.seen (area_of m)));
       lead = subst (λ (k : ℕ). LeadTo first (before_first first) earlier k (Some s)) (sym is) lead;
       here = here;
-      damaged = subst (λ (k : ℕ). IsReceiverDamagedAt k (Some s) (begun.seen k) at) (sym here) (subst (λ (l : List ℕ). IsReceiverDamagedAt (area_of further) (Some s) l at) (whole.seen (area_of further)) damaged);
+      damaged = subst (λ (k : ℕ). IsReceiverDamagedAt k (Some s) (begun.seen k) at) (sym here) (subst (λ (l : List ℕ). IsReceiverDamagedAt (area_of further) (Some s) l at)
+          (whole.seen (area_of further)) damaged);
     }

@@ -1,5 +1,5 @@
 -- A chain of receivers as its callers see it, and how it stands to the disk. Our own.
-use Rattle.std.specs.Prelude.{ℕ, ◌+◌, ◌-◌, ◌≡◌, ◌⊎◌, ◌==◌, if◌then◌else◌, List, [], ◌∷◌, length, get_or}
+use Rattle.std.specs.Prelude.{ℕ, ◌+◌, ◌-◌, ◌≡◌, ◌⊎◌, ◌==◌, if◌then◌else◌, List, [], ◌∷◌, ◌++◌, length, get_or, map}
 use Rattle.store_model.specs.Disk.{Areas, Disk}
 use Rattle.gated_log.specs.Blocks.{frame}
 use Rattle.gated_log.specs.Log.{LogState, Settled}
@@ -26,6 +26,17 @@ log_at chain receiver = get_or chain.earlier (receiver - chain.first) chain.atta
 -- receiver
 abbrev pub last_of : ChainState → ℕ → ℕ → ℕ
 last_of chain receiver last = if receiver == attached_of chain then last else (log_at chain (receiver + 1)).first - 1
+
+-- the first sequence of each receiver, and the lengths of its blocks
+abbrev pub firsts : List LogState → List ℕ
+firsts logs = map (λ log. log.first) logs
+
+abbrev pub lengths_in : List LogState → List (List ℕ)
+lengths_in logs = map (λ log. log.lengths) logs
+
+-- the logs of all receivers that are kept
+abbrev pub logs_of : ChainState → List LogState
+logs_of chain = chain.earlier ++ chain.attached ∷ []
 
 -- the log is that of the receiver, in its area, and a stop leaves of it what a read gives
 pub record IsLogOf (number : ℕ) (log : LogState) (r : Receiver) (disk : Disk) : Type 0 where

@@ -1,6 +1,6 @@
 //! The chain: its looks, its room, and the block that is deposited. `opening.rt` has how it is opened, `link.rt` what
 //! ties a receiver to the next one.
-ghost use Rattle.std.specs.Prelude.{◌≡◌, ◌+◌, ◌<◌, ◌≤◌, ℕ, List, length, OnOk, OnErr, IsOk, IsErr};
+ghost use Rattle.std.specs.Prelude.{◌≡◌, ◌+◌, ◌<◌, ◌≤◌, ℕ, List, [], ◌∷◌, ◌++◌, length, OnOk, OnErr, IsOk, IsErr};
 ghost use Rattle.store_model.specs.Disk.{Does, Leaves};
 ghost use Rattle.store_model.specs.Faults.{Rose};
 ghost use Rattle.gated_log.specs.Blocks.{IsFramed, frame};
@@ -98,6 +98,10 @@ impl Chain {
         ensures same_first { self.new.first ≡ self.old.first }
         ensures same_earlier { self.new.earlier ≡ self.old.earlier }
         ensures same_area { self.new.attached.area ≡ self.old.attached.area }
+        ensures same_attached { self.new.attached.first ≡ self.old.attached.first }
+        ensures same_version { self.new.attached.version ≡ self.old.attached.version }
+        ensures lengths { OnOk result ((block : List ℕ) → framed.now ≡ frame block → self.new.attached.lengths ≡ self.old.attached.lengths ++ length block ∷ []) }
+        ensures same_lengths { OnErr result (self.new.attached.lengths ≡ self.old.attached.lengths) }
         ensures less_room { OnOk result (self.new.room + 1 ≡ self.old.room) }
         ensures same_room { OnErr result (self.new.room ≡ self.old.room) }
     {

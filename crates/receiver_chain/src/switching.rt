@@ -1,10 +1,10 @@
 //! How the next receiver is made and attached. `chain.rt` has the chain.
-ghost use Rattle.std.specs.Prelude.{◌≡◌, ◌+◌, ◌<◌, ◌≤◌, ℕ, List, [], length, IfOk, OnOk, OnErr, IsErrOf};
+ghost use Rattle.std.specs.Prelude.{◌≡◌, ◌+◌, ◌<◌, ◌≤◌, ℕ, List, [], ◌∷◌, ◌++◌, length, IfOk, OnOk, OnErr, IsErrOf};
 ghost use Rattle.store_model.specs.Disk.{Does, Leaves};
 ghost use Rattle.store_model.specs.Faults.{Rose};
 ghost use Rattle.gated_log.specs.Log.{Settled, Anything};
 ghost use Rattle.receiver_chain.specs.Receivers.{Kept, area_of, deposited, switched};
-ghost use Rattle.receiver_chain.specs.Chain.{Holds, IsHeld, IsSwitch, IsSwitching, attached_of};
+ghost use Rattle.receiver_chain.specs.Chain.{Holds, IsHeld, IsSwitch, IsSwitching, attached_of, firsts, lengths_in, logs_of};
 
 use crate::chain::Chain;
 use crate::fault::ChainFault;
@@ -37,6 +37,8 @@ impl Chain {
         ensures any_moment { S.tells → (kept : Kept) (blocks : IsSwitch (attached_of self.old) nr.now pr.now) → Holds self.old kept (S.disk store.old) → Leaves (S.disk store.old) (S.disk store.new) (IsSwitching self.old.first kept blocks.before blocks.ending blocks.beginning) }
         ensures no_memory { IsErrOf result ChainFault.NoMemory → S.tells → (kept : Kept) → Holds self.old kept (S.disk store.old) → Holds self.new kept (S.disk store.new) }
         ensures cause { IsErrOf result ChainFault.StoreFault → Rose (S.disk store.old).faults (S.disk store.new).faults }
+        ensures firsts { OnOk result ((blocks : IsSwitch (attached_of self.old) nr.now pr.now) → firsts (logs_of self.new) ≡ firsts (logs_of self.old) ++ (blocks.before + 1) ∷ []) }
+        ensures lengths { OnOk result ((blocks : IsSwitch (attached_of self.old) nr.now pr.now) → lengths_in (logs_of self.new) ≡ lengths_in self.old.earlier ++ (self.old.attached.lengths ++ length blocks.ending ∷ []) ∷ (length blocks.beginning ∷ []) ∷ []) }
         ensures same_first { self.new.first ≡ self.old.first }
         ensures same_room { self.new.room ≡ self.old.room }
         ensures same_number { OnErr result (attached_of self.new ≡ attached_of self.old) }
@@ -78,6 +80,7 @@ fn make_next<S: Store>(
     ensures area { IfOk result (λ log. log.area ≡ area_of receiver) }
     ensures first { IfOk result (λ log. log.first ≡ first) }
     ensures version { IfOk result (λ log. log.version ≡ VERSION) }
+    ensures lengths { IfOk result (λ log. log.lengths ≡ []) }
     ensures room { IfOk result (λ log. places ≤ log.room) }
     ensures any_moment { Does (area_of receiver) Anything (S.disk store.old) (S.disk store.new) }
     ensures cause { IsErrOf result ChainFault.StoreFault → Rose (S.disk store.old).faults (S.disk store.new).faults }

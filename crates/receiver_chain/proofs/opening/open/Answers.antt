@@ -39,15 +39,18 @@ returns-in_err-next-clause-damaged g c = λ area at is tells.
     let named : IsErrOf {T = LogState} (Err c.in_err-next.field-0.0) (Damaged area at) = ap (λ (e : LogFault). Err e) same in
     let told = c.in_err-next.ensures.damaged area at named in
     let n = c.loop-log.receiver in
-    led_damaged c.args.first n (n + 1) c.in-Some.before area at c.loop-log.earlier.items c.loop-log.log (g.S.Store.disk c.args.store.now) (g.S.Store.disk c.loop-log.store) (g.S.Store.disk c.link_of.new.store)
+    led_damaged c.args.first n (n + 1) c.in-Some.before area at c.loop-log.earlier.items c.loop-log.log (g.S.Store.disk c.args.store.now) (g.S.Store.disk c.loop-log.store)
+    (g.S.Store.disk c.link_of.new.store)
     (c.loop-log.invariant.led tells) c.loop-log.invariant.stays c.link_of.ensures.stays
-    (λ blocks settled. subst (λ (o : Option ℕ). MatchOption o (EndsInNoLink (n + 1) blocks) (λ before. EndsInLink (n + 1) before blocks)) c.in-Some.is (c.in_ok-before.ensures.link tells blocks settled))
+    (λ blocks settled. subst (λ (o : Option ℕ). MatchOption o (EndsInNoLink (n + 1) blocks) (λ before. EndsInLink (n + 1) before blocks)) c.in-Some.is
+    (c.in_ok-before.ensures.link tells blocks settled))
     (omega arith) told.0 (told.1 tells)
 
 pub loop-log-preserved : goal.loop-log-preserved
 loop-log-preserved g c =
     let n = c.loop-log.receiver in
-    let pushed : c.push.new.self.items ≡ c.loop-log.earlier.items ++ c.loop-log.log ∷ [] = c.in_ok-push.ensures.items ∙ ap (λ (x : LogState). c.loop-log.earlier.items ++ x ∷ []) c.replace.ensures.value in
+    let pushed : c.push.new.self.items ≡ c.loop-log.earlier.items ++ c.loop-log.log ∷ [] = c.in_ok-push.ensures.items ∙ ap (λ (x : LogState). c.loop-log.earlier.items ++ x ∷ [])
+    c.replace.ensures.value in
     let stays = stays_trans _ _ _ c.link_of.ensures.stays c.open_receiver-in-Some.ensures.stays in
     let below : n < MAX_RECEIVER = subst (λ (o : Option ℕ). IfSome o (λ _. n < MAX_RECEIVER)) c.in-Some.is c.in_ok-before.ensures.below in
     let there : c.replace.new.dest ≡ c.in_ok-next.next = c.replace.ensures.after in
@@ -59,14 +62,18 @@ loop-log-preserved g c =
       area = ap (λ (l : LogState). l.area) there ∙ c.in_ok-next.ensures.area;
       led = λ tells.
           subst (λ (l : LogState). IsLed c.args.first c.push.new.self.items (n + 1) l (g.S.Store.disk c.open_receiver-in-Some.new.store)) (sym there)
-          (led_further c.args.first n (n + 1) c.in-Some.before c.loop-log.earlier.items c.push.new.self.items c.loop-log.log c.in_ok-next.next (g.S.Store.disk c.loop-log.store) (g.S.Store.disk c.open_receiver-in-Some.new.store)
+          (led_further c.args.first n (n + 1) c.in-Some.before c.loop-log.earlier.items c.push.new.self.items c.loop-log.log c.in_ok-next.next (g.S.Store.disk c.loop-log.store)
+          (g.S.Store.disk c.open_receiver-in-Some.new.store)
           (c.loop-log.invariant.led tells) stays
-          (λ blocks settled. subst (λ (o : Option ℕ). MatchOption o (EndsInNoLink (n + 1) blocks) (λ before. EndsInLink (n + 1) before blocks)) c.in-Some.is (c.in_ok-before.ensures.link tells blocks settled))
+          (λ blocks settled. subst (λ (o : Option ℕ). MatchOption o (EndsInNoLink (n + 1) blocks) (λ before. EndsInLink (n + 1) before blocks)) c.in-Some.is
+          (c.in_ok-before.ensures.link tells blocks settled))
           pushed (omega arith) (c.in_ok-next.ensures.opened tells) c.in_ok-next.ensures.area (c.in_ok-next.ensures.follows tells));
     }
 
 pub returns-clause-opened : goal.returns-clause-opened
 returns-clause-opened g c = λ tells.
     let n = c.loop-log.receiver in
-    led_holds c.args.first n c.loop-log.earlier.items c.loop-log.log (g.S.Store.disk c.loop-log.store) (g.S.Store.disk c.link_of.new.store) (c.loop-log.invariant.led tells) c.link_of.ensures.stays c.loop-log.invariant.count
-    (λ blocks settled. subst (λ (o : Option ℕ). MatchOption o (EndsInNoLink (n + 1) blocks) (λ before. EndsInLink (n + 1) before blocks)) c.in_default.is (c.in_ok-before.ensures.link tells blocks settled))
+    led_holds c.args.first n c.loop-log.earlier.items c.loop-log.log (g.S.Store.disk c.loop-log.store) (g.S.Store.disk c.link_of.new.store) (c.loop-log.invariant.led tells)
+    c.link_of.ensures.stays c.loop-log.invariant.count
+    (λ blocks settled. subst (λ (o : Option ℕ). MatchOption o (EndsInNoLink (n + 1) blocks) (λ before. EndsInLink (n + 1) before blocks)) c.in_default.is
+    (c.in_ok-before.ensures.link tells blocks settled))
