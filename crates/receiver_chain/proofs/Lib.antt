@@ -1,0 +1,9 @@
+pub mod Chaining
+pub mod Deposits
+pub mod Drops
+pub mod Firsts
+pub mod Kept
+pub mod LinkLemmas
+pub mod ReadingLaws
+pub mod Switches
+pub mod Walks
