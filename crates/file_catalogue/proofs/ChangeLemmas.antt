@@ -216,7 +216,7 @@ each_changed-unowned number change (entry ∷ files) distinct none =
     ] refl
 
 -- where the first is the only owner, nobody behind it is
-behind-first : (number : ℕ) (entry : List ℕ × FileState) (files : Named FileState) → AllByRecursion (λ other. same_name entry.0 other ≡ false) (keys_of files)
+pub behind-first : (number : ℕ) (entry : List ℕ × FileState) (files : Named FileState) → AllByRecursion (λ other. same_name entry.0 other ≡ false) (keys_of files)
     → IsOnly (entry ∷ files) number entry.0 → Unowned files number
 behind-first number entry files all only name file owns =
     let same : entry.0 ≡ name = only name file (owns-behind all owns) in

@@ -3,3 +3,4 @@ pub mod MapLemmas
 pub mod StatusLemmas
 pub mod OwnerLemmas
 pub mod ChangeLemmas
+pub mod CallerLemmas
