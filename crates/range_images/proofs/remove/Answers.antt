@@ -8,9 +8,10 @@ use Rattle.range_images.specs.declared.fault.RangeFault.{RangeFault}
 use Rattle.range_images.specs.declared.change.SlotChange.{SlotChange}
 use Rattle.range_images.specs.declared.slot_given.SlotGiven.{SlotGiven}
 use Rattle.range_images.specs.Sides.{first_sequence, numbered_of}
-use Rattle.range_images.specs.Given.{given_slots}
+use Rattle.range_images.specs.Given.{given_slots, AreInPlace}
 use Rattle.range_images.specs.Images.{removed_answer, range_done, IsFirstBreak, lacking_in}
 use Rattle.range_images.proofs.RemoveLemmas.{removed-lacking, removed-way, tells-done}
+use Rattle.range_images.proofs.PutLemmas.{removed-in_place}
 use Rattle.range_images.proofs.remove.Goals as goal
 
 pub returns-in-Some-last_lacking-clause-fault : goal.returns-in-Some-last_lacking-clause-fault
@@ -53,3 +54,9 @@ returns-clause-done c =
     ∙ ap (λ (cs : List SlotChange). done first (first + length part - 1) (numbered first part) (remove (map numbered_of cs) slots)) (sym c.as_slice-2.ensures.value)
     ∙ ap (done first (first + length part - 1) (numbered first part)) c.in_ok-overlay.ensures.done.gave
     ∙ ap (λ (given : List SlotGiven). Ok (range_done first part (given_slots given slots))) (sym (c.new.ensures ∙ c.into_given.ensures))
+
+pub returns-clause-places : goal.returns-clause-places
+returns-clause-places c =
+    let slots = c.args.member.now.state.slots in
+    let way = c.in_ok-overlay.ensures.done in
+    subst (λ (given : List SlotGiven). AreInPlace 0 given slots) (sym (c.new.ensures ∙ c.into_given.ensures ∙ way.given)) (removed-in_place (map numbered_of c.as_slice-2.result.now) slots _ way.gave)
