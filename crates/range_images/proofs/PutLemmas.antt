@@ -35,7 +35,8 @@ removed-slots (n ∷ rest) slots after h =
     ∙ ap (λ (o : Option Slot). put_slot m.0 n.change.place (unwrap_or o Deleted)) u.told
     ∙ sym u.now
 
-in_place-push : (behind : ℕ) (given : List SlotGiven) (g : SlotGiven) (slots : List Slot) → AreInPlace behind given slots → 1 ≤ g.rrn → g.rrn ≤ length (given_slots given slots) + behind → AreInPlace behind (given ++ g ∷ []) slots
+in_place-push : (behind : ℕ) (given : List SlotGiven) (g : SlotGiven) (slots : List Slot) → AreInPlace behind given slots → 1 ≤ g.rrn
+    → g.rrn ≤ length (given_slots given slots) + behind → AreInPlace behind (given ++ g ∷ []) slots
 in_place-push behind [] g slots h counted within = (counted, within, tt)
 in_place-push behind (f ∷ given) g slots h counted within = (h.0, h.1, in_place-push behind given g (put_slot slots (place_given f) f.slot) h.2 counted within)
 

@@ -21,7 +21,8 @@ returns-in-Some-last_lacking-clause-fault c =
     let part = acts c.args.number (option_copied c.args.prior) entries in
     let slots = c.args.member.now.state.slots in
     let changes = c.in_ok-changes.changes.items in
-    let free : IsFirstBreak None (reverse (placed first part)) = subst (λ (o : Option RangeFault). IsFirstBreak o (reverse (placed first part))) c.in_default.is (c.break_back.ensures (option_copied c.args.prior)) in
+    let free : IsFirstBreak None (reverse (placed first part)) =
+    subst (λ (o : Option RangeFault). IsFirstBreak o (reverse (placed first part))) c.in_default.is (c.break_back.ensures (option_copied c.args.prior)) in
     removed-lacking first part slots changes c.in_ok-changes.ensures free c.in-Some-last_lacking.sequence
     (c.in-Some-last_lacking.ensures ∙ ap (λ cs. lacking_in (reverse cs)) c.as_slice.ensures.value)
 
@@ -32,14 +33,16 @@ returns-in_err-overlay-clause-fault c =
     let part = acts c.args.number (option_copied c.args.prior) entries in
     let slots = c.args.member.now.state.slots in
     let changes = c.in_ok-changes.changes.items in
-    let free : IsFirstBreak None (reverse (placed first part)) = subst (λ (o : Option RangeFault). IsFirstBreak o (reverse (placed first part))) c.in_default.is (c.break_back.ensures (option_copied c.args.prior)) in
+    let free : IsFirstBreak None (reverse (placed first part)) =
+    subst (λ (o : Option RangeFault). IsFirstBreak o (reverse (placed first part))) c.in_default.is (c.break_back.ensures (option_copied c.args.prior)) in
     let none : None ≡ lacking_in (reverse changes) = sym c.in_default-last_lacking.is ∙ c.last_lacking.ensures ∙ ap (λ cs. lacking_in (reverse cs)) c.as_slice.ensures.value in
     let way : removed_answer first part slots ≡ done first (first + length part - 1) (numbered first part) (remove (map numbered_of c.as_slice-2.result.now) slots) =
     removed-way first part slots changes c.in_ok-changes.ensures free none
     ∙ ap (λ (cs : List SlotChange). done first (first + length part - 1) (numbered first part) (remove (map numbered_of cs) slots)) (sym c.as_slice-2.ensures.value) in
     let p = err_from_is_err_and c.from_residual-in_err-overlay.result c.from_residual-in_err-overlay.ensures.1 in
     rw (p.1, p.2)
-    (tells-done first (first + length part - 1) (numbered first part) (remove (map numbered_of c.as_slice-2.result.now) slots) (removed_answer first part slots) c.in_err-overlay.field-0.0 way c.in_err-overlay.ensures.fault)
+    (tells-done first (first + length part - 1) (numbered first part) (remove (map numbered_of c.as_slice-2.result.now) slots) (removed_answer first part slots)
+    c.in_err-overlay.field-0.0 way c.in_err-overlay.ensures.fault)
 
 pub returns-clause-done : goal.returns-clause-done
 returns-clause-done c =
@@ -48,7 +51,8 @@ returns-clause-done c =
     let part = acts c.args.number (option_copied c.args.prior) entries in
     let slots = c.args.member.now.state.slots in
     let changes = c.in_ok-changes.changes.items in
-    let free : IsFirstBreak None (reverse (placed first part)) = subst (λ (o : Option RangeFault). IsFirstBreak o (reverse (placed first part))) c.in_default.is (c.break_back.ensures (option_copied c.args.prior)) in
+    let free : IsFirstBreak None (reverse (placed first part)) =
+    subst (λ (o : Option RangeFault). IsFirstBreak o (reverse (placed first part))) c.in_default.is (c.break_back.ensures (option_copied c.args.prior)) in
     let none : None ≡ lacking_in (reverse changes) = sym c.in_default-last_lacking.is ∙ c.last_lacking.ensures ∙ ap (λ cs. lacking_in (reverse cs)) c.as_slice.ensures.value in
     removed-way first part slots changes c.in_ok-changes.ensures free none
     ∙ ap (λ (cs : List SlotChange). done first (first + length part - 1) (numbered first part) (remove (map numbered_of cs) slots)) (sym c.as_slice-2.ensures.value)
