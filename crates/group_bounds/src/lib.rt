@@ -44,10 +44,10 @@ impl From<AllocError> for BoundFault {
 
 /// The longest closed part at the beginning of the range, as APYJRNCHG goes through it.
 pub fn closed_prefix(alloc: Global, entries: &[Entry], member: u32) -> Result<Part, BoundFault>
-    requires there { 0 < length entries.now }
+    requires some { 0 < length entries.now }
     requires numbered { AreNumbered (first_sequence entries.now) entries.now }
     ensures part { (prior : Option Entry) → IfOk result (λ part. part ≡ prefix_part (first_sequence entries.now) (acts member prior entries.now)) }
-    ensures some { (prior : Option Entry) → IfOk result (λ part. 0 < closed_prefix (acts member prior entries.now)) }
+    ensures nonempty { (prior : Option Entry) → IfOk result (λ part. 0 < closed_prefix (acts member prior entries.now)) }
     ensures straddled { (prior : Option Entry) → TellsCut result (prefix_cut (first_sequence entries.now) (acts member prior entries.now)) }
 {
     let closed = walk_forward(alloc, entries, member)?.closed()?;
@@ -59,10 +59,10 @@ pub fn closed_prefix(alloc: Global, entries: &[Entry], member: u32) -> Result<Pa
 
 /// The longest closed part at the end of the range, as RMVJRNCHG goes back through it.
 pub fn closed_suffix(alloc: Global, entries: &[Entry], member: u32) -> Result<Part, BoundFault>
-    requires there { 0 < length entries.now }
+    requires some { 0 < length entries.now }
     requires numbered { AreNumbered (first_sequence entries.now) entries.now }
     ensures part { (prior : Option Entry) → IfOk result (λ part. part ≡ suffix_part (first_sequence entries.now) (acts member prior entries.now)) }
-    ensures some { (prior : Option Entry) → IfOk result (λ part. 0 < closed_suffix (acts member prior entries.now)) }
+    ensures nonempty { (prior : Option Entry) → IfOk result (λ part. 0 < closed_suffix (acts member prior entries.now)) }
     ensures straddled { (prior : Option Entry) → TellsCut result (suffix_cut (first_sequence entries.now) (acts member prior entries.now)) }
 {
     let closed = walk_back(alloc, entries, member)?.closed()?;
