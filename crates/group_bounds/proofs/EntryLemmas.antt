@@ -3,7 +3,8 @@ use Rattle.std.proofs.Common.{◌≡◌, ℕ, Bool, true, false, cond, List, [],
 use Rattle.std.proofs.lemmas.List.{reverse-append, map-append}
 use Rattle.entry_codec.specs.declared.entries.Entry.{Entry}
 use Rattle.entry_codec.specs.declared.kinds.EntryKind.{EntryKind}
-use Rattle.entry_codec.specs.declared.kinds.EntryKind.TheVariants.{FileCreated, FileDeleted, MemberAdded, JournalingStarted, InitialSlot, JournalingEnded, MemberCleared, MemberReorganized, ChangesApplied, ChangesRemoved, RecordAdded, RecordAddedAtNumber, BeforeImage, AfterImage, RecordDeleted, UndoBeforeImage, UndoAfterImage, UndoDelete, CommitmentStarted, CommitCycleStarted, CommitCycleCommitted, CommitCycleRolledBack, CommitmentEnded, AbnormalEnd, NextReceiver, PreviousReceiver}
+use Rattle.entry_codec.specs.declared.kinds.EntryKind.TheVariants.{FileCreated, FileDeleted, MemberAdded, JournalingStarted, InitialSlot, JournalingEnded, MemberCleared, MemberReorganized, ChangesApplied, ChangesRemoved, RecordAdded, RecordAddedAtNumber, BeforeImage, AfterImage}
+use Rattle.entry_codec.specs.declared.kinds.EntryKind.TheVariants.{RecordDeleted, UndoBeforeImage, UndoAfterImage, UndoDelete, CommitmentStarted, CommitCycleStarted, CommitCycleCommitted, CommitCycleRolledBack, CommitmentEnded, AbnormalEnd, NextReceiver, PreviousReceiver}
 use Rattle.journal_model.specs.Acts.{act_there, act_elsewhere, is_number, act, acts}
 use Rattle.group_bounds.specs.declared.roles.Role.{Role}
 use Rattle.group_bounds.specs.Walk.{role_of, entry_role}
@@ -46,7 +47,8 @@ role-act member prior e = at (is_number e.member member) where
 
 pub roles-acts : (member : ℕ) (entries : List Entry) (prior : Option Entry) → map role_of (acts member prior entries) ≡ map (entry_role member) entries
 roles-acts member [] prior = refl
-roles-acts member (e ∷ entries) prior = ap (λ (r : Role). r ∷ map role_of (acts member (Some e) entries)) (role-act member prior e) ∙ ap (λ (rs : List Role). entry_role member e ∷ rs) (roles-acts member entries (Some e))
+roles-acts member (e ∷ entries) prior = ap (λ (r : Role). r ∷ map role_of (acts member (Some e) entries)) (role-act member prior e)
+    ∙ ap (λ (rs : List Role). entry_role member e ∷ rs) (roles-acts member entries (Some e))
 
 pub map-reverse : {X Y : Type 0} (f : X → Y) (xs : List X) → map f (reverse xs) ≡ reverse (map f xs)
 map-reverse f [] = refl

@@ -51,7 +51,8 @@ pub prefix-part : (member : ℕ) (entries : List Entry) (prior : Option Entry) (
 prefix-part member entries prior w n h same some = same_part _ _ _ _ (omega arith) (omega (arith, h.closed))
 
 pub suffix-part : (member : ℕ) (entries : List Entry) (prior : Option Entry) (w : WalkState) (n : ℕ) → IsWalked (reverse (acts member prior entries)) w → n ≡ w.closed → 0 < n → n ≤ length entries
-    → (let p : Part = record { lo = first_sequence entries + (length entries - n); hi = first_sequence entries + (length entries - 1) } in p) ≡ suffix_part (first_sequence entries) (acts member prior entries)
+    → (let p : Part = record { lo = first_sequence entries + (length entries - n); hi = first_sequence entries + (length entries - 1) } in p)
+    ≡ suffix_part (first_sequence entries) (acts member prior entries)
 suffix-part member entries prior w n h same some within =
     let range = acts member prior entries in
     let k : closed_suffix range ≡ n = closed_suffix-reverse range ∙ sym h.closed ∙ sym same in

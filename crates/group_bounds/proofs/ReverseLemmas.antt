@@ -17,9 +17,10 @@ use Rattle.group_bounds.proofs.EntryLemmas.{map-reverse}
 
 list_any-reverse : {X : Type 0} (p : X → Bool) (xs : List X) → list_any p (reverse xs) ≡ list_any p xs
 list_any-reverse p [] = refl
-list_any-reverse p (x ∷ xs) = ap (list_any p) (reverse-append (x ∷ []) xs) ∙ list_any-append p (reverse xs) (x ∷ []) ∙ ap (λ b. b || (p x || false)) (list_any-reverse p xs) ∙ turned (list_any p xs) (p x) where
-  turned : (a b : Bool) → a || (b || false) ≡ b || a
-  turned a b = grind (arith, nat_tests)
+list_any-reverse p (x ∷ xs) = ap (list_any p) (reverse-append (x ∷ []) xs) ∙ list_any-append p (reverse xs) (x ∷ []) ∙ ap (λ b. b || (p x || false)) (list_any-reverse p xs)
+    ∙ turned (list_any p xs) (p x) where
+      turned : (a b : Bool) → a || (b || false) ≡ b || a
+      turned a b = grind (arith, nat_tests)
 
 is_closed-reverse : (xs : List Act) → is_closed (reverse xs) ≡ is_closed xs
 is_closed-reverse xs = is_closed-same (reverse xs) xs (λ q. same_marks _ _ _ _ _ _ (list_any-reverse (changes_in q) xs) (list_any-reverse (begins q) xs) (list_any-reverse (ends q) xs))
@@ -65,7 +66,8 @@ cut-reverse first second xs w h =
     let whole : unnumbered (reverse (numbered first xs)) ≡ unnumbered (numbered first (reverse xs)) =
     map-reverse (λ (n : Numbered). n.change) (numbered first xs) ∙ ap reverse (unnumbered-numbered first xs) ∙ sym (changes-reverse xs) ∙ sym (unnumbered-numbered first (reverse xs)) in
     let part : unnumbered (numbered second (last w.closed xs)) ≡ reverse (unnumbered (numbered second (take w.closed (reverse xs)))) =
-    unnumbered-numbered second (last w.closed xs) ∙ ap changes (last-reverse w.closed xs within) ∙ changes-reverse (take w.closed (reverse xs)) ∙ ap reverse (sym (unnumbered-numbered second (take w.closed (reverse xs)))) in
+    unnumbered-numbered second (last w.closed xs) ∙ ap changes (last-reverse w.closed xs within) ∙ changes-reverse (take w.closed (reverse xs))
+    ∙ ap reverse (sym (unnumbered-numbered second (take w.closed (reverse xs)))) in
     straddled-cut (reverse (numbered first xs)) (numbered second (last w.closed xs))
     ∙ ap (λ cs. cut_by (first_cycle cs) (is_some (first_cycle (unnumbered (numbered second (last w.closed xs)))))) whole
     ∙ ap (λ cs. cut_by (first_cycle (unnumbered (numbered first (reverse xs)))) (is_some (first_cycle cs))) part

@@ -26,7 +26,8 @@ seen_of q acts = record { changed = list_any (changes_in q) acts; begun = list_a
 
 -- ---- closed exactly where no cycle is open
 
-closed-whole : (range : List Act) (q : ℕ) (acts : List Act) → list_all (λ (c : Change). is_whole range c.cycle) (changes acts) ≡ true → list_any (changes_in q) acts ≡ true → is_whole range (Some q) ≡ true
+closed-whole : (range : List Act) (q : ℕ) (acts : List Act) → list_all (λ (c : Change). is_whole range c.cycle) (changes acts) ≡ true → list_any (changes_in q) acts ≡ true
+    → is_whole range (Some q) ≡ true
 closed-whole range q [] h there = absurd (cc)
 closed-whole range q (a ∷ acts) h there = at (change_of a) h there (closed-whole range q acts) where
   number : (o : Option ℕ) → is_number o q ≡ true → is_whole range o ≡ true → is_whole range (Some q) ≡ true
@@ -36,7 +37,8 @@ closed-whole range q (a ∷ acts) h there = at (change_of a) h there (closed-who
   parts : (a b : Bool) → a && b ≡ true → (a ≡ true) × (b ≡ true)
   parts a b h = grind (arith, nat_tests)
 
-  some : (c : Change) (b : Bool) → is_number c.cycle q ≡ b → is_whole range c.cycle ≡ true → (list_any (changes_in q) acts ≡ true → is_whole range (Some q) ≡ true) → b || list_any (changes_in q) acts ≡ true → is_whole range (Some q) ≡ true
+  some : (c : Change) (b : Bool) → is_number c.cycle q ≡ b → is_whole range c.cycle ≡ true → (list_any (changes_in q) acts ≡ true → is_whole range (Some q) ≡ true)
+      → b || list_any (changes_in q) acts ≡ true → is_whole range (Some q) ≡ true
   some c true same whole more there = number c.cycle same whole
   some c false same whole more there = more there
 
@@ -65,7 +67,8 @@ whole-closed range (a ∷ acts) h = at (change_of a) h (whole-closed range acts)
       → (((q : ℕ) → list_any (changes_in q) acts ≡ true → is_whole range (Some q) ≡ true) → list_all (λ (c : Change). is_whole range c.cycle) (changes acts) ≡ true)
       → list_all (λ (c : Change). is_whole range c.cycle) (cons_option o (changes acts)) ≡ true
   at None h more = more h
-  at (Some c) h more = both (is_whole range c.cycle) (list_all (λ (c : Change). is_whole range c.cycle) (changes acts)) (here c.cycle h) (more (λ q there. h q (either (is_number c.cycle q) (list_any (changes_in q) acts) there)))
+  at (Some c) h more = both (is_whole range c.cycle) (list_all (λ (c : Change). is_whole range c.cycle) (changes acts)) (here c.cycle h)
+      (more (λ q there. h q (either (is_number c.cycle q) (list_any (changes_in q) acts) there)))
 
 pub closed-none : (acts : List Act) → is_closed acts ≡ true → (q : ℕ) → is_open (seen_of q acts) ≡ false
 closed-none acts h q = at (list_any (changes_in q) acts) (closed-whole acts q acts h) where
@@ -140,7 +143,8 @@ joined-mark m Begin false = joined-none m
 joined-mark m End false = joined-none m
 
 -- one act more that shows something of a cycle
-sees-mark : (acts : List Act) (a : Act) (n : ℕ) (mark : Mark) (cycles : Cycles) → Sees acts cycles → ((q : ℕ) → seen_of q (a ∷ []) ≡ one_mark mark (nat_eq n q)) → Sees (acts ++ a ∷ []) (marked n mark cycles)
+sees-mark : (acts : List Act) (a : Act) (n : ℕ) (mark : Mark) (cycles : Cycles) → Sees acts cycles → ((q : ℕ) → seen_of q (a ∷ []) ≡ one_mark mark (nat_eq n q))
+    → Sees (acts ++ a ∷ []) (marked n mark cycles)
 sees-mark acts a n mark cycles s shows = record {
   marks = λ q. marks_at-insert q n (with_mark mark (marks_at n cycles)) cycles ∙ here q (nat_eq q n) refl
       ∙ sym (seen_of-append q acts (a ∷ []) ∙ ap (joined (seen_of q acts)) (shows q) ∙ joined-mark (seen_of q acts) mark (nat_eq n q));

@@ -1,5 +1,6 @@
 -- The walk finds the longest closed part of the acts that it went over, and whether a commit cycle cuts them.
-use Rattle.std.proofs.Common.{◌≡◌, ℕ, zero, suc, ◌+◌, ◌≤◌, ◌<◌, Bool, true, false, cond, List, [], ◌∷◌, ◌++◌, length, take, map, Option, Some, None, is_some, unwrap_or, refl, sym, ap, ◌∙◌, subst, arith, append_assoc}
+use Rattle.std.proofs.Common.{◌≡◌, ℕ, zero, suc, ◌+◌, ◌≤◌, ◌<◌, Bool, true, false, cond, List, [], ◌∷◌, ◌++◌, length, take, map, Option, Some}
+use Rattle.std.proofs.Common.{None, is_some, unwrap_or, refl, sym, ap, ◌∙◌, subst, arith, append_assoc}
 use Rattle.std.specs.List.{list_all}
 use Rattle.std.proofs.lemmas.List.{take-append-le, take_all, length_push}
 use Rattle.journal_model.specs.Acts.{Act, Changed, Began, Committed, RolledBack, Journaled, Stood, Cleared, Reorganized, Ended, Nothing, Change, changes}
@@ -104,25 +105,26 @@ counted_part n = record n { seen = n.seen + 1 }
 
 counted-more : (xs : List Act) (a : Act) (n : WalkState) → Sees (xs ++ a ∷ []) n.cycles → n.first ≡ first_cycle (changes (xs ++ a ∷ [])) → n.seen ≡ length xs → n.closed ≡ closed_prefix xs
     → n.closed_changes ≡ is_some (first_cycle (changes (take n.closed xs))) → Walking (xs ++ a ∷ []) (counted n)
-counted-more xs a n sees first seen closed closed_changes = subst (λ b. Walking (xs ++ a ∷ []) (cond b (counted_whole n) (counted_part n))) (sees-closed (xs ++ a ∷ []) n.cycles sees) (at (is_closed (xs ++ a ∷ [])) refl) where
-  more : n.seen + 1 ≡ length (xs ++ a ∷ [])
-  more = omega (arith, length_push xs a)
+counted-more xs a n sees first seen closed closed_changes =
+    subst (λ b. Walking (xs ++ a ∷ []) (cond b (counted_whole n) (counted_part n))) (sees-closed (xs ++ a ∷ []) n.cycles sees) (at (is_closed (xs ++ a ∷ [])) refl) where
+      more : n.seen + 1 ≡ length (xs ++ a ∷ [])
+      more = omega (arith, length_push xs a)
 
-  at : (b : Bool) → is_closed (xs ++ a ∷ []) ≡ b → Walking (xs ++ a ∷ []) (cond b (counted_whole n) (counted_part n))
-  at true e = record {
-    sees = sees;
-    first = first;
-    seen = more;
-    closed = ap (λ m. m + 1) seen ∙ sym (closed_prefix-push xs a ∙ ap (λ b. cond b (length xs + 1) (closed_prefix xs)) e);
-    closed_changes = ap is_some first ∙ ap (λ ys. is_some (first_cycle (changes ys))) (sym (take_all (n.seen + 1) (xs ++ a ∷ []) (omega (arith, more))));
-  }
-  at false e = record {
-    sees = sees;
-    first = first;
-    seen = more;
-    closed = closed ∙ sym (closed_prefix-push xs a ∙ ap (λ b. cond b (length xs + 1) (closed_prefix xs)) e);
-    closed_changes = closed_changes ∙ ap (λ ys. is_some (first_cycle (changes ys))) (sym (take-append-le n.closed xs (a ∷ []) (omega (arith, closed, closed_prefix-within xs))));
-  }
+      at : (b : Bool) → is_closed (xs ++ a ∷ []) ≡ b → Walking (xs ++ a ∷ []) (cond b (counted_whole n) (counted_part n))
+      at true e = record {
+        sees = sees;
+        first = first;
+        seen = more;
+        closed = ap (λ m. m + 1) seen ∙ sym (closed_prefix-push xs a ∙ ap (λ b. cond b (length xs + 1) (closed_prefix xs)) e);
+        closed_changes = ap is_some first ∙ ap (λ ys. is_some (first_cycle (changes ys))) (sym (take_all (n.seen + 1) (xs ++ a ∷ []) (omega (arith, more))));
+      }
+      at false e = record {
+        sees = sees;
+        first = first;
+        seen = more;
+        closed = closed ∙ sym (closed_prefix-push xs a ∙ ap (λ b. cond b (length xs + 1) (closed_prefix xs)) e);
+        closed_changes = closed_changes ∙ ap (λ ys. is_some (first_cycle (changes ys))) (sym (take-append-le n.closed xs (a ∷ []) (omega (arith, closed, closed_prefix-within xs))));
+      }
 
 walking-more : (xs : List Act) (a : Act) (w : WalkState) → Walking xs w → Walking (xs ++ a ∷ []) (passed (role_of a) w)
 walking-more xs a w h =
@@ -136,7 +138,8 @@ walking-more xs a w h =
 
 walking-all : (rest xs : List Act) (w : WalkState) → Walking xs w → Walking (xs ++ rest) (walked (map role_of rest) w)
 walking-all [] xs w h = subst (λ ys. Walking ys w) (sym (append-none xs)) h
-walking-all (a ∷ rest) xs w h = subst (λ ys. Walking ys (walked (map role_of (a ∷ rest)) w)) (append_assoc xs (a ∷ []) rest) (walking-all rest (xs ++ a ∷ []) (passed (role_of a) w) (walking-more xs a w h))
+walking-all (a ∷ rest) xs w h =
+    subst (λ ys. Walking ys (walked (map role_of (a ∷ rest)) w)) (append_assoc xs (a ∷ []) rest) (walking-all rest (xs ++ a ∷ []) (passed (role_of a) w) (walking-more xs a w h))
 
 walking-start : Walking [] start
 walking-start = record { sees = record { marks = λ q. refl; apart = tt }; first = refl; seen = refl; closed = refl; closed_changes = refl }

@@ -4,6 +4,7 @@
 ghost use Rattle.std.specs.Prelude.{◌≡◌, ◌+◌, ◌<◌, length, Option, IfOk};
 ghost use Rattle.entry_codec.specs.declared.entries.Entry.{Entry};
 ghost use Rattle.journal_model.specs.Acts.{acts};
+ghost use Rattle.journal_model.specs.Closed.{closed_prefix, closed_suffix};
 ghost use Rattle.journal_model.specs.Journal.{AreNumbered};
 ghost use Rattle.group_bounds.specs.declared.BoundFault.TheVariants.{NoMemory};
 ghost use Rattle.group_bounds.specs.Bounds.{first_sequence, prefix_part, prefix_cut, suffix_part, suffix_cut, TellsCut};
@@ -46,6 +47,7 @@ pub fn closed_prefix(alloc: Global, entries: &[Entry], member: u32) -> Result<Pa
     requires some { 0 < length entries.now }
     requires numbered { AreNumbered (first_sequence entries.now) entries.now }
     ensures part { (prior : Option Entry) → IfOk result (λ part. part ≡ prefix_part (first_sequence entries.now) (acts member prior entries.now)) }
+    ensures nonempty { (prior : Option Entry) → IfOk result (λ part. 0 < closed_prefix (acts member prior entries.now)) }
     ensures straddled { (prior : Option Entry) → TellsCut result (prefix_cut (first_sequence entries.now) (acts member prior entries.now)) }
 {
     let closed = walk_forward(alloc, entries, member)?.closed()?;
@@ -60,6 +62,7 @@ pub fn closed_suffix(alloc: Global, entries: &[Entry], member: u32) -> Result<Pa
     requires some { 0 < length entries.now }
     requires numbered { AreNumbered (first_sequence entries.now) entries.now }
     ensures part { (prior : Option Entry) → IfOk result (λ part. part ≡ suffix_part (first_sequence entries.now) (acts member prior entries.now)) }
+    ensures nonempty { (prior : Option Entry) → IfOk result (λ part. 0 < closed_suffix (acts member prior entries.now)) }
     ensures straddled { (prior : Option Entry) → TellsCut result (suffix_cut (first_sequence entries.now) (acts member prior entries.now)) }
 {
     let closed = walk_back(alloc, entries, member)?.closed()?;

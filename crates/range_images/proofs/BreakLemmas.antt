@@ -82,7 +82,8 @@ first_break-marked : (kind : Break) (number : ℕ) (entries : List Entry) → fi
 first_break-marked kind number [] = refl
 first_break-marked kind number (e ∷ entries) = ap (λ (o : Option ℕ). cond (is_break_of kind number e) (Some e.sequence) o) (first_break-marked kind number entries)
 
-marks-placed : (kind : Break) (number s : ℕ) (entries : List Entry) (prior : Option Entry) → AreNumbered s entries → map (placed_mark kind) (placed s (acts number prior entries)) ≡ map (entry_mark kind number) entries
+marks-placed : (kind : Break) (number s : ℕ) (entries : List Entry) (prior : Option Entry) → AreNumbered s entries
+    → map (placed_mark kind) (placed s (acts number prior entries)) ≡ map (entry_mark kind number) entries
 marks-placed kind number s [] prior h = refl
 marks-placed kind number s (e ∷ entries) prior h =
     ap (λ (m : Marked). m ∷ map (placed_mark kind) (placed (s + 1) (acts number (Some e) entries))) (same_mark _ _ _ _ (ap (is_kind kind) (break-act number prior e)) (sym h.0))
@@ -115,15 +116,21 @@ renumbering-kind Nothing = refl
 abbrev found : (Act → Bool) → (ℕ → walks.RangeFault) → List Placed → Option walks.RangeFault
 found test fault walk = option_map (λ (p : Placed). fault p.sequence) (find (λ (p : Placed). test p.act) walk)
 
-found-marked : (kind : Break) (test : Act → Bool) (fault : ℕ → walks.RangeFault) → ((a : Act) → test a ≡ is_kind kind (break_in a)) → (walk : List Placed) → found test fault walk ≡ option_map fault (first_marked (map (placed_mark kind) walk))
+found-marked : (kind : Break) (test : Act → Bool) (fault : ℕ → walks.RangeFault) → ((a : Act) → test a ≡ is_kind kind (break_in a)) → (walk : List Placed)
+    → found test fault walk ≡ option_map fault (first_marked (map (placed_mark kind) walk))
 found-marked kind test fault alike [] = refl
-found-marked kind test fault alike (p ∷ walk) = ap (λ (b : Bool). option_map (λ (p : Placed). fault p.sequence) (cond b (Some p) (find (λ (p : Placed). test p.act) walk))) (alike p.act) ∙ at (is_kind kind (break_in p.act)) (found-marked kind test fault alike walk) where
-  at : (b : Bool) → found test fault walk ≡ option_map fault (first_marked (map (placed_mark kind) walk))
-      → option_map (λ (p : Placed). fault p.sequence) (cond b (Some p) (find (λ (p : Placed). test p.act) walk)) ≡ option_map fault (cond b (Some p.sequence) (first_marked (map (placed_mark kind) walk)))
-  at true more = refl
-  at false more = more
+found-marked kind test fault alike (p ∷ walk) =
+    ap (λ (b : Bool). option_map (λ (p : Placed). fault p.sequence) (cond b (Some p) (find (λ (p : Placed). test p.act) walk))) (alike p.act)
+    ∙ at (is_kind kind (break_in p.act)) (found-marked kind test fault alike walk)
+  where
+    at : (b : Bool) → found test fault walk ≡ option_map fault (first_marked (map (placed_mark kind) walk))
+        → option_map (λ (p : Placed). fault p.sequence) (cond b (Some p) (find (λ (p : Placed). test p.act) walk))
+        ≡ option_map fault (cond b (Some p.sequence) (first_marked (map (placed_mark kind) walk)))
+    at true more = refl
+    at false more = more
 
-module _ (kind : Break) (test : Act → Bool) (fault : ℕ → walks.RangeFault) (alike : (a : Act) → test a ≡ is_kind kind (break_in a)) (number : ℕ) (entries : List Entry) (prior : Option Entry) (s : ℕ) (h : AreNumbered s entries) where
+module _ (kind : Break) (test : Act → Bool) (fault : ℕ → walks.RangeFault) (alike : (a : Act)
+    → test a ≡ is_kind kind (break_in a)) (number : ℕ) (entries : List Entry) (prior : Option Entry) (s : ℕ) (h : AreNumbered s entries) where
   found-forward : found test fault (placed s (acts number prior entries)) ≡ option_map fault (first_break_in kind number entries)
   found-forward =
       found-marked kind test fault alike (placed s (acts number prior entries))
@@ -133,7 +140,8 @@ module _ (kind : Break) (test : Act → Bool) (fault : ℕ → walks.RangeFault)
   found-back : found test fault (reverse (placed s (acts number prior entries))) ≡ option_map fault (first_break_in kind number (reverse entries))
   found-back =
       found-marked kind test fault alike (reverse (placed s (acts number prior entries)))
-      ∙ ap (λ (ms : List Marked). option_map fault (first_marked ms)) (map-reverse (placed_mark kind) (placed s (acts number prior entries)) ∙ ap reverse (marks-placed kind number s entries prior h) ∙ sym (map-reverse (entry_mark kind number) entries))
+      ∙ ap (λ (ms : List Marked). option_map fault (first_marked ms)) (map-reverse (placed_mark kind) (placed s (acts number prior entries))
+      ∙ ap reverse (marks-placed kind number s entries prior h) ∙ sym (map-reverse (entry_mark kind number) entries))
       ∙ ap (option_map fault) (sym (first_break-marked kind number (reverse entries)))
 
 module _ (number : ℕ) (entries : List Entry) (prior : Option Entry) (s : ℕ) (h : AreNumbered s entries) where

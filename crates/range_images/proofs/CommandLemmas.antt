@@ -26,7 +26,8 @@ length-acts member [] prior = refl
 length-acts member (e ∷ entries) prior = ap suc (length-acts member entries (Some e))
 
 -- the first fault, and those behind it
-first_fault-front : (fault : Option RangeFault) (faults : List (Option RangeFault)) (answer : Result RangeDone RangeFault) → first_fault (fault ∷ faults) answer ≡ first_fault (fault ∷ []) (first_fault faults answer)
+first_fault-front : (fault : Option RangeFault) (faults : List (Option RangeFault)) (answer : Result RangeDone RangeFault)
+    → first_fault (fault ∷ faults) answer ≡ first_fault (fault ∷ []) (first_fault faults answer)
 first_fault-front None faults answer = refl
 first_fault-front (Some fault) faults answer = refl
 

@@ -1,5 +1,6 @@
 -- The slots that were given, read at a place, and what one more makes of the member.
-use Rattle.std.proofs.Common.{◌≡◌, ◌≢◌, ℕ, zero, suc, ◌+◌, ◌-◌, ◌≤◌, ◌<◌, ◌==◌, Bool, true, false, cond, List, [], ◌∷◌, ◌++◌, length, get_or, slice_get, Option, Some, None, unwrap_or, Result, Ok, refl, sym, ap, ◌∙◌, subst, arith}
+use Rattle.std.proofs.Common.{◌≡◌, ◌≢◌, ℕ, zero, suc, ◌+◌, ◌-◌, ◌≤◌, ◌<◌, ◌==◌, Bool, true, false, cond, List, [], ◌∷◌, ◌++◌, length, get_or, slice_get, Option}
+use Rattle.std.proofs.Common.{Some, None, unwrap_or, Result, Ok, refl, sym, ap, ◌∙◌, subst, arith}
 use Rattle.std.proofs.lemmas.Bool.Decides.{nat_tests}
 use Rattle.member_slots.specs.declared.slot.Slot.{Slot}
 use Rattle.member_slots.specs.declared.slot.Slot.TheVariants.{Deleted}
@@ -70,9 +71,11 @@ slot_or-later None place g = refl
 pub last-none : (place : ℕ) (given : List SlotGiven) → last_index place given ≡ None → None ≡ latest_slot place given
 last-none place [] h = refl
 last-none place (g ∷ given) h =
-    at (last_index place given) (place_given g == place) (last-none place given) refl (sym (index_or-later (last_index place given) place g) ∙ h) ∙ sym (slot_or-later (latest_slot place given) place g)
+    at (last_index place given) (place_given g == place) (last-none place given) refl (sym (index_or-later (last_index place given) place g) ∙ h)
+    ∙ sym (slot_or-later (latest_slot place given) place g)
   where
-    at : (o : Option ℕ) (b : Bool) → (last_index place given ≡ None → None ≡ latest_slot place given) → last_index place given ≡ o → index_or o b ≡ None → None ≡ slot_or (latest_slot place given) b g.slot
+    at : (o : Option ℕ) (b : Bool) → (last_index place given ≡ None → None ≡ latest_slot place given) → last_index place given ≡ o → index_or o b ≡ None
+        → None ≡ slot_or (latest_slot place given) b g.slot
     at (Some i) b more e h = absurd (cc)
     at None true more e h = absurd (cc)
     at None false more e h = ap (λ (o : Option Slot). slot_or o false g.slot) (more e)
@@ -160,7 +163,8 @@ redo-goes_on c slots slot old new counted held there met same more =
     let went : redo n now ≡ Ok (put_slot now (c.rrn - 1) slot) = redo-goes n now (omega (arith, held)) met ∙ ap (λ (s : Slot). Ok (put_slot now (c.rrn - 1) s)) (sym same) in
     subst (λ (h : SlotGiven). GoesOn (redo n now) slots h old new) is (goes-on (redo n now) slots g old new counted held went more)
 
-pub undo-goes_on : (c : SlotChange) (slots : List Slot) (side slot : Slot) (old new : GivenState) → 1 ≤ c.rrn → old.count ≡ length (given_slots old.given slots) → (numbered_of c).change.before ≡ Some side → c.rrn - 1 < old.count
+pub undo-goes_on : (c : SlotChange) (slots : List Slot) (side slot : Slot) (old new : GivenState) → 1 ≤ c.rrn → old.count ≡ length (given_slots old.given slots)
+    → (numbered_of c).change.before ≡ Some side → c.rrn - 1 < old.count
     → is_same_slot (numbered_of c).change.after (slot_of (given_slots old.given slots) (c.rrn - 1)) ≡ true → slot ≡ side → new ≡ given_more (record { rrn = c.rrn; slot = slot }) old
     → GoesOn (undo (numbered_of c) (given_slots old.given slots)) slots (given_before (numbered_of c)) old new
 undo-goes_on c slots side slot old new counted held told there met same more =

@@ -4,3 +4,4 @@ pub mod BreakLemmas
 pub mod WayLemmas
 pub mod RemoveLemmas
 pub mod CommandLemmas
+pub mod PutLemmas

@@ -33,7 +33,8 @@ read-more number s prior e rest read more whole added h = record {
       ∙ h.changes;
 }
 
-pub read-next : (number s i : ℕ) (prior : Option Entry) (e : Entry) (entries : List Entry) (read more whole : List Numbered) → i < length entries → e ≡ get_or entries i e → more ≡ read ++ option_to_list (change_in number prior e)
+pub read-next : (number s i : ℕ) (prior : Option Entry) (e : Entry) (entries : List Entry) (read more whole : List Numbered) → i < length entries → e ≡ get_or entries i e
+    → more ≡ read ++ option_to_list (change_in number prior e)
     → IsRead number (s + i) prior (drop i entries) read whole → IsRead number (s + (i + 1)) (Some e) (drop (i + 1) entries) more whole
 read-next number s i prior e entries read more whole below is added h =
     let split : drop i entries ≡ e ∷ drop (i + 1) entries = drop_more entries i e below ∙ ap (λ x. x ∷ drop (i + 1) entries) (sym is) in

@@ -36,7 +36,8 @@ module _ (first : ℕ) (part : List Act) (slots : List Slot) (cs : List SlotChan
   lacking : first_lacking (reverse (numbered first part)) ≡ option_map NeedsBoth (lacking_in (reverse cs))
   lacking = ap (λ ns. first_lacking (reverse ns)) (sym fits) ∙ ap first_lacking (sym (map-reverse numbered_of cs)) ∙ lacking-forward (reverse cs)
 
-  behind_breaks : removed_answer first part slots ≡ first_fault (first_lacking (reverse (numbered first part)) ∷ []) (done first (first + length part - 1) (numbered first part) (remove (numbered first part) slots))
+  behind_breaks : removed_answer first part slots
+      ≡ first_fault (first_lacking (reverse (numbered first part)) ∷ []) (done first (first + length part - 1) (numbered first part) (remove (numbered first part) slots))
   behind_breaks =
       let end = done first (first + length part - 1) (numbered first part) (remove (numbered first part) slots) in
       let lack = first_lacking (reverse (numbered first part)) in

@@ -12,7 +12,8 @@ use Rattle.range_images.specs.Faults.{TellsFault}
 use Rattle.range_images.specs.Given.{given_slots, given_after, given_forward, given_before, given_back, GivenState, GoesOn, Gave}
 
 -- a fault of a step is the fault of the way
-tells-on : (r s : Result (List Slot) RangeFault) (next : List Slot → Result (List Slot) RangeFault) (e : ImagesFault) → (r then next) ≡ s → TellsFault {A = Unit {0}} (Err e) r → TellsFault {A = GivenState} (Err e) s
+tells-on : (r s : Result (List Slot) RangeFault) (next : List Slot → Result (List Slot) RangeFault) (e : ImagesFault) → (r then next) ≡ s → TellsFault {A = Unit {0}} (Err e) r
+    → TellsFault {A = GivenState} (Err e) s
 tells-on r s next NoMemory same told = tt
 tells-on r s next (Refused fault) same told = sym same ∙ ap (λ (x : Result (List Slot) RangeFault). x then next) told
 
@@ -23,7 +24,8 @@ pub record IsRedone (slots : List Slot) (all rest : List Numbered) (now : GivenS
   pub given : now.given ++ given_forward rest ≡ given_forward all
   pub held : now.count ≡ length (given_slots now.given slots)
 
-redone-step : (slots : List Slot) (all rest : List Numbered) (n : Numbered) (old new : GivenState) → IsRedone slots all (n ∷ rest) old → GoesOn (redo n (given_slots old.given slots)) slots (given_after n) old new → IsRedone slots all rest new
+redone-step : (slots : List Slot) (all rest : List Numbered) (n : Numbered) (old new : GivenState) → IsRedone slots all (n ∷ rest) old
+    → GoesOn (redo n (given_slots old.given slots)) slots (given_after n) old new → IsRedone slots all rest new
 redone-step slots all rest n old new h g = record {
   applied = sym (ap (λ (r : Result (List Slot) RangeFault). r then apply rest) g.gave) ∙ h.applied;
   given = ap (λ xs. xs ++ given_forward rest) g.given ∙ append_assoc old.given (given_after n ∷ []) (given_forward rest) ∙ h.given;
@@ -33,11 +35,13 @@ redone-step slots all rest n old new h g = record {
 split_at : (cs : List SlotChange) (i : ℕ) (c : SlotChange) → i < length cs → c ≡ get_or cs i c → map numbered_of (drop i cs) ≡ numbered_of c ∷ map numbered_of (drop (i + 1) cs)
 split_at cs i c below is = ap (map numbered_of) (drop_more cs i c below) ∙ ap (λ d. numbered_of d ∷ map numbered_of (drop (i + 1) cs)) (sym is)
 
-pub redone-more : (slots : List Slot) (cs : List SlotChange) (i : ℕ) (c : SlotChange) (old new : GivenState) → i < length cs → c ≡ get_or cs i c → IsRedone slots (map numbered_of cs) (map numbered_of (drop i cs)) old
+pub redone-more : (slots : List Slot) (cs : List SlotChange) (i : ℕ) (c : SlotChange) (old new : GivenState) → i < length cs → c ≡ get_or cs i c
+    → IsRedone slots (map numbered_of cs) (map numbered_of (drop i cs)) old
     → GoesOn (redo (numbered_of c) (given_slots old.given slots)) slots (given_after (numbered_of c)) old new → IsRedone slots (map numbered_of cs) (map numbered_of (drop (i + 1) cs)) new
 redone-more slots cs i c old new below is h g = redone-step slots _ _ (numbered_of c) old new (subst (λ ns. IsRedone slots (map numbered_of cs) ns old) (split_at cs i c below is) h) g
 
-pub redone-faults : (slots : List Slot) (cs : List SlotChange) (i : ℕ) (c : SlotChange) (old : GivenState) (e : ImagesFault) → i < length cs → c ≡ get_or cs i c → IsRedone slots (map numbered_of cs) (map numbered_of (drop i cs)) old
+pub redone-faults : (slots : List Slot) (cs : List SlotChange) (i : ℕ) (c : SlotChange) (old : GivenState) (e : ImagesFault) → i < length cs → c ≡ get_or cs i c
+    → IsRedone slots (map numbered_of cs) (map numbered_of (drop i cs)) old
     → TellsFault {A = Unit {0}} (Err e) (redo (numbered_of c) (given_slots old.given slots)) → TellsFault {A = GivenState} (Err e) (apply (map numbered_of cs) slots)
 redone-faults slots cs i c old e below is h told =
     tells-on _ _ (apply (map numbered_of (drop (i + 1) cs))) e (ap (λ ns. apply ns (given_slots old.given slots)) (sym (split_at cs i c below is)) ∙ h.applied) told
@@ -62,7 +66,8 @@ remove-last rest n slots = remove-append rest (n ∷ []) slots
 given_back-last : (rest : List Numbered) (n : Numbered) → given_back (rest ++ n ∷ []) ≡ given_before n ∷ given_back rest
 given_back-last rest n = ap (map given_before) (reverse-append rest (n ∷ []))
 
-undone-step : (slots : List Slot) (all rest : List Numbered) (n : Numbered) (old new : GivenState) → IsUndone slots all (rest ++ n ∷ []) old → GoesOn (undo n (given_slots old.given slots)) slots (given_before n) old new → IsUndone slots all rest new
+undone-step : (slots : List Slot) (all rest : List Numbered) (n : Numbered) (old new : GivenState) → IsUndone slots all (rest ++ n ∷ []) old
+    → GoesOn (undo n (given_slots old.given slots)) slots (given_before n) old new → IsUndone slots all rest new
 undone-step slots all rest n old new h g = record {
   removed = sym (remove-last rest n (given_slots old.given slots) ∙ ap (λ (r : Result (List Slot) RangeFault). r then remove rest) g.gave) ∙ h.removed;
   given = ap (λ xs. xs ++ given_back rest) g.given ∙ append_assoc old.given (given_before n ∷ []) (given_back rest) ∙ ap (λ xs. old.given ++ xs) (sym (given_back-last rest n)) ∙ h.given;
@@ -70,14 +75,17 @@ undone-step slots all rest n old new h g = record {
 }
 
 split_last : (cs : List SlotChange) (i : ℕ) (c : SlotChange) → i < length cs → c ≡ get_or cs i c → map numbered_of (take (i + 1) cs) ≡ map numbered_of (take i cs) ++ numbered_of c ∷ []
-split_last cs i c below is = ap (map numbered_of) (take_more cs i c below) ∙ map-append numbered_of (take i cs) (get_or cs i c ∷ []) ∙ ap (λ d. map numbered_of (take i cs) ++ numbered_of d ∷ []) (sym is)
+split_last cs i c below is = ap (map numbered_of) (take_more cs i c below) ∙ map-append numbered_of (take i cs) (get_or cs i c ∷ [])
+    ∙ ap (λ d. map numbered_of (take i cs) ++ numbered_of d ∷ []) (sym is)
 
-pub undone-more : (slots : List Slot) (cs : List SlotChange) (m i : ℕ) (c : SlotChange) (old new : GivenState) → m ≡ i + 1 → i < length cs → c ≡ get_or cs i c → IsUndone slots (map numbered_of cs) (map numbered_of (take m cs)) old
+pub undone-more : (slots : List Slot) (cs : List SlotChange) (m i : ℕ) (c : SlotChange) (old new : GivenState) → m ≡ i + 1 → i < length cs → c ≡ get_or cs i c
+    → IsUndone slots (map numbered_of cs) (map numbered_of (take m cs)) old
     → GoesOn (undo (numbered_of c) (given_slots old.given slots)) slots (given_before (numbered_of c)) old new → IsUndone slots (map numbered_of cs) (map numbered_of (take i cs)) new
 undone-more slots cs m i c old new next below is h g =
     undone-step slots _ _ (numbered_of c) old new (subst (λ ns. IsUndone slots (map numbered_of cs) ns old) (ap (λ (k : ℕ). map numbered_of (take k cs)) next ∙ split_last cs i c below is) h) g
 
-pub undone-faults : (slots : List Slot) (cs : List SlotChange) (m i : ℕ) (c : SlotChange) (old : GivenState) (e : ImagesFault) → m ≡ i + 1 → i < length cs → c ≡ get_or cs i c → IsUndone slots (map numbered_of cs) (map numbered_of (take m cs)) old
+pub undone-faults : (slots : List Slot) (cs : List SlotChange) (m i : ℕ) (c : SlotChange) (old : GivenState) (e : ImagesFault) → m ≡ i + 1 → i < length cs → c ≡ get_or cs i c
+    → IsUndone slots (map numbered_of cs) (map numbered_of (take m cs)) old
     → TellsFault {A = Unit {0}} (Err e) (undo (numbered_of c) (given_slots old.given slots)) → TellsFault {A = GivenState} (Err e) (remove (map numbered_of cs) slots)
 undone-faults slots cs m i c old e next below is h told =
     tells-on _ _ (remove (map numbered_of (take i cs))) e

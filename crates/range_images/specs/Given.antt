@@ -1,6 +1,6 @@
 -- Which slots does a walk over slot changes give to a member, and what do they make of it?
 -- (Journal Management, "Applying journaled changes" and "Removing journaled changes".)
-use Rattle.std.specs.Prelude.{ℕ, ◌≡◌, ◌+◌, ◌-◌, suc, ◌==◌, max, if◌then◌else◌, List, [], ◌∷◌, ◌++◌, length, map, reverse, Option, Some, None, unwrap_or, Result, Ok}
+use Rattle.std.specs.Prelude.{ℕ, ◌≡◌, ◌≤◌, ⊤, ◌+◌, ◌-◌, suc, ◌==◌, max, if◌then◌else◌, List, [], ◌∷◌, ◌++◌, length, map, reverse, Option, Some, None, unwrap_or, Result, Ok}
 use Rattle.member_slots.specs.declared.slot.Slot.{Slot}
 use Rattle.member_slots.specs.declared.slot.Slot.TheVariants.{Deleted}
 use Rattle.journal_model.specs.Places.{put_slot}
@@ -29,6 +29,11 @@ given_before n = record { rrn = n.change.place + 1; slot = unwrap_or n.change.be
 
 abbrev pub given_back : List Numbered → List SlotGiven
 given_back changes = map given_before (reverse changes)
+
+-- each is given to a place that the member has by then, or to one of so many behind its last
+abbrev pub AreInPlace : (behind : ℕ) → List SlotGiven → List Slot → Type 0
+AreInPlace behind [] slots = ⊤
+AreInPlace behind (g ∷ given) slots = (1 ≤ g.rrn) × (g.rrn ≤ length slots + behind) × AreInPlace behind given (put_slot slots (place_given g) g.slot)
 
 -- ---- on the way
 

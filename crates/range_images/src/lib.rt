@@ -8,7 +8,7 @@ ghost use Rattle.journal_model.specs.Walks.{numbered};
 ghost use Rattle.journal_model.specs.Journal.{AreNumbered};
 ghost use Rattle.range_images.specs.Sides.{first_sequence};
 ghost use Rattle.range_images.specs.Faults.{TellsFault};
-ghost use Rattle.range_images.specs.Given.{given_slots, given_forward, given_back};
+ghost use Rattle.range_images.specs.Given.{given_slots, given_forward, given_back, AreInPlace};
 ghost use Rattle.range_images.specs.Images.{applied_answer, removed_answer, range_done};
 
 mod breaks;
@@ -45,6 +45,7 @@ pub fn apply(
     ensures done { let part = acts number (option_copied prior.entry) entries.now in
         let slots = member.now.state.slots in
         IfOk result (λ changes. applied_answer (first_sequence entries.now) part slots ≡ Ok (range_done (first_sequence entries.now) part (given_slots changes slots))) }
+    ensures places { IfOk result (λ changes. AreInPlace 1 changes member.now.state.slots) }
     ensures fault { TellsFault result (applied_answer (first_sequence entries.now) (acts number (option_copied prior.entry) entries.now) member.now.state.slots) }
 {
     if let Some(fault) = breaks::break_forward(entries, number) {
@@ -70,6 +71,7 @@ pub fn remove(
     ensures done { let part = acts number (option_copied prior.entry) entries.now in
         let slots = member.now.state.slots in
         IfOk result (λ changes. removed_answer (first_sequence entries.now) part slots ≡ Ok (range_done (first_sequence entries.now) part (given_slots changes slots))) }
+    ensures places { IfOk result (λ changes. AreInPlace 0 changes member.now.state.slots) }
     ensures fault { TellsFault result (removed_answer (first_sequence entries.now) (acts number (option_copied prior.entry) entries.now) member.now.state.slots) }
 {
     if let Some(fault) = breaks::break_back(entries, number) {

@@ -1,5 +1,7 @@
 use Rattle.std.proofs.Common.{◌≡◌, None, ◌∙◌, arith}
+use Rattle.journal_model.specs.Acts.{acts}
 use Rattle.group_bounds.proofs.PartLemmas.{same_part, suffix-some, suffix-within, suffix-part}
+use Rattle.group_bounds.proofs.ReverseLemmas.{closed_suffix-reverse}
 use Rattle.group_bounds.proofs.closed_suffix.Goals as goal
 
 pub overflow_sub-entries : goal.overflow_sub-entries
@@ -20,3 +22,11 @@ returns-clause-part c = λ prior.
     let count : c.in_ok-closed.closed ≡ w.closed = c.in_ok-closed.ensures.count in
     same_part _ _ _ _ c.sequence_at.ensures c.sequence_at-2.ensures
     ∙ suffix-part c.args.member c.args.entries.now prior w c.in_ok-closed.closed (c.in_ok-walk_back.ensures.walked prior) count (omega (arith, some)) (omega (arith, within))
+
+pub returns-clause-nonempty : goal.returns-clause-nonempty
+returns-clause-nonempty c = λ prior.
+    let w = c.in_ok-walk_back.field-0 in
+    let range = acts c.args.member prior c.args.entries.now in
+    let h = c.in_ok-walk_back.ensures.walked prior in
+    let some = suffix-some c.args.member c.args.entries.now c.requires.some prior w h c.in_ok-closed.ensures.cut in
+    omega (arith, some, h.closed, closed_suffix-reverse range)

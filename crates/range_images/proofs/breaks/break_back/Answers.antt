@@ -18,7 +18,8 @@ returns-in-Some c = λ prior faults answer.
 pub returns-in-Some-last_break : goal.returns-in-Some-last_break
 returns-in-Some-last_break c = λ prior faults answer.
     let none : first_break_in breaks.Gap c.args.number (reverse c.args.entries.now) ≡ None = sym c.last_break.ensures ∙ c.in_default.is in
-    let no_gap : first_gap (reverse (placed (first_sequence c.args.entries.now) (acts c.args.number prior c.args.entries.now))) ≡ None = gap-back c.args.number c.args.entries.now prior (first_sequence c.args.entries.now) c.requires ∙ ap (option_map Gap) none in
+    let no_gap : first_gap (reverse (placed (first_sequence c.args.entries.now) (acts c.args.number prior c.args.entries.now))) ≡ None =
+    gap-back c.args.number c.args.entries.now prior (first_sequence c.args.entries.now) c.requires ∙ ap (option_map Gap) none in
     let there : first_renumbering (reverse (placed (first_sequence c.args.entries.now) (acts c.args.number prior c.args.entries.now))) ≡ Some (NotRemovable c.in-Some-last_break.sequence) =
     renumbering-back c.args.number c.args.entries.now prior (first_sequence c.args.entries.now) c.requires ∙ ap (option_map NotRemovable) (sym c.in-Some-last_break.ensures) in
     ap (λ (o : Option RangeFault). first_fault (o ∷ first_renumbering (reverse (placed (first_sequence c.args.entries.now) (acts c.args.number prior c.args.entries.now))) ∷ faults) answer) no_gap

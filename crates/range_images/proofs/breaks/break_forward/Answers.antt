@@ -18,7 +18,8 @@ returns-in-Some c = λ prior faults answer.
 pub returns-in-Some-first_break : goal.returns-in-Some-first_break
 returns-in-Some-first_break c = λ prior faults answer.
     let none : first_break_in breaks.Gap c.args.number c.args.entries.now ≡ None = sym c.first_break.ensures ∙ c.in_default.is in
-    let no_gap : first_gap (placed (first_sequence c.args.entries.now) (acts c.args.number prior c.args.entries.now)) ≡ None = gap-forward c.args.number c.args.entries.now prior (first_sequence c.args.entries.now) c.requires ∙ ap (option_map Gap) none in
+    let no_gap : first_gap (placed (first_sequence c.args.entries.now) (acts c.args.number prior c.args.entries.now)) ≡ None =
+    gap-forward c.args.number c.args.entries.now prior (first_sequence c.args.entries.now) c.requires ∙ ap (option_map Gap) none in
     let there : first_renumbering (placed (first_sequence c.args.entries.now) (acts c.args.number prior c.args.entries.now)) ≡ Some (NotRemovable c.in-Some-first_break.sequence) =
     renumbering-forward c.args.number c.args.entries.now prior (first_sequence c.args.entries.now) c.requires ∙ ap (option_map NotRemovable) (sym c.in-Some-first_break.ensures) in
     ap (λ (o : Option RangeFault). first_fault (o ∷ first_renumbering (placed (first_sequence c.args.entries.now) (acts c.args.number prior c.args.entries.now)) ∷ faults) answer) no_gap

@@ -8,4 +8,5 @@ use Rattle.range_images.proofs.reading.slot_changes.Given as goal
 
 abbrev pub invariant-loop-entry : goal.invariant-loop-entry
 invariant-loop-entry l =
-    IsRead l.number (first_sequence l.entries + l.entry-index) (option_copied l.prior) (drop l.entry-index l.entries) (map numbered_of l.changes.items) (numbered (first_sequence l.entries) (acts l.number (option_copied l.fn.prior) l.entries))
+    IsRead l.number (first_sequence l.entries + l.entry-index) (option_copied l.prior) (drop l.entry-index l.entries)
+    (map numbered_of l.changes.items) (numbered (first_sequence l.entries) (acts l.number (option_copied l.fn.prior) l.entries))
