@@ -1,0 +1,4 @@
+pub mod ListOrder
+pub mod NumberOrder
+pub mod FitLemmas
+pub mod KeyLemmas

@@ -1,0 +1,36 @@
+//! Laws of the bytes of keys, as contracts of functions that do nothing.
+ghost use Rattle.std.specs.Prelude.{◌≡◌, ℕ, List, None, All, length, take};
+ghost use Rattle.std.specs.Ordering.{is_lt};
+ghost use Rattle.key_spec.specs.declared.KeyPart.{KeyPart};
+ghost use Rattle.field_types.specs.declared.values.Value.{Value};
+ghost use Rattle.file_model.specs.KeyOrder.{compare_keys, compare_with, begins_with, key_of, given_key};
+ghost use Rattle.key_pages.specs.Order.{key_cmp};
+ghost use Rattle.key_pages.specs.Position as position;
+ghost use Rattle.key_order.specs.KeyBytes.{encoded, encoded_values};
+ghost use Rattle.key_order.specs.KeyFields.{AreBytes, Matches};
+ghost use Rattle.key_order.specs.GivenValues.{IsOfBytes, key_fault};
+
+/// The bytes of the keys of two images stand in the order of their keys.
+pub fn bytes_order_keys()
+    ensures one_format { (parts : List KeyPart) (a b : List ℕ) → AreBytes a → AreBytes b
+        → key_cmp (encoded parts a) (encoded parts b) ≡ compare_keys (key_of parts a) (key_of parts b) }
+    ensures two_formats { (parts others : List KeyPart) (a b : List ℕ) → Matches parts others → AreBytes a → AreBytes b
+        → key_cmp (encoded parts a) (encoded others b) ≡ compare_keys (key_of parts a) (key_of others b) }
+{}
+
+/// The bytes of given values stand to those of a key as the values to the key: the key's begin with them where the key
+/// begins with the values. The values may be given for the positions of several formats together.
+pub fn given_bytes_begin_keys()
+    ensures order { (parts others : List KeyPart) (image : List ℕ) (values : List Value) → Matches parts others → AreBytes image → key_fault others values ≡ None → All IsOfBytes values
+        → key_cmp (take (length (encoded_values others values)) (encoded parts image)) (encoded_values others values) ≡ compare_with (given_key others values) (key_of parts image) }
+    ensures less { (parts others : List KeyPart) (image : List ℕ) (values : List Value) → Matches parts others → AreBytes image → key_fault others values ≡ None → All IsOfBytes values
+        → position.is_less (encoded parts image) (encoded_values others values) ≡ is_lt (compare_with (given_key others values) (key_of parts image)) }
+    ensures begins { (parts others : List KeyPart) (image : List ℕ) (values : List Value) → Matches parts others → AreBytes image → key_fault others values ≡ None → All IsOfBytes values
+        → position.begins_with (encoded parts image) (encoded_values others values) ≡ begins_with (given_key others values) (key_of parts image) }
+{}
+
+/// The positions of a format match themselves, and it doesn't matter which of two formats is named first.
+pub fn formats_match()
+    ensures itself { (parts : List KeyPart) → Matches parts parts }
+    ensures back { (parts others : List KeyPart) → Matches parts others → Matches others parts }
+{}
