@@ -1,9 +1,8 @@
 -- The bytes of keys stand in the order of the keys.
-use Rattle.std.proofs.Common.{◌≡◌, ℕ, zero, suc, ◌+◌, ◌<◌, ◌≤◌, Bool, true, false, cond, nat_lt, Option, Some, None, List, [], ◌∷◌, ◌++◌, length, take, drop, map, refl, sym, ◌∙◌, ap, subst, arith, length-append}
+use Rattle.std.proofs.Common.{◌≡◌, ℕ, zero, suc, ◌+◌, ◌<◌, Bool, true, false, cond, nat_lt, Option, Some, None, List, [], ◌∷◌, ◌++◌, length, take, refl, sym, ◌∙◌, ap, subst}
 use Rattle.std.specs.Prelude.{All}
 use Rattle.std.specs.List.{AllByRecursion}
 use Rattle.std.proofs.lemmas.List.Elements.{recursion_from_All}
-use Rattle.std.specs.declared.cmp.Ordering.{Ordering}
 use Rattle.std.specs.declared.cmp.Ordering.TheVariants.{Less, Greater}
 use Rattle.std.specs.Ordering.{nat_cmp, ordering_then, ordering_reverse}
 use Rattle.std.specs.Cmp.Lexicographic.{slice_cmp}
@@ -15,11 +14,11 @@ use Rattle.field_types.specs.declared.faults.ValueFault.TheVariants.{WrongKind}
 use Rattle.field_types.specs.declared.faults.RecordFault.{RecordFault}
 use Rattle.field_types.specs.declared.faults.RecordFault.TheVariants.{Count, BadField}
 use Rattle.field_values.specs.FieldTypes.{width}
-use Rattle.field_values.specs.FieldBytes.{held, as_held, fault_of}
+use Rattle.field_values.specs.FieldBytes.{held, as_held}
 use Rattle.field_values.specs.FirstBad.{part}
 use Rattle.key_spec.specs.declared.KeyPart.{KeyPart}
 use Rattle.key_spec.specs.declared.KeyPart.TheVariants.{Field, Absent}
-use Rattle.file_model.specs.KeyOrder.{KeyValue, Missing, Ascending, Descending, compare_key_values, compare_values, compare_keys, compare_with, absolute, at_position, ordered, key_value, key_of, given_value, given_key}
+use Rattle.file_model.specs.KeyOrder.{KeyValue, Missing, Ascending, Descending, compare_key_values, compare_values, compare_keys, compare_with, at_position, ordered, key_of, given_value, given_key}
 use Rattle.key_order.specs.KeyBytes.{encoded, encoded_values, digits_of, position_bytes, key_bytes, value_bytes, complement}
 use Rattle.key_order.specs.KeyFields.{MatchesAt, Matches, AreBytes}
 use Rattle.key_order.specs.GivenValues.{IsOfBytes, part_fault, fault_before, value_fault, key_fault}
@@ -136,7 +135,7 @@ image-fits (Absent ∷ parts) image bytes = (tt, image-fits parts image bytes)
 image-fits (Field t offset descend absval ∷ parts) image bytes =
     (at-fits t offset descend absval (part offset (width t) image) (Bytes-part offset (width t) image bytes) (held t (part offset (width t) image)) refl, image-fits parts image bytes)
 
-first-fits : (number : ℕ) (fault : Option ValueFault) (rest : Option RecordFault) → fault_before number fault rest ≡ None → (fault ≡ None) × (rest ≡ None)
+pub first-fits : (number : ℕ) (fault : Option ValueFault) (rest : Option RecordFault) → fault_before number fault rest ≡ None → (fault ≡ None) × (rest ≡ None)
 first-fits number None rest h = (refl, h)
 first-fits number (Some cause) rest h = absurd (let e : ◌≡◌ {A = Option RecordFault} (Some (BadField number cause)) None = h in cc)
 

@@ -2,3 +2,5 @@ pub mod ListOrder
 pub mod NumberOrder
 pub mod FitLemmas
 pub mod KeyLemmas
+pub mod ValueLemmas
+pub mod WidthLemmas

@@ -1,5 +1,5 @@
 -- The bytes of numbers stand in the order of the numbers.
-use Rattle.std.proofs.Common.{◌≡◌, ℕ, zero, suc, ◌+◌, ◌-◌, ◌*◌, ◌/◌, ◌%◌, ◌^◌, ◌<◌, ◌≤◌, ℤ, pos, negsuc, unsigned_abs, List, length, refl, sym, ◌∙◌, ap, arith, lit<, lit≤}
+use Rattle.std.proofs.Common.{◌≡◌, ℕ, zero, suc, ◌+◌, ◌*◌, ◌/◌, ◌^◌, ◌<◌, ◌≤◌, ℤ, pos, negsuc, unsigned_abs, length, refl, sym, ◌∙◌, ap, arith, lit<, lit≤}
 use Rattle.std.specs.Prelude.{◌<ℤ◌}
 use Rattle.std.specs.List.{AllByRecursion}
 use Rattle.std.specs.declared.cmp.Ordering.{Ordering}
@@ -9,10 +9,9 @@ use Rattle.std.specs.Cmp.Lexicographic.{slice_cmp}
 use Rattle.std.specs.Cmp.{int_cmp_is}
 use Rattle.std.proofs.lemmas.Cmp.{ranked}
 use Rattle.std.proofs.lemmas.Int.{ints}
-use Rattle.std.proofs.Math.Nat.{pow-suc, pow-zero, mod-eq_of_lt, pow-le-pow_right}
+use Rattle.std.proofs.Math.Nat.{pow-suc, mod-eq_of_lt, pow-le-pow_right}
 use Rattle.field_types.specs.declared.values.Dec.{Dec}
 use Rattle.field_values.specs.FieldTypes.{packed_width}
-use Rattle.field_values.specs.Digits.{digits_in}
 use Rattle.field_values.proofs.DigitLemmas.{length-digits_in}
 use Rattle.decimal_order.specs.DecimalOrder.{compare_numbers, units_with}
 use Rattle.decimal_order.proofs.OrderLemmas.{int_cmp-scaled, some-power}

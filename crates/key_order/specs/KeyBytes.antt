@@ -1,5 +1,5 @@
 -- Which bytes does a key have, so that keys stand in the order of their bytes? (Our own.)
-use Rattle.std.specs.Prelude.{ℕ, suc, ◌+◌, ◌-◌, ◌*◌, ◌/◌, ◌^◌, ℤ, pos, negsuc, List, [], ◌∷◌, ◌++◌, map}
+use Rattle.std.specs.Prelude.{ℕ, suc, ◌+◌, ◌-◌, ◌*◌, ◌/◌, ◌^◌, ℤ, pos, negsuc, List, [], ◌∷◌, ◌++◌, map, Bool, if◌then◌else◌}
 use Rattle.field_types.specs.declared.values.Value.{Value}
 use Rattle.field_types.specs.declared.values.Value.TheVariants.{Chars, Number}
 use Rattle.field_values.specs.FieldTypes.{packed_width}
@@ -33,6 +33,10 @@ value_bytes digits (Number n) = number_bytes digits n.units
 -- each byte turned round
 abbrev pub complement : List ℕ → List ℕ
 complement bytes = map (λ b. 255 - b) bytes
+
+-- the bytes of a value, by its direction
+abbrev pub turned : (descend : Bool) → List ℕ → List ℕ
+turned descend bytes = if descend then complement bytes else bytes
 
 -- 0 where the position is missing, and 1 before a value
 abbrev pub position_bytes : (digits : ℕ) → KeyValue → List ℕ

@@ -1,9 +1,7 @@
 -- Which images have a key, how many bytes has it, and which keys can be compared? (DDS for Physical and Logical Files,
 -- key field level; that one format may lack a position that another has is this project's own.)
-use Rattle.std.specs.Prelude.{◌≡◌, ℕ, ◌+◌, ◌≤◌, ◌<◌, Bool, true, List, [], ◌∷◌, length, is_some, All, if◌then◌else◌}
+use Rattle.std.specs.Prelude.{◌≡◌, ℕ, ◌+◌, ◌≤◌, ◌<◌, true, List, [], ◌∷◌, length, is_some, All, if◌then◌else◌}
 use Rattle.field_types.specs.declared.kinds.FieldType.{FieldType}
-use Rattle.field_types.specs.declared.values.Value.{Value}
-use Rattle.field_types.specs.declared.values.Value.TheVariants.{Chars, Number}
 use Rattle.field_values.specs.FieldTypes.{IsFieldType, width, packed_width, is_numeric}
 use Rattle.field_values.specs.FieldBytes.{held}
 use Rattle.field_values.specs.FirstBad.{part}
@@ -25,6 +23,14 @@ HasPosition Absent image = Unit {0}
 -- each key field lies within the image, which stands there for a value
 abbrev pub HasKey : List KeyPart → List ℕ → Type 0
 HasKey parts image = All (λ p. HasPosition p image) parts
+
+-- each key field is of a type that a data description can give
+abbrev pub IsPosition : KeyPart → Type 0
+IsPosition (Field t offset descend absval) = IsFieldType t
+IsPosition Absent = Unit {0}
+
+abbrev pub ArePositions : List KeyPart → Type 0
+ArePositions parts = All IsPosition parts
 
 abbrev pub AreBytes : List ℕ → Type 0
 AreBytes bytes = All (λ b. b < 256) bytes

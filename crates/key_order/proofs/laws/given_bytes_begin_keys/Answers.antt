@@ -1,5 +1,5 @@
-use Rattle.std.proofs.Common.{◌≡◌, ◌∙◌, ap, sym, length, take, None}
-use Rattle.std.specs.Ordering.{nat_cmp, is_lt, is_eq}
+use Rattle.std.proofs.Common.{◌∙◌, ap, sym}
+use Rattle.std.specs.Ordering.{is_lt, is_eq}
 use Rattle.key_pages.proofs.SideLemmas.{is_less-cut}
 use Rattle.key_order.specs.KeyBytes.{encoded, encoded_values}
 use Rattle.key_order.proofs.ListOrder.{begins-cut}
