@@ -1,6 +1,6 @@
 -- The bytes of keys stand in the order of the keys.
-use Rattle.std.proofs.Common.{◌≡◌, ℕ, zero, suc, ◌+◌, ◌<◌, Bool, true, false, cond, nat_lt, Option, Some, None, List, [], ◌∷◌, ◌++◌, length, take, refl, sym, ◌∙◌, ap, subst}
-use Rattle.std.specs.Prelude.{All}
+use Rattle.std.proofs.Common.{◌≡◌, ℕ, zero, suc, ◌+◌, ◌<◌, Bool, true, false, cond, nat_lt, Option, Some, None, List, [], ◌∷◌, ◌++◌, length, take, refl, sym, ◌∙◌, ap, subst, arith, ◌<◌}
+use Rattle.std.specs.Prelude.{All, AllPairs}
 use Rattle.std.specs.List.{AllByRecursion}
 use Rattle.std.proofs.lemmas.List.Elements.{recursion_from_All}
 use Rattle.std.specs.declared.cmp.Ordering.TheVariants.{Less, Greater}
@@ -18,7 +18,7 @@ use Rattle.field_values.specs.FieldBytes.{held, as_held}
 use Rattle.field_values.specs.FirstBad.{part}
 use Rattle.key_spec.specs.declared.KeyPart.{KeyPart}
 use Rattle.key_spec.specs.declared.KeyPart.TheVariants.{Field, Absent}
-use Rattle.file_model.specs.KeyOrder.{KeyValue, Missing, Ascending, Descending, compare_key_values, compare_values, compare_keys, compare_with, at_position, ordered, key_of, given_value, given_key}
+use Rattle.file_model.specs.KeyOrder.{KeyValue, Missing, Ascending, Descending, compare_key_values, compare_values, compare_keys, compare_with, at_position, ordered, key_of, given_value, given_key, either_part, either_parts, merged_parts}
 use Rattle.key_order.specs.KeyBytes.{encoded, encoded_values, digits_of, position_bytes, key_bytes, value_bytes, complement}
 use Rattle.key_order.specs.KeyFields.{MatchesAt, Matches, AreBytes}
 use Rattle.key_order.specs.GivenValues.{IsOfBytes, part_fault, fault_before, value_fault, key_fault}
@@ -191,3 +191,33 @@ Matches-back [] [] h = tt
 Matches-back [] (q ∷ others) h = tt
 Matches-back (p ∷ parts) [] h = tt
 Matches-back (p ∷ parts) (q ∷ others) h = (matches-back p q h.0, Matches-back parts others h.1)
+
+-- a format and the positions of it and others together
+either-itself : (parts others : List KeyPart) → Matches parts (either_parts parts others)
+either-itself [] others = tt
+either-itself (p ∷ parts) [] = Matches-itself (p ∷ parts)
+either-itself (Absent ∷ parts) (q ∷ others) = (tt, either-itself parts others)
+either-itself (Field t offset descend absval ∷ parts) (q ∷ others) = ((refl, refl), either-itself parts others)
+
+either-part : (x p q : KeyPart) → MatchesAt x p → MatchesAt x q → MatchesAt x (either_part p q)
+either-part x Absent q first second = second
+either-part x (Field t offset descend absval) q first second = first
+
+either-match : (format parts others : List KeyPart) → Matches format parts → Matches format others → Matches format (either_parts parts others)
+either-match format [] others first second = second
+either-match format (p ∷ parts) [] first second = first
+either-match [] (p ∷ parts) (q ∷ others) first second = tt
+either-match (x ∷ format) (p ∷ parts) (q ∷ others) first second = (either-part x p q first.0 second.0, either-match format parts others first.1 second.1)
+
+with-first : (parts : List KeyPart) (merged : List KeyPart) (formats : List (List KeyPart)) → AllByRecursion (Matches parts) formats → AllByRecursion (λ format. Matches format merged) formats
+    → AllByRecursion (λ format. Matches format (either_parts parts merged)) formats
+with-first parts merged [] first rest = tt
+with-first parts merged (format ∷ formats) first rest =
+    (either-match format parts merged (Matches-back parts format first.0) rest.0, with-first parts merged formats first.1 rest.1)
+
+pub merged-match : (formats : List (List KeyPart)) → AllPairs Matches formats → AllByRecursion (λ format. Matches format (merged_parts formats)) formats
+merged-match [] pairs = tt
+merged-match (parts ∷ formats) pairs =
+    let others : AllByRecursion (Matches parts) formats = recursion_from_All (Matches parts) formats (λ k d lt. pairs 0 (suc k) d (omega arith) (omega arith)) in
+    let rest = merged-match formats (λ i j d lt within. pairs (suc i) (suc j) d (omega arith) (omega arith)) in
+    (either-itself parts (merged_parts formats), with-first parts (merged_parts formats) formats others rest)

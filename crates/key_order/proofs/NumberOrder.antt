@@ -48,7 +48,9 @@ from_middle-small m (negsuc n) small = omega arith
 -- ---- the order
 
 from_middle-cmp : (m : ℕ) (a b : ℤ) → unsigned_abs a < m → unsigned_abs b < m → nat_cmp (from_middle m a) (from_middle m b) ≡ int_cmp a b
-from_middle-cmp m a b low high = int_cmp_is a b (nat_cmp (from_middle m a) (from_middle m b)) (at a b low high (nat_cmp (from_middle m a) (from_middle m b)) (ranked (from_middle m a) (from_middle m b) (nat_cmp (from_middle m a) (from_middle m b)) refl))
+from_middle-cmp m a b low high =
+    int_cmp_is a b (nat_cmp (from_middle m a) (from_middle m b))
+    (at a b low high (nat_cmp (from_middle m a) (from_middle m b)) (ranked (from_middle m a) (from_middle m b) (nat_cmp (from_middle m a) (from_middle m b)) refl))
   where
     at : (a b : ℤ) → unsigned_abs a < m → unsigned_abs b < m → (o : Ordering) → MatchOrdering o (from_middle m a < from_middle m b) (from_middle m a ≡ from_middle m b) (from_middle m b < from_middle m a)
         → MatchOrdering o (a <ℤ b) (a ≡ b) (b <ℤ a)

@@ -1,9 +1,9 @@
 //! Laws of the bytes of keys, as contracts of functions that do nothing.
-ghost use Rattle.std.specs.Prelude.{◌≡◌, ℕ, List, None, All, length, take};
+ghost use Rattle.std.specs.Prelude.{◌≡◌, ℕ, List, None, All, AllPairs, length, take};
 ghost use Rattle.std.specs.Ordering.{is_lt};
 ghost use Rattle.key_spec.specs.declared.KeyPart.{KeyPart};
 ghost use Rattle.field_types.specs.declared.values.Value.{Value};
-ghost use Rattle.file_model.specs.KeyOrder.{compare_keys, compare_with, begins_with, key_of, given_key};
+ghost use Rattle.file_model.specs.KeyOrder.{compare_keys, compare_with, begins_with, key_of, given_key, merged_parts};
 ghost use Rattle.key_pages.specs.Order.{key_cmp};
 ghost use Rattle.key_pages.specs.Position as position;
 ghost use Rattle.key_order.specs.KeyBytes.{encoded, encoded_values};
@@ -29,8 +29,10 @@ pub fn given_bytes_begin_keys()
         → position.begins_with (encoded parts image) (encoded_values others values) ≡ begins_with (given_key others values) (key_of parts image) }
 {}
 
-/// The positions of a format match themselves, and it doesn't matter which of two formats is named first.
+/// The positions of a format match themselves, it doesn't matter which of two formats is named first, and where the
+/// formats of a file match, each matches the positions of the file.
 pub fn formats_match()
     ensures itself { (parts : List KeyPart) → Matches parts parts }
+    ensures merged { (formats : List (List KeyPart)) → AllPairs Matches formats → All (λ format. Matches format (merged_parts formats)) formats }
     ensures back { (parts others : List KeyPart) → Matches parts others → Matches others parts }
 {}
