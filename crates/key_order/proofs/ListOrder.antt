@@ -80,7 +80,8 @@ digits-cmp (suc n) a b =
     let first : a % 256 ^ suc n ≡ a / 256 ^ n % 256 * 256 ^ n + a % 256 ^ n = ap (λ (k : ℕ). a % k) (pow-suc 256 n) ∙ mod-product a (256 ^ n) 256 some (lit< tt) in
     let second : b % 256 ^ suc n ≡ b / 256 ^ n % 256 * 256 ^ n + b % 256 ^ n = ap (λ (k : ℕ). b % k) (pow-suc 256 n) ∙ mod-product b (256 ^ n) 256 some (lit< tt) in
     let rest = digits-cmp n a b in
-    let parts : nat_cmp (a / 256 ^ n % 256 * 256 ^ n + a % 256 ^ n) (b / 256 ^ n % 256 * 256 ^ n + b % 256 ^ n) ≡ ordering_then (nat_cmp (a / 256 ^ n % 256) (b / 256 ^ n % 256)) (nat_cmp (a % 256 ^ n) (b % 256 ^ n)) =
+    let parts : nat_cmp (a / 256 ^ n % 256 * 256 ^ n + a % 256 ^ n) (b / 256 ^ n % 256 * 256 ^ n + b % 256 ^ n)
+    ≡ ordering_then (nat_cmp (a / 256 ^ n % 256) (b / 256 ^ n % 256)) (nat_cmp (a % 256 ^ n) (b % 256 ^ n)) =
     nat_cmp-parts (256 ^ n) (a / 256 ^ n % 256) (a % 256 ^ n) (b / 256 ^ n % 256) (b % 256 ^ n) (mod-lt a some) (mod-lt b some) in
     rw (first, second) (ap (ordering_then (nat_cmp (a / 256 ^ n % 256) (b / 256 ^ n % 256))) rest ∙ sym parts)
 

@@ -25,7 +25,8 @@ power-room zero = lit≤ tt
 power-room (suc half) =
     let rest : 10 ^ (half + half + 1) ≤ 128 * 256 ^ half = power-room half in
     let more : 10 ^ (suc half + suc half + 1) ≡ 10 ^ (half + half + 1) * 10 * 10 =
-    ap (λ (n : ℕ). 10 ^ n) (let e : suc half + suc half + 1 ≡ suc (suc (half + half + 1)) = omega arith in e) ∙ pow-suc 10 (suc (half + half + 1)) ∙ ap (λ (n : ℕ). n * 10) (pow-suc 10 (half + half + 1)) in
+    ap (λ (n : ℕ). 10 ^ n) (let e : suc half + suc half + 1 ≡ suc (suc (half + half + 1)) = omega arith in e)
+    ∙ pow-suc 10 (suc (half + half + 1)) ∙ ap (λ (n : ℕ). n * 10) (pow-suc 10 (half + half + 1)) in
     let wide : 256 ^ suc half ≡ 256 ^ half * 256 = pow-suc 256 half in
     omega arith
 
@@ -52,7 +53,8 @@ from_middle-cmp m a b low high =
     int_cmp_is a b (nat_cmp (from_middle m a) (from_middle m b))
     (at a b low high (nat_cmp (from_middle m a) (from_middle m b)) (ranked (from_middle m a) (from_middle m b) (nat_cmp (from_middle m a) (from_middle m b)) refl))
   where
-    at : (a b : ℤ) → unsigned_abs a < m → unsigned_abs b < m → (o : Ordering) → MatchOrdering o (from_middle m a < from_middle m b) (from_middle m a ≡ from_middle m b) (from_middle m b < from_middle m a)
+    at : (a b : ℤ) → unsigned_abs a < m → unsigned_abs b < m → (o : Ordering)
+        → MatchOrdering o (from_middle m a < from_middle m b) (from_middle m a ≡ from_middle m b) (from_middle m b < from_middle m a)
         → MatchOrdering o (a <ℤ b) (a ≡ b) (b <ℤ a)
     at (pos x) (pos y) low high Less h = omega (arith, ints)
     at (pos x) (pos y) low high Equal h = ap pos (let e : x ≡ y = omega arith in e)

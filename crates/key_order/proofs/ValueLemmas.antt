@@ -89,7 +89,8 @@ pub text-there : (t : FieldType) (w : List ℕ) (v : Value) → is_numeric t.kin
 text-there t w v text there h =
     let is : held t w ≡ Some (Chars w) = stands-text t w text there in cc
 
-pub texts-cmp : (t : FieldType) (absval : Bool) (a b : List ℕ) (v w : Value) → is_numeric t.kind ≡ false → is_some (held t a) ≡ true → is_some (held t b) ≡ true → held t a ≡ Some v → held t b ≡ Some w
+pub texts-cmp : (t : FieldType) (absval : Bool) (a b : List ℕ) (v w : Value) → is_numeric t.kind ≡ false
+    → is_some (held t a) ≡ true → is_some (held t b) ≡ true → held t a ≡ Some v → held t b ≡ Some w
     → slice_cmp nat_cmp a b ≡ compare_values (cond absval (absolute v) v) (cond absval (absolute w) w)
 texts-cmp t absval a b v w text there also h k =
     rw (text-there t a v text there h, text-there t b w text also k, text-counted absval a, text-counted absval b) refl

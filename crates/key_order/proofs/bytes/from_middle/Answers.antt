@@ -16,7 +16,8 @@ pub overflow_add-result : goal.overflow_add-result
 overflow_add-result c =
     let fits : FitsSigned w128 c.args.units = c.ranges.units in
     let value : c.unsigned_abs-magnitude.result ≡ unsigned_abs c.args.units = simp to_z-of_z at c.unsigned_abs-magnitude.ensures.value in
-    let room : middle c.args.digits + unsigned_abs c.args.units < 340282366920938463463374607431768211456 = (middle-wide c.args.digits (unsigned_abs c.args.units) c.requires.digits c.requires.small).1 in
+    let room : middle c.args.digits + unsigned_abs c.args.units < 340282366920938463463374607431768211456 =
+    (middle-wide c.args.digits (unsigned_abs c.args.units) c.requires.digits c.requires.small).1 in
     rw (middle-shift c.args.digits c.number_width.result c.requires.digits c.number_width.ensures.width, value)
     (search rules)
 
