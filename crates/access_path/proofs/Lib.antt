@@ -1,0 +1,4 @@
+pub mod OrderedLemmas
+pub mod EntryLemmas
+pub mod MoveLemmas
+pub mod BytesLemmas

@@ -1,0 +1,3 @@
+pub mod KeptEntries
+pub mod Moves
+pub mod PathBytes

@@ -1,0 +1,8 @@
+//! A keyed access path that is kept: the entries of the records that its formats select, in order. Begin with
+//! `specs/KeptEntries.antt`.
+#![tactic(auto)]
+
+pub mod entrant;
+pub mod laws;
+pub mod path;
+pub mod prepared;
