@@ -89,7 +89,7 @@ from-apart keys format (own ∷ others) =
     (λ a here. weaker (λ (b : Entry). format + 1 ≤ b.format) (Apart a) (λ b h same _. omega (arith, here, h, same)) (entries_from keys (format + 1) others) (from-format keys (format + 1) others))
     (entries_in keys format 1 own) (in-format keys format 1 own))
 
-differing : (falling : Bool) (entries : List Entry) → Pairwise Apart entries → Pairwise (λ a b. entry_cmp falling a b ≢ Equal) entries
+pub differing : (falling : Bool) (entries : List Entry) → Pairwise Apart entries → Pairwise (λ a b. entry_cmp falling a b ≢ Equal) entries
 differing falling [] apart = tt
 differing falling (a ∷ entries) apart =
     (weaker (Apart a) (λ b. entry_cmp falling a b ≢ Equal) (λ b. apart-differ falling a b) entries apart.0, differing falling entries apart.1)

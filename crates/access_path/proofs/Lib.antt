@@ -2,3 +2,4 @@ pub mod OrderedLemmas
 pub mod EntryLemmas
 pub mod MoveLemmas
 pub mod BytesLemmas
+pub mod RebuildLemmas

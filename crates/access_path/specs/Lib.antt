@@ -1,3 +1,4 @@
 pub mod KeptEntries
 pub mod Moves
 pub mod PathBytes
+pub mod Rebuilding

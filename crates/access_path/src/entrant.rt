@@ -1,5 +1,5 @@
 //! What a path asks of the file whose path it is.
-ghost use Rattle.std.specs.Prelude.{◌≡◌, ℕ, List, Option, IfOk};
+ghost use Rattle.std.specs.Prelude.{◌≡◌, ◌<◌, ℕ, List, Option, IfOk, length, slice_index};
 
 use key_pages::Key;
 use std::alloc::{AllocError, Global};
@@ -12,11 +12,17 @@ pub trait Entrant {
     /// The images that a format can be asked about.
     ghost takes: { Self → ℕ → List ℕ → Type 0 };
 
-    ghost count: { Self → ℕ };
+    /// The number of the member under each format.
+    ghost members: { Self → List ℕ };
 
     /// The number of formats.
     fn formats(&self) -> u16
-        ensures { result ≡ count self.now };
+        ensures { result ≡ length (members self.now) };
+
+    /// The number of the member under a format.
+    fn member(&self, format: u16) -> u32
+        requires { format < length (members self.now) }
+        ensures { result ≡ slice_index (members self.now) format };
 
     /// The key that a format has of an image.
     fn key(&self, alloc: Global, format: u16, image: &[u8]) -> Result<Option<Key>, AllocError>

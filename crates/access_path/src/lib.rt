@@ -6,3 +6,4 @@ pub mod entrant;
 pub mod laws;
 pub mod path;
 pub mod prepared;
+mod rebuilding;

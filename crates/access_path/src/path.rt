@@ -1,12 +1,15 @@
 //! The kept path itself.
-ghost use Rattle.std.specs.Prelude.{◌≡◌, ◌+◌, ◌*◌, ◌≤◌, [], Some, None, IfOk, OnOk, OnErr, IfSome, Contains, is_some, if◌then◌else◌};
+ghost use Rattle.std.specs.Prelude.{◌≡◌, ◌+◌, ◌*◌, ◌≤◌, [], Some, None, IfOk, OnOk, OnErr, IfSome, Contains, length, is_some, if◌then◌else◌};
 ghost use Rattle.std.specs.Option.{option_copied};
-ghost use Rattle.access_path.specs.KeptEntries.{entry_with, image_key};
+ghost use Rattle.access_path.specs.KeptEntries.{entry_with, image_key, kept};
+ghost use Rattle.access_path.specs.Rebuilding.{member_slots, TakesAll};
 ghost use Rattle.access_path.specs.Moves.{opposite, without_key, with_key, moved, FitsIn};
 
 use crate::entrant::Entrant;
 use crate::prepared::Prepared;
+use crate::rebuilding::add_formats;
 use key_pages::{Entry, EntryRef, Key, Pages};
+use member_slots::members::Members;
 use std::alloc::{AllocError, Global};
 use std::marker::Model;
 
@@ -14,15 +17,19 @@ use std::marker::Model;
 #[derive(Drop)]
 pub struct Path {
     pages: Pages,
+    falling: bool,
     alloc: Global,
 }
 
 impl Model for Path {
+    ghost use Rattle.std.specs.Prelude.{◌≡◌};
     ghost use Rattle.key_pages.specs.EntryList.{EntryList};
 
     ghost Value = { EntryList };
 
     ghost view = { λ p. p.pages };
+
+    ghost invariant = { λ p. p.pages.falling ≡ p.falling };
 }
 
 impl Path {
@@ -32,6 +39,7 @@ impl Path {
     {
         Path {
             pages: Pages::new(alloc, falling),
+            falling,
             alloc,
         }
     }
@@ -41,6 +49,29 @@ impl Path {
         ensures { result.now ≡ self.now }
     {
         &self.pages
+    }
+
+    /// Makes the path anew from the members. Only want of memory is an error; the path then stays as it was.
+    pub fn rebuild<E: Entrant>(&mut self, by: &E, members: &Members) -> Result<(), AllocError>
+        requires { TakesAll (E.takes by.now) 0 (member_slots (E.members by.now) members.now.members) }
+        ensures entries { OnOk result (self.new.entries ≡ kept (E.keys by.now) self.old.falling (member_slots (E.members by.now) members.now.members)) }
+        ensures falling { self.new.falling ≡ self.old.falling }
+        ensures unchanged { OnErr result (self.new ≡ self.old) }
+    {
+        let mut pages = Pages::new(self.alloc, self.falling);
+        add_formats(self.alloc, &mut pages, by, members)?;
+        self.pages = pages;
+        Ok(())
+    }
+
+    /// Sets memory aside for at least so many inserts. Only want of memory is an error.
+    pub fn reserve(&mut self, more: u32) -> Result<(), AllocError>
+        ensures entries { self.new.entries ≡ self.old.entries }
+        ensures falling { self.new.falling ≡ self.old.falling }
+        ensures room { OnOk result (more ≤ self.new.spare) }
+        ensures kept { self.old.spare ≤ self.new.spare }
+    {
+        self.pages.reserve(more)
     }
 
     /// Prepares a change of the record of this number, and its undoing, and sets memory aside for as many inserts as
@@ -57,7 +88,7 @@ impl Path {
         requires old { IfSome (option_copied old) (λ image. E.takes by.now format image) }
         requires new { IfSome (option_copied new) (λ image. E.takes by.now format image) }
         ensures prepared { IfOk result (λ p. p ≡ record { format = format; rrn = rrn; old = image_key (E.keys by.now format) (option_copied old.entry); new = image_key (E.keys by.now format) (option_copied new.entry) }) }
-        ensures room { OnOk result ((held + 2) * E.count by.now ≤ self.new.spare) }
+        ensures room { OnOk result ((held + 2) * length (E.members by.now) ≤ self.new.spare) }
         ensures entries { self.new.entries ≡ self.old.entries }
         ensures falling { self.new.falling ≡ self.old.falling }
         ensures kept { self.old.spare ≤ self.new.spare }
