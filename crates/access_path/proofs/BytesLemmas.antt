@@ -29,8 +29,17 @@ use Rattle.key_order.specs.KeyBytes.{key_bytes}
 use Rattle.key_order.specs.KeyFields.{AreBytes, Matches}
 use Rattle.key_order.proofs.KeyLemmas.{AreFit, keys-cmp, image-fits, Matches-itself, Matches-back}
 use Rattle.access_path.specs.KeptEntries.{KeyOf, entry_with, entries_at, entries_in, entries_from, kept}
-use Rattle.access_path.specs.PathBytes.{is_falling, format_key, AreKeysFrom, slots_of, parts_of, in_bytes, ShowsBytes, IsInBytes}
+use Rattle.access_path.specs.PathBytes.{is_falling, format_key, AreKeysFrom, members_of, parts_of, in_bytes, ShowsBytes, IsInBytes}
+use Rattle.access_path.specs.Rebuilding.{member_slots}
 use Rattle.access_path.proofs.OrderedLemmas.{all-in_order}
+
+-- the slots of each format's member
+abbrev slots_of : List PathFormat → NumberedMembers → List (List Slot)
+slots_of formats members = map (λ format. (member_of format.member members).slots) formats
+
+slots-members : (formats : List PathFormat) (members : NumberedMembers) → member_slots (members_of formats) members ≡ slots_of formats members
+slots-members [] members = refl
+slots-members (format ∷ formats) members = ap (λ w. (member_of format.member members).slots ∷ w) (slots-members formats members)
 
 -- ---- a list in order, mapped
 
@@ -150,7 +159,7 @@ any-match lists pairs i j low high =
     ]
 
 pub kept-path : (spec : PathSpec) (members : NumberedMembers) (keys : KeyOf) → IsInBytes spec members → AreKeysFrom keys 0 spec.formats
-    → kept keys (is_falling spec.ties) (slots_of spec.formats members) ≡ map (in_bytes spec.formats) (path spec members)
+    → kept keys (is_falling spec.ties) (member_slots (members_of spec.formats) members) ≡ map (in_bytes spec.formats) (path spec members)
 unfolding to_bytes
 kept-path spec members keys fits given =
     let parts : ℕ → List KeyPart = parts_of spec.formats in
@@ -158,7 +167,8 @@ kept-path spec members keys fits given =
     let long : length (map (λ (format : PathFormat). format.key) spec.formats) ≡ length spec.formats = length-map spec.formats (λ (format : PathFormat). format.key) in
     let match : (i j : ℕ) → i < length spec.formats → j < length spec.formats → Matches (parts i) (parts j) =
     λ i j low high. any-match (map (λ format. format.key) spec.formats) fits.match i j (omega (arith, long)) (omega (arith, long)) in
-    ap (in_order (entry_cmp (is_falling spec.ties))) (sym (from-bytes parts members keys 0 spec.formats own given))
+    ap (kept keys (is_falling spec.ties)) (slots-members spec.formats members)
+    ∙ ap (in_order (entry_cmp (is_falling spec.ties))) (sym (from-bytes parts members keys 0 spec.formats own given))
     ∙ sym (map-in_order (compare_entries spec.ties) (entry_cmp (is_falling spec.ties)) (to_bytes parts members) (IsGood parts members (length spec.formats)) (model.entries_from 0 spec.formats members)
     (bytes-cmp parts members spec.ties (length spec.formats) match)
     (from-good parts members (length spec.formats) 0 spec.formats (omega arith) own (recursion_from_All (ShowsBytes members) spec.formats fits.shown)))

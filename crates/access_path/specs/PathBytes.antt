@@ -4,7 +4,6 @@ use Rattle.key_spec.specs.declared.KeyPart.{KeyPart}
 use Rattle.key_spec.specs.declared.Ties.{Ties}
 use Rattle.key_spec.specs.declared.Ties.TheVariants.{Rising, Falling}
 use Rattle.key_pages.specs.declared.entries.Entry.{Entry}
-use Rattle.member_slots.specs.declared.slot.Slot.{Slot}
 use Rattle.member_slots.specs.Members.{NumberedMembers, member_of}
 use Rattle.file_model.specs.declared.paths.PathFormat.{PathFormat}
 use Rattle.file_model.specs.declared.paths.PathSpec.{PathSpec}
@@ -28,9 +27,9 @@ abbrev pub AreKeysFrom : KeyOf → (number : ℕ) → List PathFormat → Type 0
 AreKeysFrom keys number [] = Unit {0}
 AreKeysFrom keys number (format ∷ formats) = ((image : List ℕ) → keys number image ≡ format_key format image) × AreKeysFrom keys (number + 1) formats
 
--- the slots of each format's member
-abbrev pub slots_of : List PathFormat → NumberedMembers → List (List Slot)
-slots_of formats members = map (λ format. (member_of format.member members).slots) formats
+-- the number of each format's member
+abbrev pub members_of : List PathFormat → List ℕ
+members_of formats = map (λ format. format.member) formats
 
 -- the positions of the key in a format
 abbrev pub parts_of : List PathFormat → (number : ℕ) → List KeyPart

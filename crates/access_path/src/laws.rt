@@ -8,7 +8,8 @@ ghost use Rattle.access_path.specs.KeptEntries.{KeyOf, slot_key, kept};
 ghost use Rattle.member_slots.specs.Members.{NumberedMembers};
 ghost use Rattle.file_model.specs.declared.paths.PathSpec.{PathSpec};
 ghost use Rattle.file_model.specs.Paths.{path};
-ghost use Rattle.access_path.specs.PathBytes.{is_falling, AreKeysFrom, slots_of, in_bytes, IsInBytes};
+ghost use Rattle.access_path.specs.PathBytes.{is_falling, AreKeysFrom, members_of, in_bytes, IsInBytes};
+ghost use Rattle.access_path.specs.Rebuilding.{member_slots};
 ghost use Rattle.access_path.specs.Moves.{Move, opposite, moved, FitsIn};
 
 /// The entries of a path are in order, and none is there twice.
@@ -43,5 +44,5 @@ pub fn deleted_slot_at_the_end()
 /// Where the keys are those of a file's formats, the kept entries are the file's access path in bytes.
 pub fn kept_entries_are_the_path()
     ensures { (spec : PathSpec) (members : NumberedMembers) (keys : KeyOf) → IsInBytes spec members → AreKeysFrom keys 0 spec.formats
-        → kept keys (is_falling spec.ties) (slots_of spec.formats members) ≡ map (in_bytes spec.formats) (path spec members) }
+        → kept keys (is_falling spec.ties) (member_slots (members_of spec.formats) members) ≡ map (in_bytes spec.formats) (path spec members) }
 {}
