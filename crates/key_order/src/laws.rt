@@ -1,12 +1,13 @@
 //! Laws of the bytes of keys, as contracts of functions that do nothing.
-ghost use Rattle.std.specs.Prelude.{◌≡◌, ℕ, List, None, All, AllPairs, length, take};
+ghost use Rattle.std.specs.Prelude.{◌≡◌, ℕ, pos, negsuc, List, [], ◌∷◌, None, All, AllPairs, length, take};
 ghost use Rattle.std.specs.Ordering.{is_lt};
 ghost use Rattle.key_spec.specs.declared.KeyPart.{KeyPart};
 ghost use Rattle.field_types.specs.declared.values.Value.{Value};
-ghost use Rattle.file_model.specs.KeyOrder.{compare_keys, compare_with, begins_with, key_of, given_key, merged_parts};
+ghost use Rattle.file_model.specs.KeyOrder.{Missing, Ascending, Descending, compare_keys, compare_with, begins_with, key_of, given_key, merged_parts};
 ghost use Rattle.key_pages.specs.Order.{key_cmp};
 ghost use Rattle.key_pages.specs.Position as position;
-ghost use Rattle.key_order.specs.KeyBytes.{encoded, encoded_values};
+ghost use Rattle.field_types.specs.declared.values.Value.TheVariants.{Chars};
+ghost use Rattle.key_order.specs.KeyBytes.{encoded, encoded_values, position_bytes, number_bytes};
 ghost use Rattle.key_order.specs.KeyFields.{AreBytes, Matches};
 ghost use Rattle.key_order.specs.GivenValues.{IsOfBytes, key_fault};
 
@@ -35,4 +36,16 @@ pub fn formats_match()
     ensures itself { (parts : List KeyPart) → Matches parts parts }
     ensures merged { (formats : List (List KeyPart)) → AllPairs Matches formats → All (λ format. Matches format (merged_parts formats)) formats }
     ensures back { (parts others : List KeyPart) → Matches parts others → Matches others parts }
+{}
+
+/// The bytes of some positions.
+#[tactic(auto, unfolding(crate::specs::KeyBytes::number_bytes))]
+pub fn bytes_of_positions()
+    ensures missing { position_bytes 3 Missing ≡ 0x00 ∷ [] }
+    ensures text { position_bytes 2 (Ascending (Chars (0xC1 ∷ 0x40 ∷ []))) ≡ 0x01 ∷ 0xC1 ∷ 0x40 ∷ [] }
+    ensures falling_text { position_bytes 2 (Descending (Chars (0xC1 ∷ 0x40 ∷ []))) ≡ 0x01 ∷ 0x3E ∷ 0xBF ∷ [] }
+    ensures zero { number_bytes 3 (pos 0) ≡ 0x80 ∷ 0x00 ∷ [] }
+    ensures above { number_bytes 3 (pos 999) ≡ 0x83 ∷ 0xE7 ∷ [] }
+    ensures below { number_bytes 3 (negsuc 0) ≡ 0x7F ∷ 0xFF ∷ [] }
+    ensures least { number_bytes 4 (negsuc 9998) ≡ 0x7F ∷ 0xD8 ∷ 0xF1 ∷ [] }
 {}
