@@ -3,3 +3,4 @@ pub mod EntryLemmas
 pub mod MoveLemmas
 pub mod BytesLemmas
 pub mod RebuildLemmas
+pub mod ClashLemmas

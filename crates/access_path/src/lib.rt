@@ -2,6 +2,7 @@
 //! `specs/KeptEntries.antt`.
 #![tactic(auto)]
 
+mod clash;
 pub mod entrant;
 pub mod laws;
 pub mod path;

@@ -3,8 +3,10 @@ ghost use Rattle.std.specs.Prelude.{◌≡◌, ◌+◌, ◌*◌, ◌≤◌, [], 
 ghost use Rattle.std.specs.Option.{option_copied};
 ghost use Rattle.access_path.specs.KeptEntries.{entry_with, image_key, kept};
 ghost use Rattle.access_path.specs.Rebuilding.{member_slots, TakesAll};
+ghost use Rattle.access_path.specs.Clash.{least_other};
 ghost use Rattle.access_path.specs.Moves.{opposite, without_key, with_key, moved, FitsIn};
 
+use crate::clash;
 use crate::entrant::Entrant;
 use crate::prepared::Prepared;
 use crate::rebuilding::add_formats;
@@ -49,6 +51,13 @@ impl Path {
         ensures { result.now ≡ self.now }
     {
         &self.pages
+    }
+
+    /// The least number of another record that has the key. It takes no memory.
+    pub fn clash(&self, key: &Key, rrn: u32) -> Option<u32>
+        ensures { result ≡ least_other key.now rrn self.now.entries }
+    {
+        clash::least_other(&self.pages, key.as_bytes(), rrn)
     }
 
     /// Makes the path anew from the members. Only want of memory is an error; the path then stays as it was.
