@@ -136,9 +136,11 @@ clash-above falling from key (x ∷ xs) side = by (is_less x.key key) refl (clas
     by : (b : Bool) → is_less x.key key ≡ b → AllByRecursion (λ (e : Entry). is_less e.key key ≡ false) (filter (is_past falling from) xs)
         → AllByRecursion (λ (e : Entry). is_less e.key key ≡ false) (filter (is_past falling from) (x ∷ xs))
     by false is rest =
-        subst (AllByRecursion (λ (e : Entry). is_less e.key key ≡ false)) (sym (cond-true (is_past falling from x) (x ∷ filter (is_past falling from) xs) (filter (is_past falling from) xs) (past ∙ ap not is))) (is, rest)
+        subst (AllByRecursion (λ (e : Entry). is_less e.key key ≡ false))
+        (sym (cond-true (is_past falling from x) (x ∷ filter (is_past falling from) xs) (filter (is_past falling from) xs) (past ∙ ap not is))) (is, rest)
     by true is rest =
-        subst (AllByRecursion (λ (e : Entry). is_less e.key key ≡ false)) (sym (cond-false (is_past falling from x) (x ∷ filter (is_past falling from) xs) (filter (is_past falling from) xs) (past ∙ ap not is))) rest
+        subst (AllByRecursion (λ (e : Entry). is_less e.key key ≡ false))
+        (sym (cond-false (is_past falling from x) (x ∷ filter (is_past falling from) xs) (filter (is_past falling from) xs) (past ∙ ap not is))) rest
 
 -- ---- where the key ends
 
@@ -181,7 +183,8 @@ pub clash-ends : (falling : Bool) (from : Position) (key : List ℕ) (rrn : ℕ)
 unfolding IsStrictlySortedBy
 clash-ends falling from key rrn xs sorted above h = by (find (is_past falling from) xs) refl h
   where
-    at : (e : Entry) (t : List Entry) → is_eq (key_cmp e.key key) ≡ false → AllByRecursion (λ (x : Entry). is_less x.key key ≡ false) (e ∷ t) → IsInOrder falling (e ∷ t) → least_other key rrn (e ∷ t) ≡ None
+    at : (e : Entry) (t : List Entry) → is_eq (key_cmp e.key key) ≡ false → AllByRecursion (λ (x : Entry). is_less x.key key ≡ false) (e ∷ t) → IsInOrder falling (e ∷ t)
+        → least_other key rrn (e ∷ t) ≡ None
     at e t off low order =
         let greater : key_cmp e.key key ≡ Greater = greater-than (key_cmp e.key key) low.0 off in
         all-none key rrn (e ∷ t) (greater, weaker (λ y. entry_cmp falling e y ≡ Less) (λ y. key_cmp y.key key ≡ Greater) (λ y less. greater-later falling e y key less greater) t order.0)
@@ -223,7 +226,8 @@ counted key rrn e on = by (e.rrn == rrn) ∙ sym (ap (λ (b : Bool). cond (b && 
     by false = refl
 
 -- the walk after one entry more
-pub clash-next : (falling : Bool) (from on : Position) (key : List ℕ) (rrn : ℕ) (e : Entry) (xs : List Entry) (least next : Option ℕ) → IsInOrder falling xs → ((x : Entry) → side_of falling on x ≡ entry_cmp falling x e)
+pub clash-next : (falling : Bool) (from on : Position) (key : List ℕ) (rrn : ℕ) (e : Entry) (xs : List Entry) (least next : Option ℕ) → IsInOrder falling xs
+    → ((x : Entry) → side_of falling on x ≡ entry_cmp falling x e)
     → with_key key (find (is_past falling from) xs) ≡ Some e
     → next ≡ lesser least (cond (e.rrn == rrn) None (Some e.rrn))
     → lesser next (least_other key rrn (filter (is_past falling on) xs)) ≡ lesser least (least_other key rrn (filter (is_past falling from) xs))

@@ -50,7 +50,8 @@ in-high keys format rrn [] = tt
 in-high keys format rrn (slot ∷ slots) =
     all-append (λ (e : Entry). e.rrn < rrn + length (slot ∷ slots)) (entries_at format rrn (slot_key (keys format) slot)) (entries_in keys format (rrn + 1) slots)
     (at-each (λ (e : Entry). e.rrn < rrn + length (slot ∷ slots)) format rrn (slot_key (keys format) slot) (λ k. omega arith))
-    (weaker (λ (e : Entry). e.rrn < rrn + 1 + length slots) (λ (e : Entry). e.rrn < rrn + length (slot ∷ slots)) (λ e h. omega (arith, h)) (entries_in keys format (rrn + 1) slots) (in-high keys format (rrn + 1) slots))
+    (weaker (λ (e : Entry). e.rrn < rrn + 1 + length slots) (λ (e : Entry). e.rrn < rrn + length (slot ∷ slots)) (λ e h. omega (arith, h))
+    (entries_in keys format (rrn + 1) slots) (in-high keys format (rrn + 1) slots))
 
 pub from-format : (keys : KeyOf) (format : ℕ) (slots : List (List Slot)) → AllByRecursion (λ (e : Entry). format ≤ e.format) (entries_from keys format slots)
 from-format keys format [] = tt
@@ -64,7 +65,8 @@ from-high keys format [] = tt
 from-high keys format (own ∷ others) =
     all-append (λ (e : Entry). e.format < format + length (own ∷ others)) (entries_in keys format 1 own) (entries_from keys (format + 1) others)
     (weaker (λ (e : Entry). e.format ≡ format) (λ (e : Entry). e.format < format + length (own ∷ others)) (λ e h. omega (arith, h)) (entries_in keys format 1 own) (in-format keys format 1 own))
-    (weaker (λ (e : Entry). e.format < format + 1 + length others) (λ (e : Entry). e.format < format + length (own ∷ others)) (λ e h. omega (arith, h)) (entries_from keys (format + 1) others) (from-high keys (format + 1) others))
+    (weaker (λ (e : Entry). e.format < format + 1 + length others) (λ (e : Entry). e.format < format + length (own ∷ others)) (λ e h. omega (arith, h))
+    (entries_from keys (format + 1) others) (from-high keys (format + 1) others))
 
 -- ---- no two are of one place
 
@@ -78,7 +80,8 @@ in-apart keys format rrn (slot ∷ slots) =
     pairwise-append Apart (entries_at format rrn (slot_key (keys format) slot)) (entries_in keys format (rrn + 1) slots)
     (at-apart format rrn (slot_key (keys format) slot)) (in-apart keys format (rrn + 1) slots)
     (at-each (λ (a : Entry). AllByRecursion (Apart a) (entries_in keys format (rrn + 1) slots)) format rrn (slot_key (keys format) slot)
-    (λ k. weaker (λ (e : Entry). rrn + 1 ≤ e.rrn) (Apart (entry_with format rrn k)) (λ e h _ same. omega (arith, h, same)) (entries_in keys format (rrn + 1) slots) (in-low keys format (rrn + 1) slots)))
+    (λ k. weaker (λ (e : Entry). rrn + 1 ≤ e.rrn) (Apart (entry_with format rrn k)) (λ e h _ same. omega (arith, h, same))
+    (entries_in keys format (rrn + 1) slots) (in-low keys format (rrn + 1) slots)))
 
 pub from-apart : (keys : KeyOf) (format : ℕ) (slots : List (List Slot)) → Pairwise Apart (entries_from keys format slots)
 from-apart keys format [] = tt
@@ -100,7 +103,8 @@ kept-strict keys falling slots =
 
 -- ---- slots behind slots
 
-pub in-append : (keys : KeyOf) (format rrn : ℕ) (front back : List Slot) → entries_in keys format rrn (front ++ back) ≡ entries_in keys format rrn front ++ entries_in keys format (rrn + length front) back
+pub in-append : (keys : KeyOf) (format rrn : ℕ) (front back : List Slot)
+    → entries_in keys format rrn (front ++ back) ≡ entries_in keys format rrn front ++ entries_in keys format (rrn + length front) back
 in-append keys format rrn [] back = ap (λ (n : ℕ). entries_in keys format n back) (let e : rrn ≡ rrn + 0 = omega arith in e)
 in-append keys format rrn (slot ∷ front) back =
     ap (λ (t : List Entry). entries_at format rrn (slot_key (keys format) slot) ++ t)
@@ -108,7 +112,8 @@ in-append keys format rrn (slot ∷ front) back =
     ∙ ap (λ (n : ℕ). entries_in keys format (rrn + 1) front ++ entries_in keys format n back) (let e : rrn + 1 + length front ≡ rrn + length (slot ∷ front) = omega arith in e))
     ∙ sym (append_assoc (entries_at format rrn (slot_key (keys format) slot)) (entries_in keys format (rrn + 1) front) (entries_in keys format (rrn + length (slot ∷ front)) back))
 
-pub from-append : (keys : KeyOf) (format : ℕ) (before others : List (List Slot)) → entries_from keys format (before ++ others) ≡ entries_from keys format before ++ entries_from keys (format + length before) others
+pub from-append : (keys : KeyOf) (format : ℕ) (before others : List (List Slot))
+    → entries_from keys format (before ++ others) ≡ entries_from keys format before ++ entries_from keys (format + length before) others
 from-append keys format [] others = ap (λ (n : ℕ). entries_from keys n others) (let e : format ≡ format + 0 = omega arith in e)
 from-append keys format (own ∷ before) others =
     ap (λ (t : List Entry). entries_in keys format 1 own ++ t)
@@ -116,7 +121,8 @@ from-append keys format (own ∷ before) others =
     ∙ ap (λ (n : ℕ). entries_from keys (format + 1) before ++ entries_from keys n others) (let e : format + 1 + length before ≡ format + length (own ∷ before) = omega arith in e))
     ∙ sym (append_assoc (entries_in keys format 1 own) (entries_from keys (format + 1) before) (entries_from keys (format + length (own ∷ before)) others))
 
-pub kept-deleted : (keys : KeyOf) (falling : Bool) (before after : List (List Slot)) (slots : List Slot) → kept keys falling (before ++ (slots ++ Deleted ∷ []) ∷ after) ≡ kept keys falling (before ++ slots ∷ after)
+pub kept-deleted : (keys : KeyOf) (falling : Bool) (before after : List (List Slot)) (slots : List Slot)
+    → kept keys falling (before ++ (slots ++ Deleted ∷ []) ∷ after) ≡ kept keys falling (before ++ slots ∷ after)
 kept-deleted keys falling before after slots =
     let format = 0 + length before in
     let same : entries_in keys format 1 (slots ++ Deleted ∷ []) ≡ entries_in keys format 1 slots = in-append keys format 1 slots (Deleted ∷ []) ∙ append-nil (entries_in keys format 1 slots) in

@@ -76,8 +76,10 @@ module _ (keys : KeyOf) (falling : Bool) (before after : List (List Slot)) (fron
   apart-post key =
       let entry = entry_with (length before) (1 + length front) key in
       all-append (λ x. Apart x entry) (entries_in keys (length before) (1 + length front + 1) back) (entries_from keys (length before + 1) after)
-      (weaker (λ (e : Entry). 1 + length front + 1 ≤ e.rrn) (λ x. Apart x entry) (λ x h _ same. omega (arith, h, same)) (entries_in keys (length before) (1 + length front + 1) back) (in-low keys (length before) (1 + length front + 1) back))
-      (weaker (λ (e : Entry). length before + 1 ≤ e.format) (λ x. Apart x entry) (λ x h same _. omega (arith, h, same)) (entries_from keys (length before + 1) after) (from-format keys (length before + 1) after))
+      (weaker (λ (e : Entry). 1 + length front + 1 ≤ e.rrn) (λ x. Apart x entry) (λ x h _ same. omega (arith, h, same))
+      (entries_in keys (length before) (1 + length front + 1) back) (in-low keys (length before) (1 + length front + 1) back))
+      (weaker (λ (e : Entry). length before + 1 ≤ e.format) (λ x. Apart x entry) (λ x h same _. omega (arith, h, same))
+      (entries_from keys (length before + 1) after) (from-format keys (length before + 1) after))
 
   differ : (key : List ℕ) (xs : List Entry) → AllByRecursion (λ x. Apart x (entry_with (length before) (1 + length front) key)) xs
       → AllByRecursion (λ x. entry_cmp falling x (entry_with (length before) (1 + length front) key) ≢ Equal) xs
@@ -166,7 +168,8 @@ module _ (keys : KeyOf) (falling : Bool) (before after : List (List Slot)) (fron
 
 -- ---- a move and its opposite
 
-with-put : (falling : Bool) (entry : Entry) (entries : List Entry) → IsInOrder falling entries → (¬ Contains entries entry) → with_entry falling entry entries ≡ put_in_order (entry_cmp falling) entry entries
+with-put : (falling : Bool) (entry : Entry) (entries : List Entry) → IsInOrder falling entries → (¬ Contains entries entry)
+    → with_entry falling entry entries ≡ put_in_order (entry_cmp falling) entry entries
 with-put falling entry entries sorted absent =
     parted-put (entry_cmp falling) (entry_total falling) entry entries sorted (others-differ falling entry entries absent)
 

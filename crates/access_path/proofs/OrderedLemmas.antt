@@ -89,7 +89,8 @@ module _ {A : Type 0} (compare : A → A → Ordering) where
           let rest = by ys all.1 in
           cond_both (is_lt (compare x z)) (x ∷ z ∷ ys) (z ∷ put_in_order compare x ys) (λ w. filter (λ y. is_ne (compare y x)) w ≡ z ∷ ys)
           (λ _. first (z ∷ ys) all)
-          (λ _. cond-true (is_ne (compare z x)) (z ∷ filter (λ y. is_ne (compare y x)) (put_in_order compare x ys)) (filter (λ y. is_ne (compare y x)) (put_in_order compare x ys)) (unequal (compare z x) all.0)
+          (λ _. cond-true (is_ne (compare z x)) (z ∷ filter (λ y. is_ne (compare y x)) (put_in_order compare x ys))
+          (filter (λ y. is_ne (compare y x)) (put_in_order compare x ys)) (unequal (compare z x) all.0)
           ∙ ap (λ (t : List A). z ∷ t) rest)
 
   -- in a list in order an item is put between the lesser and the greater ones

@@ -37,7 +37,8 @@ pub before-format : (format rrn : ℕ) (entries : List Entry) → All (IsBefore 
 before-format format rrn entries all k d lt =
     let is = all k d lt in record { formats = (let le = is.formats in omega arith); records = λ same. (let le = is.formats in absurd (omega arith)) }
 
-pub before-with : (falling : Bool) (entry : Entry) (entries : List Entry) → All (IsBefore entry.format entry.rrn) entries → All (IsBefore entry.format (entry.rrn + 1)) (with_entry falling entry entries)
+pub before-with : (falling : Bool) (entry : Entry) (entries : List Entry) → All (IsBefore entry.format entry.rrn) entries
+    → All (IsBefore entry.format (entry.rrn + 1)) (with_entry falling entry entries)
 before-with falling entry entries all =
     let P : Entry → Type 0 = IsBefore entry.format (entry.rrn + 1) in
     let each : AllByRecursion P entries = recursion_from_All P entries (before-next entry.format entry.rrn entries all) in
@@ -114,7 +115,8 @@ drop-mapped members (n ∷ numbers) (suc i) lt =
 
 pub formats-step : (falling : Bool) (keys : KeyOf) (members : NumberedMembers) (numbers : List ℕ) (format : ℕ) (entries : List Entry) → format < length numbers
     → added falling (entries_from keys format (drop format (member_slots numbers members))) entries
-    ≡ added falling (entries_from keys (format + 1) (drop (format + 1) (member_slots numbers members))) (added falling (entries_in keys format 1 (member_of (get_or numbers format 0) members).slots) entries)
+    ≡ added falling (entries_from keys (format + 1) (drop (format + 1) (member_slots numbers members)))
+    (added falling (entries_in keys format 1 (member_of (get_or numbers format 0) members).slots) entries)
 formats-step falling keys members numbers format entries lt =
     ap (λ (w : List (List Slot)). added falling (entries_from keys format w) entries) (drop-mapped members numbers format lt)
     ∙ added-append falling (entries_in keys format 1 (member_of (get_or numbers format 0) members).slots) (entries_from keys (format + 1) (drop (format + 1) (member_slots numbers members))) entries

@@ -22,7 +22,8 @@ stepped c =
 
 pub loop-entry-smaller : goal.loop-entry-smaller
 loop-entry-smaller c =
-    let shorter : length (filter (is_past c.args.pages.now.falling c.loop-entry.from) c.args.pages.now.entries) ≡ suc (length (filter (is_past c.args.pages.now.falling c.place_of-from.result) c.args.pages.now.entries)) =
+    let shorter : length (filter (is_past c.args.pages.now.falling c.loop-entry.from) c.args.pages.now.entries)
+    ≡ suc (length (filter (is_past c.args.pages.now.falling c.place_of-from.result) c.args.pages.now.entries)) =
     ap length (stepped c) in
     omega (arith, shorter)
 

@@ -11,7 +11,8 @@ loop-i-preserved g c =
     let slots = c.args.member.now.state.slots in
     let falls = c.args.pages.now.falling in
     let new : c.add_slot.new.pages.entries ≡ added falls (entries_at c.args.format (c.loop-i.i + 1) (slot_key (keys c.args.format) c.slot.result.now)) c.loop-i.pages.entries =
-    c.in_ok-add_slot.ensures.entries ∙ ap (λ f. added f (entries_at c.args.format (c.loop-i.i + 1) (slot_key (keys c.args.format) c.slot.result.now)) c.loop-i.pages.entries) c.loop-i.invariant.falling in
+    c.in_ok-add_slot.ensures.entries
+    ∙ ap (λ f. added f (entries_at c.args.format (c.loop-i.i + 1) (slot_key (keys c.args.format) c.slot.result.now)) c.loop-i.pages.entries) c.loop-i.invariant.falling in
     record {
       rest = ap (λ (w : List Entry). added falls (entries_in keys c.args.format (c.loop-i.i + 1 + 1) (drop (c.loop-i.i + 1) slots)) w) new
           ∙ sym (slots-step falls keys c.args.format c.loop-i.i c.args.member.now.state c.slot.result.now c.loop-i.pages.entries c.slot.ensures.value)
