@@ -87,7 +87,7 @@ pub Bytes-append : (a b : List ℕ) → Bytes a → Bytes b → Bytes (a ++ b)
 Bytes-append [] b first second = second
 Bytes-append (x ∷ a) b first second = (first.0, Bytes-append a b first.1 second)
 
-Bytes-replicate : (n : ℕ) → Bytes (replicate n 0x40)
+pub Bytes-replicate : (n : ℕ) → Bytes (replicate n 0x40)
 Bytes-replicate zero = tt
 Bytes-replicate (suc n) = (lit< tt, Bytes-replicate n)
 
@@ -160,8 +160,11 @@ sized-held t v w h =
     let kept : IsKept t v = held-kept t v w h in
     subst (IsSized t) kept.same (sized-as_held t v kept.accepted)
 
+pub bytes-held : (t : FieldType) (v : Value) (w : List ℕ) → Bytes w → held t w ≡ Some v → OfBytes v
+bytes-held t v w bytes h = of-kind t.kind t.length t.decimals v w bytes h
+
 pub fits-held : (t : FieldType) (v : Value) (w : List ℕ) → Bytes w → held t w ≡ Some v → Fits t v
-fits-held t v w bytes h = record { sized = sized-held t v w h; bytes = of-kind t.kind t.length t.decimals v w bytes h }
+fits-held t v w bytes h = record { sized = sized-held t v w h; bytes = bytes-held t v w bytes h }
 
 -- without the sign too
 unsigned-again : (z : ℤ) → unsigned_abs (pos (unsigned_abs z)) ≡ unsigned_abs z

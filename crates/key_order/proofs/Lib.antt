@@ -4,3 +4,4 @@ pub mod FitLemmas
 pub mod KeyLemmas
 pub mod ValueLemmas
 pub mod WidthLemmas
+pub mod ViewLemmas

@@ -4,6 +4,8 @@ ghost use Rattle.std.specs.Ordering.{is_lt};
 ghost use Rattle.key_spec.specs.declared.KeyPart.{KeyPart};
 ghost use Rattle.field_types.specs.declared.values.Value.{Value};
 ghost use Rattle.file_model.specs.KeyOrder.{Missing, Ascending, Descending, compare_keys, compare_with, begins_with, key_of, given_key, merged_parts};
+ghost use Rattle.file_model.specs.declared.views.ViewField.{ViewField};
+ghost use Rattle.file_model.specs.Views.{view_of};
 ghost use Rattle.key_pages.specs.Order.{key_cmp};
 ghost use Rattle.key_pages.specs.Position as position;
 ghost use Rattle.field_types.specs.declared.values.Value.TheVariants.{Chars};
@@ -48,4 +50,9 @@ pub fn bytes_of_positions()
     ensures above { number_bytes 3 (pos 999) ≡ 0x83 ∷ 0xE7 ∷ [] }
     ensures below { number_bytes 3 (negsuc 0) ≡ 0x7F ∷ 0xFF ∷ [] }
     ensures least { number_bytes 4 (negsuc 9998) ≡ 0x7F ∷ 0xD8 ∷ 0xF1 ∷ [] }
+{}
+
+/// What a logical file shows of an image of bytes is bytes, so that its keys can be compared by theirs.
+pub fn views_show_bytes()
+    ensures { (fields : List ViewField) (image : List ℕ) → AreBytes image → AreBytes (view_of fields image) }
 {}
