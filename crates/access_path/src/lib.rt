@@ -6,5 +6,6 @@ mod clash;
 pub mod entrant;
 pub mod laws;
 pub mod path;
+pub mod paths;
 pub mod prepared;
 mod rebuilding;
