@@ -1,0 +1,5 @@
+pub mod KeptEntries
+pub mod Moves
+pub mod PathBytes
+pub mod Rebuilding
+pub mod Clash

@@ -1,0 +1,3 @@
+pub mod KeyBytes
+pub mod KeyFields
+pub mod GivenValues
