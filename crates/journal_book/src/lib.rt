@@ -1,0 +1,7 @@
+//! The journal as a list of entries over the chain of its receivers: which entries the areas of a store spell, and what a
+//! stop may leave of them.
+#![tactic(auto)]
+
+mod laws;
+
+pub use laws::one_reading;
