@@ -88,7 +88,7 @@ HasRun (Damaged area at) scripts given writing = ⊥
 HasRun StoreFault scripts given writing = ⊥
 HasRun Exists scripts given writing = ⊥
 
--- the words were those of a run, the input was read to its end and is one, and the jobs of its scripts ran
+-- the words were those of a run, the input was read to its end and has no line at fault, and the jobs of its scripts ran
 pub record WasRun (status : Status) (reading : Reading) (given : List Call → Type 0) (writing : Writing) : Type 0 where
   pub words : are_run_words reading.words ≡ true
   pub left : reading.tells → reading.left ≡ []
@@ -107,7 +107,7 @@ pub record InputRefused (reading : Reading) (writing : Writing) (cause : Type 0)
   pub written : NothingWritten writing
   pub why : cause
 
--- the input was read to its end, and the line is the first at which no input goes on
+-- the input was read to its end, and the line is the first at fault
 pub record ScriptRefused (reading : Reading) (line : ℕ) : Type 0 where
   pub left : reading.left ≡ []
   pub fault : least (faults_of (lines_of reading.input)) ≡ Some line
@@ -128,7 +128,7 @@ Comes (Damaged area at) reading given writing = ⊥
 Comes StoreFault reading given writing = ⊥
 Comes Exists reading given writing = ⊥
 
--- an input of the grammar that isn't too long
+-- an input without a line at fault that isn't too long
 pub record IsInOrder (reading : Reading) : Type 0 where
   pub words : are_run_words reading.words ≡ true
   pub input : faults_of (lines_of reading.input) ≡ []
