@@ -5,7 +5,7 @@ use Rattle.library_model.specs.State.{Memory, State, empty_library, begun, new_j
 use Rattle.library_model.specs.History.{Outcome, Standing, Runs}
 use Rattle.library_core.specs.Parts.{LibraryOver}
 use Rattle.library_core.specs.Stands.{Stands, IsAt}
-use Rattle.job_script.specs.declared.scripts.Scripts.{Scripts}
+use Rattle.input_scripts.specs.declared.Scripts.{Scripts}
 use Rattle.job_runner.specs.Asked.{AreAsked}
 use Rattle.job_runner.specs.Ended.{has_ended}
 use Rattle.job_runner.specs.Made.{AreGiven}

@@ -1,12 +1,13 @@
 -- What an outcome of the command RUN is, status by status: its cause, what was read, what the jobs did, and what was written. (Our own.)
 -- Sources and sinks may tell what they have left and taken; what the jobs did is said whether they tell it or not.
-use Rattle.std.specs.Prelude.{◌≡◌, ℕ, ◌<◌, ◌≤◌, Bool, true, false, IsTrue, List, [], ◌++◌, length, take}
+use Rattle.std.specs.Prelude.{◌≡◌, ℕ, ◌<◌, ◌≤◌, Bool, true, false, IsTrue, Some, List, [], ◌++◌, length, take}
 use Rattle.text_lines.specs.Lines.{lines_of}
 use Rattle.library_model.specs.State.{State, empty_library, begun}
 use Rattle.library_model.specs.History.{Outcome, Standing, Runs}
 use Rattle.library_model.specs.declared.calls.Call.{Call}
-use Rattle.job_script.specs.declared.scripts.Scripts.{Scripts}
-use Rattle.job_script.specs.Input.{Reads, IsInput, IsFirstFault}
+use Rattle.input_scripts.specs.declared.Scripts.{Scripts}
+use Rattle.script_builder.specs.Least.{least}
+use Rattle.input_reader.specs.Input.{faults_of, input_of}
 use Rattle.library_core.specs.Stands.{IsAt}
 use Rattle.job_runner.specs.Session.{SessionOver}
 use Rattle.job_runner.specs.Asked.{AreAsked}
@@ -41,7 +42,8 @@ pub record IsRead (reading : Reading) (scripts : Scripts) : Type 0 where
   pub bytes : List ℕ
   pub whole : reading.tells → reading.input ≡ bytes
   pub short : length bytes ≤ MOST_INPUT
-  pub says : Reads (lines_of bytes) scripts
+  pub sound : faults_of (lines_of bytes) ≡ []
+  pub says : scripts ≡ input_of (lines_of bytes)
 
 -- from a start on, the calls are a legal history of the jobs of these scripts, in which each job's calls are all that its script asks
 pub record IsWholeRun (scripts : Scripts) (calls : List Call) : Type 0 where
@@ -86,7 +88,7 @@ HasRun (Damaged area at) scripts given writing = ⊥
 HasRun StoreFault scripts given writing = ⊥
 HasRun Exists scripts given writing = ⊥
 
--- the words were those of a run, the input was read to its end and is one, and the jobs of its scripts ran
+-- the words were those of a run, the input was read to its end and has no line at fault, and the jobs of its scripts ran
 pub record WasRun (status : Status) (reading : Reading) (given : List Call → Type 0) (writing : Writing) : Type 0 where
   pub words : are_run_words reading.words ≡ true
   pub left : reading.tells → reading.left ≡ []
@@ -105,10 +107,10 @@ pub record InputRefused (reading : Reading) (writing : Writing) (cause : Type 0)
   pub written : NothingWritten writing
   pub why : cause
 
--- the input was read to its end, and the line is the first at which no input goes on
+-- the input was read to its end, and the line is the first at fault
 pub record ScriptRefused (reading : Reading) (line : ℕ) : Type 0 where
   pub left : reading.left ≡ []
-  pub fault : IsFirstFault (lines_of reading.input) line
+  pub fault : least (faults_of (lines_of reading.input)) ≡ Some line
   pub short : length reading.input ≤ MOST_INPUT
 
 -- what has come about at each status; those of a store don't come yet
@@ -126,10 +128,10 @@ Comes (Damaged area at) reading given writing = ⊥
 Comes StoreFault reading given writing = ⊥
 Comes Exists reading given writing = ⊥
 
--- an input of the grammar that isn't too long
+-- an input without a line at fault that isn't too long
 pub record IsInOrder (reading : Reading) : Type 0 where
   pub words : are_run_words reading.words ≡ true
-  pub input : IsInput (lines_of reading.input)
+  pub input : faults_of (lines_of reading.input) ≡ []
   pub short : length reading.input ≤ MOST_INPUT
 
 -- a status at which the jobs of such an input ran, or that memory was wanting; or a fault came
@@ -173,7 +175,7 @@ abbrev pub Refuses : Status → Reading → Type 0
 Refuses Words reading = are_run_words reading.words ≡ false
 Refuses ReadFault reading = (are_run_words reading.words ≡ true) × reading.rose
 Refuses TooLong reading = (are_run_words reading.words ≡ true) × (reading.tells → MOST_INPUT < length reading.input)
-Refuses (Script line) reading = (are_run_words reading.words ≡ true) × (reading.tells → ScriptRefused reading line) × (reading.tells → IsInput (lines_of reading.input) → ⊥)
+Refuses (Script line) reading = (are_run_words reading.words ≡ true) × (reading.tells → ScriptRefused reading line) × (reading.tells → faults_of (lines_of reading.input) ≡ [] → ⊥)
 Refuses NoMemory reading = are_run_words reading.words ≡ true
 Refuses Done reading = ⊥
 Refuses JobsEnded reading = ⊥

@@ -119,7 +119,7 @@ HISTORY
 END 2
 ";
 
-/// A job that opens another file than the source's.
+/// A job that opens a file that isn't there.
 const OTHER_FILE: &str = "\
 //DDS CUST
      A          R CUSTR
@@ -128,6 +128,55 @@ const OTHER_FILE: &str = "\
 CRTPF FILE(CUST) SRC(CUST)
 OPNDBF FILE(OTHER) OPTION(*ALL)
 //END
+";
+
+/// Its listing.
+const NO_OTHER: &str = "\
+HISTORY
+1 J1 0 CRTPF FILE(CUST) SRC(CUST) => OK
+2 J1 1 OPNDBF FILE(OTHER) OPTION(*ALL) MBR(OTHER) OPNID(OTHER) COMMIT(*NO) ACCPTH(*FILE) => NoSuchName NAME(OTHER)
+3 J1 2 ENDJOB REASON(*ESCAPE) LINE(6) => OK
+END 3
+";
+
+/// A field of each type, a date that is none and a MONMSG that takes its refusal.
+const TYPES: &str = "\
+//DDS TYPES
+     A          R TYPESR
+     A            TEXT           5A
+     A            ZONED          5S 2
+     A            PACKED         7P 0
+     A            BINARY         4B 1
+     A            DAY             L
+     A            HOUR            T
+     A            MOMENT          Z
+//JOB J1
+CRTPF FILE(TYPES) SRC(TYPES)
+OPNDBF FILE(TYPES) OPTION(*ALL)
+WRITE OPNID(TYPES) VAL('ABC' 12.5 -1234567 99.9 +
+      '2024-02-29' '23.59.59' '2026-11-27-18.30.00.000001')
+WRITE OPNID(TYPES) VAL('DEF' 0 0 0 +
+      '2023-02-29' '00.00.00' '0001-01-01-00.00.00.000000')
+MONMSG MSGID(BadValue)
+WRITE OPNID(TYPES) VAL('it''s' -999.99 9999999 -0.5 +
+      '0001-01-01' '00.00.00' '0001-01-01-00.00.00.000000')
+CHAIN OPNID(TYPES) RRN(1) LCK(*NO)
+CHAIN OPNID(TYPES) RRN(2) LCK(*NO)
+//END
+";
+
+/// Its listing.
+const TYPES_SHOWN: &str = "\
+HISTORY
+1 J1 0 CRTPF FILE(TYPES) SRC(TYPES) => OK
+2 J1 1 OPNDBF FILE(TYPES) OPTION(*ALL) MBR(TYPES) OPNID(TYPES) COMMIT(*NO) ACCPTH(*FILE) => OK
+3 J1 2 WRITE OPNID(TYPES) FMT(*FILE) RRN(*END) VAL('ABC' 12.5 -1234567 99.9 '2024-02-29' '23.59.59' '2026-11-27-18.30.00.000001') => OK RRN(1)
+4 J1 3 WRITE OPNID(TYPES) FMT(*FILE) RRN(*END) VAL('DEF' 0 0 0 '2023-02-29' '00.00.00' '0001-01-01-00.00.00.000000') => BadValue FLD(5) CAUSE(BadDate)
+5 J1 4 WRITE OPNID(TYPES) FMT(*FILE) RRN(*END) VAL('it''s' -999.99 9999999 -0.5 '0001-01-01' '00.00.00' '0001-01-01-00.00.00.000000') => OK RRN(2)
+6 J1 5 CHAIN OPNID(TYPES) RRN(1) LCK(*NO) => OK FMT(TYPESR) RRN(1) VAL('ABC  ' 12.50 -1234567 99.9 '2024-02-29' '23.59.59' '2026-11-27-18.30.00.000001')
+7 J1 6 CHAIN OPNID(TYPES) RRN(2) LCK(*NO) => OK FMT(TYPESR) RRN(2) VAL('it''s ' -999.99 9999999 -0.5 '0001-01-01' '00.00.00' '0001-01-01-00.00.00.000000')
+8 J1 7 ENDJOB REASON(*NORMAL) LINE(0) => OK
+END 8
 ";
 
 /// Words, an input, the calls of source and sink that are to fail (0: none), the status with its line, and what is
@@ -143,7 +192,7 @@ struct Row {
 
 const RUN: &[&str] = &["RUN", "lib"];
 
-const ROWS: [Row; 15] = [
+const ROWS: [Row; 16] = [
     Row {
         words: RUN,
         input: FIRST,
@@ -189,8 +238,16 @@ const ROWS: [Row; 15] = [
         input: OTHER_FILE,
         read_fault: 0,
         write_fault: 0,
-        status: (4, 6),
-        written: "",
+        status: (10, 0),
+        written: NO_OTHER,
+    },
+    Row {
+        words: RUN,
+        input: TYPES,
+        read_fault: 0,
+        write_fault: 0,
+        status: (0, 0),
+        written: TYPES_SHOWN,
     },
     Row {
         words: &["RUN"],
@@ -273,6 +330,65 @@ const BYTES: [(&[u8], u32); 5] = [
     (b"//JOB J1\0\n//END\n", 1),
     (b"//JOB J1\r\n//END\n", 1),
     (b"//JOB J1\n//END\r\n", 2),
+];
+
+/// The lines of the first input.
+const LINES: [&str; 9] = [
+    "//DDS CUST",
+    "     A          R CUSTR",
+    "     A            NAME           5A",
+    "//JOB J1",
+    "CRTPF FILE(CUST) SRC(CUST)",
+    "OPNDBF FILE(CUST) OPTION(*ALL)",
+    "WRITE OPNID(CUST) VAL('ABC')",
+    "CHAIN OPNID(CUST) RRN(1) LCK(*NO)",
+    "//END",
+];
+
+/// A line of the first input, what stands there in its place, and the line at fault.
+const FAULTS: [(usize, &str, u32); 29] = [
+    (1, "", 1),
+    (1, "//DDS", 1),
+    (1, "//DDSCUST", 1),
+    (1, "//DDS 1A", 1),
+    (1, "//DDS CUST X", 1),
+    (1, "//DDS CUSTOMERS12", 1),
+    (1, "//dds CUST", 1),
+    (1, " //DDS CUST", 1),
+    (1, "//DDS CUST\r", 1),
+    (1, "//END", 2),
+    (1, "//JOB J1", 2),
+    (4, "//JOB", 4),
+    (4, "//JOB J1 J2", 4),
+    (5, "CRTPF FILE(CUST)", 5),
+    (6, "OPNDBF FILE(1A)", 6),
+    (7, "WRITE OPNID(CUST) VAL()", 7),
+    (7, "WRITE OPNID(CUST) VAL('ABC)", 7),
+    (7, "WRITE OPNID(CUST) VAL('A'B')", 7),
+    (7, "WRITE OPNID(CUST) VAL('A\tB')", 7),
+    (7, "WRITE OPNID(CUST) VAL(X'C1C')", 7),
+    (7, "WRITE OPNID(CUST) VAL(X'G1')", 7),
+    (8, "CHAIN OPNID(CUST) RRN() LCK(*NO)", 8),
+    (8, "CHAIN OPNID(CUST) RRN(-1) LCK(*NO)", 8),
+    (8, "CHAIN OPNID(CUST) RRN(4294967296) LCK(*NO)", 8),
+    (8, "CHAIN OPNID(CUST) RRN(1) LCK(*DFT)", 8),
+    (8, "UPDATE OPNID(CUST) VAL('A')", 8),
+    (9, "//END ", 9),
+    (9, "//end", 9),
+    (9, "//END\n", 10),
+];
+
+/// A line of the first input, and what may stand there in its place without a fault.
+const VARIANTS: [(usize, &str, u32); 9] = [
+    (1, "//DDS \t CUST \t", 0),
+    (4, "//JOB\t@J_.9", 0),
+    (5, "", 0),
+    (5, "/* a comment */", 0),
+    (5, "CRTPF SRC(CUST) FILE(CUST)", 0),
+    (6, "OPNDBF FILE(CUST) +\n   OPTION(*ALL)", 0),
+    (7, "WRITE OPNID(CUST) VAL('ABCDEF')", 0),
+    (7, "WRITE  OPNID(CUST)  VAL( X'00fFA1b2C3' )", 0),
+    (8, "CHAIN OPNID(CUST) RRN(4294967295) LCK(*NO)", 0),
 ];
 
 /// The text of each status.
@@ -365,6 +481,58 @@ fn bytes_that_are_no_text_are_at_fault(rt: HostRuntime) -> Result<(), Fail> {
         let status = refusal(&rt, rt.alloc(), bytes)?;
         assert_eq!(rt; (status.number(), line_of(status)), (4, line));
     }
+    Ok(())
+}
+
+/// The first input with other text in place of a line.
+fn with_line(alloc: Global, place: usize, text: &str) -> Result<String, AllocError> {
+    let mut input = String::new(alloc);
+    let mut number = 1usize;
+    for line in LINES {
+        input.push_str(if number == place { text } else { line })?;
+        input.push_str("\n")?;
+        number = number.wrapping_add(1);
+    }
+    Ok(input)
+}
+
+/// The line at fault of an input, 0 where there is none.
+fn fault_of(alloc: Global, text: &str) -> Result<u32, AllocError> {
+    let words = words_of(alloc, RUN)?;
+    let mut input = MemorySource::over(alloc, text.as_bytes())?;
+    let mut out = MemorySink::new(alloc);
+    let (status, _, _) = run_alone(
+        alloc,
+        words.as_slice(),
+        MemoryStore::new(alloc),
+        &mut input,
+        &mut out,
+        StepClock::new(),
+    );
+    Ok(line_of(status))
+}
+
+/// Each row in place of its line has its fault.
+fn faults_agree(
+    rt: &impl Abort,
+    alloc: Global,
+    rows: &[(usize, &'static str, u32)],
+) -> Result<(), AllocError> {
+    for (place, text, line) in rows {
+        let input = with_line(alloc, *place, text)?;
+        assert_eq!(rt;
+            fault_of(alloc, input.as_str())?,
+            *line,
+            "line {place} as {text:?}"
+        );
+    }
+    Ok(())
+}
+
+#[test]
+fn faults_have_their_lines(rt: HostRuntime) -> Result<(), Fail> {
+    faults_agree(&rt, rt.alloc(), &FAULTS)?;
+    faults_agree(&rt, rt.alloc(), &VARIANTS)?;
     Ok(())
 }
 

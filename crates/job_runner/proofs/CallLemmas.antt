@@ -1,18 +1,16 @@
 -- What calls more make of a history: of a job's own calls, of what was asked, and of where the calls lead.
-use Rattle.std.proofs.Common.{◌≡◌, ◌≢◌, ℕ, ◌+◌, ◌-◌, ◌<◌, ◌≤◌, Bool, true, false, not, ◌&&◌, ◌==◌, IsTrue, get_or, unwrap_or, Result, Ok, Err, IfOk, Option, Some, None, List, [], ◌∷◌, ◌++◌, length, map, filter, slice_get, zero, suc, refl, sym, ◌∙◌, ap, subst, arith, rules, append_assoc, append-nil}
+use Rattle.std.proofs.Common.{◌≡◌, ◌≢◌, ℕ, ◌-◌, ◌<◌, ◌≤◌, Bool, true, not, ◌&&◌, IsTrue, get_or, unwrap_or, Result, Ok, Err, IfOk, Option, Some, List, [], ◌∷◌, ◌++◌, length, map, slice_get, zero, suc, refl, sym, ◌∙◌, ap, subst, arith, rules, append_assoc, append-nil}
 use Rattle.std.proofs.lemmas.Option.{slice_get-get_or}
 use Rattle.std.specs.List.{list_all}
 use Rattle.std.proofs.lemmas.Grind.{common_steps}
 use Rattle.std.proofs.lemmas.Bool.Decides.{nat_tests}
 use Rattle.library_model.specs.declared.calls.Call.{Call}
-use Rattle.library_model.specs.declared.replies.Reply.{Reply}
 use Rattle.library_model.specs.declared.sources.NamedSource.{NamedSource}
 use Rattle.library_model.specs.Running.{is_end_job}
 use Rattle.library_model.specs.History.{Outcome, Standing, Failed, Runs}
-use Rattle.job_script.specs.declared.scripts.Statement.{Statement}
-use Rattle.job_script.specs.Asks.{last_of}
+use Rattle.job_language.specs.declared.statements.Script.{Script}
 use Rattle.job_runner.specs.Ended.{calls_of, ends_once}
-use Rattle.job_runner.specs.Asked.{asked, AreAsked, script_of}
+use Rattle.job_runner.specs.Asked.{AreAsked, script_of, no_script}
 
 pub calls_of-append_same : (job : ℕ) (calls : List Call) (call : Call) → call.job ≡ job → calls_of job (calls ++ call ∷ []) ≡ calls_of job calls ++ call ∷ []
 calls_of-append_same job [] call same = grind (arith, nat_tests)
@@ -30,11 +28,6 @@ ends_once-append (first ∷ next ∷ own) call open_ended = grind (arith, common
 pub list_all-append_one : {X : Type 0} (p : X → Bool) (xs : List X) (x : X) → list_all p (xs ++ x ∷ []) ≡ (list_all p xs && p x)
 list_all-append_one p [] x = grind (arith, common_steps)
 list_all-append_one p (first ∷ xs) x = grind (arith, common_steps, list_all-append_one p xs x)
-
-pub last_of-append : (own : List Call) (call : Call) → last_of (map (λ c. c.reply) (own ++ call ∷ [])) ≡ Some call.reply
-last_of-append [] call = refl
-last_of-append (first ∷ []) call = refl
-last_of-append (first ∷ next ∷ own) call = last_of-append (next ∷ own) call
 
 pub replies-append : (own : List Call) (call : Call) → map (λ c. c.reply) (own ++ call ∷ []) ≡ map (λ c. c.reply) own ++ call.reply ∷ []
 replies-append [] call = refl
@@ -56,23 +49,23 @@ Runs-append sources (Standing s) mid to (call ∷ made) more front back =
     (front.0, front.1, front.2, Runs-append sources front.1 mid to made more front.3 back)
 Runs-append sources (Failed journal) mid to (call ∷ made) more front back = absurd front
 
-pub AreAsked-append : (scripts : List (List Statement)) (before made more : List Call) → AreAsked scripts before made → AreAsked scripts (before ++ made) more → AreAsked scripts before (made ++ more)
+pub AreAsked-append : (scripts : List Script) (before made more : List Call) → AreAsked scripts before made → AreAsked scripts (before ++ made) more → AreAsked scripts before (made ++ more)
 AreAsked-append scripts before [] more front back = rw append-nil at back
 AreAsked-append scripts before (call ∷ made) more front back =
     (front.0, AreAsked-append scripts (before ++ call ∷ []) made more front.1 (rw append_assoc back))
 
 -- the script that stands at a job's place
-pub script_of-at : (given scripts : List (List Statement)) (job : ℕ) (script : List Statement) → given ≡ scripts → (1 ≤ job) × (job ≤ length scripts) → script ≡ get_or given (job - 1) script → script ≡ script_of scripts job
+pub script_of-at : (given scripts : List Script) (job : ℕ) (script : Script) → given ≡ scripts → (1 ≤ job) × (job ≤ length scripts) → script ≡ get_or given (job - 1) script → script ≡ script_of scripts job
 script_of-at given scripts job script same within here =
     let inside : job - 1 < length scripts = omega arith in
     let there : script ≡ get_or scripts (job - 1) script = rw (← same) here in
-    there ∙ sym (ap (λ (o : Option (List Statement)). unwrap_or o []) (slice_get-get_or scripts (job - 1) script inside))
+    there ∙ sym (ap (λ (o : Option Script). unwrap_or o no_script) (slice_get-get_or scripts (job - 1) script inside))
 
 -- what holds of each script holds of a job's
-pub list_all-script_of : (p : List Statement → Bool) (scripts : List (List Statement)) (job : ℕ) → p [] ≡ true → IsTrue (list_all p scripts) → IsTrue (p (script_of scripts job))
+pub list_all-script_of : (p : Script → Bool) (scripts : List Script) (job : ℕ) → p no_script ≡ true → IsTrue (list_all p scripts) → IsTrue (p (script_of scripts job))
 list_all-script_of p scripts job none all = at_place p scripts (job - 1) none all
   where
-    at_place : (p : List Statement → Bool) (scripts : List (List Statement)) (place : ℕ) → p [] ≡ true → IsTrue (list_all p scripts) → IsTrue (p (unwrap_or (slice_get scripts place) []))
+    at_place : (p : Script → Bool) (scripts : List Script) (place : ℕ) → p no_script ≡ true → IsTrue (list_all p scripts) → IsTrue (p (unwrap_or (slice_get scripts place) no_script))
     at_place p [] place none all = rw none (search rules)
     at_place p (script ∷ scripts) zero none all = grind (arith, all)
     at_place p (script ∷ scripts) (suc place) none all = at_place p scripts place none (grind (arith, all))

@@ -1,3 +1,4 @@
 pub mod CallLemmas
 pub mod MadeLemmas
 pub mod PlaceLemmas
+pub mod ProgressLemmas

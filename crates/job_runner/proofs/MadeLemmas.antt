@@ -1,12 +1,12 @@
 -- What more calls make of those that a session made before: they lead on, their timestamps follow, and their jobs stay in order.
-use Rattle.std.proofs.Common.{◌≡◌, ◌≤◌, ℕ, ◌+◌, false, true, IsTrue, List, [], ◌∷◌, ◌++◌, refl, sym, ◌∙◌, ap, subst, arith, append_assoc, append-nil}
+use Rattle.std.proofs.Common.{◌≡◌, ◌≤◌, ℕ, ◌+◌, false, IsTrue, List, [], ◌∷◌, ◌++◌, refl, sym, ◌∙◌, ap, subst, arith, append_assoc, append-nil}
 use Rattle.std.specs.List.{AllByRecursion}
 use Rattle.library_model.specs.declared.calls.Call.{Call}
 use Rattle.library_model.specs.State.{Memory, State, job_at}
 use Rattle.library_model.specs.Running.{is_running}
 use Rattle.library_model.specs.History.{Outcome, Standing, Failed, Runs}
 use Rattle.library_core.specs.Stands.{Stands, IsAt, Goes}
-use Rattle.job_script.specs.declared.scripts.Scripts.{Scripts}
+use Rattle.input_scripts.specs.declared.Scripts.{Scripts}
 use Rattle.job_runner.specs.Asked.{asked, AreAsked}
 use Rattle.job_runner.specs.Made.{AreGiven, AreOf, AreInOrder}
 use Rattle.job_runner.specs.Session.{SessionOver, HasMade}

@@ -1,10 +1,9 @@
 -- What one call more makes of the places that a session keeps.
-use Rattle.std.proofs.Common.{◌≡◌, ◌≢◌, ℕ, ◌+◌, ◌-◌, ◌<◌, ◌≤◌, Bool, true, false, not, ◌&&◌, ◌==◌, IsTrue, if◌then◌else◌, Option, Some, None, List, [], ◌∷◌, ◌++◌, length, map, slice_get, slice_set, zero, suc, refl, sym, ◌∙◌, ap, subst, arith, rules, length-append, get_or, replicate, Result, Ok, Err, OnOk}
-use Rattle.std.specs.Prelude.{count_by}
+use Rattle.std.proofs.Common.{◌≡◌, ◌≢◌, ℕ, ◌+◌, ◌-◌, ◌<◌, ◌≤◌, Bool, true, false, not, ◌==◌, IsTrue, if◌then◌else◌, Option, Some, None, List, [], ◌∷◌, ◌++◌, length, map, slice_get, slice_set, zero, suc, refl, sym, ◌∙◌, ap, subst, arith, rules, length-append, get_or, unwrap_or, Result, Ok, Err, OnOk}
 use Rattle.std.specs.List.{list_all, AllByRecursion}
 use Rattle.std.specs.Result.{is_ok, is_err}
 use Rattle.std.proofs.lemmas.Grind.{common_steps}
-use Rattle.std.proofs.lemmas.List.{length-replicate}
+use Rattle.std.proofs.lemmas.List.{length-map}
 use Rattle.std.proofs.lemmas.Option.{slice_get-get_or}
 use Rattle.std.proofs.lemmas.Bool.Decides.{nat_tests}
 use Rattle.library_model.specs.declared.calls.Call.{Call}
@@ -14,57 +13,57 @@ use Rattle.library_model.specs.declared.limits.TheConstants.{MOST_JOBS}
 use Rattle.library_model.specs.State.{Memory, JobState, job_at, new_job}
 use Rattle.library_model.specs.Running.{is_running, is_end_job, runs_after}
 use Rattle.library_model.specs.Joint.{IsJoint, IsIdle}
-use Rattle.job_script.specs.declared.scripts.Statement.{Statement}
-use Rattle.job_script.specs.declared.scripts.Scripts.{Scripts}
-use Rattle.job_script.specs.Progress.{IsProgress, statements_left}
-use Rattle.job_script.specs.Ready.{is_askable_script}
+use Rattle.input_scripts.specs.declared.Scripts.{Scripts}
+use Rattle.input_scripts.specs.Askable.{is_askable_script}
+use Rattle.job_language.specs.declared.statements.Script.{Script}
+use Rattle.job_language.specs.declared.progress.TheConstants.{MOST_STATEMENTS}
+use Rattle.job_language.specs.Asks.{JobState as ScriptState}
 use Rattle.job_runner.specs.declared.session.Stepped.{Stepped}
 use Rattle.job_runner.specs.declared.session.Stepped.TheVariants.{Ended}
 use Rattle.job_runner.specs.declared.session.Place.{Place}
-use Rattle.job_runner.specs.Ended.{calls_of, replies_of, ends_once, has_ended}
-use Rattle.job_runner.specs.Asked.{script_of}
+use Rattle.job_runner.specs.Ended.{calls_of, replies_of, has_ended}
+use Rattle.job_runner.specs.Asked.{script_of, no_script}
 use Rattle.job_runner.specs.Session.{remaining}
-use Rattle.job_runner.specs.Places.{IsLastCall, GoesOn, IsPlace, IsSession, unended, first_place}
-use Rattle.job_runner.proofs.CallLemmas.{calls_of-append_same, calls_of-append_other, ends_once-append, list_all-append_one, last_of-append, replies-append, slice_get-append, slice_get-append_last}
+use Rattle.job_runner.specs.Places.{IsWaiting, HasAsked, GoesOn, IsPlace, IsSession, unended, first_place}
+use Rattle.job_runner.proofs.CallLemmas.{calls_of-append_same, calls_of-append_other, ends_once-append, list_all-append_one, replies-append, slice_get-append, slice_get-append_last}
+use Rattle.job_runner.proofs.ProgressLemmas.{IsProgress-first, IsProgress-called}
 
-IsLastCall-append : (last : Option ℕ) (calls own : List Call) (call : Call) → IsLastCall last calls own → IsLastCall last (calls ++ call ∷ []) own
-IsLastCall-append None calls own call is = is
-IsLastCall-append (Some place) calls own call is = (is.0, slice_get-append calls place is.0 call is.1, is.2)
+IsWaiting-append : (waiting : Option ℕ) (calls : List Call) (reply : Option Reply) (call : Call) → IsWaiting waiting calls reply → IsWaiting waiting (calls ++ call ∷ []) reply
+IsWaiting-append None calls reply call is = is
+IsWaiting-append (Some place) calls reply call is = (is.0, slice_get-append calls place is.0 call is.1, is.2)
 
 -- a call of another job leaves a job's place
-IsPlace-other : (scripts : List (List Statement)) (jobs later : List JobState) (calls : List Call) (job : ℕ) (place : Place) (call : Call) → IsPlace scripts jobs calls job place → call.job ≢ job → is_running (job_at job later) ≡ is_running (job_at job jobs) → IsPlace scripts later (calls ++ call ∷ []) job place
+IsPlace-other : (scripts : List Script) (jobs later : List JobState) (calls : List Call) (job : ℕ) (place : Place) (call : Call) → IsPlace scripts jobs calls job place → call.job ≢ job → is_running (job_at job later) ≡ is_running (job_at job jobs) → IsPlace scripts later (calls ++ call ∷ []) job place
 IsPlace-other scripts jobs later calls job place call is other runs =
     let own = calls_of-append_other job calls call other in
     record {
-      last = rw own (IsLastCall-append place.last calls (calls_of job calls) call is.last);
       ended = rw own is.ended;
       running = runs ∙ is.running;
-      goes_on = rw own is.goes_on;
+      goes_on = λ open_ended.
+          let on = is.goes_on open_ended in
+          rw own (record { no_end = on.no_end; reply = on.reply; waits = IsWaiting-append place.waiting calls on.reply call on.waits; stands = on.stands });
     }
 
 no_end-append : (own : List Call) (call : Call) → IsTrue (list_all (λ c. not (is_end_job c.request)) own) → is_end_job call.request ≡ false → IsTrue (list_all (λ c. not (is_end_job c.request)) (own ++ call ∷ []))
 no_end-append own call all goes_on = rw (list_all-append_one (λ c. not (is_end_job c.request)) own call) (grind (arith, common_steps))
 
--- a job's progress after a call of it: what it asked and what it was answered move it on
-abbrev pub MovesOn : List (List Statement) → ℕ → List Call → Request → ℕ → Type 0
-MovesOn scripts job calls request progress = is_end_job request ≡ false → (reply : Reply) → IsProgress (script_of scripts job) progress (replies_of job calls ++ reply ∷ [])
-
 -- what a call of a job makes of its place
-abbrev pub place_after : ℕ → List Call → Call → Place
-place_after progress calls call = record { progress = progress; last = Some (length calls); ended = is_end_job call.request }
+abbrev pub place_after : ScriptState → List Call → Call → Place
+place_after progress calls call = record { progress = progress; waiting = Some (length calls); ended = is_end_job call.request }
 
 -- a call of the job itself moves it on
-IsPlace-same : (scripts : List (List Statement)) (jobs later : List JobState) (calls : List Call) (job progress : ℕ) (place : Place) (call : Call) → IsPlace scripts jobs calls job place → place.ended ≡ false → call.job ≡ job → MovesOn scripts job calls call.request progress → is_running (job_at job later) ≡ not (is_end_job call.request) → IsPlace scripts later (calls ++ call ∷ []) job (place_after progress calls call)
+IsPlace-same : (scripts : List Script) (jobs later : List JobState) (calls : List Call) (job : ℕ) (progress : ScriptState) (place : Place) (call : Call) → IsPlace scripts jobs calls job place → place.ended ≡ false → call.job ≡ job → HasAsked (script_of scripts job) (replies_of job calls) call.request progress → is_running (job_at job later) ≡ not (is_end_job call.request) → IsPlace scripts later (calls ++ call ∷ []) job (place_after progress calls call)
 IsPlace-same scripts jobs later calls job progress place call is runs same moves after =
     let own = calls_of-append_same job calls call same in
     let open_ended = (is.goes_on runs).no_end in
     record {
-      last = rw own (call, slice_get-append_last calls call, last_of-append (calls_of job calls) call);
       ended = rw own (sym (ends_once-append (calls_of job calls) call open_ended));
       running = after;
       goes_on = λ goes_on. rw own (record {
         no_end = no_end-append (calls_of job calls) call open_ended goes_on;
-        stands = rw (replies-append (calls_of job calls) call) (moves goes_on call.reply);
+        reply = Some call.reply;
+        waits = (call, slice_get-append_last calls call, refl);
+        stands = rw (replies-append (calls_of job calls) call) (IsProgress-called (script_of scripts job) (replies_of job calls) call.request progress call.reply moves goes_on);
       });
     }
 
@@ -99,13 +98,13 @@ runs_after-other : (job : ℕ) (r : Request) (jobs : List JobState) (other : ℕ
 runs_after-other job r jobs other apart = grind (arith, nat_tests, common_steps)
 
 -- a session, a job of it that has not ended, and what a call of that job has made of both
-pub record Called (scripts : Scripts) (old new : Memory) (calls : List Call) (room : ℕ) (kept : List Place) (job progress : ℕ) (place : Place) (call : Call) : Type 0 where
+pub record Called (scripts : Scripts) (old new : Memory) (calls : List Call) (room : ℕ) (kept : List Place) (job : ℕ) (progress : ScriptState) (place : Place) (call : Call) : Type 0 where
   pub is : IsSession scripts old calls room kept
   pub from : 1 ≤ job
   pub here : slice_get kept (job - 1) ≡ Some place
   pub runs : place.ended ≡ false
   pub same : call.job ≡ job
-  pub moves : MovesOn scripts.scripts job calls call.request progress
+  pub moves : HasAsked (script_of scripts.scripts job) (replies_of job calls) call.request progress
   pub after : (other : ℕ) → is_running (job_at other new.jobs) ≡ runs_after job call.request old.jobs other
 
 -- the place of a job, by its number
@@ -120,7 +119,7 @@ runs-still scripts memory calls room kept job place is from here runs =
     let before = place-is scripts memory calls room kept job place is from here in
     rw (before.running, runs) refl
 
-module _ (scripts : Scripts) (old new : Memory) (calls : List Call) (room : ℕ) (kept : List Place) (job progress : ℕ) (place : Place) (call : Call) (called : Called scripts old new calls room kept job progress place call) where
+module _ (scripts : Scripts) (old new : Memory) (calls : List Call) (room : ℕ) (kept : List Place) (job : ℕ) (progress : ScriptState) (place : Place) (call : Call) (called : Called scripts old new calls room kept job progress place call) where
   kept-own : (at : ℕ) (found : Place) → at ≡ job - 1 → slice_get (slice_set kept (job - 1) (place_after progress calls call)) at ≡ Some found → IsPlace scripts.scripts new.jobs (calls ++ call ∷ []) (at + 1) found
   kept-own at found own there =
       let before = place-is scripts old calls room kept job place called.is called.from called.here in
@@ -160,7 +159,7 @@ module _ (scripts : Scripts) (old new : Memory) (calls : List Call) (room : ℕ)
       enough = omega (arith, fits, unended-set kept (job - 1) place (place_after progress calls call) called.here called.runs)
 
 -- the same with the parts of the next place as the code has them
-pub IsSession-next : (scripts : Scripts) (old new : Memory) (calls later : List Call) (room left : ℕ) (kept : List Place) (job progress : ℕ) (place : Place) (call : Call) (at : ℕ) (ended : Bool) → Called scripts old new calls room kept job progress place call → IsJoint new → later ≡ calls ++ call ∷ [] → at ≡ length calls → ended ≡ is_end_job call.request → unended kept ≤ left + (if is_end_job call.request then 1 else 0) → IsSession scripts new later left (slice_set kept (job - 1) (record { progress = progress; last = Some at; ended = ended }))
+pub IsSession-next : (scripts : Scripts) (old new : Memory) (calls later : List Call) (room left : ℕ) (kept : List Place) (job : ℕ) (progress : ScriptState) (place : Place) (call : Call) (at : ℕ) (ended : Bool) → Called scripts old new calls room kept job progress place call → IsJoint new → later ≡ calls ++ call ∷ [] → at ≡ length calls → ended ≡ is_end_job call.request → unended kept ≤ left + (if is_end_job call.request then 1 else 0) → IsSession scripts new later left (slice_set kept (job - 1) (record { progress = progress; waiting = Some at; ended = ended }))
 IsSession-next scripts old new calls later room left kept job progress place call at ended called joint more stands ends fits =
     rw (more, stands, ends) (IsSession-called scripts old new calls room kept job progress place call called left joint fits)
 
@@ -185,30 +184,48 @@ place-here scripts memory calls room kept job place is within at =
     let inside : job - 1 < length kept = omega (arith, is.jobs, within) in
     slice_get-get_or kept (job - 1) place inside ∙ ap (λ (p : Place). Some p) (sym at)
 
--- a place that was set as it was leaves the session
-pub slice_set-here : {X : Type 0} (xs : List X) (at : ℕ) (x : X) → slice_get xs at ≡ Some x → slice_set xs at x ≡ xs
-slice_set-here [] at x there = refl
-slice_set-here (first ∷ xs) zero x there = cc
-slice_set-here (first ∷ xs) (suc at) x there = ap (λ rest. first ∷ rest) (slice_set-here xs at x there)
+-- what is kept of a job that made no call: the session as it was, with more room
+IsPlace-still : (scripts : List Script) (jobs : List JobState) (calls : List Call) (job : ℕ) (place next : Place) → IsPlace scripts jobs calls job place → next.ended ≡ place.ended → GoesOn (script_of scripts job) calls (calls_of job calls) next → IsPlace scripts jobs calls job next
+IsPlace-still scripts jobs calls job place next is same on = record { ended = same ∙ is.ended; running = rw same is.running; goes_on = λ open_ended. on }
 
--- the session as it was, with more room
-pub IsSession-same : (scripts : Scripts) (memory : Memory) (calls later : List Call) (room more : ℕ) (kept : List Place) (job : ℕ) (place next : Place) → IsSession scripts memory calls room kept → slice_get kept (job - 1) ≡ Some place → later ≡ calls → room ≤ more → next ≡ place → IsSession scripts memory later more (slice_set kept (job - 1) next)
-IsSession-same scripts memory calls later room more kept job place next is here same enough as_before =
-    let fits : unended kept ≤ more = omega (arith, is.enough, enough) in
-    rw (same, as_before, slice_set-here kept (job - 1) place here) (record { joint = is.joint; askable = is.askable; jobs = is.jobs; few = is.few; enough = fits; places = is.places })
+pub IsSession-same : (scripts : Scripts) (memory : Memory) (calls later : List Call) (room more : ℕ) (kept : List Place) (job : ℕ) (place next : Place) → IsSession scripts memory calls room kept → 1 ≤ job → slice_get kept (job - 1) ≡ Some place → later ≡ calls → room ≤ more → place.ended ≡ false → next.ended ≡ place.ended → GoesOn (script_of scripts.scripts job) calls (calls_of job calls) next → IsSession scripts memory later more (slice_set kept (job - 1) next)
+IsSession-same scripts memory calls later room more kept job place next is from here same enough runs still on =
+    rw same (record {
+      joint = is.joint;
+      askable = is.askable;
+      jobs = length-slice_set kept (job - 1) next ∙ is.jobs;
+      few = is.few;
+      enough = few;
+      places = λ at found there. by-place at found there (at == (job - 1)) refl;
+    })
+  where
+    few : unended (slice_set kept (job - 1) next) ≤ more
+    few = let set = unended-set kept (job - 1) place next here runs in omega (arith, set, is.enough, enough)
+
+    by-place : (at : ℕ) (found : Place) → slice_get (slice_set kept (job - 1) next) at ≡ Some found → (own : Bool) → (at == (job - 1)) ≡ own → IsPlace scripts.scripts memory.jobs calls (at + 1) found
+    by-place at found there true own =
+        let here_at : at ≡ job - 1 = grind (arith, nat_tests) in
+        let it = slice_get-slice_set_same kept (job - 1) place next found here (rw here_at at there) in
+        let at_job : at + 1 ≡ job = omega (arith, here_at, from) in
+        rw (it, at_job) (IsPlace-still scripts.scripts memory.jobs calls job place next (place-is scripts memory calls room kept job place is from here) still on)
+    by-place at found there false other =
+        let apart : at ≢ job - 1 = grind (arith, nat_tests) in
+        is.places at found (sym (slice_get-slice_set_other kept (job - 1) at next apart) ∙ there)
 
 -- a call brings the job nearer to its end
-pub remaining-called : (scripts : List (List Statement)) (jobs : List JobState) (calls later : List Call) (job : ℕ) (place : Place) (call : Call) → IsPlace scripts jobs calls job place → place.ended ≡ false → call.job ≡ job → (is_end_job call.request ≡ false → (reply : Reply) → statements_left (script_of scripts job) (replies_of job calls ++ reply ∷ []) < statements_left (script_of scripts job) (replies_of job calls)) → later ≡ calls ++ call ∷ [] → remaining scripts job later < remaining scripts job calls
-remaining-called scripts jobs calls later job place call is runs same nearer more =
+pub remaining-called : (scripts : List Script) (jobs : List JobState) (calls later : List Call) (job : ℕ) (place : Place) (progress : ScriptState) (call : Call) → IsPlace scripts jobs calls job place → place.ended ≡ false → call.job ≡ job → HasAsked (script_of scripts job) (replies_of job calls) call.request progress → later ≡ calls ++ call ∷ [] → remaining job later < remaining job calls
+remaining-called scripts jobs calls later job place progress call is runs same asked more =
     let before : has_ended job calls ≡ false = sym is.ended ∙ runs in
     let own = calls_of-append_same job calls call same in
-    let open_ended = (is.goes_on runs).no_end in
-    let after : has_ended job later ≡ is_end_job call.request = rw (more, own) (ends_once-append (calls_of job calls) call open_ended) in
-    let replies : replies_of job later ≡ replies_of job calls ++ call.reply ∷ [] = rw (more, own) (replies-append (calls_of job calls) call) in
-    rw (after, before, replies)
-    (elim (is_end_job call.request) as (λ b. is_end_job call.request ≡ b → (if b then 0 else statements_left (script_of scripts job) (replies_of job calls ++ call.reply ∷ []) + 1) < statements_left (script_of scripts job) (replies_of job calls) + 1) [
-      | true ↦ λ ends. omega arith
-      | false ↦ λ goes_on. let less = nearer goes_on call.reply in omega (arith, less)
+    let on = is.goes_on runs in
+    let after : has_ended job later ≡ is_end_job call.request = rw (more, own) (ends_once-append (calls_of job calls) call on.no_end) in
+    let many : length (calls_of job later) ≡ length (calls_of job calls) + 1 = rw (more, own) (length-append (calls_of job calls) (call ∷ [])) in
+    let had : length (replies_of job calls) ≡ length (calls_of job calls) = length-map (calls_of job calls) (λ c. c.reply) in
+    let few : length (replies_of job calls) ≤ MOST_STATEMENTS = omega (arith, on.stands.counted) in
+    rw (after, before, many)
+    (elim (is_end_job call.request) as (λ b. is_end_job call.request ≡ b → (if b then 0 else MOST_STATEMENTS + 1 - (length (calls_of job calls) + 1)) < MOST_STATEMENTS + 1 - length (calls_of job calls)) [
+      | true ↦ λ ends. omega (arith, had, few)
+      | false ↦ λ goes_on. let counted = asked.counted goes_on in omega (arith, had, counted)
     ] refl)
 
 -- whether a job's step says that it has ended
@@ -222,10 +239,10 @@ ended-else r h apart is = (λ e. absurd (apart e), λ t. absurd (clash h t is))
     clash b t f = cc
 
 -- a session in which no call was made
-first-places : (jobs at : ℕ) (place : Place) → slice_get (replicate jobs first_place) at ≡ Some place → (at < jobs) × (place ≡ first_place)
-first-places zero at place there = absurd cc
-first-places (suc jobs) zero place there = (omega arith, cc)
-first-places (suc jobs) (suc at) place there = let rest = first-places jobs at place there in (omega (arith, rest.0), rest.1)
+first-places : (scripts : List Script) (at : ℕ) (place : Place) → slice_get (map first_place scripts) at ≡ Some place → (script : Script) × (slice_get scripts at ≡ Some script) × (at < length scripts) × (place ≡ first_place script)
+first-places [] at place there = absurd cc
+first-places (script ∷ scripts) zero place there = (script, refl, omega arith, cc)
+first-places (script ∷ scripts) (suc at) place there = let rest = first-places scripts at place there in (rest.0, rest.1, omega (arith, rest.2), rest.3)
 
 begun-runs : (names : List (List ℕ)) (at : ℕ) → at < length names → is_running (slice_get (map new_job names) at) ≡ true
 begun-runs [] at within = absurd (omega arith)
@@ -235,28 +252,32 @@ begun-runs (name ∷ names) (suc at) within = begun-runs names at (omega arith)
 job-runs : (names : List (List ℕ)) (at : ℕ) → at < length names → is_running (job_at (at + 1) (map new_job names)) ≡ true
 job-runs names at within = let here = begun-runs names at within in grind (arith, nat_tests, here)
 
-first-place-is : (scripts : Scripts) (jobs : List JobState) (at : ℕ) (place : Place) → jobs ≡ map new_job scripts.names → length scripts.names ≡ length scripts.scripts → at < length scripts.scripts → place ≡ first_place → IsPlace scripts.scripts jobs [] (at + 1) place
-first-place-is scripts jobs at place begun named within fresh = rw (fresh, begun) (record {
-  last = refl;
+script-at : (scripts : List Script) (at : ℕ) (script : Script) → slice_get scripts at ≡ Some script → script_of scripts (at + 1) ≡ script
+script-at scripts at script there =
+    let number : at + 1 - 1 ≡ at = omega arith in
+    ap (λ n. unwrap_or (slice_get scripts n) no_script) number ∙ ap (λ (found : Option Script). unwrap_or found no_script) there
+
+first-place-is : (scripts : Scripts) (jobs : List JobState) (at : ℕ) (place : Place) (script : Script) → jobs ≡ map new_job scripts.names → length scripts.names ≡ length scripts.scripts → slice_get scripts.scripts at ≡ Some script → at < length scripts.scripts → place ≡ first_place script → IsPlace scripts.scripts jobs [] (at + 1) place
+first-place-is scripts jobs at place script begun named there within fresh = rw (fresh, begun) (record {
   ended = refl;
   running = job-runs scripts.names at (omega (arith, named, within));
-  goes_on = λ e. record { no_end = search rules; stands = refl };
+  goes_on = λ e. record { no_end = search rules; reply = None; waits = refl; stands = rw (script-at scripts.scripts at script there) (IsProgress-first script) };
 })
 
 idle-new : (names : List (List ℕ)) → AllByRecursion IsIdle (map new_job names)
 idle-new [] = tt
 idle-new (name ∷ names) = (λ e. refl, idle-new names)
 
-pub IsSession-first : (scripts : Scripts) (memory : Memory) (room : ℕ) (kept : List Place) → memory.jobs ≡ map new_job scripts.names → IsTrue (list_all is_askable_script scripts.scripts) → length scripts.names ≡ length scripts.scripts → length scripts.scripts ≤ MOST_JOBS → MOST_JOBS ≤ room → kept ≡ replicate (length scripts.scripts) first_place → IsSession scripts memory [] room kept
+pub IsSession-first : (scripts : Scripts) (memory : Memory) (room : ℕ) (kept : List Place) → memory.jobs ≡ map new_job scripts.names → IsTrue (list_all is_askable_script scripts.scripts) → length scripts.names ≡ length scripts.scripts → length scripts.scripts ≤ MOST_JOBS → MOST_JOBS ≤ room → kept ≡ map first_place scripts.scripts → IsSession scripts memory [] room kept
 IsSession-first scripts memory room kept begun askable named few enough fresh =
-    let many : length kept ≡ length scripts.scripts = rw fresh (length-replicate (length scripts.scripts) first_place) in
+    let many : length kept ≡ length scripts.scripts = rw fresh (length-map scripts.scripts first_place) in
     record {
       joint = record { idle = rw begun (idle-new scripts.names) };
       askable = askable;
       jobs = many;
       few = few;
       enough = omega (arith, unended-most kept, many, few, enough);
-      places = λ at place there. let first = first-places (length scripts.scripts) at place (rw fresh at there) in first-place-is scripts memory.jobs at place begun named first.0 first.1;
+      places = λ at place there. let first = first-places scripts.scripts at place (rw fresh at there) in first-place-is scripts memory.jobs at place first.0 begun named first.1 first.2 first.3;
     }
 
 pub on_no_err : {A E P : Type 0} (r : Result A E) → is_err r ≡ false → OnOk r P → P

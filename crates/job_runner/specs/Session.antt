@@ -1,14 +1,13 @@
 -- What a session is, and what a session has become of one: a library, a clock, the scripts of its jobs, and the calls that they have made.
-use Rattle.std.specs.Prelude.{◌≡◌, ℕ, ◌+◌, if◌then◌else◌, List, ◌++◌}
+use Rattle.std.specs.Prelude.{◌≡◌, ℕ, ◌+◌, ◌-◌, if◌then◌else◌, List, ◌++◌, length}
 use Rattle.library_model.specs.declared.calls.Call.{Call}
 use Rattle.library_model.specs.History.{Outcome, Runs}
 use Rattle.library_core.specs.Parts.{LibraryOver}
 use Rattle.library_core.specs.Stands.{IsAt}
-use Rattle.job_script.specs.declared.scripts.Scripts.{Scripts}
-use Rattle.job_script.specs.declared.scripts.Statement.{Statement}
-use Rattle.job_script.specs.Progress.{statements_left}
-use Rattle.job_runner.specs.Asked.{AreAsked, script_of}
-use Rattle.job_runner.specs.Ended.{replies_of, has_ended}
+use Rattle.input_scripts.specs.declared.Scripts.{Scripts}
+use Rattle.job_language.specs.declared.progress.TheConstants.{MOST_STATEMENTS}
+use Rattle.job_runner.specs.Asked.{AreAsked}
+use Rattle.job_runner.specs.Ended.{calls_of, has_ended}
 use Rattle.job_runner.specs.Made.{AreGiven}
 
 pub record SessionOver (S C : Type 0) : Type 0 where
@@ -27,7 +26,6 @@ pub record HasMade {S C : Type 0} (gives : C → ℕ → C → Type 0) (first la
   pub store : later.library.store ≡ first.library.store
   pub failed : later.library.failed ≡ first.library.failed
 
--- how many calls a job may still make
-abbrev pub remaining : List (List Statement) → ℕ → List Call → ℕ
-remaining scripts job calls =
-    if has_ended job calls then 0 else statements_left (script_of scripts job) (replies_of job calls) + 1
+-- how many calls a job may still make: each of its statements makes one at most, and then it makes its ENDJOB
+abbrev pub remaining : ℕ → List Call → ℕ
+remaining job calls = if has_ended job calls then 0 else MOST_STATEMENTS + 1 - length (calls_of job calls)

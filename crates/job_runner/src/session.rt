@@ -1,9 +1,9 @@
 //! A session: a library, the scripts of its jobs, and the history of their calls.
-ghost use Rattle.std.specs.Prelude.{◌≡◌, ◌≢◌, ℕ, List, ◌+◌, ◌<◌, ◌≤◌, ◌↔◌, [], ◌∷◌, ◌++◌, length, replicate, true, false, IsTrue, IfOk, IfErr, OnOk, OnErr, IsErr, option_copied};
+ghost use Rattle.std.specs.Prelude.{◌≡◌, ◌≢◌, ℕ, List, Option, ◌+◌, ◌<◌, ◌≤◌, ◌↔◌, [], ◌∷◌, length, map, true, false, IsTrue, IfOk, IfErr, OnOk, IsErr, option_copied};
 ghost use Rattle.std.specs.List.{list_all};
 ghost use Rattle.library_model.specs.declared.limits.TheConstants.{MOST_JOBS};
 ghost use Rattle.library_model.specs.declared.calls.Call.{Call};
-ghost use Rattle.library_model.specs.declared.replies.Reply.{Reply};
+ghost use Rattle.library_model.specs.declared.replies.Reply.{Reply as ReplyValue};
 ghost use Rattle.library_model.specs.State.{new_job};
 ghost use Rattle.library_model.specs.Built.{is_built};
 ghost use Rattle.library_model.specs.Running.{is_end_job};
@@ -11,17 +11,16 @@ ghost use Rattle.job_runner.specs.declared.session.Stepped.TheVariants.{Called, 
 ghost use Rattle.job_runner.specs.declared.session.Stepped.TheVariants as stepped;
 ghost use Rattle.job_runner.specs.Ended.{calls_of, replies_of, has_ended};
 ghost use Rattle.job_runner.specs.Made.{AreInOrder, AreOf};
-ghost use Rattle.job_script.specs.Asks.{last_of};
-ghost use Rattle.job_script.specs.Progress.{IsProgress, statements_left};
-ghost use Rattle.job_script.specs.Ready.{is_askable_script};
+ghost use Rattle.input_scripts.specs.Askable.{is_askable_script};
 ghost use Rattle.job_runner.specs.Session.{HasMade, remaining};
-ghost use Rattle.job_runner.specs.Asked.{asked, script_of};
-ghost use Rattle.job_runner.specs.Places.{IsLastCall, first_place, BeginsJobs};
+ghost use Rattle.job_runner.specs.Asked.{asked, script_of, LeavesRunning};
+ghost use Rattle.job_runner.specs.Places.{IsWaiting, GoesOn, HasAsked, first_place, BeginsJobs};
 
 use field_types::names::Name;
+use input_scripts::{ScriptList, Scripts};
 use job_history::history::History;
-use job_script::progress::{AskError, Progress};
-use job_script::scripts::{ScriptList, Scripts};
+use job_language::progress::Progress;
+use job_language::statements::Script;
 use library_core::library::{Library, call};
 use library_model::calls::Call;
 use library_model::limits::MOST_JOBS;
@@ -40,7 +39,7 @@ pub enum Stepped {
     Ended,
     /// The library has failed.
     Stopped,
-    /// There was no memory for a call; the session is as it was. It doesn't come where the job asks for its end.
+    /// There was no memory for a call; the session is as it was. It doesn't come where the last reply ends the job.
     NoMemory,
 }
 
@@ -54,17 +53,17 @@ pub enum Ran {
     NoMemory,
 }
 
-/// How far a job has come, the place of its last call in the history, and whether it has ended.
+/// How far a job has come, and whether it has ended.
 #[derive(Drop)]
 pub struct Place {
     pub progress: Progress,
-    pub last: Option<usize>,
+    /// The place in the history of the call whose reply the progress has still to go on with.
+    pub waiting: Option<usize>,
     pub ended: bool,
 }
 
 /// A session. Contracts see the library, the clock, the scripts and the calls made so far.
 pub struct Session<S: Store, C: Clock> {
-    alloc: Global,
     library: Library<S>,
     clock: C,
     scripts: Scripts,
@@ -109,10 +108,9 @@ impl<S: Store, C: Clock> Session<S, C> {
         if history.reserve(MOST_JOBS as u32).is_err() {
             return Err((library, clock));
         }
-        match first_places(alloc, scripts.scripts.as_slice().len()) {
+        match first_places(alloc, scripts.scripts.as_slice()) {
             Err(_) => Err((library, clock)),
             Ok(places) => Ok(Session {
-                alloc,
                 library,
                 clock,
                 scripts,
@@ -128,7 +126,6 @@ impl<S: Store, C: Clock> Session<S, C> {
         ensures clock { result.1 ≡ self.clock }
     {
         let Session {
-            alloc: _,
             library,
             clock,
             scripts: _,
@@ -201,10 +198,10 @@ impl<S: Store, C: Clock> Session<S, C> {
         requires { (1 ≤ job) × (job ≤ length self.old.scripts.scripts) }
         ensures ended { result ≡ Ended ↔ IsTrue (has_ended job self.old.calls) }
         ensures stopped { result ≡ Stopped → self.old.library.failed ≡ true }
-        ensures memory { result ≡ stepped.NoMemory → is_end_job (asked self.old.scripts.scripts job self.old.calls) ≡ false }
+        ensures memory { result ≡ stepped.NoMemory → LeavesRunning (script_of self.old.scripts.scripts job) (replies_of job self.old.calls) }
         ensures unchanged { result ≢ Called → self.new ≡ self.old }
         ensures called { result ≡ Called → (made : Call) × (made.job ≡ job) × HasMade C.gives self.old self.new (made ∷ []) }
-        ensures nearer { result ≡ Called → remaining self.new.scripts.scripts job self.new.calls < remaining self.old.scripts.scripts job self.old.calls }
+        ensures nearer { result ≡ Called → remaining job self.new.calls < remaining job self.old.calls }
     {
         let place = &mut self.places[job as usize - 1];
         if place.ended {
@@ -215,16 +212,9 @@ impl<S: Store, C: Clock> Session<S, C> {
         }
         // Room for this call and, after it, for the ENDJOB of each job.
         let room = self.history.reserve(MOST_JOBS as u32 + 1).is_ok();
-        let request = match ask(
-            self.alloc,
-            &self.scripts.scripts,
-            job,
-            place,
-            &self.history,
-            room,
-        ) {
+        let request = match ask(&self.scripts.scripts, job, place, &self.history, room) {
             Ok(request) => request,
-            Err(AskError::NoMemory) => return Stepped::NoMemory,
+            Err(_) => return Stepped::NoMemory,
         };
         let timestamp = self.clock.now();
         let reply = call(
@@ -234,7 +224,7 @@ impl<S: Store, C: Clock> Session<S, C> {
             &self.scripts.sources,
             &request,
         );
-        place.last = Some(self.history.calls().len());
+        place.waiting = Some(self.history.calls().len());
         place.ended = is_end_job(&request);
         self.history.push(Call {
             job,
@@ -246,43 +236,53 @@ impl<S: Store, C: Clock> Session<S, C> {
     }
 }
 
-/// What a job asks next, whose progress is moved on.
+/// What a job asks next, whose progress goes on with its last reply. Where there is no room for another call than
+/// ENDJOB, nothing else is asked, and the progress waits to ask it again.
 fn ask(
-    alloc: Global,
     scripts: &ScriptList,
     job: u32,
     place: &mut Place,
     history: &History,
     room: bool,
-) -> Result<Request, AskError>
+) -> Result<Request, AllocError>
     requires within { (1 ≤ job) × (job ≤ length scripts.now) }
     requires askable { IsTrue (list_all is_askable_script scripts.now) }
-    requires progress { IsProgress (script_of scripts.now job) place.old.progress (replies_of job history.now.calls) }
-    requires last { IsLastCall place.old.last history.now.calls (calls_of job history.now.calls) }
+    requires goes_on { GoesOn (script_of scripts.now job) history.now.calls (calls_of job history.now.calls) place.old }
     ensures asked { IfOk result (λ request. request ≡ asked scripts.now job history.now.calls) }
-    ensures memory { IsErr result → is_end_job (asked scripts.now job history.now.calls) ≡ false }
+    ensures memory { IsErr result → LeavesRunning (script_of scripts.now job) (replies_of job history.now.calls) }
     ensures room { IfOk result (λ request. is_end_job request ≡ false → room ≡ true) }
-    ensures moved { IfOk result (λ request. is_end_job request ≡ false → (reply : Reply) → IsProgress (script_of scripts.now job) place.new.progress (replies_of job history.now.calls ++ reply ∷ [])) }
-    ensures nearer { IfOk result (λ request. is_end_job request ≡ false → (reply : Reply) → statements_left (script_of scripts.now job) (replies_of job history.now.calls ++ reply ∷ []) < statements_left (script_of scripts.now job) (replies_of job history.now.calls)) }
+    ensures moved { IfOk result (λ request. HasAsked (script_of scripts.now job) (replies_of job history.now.calls) request place.new.progress) }
     ensures built { IfOk result (λ request. IsTrue (is_built request)) }
-    ensures kept { (place.new.last ≡ place.old.last) × (place.new.ended ≡ place.old.ended) }
-    ensures unchanged { OnErr result (place.new ≡ place.old) }
+    ensures waits { IsErr result → GoesOn (script_of scripts.now job) history.now.calls (calls_of job history.now.calls) place.new }
+    ensures ended { place.new.ended ≡ place.old.ended }
 {
     let script = &scripts.as_slice()[job as usize - 1];
-    let last = last_reply(history.calls(), job, place.last);
-    place
-        .progress
-        .next(alloc, script, last, history.is_full(), room)
+    let reply = waiting_reply(history.calls(), place.waiting);
+    let request = place.progress.next(script, reply, history.is_full())?;
+    place.waiting = None;
+    with_room(request, room)
 }
 
-/// The reply to the last call of a job, of which the place is kept.
-fn last_reply(calls: &[Call], _job: u32, last: Option<usize>) -> Option<&Reply>
-    requires { IsLastCall last calls.now (calls_of _job calls.now) }
-    ensures { option_copied result ≡ last_of (replies_of _job calls.now) }
+/// The reply that a job has still to go on with.
+fn waiting_reply(calls: &[Call], waiting: Option<usize>) -> Option<&Reply>
+    ensures { (reply : Option ReplyValue) → IsWaiting waiting calls.now reply → option_copied result ≡ reply }
 {
-    match last {
-        Some(at) => Some(&calls[at].reply),
+    match waiting {
+        Some(place) => calls.get(place).map(|call| &call.reply),
         None => None,
+    }
+}
+
+/// The request, where there is room for its call; an ENDJOB needs none.
+fn with_room(request: Request, room: bool) -> Result<Request, AllocError>
+    ensures same { IfOk result (λ kept. kept ≡ request) }
+    ensures room { IfOk result (λ kept. is_end_job kept ≡ false → room ≡ true) }
+    ensures memory { IsErr result → is_end_job request ≡ false }
+{
+    if room || is_end_job(&request) {
+        Ok(request)
+    } else {
+        Err(AllocError)
     }
 }
 
@@ -304,15 +304,15 @@ fn begin_jobs<S: Store>(library: &mut Library<S>, names: &[Name]) -> Result<(), 
     Ok(())
 }
 
-/// The places of jobs that have made no call.
-fn first_places(alloc: Global, jobs: usize) -> Result<Vec<Place>, AllocError>
-    ensures { IfOk result (λ places. places.items ≡ replicate jobs first_place) }
+/// The places of jobs with these scripts that have made no call.
+fn first_places(alloc: Global, scripts: &[Script]) -> Result<Vec<Place>, AllocError>
+    ensures { IfOk result (λ places. places.items ≡ map first_place scripts.now) }
 {
     let mut places = Vec::new(alloc);
-    for _ in 0..jobs {
+    for script in scripts {
         places.push(Place {
-            progress: Progress::new(),
-            last: None,
+            progress: Progress::new(alloc, script)?,
+            waiting: None,
             ended: false,
         })?;
     }

@@ -1,9 +1,10 @@
-use Rattle.std.proofs.Common.{◌≡◌, ◌≤◌, List, ℕ, length, true, Err, ap, refl, sym, ◌∙◌, subst, map, rules}
+use Rattle.std.proofs.Common.{◌≡◌, ◌≤◌, List, ℕ, [], length, true, Some, Err, ap, refl, sym, ◌∙◌, subst, map, rules}
 use Rattle.std.specs.Prelude.{string_bytes}
 use Rattle.text_lines.specs.Lines.{lines_of}
 use Rattle.library_model.specs.State.{empty_library}
-use Rattle.job_script.specs.declared.scripts.Scripts.{Scripts}
-use Rattle.job_script.specs.Input.{IsFirstFault, IsInput, Reads}
+use Rattle.input_scripts.specs.declared.Scripts.{Scripts}
+use Rattle.script_builder.specs.Least.{least}
+use Rattle.input_reader.specs.Input.{faults_of, input_of}
 use Rattle.ibmi_batch.specs.declared.limits.TheConstants.{MOST_INPUT}
 use Rattle.ibmi_batch.specs.Words.{are_run_words}
 use Rattle.ibmi_batch.specs.Outcome.{IsRead}
@@ -17,11 +18,11 @@ returns-in-Err-Script-clause-refused g c =
       words,
       λ tells. record {
         left = c.in-Ok.ensures.nothing_left tells;
-        fault = subst (λ line. IsFirstFault (lines_of (g.I.Source.left c.args.input.now)) line) (sym c.in-Err-Script.line-is) (subst (λ bytes. IsFirstFault (lines_of bytes) c.in-Err-Script.line) (c.as_slice.ensures.value ∙ sym (c.in-Ok.ensures.whole tells)) here);
+        fault = subst (λ line. least (faults_of (lines_of (g.I.Source.left c.args.input.now))) ≡ Some line) (sym c.in-Err-Script.line-is) (subst (λ bytes. least (faults_of (lines_of bytes)) ≡ Some c.in-Err-Script.line) (c.as_slice.ensures.value ∙ sym (c.in-Ok.ensures.whole tells)) here);
         short = subst (λ bytes. length bytes ≤ MOST_INPUT) (sym (c.in-Ok.ensures.whole tells)) c.in-Ok.ensures.within;
       },
       λ tells input.
-          let input_here = subst (λ bytes. IsInput (lines_of bytes)) (c.in-Ok.ensures.whole tells ∙ sym c.as_slice.ensures.value) input in
+          let input_here = subst (λ bytes. faults_of (lines_of bytes) ≡ []) (c.in-Ok.ensures.whole tells ∙ sym c.as_slice.ensures.value) input in
           let no_memory = c.in-Err-Script.ensures.accepted input_here in
           absurd cc,
     )
@@ -37,7 +38,8 @@ returns-in-Ok-new-clause-begins g c =
         bytes = c.in-Ok.bytes.items;
         whole = c.in-Ok.ensures.whole;
         short = c.in-Ok.ensures.within;
-        says = subst (λ bytes. Reads (lines_of bytes) c.in-Ok-read_input.scripts) c.as_slice.ensures.value c.in-Ok-read_input.ensures.read;
+        sound = subst (λ bytes. faults_of (lines_of bytes) ≡ []) c.as_slice.ensures.value c.in-Ok-read_input.ensures.sound;
+        says = subst (λ bytes. c.in-Ok-read_input.scripts ≡ input_of (lines_of bytes)) c.as_slice.ensures.value c.in-Ok-read_input.ensures.read;
       });
       starts = record {
         start = empty_library;

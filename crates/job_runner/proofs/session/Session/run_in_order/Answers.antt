@@ -1,4 +1,4 @@
-use Rattle.std.proofs.Common.{[], refl, rules}
+use Rattle.std.proofs.Common.{[], rules}
 use Rattle.job_runner.proofs.MadeLemmas.{next-more, HasMade-none}
 use Rattle.job_runner.proofs.session.Session.run_in_order.Goals as goal
 

@@ -1,4 +1,4 @@
-use Rattle.std.proofs.Common.{◌≡◌, ◌≤◌, ℕ, IsTrue, List}
+use Rattle.std.proofs.Common.{◌≤◌, ℕ, IsTrue, List}
 use Rattle.std.specs.List.{AllByRecursion}
 use Rattle.library_model.specs.declared.calls.Call.{Call}
 use Rattle.job_runner.specs.Ended.{has_ended}

@@ -1,4 +1,4 @@
-use Rattle.std.proofs.Common.{◌≡◌, ◌∙◌, [], ◌∷◌, refl, sym, ap}
+use Rattle.std.proofs.Common.{◌∙◌, [], ◌∷◌, refl, sym, ap}
 use Rattle.job_runner.specs.Ended.{calls_of}
 use Rattle.job_runner.proofs.CallLemmas.{calls_of-append_other}
 use Rattle.job_runner.proofs.MadeLemmas.{own-more, HasMade-none}

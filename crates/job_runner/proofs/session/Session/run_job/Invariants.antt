@@ -12,4 +12,4 @@ invariant-loop g l = record {
 }
 
 abbrev pub decreases-loop : goal.decreases-loop
-decreases-loop g l = remaining l.self.scripts.scripts l.job l.self.calls
+decreases-loop g l = remaining l.job l.self.calls

@@ -1,4 +1,4 @@
-use Rattle.std.proofs.Common.{◌≡◌, ◌∙◌, ◌≤◌, ◌+◌, false, sym, refl, ap, arith, length}
+use Rattle.std.proofs.Common.{◌≡◌, ◌∙◌, ◌≤◌, false, sym, refl, ap, arith, length}
 use Rattle.library_model.specs.declared.calls.Call.{Call}
 use Rattle.library_model.specs.declared.limits.TheConstants.{MOST_JOBS}
 use Rattle.library_model.specs.Running.{is_end_job}
@@ -22,28 +22,21 @@ returns-then-failed-clause-ended g c =
     let is = place-is _ _ _ _ _ c.args.job c.index_mut-place.result.now c.self.invariant within.0 here in
     rw (← c.self.view_is) (ended-else stepped.Stopped _ (λ e. cc) (sym is.ended ∙ c.if-place.false))
 
-pub ask-requires-clause-progress : goal.ask-requires-clause-progress
-ask-requires-clause-progress g c =
+pub ask-requires-clause-goes_on : goal.ask-requires-clause-goes_on
+ask-requires-clause-goes_on g c =
     let within = rw (← c.self.view_is) at c.requires in
     let here = place-here _ _ _ _ _ c.args.job c.index_mut-place.result.now c.self.invariant within c.index_mut-place.ensures.value in
     let is = place-is _ _ _ _ _ c.args.job c.index_mut-place.result.now c.self.invariant within.0 here in
-    rw c.reserve.ensures.unchanged (is.goes_on c.if-place.false).stands
+    rw c.reserve.ensures.unchanged (is.goes_on c.if-place.false)
 
-pub ask-requires-clause-last : goal.ask-requires-clause-last
-ask-requires-clause-last g c =
+pub invariant_of-self-in-Err : goal.invariant_of-self-in-Err
+invariant_of-self-in-Err g c =
     let within = rw (← c.self.view_is) at c.requires in
     let here = place-here _ _ _ _ _ c.args.job c.index_mut-place.result.now c.self.invariant within c.index_mut-place.ensures.value in
-    let is = place-is _ _ _ _ _ c.args.job c.index_mut-place.result.now c.self.invariant within.0 here in
-    rw c.reserve.ensures.unchanged is.last
+    IsSession-same _ _ _ _ _ _ _ c.args.job c.index_mut-place.result.now _ c.self.invariant within.0 here c.reserve.ensures.unchanged c.reserve.ensures.kept c.if-place.false c.in-Err.ensures.ended (rw c.reserve.ensures.unchanged at (c.in-Err.ensures.waits refl))
 
-pub invariant_of-self-in-Err-NoMemory : goal.invariant_of-self-in-Err-NoMemory
-invariant_of-self-in-Err-NoMemory g c =
-    let within = rw (← c.self.view_is) at c.requires in
-    let here = place-here _ _ _ _ _ c.args.job c.index_mut-place.result.now c.self.invariant within c.index_mut-place.ensures.value in
-    IsSession-same _ _ _ _ _ _ _ c.args.job c.index_mut-place.result.now _ c.self.invariant here c.reserve.ensures.unchanged c.reserve.ensures.kept c.in-Err-NoMemory.ensures.unchanged
-
-pub returns-in-Err-NoMemory-clause-ended : goal.returns-in-Err-NoMemory-clause-ended
-returns-in-Err-NoMemory-clause-ended g c =
+pub returns-in-Err-clause-ended : goal.returns-in-Err-clause-ended
+returns-in-Err-clause-ended g c =
     let within = rw (← c.self.view_is) at c.requires in
     let here = place-here _ _ _ _ _ c.args.job c.index_mut-place.result.now c.self.invariant within c.index_mut-place.ensures.value in
     let is = place-is _ _ _ _ _ c.args.job c.index_mut-place.result.now c.self.invariant within.0 here in
@@ -99,4 +92,4 @@ returns-clause-nearer g c = λ e.
     let here = place-here _ _ _ _ _ c.args.job c.index_mut-place.result.now c.self.invariant within c.index_mut-place.ensures.value in
     let is = place-is _ _ _ _ _ c.args.job c.index_mut-place.result.now c.self.invariant within.0 here in
     let made : Call = record { job = c.args.job; timestamp = c.now-timestamp.result; request = c.in-Ok.request; reply = c.call-reply.result } in
-    rw (← c.self.view_is) (remaining-called c.self.inside.scripts.scripts c.self.inside.library.memory.jobs c.self.inside.history.calls c.push.new.self.calls c.args.job c.index_mut-place.result.now made is c.if-place.false refl (rw c.reserve.ensures.unchanged at c.in-Ok.ensures.nearer) (rw c.reserve.ensures.unchanged at c.push.ensures.calls))
+    rw (← c.self.view_is) (remaining-called c.self.inside.scripts.scripts c.self.inside.library.memory.jobs c.self.inside.history.calls c.push.new.self.calls c.args.job c.index_mut-place.result.now c.ask.new.place.progress made is c.if-place.false refl (rw c.reserve.ensures.unchanged at c.in-Ok.ensures.moved) (rw c.reserve.ensures.unchanged at c.push.ensures.calls))

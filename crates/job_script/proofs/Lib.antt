@@ -1,9 +1,0 @@
-pub mod ProgressLemmas
-pub mod CompletionLemmas
-pub mod FaultLemmas
-pub mod LiteralLemmas
-pub mod ReachLemmas
-pub mod ReadyLemmas
-pub mod RunLemmas
-pub mod SpellLemmas
-pub mod TextLemmas

@@ -1,4 +1,0 @@
-pub mod ColumnLemmas
-pub mod DraftLemmas
-pub mod PackingLemmas
-pub mod SourceLemmas
