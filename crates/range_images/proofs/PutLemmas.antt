@@ -1,10 +1,10 @@
 -- What a walk that went to its end gave can be put into the member, one slot after the other.
-use Rattle.std.proofs.Common.{◌≡◌, ℕ, ◌+◌, ◌-◌, ◌≤◌, List, [], ◌∷◌, ◌++◌, length, map, reverse, Option, unwrap_or, Result, Ok, refl, sym, ap, ◌∙◌, subst, arith}
+use Rattle.std.proofs.Common.{◌≡◌, ℕ, ◌+◌, ◌-◌, ◌≤◌, List, [], ◌∷◌, ◌++◌, length, map, reverse, Option, unwrap_or, Ok, sym, ap, ◌∙◌, subst, arith}
 use Rattle.std.proofs.lemmas.List.{reverse-append, map-append}
 use Rattle.member_slots.specs.declared.slot.Slot.{Slot}
 use Rattle.member_slots.specs.declared.slot.Slot.TheVariants.{Deleted}
 use Rattle.journal_model.specs.Places.{put_slot}
-use Rattle.journal_model.specs.Walks.{RangeFault, Numbered, redo, undo, apply, remove}
+use Rattle.journal_model.specs.Walks.{Numbered, redo, undo, apply, remove}
 use Rattle.journal_model.proofs.WalkLemmas.{ok_from_then, redone, undone}
 use Rattle.range_images.specs.declared.slot_given.SlotGiven.{SlotGiven}
 use Rattle.range_images.specs.Given.{place_given, given_slots, given_forward, given_before, given_back, AreInPlace}
