@@ -1,7 +1,7 @@
 -- What a stop may leave of a book, and what forcing its block makes of it: for the book's own calls.
-use Rattle.std.proofs.Common.{◌≡◌, inl, inr, ℕ, ◌+◌, List, [], ◌∷◌, ◌++◌, length, take, refl, sym, ◌∙◌, ap, subst, arith, append_assoc, length-append}
+use Rattle.std.proofs.Common.{◌≡◌, inl, inr, ℕ, ◌+◌, List, [], ◌∷◌, ◌++◌, length, take, refl, sym, ◌∙◌, ap, subst, arith, append_assoc, length-append, drop, length-take, take-append-drop, ◌≤◌}
 use Rattle.std.specs.List.{AllByRecursion}
-use Rattle.std.proofs.lemmas.List.{append-nil, take_at, take_all}
+use Rattle.std.proofs.lemmas.List.{append-nil, take_at, take_all, drop_all, length-take-le}
 use Rattle.store_model.specs.Disk.{Areas, Disk, May, Leaves}
 use Rattle.store_model.proofs.Runs.{leaves_less}
 use Rattle.entry_codec.specs.declared.entries.Entry.{Entry}
@@ -10,8 +10,15 @@ use Rattle.receiver_chain.specs.Chain.{ChainState, IsWithOrWithout, attached_of}
 use Rattle.receiver_chain.proofs.Chaining.{logs_length}
 use Rattle.receiver_chain.proofs.Switches.{chained_left}
 use Rattle.journal_model.specs.Journal.{AreNumbered}
-use Rattle.journal_book.specs.Book.{BookState, Holds, forced_more}
-use Rattle.journal_book.specs.Entries.{IsBlock, IsInside, AreInside, AreBlocks, BeginsWith, AreReceivers, HoldsEntries, all_groups, first_sequence, flat}
+use Rattle.entry_codec.specs.Spelling.{spelling}
+use Rattle.entry_codec.proofs.EntryLaws.{one_spelling}
+use Rattle.receiver_chain.specs.Links.{IsNoLink}
+use Rattle.journal_book.proofs.Reading.{some_bytes}
+use Rattle.byteorder.specs.Endian.{big_bytes}
+use Rattle.gated_log.specs.Blocks.{between, block_bytes, frame}
+use Rattle.gated_log.proofs.Numbers.{between_is}
+use Rattle.journal_book.specs.Book.{BookState, Holds, IsBuffer, forced_more}
+use Rattle.journal_book.specs.Entries.{IsBlock, IsInside, AreInside, AreBlocks, BeginsWith, AreReceivers, HoldsEntries, all_groups, first_sequence, flat, spelled}
 use Rattle.journal_book.specs.Kept.{IsKept}
 
 -- ---- lists
@@ -129,7 +136,28 @@ module _ (book : BookState) (entries : List Entry) (disk : Disk) (holds : Holds 
         begun = (holds.begun.0 ++ holds.tail ∷ [], begins-push (attached_of chain) holds.on_disk.last holds.begun.0 holds.tail (subst (λ (k : ℕ). BeginsWith k holds.on_disk.last holds.begun.0) (sym number) holds.begun.1), inside-push holds.begun.0 holds.tail holds.begun.2 holds.inside);
         all = sym (append-nil entries);
         forced = refl;
+        waiting = refl;
         block = record { each = tt; whole = refl };
         inside = tt;
         numbered = with_all.numbered;
       }
+
+-- a block of entries that tie nothing is no link
+pub no_link : (bytes : List ℕ) (count next : ℕ) → IsBuffer bytes count → IsNoLink next bytes
+no_link bytes count next ([], is, inside, counted) = λ before link. some_bytes link.entry [] (sym is.whole ∙ link.whole ∙ sym (append-nil (spelling link.entry)))
+no_link bytes count next (e ∷ entries, is, inside, counted) = λ before link.
+    let parts = one_spelling e link.entry (spelled entries) [] is.each.0 link.spelled (sym is.whole ∙ link.whole ∙ sym (append-nil (spelling link.entry))) in
+    inside.0 next (inl (ap (λ (x : Entry). x.kind) parts.0 ∙ link.names))
+
+-- ---- the frame
+
+pub frame_back : (block : List ℕ) → between (frame block) ≡ block
+unfolding block_bytes
+frame_back block = between_is (big_bytes 4 (length block)) block 0 refl
+
+pub between_push : (bytes : List ℕ) → 4 ≤ length bytes → between (bytes ++ 0 ∷ []) ≡ drop 4 bytes
+between_push bytes long =
+    ap (λ (l : List ℕ). between (l ++ 0 ∷ [])) (sym (take-append-drop 4 bytes)) ∙ between_is (take 4 bytes) (drop 4 bytes) 0 (length-take-le 4 bytes long)
+
+pub emptied : (bytes : List ℕ) → drop 4 (take 4 bytes) ≡ []
+emptied bytes = drop_all 4 (take 4 bytes) (omega (arith, length-take 4 bytes))

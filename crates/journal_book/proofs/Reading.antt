@@ -12,7 +12,7 @@ use Rattle.journal_book.specs.Entries.{spelled, IsBlock, AreBlocks, flat, AreRec
 use Rattle.journal_book.specs.Kept.{SpellEntries}
 
 -- an entry has bytes
-some_bytes : (e : Entry) (rest : List ℕ) → [] ≡ spelling e ++ rest → ⊥
+pub some_bytes : (e : Entry) (rest : List ℕ) → [] ≡ spelling e ++ rest → ⊥
 some_bytes e rest is = omega (arith, ap length is, length-append (spelling e) rest, length-spelling e)
 
 one_group : (xs ys : List Entry) → AllByRecursion IsSpelled xs → AllByRecursion IsSpelled ys → spelled xs ≡ spelled ys → xs ≡ ys

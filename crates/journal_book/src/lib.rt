@@ -2,6 +2,8 @@
 //! stop may leave of them.
 #![tactic(auto)]
 
+mod book;
 mod laws;
 
+pub use book::Book;
 pub use laws::one_reading;
