@@ -1,6 +1,10 @@
 //! What was read of an input: its sources, its jobs' names, their scripts, and the order of their calls.
 #![tactic(auto)]
 
+ghost use Rattle.std.specs.Prelude.{IsTrue};
+ghost use Rattle.job_language.specs.declared.statements.Script.{Script as ScriptValue};
+ghost use Rattle.input_scripts.specs.Askable.{is_askable_script, AsksWhatIsBuilt, EndsByItself};
+
 use field_types::lists::ListOf;
 use field_types::names::Name;
 use job_language::statements::Script;
@@ -33,3 +37,9 @@ pub struct Scripts {
     pub scripts: ScriptList,
     pub schedule: Schedule,
 }
+
+/// What a job asks whose statements may all be run.
+pub fn askable_scripts_ask_what_is_built()
+    ensures built { (script : ScriptValue) → IsTrue (is_askable_script script) → AsksWhatIsBuilt script }
+    ensures ends { (script : ScriptValue) → IsTrue (is_askable_script script) → EndsByItself script }
+{}

@@ -1,11 +1,9 @@
 -- The texts of a job's statements: its lines, of which one goes on with the next where it ends in a plus sign.
 -- (CL reference, "Continuation"; that blank lines and lines which begin with /* are skipped is our own.)
-use Rattle.std.specs.Prelude.{ℕ, ◌+◌, ◌-◌, ◌==◌, Bool, true, false, if◌then◌else◌, ◌||◌, Option, Some, None, List, [], ◌∷◌, ◌++◌, drop, take, length, reverse, codes}
+use Rattle.std.specs.Prelude.{ℕ, ◌+◌, ◌-◌, ◌==◌, Bool, true, false, if◌then◌else◌, ◌||◌, ◌&&◌, Option, Some, None, List, [], ◌∷◌, ◌++◌, take, length, reverse, slice_index}
 use Rattle.std.specs.List.{prefix_len}
-use Rattle.std.specs.Option.{is_some}
 use Rattle.text_lines.specs.Lines.{is_blank, are_blanks}
 use Rattle.statement_reader.specs.Words.{unindented}
-use Rattle.input_cards.specs.Cards.{behind}
 
 -- a statement's text, the line on which it begins, and whether it is there whole
 pub record StatementText : Type 0 where
@@ -13,36 +11,43 @@ pub record StatementText : Type 0 where
   pub text : List ℕ
   pub whole : Bool
 
+-- the line begins with /*
+abbrev pub is_remark : List ℕ → Bool
+is_remark [] = false
+is_remark (c ∷ []) = false
+is_remark (c ∷ d ∷ text) = (c == 47) && (d == 42)
+
 -- a line that is no part of a statement, where none goes on
 abbrev pub is_skipped : List ℕ → Bool
-is_skipped line = are_blanks line || is_some (behind (codes "/*") line)
+is_skipped line = are_blanks line || is_remark line
 
--- the line without the blanks at its end
-abbrev pub without_end_blanks : List ℕ → List ℕ
-without_end_blanks line = reverse (unindented (reverse line))
-
-abbrev pub ends_in_sign : List ℕ → Bool
-ends_in_sign [] = false
-ends_in_sign (c ∷ []) = c == 43
-ends_in_sign (c ∷ d ∷ text) = ends_in_sign (d ∷ text)
+-- how many blanks stand at its end
+abbrev pub end_blanks : List ℕ → ℕ
+end_blanks line = prefix_len is_blank (reverse line)
 
 -- its last character that is no blank is a plus sign
 abbrev pub goes_on : List ℕ → Bool
-goes_on line = ends_in_sign (without_end_blanks line)
+goes_on line = slice_index (reverse line) (end_blanks line) == 43
 
 -- what stands before that sign
 abbrev pub before_sign : List ℕ → List ℕ
-before_sign line = take (length (without_end_blanks line) - 1) line
+before_sign line = take (length line - (end_blanks line + 1)) line
 
 -- a statement that has begun on a line, and its text so far
 pub record Begun : Type 0 where
   pub line : ℕ
   pub text : List ℕ
 
+abbrev pub begun_at : List ℕ → ℕ → Begun
+begun_at text line = record { line = line; text = text }
+
+abbrev pub text_at : ℕ → List ℕ → Bool → StatementText
+text_at line text whole = record { line = line; text = text; whole = whole }
+
 -- a statement that nothing goes on with
 abbrev pub unfinished : Option Begun → List StatementText
 unfinished None = []
-unfinished (Some begun) = record { line = begun.line; text = begun.text; whole = false } ∷ []
+unfinished (Some begun) = text_at begun.line begun.text false ∷ []
 
 -- the line belongs to no statement
 abbrev pub skips : Option Begun → List ℕ → Bool
@@ -51,11 +56,11 @@ skips (Some begun) line = false
 
 -- the text before the line, with that of the line
 abbrev pub begun_with : Option Begun → ℕ → List ℕ → Begun
-begun_with None number piece = record { line = number; text = piece }
-begun_with (Some begun) number piece = record { line = begun.line; text = begun.text ++ unindented piece }
+begun_with None number piece = begun_at piece number
+begun_with (Some begun) number piece = begun_at (begun.text ++ unindented piece) begun.line
 
 abbrev pub whole_text : Begun → StatementText
-whole_text begun = record { line = begun.line; text = begun.text; whole = true }
+whole_text begun = text_at begun.line begun.text true
 
 -- the statements' texts of the lines from the one with this number on, with a statement before them that goes on
 unfoldable pub texts_from : Option Begun → ℕ → List (List ℕ) → List StatementText
