@@ -1,11 +1,13 @@
 -- The first places of names.
-use Rattle.std.proofs.Common.{◌≡◌, ℕ, suc, ◌+◌, ◌||◌, Bool, true, false, cond, List, [], ◌∷◌, ◌++◌, Option, Some, None, length, refl, sym, ap, ◌∙◌, arith, ⊎_elim, add-zero}
+use Rattle.std.proofs.Common.{◌≡◌, ℕ, suc, ◌+◌, ◌<◌, ◌||◌, Bool, true, false, cond, List, [], ◌∷◌, ◌++◌, Option, Some, None, length, refl, sym, ap, ◌∙◌, arith, ⊎_elim, add-zero}
 use Rattle.std.specs.List.{list_any, position, position_from}
 use Rattle.std.specs.Map.{lookup}
 use Rattle.std.specs.Option.{is_some}
 use Rattle.std.proofs.lemmas.Bool.{cases_Bool}
 use Rattle.std.proofs.lemmas.Iterator.Adapters.{position_from-zero}
 use Rattle.std.proofs.lemmas.Slice.Eq.{bytes_eq-Decides}
+use Rattle.std.specs.Prelude.{IfSome}
+use Rattle.std.proofs.lemmas.List.Quantifiers.{position-Some}
 use Rattle.library_model.specs.Named.{Named, named, same_name}
 use Rattle.input_cards.specs.Names.{with_first, AreFirstPlaces}
 
@@ -72,3 +74,8 @@ first_places-more names places name first = λ q. decided q (named name places) 
         ap (λ o. named q (cond (is_some o) places (places ++ (name, length names) ∷ []))) none
         ∙ lookup-push (same_name q) places name (length names)
         ∙ ap (λ o. or_else o (cond (same_name q name) (Some (length names)) None)) (first q) ∙ sym (position-push (same_name q) names name)
+
+-- where a name stands
+pub position-within : (names : List (List ℕ)) (name : List ℕ) (found : Option ℕ) → found ≡ position (same_name name) names → IfSome found (λ place. place < length names)
+position-within names name None is = tt
+position-within names name (Some place) is = (position-Some (same_name name) names place [] (sym is)).0

@@ -192,3 +192,7 @@ further bytes rest line after number place here first less =
       counted = omega (arith, here.counted);
       within = omega (arith, here.within);
     }
+
+-- a text that is no longer than the input has no more lines than the input has bytes
+pub few-within : (text bytes : List ℕ) → length text ≤ length bytes → length (lines_of text) ≤ length bytes
+few-within text bytes within = let lines = lines-few text in omega arith

@@ -106,7 +106,8 @@ impl NameList {
 
     /// The place at which the name stands first, from 0.
     pub fn place(&self, name: &Name) -> Option<usize>
-        ensures { result ≡ position (same_name name.now) self.now }
+        ensures place { result ≡ position (same_name name.now) self.now }
+        ensures within { IfSome result (λ place. place < length self.now) }
     {
         self.first_places.place(name)
     }

@@ -20,12 +20,14 @@ pub struct Section {
 }
 
 impl Section {
-    ghost use Rattle.std.specs.Prelude.{◌≡◌};
+    ghost use Rattle.std.specs.Prelude.{◌≡◌, ◌≤◌, length};
+    ghost use Rattle.text_lines.specs.Lines.{lines_of};
     ghost use Rattle.input_cards.specs.SectionTexts.{bytes_between};
 
     /// The bytes of the section's lines, of an input in which it lies.
     pub fn text<'a>(&self, bytes: &'a [u8]) -> &'a [u8]
-        ensures { result.now ≡ bytes_between self.now.start self.now.end bytes.now }
+        ensures text { result.now ≡ bytes_between self.now.start self.now.end bytes.now }
+        ensures few { length (lines_of result.now) ≤ length bytes.now }
     {
         let rest = &bytes[self.start.min(bytes.len())..];
         &rest[..self.end.saturating_sub(self.start).min(rest.len())]

@@ -1,2 +1,7 @@
-//! An input: the scripts that its bytes spell, or the first line at fault. Begin with `specs/Input.antt`.
+//! An input: the scripts that its bytes spell, or the least line at fault. Begin with `specs/Input.antt`; `input.rt` has the call.
 #![tactic(auto)]
+
+pub mod input;
+mod jobs;
+mod schedules;
+mod sources;

@@ -5,4 +5,4 @@ use Rattle.input_cards.proofs.NameLemmas.{position-some}
 use Rattle.input_cards.proofs.names.NameList.has.Goals as goal
 
 pub returns : goal.returns
-returns c = c.is_some.ensures ∙ ap (λ o. is_some o) c.place.ensures ∙ position-some (same_name c.args.name.now) c.args.self.now
+returns c = c.is_some.ensures ∙ ap (λ o. is_some o) c.place.ensures.place ∙ position-some (same_name c.args.name.now) c.args.self.now
