@@ -1,10 +1,10 @@
 -- What a run comes to: from a session that begins, and from words or an input that begin none.
-use Rattle.std.proofs.Common.{◌≡◌, ℕ, ◌<◌, ◌≤◌, Bool, true, false, IsTrue, List, [], ◌++◌, length, map, refl, sym, ◌∙◌, ap, subst, arith}
+use Rattle.std.proofs.Common.{◌≡◌, ℕ, ◌≤◌, IsTrue, List, [], ◌++◌, length, map, ◌∙◌, ap, subst, arith}
 use Rattle.library_model.specs.declared.calls.Call.{Call}
-use Rattle.library_model.specs.State.{Memory, State, empty_library, begun, new_job}
-use Rattle.library_model.specs.History.{Outcome, Standing, Runs}
+use Rattle.library_model.specs.State.{Memory, empty_library, begun, new_job}
+use Rattle.library_model.specs.History.{Standing}
 use Rattle.library_core.specs.Parts.{LibraryOver}
-use Rattle.library_core.specs.Stands.{Stands, IsAt}
+use Rattle.library_core.specs.Stands.{Stands}
 use Rattle.input_scripts.specs.declared.Scripts.{Scripts}
 use Rattle.job_runner.specs.Asked.{AreAsked}
 use Rattle.job_runner.specs.Ended.{has_ended}
@@ -13,7 +13,7 @@ use Rattle.job_runner.specs.Places.{BeginsJobs}
 use Rattle.job_runner.specs.Session.{SessionOver, HasMade}
 use Rattle.ibmi_batch.specs.declared.status.Status.{Status}
 use Rattle.ibmi_batch.specs.declared.status.Status.TheVariants.{Done, Words, ReadFault, TooLong, Script, NotALibrary, Damaged, StoreFault, WriteFault, NoMemory, JobsEnded, Exists}
-use Rattle.ibmi_batch.specs.Outcome.{Reading, Writing, IsStart, IsWholeRun, Listed, NothingWritten, HasRun, WasRun, Comes, IsInOrder, IsOrderly, IsOutcome, Starts, Begins, Refuses}
+use Rattle.ibmi_batch.specs.Outcome.{Reading, Writing, IsWholeRun, Listed, NothingWritten, HasRun, WasRun, IsOutcome, Starts, Begins, Refuses}
 
 -- a library with nothing in it, and jobs begun over it
 pub stands-begun : {S : Type 0} (old new : LibraryOver S) (names : List (List ℕ)) → Stands old empty_library → BeginsJobs old new names → Stands new (begun empty_library names)

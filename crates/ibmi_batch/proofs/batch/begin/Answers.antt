@@ -1,13 +1,11 @@
-use Rattle.std.proofs.Common.{◌≡◌, ◌≤◌, List, ℕ, [], length, true, Some, Err, ap, refl, sym, ◌∙◌, subst, map, rules}
+use Rattle.std.proofs.Common.{◌≡◌, ◌≤◌, [], length, true, Some, Err, ap, refl, sym, ◌∙◌, subst, map, rules}
 use Rattle.std.specs.Prelude.{string_bytes}
 use Rattle.text_lines.specs.Lines.{lines_of}
 use Rattle.library_model.specs.State.{empty_library}
-use Rattle.input_scripts.specs.declared.Scripts.{Scripts}
 use Rattle.script_builder.specs.Least.{least}
 use Rattle.input_reader.specs.Input.{faults_of, input_of}
 use Rattle.ibmi_batch.specs.declared.limits.TheConstants.{MOST_INPUT}
 use Rattle.ibmi_batch.specs.Words.{are_run_words}
-use Rattle.ibmi_batch.specs.Outcome.{IsRead}
 use Rattle.ibmi_batch.proofs.RunLemmas.{stands-begun}
 use Rattle.ibmi_batch.proofs.batch.begin.Goals as goal
 
