@@ -45,7 +45,8 @@ module _ {A : Type 0} (p : A → Bool) where
   lookup-push [] key n = refl
   lookup-push (thing ∷ things) key n =
       let others = lookup-push things key n in
-      elim (p thing.0) as (λ v. cond v (Some thing.1) (lookup p (things ++ (key, n) ∷ [])) ≡ or_else (cond v (Some thing.1) (lookup p things)) (cond (p key) (Some n) None)) [ true ↦ refl | false ↦ others ]
+      elim (p thing.0) as (λ v. cond v (Some thing.1) (lookup p (things ++ (key, n) ∷ [])) ≡ or_else (cond v (Some thing.1) (lookup p things)) (cond (p key) (Some n) None))
+      [ true ↦ refl | false ↦ others ]
 
 same_is : (q name : List ℕ) → same_name q name ≡ true → q ≡ name
 same_is q name same = (bytes_eq-Decides q name).0 same
@@ -66,7 +67,8 @@ again names places name q i n first some None here = ⊎_elim
 pub first_places-more : (names : List (List ℕ)) (places : Named ℕ) (name : List ℕ) → AreFirstPlaces names places → AreFirstPlaces (names ++ name ∷ []) (with_first name (length names) places)
 first_places-more names places name first = λ q. decided q (named name places) refl
   where
-    decided : (q : List ℕ) (found : Option ℕ) → named name places ≡ found → named q (cond (is_some (named name places)) places (places ++ (name, length names) ∷ [])) ≡ position (same_name q) (names ++ name ∷ [])
+    decided : (q : List ℕ) (found : Option ℕ) → named name places ≡ found
+        → named q (cond (is_some (named name places)) places (places ++ (name, length names) ∷ [])) ≡ position (same_name q) (names ++ name ∷ [])
     decided q (Some i) some =
         ap (λ o. named q (cond (is_some o) places (places ++ (name, length names) ∷ []))) some
         ∙ first q ∙ again names places name q i (length names) first some (position (same_name q) names) refl ∙ sym (position-push (same_name q) names name)

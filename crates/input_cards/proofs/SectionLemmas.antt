@@ -106,13 +106,15 @@ two_parts (line ∷ lines) =
     elim (is_card line) as (λ v. line ∷ lines ≡ cond v [] (line ∷ before_card lines) ++ cond v (line ∷ lines) (from_card lines)) [ true ↦ refl | false ↦ ap (λ l. line ∷ l) (two_parts lines) ]
 
 -- the lines of a section whose text begins at this place
-pub section-lines : (bytes : List ℕ) (place n : ℕ) (lines : List (List ℕ)) → lines_of (drop place bytes) ≡ lines → n ≡ bytes_of (before_card lines) → lines_of (bytes_between place (place + n) bytes) ≡ before_card lines
+pub section-lines : (bytes : List ℕ) (place n : ℕ) (lines : List (List ℕ)) → lines_of (drop place bytes) ≡ lines → n ≡ bytes_of (before_card lines)
+    → lines_of (bytes_between place (place + n) bytes) ≡ before_card lines
 section-lines bytes place n lines here count =
     let all : (place + n) - place ≡ bytes_of (before_card lines) = omega arith in
     ap (λ k. lines_of (take k (drop place bytes))) all ∙ front-lies (drop place bytes) (before_card lines) (from_card lines) (here ∙ two_parts lines)
 
 -- one line further
-pub next-lies : (bytes rest line : List ℕ) (others : List (List ℕ)) (place : ℕ) → lines_of (drop place bytes) ≡ lines_of rest → lines_of rest ≡ line ∷ others → lines_of (drop (place + (length line + 1)) bytes) ≡ others
+pub next-lies : (bytes rest line : List ℕ) (others : List (List ℕ)) (place : ℕ) → lines_of (drop place bytes) ≡ lines_of rest → lines_of rest ≡ line ∷ others
+    → lines_of (drop (place + (length line + 1)) bytes) ≡ others
 next-lies bytes rest line others place here first =
     ap lines_of (sym (drop-drop (length line + 1) place bytes)) ∙ (cut-first (drop place bytes) line others (here ∙ first)).behind
 
@@ -159,7 +161,8 @@ made-card bytes made section number line lines rest all card same first before =
     ap (λ parts. parts ++ parts_from (number + 1) lines) (parts_in-append bytes made (section ∷ []))
     ∙ append_assoc (parts_in bytes made) (part_in bytes section ∷ []) (parts_from (number + 1) lines)
     ∙ ap (λ part. parts_in bytes made ++ part ∷ parts_from (number + 1) lines) same
-    ∙ ap (λ parts. parts_in bytes made ++ parts) (sym (cond-true (is_card line) (record { line = number; card = card_of line; lines = before_card lines } ∷ parts_from (number + 1) lines) (parts_from (number + 1) lines) card))
+    ∙ ap (λ parts. parts_in bytes made ++ parts)
+    (sym (cond-true (is_card line) (record { line = number; card = card_of line; lines = before_card lines } ∷ parts_from (number + 1) lines) (parts_from (number + 1) lines) card))
     ∙ ap (λ r. parts_in bytes made ++ parts_from number r) (sym first)
     ∙ before
 
@@ -168,7 +171,8 @@ pub made-line : (made : List Part) (number : ℕ) (line : List ℕ) (lines rest 
     → made ++ parts_from number rest ≡ all → made ++ parts_from (number + 1) lines ≡ all
 unfolding parts_from
 made-line made number line lines rest all other first before =
-    ap (λ parts. made ++ parts) (sym (cond-false (is_card line) (record { line = number; card = card_of line; lines = before_card lines } ∷ parts_from (number + 1) lines) (parts_from (number + 1) lines) other))
+    ap (λ parts. made ++ parts)
+    (sym (cond-false (is_card line) (record { line = number; card = card_of line; lines = before_card lines } ∷ parts_from (number + 1) lines) (parts_from (number + 1) lines) other))
     ∙ ap (λ r. made ++ parts_from number r) (sym first)
     ∙ before
 

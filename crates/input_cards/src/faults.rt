@@ -7,7 +7,8 @@ ghost use Rattle.script_builder.specs.Faults.{noted};
 ghost use Rattle.text_lines.specs.Lines.{lines_of};
 ghost use Rattle.input_cards.specs.Sections.{parts_of};
 ghost use Rattle.input_cards.specs.SectionTexts.{parts_in};
-ghost use Rattle.input_cards.specs.CardFaults.{loose_line, bad_cards, after_schedule, after_end, is_end, missing_end, second_schedules, repeated_cards, source_name, job_name, names_of, unknown_turns, plain_faults, card_faults};
+ghost use Rattle.input_cards.specs.CardFaults.{loose_line, bad_cards, after_schedule, after_end, is_end, missing_end, second_schedules};
+ghost use Rattle.input_cards.specs.CardFaults.{repeated_cards, source_name, job_name, names_of, unknown_turns, plain_faults, card_faults};
 
 use crate::kinds::{is_end, is_schedule, job_name, names_unknown, source_name};
 use crate::limits::{MOST_INPUT, MOST_SOURCES};

@@ -6,4 +6,5 @@ use Rattle.input_cards.specs.CardFaults.{job_name, repeated_cards}
 use Rattle.input_cards.proofs.faults.repeated_job.Given as goal
 
 abbrev pub invariant-loop-section : goal.invariant-loop-section
-invariant-loop-section l = (bytes : List ℕ) → lesser l.first (least (repeated_cards job_name MOST_JOBS (parts_in bytes (drop l.section-index l.sections)) l.earlier)) ≡ least (repeated_cards job_name MOST_JOBS (parts_in bytes l.sections) [])
+invariant-loop-section l = (bytes : List ℕ)
+    → lesser l.first (least (repeated_cards job_name MOST_JOBS (parts_in bytes (drop l.section-index l.sections)) l.earlier)) ≡ least (repeated_cards job_name MOST_JOBS (parts_in bytes l.sections) [])

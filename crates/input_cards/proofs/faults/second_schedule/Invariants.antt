@@ -5,4 +5,5 @@ use Rattle.input_cards.specs.CardFaults.{second_schedules}
 use Rattle.input_cards.proofs.faults.second_schedule.Given as goal
 
 abbrev pub invariant-loop-section : goal.invariant-loop-section
-invariant-loop-section l = (bytes : List ℕ) → lesser l.first (least (second_schedules (parts_in bytes (drop l.section-index l.sections)) l.earlier)) ≡ least (second_schedules (parts_in bytes l.sections) false)
+invariant-loop-section l = (bytes : List ℕ)
+    → lesser l.first (least (second_schedules (parts_in bytes (drop l.section-index l.sections)) l.earlier)) ≡ least (second_schedules (parts_in bytes l.sections) false)
