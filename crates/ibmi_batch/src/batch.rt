@@ -9,7 +9,7 @@ ghost use Rattle.ibmi_batch.specs.Outcome.{IsOutcome, IsWholeRun, Starts, Begins
 use crate::limits::MOST_INPUT;
 use crate::status::Status;
 use crate::words::are_run_words;
-use input_reader::{InputError, read_input};
+use input_reader::input::{InputError, read_input};
 use job_runner::{Ran, Session};
 use library_core::library::Library;
 use library_model::calls::Call;
