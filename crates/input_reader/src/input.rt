@@ -10,6 +10,7 @@ ghost use Rattle.input_reader.specs.Ready.{AreReady};
 ghost use Rattle.input_reader.specs.declared.input.InputError.TheVariants.{NoMemory};
 
 use crate::jobs::read_jobs;
+use crate::keyed_sources::keyed_source;
 use crate::schedules::schedule;
 use crate::sources::sources;
 use input_cards::faults::{card_fault, job_names, lesser};
@@ -49,7 +50,8 @@ pub fn read_input(alloc: Global, bytes: &[u8]) -> Result<Scripts, InputError>
     let sections = sections.as_slice();
     let cards = card_fault(alloc, bytes, sections)?;
     let jobs = read_jobs(alloc, bytes, sections)?;
-    match lesser(cards, jobs.fault) {
+    let keyed = keyed_source(alloc, bytes, sections)?;
+    match lesser(lesser(cards, jobs.fault), keyed) {
         Some(line) => Err(InputError::Script { line }),
         None => Ok(scripts_by(alloc, bytes, sections, jobs.scripts)?),
     }

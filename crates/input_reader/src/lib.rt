@@ -3,5 +3,6 @@
 
 pub mod input;
 mod jobs;
+mod keyed_sources;
 mod schedules;
 mod sources;
