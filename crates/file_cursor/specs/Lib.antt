@@ -1,0 +1,3 @@
+pub mod CursorPosition
+pub mod Finding
+pub mod Reading

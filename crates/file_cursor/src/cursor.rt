@@ -1,0 +1,87 @@
+//! The cursor of an open.
+ghost use Rattle.std.specs.Prelude.{◌≡◌, ◌≤◌, length, IfOk, if◌then◌else◌};
+ghost use Rattle.file_cursor.specs.CursorPosition.{Start, On, key_in, lower_limit, greater_than, entry_of, moved_to, marked};
+
+use crate::places::{Hit, Place};
+use crate::spot::{Spot, Stand};
+use std::alloc::{AllocError, Global};
+use std::marker::Model;
+
+/// Where an open stands, and a position that it keeps beside.
+#[derive(Drop)]
+pub struct Cursor {
+    now: Spot,
+    kept: Spot,
+}
+
+impl Model for Cursor {
+    ghost use Rattle.std.specs.Prelude.{◌≤◌};
+    ghost use Rattle.file_cursor.specs.CursorPosition.{CursorState};
+
+    ghost Value = { CursorState };
+
+    ghost view = { λ c. record { position = c.now.position; kept = c.kept.position; room = c.now.room; kept_room = c.kept.room } };
+
+    ghost invariant = { λ c. c.kept.room ≤ c.now.room };
+}
+
+impl Cursor {
+    /// A cursor at the start, with room for a key of that many bytes, and with `twice` for two positions.
+    pub fn with_room(alloc: Global, bytes: usize, twice: bool) -> Result<Cursor, AllocError>
+        ensures { IfOk result (λ cursor. cursor ≡ record { position = Start; kept = Start; room = bytes; kept_room = (if twice then bytes else 0) }) }
+    {
+        let now = Spot::with_room(alloc, bytes)?;
+        let kept = Spot::with_room(alloc, if twice { bytes } else { 0 })?;
+        Ok(Cursor { now, kept })
+    }
+
+    /// Stands before the first entry that isn't less than a place. It takes no memory.
+    pub fn setll(&mut self, to: Place<'_>)
+        requires { length (key_in to) ≤ self.old.room }
+        ensures { self.new ≡ moved_to (lower_limit to.entry) self.old }
+    {
+        match to {
+            Place::Low => self.now.set(Stand::Start, &[]),
+            Place::High => self.now.set(Stand::End, &[]),
+            Place::Key(key) => self.now.set(Stand::BeforeKey, key),
+            Place::Rrn(rrn) => self.now.set(Stand::BeforeNumber(rrn), &[]),
+        }
+    }
+
+    /// Stands past the last entry that isn't greater than a place. It takes no memory.
+    pub fn setgt(&mut self, to: Place<'_>)
+        requires { length (key_in to) ≤ self.old.room }
+        ensures { self.new ≡ moved_to (greater_than to.entry) self.old }
+    {
+        match to {
+            Place::Low => self.now.set(Stand::Start, &[]),
+            Place::High => self.now.set(Stand::End, &[]),
+            Place::Key(key) => self.now.set(Stand::PastKey, key),
+            Place::Rrn(rrn) => self.now.set(Stand::PastNumber(rrn), &[]),
+        }
+    }
+
+    /// Stands on what a read found. It takes no memory.
+    pub fn settle(&mut self, hit: &Hit<'_>)
+        requires { length hit.now.key.now ≤ self.old.room }
+        ensures { self.new ≡ moved_to (On (entry_of hit.now)) self.old }
+    {
+        let Hit { format, rrn, key } = *hit;
+        self.now.set(Stand::On { format, rrn }, key);
+    }
+
+    /// Keeps the position beside. It takes no memory.
+    pub fn mark(&mut self)
+        requires { self.old.room ≤ self.old.kept_room }
+        ensures { self.new ≡ marked self.old }
+    {
+        self.kept.set_as(&self.now);
+    }
+
+    /// Stands at the position that is kept, which is the start before the first `mark`. It takes no memory.
+    pub fn go_back(&mut self)
+        ensures { self.new ≡ moved_to self.old.kept self.old }
+    {
+        self.now.set_as(&self.kept);
+    }
+}

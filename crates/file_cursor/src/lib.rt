@@ -1,0 +1,7 @@
+//! Where an open stands, and what a read finds from there, in key order or in arrival order. Begin with
+//! `specs/Finding.antt`.
+#![tactic(auto)]
+
+pub mod cursor;
+pub mod places;
+mod spot;

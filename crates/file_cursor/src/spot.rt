@@ -1,0 +1,73 @@
+//! One position, with the bytes of its key.
+ghost use Rattle.std.specs.Prelude.{◌≡◌, ◌≤◌, length, IfOk};
+ghost use Rattle.file_cursor.specs.CursorPosition.{Start, position_of};
+
+use std::alloc::{AllocError, Global};
+use std::marker::Model;
+
+/// How a position stands to its key, or to a number.
+#[derive(Clone, Copy)]
+pub(crate) enum Stand {
+    Start,
+    End,
+    On { format: u16, rrn: u32 },
+    BeforeKey,
+    PastKey,
+    BeforeNumber(u32),
+    PastNumber(u32),
+}
+
+/// A position. Contracts see it with the room for its key.
+#[derive(Drop)]
+pub(crate) struct Spot {
+    stand: Stand,
+    key: Vec<u8>,
+    room: usize,
+}
+
+impl Model for Spot {
+    ghost use Rattle.std.specs.Prelude.{◌≤◌, length, vec_capacity};
+    ghost use Rattle.file_cursor.specs.CursorPosition.{SpotState, position_of};
+
+    ghost Value = { SpotState };
+
+    ghost view = { λ s. record { position = position_of s.stand s.key.items; room = s.room } };
+
+    ghost invariant = { λ s. (s.room ≤ vec_capacity s.key) × (length s.key.items ≤ s.room) };
+}
+
+impl Spot {
+    /// The start, with room for a key of that many bytes.
+    pub(crate) fn with_room(alloc: Global, bytes: usize) -> Result<Spot, AllocError>
+        ensures { IfOk result (λ spot. spot ≡ record { position = Start; room = bytes }) }
+    {
+        let key = Vec::with_capacity(alloc, bytes)?;
+        Ok(Spot {
+            stand: Stand::Start,
+            key,
+            room: bytes,
+        })
+    }
+
+    /// Stands elsewhere. It takes no memory.
+    pub(crate) fn set(&mut self, stand: Stand, key: &[u8])
+        requires { length key.now ≤ self.old.room }
+        ensures position { self.new.position ≡ position_of stand key.now }
+        ensures room { self.new.room ≡ self.old.room }
+    {
+        self.stand = stand;
+        self.key.clear();
+        self.key.extend_from_slice(key).unwrap();
+    }
+
+    /// Stands where the other does. It takes no memory.
+    pub(crate) fn set_as(&mut self, other: &Spot)
+        requires { other.now.room ≤ self.old.room }
+        ensures position { self.new.position ≡ other.now.position }
+        ensures room { self.new.room ≡ self.old.room }
+    {
+        self.stand = other.stand;
+        self.key.clear();
+        self.key.extend_from_slice(other.key.as_slice()).unwrap();
+    }
+}
