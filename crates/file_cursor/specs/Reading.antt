@@ -1,18 +1,25 @@
 -- Which entries does an open read? (Database Programming, "Keyed sequence access path" and "Arrival sequence access path".)
-use Rattle.std.specs.Prelude.{ℕ, Bool, false, List, [], map}
+use Rattle.std.specs.Prelude.{◌≡◌, ℕ, nat_lt, nat_le, Bool, false, List, [], map, Option, Some, None}
+use Rattle.std.specs.declared.cmp.Ordering.TheVariants.{Less}
 use Rattle.key_pages.specs.declared.entries.Entry.{Entry}
 use Rattle.member_slots.specs.Member.{MemberState, records}
 use Rattle.file_cursor.specs.declared.places.Order.{Order}
 use Rattle.file_cursor.specs.declared.places.Order.TheVariants.{Arrival, Path}
+use Rattle.file_cursor.specs.declared.spot.Gap.{Gap}
+use Rattle.file_cursor.specs.Finding.{side_of, is_before, is_after}
 use Rattle.file_cursor.specs.CursorPosition.{CursorPosition, Start, End, On, Before, Past, ByKey, ByNumber}
 
 -- the entry of a record in arrival order, which has no key
 abbrev pub numbered : (rrn : ℕ) → Entry
 numbered rrn = record { key = []; format = 0; rrn = rrn }
 
+-- the numbers of the records of a member
+abbrev pub numbers : MemberState → List ℕ
+numbers member = map (λ pair. pair.0) (records member)
+
 -- a member in arrival order
 abbrev pub arrival_entries : MemberState → List Entry
-arrival_entries member = map (λ pair. numbered pair.0) (records member)
+arrival_entries member = map numbered (numbers member)
 
 abbrev pub entries_in : Order → List Entry
 entries_in (Arrival member) = arrival_entries member.now.state
@@ -37,3 +44,13 @@ IsByKey (Past (ByNumber n)) = ⊥
 abbrev pub Suits : Order → CursorPosition → Type 0
 Suits (Arrival member) position = Unit {0}
 Suits (Path path) position = IsByKey position
+
+-- which numbers are before a position, and which are after it
+pub record IsGap (position : CursorPosition) (gap : Gap) : Type 0 where
+  pub before : (n : ℕ) → is_before false position (numbered n) ≡ nat_lt n gap.until
+  pub after : (n : ℕ) → is_after false position (numbered n) ≡ nat_le gap.from n
+
+-- the gap, or none where all numbers are before the position
+abbrev pub ByNumbers : CursorPosition → Option Gap → Type 0
+ByNumbers position None = (n : ℕ) → side_of false position (numbered n) ≡ Less
+ByNumbers position (Some gap) = IsGap position gap

@@ -1,16 +1,20 @@
 //! The cursor of an open.
 ghost use Rattle.std.specs.Prelude.{◌≡◌, ◌≤◌, length, IfOk, if◌then◌else◌};
 ghost use Rattle.file_cursor.specs.CursorPosition.{Start, On, key_in, lower_limit, greater_than, entry_of, moved_to, marked};
+ghost use Rattle.std.specs.Option.{option_map};
+ghost use Rattle.file_cursor.specs.Finding.{next_from, prior_from};
+ghost use Rattle.file_cursor.specs.Reading.{Suits, falls, entries_in};
 
-use crate::places::{Hit, Place};
+use crate::places::{Hit, Order, Place};
 use crate::spot::{Spot, Stand};
+use crate::{arrival, keyed};
 use std::alloc::{AllocError, Global};
 use std::marker::Model;
 
 /// Where an open stands, and a position that it keeps beside.
 #[derive(Drop)]
 pub struct Cursor {
-    now: Spot,
+    current: Spot,
     kept: Spot,
 }
 
@@ -20,9 +24,9 @@ impl Model for Cursor {
 
     ghost Value = { CursorState };
 
-    ghost view = { λ c. record { position = c.now.position; kept = c.kept.position; room = c.now.room; kept_room = c.kept.room } };
+    ghost view = { λ c. record { position = c.current.position; kept = c.kept.position; room = c.current.room; kept_room = c.kept.room } };
 
-    ghost invariant = { λ c. c.kept.room ≤ c.now.room };
+    ghost invariant = { λ c. c.kept.room ≤ c.current.room };
 }
 
 impl Cursor {
@@ -30,9 +34,9 @@ impl Cursor {
     pub fn with_room(alloc: Global, bytes: usize, twice: bool) -> Result<Cursor, AllocError>
         ensures { IfOk result (λ cursor. cursor ≡ record { position = Start; kept = Start; room = bytes; kept_room = (if twice then bytes else 0) }) }
     {
-        let now = Spot::with_room(alloc, bytes)?;
+        let current = Spot::with_room(alloc, bytes)?;
         let kept = Spot::with_room(alloc, if twice { bytes } else { 0 })?;
-        Ok(Cursor { now, kept })
+        Ok(Cursor { current, kept })
     }
 
     /// Stands before the first entry that isn't less than a place. It takes no memory.
@@ -41,10 +45,10 @@ impl Cursor {
         ensures { self.new ≡ moved_to (lower_limit to.entry) self.old }
     {
         match to {
-            Place::Low => self.now.set(Stand::Start, &[]),
-            Place::High => self.now.set(Stand::End, &[]),
-            Place::Key(key) => self.now.set(Stand::BeforeKey, key),
-            Place::Rrn(rrn) => self.now.set(Stand::BeforeNumber(rrn), &[]),
+            Place::Low => self.current.set(Stand::Start, &[]),
+            Place::High => self.current.set(Stand::End, &[]),
+            Place::Key(key) => self.current.set(Stand::BeforeKey, key),
+            Place::Rrn(rrn) => self.current.set(Stand::BeforeNumber(rrn), &[]),
         }
     }
 
@@ -54,10 +58,10 @@ impl Cursor {
         ensures { self.new ≡ moved_to (greater_than to.entry) self.old }
     {
         match to {
-            Place::Low => self.now.set(Stand::Start, &[]),
-            Place::High => self.now.set(Stand::End, &[]),
-            Place::Key(key) => self.now.set(Stand::PastKey, key),
-            Place::Rrn(rrn) => self.now.set(Stand::PastNumber(rrn), &[]),
+            Place::Low => self.current.set(Stand::Start, &[]),
+            Place::High => self.current.set(Stand::End, &[]),
+            Place::Key(key) => self.current.set(Stand::PastKey, key),
+            Place::Rrn(rrn) => self.current.set(Stand::PastNumber(rrn), &[]),
         }
     }
 
@@ -67,7 +71,7 @@ impl Cursor {
         ensures { self.new ≡ moved_to (On (entry_of hit.now)) self.old }
     {
         let Hit { format, rrn, key } = *hit;
-        self.now.set(Stand::On { format, rrn }, key);
+        self.current.set(Stand::On { format, rrn }, key);
     }
 
     /// Keeps the position beside. It takes no memory.
@@ -75,13 +79,35 @@ impl Cursor {
         requires { self.old.room ≤ self.old.kept_room }
         ensures { self.new ≡ marked self.old }
     {
-        self.kept.set_as(&self.now);
+        self.kept.set_as(&self.current);
     }
 
     /// Stands at the position that is kept, which is the start before the first `mark`. It takes no memory.
     pub fn go_back(&mut self)
         ensures { self.new ≡ moved_to self.old.kept self.old }
     {
-        self.now.set_as(&self.kept);
+        self.current.set_as(&self.kept);
+    }
+
+    /// What READ finds: the first entry after the position.
+    pub fn read<'a>(&self, over: Order<'a>) -> Option<Hit<'a>>
+        requires { Suits over self.now.position }
+        ensures { option_map entry_of result ≡ next_from (falls over.entry) (entries_in over.entry) self.now.position }
+    {
+        match over {
+            Order::Arrival(member) => arrival::next(&self.current, member),
+            Order::Path(path) => keyed::next(&self.current, path),
+        }
+    }
+
+    /// What READP finds: the last entry before the position.
+    pub fn readp<'a>(&self, over: Order<'a>) -> Option<Hit<'a>>
+        requires { Suits over self.now.position }
+        ensures { option_map entry_of result ≡ prior_from (falls over.entry) (entries_in over.entry) self.now.position }
+    {
+        match over {
+            Order::Arrival(member) => arrival::prior(&self.current, member),
+            Order::Path(path) => keyed::prior(&self.current, path),
+        }
     }
 }

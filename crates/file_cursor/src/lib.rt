@@ -2,6 +2,8 @@
 //! `specs/Finding.antt`.
 #![tactic(auto)]
 
+mod arrival;
 pub mod cursor;
+mod keyed;
 pub mod places;
 mod spot;

@@ -1,7 +1,12 @@
 //! One position, with the bytes of its key.
-ghost use Rattle.std.specs.Prelude.{◌≡◌, ◌≤◌, length, IfOk};
+ghost use Rattle.std.specs.Prelude.{◌≡◌, ◌≤◌, ℕ, Bool, length, IfOk};
+ghost use Rattle.key_pages.specs.declared.entries.Entry.{Entry};
+ghost use Rattle.key_pages.specs.Position as pages;
 ghost use Rattle.file_cursor.specs.CursorPosition.{Start, position_of};
+ghost use Rattle.file_cursor.specs.Finding.{side_of};
+ghost use Rattle.file_cursor.specs.Reading.{IsByKey, ByNumbers};
 
+use key_pages::Position;
 use std::alloc::{AllocError, Global};
 use std::marker::Model;
 
@@ -15,6 +20,13 @@ pub(crate) enum Stand {
     PastKey,
     BeforeNumber(u32),
     PastNumber(u32),
+}
+
+/// What a position is among relative record numbers: those below one are before it, and those from the other on after it.
+#[derive(Clone, Copy)]
+pub(crate) struct Gap {
+    pub(crate) until: u64,
+    pub(crate) from: u64,
 }
 
 /// A position. Contracts see it with the room for its key.
@@ -69,5 +81,44 @@ impl Spot {
         self.stand = other.stand;
         self.key.clear();
         self.key.extend_from_slice(other.key.as_slice()).unwrap();
+    }
+
+    /// The position among the entries of a path.
+    pub(crate) fn in_path(&self) -> Position<'_>
+        requires { IsByKey self.now.position }
+        ensures { (falling : Bool) (entry : Entry) → pages.side_of falling result entry ≡ side_of falling self.now.position entry }
+    {
+        let key = self.key.as_slice();
+        match self.stand {
+            Stand::Start => Position::Start,
+            Stand::End => Position::End,
+            Stand::On { format, rrn } => Position::On { key, format, rrn },
+            Stand::BeforeKey => Position::Before(key),
+            Stand::PastKey => Position::Past(key),
+            Stand::BeforeNumber(_) | Stand::PastNumber(_) => unreachable!(),
+        }
+    }
+
+    /// The gap between relative record numbers, or none where all numbers are before the position.
+    pub(crate) fn by_numbers(&self) -> Option<Gap>
+        ensures { ByNumbers self.now.position result }
+    {
+        match self.stand {
+            Stand::Start => Some(Gap { until: 0, from: 0 }),
+            Stand::On { format: 0, rrn } if self.key.is_empty() => Some(Gap {
+                until: u64::from(rrn),
+                from: u64::from(rrn) + 1,
+            }),
+            Stand::BeforeKey if self.key.is_empty() => Some(Gap { until: 0, from: 0 }),
+            Stand::BeforeNumber(rrn) => Some(Gap {
+                until: u64::from(rrn),
+                from: u64::from(rrn),
+            }),
+            Stand::PastNumber(rrn) => Some(Gap {
+                until: u64::from(rrn) + 1,
+                from: u64::from(rrn) + 1,
+            }),
+            Stand::End | Stand::On { .. } | Stand::BeforeKey | Stand::PastKey => None,
+        }
     }
 }

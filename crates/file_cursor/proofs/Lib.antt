@@ -1,0 +1,4 @@
+pub mod SideLemmas
+pub mod ListLemmas
+pub mod ArrivalLemmas
+pub mod ReadLemmas

@@ -1,0 +1,44 @@
+//! Reading by key.
+ghost use Rattle.std.specs.Prelude.{◌≡◌, IfSome};
+ghost use Rattle.std.specs.Option.{option_map};
+ghost use Rattle.file_cursor.specs.CursorPosition.{entry_of};
+ghost use Rattle.file_cursor.specs.Finding.{next_from, prior_from};
+ghost use Rattle.file_cursor.specs.Reading.{IsByKey};
+
+use crate::places::Hit;
+use crate::spot::Spot;
+use access_path::path::Path;
+use key_pages::Entry;
+
+/// The first entry after a position.
+pub(crate) fn next<'a>(spot: &Spot, path: &'a Path) -> Option<Hit<'a>>
+    requires { IsByKey spot.now.position }
+    ensures { option_map entry_of result ≡ next_from path.now.falling path.now.entries spot.now.position }
+{
+    let Some(entry) = path.pages().next_entry(&spot.in_path()) else {
+        return None;
+    };
+    Some(hit_on(entry))
+}
+
+/// The last entry before a position.
+pub(crate) fn prior<'a>(spot: &Spot, path: &'a Path) -> Option<Hit<'a>>
+    requires { IsByKey spot.now.position }
+    ensures { option_map entry_of result ≡ prior_from path.now.falling path.now.entries spot.now.position }
+{
+    let Some(entry) = path.pages().prior_entry(&spot.in_path()) else {
+        return None;
+    };
+    Some(hit_on(entry))
+}
+
+/// What a read gives of an entry.
+fn hit_on(entry: &Entry) -> Hit<'_>
+    ensures { entry_of result ≡ entry.now }
+{
+    Hit {
+        format: entry.format,
+        rrn: entry.rrn,
+        key: entry.key.as_bytes(),
+    }
+}
