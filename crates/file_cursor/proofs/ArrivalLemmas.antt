@@ -1,5 +1,5 @@
 -- The numbers of the records of a list of slots, from one number on and up to one.
-use Rattle.std.proofs.Common.{◌≡◌, ℕ, suc, zero, ◌+◌, ◌-◌, ◌<◌, ◌≤◌, ◌==◌, nat_le, nat_lt, Bool, true, false, cond, Option, Some, None, List, [], ◌∷◌, ◌++◌, length, map, take, drop, reverse, refl, ap, sym, ◌∙◌, arith}
+use Rattle.std.proofs.Common.{◌≡◌, ℕ, suc, zero, ◌+◌, ◌-◌, ◌<◌, ◌≤◌, ◌==◌, nat_le, nat_lt, Bool, true, false, Option, Some, None, List, [], ◌∷◌, ◌++◌, length, map, take, drop, reverse, refl, ap, sym, ◌∙◌, arith}
 use Rattle.std.specs.Prelude.{find, slice_get}
 use Rattle.std.specs.Option.{option_or}
 use Rattle.std.proofs.lemmas.Bool.{cond-true, cond-false}
@@ -9,7 +9,6 @@ use Rattle.std.proofs.lemmas.List.Folds.{find-append}
 use Rattle.member_slots.specs.declared.slot.Slot.{Slot}
 use Rattle.member_slots.specs.declared.slot.Slot.TheVariants.{Live, Deleted}
 use Rattle.member_slots.specs.Member.{MemberState, records_from, slot_at}
-use Rattle.file_cursor.proofs.ListLemmas.{reverse-cons}
 
 -- the numbers of the records, of which the first slot has this number
 abbrev pub numbers_from : ℕ → List Slot → List ℕ
@@ -32,28 +31,31 @@ below-false n until low = grind (arith, nat_tests)
 
 -- ---- from a number on
 
-module _ (from : ℕ) where
-  abbrev pub first : List ℕ → Option ℕ
-  first ns = find (λ n. nat_le from n) ns
-
-  pub skip : (r n : ℕ) (slots : List Slot) → r + n ≤ from → first (numbers_from r slots) ≡ first (numbers_from (r + n) (drop n slots))
-  skip r zero slots low = ap (λ (k : ℕ). first (numbers_from k slots)) (let e : r ≡ r + 0 = omega arith in e)
+module _ (p : ℕ → Bool) (from : ℕ) (below : (n : ℕ) → n < from → p n ≡ false) where
+  skip : (r n : ℕ) (slots : List Slot) → r + n ≤ from → find p (numbers_from r slots) ≡ find p (numbers_from (r + n) (drop n slots))
+  skip r zero slots low = ap (λ (k : ℕ). find p (numbers_from k slots)) (let e : r ≡ r + 0 = omega arith in e)
   skip r (suc n) [] low = refl
   skip r (suc n) (Deleted ∷ slots) low =
       skip (r + 1) n slots (omega arith)
-      ∙ ap (λ (k : ℕ). first (numbers_from k (drop n slots))) (let e : r + 1 + n ≡ r + suc n = omega arith in e)
+      ∙ ap (λ (k : ℕ). find p (numbers_from k (drop n slots))) (let e : r + 1 + n ≡ r + suc n = omega arith in e)
   skip r (suc n) (Live image ∷ slots) low =
-      cond-false (nat_le from r) (Some r) (first (numbers_from (r + 1) slots)) (is-false from r (omega arith))
+      cond-false (p r) (Some r) (find p (numbers_from (r + 1) slots)) (below r (omega arith))
       ∙ skip (r + 1) n slots (omega arith)
-      ∙ ap (λ (k : ℕ). first (numbers_from k (drop n slots))) (let e : r + 1 + n ≡ r + suc n = omega arith in e)
+      ∙ ap (λ (k : ℕ). find p (numbers_from k (drop n slots))) (let e : r + 1 + n ≡ r + suc n = omega arith in e)
 
-  pub first-begins : (rrn : ℕ) (slots : List Slot) → 1 ≤ rrn → rrn ≤ 1 + (from - 1) → first (numbers_from rrn (drop (rrn - 1) slots)) ≡ first (numbers_from 1 slots)
-  first-begins zero slots some low = absurd (omega arith)
-  first-begins (suc zero) slots some low = refl
-  first-begins (suc (suc m)) slots some low =
-      ap (λ (k : ℕ). first (numbers_from (suc (suc m)) (drop k slots))) (one-less (suc m))
+  begins : (rrn : ℕ) (slots : List Slot) → 1 ≤ rrn → rrn ≤ 1 + (from - 1) → find p (numbers_from rrn (drop (rrn - 1) slots)) ≡ find p (numbers_from 1 slots)
+  begins zero slots some low = absurd (omega arith)
+  begins (suc zero) slots some low = refl
+  begins (suc (suc m)) slots some low =
+      ap (λ (k : ℕ). find p (numbers_from (suc (suc m)) (drop k slots))) (one-less (suc m))
       ∙ sym (skip 1 (suc m) slots (omega arith)
-      ∙ ap (λ (k : ℕ). first (numbers_from k (drop (suc m) slots))) (let e : 1 + suc m ≡ suc (suc m) = omega arith in e))
+      ∙ ap (λ (k : ℕ). find p (numbers_from k (drop (suc m) slots))) (let e : 1 + suc m ≡ suc (suc m) = omega arith in e))
+
+abbrev pub first : (from : ℕ) → List ℕ → Option ℕ
+first from ns = find (λ n. nat_le from n) ns
+
+pub first-begins : (from rrn : ℕ) (slots : List Slot) → 1 ≤ rrn → rrn ≤ 1 + (from - 1) → first from (numbers_from rrn (drop (rrn - 1) slots)) ≡ first from (numbers_from 1 slots)
+first-begins from = begins (λ n. nat_le from n) from (λ n low. is-false from n low)
 
 drop-end : (n : ℕ) (slots : List Slot) → length slots ≤ n → drop n slots ≡ []
 drop-end zero [] long = refl
@@ -93,6 +95,43 @@ first-deleted from (suc k) member some is =
     ap (λ (j : ℕ). first from (numbers_from (suc k + 1) (drop j member.slots))) (let e : suc k + 1 - 1 ≡ suc k = omega arith in e)
     ∙ sym (ap (λ (j : ℕ). first from (numbers_from (suc k) (drop j member.slots))) (one-less k)
     ∙ ap (λ w. first from (numbers_from (suc k) w)) (at-place k member.slots Deleted (place-of k member Deleted is)))
+
+-- ---- one number
+
+equal-none : (rrn r : ℕ) (slots : List Slot) → rrn < r → find (λ n. n == rrn) (numbers_from r slots) ≡ None
+equal-none rrn r [] high = refl
+equal-none rrn r (Deleted ∷ slots) high = equal-none rrn (r + 1) slots (omega arith)
+equal-none rrn r (Live image ∷ slots) high =
+    cond-false (r == rrn) (Some r) (find (λ n. n == rrn) (numbers_from (r + 1) slots)) (let e : (r == rrn) ≡ false = grind (arith, nat_tests) in e)
+    ∙ equal-none rrn (r + 1) slots (omega arith)
+
+equal-begins : (rrn : ℕ) (slots : List Slot) → 1 ≤ rrn → find (λ n. n == rrn) (numbers_from rrn (drop (rrn - 1) slots)) ≡ find (λ n. n == rrn) (numbers_from 1 slots)
+equal-begins rrn slots some = begins (λ n. n == rrn) rrn (λ n low. let e : (n == rrn) ≡ false = grind (arith, nat_tests) in e) rrn slots some (omega arith)
+
+pub equal-past : (rrn : ℕ) (slots : List Slot) → length slots < rrn → find (λ n. n == rrn) (numbers_from 1 slots) ≡ None
+equal-past rrn slots past =
+    sym (equal-begins rrn slots (omega arith)) ∙ ap (λ w. find (λ n. n == rrn) (numbers_from rrn w)) (drop-end (rrn - 1) slots (omega arith))
+
+pub equal-zero : (slots : List Slot) → find (λ n. n == 0) (numbers_from 1 slots) ≡ None
+equal-zero slots = equal-none 0 1 slots (omega arith)
+
+equal-there : (k : ℕ) (member : MemberState) (slot : Slot) → slot_at member (suc k) ≡ Some slot
+    → find (λ n. n == suc k) (numbers_from 1 member.slots) ≡ find (λ n. n == suc k) (numbers_from (suc k) (slot ∷ drop (suc k) member.slots))
+equal-there k member slot is =
+    sym (equal-begins (suc k) member.slots (omega arith))
+    ∙ ap (λ (j : ℕ). find (λ n. n == suc k) (numbers_from (suc k) (drop j member.slots))) (one-less k)
+    ∙ ap (λ w. find (λ n. n == suc k) (numbers_from (suc k) w)) (at-place k member.slots slot (place-of k member slot is))
+
+pub equal-live : (rrn : ℕ) (member : MemberState) (image : List ℕ) → 1 ≤ rrn → slot_at member rrn ≡ Some (Live image) → find (λ n. n == rrn) (numbers_from 1 member.slots) ≡ Some rrn
+equal-live zero member image some is = absurd (omega arith)
+equal-live (suc k) member image some is =
+    equal-there k member (Live image) is
+    ∙ cond-true (suc k == suc k) (Some (suc k)) (find (λ n. n == suc k) (numbers_from (suc k + 1) (drop (suc k) member.slots)))
+    (let e : (suc k == suc k) ≡ true = grind (arith, nat_tests) in e)
+
+pub equal-deleted : (rrn : ℕ) (member : MemberState) → 1 ≤ rrn → slot_at member rrn ≡ Some Deleted → find (λ n. n == rrn) (numbers_from 1 member.slots) ≡ None
+equal-deleted zero member some is = absurd (omega arith)
+equal-deleted (suc k) member some is = equal-there k member Deleted is ∙ equal-none (suc k) (suc k + 1) (drop (suc k) member.slots) (omega arith)
 
 -- ---- up to a number
 

@@ -2,3 +2,4 @@ pub mod SideLemmas
 pub mod ListLemmas
 pub mod ArrivalLemmas
 pub mod ReadLemmas
+pub mod ChainLemmas

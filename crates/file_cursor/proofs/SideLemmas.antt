@@ -1,11 +1,8 @@
 -- A position is the same among the entries of a path and in its pages.
-use Rattle.std.proofs.Common.{◌≡◌, ℕ, Bool, cond, ◌||◌, Option, List, reverse, refl, ap, sym, ◌∙◌}
-use Rattle.std.specs.Prelude.{filter, find}
+use Rattle.std.proofs.Common.{◌≡◌, ℕ, Bool, cond, ◌||◌, List, reverse, refl, ap, sym, ◌∙◌}
 use Rattle.std.specs.declared.cmp.Ordering.{Ordering}
 use Rattle.std.specs.declared.cmp.Ordering.TheVariants.{Less, Equal, Greater}
-use Rattle.std.specs.Ordering.{ordering_then, is_lt, is_gt, is_le}
-use Rattle.std.specs.List.{last_or}
-use Rattle.key_pages.specs.Order.{key_cmp}
+use Rattle.std.specs.Ordering.{ordering_then, is_lt, is_le}
 use Rattle.key_pages.specs.Position.{is_less, begins_with}
 use Rattle.key_pages.proofs.SideLemmas.{is_less-cut, is_upto-cut}
 use Rattle.key_pages.specs.declared.entries.Entry.{Entry}

@@ -1,8 +1,8 @@
 //! Reading in arrival order. A read passes over deleted slots alone.
-ghost use Rattle.std.specs.Prelude.{◌≡◌, ◌≤◌, ◌<◌, false, nat_lt, nat_le, reverse, find, length};
+ghost use Rattle.std.specs.Prelude.{◌≡◌, false, ◌==◌, Some, None, nat_lt, nat_le, reverse, find, if◌then◌else◌};
 ghost use Rattle.std.specs.Option.{option_map};
 ghost use Rattle.file_cursor.specs.CursorPosition.{entry_of};
-ghost use Rattle.file_cursor.specs.Finding.{next_from, prior_from};
+ghost use Rattle.file_cursor.specs.Finding.{next_from, prior_from, chain_number};
 ghost use Rattle.file_cursor.specs.Reading.{arrival_entries, numbered, numbers};
 
 use crate::places::Hit;
@@ -29,6 +29,30 @@ pub(crate) fn prior<'a>(spot: &Spot, member: &Member) -> Option<Hit<'a>>
         None => u64::from(member.slots()) + 1,
     };
     hit_on(last_below(member, until))
+}
+
+/// The record of this number.
+pub(crate) fn record<'a>(member: &Member, rrn: u32) -> Option<Hit<'a>>
+    ensures { option_map entry_of result ≡ chain_number rrn (arrival_entries member.now.state) }
+{
+    if is_record(member, rrn) {
+        hit_on(Some(rrn))
+    } else {
+        None
+    }
+}
+
+/// Whether a record has this number.
+fn is_record(member: &Member, rrn: u32) -> bool
+    ensures { find (λ n. n == rrn) (numbers member.now.state) ≡ (if result then Some rrn else None) }
+{
+    if rrn == 0 || rrn > member.slots() {
+        return false;
+    }
+    match member.slot(rrn) {
+        Slot::Live(_) => true,
+        Slot::Deleted => false,
+    }
 }
 
 /// What a read gives of a record, where there is one.

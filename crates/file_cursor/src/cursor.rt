@@ -1,13 +1,16 @@
 //! The cursor of an open.
-ghost use Rattle.std.specs.Prelude.{◌≡◌, ◌≤◌, length, IfOk, if◌then◌else◌};
+ghost use Rattle.std.specs.Prelude.{◌≡◌, ◌≤◌, Some, length, IfOk, if◌then◌else◌};
 ghost use Rattle.file_cursor.specs.CursorPosition.{Start, On, key_in, lower_limit, greater_than, entry_of, moved_to, marked};
 ghost use Rattle.std.specs.Option.{option_map};
-ghost use Rattle.file_cursor.specs.Finding.{next_from, prior_from};
-ghost use Rattle.file_cursor.specs.Reading.{Suits, falls, entries_in};
+ghost use Rattle.std.specs.Ordering.{is_eq};
+ghost use Rattle.file_cursor.specs.Finding.{compare_part, where_equal, next_from, prior_from, next_equal, prior_equal, chain_key, chain_number};
+ghost use Rattle.file_cursor.specs.Reading.{Suits, falls, entries_in, arrival_entries};
 
 use crate::places::{Hit, Order, Place};
 use crate::spot::{Spot, Stand};
 use crate::{arrival, keyed};
+use access_path::path::Path;
+use member_slots::member::Member;
 use std::alloc::{AllocError, Global};
 use std::marker::Model;
 
@@ -110,4 +113,55 @@ impl Cursor {
             Order::Path(path) => keyed::prior(&self.current, path),
         }
     }
+
+    /// What READE finds: the first entry after the position, where its key begins with these bytes.
+    pub fn reade<'a>(&self, over: Order<'a>, key: &[u8]) -> Option<Hit<'a>>
+        requires { Suits over self.now.position }
+        ensures { option_map entry_of result ≡ next_equal (falls over.entry) (entries_in over.entry) key.now self.now.position }
+    {
+        let hit = self.read(over)?;
+        where_equal(hit, key)
+    }
+
+    /// What READPE finds: the last entry before the position, where its key begins with these bytes.
+    pub fn readpe<'a>(&self, over: Order<'a>, key: &[u8]) -> Option<Hit<'a>>
+        requires { Suits over self.now.position }
+        ensures { option_map entry_of result ≡ prior_equal (falls over.entry) (entries_in over.entry) key.now self.now.position }
+    {
+        let hit = self.readp(over)?;
+        where_equal(hit, key)
+    }
+}
+
+/// What CHAIN finds by key: the first entry whose key begins with these bytes.
+pub fn chain_key<'a>(path: &'a Path, key: &[u8]) -> Option<Hit<'a>>
+    ensures { option_map entry_of result ≡ chain_key key.now path.now.entries }
+{
+    let hit = keyed::first_upto(path, key)?;
+    where_equal(hit, key)
+}
+
+/// What CHAIN finds by relative record number: the record of this number.
+pub fn chain_number<'a>(member: &Member, rrn: u32) -> Option<Hit<'a>>
+    ensures { option_map entry_of result ≡ chain_number rrn (arrival_entries member.now.state) }
+{
+    arrival::record(member, rrn)
+}
+
+/// A hit, where its key begins with these bytes.
+fn where_equal<'a>(hit: Hit<'a>, key: &[u8]) -> Option<Hit<'a>>
+    ensures { option_map entry_of result ≡ where_equal key.now (Some (entry_of hit.entry)) }
+{
+    if begins_with(hit.key, key) {
+        Some(hit)
+    } else {
+        None
+    }
+}
+
+fn begins_with(key: &[u8], part: &[u8]) -> bool
+    ensures { result ≡ is_eq (compare_part part.now key.now) }
+{
+    let length = key.len().min(part.len());
+    (&key[..length]).cmp(&part).is_eq()
 }

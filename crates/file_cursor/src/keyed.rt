@@ -1,14 +1,14 @@
 //! Reading by key.
-ghost use Rattle.std.specs.Prelude.{◌≡◌, IfSome};
+ghost use Rattle.std.specs.Prelude.{◌≡◌};
 ghost use Rattle.std.specs.Option.{option_map};
 ghost use Rattle.file_cursor.specs.CursorPosition.{entry_of};
-ghost use Rattle.file_cursor.specs.Finding.{next_from, prior_from};
+ghost use Rattle.file_cursor.specs.Finding.{next_from, prior_from, where_equal, chain_key};
 ghost use Rattle.file_cursor.specs.Reading.{IsByKey};
 
 use crate::places::Hit;
 use crate::spot::Spot;
 use access_path::path::Path;
-use key_pages::Entry;
+use key_pages::{Entry, Position};
 
 /// The first entry after a position.
 pub(crate) fn next<'a>(spot: &Spot, path: &'a Path) -> Option<Hit<'a>>
@@ -27,6 +27,18 @@ pub(crate) fn prior<'a>(spot: &Spot, path: &'a Path) -> Option<Hit<'a>>
     ensures { option_map entry_of result ≡ prior_from path.now.falling path.now.entries spot.now.position }
 {
     let Some(entry) = path.pages().prior_entry(&spot.in_path()) else {
+        return None;
+    };
+    Some(hit_on(entry))
+}
+
+/// The first entry whose key begins with these bytes or is greater.
+pub(crate) fn first_upto<'a>(path: &'a Path, key: &[u8]) -> Option<Hit<'a>>
+    ensures { where_equal key.now (option_map entry_of result) ≡ chain_key key.now path.now.entries }
+{
+    let pages = path.pages();
+    pages.in_order();
+    let Some(entry) = pages.next_entry(&Position::Before(key)) else {
         return None;
     };
     Some(hit_on(entry))

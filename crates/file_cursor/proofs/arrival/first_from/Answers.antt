@@ -1,7 +1,6 @@
-use Rattle.std.proofs.Common.{Some, ◌≡◌, ◌≤◌, ◌<◌, ◌+◌, ◌-◌, length, ap, sym, subst, ◌∙◌, arith}
-use Rattle.std.proofs.lemmas.Bool.Decides.{nat_tests}
+use Rattle.std.proofs.Common.{Some, ◌≤◌, ◌<◌, ◌+◌, ◌-◌, length, ap, sym, ◌∙◌, arith}
 use Rattle.std.proofs.lemmas.Grind.{common_steps}
-use Rattle.file_cursor.proofs.ArrivalLemmas.{first-begins, first-past, first-ends, first-live, first-deleted}
+use Rattle.file_cursor.proofs.ArrivalLemmas.{first-begins, first-past, first-live, first-deleted}
 use Rattle.file_cursor.proofs.arrival.first_from.Goals as goal
 
 pub returns-then-from : goal.returns-then-from

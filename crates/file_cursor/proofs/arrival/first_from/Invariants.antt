@@ -1,4 +1,4 @@
-use Rattle.std.proofs.Common.{◌≡◌, ◌≤◌, ◌+◌, ◌-◌, drop, length}
+use Rattle.std.proofs.Common.{◌≡◌, ◌≤◌, ◌+◌, ◌-◌, drop}
 use Rattle.file_cursor.proofs.ArrivalLemmas.{first, numbers_from}
 use Rattle.file_cursor.proofs.arrival.first_from.Given as goal
 

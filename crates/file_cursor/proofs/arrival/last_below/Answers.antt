@@ -1,4 +1,4 @@
-use Rattle.std.proofs.Common.{Some, ◌≡◌, ◌≤◌, ◌<◌, ◌+◌, ◌-◌, length, take, ap, sym, subst, ◌∙◌, arith}
+use Rattle.std.proofs.Common.{Some, take, ap, sym, ◌∙◌, arith}
 use Rattle.std.proofs.lemmas.Grind.{common_steps}
 use Rattle.file_cursor.proofs.ArrivalLemmas.{numbers_from, last, last-whole, last-begins, last-live, last-deleted}
 use Rattle.file_cursor.proofs.arrival.last_below.Goals as goal

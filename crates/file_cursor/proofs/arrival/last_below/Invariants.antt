@@ -1,4 +1,4 @@
-use Rattle.std.proofs.Common.{◌≡◌, ◌≤◌, ◌<◌, ◌-◌, take, length}
+use Rattle.std.proofs.Common.{◌≡◌, ◌≤◌, ◌-◌, take, length}
 use Rattle.file_cursor.proofs.ArrivalLemmas.{last, numbers_from}
 use Rattle.file_cursor.proofs.arrival.last_below.Given as goal
 

@@ -1,4 +1,4 @@
-use Rattle.std.proofs.Common.{◌≡◌, ◌<◌, ℕ, nat_lt, length, reverse, ap, sym, ◌∙◌, arith}
+use Rattle.std.proofs.Common.{ℕ, nat_lt, reverse, ap, ◌∙◌, arith}
 use Rattle.std.specs.Prelude.{find}
 use Rattle.std.specs.Option.{option_map}
 use Rattle.std.proofs.lemmas.Grind.{common_steps}

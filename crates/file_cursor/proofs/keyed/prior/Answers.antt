@@ -1,4 +1,4 @@
-use Rattle.std.proofs.Common.{◌≡◌, Some, ap, ◌∙◌}
+use Rattle.std.proofs.Common.{Some, ap, ◌∙◌}
 use Rattle.key_pages.specs.EntryList.{EntryList}
 use Rattle.file_cursor.specs.Finding.{prior_from}
 use Rattle.file_cursor.proofs.SideLemmas.{prior-same}
