@@ -5,5 +5,6 @@
 mod arrival;
 pub mod cursor;
 mod keyed;
+pub mod laws;
 pub mod places;
 mod spot;
