@@ -6,3 +6,4 @@ pub mod ChainLemmas
 pub mod EntryLemmas
 pub mod LawLemmas
 pub mod ArrivalLaws
+pub mod NumberedLemmas

@@ -1,7 +1,9 @@
 -- Which entries does an open read? (Database Programming, "Keyed sequence access path" and "Arrival sequence access path".)
-use Rattle.std.specs.Prelude.{◌≡◌, ℕ, nat_lt, nat_le, Bool, false, List, [], map, Option, Some, None}
+use Rattle.std.specs.Prelude.{◌≡◌, ℕ, ◌≤◌, All, nat_lt, nat_le, Bool, false, List, [], map, Option, Some, None}
 use Rattle.std.specs.declared.cmp.Ordering.TheVariants.{Less}
 use Rattle.key_pages.specs.declared.entries.Entry.{Entry}
+use Rattle.key_pages.specs.EntryList.{EntryList}
+use Rattle.member_slots.specs.declared.member.TheConstants.{MOST_SLOTS}
 use Rattle.member_slots.specs.Member.{MemberState, records}
 use Rattle.file_cursor.specs.declared.places.Order.{Order}
 use Rattle.file_cursor.specs.declared.places.Order.TheVariants.{Arrival, Path}
@@ -30,7 +32,23 @@ abbrev pub falls : Order → Bool
 falls (Arrival member) = false
 falls (Path path) = path.now.falling
 
--- a position by number is none among the entries of a path
+-- entries that stand by their numbers: those of one format without keys, of a member
+pub record AreNumbered (list : EntryList) : Type 0 where
+  pub rising : list.falling ≡ false
+  pub entries : All (λ entry. entry ≡ numbered entry.rrn) list.entries
+  pub few : All (λ entry. entry.rrn ≤ MOST_SLOTS) list.entries
+
+-- a position by number is one only among entries that stand by their numbers
+abbrev pub SuitsPath : EntryList → CursorPosition → Type 0
+SuitsPath list Start = Unit {0}
+SuitsPath list End = Unit {0}
+SuitsPath list (On entry) = Unit {0}
+SuitsPath list (Before (ByKey part)) = Unit {0}
+SuitsPath list (Before (ByNumber n)) = AreNumbered list
+SuitsPath list (Past (ByKey part)) = Unit {0}
+SuitsPath list (Past (ByNumber n)) = AreNumbered list
+
+-- a position that isn't set by a number
 abbrev pub IsByKey : CursorPosition → Type 0
 IsByKey Start = Unit {0}
 IsByKey End = Unit {0}
@@ -43,7 +61,7 @@ IsByKey (Past (ByNumber n)) = ⊥
 -- a position that can be read from in an order
 abbrev pub Suits : Order → CursorPosition → Type 0
 Suits (Arrival member) position = Unit {0}
-Suits (Path path) position = IsByKey position
+Suits (Path path) position = SuitsPath path.now position
 
 -- which numbers are before a position, and which are after it
 pub record IsGap (position : CursorPosition) (gap : Gap) : Type 0 where

@@ -3,8 +3,9 @@ ghost use Rattle.std.specs.Prelude.{◌≡◌};
 ghost use Rattle.std.specs.Option.{option_map};
 ghost use Rattle.file_cursor.specs.CursorPosition.{entry_of};
 ghost use Rattle.file_cursor.specs.Finding.{next_from, prior_from, where_equal, chain_key};
-ghost use Rattle.file_cursor.specs.Reading.{IsByKey};
+ghost use Rattle.file_cursor.specs.Reading.{SuitsPath};
 
+use crate::numbered;
 use crate::places::Hit;
 use crate::spot::Spot;
 use access_path::path::Path;
@@ -12,9 +13,12 @@ use key_pages::{Entry, Position};
 
 /// The first entry after a position.
 pub(crate) fn next<'a>(spot: &Spot, path: &'a Path) -> Option<Hit<'a>>
-    requires { IsByKey spot.now.position }
+    requires { SuitsPath path.now spot.now.position }
     ensures { option_map entry_of result ≡ next_from path.now.falling path.now.entries spot.now.position }
 {
+    if spot.is_by_number() {
+        return numbered::next(spot, path.pages());
+    }
     let Some(entry) = path.pages().next_entry(&spot.in_path()) else {
         return None;
     };
@@ -23,9 +27,12 @@ pub(crate) fn next<'a>(spot: &Spot, path: &'a Path) -> Option<Hit<'a>>
 
 /// The last entry before a position.
 pub(crate) fn prior<'a>(spot: &Spot, path: &'a Path) -> Option<Hit<'a>>
-    requires { IsByKey spot.now.position }
+    requires { SuitsPath path.now spot.now.position }
     ensures { option_map entry_of result ≡ prior_from path.now.falling path.now.entries spot.now.position }
 {
+    if spot.is_by_number() {
+        return numbered::prior(spot, path.pages());
+    }
     let Some(entry) = path.pages().prior_entry(&spot.in_path()) else {
         return None;
     };
@@ -45,7 +52,7 @@ pub(crate) fn first_upto<'a>(path: &'a Path, key: &[u8]) -> Option<Hit<'a>>
 }
 
 /// What a read gives of an entry.
-fn hit_on(entry: &Entry) -> Hit<'_>
+pub(crate) fn hit_on(entry: &Entry) -> Hit<'_>
     ensures { entry_of result ≡ entry.now }
 {
     Hit {

@@ -6,5 +6,6 @@ mod arrival;
 pub mod cursor;
 mod keyed;
 pub mod laws;
+mod numbered;
 pub mod places;
 mod spot;

@@ -1,10 +1,11 @@
 //! One position, with the bytes of its key.
-ghost use Rattle.std.specs.Prelude.{◌≡◌, ◌≤◌, ℕ, Bool, length, IfOk};
+ghost use Rattle.std.specs.Prelude.{◌≡◌, ◌≤◌, ℕ, Bool, true, false, length, IfOk};
 ghost use Rattle.key_pages.specs.declared.entries.Entry.{Entry};
+ghost use Rattle.key_pages.specs.EntryList.{EntryList};
 ghost use Rattle.key_pages.specs.Position as pages;
 ghost use Rattle.file_cursor.specs.CursorPosition.{Start, position_of};
 ghost use Rattle.file_cursor.specs.Finding.{side_of};
-ghost use Rattle.file_cursor.specs.Reading.{IsByKey, ByNumbers};
+ghost use Rattle.file_cursor.specs.Reading.{IsByKey, ByNumbers, SuitsPath, AreNumbered};
 
 use key_pages::Position;
 use std::alloc::{AllocError, Global};
@@ -81,6 +82,19 @@ impl Spot {
         self.stand = other.stand;
         self.key.clear();
         self.key.extend_from_slice(other.key.as_slice()).unwrap();
+    }
+
+    /// Whether a number set the position.
+    pub(crate) fn is_by_number(&self) -> bool
+        ensures by_key { result ≡ false → IsByKey self.now.position }
+        ensures by_number { result ≡ true → (list : EntryList) → SuitsPath list self.now.position → AreNumbered list }
+    {
+        match self.stand {
+            Stand::BeforeNumber(_) | Stand::PastNumber(_) => true,
+            Stand::Start | Stand::End | Stand::On { .. } | Stand::BeforeKey | Stand::PastKey => {
+                false
+            }
+        }
     }
 
     /// The position among the entries of a path.
