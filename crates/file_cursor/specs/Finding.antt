@@ -63,3 +63,8 @@ chain_key part entries = find (begins_with part) entries
 -- CHAIN by a relative record number
 abbrev pub chain_number : ℕ → List Entry → Option Entry
 chain_number n entries = find (λ entry. entry.rrn == n) entries
+
+-- the entry, where it has this number
+abbrev pub with_number : ℕ → Option Entry → Option Entry
+with_number n None = None
+with_number n (Some entry) = if entry.rrn == n then Some entry else None

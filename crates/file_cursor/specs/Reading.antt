@@ -63,6 +63,11 @@ abbrev pub Suits : Order → CursorPosition → Type 0
 Suits (Arrival member) position = Unit {0}
 Suits (Path path) position = SuitsPath path.now position
 
+-- an order in which records stand by their numbers
+abbrev pub IsByNumber : Order → Type 0
+IsByNumber (Arrival member) = Unit {0}
+IsByNumber (Path path) = AreNumbered path.now
+
 -- which numbers are before a position, and which are after it
 pub record IsGap (position : CursorPosition) (gap : Gap) : Type 0 where
   pub before : (n : ℕ) → is_before false position (numbered n) ≡ nat_lt n gap.until

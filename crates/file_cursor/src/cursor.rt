@@ -4,13 +4,12 @@ ghost use Rattle.file_cursor.specs.CursorPosition.{Start, On, key_in, lower_limi
 ghost use Rattle.std.specs.Option.{option_map};
 ghost use Rattle.std.specs.Ordering.{is_eq};
 ghost use Rattle.file_cursor.specs.Finding.{compare_part, where_equal, next_from, prior_from, next_equal, prior_equal, chain_key, chain_number};
-ghost use Rattle.file_cursor.specs.Reading.{Suits, falls, entries_in, arrival_entries};
+ghost use Rattle.file_cursor.specs.Reading.{Suits, falls, entries_in, IsByNumber};
 
 use crate::places::{Hit, Order, Place};
 use crate::spot::{Spot, Stand};
 use crate::{arrival, keyed};
 use access_path::path::Path;
-use member_slots::member::Member;
 use std::alloc::{AllocError, Global};
 use std::marker::Model;
 
@@ -142,10 +141,14 @@ pub fn chain_key<'a>(path: &'a Path, key: &[u8]) -> Option<Hit<'a>>
 }
 
 /// What CHAIN finds by relative record number: the record of this number.
-pub fn chain_number<'a>(member: &Member, rrn: u32) -> Option<Hit<'a>>
-    ensures { option_map entry_of result ≡ chain_number rrn (arrival_entries member.now.state) }
+pub fn chain_number<'a>(over: Order<'a>, rrn: u32) -> Option<Hit<'a>>
+    requires { IsByNumber over }
+    ensures { option_map entry_of result ≡ chain_number rrn (entries_in over.entry) }
 {
-    arrival::record(member, rrn)
+    match over {
+        Order::Arrival(member) => arrival::record(member, rrn),
+        Order::Path(path) => keyed::record(path, rrn),
+    }
 }
 
 /// A hit, where its key begins with these bytes.

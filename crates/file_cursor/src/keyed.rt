@@ -2,8 +2,8 @@
 ghost use Rattle.std.specs.Prelude.{◌≡◌};
 ghost use Rattle.std.specs.Option.{option_map};
 ghost use Rattle.file_cursor.specs.CursorPosition.{entry_of};
-ghost use Rattle.file_cursor.specs.Finding.{next_from, prior_from, where_equal, chain_key};
-ghost use Rattle.file_cursor.specs.Reading.{SuitsPath};
+ghost use Rattle.file_cursor.specs.Finding.{next_from, prior_from, where_equal, chain_key, chain_number};
+ghost use Rattle.file_cursor.specs.Reading.{SuitsPath, AreNumbered};
 
 use crate::numbered;
 use crate::places::Hit;
@@ -49,6 +49,14 @@ pub(crate) fn first_upto<'a>(path: &'a Path, key: &[u8]) -> Option<Hit<'a>>
         return None;
     };
     Some(hit_on(entry))
+}
+
+/// The record of this number, of one format without keys.
+pub(crate) fn record<'a>(path: &'a Path, rrn: u32) -> Option<Hit<'a>>
+    requires { AreNumbered path.now }
+    ensures { option_map entry_of result ≡ chain_number rrn path.now.entries }
+{
+    numbered::record(path.pages(), rrn)
 }
 
 /// What a read gives of an entry.

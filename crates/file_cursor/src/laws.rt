@@ -38,6 +38,9 @@ pub fn bytes_are_found_as_entries()
         → IsInBytes spec members → All (λ key. Matches key parts) (map (λ format. format.key) spec.formats) → AreGiven parts values
         → chain_key (key_bytes parts values) (map (in_bytes spec.formats) (path spec members))
         ≡ option_map (in_bytes spec.formats) (model.chain_key (model.path_reading spec.ties (path spec members)) values) }
+    ensures chain_number { (spec : PathSpec) (members : NumberedMembers) (n : ℕ)
+        → chain_number n (map (in_bytes spec.formats) (path spec members))
+        ≡ option_map (in_bytes spec.formats) (model.chain_number (model.path_reading spec.ties (path spec members)) n) }
     ensures entries { (spec : PathSpec) (members : NumberedMembers) → IsInBytes spec members → All (IsEntryOf spec.formats) (path spec members) }
 {}
 

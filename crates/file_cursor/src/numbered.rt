@@ -1,11 +1,11 @@
 //! Reading from a number among the entries of a path of one format without keys.
-ghost use Rattle.std.specs.Prelude.{◌≡◌, ◌≤◌, false, nat_lt, nat_le};
+ghost use Rattle.std.specs.Prelude.{◌≡◌, ◌≤◌, Some, false, nat_lt, nat_le};
 ghost use Rattle.std.specs.Option.{option_map};
 ghost use Rattle.key_pages.specs.declared.entries.Entry.{Entry};
 ghost use Rattle.key_pages.specs.Position.{is_past, is_short};
 ghost use Rattle.member_slots.specs.declared.member.TheConstants.{MOST_SLOTS};
 ghost use Rattle.file_cursor.specs.CursorPosition.{entry_of};
-ghost use Rattle.file_cursor.specs.Finding.{next_from, prior_from};
+ghost use Rattle.file_cursor.specs.Finding.{next_from, prior_from, chain_number, with_number};
 ghost use Rattle.file_cursor.specs.Reading.{AreNumbered, numbered};
 
 use crate::keyed::hit_on;
@@ -40,6 +40,25 @@ pub(crate) fn prior<'a>(spot: &Spot, pages: &'a Pages) -> Option<Hit<'a>>
         return None;
     };
     Some(hit_on(entry))
+}
+
+/// The entry of this number.
+pub(crate) fn record<'a>(pages: &'a Pages, rrn: u32) -> Option<Hit<'a>>
+    requires { AreNumbered pages.now }
+    ensures { option_map entry_of result ≡ chain_number rrn pages.now.entries }
+{
+    pages.in_order();
+    let Some(entry) = pages.next_entry(&before_number(u64::from(rrn))) else {
+        return None;
+    };
+    with_number(hit_on(entry), rrn)
+}
+
+/// A hit, where it has this number.
+fn with_number<'a>(hit: Hit<'a>, rrn: u32) -> Option<Hit<'a>>
+    ensures { option_map entry_of result ≡ with_number rrn (Some (entry_of hit.entry)) }
+{
+    if hit.rrn == rrn { Some(hit) } else { None }
 }
 
 /// A position past which the entries from this number on lie.

@@ -1,3 +1,6 @@
+use Rattle.std.proofs.Common.{◌==◌}
+use Rattle.access_path.specs.PathBytes.{in_bytes}
+use Rattle.file_cursor.proofs.ListLemmas.{find-map}
 use Rattle.std.proofs.lemmas.List.Elements.{All-from_recursion}
 use Rattle.file_model.specs.Paths.{path}
 use Rattle.file_cursor.specs.PositionBytes.{IsEntryOf}
@@ -22,3 +25,6 @@ returns-clause-chain c = λ spec members parts values fits given are. chain-in-b
 
 pub returns-clause-entries : goal.returns-clause-entries
 returns-clause-entries c = λ spec members fits. All-from_recursion (IsEntryOf spec.formats) (path spec members) (path-entries spec members fits)
+
+pub returns-clause-chain_number : goal.returns-clause-chain_number
+returns-clause-chain_number c = λ spec members n. find-map (in_bytes spec.formats) (λ entry. entry.rrn == n) (path spec members)
