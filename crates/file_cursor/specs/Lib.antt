@@ -1,0 +1,4 @@
+pub mod CursorPosition
+pub mod Finding
+pub mod Reading
+pub mod PositionBytes
