@@ -1,0 +1,8 @@
+//! Logical fields over the records of a base file: which records rules select, what fields show of a record, and the
+//! record that values make which are given through them. The meaning stands in `file_model`.
+#![tactic(auto)]
+
+mod operands;
+pub mod selection;
+mod sources;
+mod texts;
