@@ -85,15 +85,20 @@ written-text : (t : FieldType) (text : List ℕ) → written t (Chars text) ≡ 
 unfolding written
 written-text t text = refl
 
--- what a field shows of a text that stands in a field of another type
+-- what is written of a text that stands in a field of another type
+pub text-copied : (t from : FieldType) (bytes : List ℕ) → is_numeric from.kind ≡ false → IsTaken t (held from bytes) →
+    (held from bytes ≡ Some (Chars bytes)) × (written_as t (held from bytes) ≡ filled (width t) bytes)
+text-copied t from bytes text taken =
+    let stands : held from bytes ≡ Some (Chars bytes) = text-held from bytes text (taken-there t (held from bytes) taken) in
+    (stands, ap (written_as t) stands ∙ written-text t bytes)
+
+-- what a field shows of it
 pub text-shown : (t from : FieldType) (bytes : List ℕ) → is_numeric from.kind ≡ false → IsTaken t (held from bytes) →
     is_some (held t (written_as t (held from bytes))) ≡ true → (held t (written_as t (held from bytes)) ≡ Some (Chars (filled (width t) bytes))) × (length bytes ≤ width t)
 text-shown t from bytes text taken there =
-    let stands : held from bytes ≡ Some (Chars bytes) = text-held from bytes text (taken-there t (held from bytes) taken) in
-    let fits : fault_of t (Chars bytes) ≡ None = subst (λ (o : Option Value). IsTaken t o) stands taken in
-    let shows : written_as t (held from bytes) ≡ filled (width t) bytes = ap (written_as t) stands ∙ written-text t bytes in
-    let is = text-fits t bytes fits in
-    (ap (held t) shows ∙ text-held t (filled (width t) bytes) is.0 (sym (ap (λ (w : List ℕ). is_some (held t w)) shows) ∙ there), is.1)
+    let copied = text-copied t from bytes text taken in
+    let is = text-fits t bytes (subst (λ (o : Option Value). IsTaken t o) copied.0 taken) in
+    (ap (held t) copied.1 ∙ text-held t (filled (width t) bytes) is.0 (sym (ap (λ (w : List ℕ). is_some (held t w)) copied.1) ∙ there), is.1)
 
 -- what a field shows of a number that stands in a field of another type fits a field of numbers
 pub number-shown : (t from : FieldType) (bytes : List ℕ) (n : Dec) → held from bytes ≡ Some (Number n) → IsTaken t (held from bytes) → is_numeric t.kind ≡ true

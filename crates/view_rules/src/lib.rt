@@ -6,3 +6,4 @@ mod operands;
 pub mod selection;
 mod sources;
 mod texts;
+pub mod viewing;

@@ -13,7 +13,7 @@ use field_values::fields;
 use file_model::views::Piece;
 
 /// The most bytes of a number's field.
-const MOST_NUMBER_BYTES: usize = 31;
+pub(crate) const MOST_NUMBER_BYTES: usize = 31;
 
 /// The bytes of a field in an image.
 pub(crate) fn bytes_at<'a>(ty: &FieldType, offset: u32, image: &'a [u8]) -> &'a [u8]
