@@ -1,2 +1,3 @@
 pub mod OperandLemmas
+pub mod StoreLemmas
 pub mod TextLemmas

@@ -81,9 +81,17 @@ pub taken-there : (t : FieldType) (o : Option Value) → IsTaken t o → is_some
 taken-there t None taken = absurd taken
 taken-there t (Some v) taken = refl
 
-written-text : (t : FieldType) (text : List ℕ) → written t (Chars text) ≡ filled (width t) text
+pub written-text : (t : FieldType) (text : List ℕ) → written t (Chars text) ≡ filled (width t) text
 unfolding written
 written-text t text = refl
+
+-- a text that fits is written in the whole width of its field
+pub text-width : (t : FieldType) (v : Value) (text : List ℕ) → v ≡ Chars text → fault_of t v ≡ None → length (written t v) ≡ width t
+text-width t v text is fits =
+    let room : length text ≤ width t = (text-fits t text (subst (λ (w : Value). fault_of t w ≡ None) is fits)).1 in
+    let long : length (filled (width t) text) ≡ max (width t) (length text) = filled-length (width t) text in
+    let whole : length (written t v) ≡ length (filled (width t) text) = ap length (ap (written t) is ∙ written-text t text) in
+    omega (arith, whole, long, room)
 
 -- what is written of a text that stands in a field of another type
 pub text-copied : (t from : FieldType) (bytes : List ℕ) → is_numeric from.kind ≡ false → IsTaken t (held from bytes) →

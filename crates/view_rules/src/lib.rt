@@ -3,7 +3,10 @@
 #![tactic(auto)]
 
 mod operands;
+mod placing;
+mod refusals;
 pub mod selection;
 mod sources;
+pub mod storing;
 mod texts;
 pub mod viewing;

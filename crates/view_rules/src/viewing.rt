@@ -81,12 +81,31 @@ fn show_converted(
     }
 }
 
+/// A value that fits, as a field of the type has it.
+#[tactic(auto, unfolding(field_values::specs::FieldBytes::written))]
+pub(crate) fn show_value(
+    ty: &FieldType,
+    value: &Value,
+    into: &mut Vec<u8>,
+) -> Result<(), AllocError>
+    requires allowed { IsFieldType ty.now }
+    requires fits { fault_of ty.now value.now ≡ None }
+    ensures shown { OnOk result (into.new.items ≡ into.old.items ++ written ty.now value.now) }
+    ensures width { OnOk result (length (written ty.now value.now) ≡ width ty.now) }
+{
+    match value {
+        Value::Number(number) => show_number(ty, *number, into),
+        Value::Chars(text) => show_text(ty, text.as_bytes(), into),
+    }
+}
+
 /// A number as a field of the type has it.
 fn show_number(ty: &FieldType, number: Dec, into: &mut Vec<u8>) -> Result<(), AllocError>
     requires allowed { IsFieldType ty.now }
     requires numeric { is_numeric ty.now.kind ≡ true }
     requires fits { fault_of ty.now (Value.Number number) ≡ None }
-    ensures { OnOk result (into.new.items ≡ into.old.items ++ written ty.now (Value.Number number)) }
+    ensures shown { OnOk result (into.new.items ≡ into.old.items ++ written ty.now (Value.Number number)) }
+    ensures width { OnOk result (length (written ty.now (Value.Number number)) ≡ width ty.now) }
 {
     let mut image = [0; sources::MOST_NUMBER_BYTES];
     let field = &mut image[..fields::width(ty)];
