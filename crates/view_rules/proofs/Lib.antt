@@ -1,3 +1,5 @@
+pub mod ApartLemmas
 pub mod OperandLemmas
+pub mod ShownLemmas
 pub mod StoreLemmas
 pub mod TextLemmas

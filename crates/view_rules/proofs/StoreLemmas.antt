@@ -16,7 +16,7 @@ use Rattle.view_rules.specs.Stored.{EndsWithin, fault_before, first_refused, wit
 
 -- ---- given values
 
-fault-stays : (number : ℕ) (fields : List LogicalField) (given : List (Option Value)) (fault : RecordFault) → put_given number fields given (Err fault) ≡ Err fault
+pub fault-stays : (number : ℕ) (fields : List LogicalField) (given : List (Option Value)) (fault : RecordFault) → put_given number fields given (Err fault) ≡ Err fault
 fault-stays number [] given fault = refl
 fault-stays number (f ∷ fields) [] fault = refl
 fault-stays number (f ∷ fields) (v ∷ given) fault = refl

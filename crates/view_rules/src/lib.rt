@@ -2,6 +2,7 @@
 //! record that values make which are given through them. The meaning stands in `file_model`.
 #![tactic(auto)]
 
+pub mod laws;
 mod operands;
 mod placing;
 mod refusals;
