@@ -20,7 +20,8 @@ use Rattle.file_model.specs.declared.views.Piece.{Piece}
 use Rattle.file_model.specs.declared.views.FieldSource.{FieldSource}
 use Rattle.file_model.specs.declared.views.FieldSource.TheVariants.{Copied, Converted, Concatenated, Substring}
 use Rattle.file_model.specs.declared.views.LogicalField.{LogicalField}
-use Rattle.file_model.specs.Views.{written_as, piece_of, shown, field_value, put_at, put_pieces, pieces_length, character, stored_type, put_value, first_fault, refusal, put_or_refused, put_given, base_image, old_or_default}
+use Rattle.file_model.specs.Views.{written_as, piece_of, shown, field_value, put_at, put_pieces, pieces_length, character, stored_type, put_value}
+use Rattle.file_model.specs.Views.{first_fault, refusal, put_or_refused, put_given, base_image, old_or_default}
 use Rattle.view_rules.specs.Shown.{IsTaken, HasSource, HasShown, ArePieces}
 use Rattle.view_rules.specs.Stored.{EndsWithin, HasPlace, IsStored}
 use Rattle.view_rules.specs.Apart.{places_of, places, StoresValue, EachApart, AreKept}

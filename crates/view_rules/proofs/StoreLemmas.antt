@@ -42,8 +42,12 @@ accepted-given number (f ∷ fields) [] image e = refl
 accepted-given number (f ∷ fields) (None ∷ given) image e = accepted-given (number + 1) fields given image e
 accepted-given number (f ∷ fields) (Some v ∷ given) image e = by (refusal f v) (accepted-given (number + 1) fields given (put_value f.field.ty f.field.source v image)) e
   where
-    by : (o : Option ValueFault) → (first_refused (number + 1) fields given ≡ None → put_given (number + 1) fields given (Ok (put_value f.field.ty f.field.source v image)) ≡ Ok (with_values fields given (put_value f.field.ty f.field.source v image)))
-        → fault_before number o (first_refused (number + 1) fields given) ≡ None → put_given (number + 1) fields given (put_or_refused number f v image o) ≡ Ok (with_values fields given (put_value f.field.ty f.field.source v image))
+    next : List ℕ
+    next = put_value f.field.ty f.field.source v image
+
+    by : (o : Option ValueFault) → (first_refused (number + 1) fields given ≡ None → put_given (number + 1) fields given (Ok next) ≡ Ok (with_values fields given next))
+        → fault_before number o (first_refused (number + 1) fields given) ≡ None
+        → put_given (number + 1) fields given (put_or_refused number f v image o) ≡ Ok (with_values fields given next)
     by (Some cause) rest e = cc
     by None rest e = rest e
 

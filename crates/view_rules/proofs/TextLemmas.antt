@@ -119,7 +119,8 @@ piece-length image p within = part-length p.offset p.length image within
 pub pieces-length : (image : List ℕ) (pieces : List Piece) → AllByRecursion (IsWithin image) pieces → length (flat_map (piece_of image) pieces) ≡ pieces_length pieces
 pieces-length image [] all = refl
 pieces-length image (p ∷ pieces) all =
-    let whole : length (flat_map (piece_of image) (p ∷ pieces)) ≡ length (piece_of image p) + length (flat_map (piece_of image) pieces) = length-append (piece_of image p) (flat_map (piece_of image) pieces) in
+    let whole : length (flat_map (piece_of image) (p ∷ pieces)) ≡ length (piece_of image p) + length (flat_map (piece_of image) pieces) =
+    length-append (piece_of image p) (flat_map (piece_of image) pieces) in
     let first : length (piece_of image p) ≡ p.length = piece-length image p all.0 in
     let rest : length (flat_map (piece_of image) pieces) ≡ pieces_length pieces = pieces-length image pieces all.1 in
     omega (arith, whole, first, rest)

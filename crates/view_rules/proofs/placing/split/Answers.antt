@@ -17,6 +17,6 @@ loop-piece-preserved c =
     let first : drop i pieces ≡ p ∷ drop (i + 1) pieces = drop-cons pieces i nowhere c.loop-piece-test.true ∙ ap (λ (n : ℕ). p ∷ drop n pieces) (sym (add-one i)) in
     let is : IsSplit (length c.args.image.now) (drop i pieces) rest c.loop-piece.image wanted =
     record { place = c.loop-piece.invariant.place; room = c.loop-piece.invariant.room; same = c.loop-piece.invariant.same } in
-    let next = split-turn (length c.args.image.now) (drop i pieces) p (drop (i + 1) pieces) rest c.loop-piece.image wanted c.split_at.result.0.now c.split_at.result.1.now c.put_piece.new.image first is
-    (c.split_at.ensures.front ∙ ap (λ (n : ℕ). take n rest) c.min.ensures) (c.split_at.ensures.back ∙ ap (λ (n : ℕ). drop n rest) c.min.ensures) c.put_piece.ensures in
+    let next = split-turn (length c.args.image.now) (drop i pieces) p (drop (i + 1) pieces) rest c.loop-piece.image wanted c.split_at.result.0.now c.split_at.result.1.now
+    c.put_piece.new.image first is (c.split_at.ensures.front ∙ ap (λ (n : ℕ). take n rest) c.min.ensures) (c.split_at.ensures.back ∙ ap (λ (n : ℕ). drop n rest) c.min.ensures) c.put_piece.ensures in
     record { place = next.place; room = next.room; same = next.same }
