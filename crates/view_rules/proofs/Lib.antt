@@ -1,4 +1,5 @@
 pub mod ApartLemmas
+pub mod EqualLemmas
 pub mod OperandLemmas
 pub mod ShownLemmas
 pub mod StoreLemmas

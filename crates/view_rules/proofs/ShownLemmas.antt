@@ -21,10 +21,14 @@ use Rattle.file_model.specs.declared.views.FieldSource.{FieldSource}
 use Rattle.file_model.specs.declared.views.FieldSource.TheVariants.{Copied, Converted, Concatenated, Substring}
 use Rattle.file_model.specs.declared.views.LogicalField.{LogicalField}
 use Rattle.file_model.specs.Views.{written_as, piece_of, shown, field_value, put_at, put_pieces, pieces_length, character, stored_type, put_value}
-use Rattle.file_model.specs.Views.{first_fault, refusal, put_or_refused, put_given, base_image, old_or_default}
-use Rattle.view_rules.specs.Shown.{IsTaken, HasSource, HasShown, ArePieces}
+use Rattle.file_model.specs.Views.{first_fault, refusal, put_or_refused, put_given, old_or_default}
+use Rattle.view_rules.specs.Shown.{IsTaken, HasSource, ArePieces}
 use Rattle.view_rules.specs.Stored.{EndsWithin, HasPlace, IsStored}
-use Rattle.view_rules.specs.Apart.{places_of, places, StoresValue, EachApart, AreKept}
+use Rattle.view_rules.specs.Apart.{places_of, places, StoresValue, EachApart, AreKept, IsGiven}
+use Rattle.view_rules.proofs.EqualLemmas.{NumberFits, number-fits, text-passes, held-equal}
+use Rattle.file_model.specs.declared.rules.Relation.TheVariants.{Equals}
+use Rattle.file_model.specs.Selection.{is_related}
+use Rattle.std.specs.Ordering.{is_eq}
 use Rattle.view_rules.proofs.OperandLemmas.{characters-held, number-numeric}
 use Rattle.view_rules.proofs.StoreLemmas.{fault-stays}
 use Rattle.view_rules.proofs.TextLemmas.{pieces-length}
@@ -94,6 +98,19 @@ value-shown t (Converted from offset) v image stores allowed stored has fits is 
     ap (λ (o : Option Value). held t (written_as t o)) stands ∙ stands-written t (as_held from v) allowed taken
 value-shown t (Concatenated pieces) v image stores allowed stored has fits is = concatenated-shown t pieces v image has fits is
 value-shown t (Substring piece) v image stores allowed stored has fits is = absurd stores
+
+number-kept : (t : FieldType) (s : FieldSource) (v : Value) (image : List ℕ) → StoresValue s → IsFieldType t → IsFieldType (stored_type t s) → HasSource t s image →
+    fault_of (stored_type t s) v ≡ None → flat_map (piece_of image) (places_of t s) ≡ written (stored_type t s) v → NumberFits t (as_held (stored_type t s) v)
+number-kept t (Copied offset) v image stores allowed stored has fits is =
+    number-fits t (as_held t v) (held-kept t (as_held t v) (written t v) (stands-written t v allowed fits)).accepted
+number-kept t (Converted from offset) v image stores allowed stored has fits is =
+    let bytes : part offset (width from) image ≡ written from v = sym (append-nil (part offset (width from) image)) ∙ is in
+    let stands : held from (part offset (width from) image) ≡ Some (as_held from v) = ap (held from) bytes ∙ stands-written from v stored fits in
+    number-fits t (as_held from v) (subst (λ (o : Option Value). IsTaken t o) stands has.taken)
+number-kept t (Concatenated pieces) (Chars text) image stores allowed stored has fits is = text-passes t (character (pieces_length pieces)) text
+number-kept t (Concatenated pieces) (Number n) image stores allowed stored has fits is =
+    let numeric : false ≡ true = number-numeric (character (pieces_length pieces)) n fits in cc
+number-kept t (Substring piece) v image stores allowed stored has fits is = absurd stores
 
 -- ---- one value after another
 
@@ -178,14 +195,26 @@ counted-given : (b : Bool) (r : Result (List ℕ) RecordFault) (image : List ℕ
 counted-given true r image e = e
 counted-given false r image e = cc
 
-pub given-shown : (base : List Field) (before after : List LogicalField) (f : LogicalField) (first rest : List (Option Value)) (v : Value) (old : Option (List ℕ)) (image : List ℕ) →
-    length first ≡ length before → AllByRecursion (IsStored (length (old_or_default base old))) (before ++ f ∷ after) → StoresValue f.field.source → EachApart (places f) →
-    AreKept (places f) after rest → base_image base (before ++ f ∷ after) (first ++ Some v ∷ rest) old ≡ Ok image → HasShown image f.field →
-    field_value image f.field ≡ Some (as_held f.field.ty (as_held (stored_type f.field.ty f.field.source) v))
-given-shown base before after f first rest v old image same all stores apart kept e has =
+given-there : (base : List Field) (before after : List LogicalField) (f : LogicalField) (first rest : List (Option Value)) (v : Value) (old : Option (List ℕ)) (image : List ℕ) →
+    IsGiven base before after f first rest v old image → IsThere f v image
+given-there base before after f first rest v old image is =
     let fields : List LogicalField = before ++ f ∷ after in
     let given : List (Option Value) = first ++ Some v ∷ rest in
     let put : put_given 1 fields given (Ok (old_or_default base old)) ≡ Ok image =
-    counted-given (length given == length fields) (put_given 1 fields given (Ok (old_or_default base old))) image e in
-    let there : IsThere f v image = there-after (length (old_or_default base old)) 1 before after f first rest v (old_or_default base old) image refl same all stores apart kept put in
-    value-shown f.field.ty f.field.source v image stores has.allowed there.stored has.source there.fits there.bytes
+    counted-given (length given == length fields) (put_given 1 fields given (Ok (old_or_default base old))) image is.made in
+    there-after (length (old_or_default base old)) 1 before after f first rest v (old_or_default base old) image refl is.number is.fields is.stores is.once is.last put
+
+pub given-shown : (base : List Field) (before after : List LogicalField) (f : LogicalField) (first rest : List (Option Value)) (v : Value) (old : Option (List ℕ)) (image : List ℕ) →
+    IsGiven base before after f first rest v old image → field_value image f.field ≡ Some (as_held f.field.ty (as_held (stored_type f.field.ty f.field.source) v))
+given-shown base before after f first rest v old image is =
+    let there : IsThere f v image = given-there base before after f first rest v old image is in
+    value-shown f.field.ty f.field.source v image is.stores is.shown.allowed there.stored is.shown.source there.fits there.bytes
+
+pub given-equal : (base : List Field) (before after : List LogicalField) (f : LogicalField) (first rest : List (Option Value)) (v : Value) (old : Option (List ℕ)) (image : List ℕ) →
+    IsGiven base before after f first rest v old image → is_related Equals (field_value image f.field) (Some v) ≡ true
+given-equal base before after f first rest v old image is =
+    let there : IsThere f v image = given-there base before after f first rest v old image is in
+    let t = f.field.ty in
+    let s = f.field.source in
+    ap (λ (o : Option Value). is_related Equals o (Some v)) (given-shown base before after f first rest v old image is)
+    ∙ ap is_eq (held-equal t (stored_type t s) v there.fits (number-kept t s v image is.stores is.shown.allowed there.stored is.shown.source there.fits there.bytes))

@@ -1,6 +1,6 @@
 -- Which given values does a record show afterwards? (DDS for Physical and Logical Files: "CONCAT", "RENAME". That of two
 -- values over one place the later one counts is our own.)
-use Rattle.std.specs.Prelude.{ℕ, ◌+◌, ◌≤◌, ◌⊎◌, List, [], ◌∷◌, Option, Some, None}
+use Rattle.std.specs.Prelude.{◌≡◌, ℕ, ◌+◌, ◌≤◌, ◌⊎◌, List, [], ◌∷◌, ◌++◌, length, Option, Some, None, Ok}
 use Rattle.std.specs.List.{AllByRecursion}
 use Rattle.field_types.specs.declared.kinds.FieldType.{FieldType}
 use Rattle.field_types.specs.declared.values.Value.{Value}
@@ -9,6 +9,10 @@ use Rattle.file_model.specs.declared.views.Piece.{Piece}
 use Rattle.file_model.specs.declared.views.FieldSource.{FieldSource}
 use Rattle.file_model.specs.declared.views.FieldSource.TheVariants.{Copied, Converted, Concatenated, Substring}
 use Rattle.file_model.specs.declared.views.LogicalField.{LogicalField}
+use Rattle.file_model.specs.Views.{base_image, old_or_default}
+use Rattle.record_fmt.specs.declared.formats.Field.{Field}
+use Rattle.view_rules.specs.Shown.{HasShown}
+use Rattle.view_rules.specs.Stored.{IsStored}
 
 abbrev pub place : ℕ → ℕ → Piece
 place offset length = record { offset = offset; length = length }
@@ -47,3 +51,14 @@ AreKept ps [] given = Unit {0}
 AreKept ps (g ∷ fields) [] = Unit {0}
 AreKept ps (g ∷ fields) (None ∷ given) = AreKept ps fields given
 AreKept ps (g ∷ fields) (Some v ∷ given) = AreAllApart ps (places g) × AreKept ps fields given
+
+-- the record was made of given values, this one through this field among them, and nothing was given over it later
+pub record IsGiven (base : List Field) (before after : List LogicalField) (f : LogicalField) (first rest : List (Option Value)) (v : Value) (old : Option (List ℕ)) (image : List ℕ)
+    : Type 0 where
+  pub number : length first ≡ length before
+  pub fields : AllByRecursion (IsStored (length (old_or_default base old))) (before ++ f ∷ after)
+  pub stores : StoresValue f.field.source
+  pub once : EachApart (places f)
+  pub last : AreKept (places f) after rest
+  pub made : base_image base (before ++ f ∷ after) (first ++ Some v ∷ rest) old ≡ Ok image
+  pub shown : HasShown image f.field
