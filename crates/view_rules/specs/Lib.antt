@@ -1,0 +1,4 @@
+pub mod Shown
+pub mod Operands
+pub mod Stored
+pub mod Apart
