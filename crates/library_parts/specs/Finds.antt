@@ -1,0 +1,18 @@
+-- What a look-up by names shows: an open and its file, or a member and its file, or the refusal of the first name that isn't there.
+use Rattle.std.specs.Prelude.{◌≡◌, Result, Ok, Err}
+use Rattle.library_model.specs.declared.replies.Reply.{Reply}
+use Rattle.library_steps.specs.Refusals.{OpenedFile, FoundMember}
+use Rattle.library_parts.specs.declared.stop.Stop.{Stop}
+use Rattle.library_parts.specs.declared.stop.Stop.TheVariants.{NoMemory, Refused}
+use Rattle.library_parts.specs.declared.finds.OpenFound.{OpenFound}
+use Rattle.library_parts.specs.declared.finds.MemberFound.{MemberFound}
+
+abbrev pub FindsOpen : Result OpenFound Stop → Result OpenedFile Reply → Type 0
+FindsOpen (Ok its) wanted = wanted ≡ Ok (record { opened = its.opened.now; file = its.file.now })
+FindsOpen (Err NoMemory) wanted = ⊥
+FindsOpen (Err (Refused reply)) wanted = wanted ≡ Err reply
+
+abbrev pub FindsMember : Result MemberFound Stop → Result FoundMember Reply → Type 0
+FindsMember (Ok it) wanted = wanted ≡ Ok (record { file = it.file.now; status = it.status })
+FindsMember (Err NoMemory) wanted = ⊥
+FindsMember (Err (Refused reply)) wanted = wanted ≡ Err reply
