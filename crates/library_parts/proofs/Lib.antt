@@ -1,1 +1,5 @@
+pub mod MemberLemmas
 pub mod LawfulLemmas
+pub mod LockLemmas
+pub mod ResultLemmas
+pub mod FileLemmas

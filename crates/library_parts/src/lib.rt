@@ -2,10 +2,19 @@
 #![tactic(auto)]
 
 pub mod contents;
+mod cycles;
+mod files;
 pub mod finds;
+mod leave;
+mod locking;
+mod members;
+mod opens;
 mod records;
+mod reserves;
 pub mod stop;
+mod users;
 
 pub use contents::Contents;
 pub use finds::{MemberFound, OpenFound, no_such_name};
+pub use locking::{holder_of, record_of};
 pub use stop::Stop;
