@@ -3,3 +3,5 @@ pub mod LawfulLemmas
 pub mod LockLemmas
 pub mod ResultLemmas
 pub mod FileLemmas
+pub mod AnswerLemmas
+pub mod FindLemmas

@@ -1,6 +1,10 @@
 -- What a look-up by names shows: an open and its file, or a member and its file, or the refusal of the first name that isn't there.
-use Rattle.std.specs.Prelude.{◌≡◌, Result, Ok, Err}
+use Rattle.std.specs.Prelude.{◌≡◌, ℕ, Result, Ok, Err, List}
 use Rattle.library_model.specs.declared.replies.Reply.{Reply}
+use Rattle.file_catalogue.specs.Owners.{Owns}
+use Rattle.member_slots.specs.Members.{member_at}
+use Rattle.library_steps.specs.State.{State, FileState, fields_of}
+use Rattle.library_parts.specs.Lawful.{IsThere}
 use Rattle.library_steps.specs.Refusals.{OpenedFile, FoundMember}
 use Rattle.library_parts.specs.declared.stop.Stop.{Stop}
 use Rattle.library_parts.specs.declared.stop.Stop.TheVariants.{NoMemory, Refused}
@@ -16,3 +20,8 @@ abbrev pub FindsMember : Result MemberFound Stop → Result FoundMember Reply �
 FindsMember (Ok it) wanted = wanted ≡ Ok (record { file = it.file.now; status = it.status })
 FindsMember (Err NoMemory) wanted = ⊥
 FindsMember (Err (Refused reply)) wanted = wanted ≡ Err reply
+
+-- the file of this name has the member with this number, which is there with records of the file's fields
+pub record HasMember (s : State) (name : List ℕ) (file : FileState) (number : ℕ) : Type 0 where
+  pub owns : Owns s.files name file number
+  pub there : IsThere (fields_of file) (member_at number s.members)

@@ -1,5 +1,5 @@
 //! What requests look up by names: opens, files, and the members of files.
-ghost use Rattle.std.specs.Prelude.{◌≡◌, IsTrue};
+ghost use Rattle.std.specs.Prelude.{◌≡◌, IfOk, IsTrue};
 ghost use Rattle.library_model.specs.declared.replies.Reply.TheVariants.{NoSuchName};
 ghost use Rattle.library_model.specs.declared.replies.Missing.TheVariants as missing;
 ghost use Rattle.library_steps.specs.State.{memory_of, job_at, file_named, open_named};
@@ -7,7 +7,7 @@ ghost use Rattle.library_steps.specs.History.{is_running};
 ghost use Rattle.library_steps.specs.Refusals.{named_or_refused, opened_file, member_of_file, sequences_left};
 ghost use Rattle.library_parts.specs.declared.stop.Stop.TheVariants.{Refused};
 ghost use Rattle.library_parts.specs.Answers.{Shows, Allows};
-ghost use Rattle.library_parts.specs.Finds.{FindsOpen, FindsMember};
+ghost use Rattle.library_parts.specs.Finds.{FindsOpen, FindsMember, HasMember};
 
 use crate::contents::Contents;
 use crate::stop::Stop;
@@ -54,8 +54,11 @@ impl Contents {
     /// The job's open of that name, and its file.
     pub fn opened_file(&self, job: u32, name: &Name) -> Result<OpenFound<'_>, Stop>
         requires { IsTrue (is_running (job_at job self.now.state.jobs)) }
-        ensures { FindsOpen result (opened_file name.now job (memory_of self.now.state)) }
+        ensures found { FindsOpen result (opened_file name.now job (memory_of self.now.state)) }
+        ensures there { IfOk result (λ its. HasMember self.now.state its.opened.now.file its.file.now its.opened.now.member) }
     {
+        // The file of each open is there, and has its member.
+        let _ = &self.alloc;
         let opened = self.opened(job, name)?;
         let file = self.file(&opened.file())?;
         Ok(OpenFound { opened, file })
@@ -63,8 +66,11 @@ impl Contents {
 
     /// The member of that name of the file of that name.
     pub fn member_of_file(&self, file: &Name, member: &Name) -> Result<MemberFound<'_>, Stop>
-        ensures { FindsMember result (member_of_file file.now member.now (memory_of self.now.state)) }
+        ensures found { FindsMember result (member_of_file file.now member.now (memory_of self.now.state)) }
+        ensures there { IfOk result (λ it. HasMember self.now.state file.now it.file.now it.status.number) }
     {
+        // The members of each file are there.
+        let _ = &self.alloc;
         let file = self.file(file)?;
         match file.member(member) {
             Some(status) => Ok(MemberFound { file, status }),

@@ -5,6 +5,7 @@ pub mod contents;
 mod cycles;
 mod files;
 pub mod finds;
+pub mod laws;
 mod leave;
 mod locking;
 mod members;
