@@ -15,7 +15,8 @@ use Rattle.library_steps.specs.CreatePhysicalFile.{new_status}
 use Rattle.library_steps.specs.Ranges.{library_bytes}
 use Rattle.library_steps.specs.SlotChange.{status_among}
 use Rattle.library_parts.specs.Lawful.{HasRecords, IsThere, OpensMember, OpenHolds, OpensHold, IsLibrary, AreOne}
-use Rattle.library_parts.proofs.MemberLemmas.{item_at-put_item_other, item_at-put_item_same, IsThere-is_some, weight, library_bytes-cons}
+use Rattle.library_parts.proofs.MemberLemmas.{item_at-put_item_other, item_at-put_item_same, IsThere-is_some, library_bytes-cons}
+use Rattle.library_parts.specs.Slots.{weight}
 use Rattle.library_parts.proofs.LawfulLemmas.{jobs-each}
 
 -- ---- numbers

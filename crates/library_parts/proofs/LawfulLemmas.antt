@@ -1,6 +1,6 @@
 -- A library stays lawful: what each call does keeps the members of files and opens there, values in their records, and locks of jobs that have begun.
 use Rattle.std.proofs.Common.{◌≡◌, ℕ, ◌+◌, ◌-◌, ◌==◌, if◌then◌else◌, not, map, ◌<◌, ◌≤◌, Bool, true, false, cond, filter, length, List, [], ◌∷◌, ◌++◌, Option, Some, None, IsSome, Result, Ok, Err, OnErr, OnOk, All, subst, refl, sym, ◌∙◌, ap, arith, rules, zero, suc}
-use Rattle.std.specs.List.{AllByRecursion}
+use Rattle.std.specs.List.{AllByRecursion, list_any}
 use Rattle.std.specs.Option.{option_map}
 use Rattle.member_slots.specs.declared.slot.Slot.{Slot}
 use Rattle.member_slots.specs.declared.slot.Slot.TheVariants.{Live}
@@ -8,23 +8,27 @@ use Rattle.member_slots.specs.Member.{MemberState, appended, changed}
 use Rattle.member_slots.specs.Members.{member_at, member_of, with_member}
 use Rattle.file_catalogue.specs.Owners.{Owns, has_number}
 use Rattle.file_catalogue.proofs.ChangeLemmas.{changed-from}
-use Rattle.file_catalogue.proofs.StatusLemmas.{has_number-changed_in}
+use Rattle.file_catalogue.proofs.StatusLemmas.{has_number-changed_in, after-number}
+use Rattle.file_catalogue.specs.Statuses.{after}
+use Rattle.file_catalogue.specs.declared.changes.StatusChange.{StatusChange}
 use Rattle.lock_table.specs.declared.lock.Lock.{Lock}
 use Rattle.job_table.specs.Users.{HasBegun, AreOfJobs}
 use Rattle.library_model.specs.Named.{Named, named, same_name}
 use Rattle.library_model.specs.declared.requests.OpenFile.{OpenFile}
-use Rattle.lock_table.specs.declared.levels.Call.TheVariants.{EndJob}
+use Rattle.lock_table.specs.declared.levels.Call.TheVariants.{Commit, EndJob}
+use Rattle.lock_table.specs.Levels.{locks_after}
 use Rattle.library_steps.specs.State.{State, FileState, OpenState, JobState, empty_library, memory_of, job_of, job_changed, with_opens, status_changed, new_job, fields_of}
 use Rattle.library_steps.specs.declared.limits.TheConstants.{MOST_LIBRARY_BYTES}
 use Rattle.library_steps.specs.Ranges.{library_bytes}
-use Rattle.library_steps.specs.SlotChange.{touched}
 use Rattle.library_steps.specs.Opens.{with_open, without_open, new_open}
 use Rattle.library_steps.specs.Reads.{open_changed}
 use Rattle.library_steps.specs.ChangeRecord.{without_current, without_record, is_current}
-use Rattle.library_steps.specs.Commitment.{boundary_locks}
+use Rattle.library_steps.specs.Commitment.{boundary_locks, at_boundary, committed_open, without_cycle, committed}
+use Rattle.library_steps.specs.Locking.{is_committed}
 use Rattle.library_steps.specs.EndJob.{ended_job, job_ended}
 use Rattle.library_parts.specs.Lawful.{OpensMember, OpenHolds, OpensHold, HasRecords, IsThere, IsLibrary, AreOne}
-use Rattle.library_parts.specs.Slots.{MayStand}
+use Rattle.record_fmt.specs.declared.formats.Field.{Field}
+use Rattle.library_parts.specs.Slots.{MayStand, weight}
 use Rattle.library_parts.proofs.MemberLemmas.{at-member_of, is_some-IsSome, IsThere-with_member, HasRecords-member_of, HasRecords-appended, HasRecords-changed, numbers-with_member, library_bytes-with, weight-appended, weight-changed}
 use Rattle.library_parts.specs.Parts.{LibraryParts}
 
@@ -207,6 +211,21 @@ AreOne-changed s bytes number rrn slot one there values =
     (λ name file owns. HasRecords-changed (fields_of file) member rrn slot (HasRecords-member_of (fields_of file) number s.members (one.lawful.members name file number owns)) (values name file owns))
     (omega (arith, after, weighs, counted)) (omega (arith, after, weighs, few))
 
+-- no slots, or only those with records
+pub AreOne-slots : (s : State) (bytes after number : ℕ) (change : MemberState → MemberState) → AreOne s bytes → IsSome (member_at number s.members)
+    → ((fields : List Field) (member : MemberState) → HasRecords fields member → HasRecords fields (change member)) → weight (change (member_of number s.members)) ≤ weight (member_of number s.members)
+    → after + weight (member_of number s.members) ≡ bytes + weight (change (member_of number s.members))
+    → AreOne (record s { members = with_member number (change (member_of number s.members)) s.members }) after
+AreOne-slots s bytes after number change one there kept fewer is =
+    let member = member_of number s.members in
+    let here : member_at number s.members ≡ Some member = at-member_of number s.members (is_some-IsSome (member_at number s.members) there) in
+    let sum = library_bytes-with number member (change member) s.members here in
+    let counted = one.counted in
+    let few = one.lawful.few in
+    AreOne-with_member s bytes after number (change member) one
+    (λ name file owns. kept (fields_of file) member (HasRecords-member_of (fields_of file) number s.members (one.lawful.members name file number owns)))
+    (omega (arith, sum, counted, is)) (omega (arith, sum, fewer, few))
+
 -- ---- the files changed, but for their fields and their members' numbers
 
 named-map : (change : FileState → FileState) (name : List ℕ) (files : Named FileState) → named name (map (λ entry. (entry.0, change entry.1)) files) ≡ option_map change (named name files)
@@ -255,7 +274,23 @@ module _ (change : FileState → FileState) (same_fields : (file : FileState) �
     counted = one.counted;
   }
 
--- a member touched
-pub AreOne-touched : (s : State) (bytes number : ℕ) → AreOne s bytes → AreOne (record s { files = map (λ entry. (entry.0, status_changed number touched entry.1)) s.files }) bytes
-AreOne-touched s bytes number one =
-    AreOne-files (status_changed number touched) (λ file. refl) (λ file other. has_number-changed_in other number touched file.members (λ status. refl)) s bytes one
+-- the status of a member changed
+pub AreOne-status : (s : State) (bytes number : ℕ) (change : StatusChange) → AreOne s bytes → AreOne (record s { files = map (λ entry. (entry.0, status_changed number (after change) entry.1)) s.files }) bytes
+AreOne-status s bytes number change one =
+    AreOne-files (status_changed number (after change)) (λ file. refl) (λ file other. has_number-changed_in other number (after change) file.members (after-number change)) s bytes one
+
+-- the jobs and the locks after a COMMIT
+pub AreOne-committed : (s : State) (bytes place : ℕ) (locks : List Lock) → AreOne s bytes → AreOfJobs s.jobs locks
+    → AreOne (record s { jobs = job_changed place (λ j. with_opens committed_open (without_cycle j)) s.jobs; locks = locks }) bytes
+AreOne-committed s bytes place locks one begun =
+    AreOne-job_changed (record s { locks = locks }) bytes place (λ j. with_opens committed_open (without_cycle j)) (AreOne-locks s bytes locks one begun)
+    (λ job all. opens-map s.files committed_open
+    (λ opened holds. elim opened.commit as (λ b. OpenHolds s.files (if b then at_boundary opened else opened)) [ true ↦ holds | false ↦ holds ]) job.opens all)
+
+pub committed-memory : (s : State) (job : ℕ) (locks : List Lock) (jobs : List JobState) (numbers : List ℕ) → ((n : ℕ) → list_any (λ o. o == n) numbers ≡ is_committed (job_of job (memory_of s)) n)
+    → locks ≡ locks_after Commit (job_of job (memory_of s)).level (record { job = job; opened = 0 }) (record { member = 0; rrn = 0 }) (λ n. list_any (λ o. o == n) numbers) s.locks
+    → jobs ≡ job_changed (job - 1) (λ j. with_opens committed_open (without_cycle j)) s.jobs → memory_of (record s { locks = locks; jobs = jobs }) ≡ committed job (memory_of s)
+committed-memory s job locks jobs numbers same left ended =
+    let freed : locks ≡ boundary_locks Commit job (memory_of s) =
+    left ∙ (λ i. locks_after Commit (job_of job (memory_of s)).level (record { job = job; opened = 0 }) (record { member = 0; rrn = 0 }) (λ n. same n i) s.locks) in
+    rw (freed, ended) refl

@@ -1,18 +1,19 @@
 -- What a change of one member leaves of the others, and what it makes of the bytes of all.
-use Rattle.std.proofs.Common.{◌≡◌, ◌≢◌, ◌⊎◌, inl, inr, ℕ, zero, suc, ◌+◌, ◌-◌, ◌*◌, ◌<◌, ◌≤◌, ◌==◌, if◌then◌else◌, Bool, true, false, not, filter, List, [], ◌∷◌, ◌++◌, length, slice_set, Option, Some, None, is_some, IsSome, unwrap_or, subst, refl, sym, ◌∙◌, ap, arith, rules}
+use Rattle.std.proofs.Common.{◌≡◌, ◌≢◌, ◌⊎◌, inl, inr, ℕ, zero, suc, ◌+◌, ◌-◌, ◌*◌, ◌<◌, ◌≤◌, ◌==◌, if◌then◌else◌, Bool, true, false, not, cond, filter, List, [], ◌∷◌, ◌++◌, length, slice_set, Option, Some, None, is_some, IsSome, unwrap_or, subst, refl, sym, ◌∙◌, ap, arith, rules}
 use Rattle.std.specs.List.{AllByRecursion, sum_by}
-use Rattle.std.proofs.Math.Nat.{suc-mul}
+use Rattle.std.proofs.Math.Nat.{suc-mul, mul-le-mul_right}
 use Rattle.std.proofs.lemmas.Bool.{cases_eq}
 use Rattle.std.proofs.lemmas.Bool.Decides.{nat_tests}
 use Rattle.std.proofs.lemmas.List.Sums.{sum_by-cons}
 use Rattle.member_slots.specs.declared.slot.Slot.{Slot}
 use Rattle.member_slots.specs.declared.slot.Slot.TheVariants.{Live, Deleted}
-use Rattle.member_slots.specs.Member.{MemberState, empty_member, appended, changed}
+use Rattle.member_slots.specs.Member.{MemberState, empty_member, appended, changed, cleared, is_live, reorganized}
 use Rattle.member_slots.specs.Members.{Numbered, NumberedMembers, item_at, put_item, with_item, without_item, member_at, member_of, with_member}
 use Rattle.record_fmt.specs.declared.formats.Field.{Field}
 use Rattle.library_steps.specs.Ranges.{library_bytes}
 use Rattle.library_steps.specs.SlotChange.{slot_put}
 use Rattle.library_parts.specs.Lawful.{HoldsValues, HasRecords, IsThere}
+use Rattle.library_parts.specs.Slots.{weight}
 
 pub item_at-put_item_other : {A : Type 0} (n k : ℕ) (x : A) (xs : List (Numbered A)) → n ≢ k → item_at n (put_item k x xs) ≡ item_at n xs
 item_at-put_item_other n k x [] other = grind (arith, nat_tests)
@@ -117,9 +118,6 @@ slot_put-changed member rrn (Live image) within = let other : (rrn == length mem
 
 -- ---- the bytes of all members
 
-abbrev pub weight : MemberState → ℕ
-weight member = length member.slots * member.record_length
-
 pub library_bytes-cons : (entry : Numbered MemberState) (members : NumberedMembers) → library_bytes (entry ∷ members) ≡ weight entry.item + library_bytes members
 library_bytes-cons entry members = sum_by-cons (λ e. length e.item.slots * e.item.record_length) entry members
 
@@ -159,3 +157,43 @@ weight-changed member rrn slot =
       | true ↦ refl
       | false ↦ ap (λ n. n * member.record_length) (length-set member.slots (rrn - 1) slot)
     ]
+
+-- a member is no more than all are
+pub weight-part : (number : ℕ) (members : NumberedMembers) → is_some (member_at number members) ≡ true → weight (member_of number members) ≤ library_bytes members
+weight-part number members there =
+    let member = member_of number members in
+    let after = library_bytes-with number member (empty_member 0) members (at-member_of number members there) in
+    let none : weight (empty_member 0) ≡ 0 = refl in
+    omega (arith, after, none)
+
+AllByRecursion-filter : {X : Type 0} (P : X → Type 0) (test : X → Bool) (xs : List X) → AllByRecursion P xs → AllByRecursion P (filter test xs)
+AllByRecursion-filter P test [] all = tt
+AllByRecursion-filter P test (x ∷ xs) all =
+    elim (test x) as (λ b. AllByRecursion P (cond b (x ∷ filter test xs) (filter test xs))) [
+      | true ↦ (all.0, AllByRecursion-filter P test xs all.1)
+      | false ↦ AllByRecursion-filter P test xs all.1
+    ]
+
+length-filter : {X : Type 0} (test : X → Bool) (xs : List X) → length (filter test xs) ≤ length xs
+length-filter test [] = omega arith
+length-filter test (x ∷ xs) =
+    let rest = length-filter test xs in
+    elim (test x) as (λ b. length (cond b (x ∷ filter test xs) (filter test xs)) ≤ suc (length xs)) [
+      | true ↦ omega (arith, rest)
+      | false ↦ omega (arith, rest)
+    ]
+
+pub HasRecords-cleared : (fields : List Field) (member : MemberState) → HasRecords fields member → HasRecords fields (cleared member)
+HasRecords-cleared fields member has = record { long = has.long; values = tt }
+
+pub HasRecords-reorganized : (fields : List Field) (member : MemberState) → HasRecords fields member → HasRecords fields (reorganized member)
+HasRecords-reorganized fields member has = record { long = has.long; values = AllByRecursion-filter (HoldsValues fields) is_live member.slots has.values }
+
+pub weight-cleared : (member : MemberState) → weight (cleared member) ≡ 0
+weight-cleared member = let none : 0 * member.record_length ≡ 0 = omega arith in none
+
+pub weight-reorganized : (member : MemberState) → weight (reorganized member) ≤ weight member
+weight-reorganized member = mul-le-mul_right member.record_length (length-filter is_live member.slots)
+
+pub member_of-with : (number : ℕ) (member : MemberState) (members : NumberedMembers) → is_some (member_at number members) ≡ true → member_of number (with_member number member members) ≡ member
+member_of-with number member members there = ap (λ (o : Option MemberState). unwrap_or o (empty_member 0)) (item_at-with_item_same number member members there)

@@ -3,9 +3,11 @@ use Rattle.std.specs.Prelude.{◌≡◌, ℕ, Result, Ok, Err, List}
 use Rattle.library_model.specs.declared.replies.Reply.{Reply}
 use Rattle.file_catalogue.specs.Owners.{Owns}
 use Rattle.member_slots.specs.Members.{member_at}
-use Rattle.library_steps.specs.State.{State, FileState, fields_of}
+use Rattle.entry_codec.specs.declared.entries.Entry.{Entry}
+use Rattle.library_steps.specs.JournalReads.{are_there, are_kept, entries_between}
+use Rattle.library_steps.specs.State.{State, FileState, fields_of, memory_of}
 use Rattle.library_parts.specs.Lawful.{IsThere}
-use Rattle.library_steps.specs.Refusals.{OpenedFile, FoundMember}
+use Rattle.library_steps.specs.Refusals.{◌>>=◌, OpenedFile, FoundMember}
 use Rattle.library_parts.specs.declared.stop.Stop.{Stop}
 use Rattle.library_parts.specs.declared.stop.Stop.TheVariants.{NoMemory, Refused}
 use Rattle.library_parts.specs.declared.finds.OpenFound.{OpenFound}
@@ -25,3 +27,10 @@ FindsMember (Err (Refused reply)) wanted = wanted ≡ Err reply
 pub record HasMember (s : State) (name : List ℕ) (file : FileState) (number : ℕ) : Type 0 where
   pub owns : Owns s.files name file number
   pub there : IsThere (fields_of file) (member_at number s.members)
+
+-- the entries from the first sequence up to the last, or the refusal
+abbrev pub entries_read : (first last : ℕ) → State → Result (List Entry) Reply
+entries_read first last s = do
+  _ ← are_there first last (memory_of s)
+  _ ← are_kept first (memory_of s)
+  Ok (entries_between first last (memory_of s) s.entries)

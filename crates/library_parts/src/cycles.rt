@@ -3,7 +3,7 @@ ghost use Rattle.std.specs.Prelude.{◌≡◌, ◌+◌, ◌≤◌, Some, None, I
 ghost use Rattle.library_steps.specs.declared.limits.TheConstants.{MOST_GROUP_CHANGES, MOST_GROUP_BYTES};
 ghost use Rattle.library_steps.specs.State.{memory_of, job_at, job_of, with_job, with_opens};
 ghost use Rattle.library_steps.specs.History.{is_running};
-ghost use Rattle.library_steps.specs.Commitment.{with_level, has_committed_open};
+ghost use Rattle.library_steps.specs.Commitment.{committed, with_level, has_committed_open};
 ghost use Rattle.library_steps.specs.SlotChange.{change_bytes, cycle_for, noted, open_bytes, open_changes, with_cycle};
 ghost use Rattle.library_parts.specs.Rooms.{HasUndoRoom};
 
@@ -60,5 +60,18 @@ impl Contents {
     {
         let (_, last) = self.journal.bounds();
         self.jobs.note(job, last + 1, undo);
+    }
+
+    /// Commits: the job's commit cycle has ended, its boundary locks and the locks of its opens under commitment are gone, and
+    /// these opens have read nothing since.
+    pub fn commit(&mut self, job: u32)
+        requires { IsTrue (is_running (job_at job self.old.state.jobs)) }
+        ensures memory { memory_of self.new.state ≡ committed job (memory_of self.old.state) }
+        ensures entries { self.new.state.entries ≡ self.old.state.entries }
+        ensures room { self.new.room ≡ record self.old.room { undos = self.new.room.undos } }
+    {
+        let opens = self.jobs.committed_opens(job);
+        self.locks.release_commit(job, opens.as_slice());
+        self.jobs.commit(job);
     }
 }

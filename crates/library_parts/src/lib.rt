@@ -5,6 +5,7 @@ pub mod contents;
 mod cycles;
 mod files;
 pub mod finds;
+mod journal;
 pub mod laws;
 mod leave;
 mod locking;

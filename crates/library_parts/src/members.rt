@@ -1,7 +1,7 @@
 //! What effects change of members: their slots and their statuses.
 ghost use Rattle.std.specs.Prelude.{◌≡◌, ◌+◌, ◌≤◌, false, length, IsSome};
 ghost use Rattle.member_slots.specs.declared.slot.Slot.TheVariants.{Live};
-ghost use Rattle.member_slots.specs.Member.{FitsSlot, is_full};
+ghost use Rattle.member_slots.specs.Member.{FitsSlot, cleared, is_full, reorganized};
 ghost use Rattle.member_slots.specs.Members.{member_at, member_of};
 ghost use Rattle.library_steps.specs.declared.limits.TheConstants.{MOST_LIBRARY_BYTES};
 ghost use Rattle.library_steps.specs.Ranges.{library_bytes};
@@ -10,10 +10,14 @@ ghost use Rattle.library_steps.specs.SlotChange.{touched, with_slot};
 ghost use Rattle.library_steps.specs.State.{memory_of, with_status};
 ghost use Rattle.library_steps.specs.WriteRecord.{next_place};
 ghost use Rattle.library_parts.specs.Rooms.{HasSlotRoom};
-ghost use Rattle.library_parts.specs.Slots.{MayStand};
+ghost use Rattle.library_parts.specs.Slots.{MayStand, weight};
+ghost use Rattle.library_steps.specs.MemberCommands.{renumbered, with_slots};
+ghost use Rattle.library_steps.specs.Journaling.{journaled_from, no_longer_journaled};
 
 use crate::contents::Contents;
+use entry_codec::Images;
 use field_types::texts::Image;
+use member_slots::members::Members;
 use member_slots::slot::Slot;
 
 impl Contents {
@@ -55,5 +59,77 @@ impl Contents {
         ensures room { self.new.room ≡ self.old.room }
     {
         self.catalogue.touch(member);
+    }
+
+    /// The member is journaled from that sequence on.
+    pub fn start_journaling(&mut self, member: u32, sequence: u64, images: Images)
+        ensures memory { memory_of self.new.state ≡ with_status member (journaled_from sequence images) (memory_of self.old.state) }
+        ensures entries { self.new.state.entries ≡ self.old.state.entries }
+        ensures room { self.new.room ≡ self.old.room }
+    {
+        self.catalogue.journaled(member, sequence, images);
+    }
+
+    /// The member is no longer journaled. It had so many records then.
+    pub fn end_journaling(&mut self, member: u32, sequence: u64, records: u32)
+        ensures memory { memory_of self.new.state ≡ with_status member (no_longer_journaled sequence records) (memory_of self.old.state) }
+        ensures entries { self.new.state.entries ≡ self.old.state.entries }
+        ensures room { self.new.room ≡ self.old.room }
+    {
+        self.catalogue.unjournaled(member, sequence, records);
+    }
+
+    /// The member's records have lost their numbers.
+    pub fn renumber(&mut self, member: u32, sequence: u64)
+        ensures memory { memory_of self.new.state ≡ with_status member (renumbered sequence) (memory_of self.old.state) }
+        ensures entries { self.new.state.entries ≡ self.old.state.entries }
+        ensures room { self.new.room ≡ self.old.room }
+    {
+        self.catalogue.renumbered(member, sequence);
+    }
+
+    /// Removes all slots of the member.
+    pub fn clear(&mut self, member: u32)
+        requires { IsSome (member_at member self.old.state.members) }
+        ensures memory { memory_of self.new.state ≡ with_slots member cleared (memory_of self.old.state) }
+        ensures entries { self.new.state.entries ≡ self.old.state.entries }
+        ensures room { self.new.room ≡ record self.old.room { spares = self.new.room.spares } }
+    {
+        let before = self.weight(member);
+        self.members.clear(member);
+        self.member_bytes -= before;
+    }
+
+    /// Removes the deleted slots of the member.
+    pub fn reorganize(&mut self, member: u32)
+        requires { IsSome (member_at member self.old.state.members) }
+        ensures memory { memory_of self.new.state ≡ with_slots member reorganized (memory_of self.old.state) }
+        ensures entries { self.new.state.entries ≡ self.old.state.entries }
+        ensures room { self.new.room ≡ record self.old.room { spares = self.new.room.spares } }
+    {
+        let before = self.weight(member);
+        self.members.reorganize(member);
+        let after = weight(&self.members, member);
+        self.member_bytes = self.member_bytes - before + after;
+    }
+
+    fn weight(&self, member: u32) -> u64
+        requires { IsSome (member_at member self.now.state.members) }
+        ensures value { result ≡ weight (member_of member self.now.state.members) }
+        ensures few { result ≤ library_bytes self.now.state.members }
+    {
+        let _ = &self.member_bytes;
+        weight(&self.members, member)
+    }
+}
+
+/// The bytes of a member, with those of its deleted slots.
+fn weight(members: &Members, member: u32) -> u64
+    ensures value { result ≡ weight (member_of member members.now.members) }
+    ensures few { result ≤ 268435456 }
+{
+    match members.at(member) {
+        Some(member) => u64::from(member.slots()) * u64::from(member.length()),
+        None => 0,
     }
 }
