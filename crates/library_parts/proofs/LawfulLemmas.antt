@@ -15,7 +15,11 @@ use Rattle.lock_table.specs.declared.lock.Lock.{Lock}
 use Rattle.job_table.specs.Users.{HasBegun, AreOfJobs}
 use Rattle.library_model.specs.Named.{Named, named, same_name}
 use Rattle.library_model.specs.declared.requests.OpenFile.{OpenFile}
-use Rattle.lock_table.specs.declared.levels.Call.TheVariants.{Commit, EndJob}
+use Rattle.lock_table.specs.declared.levels.Call.TheVariants.{Commit, EndCommitment, EndJob}
+use Rattle.lock_table.specs.Lock.{is_of_group}
+use Rattle.lock_table.specs.Table.{freed}
+use Rattle.commit_level.specs.declared.Level.{Level}
+use Rattle.commit_level.specs.declared.Level.TheVariants as levels
 use Rattle.lock_table.specs.Levels.{locks_after}
 use Rattle.library_steps.specs.State.{State, FileState, OpenState, JobState, empty_library, memory_of, job_of, job_changed, with_opens, status_changed, new_job, fields_of}
 use Rattle.library_steps.specs.declared.limits.TheConstants.{MOST_LIBRARY_BYTES}
@@ -23,7 +27,7 @@ use Rattle.library_steps.specs.Ranges.{library_bytes}
 use Rattle.library_steps.specs.Opens.{with_open, without_open, new_open}
 use Rattle.library_steps.specs.Reads.{open_changed}
 use Rattle.library_steps.specs.ChangeRecord.{without_current, without_record, is_current}
-use Rattle.library_steps.specs.Commitment.{boundary_locks, at_boundary, committed_open, without_cycle, committed}
+use Rattle.library_steps.specs.Commitment.{boundary_locks, at_boundary, committed_open, with_level, without_cycle, committed, commitment_ended}
 use Rattle.library_steps.specs.Locking.{is_committed}
 use Rattle.library_steps.specs.EndJob.{ended_job, job_ended}
 use Rattle.library_parts.specs.Lawful.{OpensMember, OpenHolds, OpensHold, HasRecords, IsThere, IsLibrary, AreOne}
@@ -294,3 +298,18 @@ committed-memory s job locks jobs numbers same left ended =
     let freed : locks ≡ boundary_locks Commit job (memory_of s) =
     left ∙ (λ i. locks_after Commit (job_of job (memory_of s)).level (record { job = job; opened = 0 }) (record { member = 0; rrn = 0 }) (λ n. same n i) s.locks) in
     rw (freed, ended) refl
+
+-- the jobs and the locks after commitment control has ended
+pub AreOne-commitment_ended : (s : State) (bytes place : ℕ) (locks : List Lock) → AreOne s bytes → AreOfJobs s.jobs locks → AreOne (record s { jobs = job_changed place (with_level None) s.jobs; locks = locks }) bytes
+AreOne-commitment_ended s bytes place locks one begun = AreOne-job_changed (record s { locks = locks }) bytes place (with_level None) (AreOne-locks s bytes locks one begun) (λ job holds. holds)
+
+-- whatever its level was, its boundary locks go
+group-freed : (level : Option Level) (job : ℕ) (is_committed : ℕ → Bool) (held : List Lock)
+    → locks_after EndCommitment level (record { job = job; opened = 0 }) (record { member = 0; rrn = 0 }) is_committed held ≡ freed (is_of_group job) held
+group-freed None job is_committed held = refl
+group-freed (Some levels.Chg) job is_committed held = refl
+group-freed (Some levels.Cs) job is_committed held = refl
+group-freed (Some levels.All) job is_committed held = refl
+
+pub commitment-memory : (s : State) (job : ℕ) → memory_of (record s { locks = freed (is_of_group job) s.locks; jobs = job_changed (job - 1) (with_level None) s.jobs }) ≡ commitment_ended job (memory_of s)
+commitment-memory s job = rw (group-freed (job_of job (memory_of s)).level job (is_committed (job_of job (memory_of s))) s.locks) refl

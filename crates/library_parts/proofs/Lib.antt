@@ -5,3 +5,4 @@ pub mod ResultLemmas
 pub mod FileLemmas
 pub mod AnswerLemmas
 pub mod FindLemmas
+pub mod DeleteLemmas

@@ -3,7 +3,7 @@ ghost use Rattle.std.specs.Prelude.{◌≡◌, ◌+◌, ◌≤◌, Some, None, I
 ghost use Rattle.library_steps.specs.declared.limits.TheConstants.{MOST_GROUP_CHANGES, MOST_GROUP_BYTES};
 ghost use Rattle.library_steps.specs.State.{memory_of, job_at, job_of, with_job, with_opens};
 ghost use Rattle.library_steps.specs.History.{is_running};
-ghost use Rattle.library_steps.specs.Commitment.{committed, with_level, has_committed_open};
+ghost use Rattle.library_steps.specs.Commitment.{commitment_ended, committed, with_level, has_committed_open};
 ghost use Rattle.library_steps.specs.SlotChange.{change_bytes, cycle_for, noted, open_bytes, open_changes, with_cycle};
 ghost use Rattle.library_parts.specs.Rooms.{HasUndoRoom};
 
@@ -38,13 +38,14 @@ impl Contents {
         self.jobs.start_commitment(job, level);
     }
 
-    /// Ends it, but for the job's boundary locks.
+    /// Ends it, and frees the job's boundary locks.
     pub fn end_commitment(&mut self, job: u32)
         requires { IsTrue (is_running (job_at job self.old.state.jobs)) }
-        ensures memory { memory_of self.new.state ≡ with_job job (with_level None) (memory_of self.old.state) }
+        ensures memory { memory_of self.new.state ≡ commitment_ended job (memory_of self.old.state) }
         ensures entries { self.new.state.entries ≡ self.old.state.entries }
         ensures room { self.new.room ≡ self.old.room }
     {
+        self.locks.release_group(job);
         self.jobs.end_commitment(job);
     }
 

@@ -1,14 +1,23 @@
 //! What effects change of the files and of whole members.
-ghost use Rattle.std.specs.Prelude.{◌≡◌, length};
+ghost use Rattle.std.specs.Prelude.{◌≡◌, ◌+◌, ◌≤◌, Some, None, IsSome, length};
 ghost use Rattle.library_steps.specs.CreatePhysicalFile.{with_file};
-ghost use Rattle.library_steps.specs.State.{memory_of};
+ghost use Rattle.library_steps.specs.State.{FileState, memory_of};
+ghost use Rattle.library_model.specs.Named.{named};
+ghost use Rattle.member_slots.specs.Members.{without_member};
+ghost use Rattle.library_steps.specs.declared.limits.TheConstants.{MOST_LIBRARY_BYTES};
+ghost use Rattle.library_steps.specs.DeleteFile.{deleted, without_members};
+ghost use Rattle.library_steps.specs.Ranges.{library_bytes};
+ghost use Rattle.library_steps.specs.Uses.{user_of_any};
 ghost use Rattle.library_parts.specs.Files.{IsNewFile};
 ghost use Rattle.library_parts.specs.Rooms.{HasFileRoom};
 
 use crate::contents::Contents;
+use crate::members::weight;
 use field_types::names::Name;
-use file_catalogue::File;
+use file_catalogue::{File, Members as FileMembers};
+use library_model::requests::DeleteFile;
 use member_slots::member::Member;
+use member_slots::members::Members;
 
 impl Contents {
     /// How many files there are, and the number of the next member.
@@ -34,4 +43,43 @@ impl Contents {
         self.catalogue.add(name, file);
         self.next_member += 1;
     }
+
+    /// Takes out a file whose members no job uses, and its members with it.
+    pub fn remove_file(&mut self, args: &DeleteFile) -> File
+        requires there { IsSome (named args.now.file self.old.state.files) }
+        requires unused { (file : FileState) → named args.now.file self.old.state.files ≡ Some file → user_of_any file.members (memory_of self.old.state) ≡ None }
+        ensures file { named args.now.file self.old.state.files ≡ Some result }
+        ensures memory { memory_of self.new.state ≡ deleted args.now result (memory_of self.old.state) }
+        ensures entries { self.new.state.entries ≡ self.old.state.entries }
+    {
+        // No two members have one number.
+        let _len = self.catalogue.len();
+        let file = self.catalogue.remove(&args.file);
+        let bytes = take_members(&mut self.members, file.members());
+        self.member_bytes -= bytes;
+        file
+    }
+}
+
+/// Takes the members out, and answers how many bytes they had.
+fn take_members(members: &mut Members, gone: &FileMembers) -> u64
+    requires { library_bytes members.old.members ≤ MOST_LIBRARY_BYTES }
+    ensures gone { members.new.members ≡ without_members gone.now members.old.members }
+    ensures bytes { library_bytes members.new.members + result ≡ library_bytes members.old.members }
+{
+    let mut bytes = 0;
+    for (_, status) in gone.as_slice() {
+        bytes += take_member(members, status.number());
+    }
+    bytes
+}
+
+/// Takes a member out, and answers how many bytes it had.
+fn take_member(members: &mut Members, number: u32) -> u64
+    ensures gone { members.new.members ≡ without_member number members.old.members }
+    ensures bytes { library_bytes members.new.members + result ≡ library_bytes members.old.members }
+{
+    let bytes = weight(members, number);
+    let _taken = members.take(number);
+    bytes
 }

@@ -2,7 +2,7 @@
 ghost use Rattle.std.specs.Prelude.{◌≡◌, ◌+◌, ◌≤◌, false, length, IsSome};
 ghost use Rattle.member_slots.specs.declared.slot.Slot.TheVariants.{Live};
 ghost use Rattle.member_slots.specs.Member.{FitsSlot, cleared, is_full, reorganized};
-ghost use Rattle.member_slots.specs.Members.{member_at, member_of};
+ghost use Rattle.member_slots.specs.Members.{AreMembers, member_at, member_of};
 ghost use Rattle.library_steps.specs.declared.limits.TheConstants.{MOST_LIBRARY_BYTES};
 ghost use Rattle.library_steps.specs.Ranges.{library_bytes};
 ghost use Rattle.library_steps.specs.Records.{slot_there};
@@ -124,9 +124,10 @@ impl Contents {
 }
 
 /// The bytes of a member, with those of its deleted slots.
-fn weight(members: &Members, member: u32) -> u64
+pub(crate) fn weight(members: &Members, member: u32) -> u64
     ensures value { result ≡ weight (member_of member members.now.members) }
     ensures few { result ≤ 268435456 }
+    ensures lawful { AreMembers members.now.members }
 {
     match members.at(member) {
         Some(member) => u64::from(member.slots()) * u64::from(member.length()),
