@@ -1,5 +1,5 @@
 -- A library stays lawful with one file less, and its members.
-use Rattle.std.proofs.Common.{◌≡◌, ◌≢◌, ℕ, zero, suc, ◌+◌, ◌<◌, ◌≤◌, ◌==◌, ◌||◌, if◌then◌else◌, Bool, true, false, cond, not, filter, length, List, [], ◌∷◌, Option, Some, None, All, unwrap_or, subst, refl, sym, ◌∙◌, ap, arith}
+use Rattle.std.proofs.Common.{◌≡◌, ◌≢◌, ℕ, suc, ◌+◌, ◌<◌, ◌≤◌, ◌==◌, ◌||◌, if◌then◌else◌, Bool, true, false, cond, not, filter, List, [], ◌∷◌, Option, Some, None, All, unwrap_or, subst, refl, sym, ◌∙◌, ap, arith}
 use Rattle.std.specs.List.{AllByRecursion, AllPairs, list_any}
 use Rattle.std.proofs.lemmas.Bool.Decides.{nat_tests}
 use Rattle.std.proofs.lemmas.List.Elements.{recursion_from_All}
@@ -14,7 +14,7 @@ use Rattle.library_steps.specs.State.{State, FileState, MemberStatus, OpenState,
 use Rattle.library_steps.specs.DeleteFile.{without_file, without_members}
 use Rattle.library_steps.specs.Ranges.{library_bytes}
 use Rattle.library_steps.specs.Uses.{first_job, has_open_over, has_changed, has_boundary_lock, uses, user_of_any}
-use Rattle.library_parts.specs.Lawful.{IsThere, OpensMember, OpenHolds, OpensHold, IsLibrary, AreOne}
+use Rattle.library_parts.specs.Lawful.{IsThere, OpensMember, OpenHolds, OpensHold, AreOne}
 use Rattle.library_parts.specs.Slots.{weight}
 use Rattle.library_parts.proofs.MemberLemmas.{item_at-without_item_other, library_bytes-cons}
 

@@ -1,20 +1,20 @@
 -- A library stays lawful with one file more.
-use Rattle.std.proofs.Common.{◌≡◌, ◌≢◌, ◌⊎◌, inl, inr, ℕ, ◌+◌, ◌*◌, ◌<◌, ◌≤◌, ◌==◌, ◌||◌, nat_lt, nat_eq, if◌then◌else◌, Bool, true, false, cond, List, [], ◌∷◌, ◌++◌, Option, Some, None, is_some, subst, refl, sym, ◌∙◌, ap, arith}
+use Rattle.std.proofs.Common.{◌≡◌, ◌≢◌, ◌⊎◌, inl, inr, ℕ, ◌+◌, ◌*◌, ◌<◌, nat_lt, nat_eq, true, false, cond, List, [], ◌∷◌, ◌++◌, Some, None, is_some, subst, refl, sym, ◌∙◌, ap, arith}
 use Rattle.std.specs.List.{AllByRecursion, IsDistinct}
 use Rattle.std.specs.Map.{keys_of}
 use Rattle.std.proofs.lemmas.Bool.Decides.{nat_tests}
 use Rattle.member_slots.specs.Member.{MemberState, empty_member}
-use Rattle.member_slots.specs.Members.{Numbered, NumberedMembers, member_at, put_member}
+use Rattle.member_slots.specs.Members.{NumberedMembers, member_at, put_member}
 use Rattle.record_fmt.specs.Layout.{record_length}
 use Rattle.file_catalogue.specs.Owners.{Owns, has_number}
 use Rattle.file_catalogue.proofs.NameLemmas.{named-append}
-use Rattle.file_catalogue.proofs.OwnerLemmas.{Unowned, unowned-status}
+use Rattle.file_catalogue.proofs.OwnerLemmas.{unowned-status}
 use Rattle.library_model.specs.Named.{Named, named, same_name}
-use Rattle.library_steps.specs.State.{State, FileState, MemberStatus, OpenState, JobState, fields_of}
+use Rattle.library_steps.specs.State.{State, FileState, MemberStatus, fields_of}
 use Rattle.library_steps.specs.CreatePhysicalFile.{new_status}
 use Rattle.library_steps.specs.Ranges.{library_bytes}
 use Rattle.library_steps.specs.SlotChange.{status_among}
-use Rattle.library_parts.specs.Lawful.{HasRecords, IsThere, OpensMember, OpenHolds, OpensHold, IsLibrary, AreOne}
+use Rattle.library_parts.specs.Lawful.{IsThere, OpensMember, IsLibrary, AreOne}
 use Rattle.library_parts.proofs.MemberLemmas.{item_at-put_item_other, item_at-put_item_same, IsThere-is_some, library_bytes-cons}
 use Rattle.library_parts.specs.Slots.{weight}
 use Rattle.library_parts.proofs.LawfulLemmas.{jobs-each}

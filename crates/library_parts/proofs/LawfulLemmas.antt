@@ -1,5 +1,5 @@
 -- A library stays lawful: what each call does keeps the members of files and opens there, values in their records, and locks of jobs that have begun.
-use Rattle.std.proofs.Common.{◌≡◌, ℕ, ◌+◌, ◌-◌, ◌==◌, if◌then◌else◌, not, map, ◌<◌, ◌≤◌, Bool, true, false, cond, filter, length, List, [], ◌∷◌, ◌++◌, Option, Some, None, IsSome, Result, Ok, Err, OnErr, OnOk, All, subst, refl, sym, ◌∙◌, ap, arith, rules, zero, suc}
+use Rattle.std.proofs.Common.{◌≡◌, ℕ, ◌+◌, ◌-◌, ◌==◌, if◌then◌else◌, not, map, ◌≤◌, Bool, true, false, cond, filter, length, List, [], ◌∷◌, ◌++◌, Option, Some, None, IsSome, Result, Ok, Err, OnErr, OnOk, subst, refl, sym, ◌∙◌, ap, arith, zero, suc}
 use Rattle.std.specs.List.{AllByRecursion, list_any}
 use Rattle.std.specs.Option.{option_map}
 use Rattle.member_slots.specs.declared.slot.Slot.{Slot}

@@ -1,6 +1,5 @@
 -- What calls leave of the locks: how many, and of which jobs.
-use Rattle.std.proofs.Common.{◌≡◌, ℕ, ◌+◌, ◌-◌, ◌<◌, ◌≤◌, ◌==◌, if◌then◌else◌, IsTrue, Bool, true, false, not, cond, nat_lt, IfSome, filter, length, List, [], ◌∷◌, Option, Some, None, slice_get, All, subst, refl, sym, ◌∙◌, ap, arith, zero, suc}
-use Rattle.std.specs.List.{AllByRecursion}
+use Rattle.std.proofs.Common.{◌≡◌, ℕ, ◌-◌, ◌<◌, ◌≤◌, ◌==◌, if◌then◌else◌, IsTrue, Bool, true, false, not, cond, nat_lt, IfSome, filter, length, List, [], ◌∷◌, Option, Some, None, slice_get, All, refl, sym, ◌∙◌, ap, arith, zero, suc}
 use Rattle.std.specs.Ordering.{is_eq, match_ordering}
 use Rattle.std.specs.declared.cmp.Ordering.{Ordering}
 use Rattle.std.specs.declared.cmp.Ordering.TheVariants.{Less, Equal, Greater}
@@ -20,9 +19,9 @@ use Rattle.lock_table.specs.declared.levels.Wanted.{Wanted}
 use Rattle.lock_table.specs.declared.levels.OpenLocks.{OpenLocks}
 use Rattle.lock_table.specs.declared.levels.OpenLocks.TheVariants.{Stay, OfOpen, OfRecord, OfCommitted, OfJob}
 use Rattle.lock_table.specs.Lock.{blocks, lock_by, lock_cmp, is_of_open, is_of_record, is_of_opens, is_of_job, is_of_group, update_kind}
-use Rattle.lock_table.specs.Table.{with_item, with_lock, without_lock, with_lock_by, freed, after_read, blocker, least_job}
+use Rattle.lock_table.specs.Table.{with_item, without_lock, with_lock_by, freed, blocker, least_job}
 use Rattle.lock_table.specs.Levels.{asked, gained, released, without_open_locks, without_boundary_locks, with_wanted, locks_after}
-use Rattle.job_table.specs.Users.{HasBegun, AreOfJobs}
+use Rattle.job_table.specs.Users.{HasBegun}
 use Rattle.library_steps.specs.State.{JobState, job_at}
 use Rattle.library_steps.specs.History.{is_running}
 use Rattle.library_parts.specs.Locks.{IsRead, IsWrite, IsOfOpen, AreOfOpen}

@@ -1,6 +1,6 @@
 -- What a change of one member leaves of the others, and what it makes of the bytes of all.
-use Rattle.std.proofs.Common.{◌≡◌, ◌≢◌, ◌⊎◌, inl, inr, ℕ, zero, suc, ◌+◌, ◌-◌, ◌*◌, ◌<◌, ◌≤◌, ◌==◌, if◌then◌else◌, Bool, true, false, not, cond, filter, List, [], ◌∷◌, ◌++◌, length, slice_set, Option, Some, None, is_some, IsSome, unwrap_or, subst, refl, sym, ◌∙◌, ap, arith, rules}
-use Rattle.std.specs.List.{AllByRecursion, sum_by}
+use Rattle.std.proofs.Common.{◌≡◌, ◌≢◌, inl, inr, ℕ, zero, suc, ◌+◌, ◌-◌, ◌*◌, ◌<◌, ◌≤◌, ◌==◌, if◌then◌else◌, Bool, true, false, cond, filter, List, [], ◌∷◌, ◌++◌, length, slice_set, Option, Some, None, is_some, IsSome, unwrap_or, subst, refl, sym, ◌∙◌, ap, arith, rules}
+use Rattle.std.specs.List.{AllByRecursion}
 use Rattle.std.proofs.Math.Nat.{suc-mul, mul-le-mul_right}
 use Rattle.std.proofs.lemmas.Bool.{cases_eq}
 use Rattle.std.proofs.lemmas.Bool.Decides.{nat_tests}

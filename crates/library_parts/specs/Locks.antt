@@ -1,5 +1,5 @@
 -- Which calls ask for room among the record locks, and which calls are on a record through an open. (Db2 for i, record locks; Commitment Control.)
-use Rattle.std.specs.Prelude.{ℕ, ◌+◌, ◌≤◌, min, List, length}
+use Rattle.std.specs.Prelude.{◌+◌, ◌≤◌, min, length}
 use Rattle.lock_table.specs.declared.levels.Call.{Call}
 use Rattle.lock_table.specs.declared.levels.Call.TheVariants.{InputRead, UpdateRead, Update, Delete, Write, WriteAt, Unlock, Position, Close, Commit, Rollback, EndCommitment, EndJob}
 use Rattle.lock_table.specs.declared.levels.OpenLocks.{OpenLocks}

@@ -1,4 +1,4 @@
-use Rattle.std.proofs.Common.{◌≡◌, ℕ, None, length, ◌==◌, refl, ap}
+use Rattle.std.proofs.Common.{ℕ, None, length, ◌==◌, refl, ap}
 use Rattle.lock_table.specs.Table.{Locks}
 use Rattle.library_steps.specs.State.{memory_of, job_of}
 use Rattle.library_parts.specs.Parts.{state_of}

@@ -1,7 +1,6 @@
-use Rattle.std.proofs.Common.{not, length, ap, refl}
+use Rattle.std.proofs.Common.{not, length}
 use Rattle.std.proofs.lemmas.List.Elements.{All-filter}
 use Rattle.lock_table.specs.Lock.{is_of_group}
-use Rattle.lock_table.specs.Table.{Locks}
 use Rattle.job_table.specs.Users.{HasBegun}
 use Rattle.library_parts.specs.Parts.{state_of}
 use Rattle.library_parts.proofs.LawfulLemmas.{AreOne-commitment_ended, commitment-memory}

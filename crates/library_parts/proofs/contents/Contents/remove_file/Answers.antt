@@ -1,4 +1,4 @@
-use Rattle.std.proofs.Common.{◌≡◌, ◌∙◌, ◌+◌, ◌-◌, ◌≤◌, ap, arith}
+use Rattle.std.proofs.Common.{◌≡◌, ◌∙◌, ◌+◌, ◌-◌, ap, arith}
 use Rattle.member_slots.specs.Members.{NumberedMembers}
 use Rattle.library_model.specs.Named.{Named}
 use Rattle.library_steps.specs.DeleteFile.{without_members}
