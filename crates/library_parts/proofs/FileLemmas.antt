@@ -39,12 +39,12 @@ pub distinct-one : (number : ℕ) → IsDistinct nat_eq (number ∷ [])
 unfolding IsDistinct
 distinct-one number = (tt, tt)
 
-numbers-put_member : (members : NumberedMembers) (next : ℕ) (member : MemberState) → AllByRecursion (λ entry. entry.number < next) members → AllByRecursion (λ entry. entry.number < next + 1) (put_member next member members)
+pub numbers-put_member : (members : NumberedMembers) (next : ℕ) (member : MemberState) → AllByRecursion (λ entry. entry.number < next) members → AllByRecursion (λ entry. entry.number < next + 1) (put_member next member members)
 numbers-put_member [] next member all = (omega arith, tt)
 numbers-put_member (entry ∷ members) next member all = grind (arith, nat_tests, all.0, numbers-put_member members next member all.1)
 
 -- a member without slots has no bytes
-bytes-put_member : (members : NumberedMembers) (next long : ℕ) → AllByRecursion (λ entry. entry.number < next) members → library_bytes (put_member next (empty_member long) members) ≡ library_bytes members
+pub bytes-put_member : (members : NumberedMembers) (next long : ℕ) → AllByRecursion (λ entry. entry.number < next) members → library_bytes (put_member next (empty_member long) members) ≡ library_bytes members
 bytes-put_member [] next long all = let none : 0 + 0 * long ≡ 0 = omega arith in none
 bytes-put_member (entry ∷ members) next long all =
     let below : nat_lt entry.number next ≡ true = (let less = all.0 in grind (arith, nat_tests)) in

@@ -6,3 +6,4 @@ pub mod FileLemmas
 pub mod AnswerLemmas
 pub mod FindLemmas
 pub mod DeleteLemmas
+pub mod AddLemmas

@@ -6,16 +6,17 @@ ghost use Rattle.library_model.specs.Named.{named};
 ghost use Rattle.member_slots.specs.Members.{without_member};
 ghost use Rattle.library_steps.specs.declared.limits.TheConstants.{MOST_LIBRARY_BYTES};
 ghost use Rattle.library_steps.specs.DeleteFile.{deleted, without_members};
+ghost use Rattle.library_steps.specs.MemberCommands.{member_added};
 ghost use Rattle.library_steps.specs.Ranges.{library_bytes};
 ghost use Rattle.library_steps.specs.Uses.{user_of_any};
-ghost use Rattle.library_parts.specs.Files.{IsNewFile};
-ghost use Rattle.library_parts.specs.Rooms.{HasFileRoom};
+ghost use Rattle.library_parts.specs.Files.{IsNewFile, IsNewMember};
+ghost use Rattle.library_parts.specs.Rooms.{HasFileRoom, HasMemberRoom};
 
 use crate::contents::Contents;
 use crate::members::weight;
 use field_types::names::Name;
 use file_catalogue::{File, Members as FileMembers};
-use library_model::requests::DeleteFile;
+use library_model::requests::{DeleteFile, FileMember};
 use member_slots::member::Member;
 use member_slots::members::Members;
 
@@ -41,6 +42,24 @@ impl Contents {
         let empty = Member::new(self.alloc, file.format().length());
         self.members.put(self.next_member, empty).unwrap();
         self.catalogue.add(name, file);
+        self.next_member += 1;
+    }
+
+    /// Adds a member of that name to a file. It has the next number.
+    pub fn add_member(&mut self, args: &FileMember)
+        requires new { IsNewMember self.old.state args.now }
+        requires room { HasMemberRoom self.old.room }
+        ensures memory { (file : FileState) → named args.now.file self.old.state.files ≡ Some file → memory_of self.new.state ≡ member_added args.now file (memory_of self.old.state) }
+        ensures entries { self.new.state.entries ≡ self.old.state.entries }
+        ensures others { (self.new.room.entries ≡ self.old.room.entries) × (self.new.room.locks ≡ self.old.room.locks) × (self.new.room.undos ≡ self.old.room.undos) }
+    {
+        // No two files have one name.
+        let _len = self.catalogue.len();
+        let length = self.catalogue.named(&args.file).unwrap().format().length();
+        let empty = Member::new(self.alloc, length);
+        self.members.put(self.next_member, empty).unwrap();
+        self.catalogue
+            .add_member(&args.file, args.member, self.next_member);
         self.next_member += 1;
     }
 
