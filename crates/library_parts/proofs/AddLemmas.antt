@@ -1,0 +1,92 @@
+-- A library stays lawful with one member more in a file.
+use Rattle.std.proofs.Common.{◌≡◌, ◌≢◌, ◌⊎◌, inl, inr, ℕ, ◌+◌, ◌==◌, ◌||◌, true, false, cond, List, Option, Some, None, subst, refl, sym, ◌∙◌, ap, arith}
+use Rattle.std.specs.Option.{option_map}
+use Rattle.std.proofs.lemmas.Bool.{cases_eq}
+use Rattle.std.proofs.lemmas.Bool.Decides.{nat_tests}
+use Rattle.member_slots.specs.Member.{empty_member}
+use Rattle.member_slots.specs.Members.{member_at, put_member}
+use Rattle.record_fmt.specs.Layout.{record_length}
+use Rattle.file_catalogue.specs.Owners.{Owns, has_number}
+use Rattle.file_catalogue.proofs.NameLemmas.{same_name-equal, some-equal}
+use Rattle.file_catalogue.proofs.ChangeLemmas.{named-file_changed, changed-from}
+use Rattle.file_catalogue.proofs.StatusLemmas.{has_number-push}
+use Rattle.library_model.specs.Named.{named, same_name}
+use Rattle.library_steps.specs.State.{State, FileState, OpenState, fields_of}
+use Rattle.library_steps.specs.MemberCommands.{file_changed, with_member_name}
+use Rattle.library_parts.specs.Lawful.{IsThere, OpensMember, AreOne}
+use Rattle.library_parts.proofs.MemberLemmas.{item_at-put_item_other, item_at-put_item_same}
+use Rattle.library_parts.proofs.LawfulLemmas.{jobs-each}
+use Rattle.library_parts.proofs.FileLemmas.{Owns-below, bytes-put_member, numbers-put_member}
+
+module _ (s : State) (bytes : ℕ) (name member : List ℕ) (file : FileState) (one : AreOne s bytes) (there : named name s.files ≡ Some file) where
+  -- a file among those with the member is one that was there, or the one with the member
+  split : (other : List ℕ) (another : FileState) → named other (file_changed name (with_member_name member s.next_member) s.files) ≡ Some another
+      → ((before : FileState) × (named other s.files ≡ Some before) × (with_member_name member s.next_member before ≡ another) × (before ≡ file)) ⊎ (named other s.files ≡ Some another)
+  split other another found =
+      elim (same_name name other) as (λ b. same_name name other ≡ b
+      → cond b (option_map (with_member_name member s.next_member) (named other s.files)) (named other s.files) ≡ Some another
+      → ((before : FileState) × (named other s.files ≡ Some before) × (with_member_name member s.next_member before ≡ another) × (before ≡ file)) ⊎ (named other s.files ≡ Some another)) [
+        | true ↦ λ same e. (
+            let was = changed-from (with_member_name member s.next_member) (named other s.files) another e in
+            let its : Some was.0 ≡ Some file = sym was.1 ∙ ap (λ (n : List ℕ). named n s.files) (sym (same_name-equal name other same)) ∙ there in
+            inl (was.0, was.1, was.2, some-equal its))
+        | false ↦ λ differ e. inr e
+      ] refl (sym (named-file_changed name other (with_member_name member s.next_member) s.files) ∙ found)
+
+  -- a member that was there
+  kept : (other : List ℕ) (another : FileState) (number : ℕ) → Owns s.files other another number
+      → IsThere (fields_of another) (member_at number (put_member s.next_member (empty_member (record_length (fields_of file))) s.members))
+  kept other another number owns =
+      let below = Owns-below s other another number one.lawful owns in
+      let apart : number ≢ s.next_member = omega arith in
+      subst (IsThere (fields_of another)) (sym (item_at-put_item_other number s.next_member (empty_member (record_length (fields_of file))) s.members apart)) (one.lawful.members other another number owns)
+
+  -- the new one
+  new : (number : ℕ) → s.next_member ≡ number → IsThere (fields_of file) (member_at number (put_member s.next_member (empty_member (record_length (fields_of file))) s.members))
+  new number here =
+      let put : member_at number (put_member s.next_member (empty_member (record_length (fields_of file))) s.members) ≡ Some (empty_member (record_length (fields_of file))) = ap (λ (n : ℕ). member_at n (put_member s.next_member (empty_member (record_length (fields_of file))) s.members)) (sym here) ∙ item_at-put_item_same s.next_member (empty_member (record_length (fields_of file))) s.members in
+      subst (IsThere (fields_of file)) (sym put) (record { long = refl; values = tt })
+
+  IsThere-added : (other : List ℕ) (another : FileState) (number : ℕ)
+      → ((before : FileState) × (named other s.files ≡ Some before) × (with_member_name member s.next_member before ≡ another) × (before ≡ file)) ⊎ (named other s.files ≡ Some another)
+      → has_number number another.members ≡ true → IsThere (fields_of another) (member_at number (put_member s.next_member (empty_member (record_length (fields_of file))) s.members))
+  IsThere-added other another number (inr found) has = kept other another number (record { there = found; has = has })
+  IsThere-added other another number (inl was) has =
+      let fields = ap (λ (f : FileState). fields_of f) was.2 in
+      subst (λ fs. IsThere fs (member_at number (put_member s.next_member (empty_member (record_length (fields_of file))) s.members))) fields
+      (elim (cases_eq s.next_member number) [
+        | inl same ↦ subst (λ (f : FileState). IsThere (fields_of f) (member_at number (put_member s.next_member (empty_member (record_length (fields_of file))) s.members))) (sym was.3) (new number same)
+        | inr differ ↦ (
+            let more : has_number number (with_member_name member s.next_member was.0).members ≡ true = ap (λ (f : FileState). has_number number f.members) was.2 ∙ has in
+            let either = sym (has_number-push number was.0.members member s.next_member) ∙ more in
+            let before : has_number number was.0.members ≡ true = grind (arith, nat_tests) in
+            kept other was.0 number (record { there = was.1; has = before }))
+      ])
+
+  pushed : (number : ℕ) (o : Option FileState) → OpensMember number o → OpensMember number (option_map (with_member_name member s.next_member) o)
+  pushed number None holds = absurd holds
+  pushed number (Some before) holds = has_number-push number before.members member s.next_member ∙ ap (λ b. b || (s.next_member == number)) holds
+
+  opens-added : (opened : OpenState) → OpensMember opened.member (named opened.file s.files) → OpensMember opened.member (named opened.file (file_changed name (with_member_name member s.next_member) s.files))
+  opens-added opened holds =
+      subst (OpensMember opened.member) (sym (named-file_changed name opened.file (with_member_name member s.next_member) s.files))
+      (elim (same_name name opened.file) as (λ b. OpensMember opened.member (cond b (option_map (with_member_name member s.next_member) (named opened.file s.files)) (named opened.file s.files))) [
+        | true ↦ pushed opened.member (named opened.file s.files) holds
+        | false ↦ holds
+      ])
+
+  pub AreOne-member_added : AreOne (record s {
+    files = file_changed name (with_member_name member s.next_member) s.files;
+    members = put_member s.next_member (empty_member (record_length (fields_of file))) s.members;
+    next_member = s.next_member + 1;
+  }) bytes
+  AreOne-member_added = let same = bytes-put_member s.members s.next_member (record_length (fields_of file)) one.lawful.numbers in let few = one.lawful.few in record {
+    lawful = record {
+      members = λ other another number owns. IsThere-added other another number (split other another owns.there) owns.has;
+      opens = jobs-each s.files (file_changed name (with_member_name member s.next_member) s.files) opens-added s.jobs one.lawful.opens;
+      numbers = numbers-put_member s.members s.next_member (empty_member (record_length (fields_of file))) one.lawful.numbers;
+      keepers = one.lawful.keepers;
+      few = omega (arith, same, few);
+    };
+    counted = one.counted ∙ sym same;
+  }

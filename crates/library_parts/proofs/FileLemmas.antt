@@ -1,0 +1,93 @@
+-- A library stays lawful with one file more.
+use Rattle.std.proofs.Common.{◌≡◌, ◌≢◌, ◌⊎◌, inl, inr, ℕ, ◌+◌, ◌*◌, ◌<◌, nat_lt, nat_eq, true, false, cond, List, [], ◌∷◌, ◌++◌, Some, None, is_some, subst, refl, sym, ◌∙◌, ap, arith}
+use Rattle.std.specs.List.{AllByRecursion, IsDistinct}
+use Rattle.std.specs.Map.{keys_of}
+use Rattle.std.proofs.lemmas.Bool.Decides.{nat_tests}
+use Rattle.member_slots.specs.Member.{MemberState, empty_member}
+use Rattle.member_slots.specs.Members.{NumberedMembers, member_at, put_member}
+use Rattle.record_fmt.specs.Layout.{record_length}
+use Rattle.file_catalogue.specs.Owners.{Owns, has_number}
+use Rattle.file_catalogue.proofs.NameLemmas.{named-append}
+use Rattle.file_catalogue.proofs.OwnerLemmas.{unowned-status}
+use Rattle.library_model.specs.Named.{Named, named, same_name}
+use Rattle.library_steps.specs.State.{State, FileState, MemberStatus, fields_of}
+use Rattle.library_steps.specs.CreatePhysicalFile.{new_status}
+use Rattle.library_steps.specs.Ranges.{library_bytes}
+use Rattle.library_steps.specs.SlotChange.{status_among}
+use Rattle.library_parts.specs.Lawful.{IsThere, OpensMember, IsLibrary, AreOne}
+use Rattle.library_parts.proofs.MemberLemmas.{item_at-put_item_other, item_at-put_item_same, IsThere-is_some, library_bytes-cons}
+use Rattle.library_parts.specs.Slots.{weight}
+use Rattle.library_parts.proofs.LawfulLemmas.{jobs-each}
+
+-- ---- numbers
+
+-- a member that is there has a number below the next
+number-below : (members : NumberedMembers) (number next : ℕ) → AllByRecursion (λ entry. entry.number < next) members → is_some (member_at number members) ≡ true → number < next
+number-below [] number next all there = absurd cc
+number-below (entry ∷ members) number next all there = grind (arith, nat_tests, all.0, number-below members number next all.1)
+
+pub Owns-below : (s : State) (name : List ℕ) (file : FileState) (number : ℕ) → IsLibrary s → Owns s.files name file number → number < s.next_member
+Owns-below s name file number lawful owns =
+    number-below s.members number s.next_member lawful.numbers (IsThere-is_some (fields_of file) (member_at number s.members) (lawful.members name file number owns))
+
+-- no file has the next number
+pub next-unowned : (s : State) → IsLibrary s → IsDistinct same_name (keys_of s.files) → status_among s.next_member s.files ≡ None
+next-unowned s lawful distinct =
+    (unowned-status s.next_member s.files distinct (λ name file owns. let below = Owns-below s name file s.next_member lawful owns in absurd (omega arith))).0
+
+pub distinct-one : (number : ℕ) → IsDistinct nat_eq (number ∷ [])
+unfolding IsDistinct
+distinct-one number = (tt, tt)
+
+pub numbers-put_member : (members : NumberedMembers) (next : ℕ) (member : MemberState) → AllByRecursion (λ entry. entry.number < next) members → AllByRecursion (λ entry. entry.number < next + 1) (put_member next member members)
+numbers-put_member [] next member all = (omega arith, tt)
+numbers-put_member (entry ∷ members) next member all = grind (arith, nat_tests, all.0, numbers-put_member members next member all.1)
+
+-- a member without slots has no bytes
+pub bytes-put_member : (members : NumberedMembers) (next long : ℕ) → AllByRecursion (λ entry. entry.number < next) members → library_bytes (put_member next (empty_member long) members) ≡ library_bytes members
+bytes-put_member [] next long all = let none : 0 + 0 * long ≡ 0 = omega arith in none
+bytes-put_member (entry ∷ members) next long all =
+    let below : nat_lt entry.number next ≡ true = (let less = all.0 in grind (arith, nat_tests)) in
+    let rest = bytes-put_member members next long all.1 in
+    let before = library_bytes-cons entry members in
+    let after = library_bytes-cons entry (put_member next (empty_member long) members) in
+    rw below (after ∙ ap (λ n. weight entry.item + n) rest ∙ sym before)
+
+OpensMember-append : (number : ℕ) (name : List ℕ) (files : Named FileState) (file : List ℕ × FileState) → OpensMember number (named name files) → OpensMember number (named name (files ++ file ∷ []))
+OpensMember-append number name [] file holds = absurd holds
+OpensMember-append number name (first ∷ files) file holds =
+    elim (same_name name first.0) as (λ b. OpensMember number (cond b (Some first.1) (named name files)) → OpensMember number (cond b (Some first.1) (named name (files ++ file ∷ [])))) [
+      | true ↦ λ h. h
+      | false ↦ λ h. OpensMember-append number name files file h
+    ] holds
+
+module _ (s : State) (bytes : ℕ) (name member : List ℕ) (file : FileState) (one : AreOne s bytes) (first : file.members ≡ (member, new_status s.next_member) ∷ []) where
+  -- its one member has the next number
+  first_number : (another : FileState) (number : ℕ) → file ≡ another → has_number number another.members ≡ true → s.next_member ≡ number
+  first_number another number same has =
+      let here : has_number number ((member, new_status s.next_member) ∷ []) ≡ true = subst (λ (m : Named MemberStatus). has_number number m ≡ true) (ap (λ (f : FileState). f.members) (sym same) ∙ first) has in
+      grind (arith, nat_tests, here)
+
+  IsThere-put : (other : List ℕ) (another : FileState) (number : ℕ) → (named other s.files ≡ Some another) ⊎ ((other ≡ name) × (file ≡ another)) → has_number number another.members ≡ true
+      → IsThere (fields_of another) (member_at number (put_member s.next_member (empty_member (record_length (fields_of file))) s.members))
+  IsThere-put other another number (inl there) has =
+      let owns : Owns s.files other another number = record { there = there; has = has } in
+      let below = Owns-below s other another number one.lawful owns in
+      let apart : number ≢ s.next_member = omega arith in
+      subst (IsThere (fields_of another)) (sym (item_at-put_item_other number s.next_member (empty_member (record_length (fields_of file))) s.members apart)) (one.lawful.members other another number owns)
+  IsThere-put other another number (inr same) has =
+      let here = first_number another number same.1 has in
+      let put : member_at number (put_member s.next_member (empty_member (record_length (fields_of file))) s.members) ≡ Some (empty_member (record_length (fields_of file))) = ap (λ (n : ℕ). member_at n (put_member s.next_member (empty_member (record_length (fields_of file))) s.members)) (sym here) ∙ item_at-put_item_same s.next_member (empty_member (record_length (fields_of file))) s.members in
+      subst (λ (f : FileState). IsThere (fields_of f) (member_at number (put_member s.next_member (empty_member (record_length (fields_of file))) s.members))) same.1 (subst (IsThere (fields_of file)) (sym put) (record { long = refl; values = tt }))
+
+  pub AreOne-with_file : AreOne (record s { files = s.files ++ (name, file) ∷ []; members = put_member s.next_member (empty_member (record_length (fields_of file))) s.members; next_member = s.next_member + 1 }) bytes
+  AreOne-with_file = let same = bytes-put_member s.members s.next_member (record_length (fields_of file)) one.lawful.numbers in let few = one.lawful.few in record {
+    lawful = record {
+      members = λ other another number owns. IsThere-put other another number (named-append other name s.files file another owns.there) owns.has;
+      opens = jobs-each s.files (s.files ++ (name, file) ∷ []) (λ opened holds. OpensMember-append opened.member opened.file s.files (name, file) holds) s.jobs one.lawful.opens;
+      numbers = numbers-put_member s.members s.next_member (empty_member (record_length (fields_of file))) one.lawful.numbers;
+      keepers = one.lawful.keepers;
+      few = omega (arith, same, few);
+    };
+    counted = one.counted ∙ sym same;
+  }

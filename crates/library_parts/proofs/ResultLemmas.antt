@@ -1,0 +1,13 @@
+-- What holds of a result that is known.
+use Rattle.std.proofs.Common.{◌≡◌, false, Option, Some, None, Result, Ok, Err, OnOk, refl}
+use Rattle.std.specs.Option.{is_some}
+
+-- what holds where a call succeeds holds where it has succeeded
+pub on_ok : {A E P : Type 0} (r : Result A E) (x : A) → r ≡ Ok x → OnOk r P → P
+on_ok (Ok y) x is holds = holds
+on_ok (Err e) x is holds = absurd cc
+
+-- what isn't there is nothing
+pub is_nothing : {A : Type 0} (o : Option A) → is_some o ≡ false → o ≡ None
+is_nothing None absent = refl
+is_nothing (Some x) absent = absurd cc

@@ -1,0 +1,18 @@
+use Rattle.library_parts.specs.Parts.{state_of}
+use Rattle.library_parts.proofs.FileLemmas.{AreOne-with_file, next-unowned, distinct-one}
+use Rattle.library_parts.proofs.ResultLemmas.{on_ok}
+use Rattle.library_parts.proofs.contents.Contents.add_file.Goals as goal
+
+pub add-requires-clause-fresh : goal.add-requires-clause-fresh
+add-requires-clause-fresh c =
+    let parts = c.self.inside in
+    let state = state_of parts.catalogue parts.members parts.next_member parts.journal parts.locks parts.jobs in
+    rw (rw (← c.self.view_is) at c.requires.new.first) (next-unowned state c.self.invariant.lawful c.len-len.ensures.unique, tt)
+
+pub add-requires-clause-apart : goal.add-requires-clause-apart
+add-requires-clause-apart c = rw c.requires.new.first (distinct-one c.args.self.now.state.next_member)
+
+pub invariant_of-self : goal.invariant_of-self
+invariant_of-self c =
+    rw (c.add.ensures, on_ok c.put.result c.unwrap.result c.unwrap.ensures c.put.ensures.put, c.new-empty.ensures, c.length.ensures, c.format.ensures.format)
+    (AreOne-with_file _ _ c.args.name c.args.name c.args.file c.self.invariant (rw (← c.self.view_is) at c.requires.new.first))

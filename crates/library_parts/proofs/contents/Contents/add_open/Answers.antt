@@ -1,0 +1,5 @@
+use Rattle.library_parts.proofs.LawfulLemmas.{AreOne-with_open}
+use Rattle.library_parts.proofs.contents.Contents.add_open.Goals as goal
+
+pub invariant_of-self : goal.invariant_of-self
+invariant_of-self c = rw c.add_open.ensures (AreOne-with_open _ _ _ c.args.args.now c.args.member c.self.invariant (rw (← c.self.view_is) at c.requires.there))

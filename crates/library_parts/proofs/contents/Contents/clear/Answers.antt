@@ -1,0 +1,19 @@
+use Rattle.std.proofs.Common.{◌≡◌, ◌≤◌, arith}
+use Rattle.member_slots.specs.Member.{cleared}
+use Rattle.member_slots.specs.Members.{member_of}
+use Rattle.library_steps.specs.Ranges.{library_bytes}
+use Rattle.library_parts.specs.Slots.{weight}
+use Rattle.library_parts.proofs.MemberLemmas.{HasRecords-cleared, weight-cleared}
+use Rattle.library_parts.proofs.LawfulLemmas.{AreOne-slots}
+use Rattle.library_parts.proofs.contents.Contents.clear.Goals as goal
+
+pub invariant_of-self : goal.invariant_of-self
+invariant_of-self c =
+    let members = c.self.inside.members.members in
+    let member = member_of c.args.member members in
+    let weighs : c.weight-before.result ≡ weight member = rw (← c.self.view_is) at c.weight-before.ensures.value in
+    let few : c.weight-before.result ≤ library_bytes members = rw (← c.self.view_is) at c.weight-before.ensures.few in
+    let counted : c.self.inside.member_bytes ≡ library_bytes members = c.self.invariant.counted in
+    let none : weight (cleared member) ≡ 0 = weight-cleared member in
+    rw c.clear.ensures.cleared
+    (AreOne-slots _ _ _ c.args.member cleared c.self.invariant (rw (← c.self.view_is) at c.requires) (λ fields m has. HasRecords-cleared fields m has) (omega (arith, none)) (omega (arith, weighs, few, counted, none)))

@@ -1,0 +1,6 @@
+use Rattle.library_steps.specs.Reads.{has_read}
+use Rattle.library_parts.proofs.LawfulLemmas.{AreOne-open_changed}
+use Rattle.library_parts.proofs.contents.Contents.note_read.Goals as goal
+
+pub invariant_of-self : goal.invariant_of-self
+invariant_of-self c = rw c.note_read.ensures (AreOne-open_changed _ _ _ c.args.opened (has_read c.args.call c.args.entry) c.self.invariant (λ opened holds. holds))

@@ -1,0 +1,25 @@
+use Rattle.std.proofs.Common.{◌≡◌, ◌∙◌, ◌+◌, ◌-◌, ap, arith}
+use Rattle.member_slots.specs.Members.{NumberedMembers}
+use Rattle.library_model.specs.Named.{Named}
+use Rattle.library_steps.specs.DeleteFile.{without_members}
+use Rattle.library_steps.specs.Ranges.{library_bytes}
+use Rattle.library_steps.specs.State.{MemberStatus}
+use Rattle.library_parts.specs.Parts.{state_of}
+use Rattle.library_parts.proofs.DeleteLemmas.{AreOne-deleted}
+use Rattle.library_parts.proofs.contents.Contents.remove_file.Goals as goal
+
+pub invariant_of-self : goal.invariant_of-self
+invariant_of-self c =
+    let parts = c.self.inside in
+    let state = state_of parts.catalogue parts.members parts.next_member parts.journal parts.locks parts.jobs in
+    let members = parts.members.members in
+    let file = c.remove-file.result in
+    let taken = c.take_members-bytes in
+    let counted : parts.member_bytes ≡ library_bytes members = c.self.invariant.counted in
+    let gone = taken.ensures.gone ∙ ap (λ (names : Named MemberStatus). without_members names members) c.members.ensures in
+    let left : library_bytes taken.new.members.members ≡ library_bytes (without_members file.members members) = ap (λ (ms : NumberedMembers). library_bytes ms) gone in
+    let bytes : library_bytes taken.new.members.members + taken.result ≡ library_bytes members = taken.ensures.bytes in
+    let unused = (rw (← c.self.view_is) at c.requires.unused) file c.remove-file.ensures.file in
+    rw (c.remove-file.ensures.removed, taken.ensures.gone, c.members.ensures)
+    (AreOne-deleted state parts.member_bytes (parts.member_bytes - taken.result) c.args.args.now.file file c.self.invariant c.len-len.ensures.apart c.remove-file.ensures.file unused
+    (omega (arith, counted, left, bytes)) (omega arith))

@@ -1,0 +1,6 @@
+use Rattle.file_catalogue.specs.declared.changes.StatusChange.TheVariants.{Renumbered}
+use Rattle.library_parts.proofs.LawfulLemmas.{AreOne-status}
+use Rattle.library_parts.proofs.contents.Contents.renumber.Goals as goal
+
+pub invariant_of-self : goal.invariant_of-self
+invariant_of-self c = rw c.renumbered.ensures.files (AreOne-status _ _ c.args.member (Renumbered c.args.sequence) c.self.invariant)

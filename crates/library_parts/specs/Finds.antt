@@ -1,0 +1,36 @@
+-- What a look-up by names shows: an open and its file, or a member and its file, or the refusal of the first name that isn't there.
+use Rattle.std.specs.Prelude.{◌≡◌, ℕ, Result, Ok, Err, List}
+use Rattle.library_model.specs.declared.replies.Reply.{Reply}
+use Rattle.file_catalogue.specs.Owners.{Owns}
+use Rattle.member_slots.specs.Members.{member_at}
+use Rattle.entry_codec.specs.declared.entries.Entry.{Entry}
+use Rattle.library_steps.specs.JournalReads.{are_there, are_kept, entries_between}
+use Rattle.library_steps.specs.State.{State, FileState, fields_of, memory_of}
+use Rattle.library_parts.specs.Lawful.{IsThere}
+use Rattle.library_steps.specs.Refusals.{◌>>=◌, OpenedFile, FoundMember}
+use Rattle.library_parts.specs.declared.stop.Stop.{Stop}
+use Rattle.library_parts.specs.declared.stop.Stop.TheVariants.{NoMemory, Refused}
+use Rattle.library_parts.specs.declared.finds.OpenFound.{OpenFound}
+use Rattle.library_parts.specs.declared.finds.MemberFound.{MemberFound}
+
+abbrev pub FindsOpen : Result OpenFound Stop → Result OpenedFile Reply → Type 0
+FindsOpen (Ok its) wanted = wanted ≡ Ok (record { opened = its.opened.now; file = its.file.now })
+FindsOpen (Err NoMemory) wanted = ⊥
+FindsOpen (Err (Refused reply)) wanted = wanted ≡ Err reply
+
+abbrev pub FindsMember : Result MemberFound Stop → Result FoundMember Reply → Type 0
+FindsMember (Ok it) wanted = wanted ≡ Ok (record { file = it.file.now; status = it.status })
+FindsMember (Err NoMemory) wanted = ⊥
+FindsMember (Err (Refused reply)) wanted = wanted ≡ Err reply
+
+-- the file of this name has the member with this number, which is there with records of the file's fields
+pub record HasMember (s : State) (name : List ℕ) (file : FileState) (number : ℕ) : Type 0 where
+  pub owns : Owns s.files name file number
+  pub there : IsThere (fields_of file) (member_at number s.members)
+
+-- the entries from the first sequence up to the last, or the refusal
+abbrev pub entries_read : (first last : ℕ) → State → Result (List Entry) Reply
+entries_read first last s = do
+  _ ← are_there first last (memory_of s)
+  _ ← are_kept first (memory_of s)
+  Ok (entries_between first last (memory_of s) s.entries)

@@ -1,0 +1,83 @@
+//! What the library has in memory: its parts joined. What requests look up stands in `finds.rt`, `records.rt`, `users.rt` and
+//! `locking.rt`; what their effects change in `opens.rt`.
+ghost use Rattle.std.specs.Prelude.{◌≡◌, ◌+◌, ◌<◌, [], ◌∷◌, ◌++◌, length, IfOk, OnOk, OnErr};
+ghost use Rattle.library_steps.specs.History.{is_running};
+ghost use Rattle.library_steps.specs.State.{empty_library, job_at, new_job};
+ghost use Rattle.library_parts.specs.Lawful.{IsLibrary};
+
+use field_types::names::Name;
+use file_catalogue::Catalogue;
+use job_table::Jobs;
+use lock_table::LockTable;
+use member_slots::members::Members;
+use memory_journal::MemoryJournal;
+use std::alloc::{AllocError, Global};
+use std::marker::Model;
+
+/// The memory of a library. Contracts see it as one state, and beside it the room for more.
+#[derive(Drop)]
+pub struct Contents {
+    pub(crate) alloc: Global,
+    pub(crate) catalogue: Catalogue,
+    pub(crate) members: Members,
+    /// The bytes of all members, with those of their deleted slots.
+    pub(crate) member_bytes: u64,
+    pub(crate) next_member: u32,
+    pub(crate) journal: MemoryJournal,
+    pub(crate) locks: LockTable,
+    pub(crate) jobs: Jobs,
+}
+
+impl Model for Contents {
+    ghost use Rattle.library_parts.specs.Parts.{LibraryParts, joined, state_of};
+    ghost use Rattle.library_parts.specs.Lawful.{AreOne};
+
+    ghost Value = { LibraryParts };
+
+    ghost view = { λ c. joined c.catalogue c.members c.next_member c.journal c.locks c.jobs };
+
+    ghost invariant = { λ c. AreOne (state_of c.catalogue c.members c.next_member c.journal c.locks c.jobs) c.member_bytes };
+}
+
+impl Contents {
+    /// A library with nothing in it.
+    pub fn new(alloc: Global) -> Contents
+        ensures { result.state ≡ empty_library }
+    {
+        Contents {
+            alloc,
+            catalogue: Catalogue::new(alloc),
+            members: Members::new(alloc),
+            member_bytes: 0,
+            next_member: 1,
+            journal: MemoryJournal::new(alloc),
+            locks: LockTable::new(alloc),
+            jobs: Jobs::new(alloc),
+        }
+    }
+
+    /// How many jobs have begun. What the parts need of each other holds.
+    pub fn jobs_begun(&self) -> usize
+        ensures count { result ≡ length self.now.state.jobs }
+        ensures lawful { IsLibrary self.now.state }
+    {
+        self.jobs.len()
+    }
+
+    /// Whether the job with that number has begun and not ended.
+    pub fn is_running(&self, job: u32) -> bool
+        ensures { result ≡ is_running (job_at job self.now.state.jobs) }
+    {
+        self.jobs.is_running(job)
+    }
+
+    /// Begins a job and answers its number.
+    pub fn begin_job(&mut self, name: Name) -> Result<u32, AllocError>
+        requires { length self.old.state.jobs < 4294967295 }
+        ensures number { IfOk result (λ n. n ≡ length self.old.state.jobs + 1) }
+        ensures begun { OnOk result (self.new.state ≡ record self.old.state { jobs = self.old.state.jobs ++ new_job name ∷ [] }) }
+        ensures unchanged { OnErr result (self.new ≡ self.old) }
+    {
+        self.jobs.begin(name)
+    }
+}

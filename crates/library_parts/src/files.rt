@@ -1,0 +1,104 @@
+//! What effects change of the files and of whole members.
+ghost use Rattle.std.specs.Prelude.{◌≡◌, ◌+◌, ◌≤◌, Some, None, IsSome, length};
+ghost use Rattle.library_steps.specs.CreatePhysicalFile.{with_file};
+ghost use Rattle.library_steps.specs.State.{FileState, memory_of};
+ghost use Rattle.library_model.specs.Named.{named};
+ghost use Rattle.member_slots.specs.Members.{without_member};
+ghost use Rattle.library_steps.specs.declared.limits.TheConstants.{MOST_LIBRARY_BYTES};
+ghost use Rattle.library_steps.specs.DeleteFile.{deleted, without_members};
+ghost use Rattle.library_steps.specs.MemberCommands.{member_added};
+ghost use Rattle.library_steps.specs.Ranges.{library_bytes};
+ghost use Rattle.library_steps.specs.Uses.{user_of_any};
+ghost use Rattle.library_parts.specs.Files.{IsNewFile, IsNewMember};
+ghost use Rattle.library_parts.specs.Rooms.{HasFileRoom, HasMemberRoom};
+
+use crate::contents::Contents;
+use crate::members::weight;
+use field_types::names::Name;
+use file_catalogue::{File, Members as FileMembers};
+use library_model::requests::{DeleteFile, FileMember};
+use member_slots::member::Member;
+use member_slots::members::Members;
+
+impl Contents {
+    /// How many files there are, and the number of the next member.
+    pub fn counts(&self) -> (usize, u32)
+        ensures files { result.0 ≡ length self.now.state.files }
+        ensures next_member { result.1 ≡ self.now.state.next_member }
+    {
+        (self.catalogue.len(), self.next_member)
+    }
+
+    /// Adds a file, whose one member has its name and the next number.
+    pub fn add_file(&mut self, name: Name, file: File)
+        requires new { IsNewFile self.old.state name file }
+        requires room { HasFileRoom self.old.room }
+        ensures memory { memory_of self.new.state ≡ with_file name file (memory_of self.old.state) }
+        ensures entries { self.new.state.entries ≡ self.old.state.entries }
+        ensures others { (self.new.room.entries ≡ self.old.room.entries) × (self.new.room.locks ≡ self.old.room.locks) × (self.new.room.undos ≡ self.old.room.undos) }
+    {
+        // No two files have one name.
+        let _len = self.catalogue.len();
+        let empty = Member::new(self.alloc, file.format().length());
+        self.members.put(self.next_member, empty).unwrap();
+        self.catalogue.add(name, file);
+        self.next_member += 1;
+    }
+
+    /// Adds a member of that name to a file. It has the next number.
+    pub fn add_member(&mut self, args: &FileMember)
+        requires new { IsNewMember self.old.state args.now }
+        requires room { HasMemberRoom self.old.room }
+        ensures memory { (file : FileState) → named args.now.file self.old.state.files ≡ Some file → memory_of self.new.state ≡ member_added args.now file (memory_of self.old.state) }
+        ensures entries { self.new.state.entries ≡ self.old.state.entries }
+        ensures others { (self.new.room.entries ≡ self.old.room.entries) × (self.new.room.locks ≡ self.old.room.locks) × (self.new.room.undos ≡ self.old.room.undos) }
+    {
+        // No two files have one name.
+        let _len = self.catalogue.len();
+        let length = self.catalogue.named(&args.file).unwrap().format().length();
+        let empty = Member::new(self.alloc, length);
+        self.members.put(self.next_member, empty).unwrap();
+        self.catalogue
+            .add_member(&args.file, args.member, self.next_member);
+        self.next_member += 1;
+    }
+
+    /// Takes out a file whose members no job uses, and its members with it.
+    pub fn remove_file(&mut self, args: &DeleteFile) -> File
+        requires there { IsSome (named args.now.file self.old.state.files) }
+        requires unused { (file : FileState) → named args.now.file self.old.state.files ≡ Some file → user_of_any file.members (memory_of self.old.state) ≡ None }
+        ensures file { named args.now.file self.old.state.files ≡ Some result }
+        ensures memory { memory_of self.new.state ≡ deleted args.now result (memory_of self.old.state) }
+        ensures entries { self.new.state.entries ≡ self.old.state.entries }
+    {
+        // No two members have one number.
+        let _len = self.catalogue.len();
+        let file = self.catalogue.remove(&args.file);
+        let bytes = take_members(&mut self.members, file.members());
+        self.member_bytes -= bytes;
+        file
+    }
+}
+
+/// Takes the members out, and answers how many bytes they had.
+fn take_members(members: &mut Members, gone: &FileMembers) -> u64
+    requires { library_bytes members.old.members ≤ MOST_LIBRARY_BYTES }
+    ensures gone { members.new.members ≡ without_members gone.now members.old.members }
+    ensures bytes { library_bytes members.new.members + result ≡ library_bytes members.old.members }
+{
+    let mut bytes = 0;
+    for (_, status) in gone.as_slice() {
+        bytes += take_member(members, status.number());
+    }
+    bytes
+}
+
+/// Takes a member out, and answers how many bytes it had.
+fn take_member(members: &mut Members, number: u32) -> u64
+    ensures gone { members.new.members ≡ without_member number members.old.members }
+    ensures bytes { library_bytes members.new.members + result ≡ library_bytes members.old.members }
+{
+    let bytes = weight(members, number);
+    let _taken = members.take(number);
+    bytes
+}

@@ -1,0 +1,101 @@
+//! What requests look up by names: opens, files, and the members of files.
+ghost use Rattle.std.specs.Prelude.{◌≡◌, IfOk, IsTrue};
+ghost use Rattle.library_model.specs.declared.replies.Reply.TheVariants.{NoSuchName};
+ghost use Rattle.library_model.specs.declared.replies.Missing.TheVariants as missing;
+ghost use Rattle.library_steps.specs.State.{memory_of, job_at, file_named, open_named};
+ghost use Rattle.library_steps.specs.History.{is_running};
+ghost use Rattle.library_steps.specs.Refusals.{named_or_refused, opened_file, member_of_file, sequences_left};
+ghost use Rattle.library_parts.specs.declared.stop.Stop.TheVariants.{Refused};
+ghost use Rattle.library_parts.specs.Answers.{Shows, Allows};
+ghost use Rattle.library_parts.specs.Finds.{FindsOpen, FindsMember, HasMember};
+
+use crate::contents::Contents;
+use crate::stop::Stop;
+use field_types::names::Name;
+use file_catalogue::{File, MemberStatus};
+use job_table::Open;
+use library_model::replies::{LimitKind, Missing, Reply};
+use library_steps::limits::LAST_SEQUENCE;
+
+/// An open that a request names, and its file.
+pub struct OpenFound<'a> {
+    pub opened: &'a Open,
+    pub file: &'a File,
+}
+
+/// A member that a request names, and its file.
+pub struct MemberFound<'a> {
+    pub file: &'a File,
+    pub status: MemberStatus,
+}
+
+impl Contents {
+    /// The job's open of that name.
+    pub fn opened(&self, job: u32, name: &Name) -> Result<&Open, Stop>
+        requires { IsTrue (is_running (job_at job self.now.state.jobs)) }
+        ensures { Shows result (named_or_refused name.now (open_named name.now job (memory_of self.now.state))) }
+    {
+        match self.jobs.open_named(job, name) {
+            Some(opened) => Ok(opened),
+            None => Err(no_such_name(*name)),
+        }
+    }
+
+    /// The file of that name.
+    pub fn file(&self, name: &Name) -> Result<&File, Stop>
+        ensures { Shows result (named_or_refused name.now (file_named name.now (memory_of self.now.state))) }
+    {
+        match self.catalogue.named(name) {
+            Some(file) => Ok(file),
+            None => Err(no_such_name(*name)),
+        }
+    }
+
+    /// The job's open of that name, and its file.
+    pub fn opened_file(&self, job: u32, name: &Name) -> Result<OpenFound<'_>, Stop>
+        requires { IsTrue (is_running (job_at job self.now.state.jobs)) }
+        ensures found { FindsOpen result (opened_file name.now job (memory_of self.now.state)) }
+        ensures there { IfOk result (λ its. HasMember self.now.state its.opened.now.file its.file.now its.opened.now.member) }
+    {
+        // The file of each open is there, and has its member.
+        let _ = &self.alloc;
+        let opened = self.opened(job, name)?;
+        let file = self.file(&opened.file())?;
+        Ok(OpenFound { opened, file })
+    }
+
+    /// The member of that name of the file of that name.
+    pub fn member_of_file(&self, file: &Name, member: &Name) -> Result<MemberFound<'_>, Stop>
+        ensures found { FindsMember result (member_of_file file.now member.now (memory_of self.now.state)) }
+        ensures there { IfOk result (λ it. HasMember self.now.state file.now it.file.now it.status.number) }
+    {
+        // The members of each file are there.
+        let _ = &self.alloc;
+        let file = self.file(file)?;
+        match file.member(member) {
+            Some(status) => Ok(MemberFound { file, status }),
+            None => Err(no_such_name(*member)),
+        }
+    }
+
+    /// The refusal where too few sequences are left for a request that deposits entries.
+    pub fn sequences_left(&self) -> Result<(), Stop>
+        ensures { Allows result (sequences_left (memory_of self.now.state)) }
+    {
+        let (_, last) = self.journal.bounds();
+        if last > LAST_SEQUENCE {
+            return Err(Stop::Refused(Reply::LimitReached {
+                which: LimitKind::Sequences,
+                number: LAST_SEQUENCE,
+            }));
+        }
+        Ok(())
+    }
+}
+
+/// The refusal of a name that isn't there.
+pub fn no_such_name(name: Name) -> Stop
+    ensures { result ≡ Refused (NoSuchName (missing.Name name)) }
+{
+    Stop::Refused(Reply::NoSuchName(Missing::Name(name)))
+}

@@ -1,0 +1,22 @@
+//! The memory of a library as one value over its parts, ready for the bodies of its requests. Begin with `contents.rt`.
+#![tactic(auto)]
+
+pub mod contents;
+mod cycles;
+mod files;
+pub mod finds;
+mod journal;
+pub mod laws;
+mod leave;
+mod locking;
+mod members;
+mod opens;
+mod records;
+mod reserves;
+pub mod stop;
+mod users;
+
+pub use contents::Contents;
+pub use finds::{MemberFound, OpenFound, no_such_name};
+pub use locking::{holder_of, record_of};
+pub use stop::Stop;

@@ -1,0 +1,123 @@
+//! What effects change of the jobs and their locks: opens, positions, locks, and the end of a job.
+ghost use Rattle.std.specs.Prelude.{◌≡◌, ◌≤◌, ◌<◌, None, IsTrue, IfSome, OnOk, length};
+ghost use Rattle.lock_table.specs.Table.{blocker};
+ghost use Rattle.lock_table.specs.Levels.{asked, locks_after};
+ghost use Rattle.library_model.specs.Named.{named};
+ghost use Rattle.library_model.specs.declared.limits.TheConstants.{MOST_OPENS};
+ghost use Rattle.library_steps.specs.State.{memory_of, job_at, job_of, with_job, with_opens};
+ghost use Rattle.library_steps.specs.History.{is_running};
+ghost use Rattle.library_steps.specs.Opens.{with_open, without_open};
+ghost use Rattle.library_steps.specs.Reads.{open_changed, positioned, has_read};
+ghost use Rattle.library_steps.specs.ChangeRecord.{without_current, without_record};
+ghost use Rattle.library_steps.specs.Locking.{is_committed, with_locks};
+ghost use Rattle.library_steps.specs.EndJob.{job_ended};
+ghost use Rattle.job_table.specs.Table.{HasRoomFor};
+ghost use Rattle.job_table.specs.declared.jobs.TheConstants.{LAST_OPEN};
+ghost use Rattle.library_parts.specs.Lawful.{OpensMember};
+ghost use Rattle.library_parts.specs.Locks.{IsOfOpen, HasLockRoom};
+
+use crate::contents::Contents;
+use crate::leave::leave;
+use field_types::names::Name;
+use job_table::{FilePosition, FoundRecord};
+use library_model::requests::OpenFile;
+use lock_table::{Call, Holder, Level, RecordId};
+
+impl Contents {
+    /// How many opens the job has, and how many it has had.
+    pub fn opens(&self, job: u32) -> (usize, u32)
+        requires { IsTrue (is_running (job_at job self.now.state.jobs)) }
+        ensures count { result.0 ≡ length (job_of job (memory_of self.now.state)).opens }
+        ensures opened { result.1 ≡ (job_of job (memory_of self.now.state)).opened }
+    {
+        (self.jobs.open_count(job), self.jobs.opened(job))
+    }
+
+    /// Opens a member for the job.
+    pub fn add_open(&mut self, job: u32, args: &OpenFile, member: u32)
+        requires running { IsTrue (is_running (job_at job self.old.state.jobs)) }
+        requires few { length (job_of job (memory_of self.old.state)).opens < MOST_OPENS }
+        requires numbered { (job_of job (memory_of self.old.state)).opened < LAST_OPEN }
+        requires there { OpensMember member (named args.now.file self.old.state.files) }
+        ensures memory { memory_of self.new.state ≡ with_job job (with_open args.now member) (memory_of self.old.state) }
+        ensures entries { self.new.state.entries ≡ self.old.state.entries }
+        ensures room { self.new.room ≡ self.old.room }
+    {
+        self.jobs.add_open(job, args, member);
+    }
+
+    /// Closes the job's open of that name, but for its locks.
+    pub fn remove_open(&mut self, job: u32, name: &Name)
+        requires { IsTrue (is_running (job_at job self.old.state.jobs)) }
+        ensures memory { memory_of self.new.state ≡ with_job job (without_open name.now) (memory_of self.old.state) }
+        ensures entries { self.new.state.entries ≡ self.old.state.entries }
+        ensures room { self.new.room ≡ self.old.room }
+    {
+        self.jobs.remove_open(job, name);
+    }
+
+    /// Sets the position of the job's open with that number.
+    pub fn set_position(&mut self, job: u32, opened: u32, position: FilePosition)
+        requires { IsTrue (is_running (job_at job self.old.state.jobs)) }
+        ensures memory { memory_of self.new.state ≡ with_job job (open_changed opened (positioned position)) (memory_of self.old.state) }
+        ensures entries { self.new.state.entries ≡ self.old.state.entries }
+        ensures room { self.new.room ≡ self.old.room }
+    {
+        self.jobs.set_position(job, opened, position);
+    }
+
+    /// Notes what the job's open with that number has read.
+    pub fn note_read(&mut self, job: u32, opened: u32, call: Call, entry: FoundRecord)
+        requires { IsTrue (is_running (job_at job self.old.state.jobs)) }
+        ensures memory { memory_of self.new.state ≡ with_job job (open_changed opened (has_read call entry)) (memory_of self.old.state) }
+        ensures entries { self.new.state.entries ≡ self.old.state.entries }
+        ensures room { self.new.room ≡ self.old.room }
+    {
+        self.jobs.note_read(job, opened, call, entry);
+    }
+
+    /// The job's open with that number has no current record any more.
+    pub fn give_up_current(&mut self, job: u32, opened: u32)
+        requires { IsTrue (is_running (job_at job self.old.state.jobs)) }
+        ensures memory { memory_of self.new.state ≡ with_job job (open_changed opened without_current) (memory_of self.old.state) }
+        ensures entries { self.new.state.entries ≡ self.old.state.entries }
+        ensures room { self.new.room ≡ self.old.room }
+    {
+        self.jobs.give_up_current(job, opened);
+    }
+
+    /// None of the job's opens has the record as its current one any more.
+    pub fn give_up_record(&mut self, job: u32, member: u32, rrn: u32)
+        requires { IsTrue (is_running (job_at job self.old.state.jobs)) }
+        ensures memory { memory_of self.new.state ≡ with_job job (with_opens (without_record member rrn)) (memory_of self.old.state) }
+        ensures entries { self.new.state.entries ≡ self.old.state.entries }
+        ensures room { self.new.room ≡ self.old.room }
+    {
+        self.jobs.give_up_record(job, member, rrn);
+    }
+
+    /// What a call through an open leaves of the locks once it is OK: those that it releases are gone, and its own is held.
+    pub fn lock_for(&mut self, call: Call, level: Option<Level>, holder: Holder, at: RecordId)
+        requires running { IsTrue (is_running (job_at holder.job self.old.state.jobs)) }
+        requires call { IsOfOpen call }
+        requires unlocked { IfSome (asked call level) (λ wanted. blocker holder.job at wanted.kind self.old.state.locks ≡ None) }
+        requires room { length (locks_after call level holder at (is_committed (job_of holder.job (memory_of self.old.state))) self.old.state.locks) ≤ self.old.room.locks }
+        ensures memory { memory_of self.new.state ≡ with_locks (locks_after call level holder at (is_committed (job_of holder.job (memory_of self.old.state))) self.old.state.locks) (memory_of self.old.state) }
+        ensures entries { self.new.state.entries ≡ self.old.state.entries }
+        ensures room { self.new.room ≡ self.old.room }
+    {
+        leave(&mut self.locks, call, level, holder, at);
+    }
+
+    /// Ends the job, which has no open commit cycle: its opens are closed and its locks gone.
+    pub fn end_job(&mut self, job: u32)
+        requires running { IsTrue (is_running (job_at job self.old.state.jobs)) }
+        requires unchanged { (job_of job (memory_of self.old.state)).cycle ≡ None }
+        ensures memory { memory_of self.new.state ≡ job_ended job (memory_of self.old.state) }
+        ensures entries { self.new.state.entries ≡ self.old.state.entries }
+        ensures room { self.new.room ≡ record self.old.room { undos = self.new.room.undos } }
+    {
+        self.locks.release_job(job);
+        let _none = self.jobs.end(job);
+    }
+}
