@@ -39,12 +39,15 @@ module _ (s : State) (bytes : ℕ) (name member : List ℕ) (file : FileState) (
   kept other another number owns =
       let below = Owns-below s other another number one.lawful owns in
       let apart : number ≢ s.next_member = omega arith in
-      subst (IsThere (fields_of another)) (sym (item_at-put_item_other number s.next_member (empty_member (record_length (fields_of file))) s.members apart)) (one.lawful.members other another number owns)
+      subst (IsThere (fields_of another)) (sym (item_at-put_item_other number s.next_member (empty_member (record_length (fields_of file))) s.members apart))
+      (one.lawful.members other another number owns)
 
   -- the new one
   new : (number : ℕ) → s.next_member ≡ number → IsThere (fields_of file) (member_at number (put_member s.next_member (empty_member (record_length (fields_of file))) s.members))
   new number here =
-      let put : member_at number (put_member s.next_member (empty_member (record_length (fields_of file))) s.members) ≡ Some (empty_member (record_length (fields_of file))) = ap (λ (n : ℕ). member_at n (put_member s.next_member (empty_member (record_length (fields_of file))) s.members)) (sym here) ∙ item_at-put_item_same s.next_member (empty_member (record_length (fields_of file))) s.members in
+      let put : member_at number (put_member s.next_member (empty_member (record_length (fields_of file))) s.members) ≡ Some (empty_member (record_length (fields_of file))) = ap (λ
+      (n : ℕ). member_at n (put_member s.next_member (empty_member (record_length (fields_of file))) s.members)) (sym here)
+      ∙ item_at-put_item_same s.next_member (empty_member (record_length (fields_of file))) s.members in
       subst (IsThere (fields_of file)) (sym put) (record { long = refl; values = tt })
 
   IsThere-added : (other : List ℕ) (another : FileState) (number : ℕ)
@@ -55,7 +58,8 @@ module _ (s : State) (bytes : ℕ) (name member : List ℕ) (file : FileState) (
       let fields = ap (λ (f : FileState). fields_of f) was.2 in
       subst (λ fs. IsThere fs (member_at number (put_member s.next_member (empty_member (record_length (fields_of file))) s.members))) fields
       (elim (cases_eq s.next_member number) [
-        | inl same ↦ subst (λ (f : FileState). IsThere (fields_of f) (member_at number (put_member s.next_member (empty_member (record_length (fields_of file))) s.members))) (sym was.3) (new number same)
+        | inl same ↦ subst (λ (f : FileState). IsThere (fields_of f) (member_at number (put_member s.next_member (empty_member (record_length (fields_of file))) s.members))) (sym was.3)
+            (new number same)
         | inr differ ↦ (
             let more : has_number number (with_member_name member s.next_member was.0).members ≡ true = ap (λ (f : FileState). has_number number f.members) was.2 ∙ has in
             let either = sym (has_number-push number was.0.members member s.next_member) ∙ more in
@@ -67,7 +71,8 @@ module _ (s : State) (bytes : ℕ) (name member : List ℕ) (file : FileState) (
   pushed number None holds = absurd holds
   pushed number (Some before) holds = has_number-push number before.members member s.next_member ∙ ap (λ b. b || (s.next_member == number)) holds
 
-  opens-added : (opened : OpenState) → OpensMember opened.member (named opened.file s.files) → OpensMember opened.member (named opened.file (file_changed name (with_member_name member s.next_member) s.files))
+  opens-added : (opened : OpenState) → OpensMember opened.member (named opened.file s.files)
+      → OpensMember opened.member (named opened.file (file_changed name (with_member_name member s.next_member) s.files))
   opens-added opened holds =
       subst (OpensMember opened.member) (sym (named-file_changed name opened.file (with_member_name member s.next_member) s.files))
       (elim (same_name name opened.file) as (λ b. OpensMember opened.member (cond b (option_map (with_member_name member s.next_member) (named opened.file s.files)) (named opened.file s.files))) [

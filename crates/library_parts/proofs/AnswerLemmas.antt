@@ -39,12 +39,14 @@ with_entries-self : (s : State) → with_entries s.gone s.entries (memory_of s) 
 with_entries-self s = ap (λ (entries : List Entry). record s { entries = entries }) (drop-none s.gone s.entries)
 
 -- a state with the memory of a change, and with its entries behind those that it had
-pub changed-state : (old new : State) (entries : List Entry) (m : Memory) → memory_of new ≡ m → m.gone ≡ old.gone → new.entries ≡ old.entries ++ entries → new ≡ with_entries old.gone (old.entries ++ entries) m
+pub changed-state : (old new : State) (entries : List Entry) (m : Memory) → memory_of new ≡ m → m.gone ≡ old.gone → new.entries ≡ old.entries ++ entries
+    → new ≡ with_entries old.gone (old.entries ++ entries) m
 changed-state old new entries m is gone kept =
     let same : new.gone ≡ old.gone = ap (λ (x : Memory). x.gone) is ∙ gone in
     sym (with_entries-self new) ∙ (λ i. with_entries (same i) (kept i) (is i))
 
-pub Answers-unjournaled : (old new : State) (reply : Reply) (m : Memory) (wanted : Result Change Reply) → wanted ≡ Ok (unjournaled reply m) → memory_of new ≡ m → m.gone ≡ old.gone → new.entries ≡ old.entries
+pub Answers-unjournaled : (old new : State) (reply : Reply) (m : Memory) (wanted : Result Change Reply) → wanted ≡ Ok (unjournaled reply m) → memory_of new ≡ m → m.gone ≡ old.gone
+    → new.entries ≡ old.entries
     → Answers old new (Ok reply) wanted
 Answers-unjournaled old new reply m wanted is memory gone kept = (unjournaled reply m, is, refl, changed-state old new [] m memory gone (kept ∙ sym (append-nil old.entries)))
 

@@ -37,12 +37,14 @@ without-greater number (entry ∷ members) all =
 without-none : (number : ℕ) (members : NumberedMembers) → member_at number members ≡ None → without_member number members ≡ members
 without-none number [] none = refl
 without-none number (entry ∷ members) none =
-    elim (entry.number == number) as (λ b. (if b then Some entry.item else member_at number members) ≡ None → cond (not b) (entry ∷ without_member number members) (without_member number members) ≡ entry ∷ members) [
+    elim (entry.number == number) as (λ b. (if b then Some entry.item else member_at number members) ≡ None
+    → cond (not b) (entry ∷ without_member number members) (without_member number members) ≡ entry ∷ members) [
       | true ↦ λ e. absurd cc
       | false ↦ λ e. ap (λ (rest : NumberedMembers). entry ∷ rest) (without-none number members e)
     ] none
 
-bytes-without_one : (number : ℕ) (old : MemberState) (members : NumberedMembers) → AreRising members → member_at number members ≡ Some old → library_bytes (without_member number members) + weight old ≡ library_bytes members
+bytes-without_one : (number : ℕ) (old : MemberState) (members : NumberedMembers) → AreRising members → member_at number members ≡ Some old
+    → library_bytes (without_member number members) + weight old ≡ library_bytes members
 bytes-without_one number old [] rising there = absurd cc
 bytes-without_one number old (entry ∷ members) rising there =
     elim (entry.number == number) as (λ b. (entry.number == number) ≡ b → (if b then Some entry.item else member_at number members) ≡ Some old
@@ -53,7 +55,8 @@ bytes-without_one number old (entry ∷ members) rising there =
           let weighs = ap weight item in
           let behind : All (λ (later : Numbered MemberState). entry.number < later.number) members = λ k d lt. rising 0 (suc k) d (omega arith) (omega arith) in
           let greater : AllByRecursion (λ (later : Numbered MemberState). number < later.number) members =
-          subst (λ n. AllByRecursion (λ (later : Numbered MemberState). n < later.number) members) is (recursion_from_All (λ (later : Numbered MemberState). entry.number < later.number) members behind) in
+          subst (λ n. AllByRecursion (λ (later : Numbered MemberState). n < later.number) members) is (recursion_from_All (λ
+          (later : Numbered MemberState). entry.number < later.number) members behind) in
           let rest = ap library_bytes (without-greater number members greater) in
           let before = library_bytes-cons entry members in
           omega (arith, rest, before, weighs)
@@ -68,7 +71,8 @@ bytes-without_one number old (entry ∷ members) rising there =
 pub bytes-without : (number : ℕ) (members : NumberedMembers) → AreMembers members → library_bytes (without_member number members) + weight (member_of number members) ≡ library_bytes members
 bytes-without number members are = by (member_at number members) refl
   where
-    by : (o : Option MemberState) → member_at number members ≡ o → library_bytes (without_member number members) + weight (unwrap_or (member_at number members) (empty_member 0)) ≡ library_bytes members
+    by : (o : Option MemberState) → member_at number members ≡ o
+        → library_bytes (without_member number members) + weight (unwrap_or (member_at number members) (empty_member 0)) ≡ library_bytes members
     by None is =
         let same = ap library_bytes (without-none number members is) in
         let none : weight (unwrap_or (member_at number members) (empty_member 0)) ≡ 0 = ap (λ (o : Option MemberState). weight (unwrap_or o (empty_member 0))) is in
@@ -95,7 +99,8 @@ filter-kept P test (x ∷ xs) all =
       | false ↦ filter-kept P test xs all.1
     ]
 
-numbers-without_members : (gone : Named MemberStatus) (members : NumberedMembers) (bound : ℕ) → AllByRecursion (λ entry. entry.number < bound) members → AllByRecursion (λ entry. entry.number < bound) (without_members gone members)
+numbers-without_members : (gone : Named MemberStatus) (members : NumberedMembers) (bound : ℕ) → AllByRecursion (λ entry. entry.number < bound) members
+    → AllByRecursion (λ entry. entry.number < bound) (without_members gone members)
 numbers-without_members [] members bound all = all
 numbers-without_members (entry ∷ gone) members bound all =
     numbers-without_members gone (without_member entry.1.number members) bound
@@ -128,14 +133,20 @@ opens-unused files others (entry ∷ opens) members each unused all = (
       (λ opened rest. unused opened (λ member none. rest member (neither (entry.1.member == member) (list_any (λ (e : List ℕ × OpenState). e.1.member == member) opens) none).1)) all.1,
 )
 
-jobs-unused : (files others : Named FileState) (members : Named MemberStatus) (locks : List Lock) → ((opened : OpenState) → has_number opened.member members ≡ false → OpenHolds files opened → OpenHolds others opened)
-    → (number : ℕ) (jobs : List JobState) → first_job (λ n job. list_any (λ entry. uses entry.1.number locks n job) members) number jobs ≡ None → AllByRecursion (OpensHold files) jobs → AllByRecursion (OpensHold others) jobs
+jobs-unused : (files others : Named FileState) (members : Named MemberStatus) (locks : List Lock) → ((opened : OpenState) → has_number opened.member members ≡ false
+    → OpenHolds files opened → OpenHolds others opened)
+    → (number : ℕ) (jobs : List JobState) → first_job (λ n job. list_any (λ entry. uses entry.1.number locks n job) members) number jobs ≡ None → AllByRecursion (OpensHold files) jobs
+    → AllByRecursion (OpensHold others) jobs
 jobs-unused files others members locks each number [] unused all = tt
 jobs-unused files others members locks each number (job ∷ jobs) unused all =
     elim (list_any (λ (e : List ℕ × MemberStatus). uses e.1.number locks number job) members) as (λ b. list_any (λ (e : List ℕ × MemberStatus). uses e.1.number locks number job) members ≡ b
     → (if b then Some number else first_job (λ n j. list_any (λ entry. uses entry.1.number locks n j) members) (number + 1) jobs) ≡ None → AllByRecursion (OpensHold others) (job ∷ jobs)) [
       | true ↦ λ uses_one e. absurd cc
-      | false ↦ λ none e. (opens-unused files others job.opens members each (λ opened over. open-unused members locks number job opened over none) all.0, jobs-unused files others members locks each (number + 1) jobs e all.1)
+      | false ↦ λ none e. (
+        opens-unused files others job.opens members each
+            (λ opened over. open-unused members locks number job opened over none) all.0,
+        jobs-unused files others members locks each (number + 1) jobs e all.1,
+      )
     ] refl unused
 
 module _ (s : State) (bytes after : ℕ) (name : List ℕ) (file : FileState) (one : AreOne s bytes) (apart : AreApart s.files) (there : named name s.files ≡ Some file) where
@@ -169,7 +180,8 @@ module _ (s : State) (bytes after : ℕ) (name : List ℕ) (file : FileState) (o
       → AreOne (record s { files = without_file name s.files; members = without_members file.members s.members }) after
   AreOne-deleted unused counted fewer = let before = one.counted in let few = one.lawful.few in record {
     lawful = record {
-      members = λ other another number owns. subst (IsThere (fields_of another)) (sym (at-without_members file.members s.members number (number-other other another number owns))) (one.lawful.members other another number (Owns-without other another number owns));
+      members = λ other another number owns. subst (IsThere (fields_of another)) (sym (at-without_members file.members s.members number (number-other other another number owns)))
+          (one.lawful.members other another number (Owns-without other another number owns));
       opens = jobs-unused s.files (without_file name s.files) file.members s.locks OpensMember-without 1 s.jobs unused one.lawful.opens;
       numbers = numbers-without_members file.members s.members s.next_member one.lawful.numbers;
       keepers = one.lawful.keepers;

@@ -39,12 +39,14 @@ pub distinct-one : (number : ℕ) → IsDistinct nat_eq (number ∷ [])
 unfolding IsDistinct
 distinct-one number = (tt, tt)
 
-pub numbers-put_member : (members : NumberedMembers) (next : ℕ) (member : MemberState) → AllByRecursion (λ entry. entry.number < next) members → AllByRecursion (λ entry. entry.number < next + 1) (put_member next member members)
+pub numbers-put_member : (members : NumberedMembers) (next : ℕ) (member : MemberState) → AllByRecursion (λ entry. entry.number < next) members
+    → AllByRecursion (λ entry. entry.number < next + 1) (put_member next member members)
 numbers-put_member [] next member all = (omega arith, tt)
 numbers-put_member (entry ∷ members) next member all = grind (arith, nat_tests, all.0, numbers-put_member members next member all.1)
 
 -- a member without slots has no bytes
-pub bytes-put_member : (members : NumberedMembers) (next long : ℕ) → AllByRecursion (λ entry. entry.number < next) members → library_bytes (put_member next (empty_member long) members) ≡ library_bytes members
+pub bytes-put_member : (members : NumberedMembers) (next long : ℕ) → AllByRecursion (λ entry. entry.number < next) members
+    → library_bytes (put_member next (empty_member long) members) ≡ library_bytes members
 bytes-put_member [] next long all = let none : 0 + 0 * long ≡ 0 = omega arith in none
 bytes-put_member (entry ∷ members) next long all =
     let below : nat_lt entry.number next ≡ true = (let less = all.0 in grind (arith, nat_tests)) in
@@ -65,7 +67,8 @@ module _ (s : State) (bytes : ℕ) (name member : List ℕ) (file : FileState) (
   -- its one member has the next number
   first_number : (another : FileState) (number : ℕ) → file ≡ another → has_number number another.members ≡ true → s.next_member ≡ number
   first_number another number same has =
-      let here : has_number number ((member, new_status s.next_member) ∷ []) ≡ true = subst (λ (m : Named MemberStatus). has_number number m ≡ true) (ap (λ (f : FileState). f.members) (sym same) ∙ first) has in
+      let here : has_number number ((member, new_status s.next_member) ∷ []) ≡ true = subst (λ (m : Named MemberStatus). has_number number m ≡ true) (ap (λ (f : FileState). f.members)
+      (sym same) ∙ first) has in
       grind (arith, nat_tests, here)
 
   IsThere-put : (other : List ℕ) (another : FileState) (number : ℕ) → (named other s.files ≡ Some another) ⊎ ((other ≡ name) × (file ≡ another)) → has_number number another.members ≡ true
@@ -74,13 +77,22 @@ module _ (s : State) (bytes : ℕ) (name member : List ℕ) (file : FileState) (
       let owns : Owns s.files other another number = record { there = there; has = has } in
       let below = Owns-below s other another number one.lawful owns in
       let apart : number ≢ s.next_member = omega arith in
-      subst (IsThere (fields_of another)) (sym (item_at-put_item_other number s.next_member (empty_member (record_length (fields_of file))) s.members apart)) (one.lawful.members other another number owns)
+      subst (IsThere (fields_of another)) (sym (item_at-put_item_other number s.next_member (empty_member (record_length (fields_of file))) s.members apart))
+      (one.lawful.members other another number owns)
   IsThere-put other another number (inr same) has =
       let here = first_number another number same.1 has in
-      let put : member_at number (put_member s.next_member (empty_member (record_length (fields_of file))) s.members) ≡ Some (empty_member (record_length (fields_of file))) = ap (λ (n : ℕ). member_at n (put_member s.next_member (empty_member (record_length (fields_of file))) s.members)) (sym here) ∙ item_at-put_item_same s.next_member (empty_member (record_length (fields_of file))) s.members in
-      subst (λ (f : FileState). IsThere (fields_of f) (member_at number (put_member s.next_member (empty_member (record_length (fields_of file))) s.members))) same.1 (subst (IsThere (fields_of file)) (sym put) (record { long = refl; values = tt }))
+      let put : member_at number (put_member s.next_member (empty_member (record_length (fields_of file))) s.members) ≡ Some (empty_member (record_length (fields_of file))) = ap (λ
+      (n : ℕ). member_at n (put_member s.next_member (empty_member (record_length (fields_of file))) s.members)) (sym here)
+      ∙ item_at-put_item_same s.next_member (empty_member (record_length (fields_of file))) s.members in
+      subst (λ (f : FileState). IsThere (fields_of f) (member_at number (put_member s.next_member (empty_member (record_length (fields_of file))) s.members))) same.1 (subst (IsThere
+      (fields_of file)) (sym put) (record { long = refl; values = tt }))
 
-  pub AreOne-with_file : AreOne (record s { files = s.files ++ (name, file) ∷ []; members = put_member s.next_member (empty_member (record_length (fields_of file))) s.members; next_member = s.next_member + 1 }) bytes
+  pub AreOne-with_file : AreOne (record s {
+    files = s.files ++ (name, file) ∷ [];
+    members = put_member s.next_member (empty_member (record_length
+        (fields_of file))) s.members;
+    next_member = s.next_member + 1;
+  }) bytes
   AreOne-with_file = let same = bytes-put_member s.members s.next_member (record_length (fields_of file)) one.lawful.numbers in let few = one.lawful.few in record {
     lawful = record {
       members = λ other another number owns. IsThere-put other another number (named-append other name s.files file another owns.there) owns.has;

@@ -41,7 +41,8 @@ member-there s name member file status lawful here found =
     let owns : Owns s.files name file status.number = record { there = here; has = has_number-named member file.members status found } in
     record { owns = owns; there = lawful.members name file status.number owns }
 
-job-opens : (files : Named FileState) (place : ℕ) (jobs : List JobState) → AllByRecursion (OpensHold files) jobs → AllByRecursion (λ (e : List ℕ × OpenState). OpenHolds files e.1) (or_new (slice_get jobs place)).opens
+job-opens : (files : Named FileState) (place : ℕ) (jobs : List JobState) → AllByRecursion (OpensHold files) jobs
+    → AllByRecursion (λ (e : List ℕ × OpenState). OpenHolds files e.1) (or_new (slice_get jobs place)).opens
 job-opens files place [] all = tt
 job-opens files zero (first ∷ jobs) all = all.0
 job-opens files (suc place) (first ∷ jobs) all = job-opens files place jobs all.1

@@ -98,7 +98,8 @@ AllByRecursion-filter P test (x ∷ xs) all =
       | false ↦ AllByRecursion-filter P test xs all.1
     ]
 
-AllByRecursion-job_changed : (P : JobState → Type 0) (place : ℕ) (change : JobState → JobState) (jobs : List JobState) → ((job : JobState) → P job → P (change job)) → AllByRecursion P jobs → AllByRecursion P (job_changed place change jobs)
+AllByRecursion-job_changed : (P : JobState → Type 0) (place : ℕ) (change : JobState → JobState) (jobs : List JobState) → ((job : JobState) → P job → P (change job))
+    → AllByRecursion P jobs → AllByRecursion P (job_changed place change jobs)
 AllByRecursion-job_changed P place change [] each all = tt
 AllByRecursion-job_changed P zero change (job ∷ jobs) each all = (each job all.0, all.1)
 AllByRecursion-job_changed P (suc place) change (job ∷ jobs) each all = (all.0, AllByRecursion-job_changed P place change jobs each all.1)
@@ -174,11 +175,14 @@ ended-memory s job locks jobs none left ended = rw (none, left, ended) refl
 
 -- ---- a member changed
 
-pub AreOne-with_member : (s : State) (bytes after number : ℕ) (member : MemberState) → AreOne s bytes → ((name : List ℕ) (file : FileState) → Owns s.files name file number → HasRecords (fields_of file) member)
-    → after ≡ library_bytes (with_member number member s.members) → library_bytes (with_member number member s.members) ≤ MOST_LIBRARY_BYTES → AreOne (record s { members = with_member number member s.members }) after
+pub AreOne-with_member : (s : State) (bytes after number : ℕ) (member : MemberState) → AreOne s bytes → ((name : List ℕ) (file : FileState) → Owns s.files name file number
+    → HasRecords (fields_of file) member)
+    → after ≡ library_bytes (with_member number member s.members) → library_bytes (with_member number member s.members) ≤ MOST_LIBRARY_BYTES
+    → AreOne (record s { members = with_member number member s.members }) after
 AreOne-with_member s bytes after number member one kept counted few = record {
   lawful = record {
-    members = λ name file other owns. IsThere-with_member (fields_of file) s.members other number member (one.lawful.members name file other owns) (λ same. kept name file (subst (Owns s.files name file) same owns));
+    members = λ name file other owns. IsThere-with_member (fields_of file) s.members other number member (one.lawful.members name file other owns) (λ same. kept name file (subst
+        (Owns s.files name file) same owns));
     opens = one.lawful.opens;
     numbers = numbers-with_member s.members number s.next_member member one.lawful.numbers;
     keepers = one.lawful.keepers;
@@ -240,23 +244,27 @@ named-map change name (entry ∷ files) =
       | false ↦ named-map change name files
     ]
 
-OpensMember-changed : (change : FileState → FileState) → ((file : FileState) (number : ℕ) → has_number number (change file).members ≡ has_number number file.members) → (number : ℕ) (file : Option FileState)
+OpensMember-changed : (change : FileState → FileState) → ((file : FileState) (number : ℕ) → has_number number (change file).members ≡ has_number number file.members)
+    → (number : ℕ) (file : Option FileState)
     → OpensMember number file → OpensMember number (option_map change file)
 OpensMember-changed change same number None holds = absurd holds
 OpensMember-changed change same number (Some file) holds = same file number ∙ holds
 
-opens-each : (files others : Named FileState) → ((opened : OpenState) → OpenHolds files opened → OpenHolds others opened) → (opens : Named OpenState) → AllByRecursion (λ (e : List ℕ × OpenState). OpenHolds files e.1) opens
+opens-each : (files others : Named FileState) → ((opened : OpenState) → OpenHolds files opened → OpenHolds others opened) → (opens : Named OpenState)
+    → AllByRecursion (λ (e : List ℕ × OpenState). OpenHolds files e.1) opens
     → AllByRecursion (λ (e : List ℕ × OpenState). OpenHolds others e.1) opens
 opens-each files others each [] all = tt
 opens-each files others each (entry ∷ opens) all = (each entry.1 all.0, opens-each files others each opens all.1)
 
-pub jobs-each : (files others : Named FileState) → ((opened : OpenState) → OpenHolds files opened → OpenHolds others opened) → (jobs : List JobState) → AllByRecursion (OpensHold files) jobs → AllByRecursion (OpensHold others) jobs
+pub jobs-each : (files others : Named FileState) → ((opened : OpenState) → OpenHolds files opened → OpenHolds others opened) → (jobs : List JobState)
+    → AllByRecursion (OpensHold files) jobs → AllByRecursion (OpensHold others) jobs
 jobs-each files others each [] all = tt
 jobs-each files others each (job ∷ jobs) all = (opens-each files others each job.opens all.0, jobs-each files others each jobs all.1)
 
 module _ (change : FileState → FileState) (same_fields : (file : FileState) → fields_of (change file) ≡ fields_of file)
     (same_members : (file : FileState) (number : ℕ) → has_number number (change file).members ≡ has_number number file.members) where
-  IsThere-changed : (s : State) (name : List ℕ) (file : FileState) (number : ℕ) → IsLibrary s → (was : (before : FileState) × (named name s.files ≡ Some before) × (change before ≡ file)) → has_number number file.members ≡ true
+  IsThere-changed : (s : State) (name : List ℕ) (file : FileState) (number : ℕ) → IsLibrary s → (was : (before : FileState) × (named name s.files ≡ Some before) × (change before ≡ file))
+      → has_number number file.members ≡ true
       → IsThere (fields_of file) (member_at number s.members)
   IsThere-changed s name file number lawful was has =
       let before_has : has_number number was.0.members ≡ true = sym (same_members was.0 number) ∙ ap (λ (f : FileState). has_number number f.members) was.2 ∙ has in
@@ -279,7 +287,8 @@ module _ (change : FileState → FileState) (same_fields : (file : FileState) �
   }
 
 -- the status of a member changed
-pub AreOne-status : (s : State) (bytes number : ℕ) (change : StatusChange) → AreOne s bytes → AreOne (record s { files = map (λ entry. (entry.0, status_changed number (after change) entry.1)) s.files }) bytes
+pub AreOne-status : (s : State) (bytes number : ℕ) (change : StatusChange) → AreOne s bytes
+    → AreOne (record s { files = map (λ entry. (entry.0, status_changed number (after change) entry.1)) s.files }) bytes
 AreOne-status s bytes number change one =
     AreOne-files (status_changed number (after change)) (λ file. refl) (λ file other. has_number-changed_in other number (after change) file.members (after-number change)) s bytes one
 
@@ -300,7 +309,8 @@ committed-memory s job locks jobs numbers same left ended =
     rw (freed, ended) refl
 
 -- the jobs and the locks after commitment control has ended
-pub AreOne-commitment_ended : (s : State) (bytes place : ℕ) (locks : List Lock) → AreOne s bytes → AreOfJobs s.jobs locks → AreOne (record s { jobs = job_changed place (with_level None) s.jobs; locks = locks }) bytes
+pub AreOne-commitment_ended : (s : State) (bytes place : ℕ) (locks : List Lock) → AreOne s bytes → AreOfJobs s.jobs locks
+    → AreOne (record s { jobs = job_changed place (with_level None) s.jobs; locks = locks }) bytes
 AreOne-commitment_ended s bytes place locks one begun = AreOne-job_changed (record s { locks = locks }) bytes place (with_level None) (AreOne-locks s bytes locks one begun) (λ job holds. holds)
 
 -- whatever its level was, its boundary locks go
@@ -311,5 +321,9 @@ group-freed (Some levels.Chg) job is_committed held = refl
 group-freed (Some levels.Cs) job is_committed held = refl
 group-freed (Some levels.All) job is_committed held = refl
 
-pub commitment-memory : (s : State) (job : ℕ) → memory_of (record s { locks = freed (is_of_group job) s.locks; jobs = job_changed (job - 1) (with_level None) s.jobs }) ≡ commitment_ended job (memory_of s)
+pub commitment-memory : (s : State) (job : ℕ) → memory_of (record s {
+  locks = freed (is_of_group job) s.locks;
+  jobs = job_changed (job - 1)
+      (with_level None) s.jobs;
+}) ≡ commitment_ended job (memory_of s)
 commitment-memory s job = rw (group-freed (job_of job (memory_of s)).level job (is_committed (job_of job (memory_of s))) s.locks) refl

@@ -246,7 +246,8 @@ frees-Open call level of = (released-Open call level of).0
 pub left-Open : (call : Call) (level : Option Level) (holder : Holder) (at : RecordId) (is_committed : ℕ → Bool) (held : List Lock) → IsOfOpen call
     → locks_after call level holder at is_committed held ≡ with_wanted (gained call level) holder at (without_open_locks (released call level).open_locks holder at is_committed held)
 left-Open call level holder at is_committed held of =
-    ap (λ b. with_wanted (gained call level) holder at (without_open_locks (released call level).open_locks holder at is_committed (without_boundary_locks b holder.job held))) (released-Open call level of).1
+    ap (λ b. with_wanted (gained call level) holder at (without_open_locks (released call level).open_locks holder at is_committed (without_boundary_locks b holder.job held)))
+    (released-Open call level of).1
 
 alike : (which : OpenLocks) (holder : Holder) (at : RecordId) (one other : ℕ → Bool) (held : List Lock) → AreOfOpen which
     → without_open_locks which holder at one held ≡ without_open_locks which holder at other held
@@ -301,5 +302,6 @@ pub gained-unlocked : (call : Call) (level : Option Level) (holder : Holder) (at
     → IfSome (gained call level) (λ wanted. blocker holder.job at wanted.kind (without_open_locks (released call level).open_locks holder at is_committed held) ≡ None)
 gained-unlocked call level holder at is_committed held free =
     gained-asked (λ wanted. blocker holder.job at wanted.kind (without_open_locks (released call level).open_locks holder at is_committed held) ≡ None) call level
-    (IfSome-each (λ wanted. blocker holder.job at wanted.kind held ≡ None) (λ wanted. blocker holder.job at wanted.kind (without_open_locks (released call level).open_locks holder at is_committed held) ≡ None)
+    (IfSome-each (λ wanted. blocker holder.job at wanted.kind held ≡ None) (λ wanted. blocker holder.job at wanted.kind (without_open_locks
+    (released call level).open_locks holder at is_committed held) ≡ None)
     (asked call level) (λ wanted none. blocker-open (released call level).open_locks holder at is_committed wanted.kind held none) free)

@@ -67,13 +67,15 @@ at-member_of number members there =
     ] there
 
 -- a member that is there after another was changed
-pub IsThere-with_member : (fields : List Field) (members : NumberedMembers) (other number : ℕ) (member : MemberState) → IsThere fields (member_at other members) → (other ≡ number → HasRecords fields member)
+pub IsThere-with_member : (fields : List Field) (members : NumberedMembers) (other number : ℕ) (member : MemberState) → IsThere fields (member_at other members) → (other ≡ number
+    → HasRecords fields member)
     → IsThere fields (member_at other (with_member number member members))
 IsThere-with_member fields members other number member there holds =
     elim (cases_eq other number) [
       | inl same ↦ (
           let before : is_some (member_at number members) ≡ true = subst (λ (n : ℕ). is_some (member_at n members) ≡ true) same (IsThere-is_some fields (member_at other members) there) in
-          let here : member_at other (with_member number member members) ≡ Some member = ap (λ (n : ℕ). member_at n (with_member number member members)) same ∙ item_at-with_item_same number member members before in
+          let here : member_at other (with_member number member members) ≡ Some member = ap (λ (n : ℕ). member_at n (with_member number member members)) same
+          ∙ item_at-with_item_same number member members before in
           subst (IsThere fields) (sym here) (holds same))
       | inr differ ↦ subst (IsThere fields) (sym (item_at-with_item_other other number member members differ)) there
     ]

@@ -16,4 +16,5 @@ invariant_of-self c =
     let counted : c.self.inside.member_bytes ≡ library_bytes members = c.self.invariant.counted in
     let none : weight (cleared member) ≡ 0 = weight-cleared member in
     rw c.clear.ensures.cleared
-    (AreOne-slots _ _ _ c.args.member cleared c.self.invariant (rw (← c.self.view_is) at c.requires) (λ fields m has. HasRecords-cleared fields m has) (omega (arith, none)) (omega (arith, weighs, few, counted, none)))
+    (AreOne-slots _ _ _ c.args.member cleared c.self.invariant (rw (← c.self.view_is) at c.requires) (λ fields m has. HasRecords-cleared fields m has) (omega (arith, none)) (omega
+    (arith, weighs, few, counted, none)))

@@ -14,7 +14,8 @@ invariant_of-self c =
     let begun = running-HasBegun inside.jobs.jobs c.args.job (rw (← c.self.view_is) at c.requires) in
     rw (c.release_commit.ensures None 0 (record { member = 0; rrn = 0 }), c.commit.ensures)
     (AreOne-committed _ _ _ _ c.self.invariant
-    (All-locks_after (length inside.jobs.jobs) (record { job = c.args.job; opened = 0 }) (record { member = 0; rrn = 0 }) (λ n. list_any (λ o. o == n) c.as_slice.result.now) begun Commit None inside.locks.held
+    (All-locks_after (length inside.jobs.jobs) (record { job = c.args.job; opened = 0 }) (record { member = 0; rrn = 0 }) (λ n. list_any
+    (λ o. o == n) c.as_slice.result.now) begun Commit None inside.locks.held
     c.self.invariant.lawful.keepers))
 
 pub returns-clause-memory : goal.returns-clause-memory
@@ -23,7 +24,8 @@ returns-clause-memory c =
     let state = state_of parts.catalogue parts.members parts.next_member parts.journal parts.locks parts.jobs in
     let left = ap (λ (t : Locks). t.held) (c.release_commit.ensures (job_of c.args.job (memory_of state)).level 0 (record { member = 0; rrn = 0 })) in
     rw (← c.self.view_is)
-    (committed-memory state c.args.job c.release_commit.new.self.held c.commit.new.self.jobs c.as_slice.result.now (λ (n : ℕ). rw c.as_slice.ensures (c.committed_opens-opens.ensures n)) left c.commit.ensures)
+    (committed-memory state c.args.job c.release_commit.new.self.held c.commit.new.self.jobs c.as_slice.result.now (λ (n : ℕ). rw c.as_slice.ensures
+    (c.committed_opens-opens.ensures n)) left c.commit.ensures)
 
 pub returns-clause-room : goal.returns-clause-room
 returns-clause-room c = rw (← c.self.view_is, c.release_commit.ensures None 0 (record { member = 0; rrn = 0 })) refl
