@@ -17,7 +17,7 @@ use library_model::replies::Reply;
 use memory_journal::JournalFault;
 
 impl Contents {
-    /// How many entries are gone with their receivers, and the number of the last entry.
+    /// The first sequence that is kept, or would be, and the number of the last entry.
     pub fn bounds(&self) -> (u64, u64)
         ensures first { result.0 ≡ self.now.state.gone + 1 }
         ensures last { result.1 ≡ (memory_of self.now.state).last_entry }
