@@ -7,3 +7,4 @@ pub mod EntryLemmas
 pub mod LawLemmas
 pub mod ArrivalLaws
 pub mod NumberedLemmas
+pub mod KeylessLemmas

@@ -1,11 +1,14 @@
 //! Laws of what is found, as contracts of functions that do nothing.
-ghost use Rattle.std.specs.Prelude.{◌≡◌, ℕ, false, List, All, map};
+ghost use Rattle.std.specs.Prelude.{◌≡◌, ℕ, false, List, [], ◌∷◌, All, map};
 ghost use Rattle.std.specs.Option.{option_map};
 ghost use Rattle.key_spec.specs.declared.KeyPart.{KeyPart};
-ghost use Rattle.file_cursor.specs.Reading.{arrival_entries};
-ghost use Rattle.member_slots.specs.Member.{MemberState};
-ghost use Rattle.member_slots.specs.Members.{NumberedMembers};
+ghost use Rattle.file_cursor.specs.Reading.{arrival_entries, AreNumbered};
+ghost use Rattle.member_slots.specs.Member.{MemberState, IsMember};
+ghost use Rattle.member_slots.specs.Members.{NumberedMembers, member_of};
+ghost use Rattle.file_model.specs.declared.paths.PathFormat.{PathFormat};
 ghost use Rattle.file_model.specs.declared.paths.PathSpec.{PathSpec};
+ghost use Rattle.key_pages.specs.EntryList.{EntryList};
+ghost use Rattle.key_spec.specs.declared.Ties.TheVariants.{Rising};
 ghost use Rattle.file_model.specs.KeyOrder.{KeyValue};
 ghost use Rattle.file_model.specs.Paths.{PathEntry, path};
 ghost use Rattle.file_model.specs.Positions as model;
@@ -51,4 +54,11 @@ pub fn numbers_are_found_as_records()
     ensures prior { (member : MemberState) (position : model.Position PathEntry) → IsArrivalPosition position
         → prior_from false (arrival_entries member) (position_by_number position) ≡ option_map by_number (model.prior_from (model.arrival_reading member) position) }
     ensures chain { (member : MemberState) (n : ℕ) → chain_number n (arrival_entries member) ≡ option_map by_number (model.chain_number (model.arrival_reading member) n) }
+{}
+
+/// The entries of a path of one format without keys stand by their numbers.
+pub fn entries_without_keys_stand_by_number()
+    ensures { (spec : PathSpec) (format : PathFormat) (members : NumberedMembers) (list : EntryList)
+        → spec.formats ≡ format ∷ [] → format.key ≡ [] → spec.ties ≡ Rising → IsMember (member_of format.member members)
+        → list.entries ≡ map (in_bytes spec.formats) (path spec members) → list.falling ≡ is_falling spec.ties → AreNumbered list }
 {}
