@@ -8,3 +8,4 @@ pub mod LawLemmas
 pub mod ArrivalLaws
 pub mod NumberedLemmas
 pub mod KeylessLemmas
+pub mod RoomLemmas

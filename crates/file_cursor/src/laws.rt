@@ -1,5 +1,5 @@
 //! Laws of what is found, as contracts of functions that do nothing.
-ghost use Rattle.std.specs.Prelude.{◌≡◌, ℕ, false, List, [], ◌∷◌, All, map};
+ghost use Rattle.std.specs.Prelude.{◌≡◌, ◌≤◌, length, ℕ, false, List, [], ◌∷◌, All, map};
 ghost use Rattle.std.specs.Option.{option_map};
 ghost use Rattle.key_spec.specs.declared.KeyPart.{KeyPart};
 ghost use Rattle.file_cursor.specs.Reading.{arrival_entries, AreNumbered};
@@ -16,7 +16,7 @@ ghost use Rattle.key_order.specs.KeyBytes.{key_bytes};
 ghost use Rattle.key_order.specs.KeyFields.{Matches};
 ghost use Rattle.access_path.specs.PathBytes.{is_falling, in_bytes, IsInBytes};
 ghost use Rattle.file_cursor.specs.Finding.{next_from, prior_from, next_equal, prior_equal, chain_key, chain_number};
-ghost use Rattle.file_cursor.specs.PositionBytes.{IsEntryOf, AreGiven, IsPositionOf, position_in_bytes, IsArrivalPosition, position_by_number, by_number};
+ghost use Rattle.file_cursor.specs.PositionBytes.{IsEntryOf, AreGiven, IsPositionOf, position_in_bytes, IsArrivalPosition, position_by_number, by_number, HasKeysWithin};
 
 /// Among the bytes of the entries of a path a read finds the bytes of what it finds among the entries. The values may be
 /// given for the positions of several formats together.
@@ -61,4 +61,10 @@ pub fn entries_without_keys_stand_by_number()
     ensures { (spec : PathSpec) (format : PathFormat) (members : NumberedMembers) (list : EntryList)
         → spec.formats ≡ format ∷ [] → format.key ≡ [] → spec.ties ≡ Rising → IsMember (member_of format.member members)
         → list.entries ≡ map (in_bytes spec.formats) (path spec members) → list.falling ≡ is_falling spec.ties → AreNumbered list }
+{}
+
+/// What a read of a path finds fits a cursor with room for the keys of its formats.
+pub fn found_keys_fit()
+    ensures { (most : ℕ) (spec : PathSpec) (members : NumberedMembers) → All (HasKeysWithin most members) spec.formats
+        → All (λ entry. length entry.key ≤ most) (map (in_bytes spec.formats) (path spec members)) }
 {}
