@@ -49,15 +49,21 @@ module _ (falling : Bool) (key : Bor (List ℕ)) where
           → (compare_part key.now a.key ≡ Greater → chain_key key.now entries ≡ None)
           → where_equal key.now (next_from falling (a ∷ entries) (Before (ByKey key.now))) ≡ chain_key key.now (a ∷ entries)
       by Less is rest none =
-          ap (where_equal key.now) (cond-false (is_after falling (Before (ByKey key.now)) a) (Some a) (next_from falling entries (Before (ByKey key.now))) (ap (λ o. is_gt (ordering_then o Greater)) is))
+          ap (where_equal key.now)
+          (cond-false (is_after falling (Before (ByKey key.now)) a) (Some a) (next_from falling entries (Before (ByKey key.now)))
+          (ap (λ o. is_gt (ordering_then o Greater)) is))
           ∙ rest
           ∙ sym (cond-false (begins_with key.now a) (Some a) (chain_key key.now entries) (ap is_eq is))
       by Equal is rest none =
-          ap (where_equal key.now) (cond-true (is_after falling (Before (ByKey key.now)) a) (Some a) (next_from falling entries (Before (ByKey key.now))) (ap (λ o. is_gt (ordering_then o Greater)) is))
+          ap (where_equal key.now)
+          (cond-true (is_after falling (Before (ByKey key.now)) a) (Some a) (next_from falling entries (Before (ByKey key.now)))
+          (ap (λ o. is_gt (ordering_then o Greater)) is))
           ∙ cond-true (begins_with key.now a) (Some a) None (ap is_eq is)
           ∙ sym (cond-true (begins_with key.now a) (Some a) (chain_key key.now entries) (ap is_eq is))
       by Greater is rest none =
-          ap (where_equal key.now) (cond-true (is_after falling (Before (ByKey key.now)) a) (Some a) (next_from falling entries (Before (ByKey key.now))) (ap (λ o. is_gt (ordering_then o Greater)) is))
+          ap (where_equal key.now)
+          (cond-true (is_after falling (Before (ByKey key.now)) a) (Some a) (next_from falling entries (Before (ByKey key.now)))
+          (ap (λ o. is_gt (ordering_then o Greater)) is))
           ∙ cond-false (begins_with key.now a) (Some a) None (ap is_eq is)
           ∙ sym (cond-false (begins_with key.now a) (Some a) (chain_key key.now entries) (ap is_eq is) ∙ none is)
 

@@ -33,11 +33,11 @@ use Rattle.file_cursor.specs.Finding.{compare_part, compare_bound, side_of, begi
 use Rattle.file_cursor.specs.PositionBytes.{IsEntryOf, AreGiven, IsBoundOf, IsPositionOf, bound_in_bytes, position_in_bytes}
 
 module _ (formats : List PathFormat) (members : NumberedMembers) where
-  abbrev AreParts : ℕ → List PathFormat → Type 0
+  abbrev pub AreParts : ℕ → List PathFormat → Type 0
   AreParts number [] = Unit {0}
   AreParts number (format ∷ others) = (parts_of formats number ≡ format.key) × AreParts (number + 1) others
 
-  parts-from : (number : ℕ) (others : List PathFormat) → ((k : ℕ) → parts_of formats (number + k) ≡ get_or (map (λ format. format.key) others) k []) → AreParts number others
+  pub parts-from : (number : ℕ) (others : List PathFormat) → ((k : ℕ) → parts_of formats (number + k) ≡ get_or (map (λ format. format.key) others) k []) → AreParts number others
   parts-from number [] given = tt
   parts-from number (format ∷ others) given = (
     ap (parts_of formats) (let e : number ≡ number + 0 = omega arith in e) ∙ given 0,

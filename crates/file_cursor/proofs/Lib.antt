@@ -7,3 +7,5 @@ pub mod EntryLemmas
 pub mod LawLemmas
 pub mod ArrivalLaws
 pub mod NumberedLemmas
+pub mod KeylessLemmas
+pub mod RoomLemmas

@@ -1,14 +1,16 @@
 -- How is a position in bytes that of a file's access path, or of its records in arrival order? (Our own.)
-use Rattle.std.specs.Prelude.{◌≡◌, ℕ, ◌<◌, List, [], None, length, All}
+use Rattle.std.specs.Prelude.{◌≡◌, ℕ, ◌<◌, ◌≤◌, List, [], None, length, All}
 use Rattle.field_types.specs.declared.values.Value.{Value}
 use Rattle.key_pages.specs.declared.entries.Entry.{Entry}
 use Rattle.key_spec.specs.declared.KeyPart.{KeyPart}
 use Rattle.file_model.specs.declared.paths.PathFormat.{PathFormat}
 use Rattle.file_model.specs.KeyOrder.{KeyValue, key_of, given_key}
-use Rattle.file_model.specs.Paths.{PathEntry}
+use Rattle.file_model.specs.Paths.{PathEntry, selected_of}
+use Rattle.file_model.specs.Views.{view_of}
+use Rattle.member_slots.specs.Members.{NumberedMembers, member_of}
 use Rattle.file_model.specs.Positions as model
 use Rattle.key_order.specs.KeyBytes.{key_bytes}
-use Rattle.key_order.specs.KeyFields.{AreBytes}
+use Rattle.key_order.specs.KeyFields.{AreBytes, HasKey, key_width}
 use Rattle.key_order.specs.GivenValues.{key_fault, IsOfBytes}
 use Rattle.access_path.specs.PathBytes.{parts_of, in_bytes}
 use Rattle.file_cursor.specs.CursorPosition.{CursorBound, ByKey, ByNumber, CursorPosition, Start, End, On, Before, Past}
@@ -47,6 +49,11 @@ position_in_bytes formats parts model.End = End
 position_in_bytes formats parts (model.On entry) = On (in_bytes formats entry)
 position_in_bytes formats parts (model.Before bound) = Before (bound_in_bytes parts bound)
 position_in_bytes formats parts (model.Past bound) = Past (bound_in_bytes parts bound)
+
+-- each record that a format selects has its key, which has at most so many bytes
+pub record HasKeysWithin (most : ℕ) (members : NumberedMembers) (format : PathFormat) : Type 0 where
+  pub width : key_width format.key ≤ most
+  pub keys : All (λ pair. HasKey format.key (view_of format.fields pair.1)) (selected_of format (member_of format.member members).slots)
 
 -- ---- in arrival order
 

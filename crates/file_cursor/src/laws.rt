@@ -1,11 +1,14 @@
 //! Laws of what is found, as contracts of functions that do nothing.
-ghost use Rattle.std.specs.Prelude.{◌≡◌, ℕ, false, List, All, map};
+ghost use Rattle.std.specs.Prelude.{◌≡◌, ◌≤◌, length, ℕ, false, List, [], ◌∷◌, All, map};
 ghost use Rattle.std.specs.Option.{option_map};
 ghost use Rattle.key_spec.specs.declared.KeyPart.{KeyPart};
-ghost use Rattle.file_cursor.specs.Reading.{arrival_entries};
-ghost use Rattle.member_slots.specs.Member.{MemberState};
-ghost use Rattle.member_slots.specs.Members.{NumberedMembers};
+ghost use Rattle.file_cursor.specs.Reading.{arrival_entries, AreNumbered};
+ghost use Rattle.member_slots.specs.Member.{MemberState, IsMember};
+ghost use Rattle.member_slots.specs.Members.{NumberedMembers, member_of};
+ghost use Rattle.file_model.specs.declared.paths.PathFormat.{PathFormat};
 ghost use Rattle.file_model.specs.declared.paths.PathSpec.{PathSpec};
+ghost use Rattle.key_pages.specs.EntryList.{EntryList};
+ghost use Rattle.key_spec.specs.declared.Ties.TheVariants.{Rising};
 ghost use Rattle.file_model.specs.KeyOrder.{KeyValue};
 ghost use Rattle.file_model.specs.Paths.{PathEntry, path};
 ghost use Rattle.file_model.specs.Positions as model;
@@ -13,7 +16,7 @@ ghost use Rattle.key_order.specs.KeyBytes.{key_bytes};
 ghost use Rattle.key_order.specs.KeyFields.{Matches};
 ghost use Rattle.access_path.specs.PathBytes.{is_falling, in_bytes, IsInBytes};
 ghost use Rattle.file_cursor.specs.Finding.{next_from, prior_from, next_equal, prior_equal, chain_key, chain_number};
-ghost use Rattle.file_cursor.specs.PositionBytes.{IsEntryOf, AreGiven, IsPositionOf, position_in_bytes, IsArrivalPosition, position_by_number, by_number};
+ghost use Rattle.file_cursor.specs.PositionBytes.{IsEntryOf, AreGiven, IsPositionOf, position_in_bytes, IsArrivalPosition, position_by_number, by_number, HasKeysWithin};
 
 /// Among the bytes of the entries of a path a read finds the bytes of what it finds among the entries. The values may be
 /// given for the positions of several formats together.
@@ -51,4 +54,17 @@ pub fn numbers_are_found_as_records()
     ensures prior { (member : MemberState) (position : model.Position PathEntry) → IsArrivalPosition position
         → prior_from false (arrival_entries member) (position_by_number position) ≡ option_map by_number (model.prior_from (model.arrival_reading member) position) }
     ensures chain { (member : MemberState) (n : ℕ) → chain_number n (arrival_entries member) ≡ option_map by_number (model.chain_number (model.arrival_reading member) n) }
+{}
+
+/// The entries of a path of one format without keys stand by their numbers.
+pub fn entries_without_keys_stand_by_number()
+    ensures { (spec : PathSpec) (format : PathFormat) (members : NumberedMembers) (list : EntryList)
+        → spec.formats ≡ format ∷ [] → format.key ≡ [] → spec.ties ≡ Rising → IsMember (member_of format.member members)
+        → list.entries ≡ map (in_bytes spec.formats) (path spec members) → list.falling ≡ is_falling spec.ties → AreNumbered list }
+{}
+
+/// What a read of a path finds fits a cursor with room for the keys of its formats.
+pub fn found_keys_fit()
+    ensures { (most : ℕ) (spec : PathSpec) (members : NumberedMembers) → All (HasKeysWithin most members) spec.formats
+        → All (λ entry. length entry.key ≤ most) (map (in_bytes spec.formats) (path spec members)) }
 {}
