@@ -1,0 +1,11 @@
+pub mod FormatLines
+pub mod KeywordArguments
+pub mod KeywordRules
+pub mod LineOrder
+pub mod Origins
+pub mod Fields
+pub mod Keys
+pub mod Selections
+pub mod WholeFile
+pub mod Logical
+pub mod Sources
