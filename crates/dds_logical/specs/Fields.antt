@@ -135,15 +135,17 @@ names_twice earlier (s ∷ ss) = when (is_listed (name_of s.name) earlier) (faul
 abbrev pub reference_column_faults : Specification → List DdsFault
 reference_column_faults s = when s.columns.reference (fault_at s 29 UnknownReference)
 
--- what is wrong with the line of a field over the fields of a file
-abbrev pub field_line_faults : (is_join : Bool) → List Field → Specification → List DdsFault
-field_line_faults is_join base s =
+-- what is wrong with the entries and keywords of a field's line
+abbrev pub field_entry_faults : (is_join : Bool) → Specification → List DdsFault
+field_entry_faults is_join s =
     when (is_none (name_of s.name)) (fault_at s 19 BadName)
     ++ reference_column_faults s
     ++ usage_faults is_join s
     ++ logical_keyword_faults is_join places.Field s.keywords
-    ++ origin_faults base s
-    ++ type_faults_over s (origin base s)
+
+-- what is wrong with what it is made of, over the fields of a file, and with its type; where it is made of nothing, no type is judged
+abbrev pub made_faults : List Field → Specification → List DdsFault
+made_faults base s = origin_faults base s ++ type_faults_over s (origin base s)
 
 -- BadArguments: JREF outside a join file
 abbrev pub file_number_faults : Specification → List DdsFault
@@ -162,7 +164,7 @@ abbrev pub field_lines_faults : List Field → List Specification → List DdsFa
 field_lines_faults base ss =
     names_twice [] ss
     ++ too_many_faults MOST_FIELDS ss
-    ++ flat_map (λ s. field_line_faults false base s ++ file_number_faults s) ss
+    ++ flat_map (λ s. field_entry_faults false s ++ made_faults base s ++ file_number_faults s) ss
 
 -- ---- what they describe
 

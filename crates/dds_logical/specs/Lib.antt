@@ -1,3 +1,4 @@
+pub mod Bases
 pub mod FormatLines
 pub mod KeywordArguments
 pub mod KeywordRules
@@ -7,5 +8,8 @@ pub mod Fields
 pub mod Keys
 pub mod Selections
 pub mod WholeFile
+pub mod JoinLines
+pub mod JoinFields
+pub mod JoinViews
 pub mod Logical
 pub mod Sources

@@ -1,6 +1,6 @@
 -- What logical file does a source describe, or what is the first thing wrong with it? (DDS for Physical and Logical Files,
 -- logical files; Database Programming, "Describing logical files".)
-use Rattle.std.specs.Prelude.{ℕ, Bool, false, List, [], ◌∷◌, ◌++◌, length, map, flat_map, Option, Some, None, Result, Ok, Err, codes}
+use Rattle.std.specs.Prelude.{ℕ, Bool, true, false, List, [], ◌∷◌, ◌++◌, length, map, flat_map, Option, Some, None, Result, Ok, Err, if◌then◌else◌, codes}
 use Rattle.key_spec.specs.declared.KeyPart.{KeyPart}
 use Rattle.key_spec.specs.declared.KeySpec.{KeySpec}
 use Rattle.record_fmt.specs.declared.formats.Field.{Field}
@@ -17,14 +17,16 @@ use Rattle.dds_physical.specs.WholeFile.{has_key}
 use Rattle.file_model.specs.declared.views.ViewField.{ViewField}
 use Rattle.dds_logical.specs.declared.views.View.{View}
 use Rattle.dds_logical.specs.declared.views.LogicalSpec.{LogicalSpec}
-use Rattle.dds_logical.specs.declared.views.LogicalSpec.TheVariants.{Simple, Multi}
+use Rattle.dds_logical.specs.declared.views.LogicalSpec.TheVariants.{Simple, Multi, Join}
 use Rattle.dds_logical.specs.declared.keyword_places.KeywordPlace.TheVariants as places
+use Rattle.dds_logical.specs.Bases.{fields_of_name}
 use Rattle.dds_logical.specs.FormatLines.{FormatLines, formats_in, field_lines, key_lines, selection_lines, is_join_file, is_multi_format}
 use Rattle.dds_logical.specs.KeywordRules.{logical_keyword_faults, file_conflicts}
 use Rattle.dds_logical.specs.LineOrder.{order_faults, later_of}
 use Rattle.dds_logical.specs.Fields.{NamedField, named_fields, laid_out, mapping_of, field_lines_faults, letter_faults}
 use Rattle.dds_logical.specs.Keys.{parts_of_lines, padded, key_lines_faults, mismatch_faults}
 use Rattle.dds_logical.specs.Selections.{field_to_test, rules_said, selection_lines_faults}
+use Rattle.dds_logical.specs.JoinViews.{join_described, join_faults}
 use Rattle.dds_logical.specs.WholeFile.{head_faults, formats_faults, format_missing_faults, size_faults}
 
 -- ---- a format over one file
@@ -32,17 +34,9 @@ use Rattle.dds_logical.specs.WholeFile.{head_faults, formats_faults, format_miss
 abbrev pub base_name : FormatLines → Option (List ℕ)
 base_name f = file_of_keyword (first_named (codes "PFILE") f.head.keywords)
 
-abbrev pub fields_of_base : Option PhysicalSpec → List Field
-fields_of_base None = []
-fields_of_base (Some base) = base.format.fields
-
-abbrev pub fields_of_file : (List ℕ → Option PhysicalSpec) → Option (List ℕ) → List Field
-fields_of_file bases None = []
-fields_of_file bases (Some file) = fields_of_base (bases file)
-
 -- the fields of the file that a format is over
 abbrev pub base_of : (List ℕ → Option PhysicalSpec) → FormatLines → List Field
-base_of bases f = fields_of_file bases (base_name f)
+base_of bases f = fields_of_name bases (base_name f)
 
 abbrev pub fields_named : (List ℕ → Option PhysicalSpec) → FormatLines → List NamedField
 fields_named bases f = named_fields (base_of bases f) (field_lines f)
@@ -90,18 +84,26 @@ view_faults bases last_line is_multi f =
 
 -- ---- a file
 
+-- of a join file the first format, which is the only one
+abbrev pub join_described_by : (List ℕ → Option PhysicalSpec) → List Keyword → List FormatLines → LogicalSpec
+join_described_by bases ks [] = Multi []
+join_described_by bases ks (f ∷ fs) = Join (join_described bases ks f)
+
 -- what the formats describe
 abbrev pub described_by : (List ℕ → Option PhysicalSpec) → Source → List FormatLines → LogicalSpec
-described_by bases source fs = one_or_several (map (view_described bases source.file (most_parts bases fs)) fs)
+described_by bases source fs =
+    if is_join_file fs then join_described_by bases source.file fs
+    else one_or_several (map (view_described bases source.file (most_parts bases fs)) fs)
 
 -- the logical file that a source describes
 abbrev pub logical_specification : (List ℕ → Option PhysicalSpec) → Source → LogicalSpec
 logical_specification bases source = described_by bases source (formats_in source.specifications)
 
 -- what is wrong with the formats
-abbrev pub formats_at_fault : (List ℕ → Option PhysicalSpec) → Source → List FormatLines → List DdsFault
-formats_at_fault bases source fs =
-    flat_map (view_faults bases source.last_line (is_multi_format fs)) fs ++ mismatch_faults (format_parts bases) [] fs
+abbrev pub formats_at_fault : (List ℕ → Option PhysicalSpec) → Source → (is_join : Bool) → List FormatLines → List DdsFault
+formats_at_fault bases source is_join fs =
+    if is_join then flat_map (join_faults bases source.last_line) fs
+    else flat_map (view_faults bases source.last_line (is_multi_format fs)) fs ++ mismatch_faults (format_parts bases) [] fs
 
 -- what is wrong with the file, over its formats
 abbrev pub faults_over : (List ℕ → Option PhysicalSpec) → Source → (is_join : Bool) → List FormatLines → List DdsFault
@@ -111,7 +113,7 @@ faults_over bases source is_join fs =
     ++ flat_map (letter_faults is_join) source.specifications
     ++ order_faults is_join source.specifications fs
     ++ formats_faults fs
-    ++ formats_at_fault bases source fs
+    ++ formats_at_fault bases source is_join fs
     ++ format_missing_faults source.last_line is_join fs
 
 -- all that is wrong with a source

@@ -1,5 +1,5 @@
 -- The files and sources of the worked rows. Our own.
-use Rattle.std.specs.Prelude.{ℕ, Bool, true, false, nat_eq, List, [], ◌∷◌, ◌++◌, flat_map, Option, Some, None, Result, Ok, Err, if◌then◌else◌, codes, pos}
+use Rattle.std.specs.Prelude.{ℕ, Bool, true, false, nat_eq, List, [], ◌∷◌, ◌++◌, map, Option, Some, None, Result, Ok, Err, if◌then◌else◌, codes, pos}
 use lib.Pointwise.{pointwise}
 use Rattle.field_types.specs.declared.kinds.Kind.TheVariants.{Char, Packed, Date}
 use Rattle.field_types.specs.declared.kinds.FieldType.{FieldType}
@@ -7,11 +7,34 @@ use Rattle.field_types.specs.declared.values.Value.{Value}
 use Rattle.field_types.specs.declared.values.Value.TheVariants.{Chars, Number}
 use Rattle.key_spec.specs.declared.Ties.TheVariants.{Rising}
 use Rattle.record_fmt.specs.declared.formats.Field.{Field}
+use Rattle.key_spec.specs.declared.Ties.{Ties}
+use Rattle.key_spec.specs.declared.KeyPart.{KeyPart}
+use Rattle.key_spec.specs.declared.KeySpec.{KeySpec}
+use Rattle.text_lines.specs.Lines.{text_of_lines}
+use Rattle.file_model.specs.declared.views.Piece.{Piece}
+use Rattle.file_model.specs.declared.views.FieldSource.{FieldSource}
+use Rattle.file_model.specs.declared.views.FieldSource.TheVariants.{Copied}
+use Rattle.file_model.specs.declared.views.ViewField.{ViewField}
+use Rattle.file_model.specs.declared.views.LogicalField.{LogicalField}
+use Rattle.file_model.specs.declared.rules.Test.{Test}
+use Rattle.file_model.specs.declared.rules.Choice.{Choice}
+use Rattle.file_model.specs.declared.rules.Statement.{Statement}
+use Rattle.file_model.specs.declared.rules.Rules.{Rules}
+use Rattle.std.specs.Option.{option_map}
+use Rattle.dds_source.specs.declared.arguments.Argument.{Argument}
+use Rattle.dds_source.specs.declared.arguments.Argument.TheVariants as arguments
+use Rattle.dds_source.specs.declared.keywords.Keyword.{Keyword}
+use Rattle.dds_source.specs.declared.specifications.NameEntry.{NameEntry}
+use Rattle.dds_source.specs.declared.specifications.Columns.{Columns}
+use Rattle.dds_source.specs.declared.specifications.Specification.{Specification}
+use Rattle.dds_source.specs.declared.specifications.SpecificationKind.{SpecificationKind}
+use Rattle.dds_source.specs.declared.specifications.LengthEntry.TheVariants.{Exactly}
 use Rattle.dds_source.specs.declared.faults.DdsFault.{DdsFault}
 use Rattle.dds_source.specs.declared.faults.DdsCause.{DdsCause}
 use Rattle.dds_source.specs.Reading.{source_in}
 use Rattle.dds_physical.specs.declared.physical_files.PhysicalSpec.{PhysicalSpec}
 use Rattle.dds_physical.specs.Defaults.{unspecified}
+use Rattle.dds_logical.specs.declared.views.View.{View}
 use Rattle.dds_logical.specs.declared.views.LogicalSpec.{LogicalSpec}
 use Rattle.dds_logical.specs.Logical.{logical_of}
 
@@ -50,6 +73,14 @@ headers = file (codes "HEADERR") (plain (codes "ORD") (packed 3 0) 0 ∷ [])
 abbrev pub orders : PhysicalSpec
 orders = file (codes "ORDERR") (plain (codes "NO") (packed 3 0) 0 ∷ plain (codes "AMT") (packed 3 0) 2 ∷ plain (codes "CODE") (characters 1) 4 ∷ [])
 
+-- ID 3P 0, CODE 1A, DAY L
+abbrev pub chained : PhysicalSpec
+chained = file (codes "CHAINR") (plain (codes "ID") (packed 3 0) 0 ∷ plain (codes "CODE") (characters 1) 2 ∷ plain (codes "DAY") (record { kind = Date; length = 10; decimals = 0 }) 3 ∷ [])
+
+-- W 20000A
+abbrev pub wide : PhysicalSpec
+wide = file (codes "WIDER") (plain (codes "W") (characters 20000) 0 ∷ [])
+
 -- the files that are there
 abbrev pub library : List ℕ → Option PhysicalSpec
 library name =
@@ -57,17 +88,100 @@ library name =
     else (if pointwise nat_eq name (codes "HEADERS") then Some headers
     else (if pointwise nat_eq name (codes "DETAILS") then Some details
     else (if pointwise nat_eq name (codes "ORDERS") then Some orders
-    else None)))
+    else (if pointwise nat_eq name (codes "CHAINED") then Some chained
+    else (if pointwise nat_eq name (codes "WIDE") then Some wide
+    else None)))))
+
+-- ---- formats over one file
+
+abbrev pub text : List ℕ → Value
+text bytes = Chars bytes
+
+abbrev pub piece : (offset size : ℕ) → Piece
+piece offset size = record { offset = offset; length = size }
+
+abbrev pub field_itself : FieldType → (offset : ℕ) → ViewField
+field_itself t offset = record { ty = t; source = Copied offset }
+
+abbrev pub shown : FieldType → FieldSource → LogicalField
+shown t source = record { field = record { ty = t; source = source }; read_only = false }
+
+abbrev pub read_only : FieldType → FieldSource → LogicalField
+read_only t source = record { field = record { ty = t; source = source }; read_only = true }
+
+abbrev pub rules : List Statement → Option Choice → Rules
+rules statements all = record { statements = statements; all = all }
+
+abbrev pub all_records : Rules
+all_records = rules [] None
+
+-- tests of one field
+abbrev pub statement : Choice → ViewField → List Test → Statement
+statement choice field tests = record { choice = choice; conditions = map (λ t. record { field = field; test = t }) tests }
+
+abbrev pub keyed : (unique : Bool) → Ties → List KeyPart → KeySpec
+keyed unique ties parts = record { parts = parts; unique = unique; ties = ties }
+
+abbrev pub keyless : KeySpec
+keyless = keyed false Rising []
+
+abbrev pub view : List ℕ → List Field → List LogicalField → Rules → KeySpec → View
+view base fields mapping rules keys = record { base = base; format = record { name = codes "VIEWR"; fields = fields }; mapping = mapping; rules = rules; keys = keys }
+
+-- all fields of a file, under the name of a format
+abbrev pub all_of : List ℕ → List ℕ → PhysicalSpec → KeySpec → View
+all_of base name spec keys = record {
+  base = base;
+  format = record { name = name; fields = spec.format.fields };
+  mapping = map (λ f. shown f.ty (Copied f.offset)) spec.format.fields;
+  rules = all_records;
+  keys = keys;
+}
+
+abbrev pub all_of_cust : Rules → KeySpec → View
+all_of_cust rules keys = record (all_of (codes "CUST") (codes "VIEWR") cust keys) { rules = rules }
 
 -- ---- sources
 
--- a line feed behind each line
-abbrev pub text_of_lines : List (List ℕ) → List ℕ
-text_of_lines lines = flat_map (λ line. line ++ 10 ∷ []) lines
+-- a keyword with arguments, by its line and column
+abbrev pub keyword : (line column : ℕ) → List ℕ → List Argument → Keyword
+keyword line column name args = record { name = name; line = line; column = column; arguments = Some args }
 
--- what a source describes over these files
-abbrev pub described : List (List ℕ) → Result LogicalSpec DdsFault
-described lines = logical_of library (source_in (text_of_lines lines))
+abbrev pub flag : (line column : ℕ) → List ℕ → Keyword
+flag line column name = record { name = name; line = line; column = column; arguments = None }
+
+abbrev pub word : List ℕ → Argument
+word name = arguments.Name name
+
+abbrev pub number : ℕ → Argument
+number n = arguments.Number (record { units = pos n; scale = 0 })
+
+abbrev pub quoted : List ℕ → Argument
+quoted characters = arguments.Quoted characters
+
+abbrev pub special : List ℕ → Argument
+special characters = arguments.Special characters
+
+abbrev pub blank : Columns
+blank = record { reference = false; length = None; data_type = None; decimals = None; usage = None }
+
+-- positions 30 to 38
+abbrev pub entries : (length : Option ℕ) → (data_type : Option ℕ) → (decimals : Option ℕ) → (usage : Option ℕ) → Columns
+entries length data_type decimals usage = record { reference = false; length = option_map Exactly length; data_type = data_type; decimals = decimals; usage = usage }
+
+abbrev pub referring : Columns
+referring = record blank { reference = true }
+
+abbrev pub line : ℕ → SpecificationKind → NameEntry → Columns → List Keyword → Specification
+line at kind name columns keywords = record { line = at; kind = kind; name = name; columns = columns; keywords = keywords }
+
+-- what a source of these lines describes over these files; the last line is the last of the source
+abbrev pub described : (last_line : ℕ) → (file : List Keyword) → List Specification → Result LogicalSpec DdsFault
+described last_line file specifications = logical_of library (record { file = file; specifications = specifications; last_line = last_line })
+
+-- what a text describes over these files
+abbrev pub described_by_text : List (List ℕ) → Result LogicalSpec DdsFault
+described_by_text lines = logical_of library (source_in (text_of_lines lines))
 
 abbrev pub fault : (line column : ℕ) → DdsCause → Result LogicalSpec DdsFault
 fault line column cause = Err (record { line = line; column = column; cause = cause })
