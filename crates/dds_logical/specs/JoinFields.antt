@@ -1,6 +1,6 @@
 -- Of which file is a field of a join format, and what is wrong with its line? (DDS for Physical and Logical Files, JREF. That
 -- without JREF the only file counts that has all the names of the line is this project's own.)
-use Rattle.std.specs.Prelude.{ℕ, ◌+◌, ◌-◌, Bool, true, false, not, ◌&&◌, ◌==◌, nat_le, nat_lt, List, [], ◌∷◌, ◌++◌, length, flat_map, slice_get, Option, Some, None, is_none, if◌then◌else◌, codes}
+use Rattle.std.specs.Prelude.{ℕ, ◌+◌, ◌-◌, Bool, true, false, not, ◌&&◌, ◌==◌, nat_le, nat_lt, List, [], ◌∷◌, ◌++◌, length, flat_map, Option, Some, None, if◌then◌else◌, codes}
 use Rattle.std.specs.List.{filter_map}
 use Rattle.record_fmt.specs.declared.formats.Field.{Field}
 use Rattle.record_fmt.specs.declared.formats.TheConstants.{MOST_FIELDS}

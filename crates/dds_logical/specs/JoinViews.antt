@@ -1,6 +1,6 @@
 -- What does the source of a join file describe, and what is wrong with it? (DDS for Physical and Logical Files, join logical
 -- files.)
-use Rattle.std.specs.Prelude.{ℕ, Bool, true, false, List, [], ◌∷◌, ◌++◌, drop, map, flat_map, Option, Some, None, codes}
+use Rattle.std.specs.Prelude.{ℕ, true, false, List, [], ◌∷◌, ◌++◌, drop, map, flat_map, Option, codes}
 use Rattle.key_spec.specs.declared.KeyPart.{KeyPart}
 use Rattle.record_fmt.specs.declared.formats.Field.{Field}
 use Rattle.dds_source.specs.declared.faults.DdsFault.{DdsFault}

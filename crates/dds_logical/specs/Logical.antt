@@ -1,6 +1,6 @@
 -- What logical file does a source describe, or what is the first thing wrong with it? (DDS for Physical and Logical Files,
 -- logical files; Database Programming, "Describing logical files".)
-use Rattle.std.specs.Prelude.{ℕ, Bool, true, false, List, [], ◌∷◌, ◌++◌, length, map, flat_map, Option, Some, None, Result, Ok, Err, if◌then◌else◌, codes}
+use Rattle.std.specs.Prelude.{ℕ, Bool, false, List, [], ◌∷◌, ◌++◌, length, map, flat_map, Option, Some, None, Result, Ok, Err, if◌then◌else◌, codes}
 use Rattle.key_spec.specs.declared.KeyPart.{KeyPart}
 use Rattle.key_spec.specs.declared.KeySpec.{KeySpec}
 use Rattle.record_fmt.specs.declared.formats.Field.{Field}

@@ -153,7 +153,7 @@ missing_faults base (Some k) = when (lacks_one base (names_among (arguments_of k
 abbrev pub own_name_faults : List Field → Specification → List DdsFault
 own_name_faults base s =
     when (not (is_there (codes "CONCAT") s.keywords || is_there (codes "SST") s.keywords || is_there (codes "RENAME") s.keywords)
-        && lacks_one base (own_name (name_of s.name))) (fault_at s 19 NoBaseField)
+    && lacks_one base (own_name (name_of s.name))) (fault_at s 19 NoBaseField)
 
 -- BadArguments: CONCAT or SST of a field that is no character field
 abbrev pub character_faults : List Field → Option Keyword → List DdsFault

@@ -1,5 +1,5 @@
 -- The files and sources of the worked rows. Our own.
-use Rattle.std.specs.Prelude.{ℕ, Bool, true, false, nat_eq, List, [], ◌∷◌, ◌++◌, map, Option, Some, None, Result, Ok, Err, if◌then◌else◌, codes, pos}
+use Rattle.std.specs.Prelude.{ℕ, Bool, true, false, nat_eq, List, [], ◌∷◌, map, Option, Some, None, Result, Err, if◌then◌else◌, codes, pos}
 use lib.Pointwise.{pointwise}
 use Rattle.field_types.specs.declared.kinds.Kind.TheVariants.{Char, Packed, Date}
 use Rattle.field_types.specs.declared.kinds.FieldType.{FieldType}
@@ -34,6 +34,10 @@ use Rattle.dds_source.specs.declared.faults.DdsCause.{DdsCause}
 use Rattle.dds_source.specs.Reading.{source_in}
 use Rattle.dds_physical.specs.declared.physical_files.PhysicalSpec.{PhysicalSpec}
 use Rattle.dds_physical.specs.Defaults.{unspecified}
+use Rattle.file_model.specs.declared.joins.JoinPair.{JoinPair}
+use Rattle.dds_logical.specs.declared.join_views.JoinView.{JoinView}
+use Rattle.dds_logical.specs.declared.join_views.JoinedFile.{JoinedFile}
+use Rattle.dds_logical.specs.declared.join_views.JoinedField.{JoinedField}
 use Rattle.dds_logical.specs.declared.views.View.{View}
 use Rattle.dds_logical.specs.declared.views.LogicalSpec.{LogicalSpec}
 use Rattle.dds_logical.specs.Logical.{logical_of}
@@ -140,6 +144,43 @@ all_of base name spec keys = record {
 
 abbrev pub all_of_cust : Rules → KeySpec → View
 all_of_cust rules keys = record (all_of (codes "CUST") (codes "VIEWR") cust keys) { rules = rules }
+
+-- ORD of a file, in a format with key positions that it lacks
+abbrev pub ordered : List ℕ → List ℕ → List KeyPart → View
+ordered base name parts = record {
+  base = base;
+  format = record { name = name; fields = plain (codes "ORD") (packed 3 0) 0 ∷ [] };
+  mapping = shown (packed 3 0) (Copied 0) ∷ [];
+  rules = all_records;
+  keys = keyed false Rising parts;
+}
+
+-- ---- joins
+
+-- fields with equal values, by their types and bytes
+abbrev pub pair : FieldType → (from : ℕ) → FieldType → (to : ℕ) → JoinPair
+pair t from u to = record { from = field_itself t from; to = field_itself u to }
+
+abbrev pub joined : List ℕ → (from : ℕ) → List JoinPair → KeyPart → JoinedFile
+joined file from pairs sequence = record { file = file; from = from; pairs = pairs; sequence = sequence }
+
+-- a field of the file of a place
+abbrev pub seen : (place : ℕ) → FieldType → FieldSource → JoinedField
+seen place t source = record { field = record { file = place; field = record { ty = t; source = source } }; shown = true }
+
+abbrev pub unseen : (place : ℕ) → FieldType → FieldSource → JoinedField
+unseen place t source = record (seen place t source) { shown = false }
+
+-- of CUST, without a key and without JDFTVAL
+abbrev pub unkeyed_join : List JoinedFile → List Field → List JoinedField → JoinView
+unkeyed_join secondaries format_fields fields = record {
+  primary = codes "CUST";
+  secondaries = secondaries;
+  format = record { name = codes "JOINR"; fields = format_fields };
+  fields = fields;
+  keys = keyless;
+  keeps_missing = false;
+}
 
 -- ---- sources
 

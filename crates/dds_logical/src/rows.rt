@@ -7,6 +7,7 @@ ghost use Rattle.file_model.specs.declared.rules.Relation.TheVariants.{Equals, D
 ghost use Rattle.file_model.specs.declared.rules.Test.TheVariants as tests;
 ghost use Rattle.file_model.specs.declared.rules.Choice.TheVariants.{Select, Omit};
 ghost use Rattle.dds_logical.specs.declared.views.LogicalSpec.TheVariants.{Simple, Multi};
+ghost use Rattle.dds_source.specs.declared.faults.DdsCause.TheVariants.{BadType};
 ghost use Rattle.dds_source.specs.declared.specifications.NameEntry.TheVariants.{Blank, Named, StarNone};
 ghost use Rattle.dds_source.specs.declared.specifications.SpecificationKind.TheVariants as kinds;
 ghost use Rattle.dds_logical.specs.Sources.{described, described_by_text, keyword, flag, word, number, quoted, special, blank, entries, line, characters, packed, whole, text, plain, shown, read_only, keyless, keyed, view, all_records, rules, statement, piece, field_itself, all_of, all_of_cust, headers, details};
@@ -76,7 +77,7 @@ pub fn other_types()
         line 3 kinds.Field (Named (codes "NAME")) (entries (Some 8) (Some 65) None (Some 73)) [] ∷
         [])
         ≡ Ok (Simple (view (codes "CUST") (plain (codes "NO") (packed 7 2) 0 ∷ plain (codes "NAME") (characters 8) 4 ∷ [])
-            (shown (packed 7 2) (Converted (packed 3 0) 5) ∷ read_only (characters 8) (Converted (characters 5) 0) ∷ []) all_records keyless)) }
+        (shown (packed 7 2) (Converted (packed 3 0) 5) ∷ read_only (characters 8) (Converted (characters 5) 0) ∷ []) all_records keyless)) }
 {}
 
 /// A format without field lines has all fields of its base. A key may be one of them.
@@ -91,7 +92,7 @@ pub fn all_fields()
         line 4 kinds.Key (Named (codes "NAME")) blank (flag 4 45 (codes "DESCEND") ∷ flag 4 53 (codes "ABSVAL") ∷ []) ∷
         [])
         ≡ Ok (Simple (all_of_cust all_records
-            (keyed true Rising (Field (packed 3 0) 5 false false ∷ Field (characters 5) 0 true true ∷ [])))) }
+        (keyed true Rising (Field (packed 3 0) 5 false false ∷ Field (characters 5) 0 true true ∷ [])))) }
     //      A                                      LIFO DYNSLT
     //      A          R VIEWR                     PFILE(CUST)
     //      A          K NO                        SIGNED
@@ -115,8 +116,8 @@ pub fn keys_are_in_the_format()
         line 4 kinds.Key (Named (codes "NM")) blank [] ∷
         [])
         ≡ Ok (Simple (view (codes "CUST") (plain (codes "NO") (packed 3 0) 0 ∷ plain (codes "NM") (characters 5) 2 ∷ [])
-            (shown (packed 3 0) (Copied 5) ∷ shown (characters 5) (Copied 0) ∷ []) all_records
-            (keyed false Rising (Field (characters 5) 2 false false ∷ [])))) }
+        (shown (packed 3 0) (Copied 5) ∷ shown (characters 5) (Copied 0) ∷ []) all_records
+        (keyed false Rising (Field (characters 5) 2 false false ∷ [])))) }
 {}
 
 /// Select and omit statements, in order.
@@ -130,7 +131,7 @@ pub fn selects_and_omits()
         line 3 kinds.Omit (Named (codes "NO")) blank (keyword 3 45 (codes "COMP") (word (codes "GT") ∷ number 10 ∷ []) ∷ []) ∷
         [])
         ≡ Ok (Simple (all_of_cust (rules (statement Select (field_itself (characters 5) 0) (tests.Literal Equals (text (0xE7 ∷ [])) ∷ []) ∷
-                statement Omit (field_itself (packed 3 0) 5) (tests.Literal Above (whole 10) ∷ []) ∷ []) None) keyless)) }
+        statement Omit (field_itself (packed 3 0) 5) (tests.Literal Above (whole 10) ∷ []) ∷ []) None) keyless)) }
     //      A                                      UNIQUE
     //      A          R VIEWR                     PFILE(CUST)
     //      A          K NO
@@ -141,7 +142,7 @@ pub fn selects_and_omits()
         line 4 kinds.Omit (Named (codes "NAME")) blank (keyword 4 45 (codes "COMP") (word (codes "EQ") ∷ quoted (codes "D") ∷ []) ∷ []) ∷
         [])
         ≡ Ok (Simple (all_of_cust (rules (statement Omit (field_itself (characters 5) 0) (tests.Literal Equals (text (0xC4 ∷ [])) ∷ []) ∷ []) None)
-            (keyed true Rising (Field (packed 3 0) 5 false false ∷ [])))) }
+        (keyed true Rising (Field (packed 3 0) 5 false false ∷ [])))) }
     //      A          R VIEWR                     PFILE(CUST)
     //      A          S NO                        RANGE(1 5) CMP(NE 3)
     //      A            NAME                      VALUES('A' 'B')
@@ -152,10 +153,13 @@ pub fn selects_and_omits()
         line 3 kinds.And (Named (codes "NAME")) blank (keyword 3 45 (codes "VALUES") (quoted (codes "A") ∷ quoted (codes "B") ∷ []) ∷ []) ∷
         line 4 kinds.Omit Blank blank (flag 4 45 (codes "ALL") ∷ []) ∷
         [])
-        ≡ Ok (Simple (all_of_cust (rules (record { choice = Select; conditions =
-                record { field = field_itself (packed 3 0) 5; test = tests.Range (whole 1) (whole 5) } ∷
-                record { field = field_itself (packed 3 0) 5; test = tests.Literal Differs (whole 3) } ∷
-                record { field = field_itself (characters 5) 0; test = tests.Values (text (0xC1 ∷ []) ∷ text (0xC2 ∷ []) ∷ []) } ∷ [] } ∷ []) (Some Omit)) keyless)) }
+        ≡ Ok (Simple (all_of_cust (rules (record {
+          choice = Select;
+          conditions =
+              record { field = field_itself (packed 3 0) 5; test = tests.Range (whole 1) (whole 5) } ∷
+              record { field = field_itself (packed 3 0) 5; test = tests.Literal Differs (whole 3) } ∷
+              record { field = field_itself (characters 5) 0; test = tests.Values (text (0xC1 ∷ []) ∷ text (0xC2 ∷ []) ∷ []) } ∷ [];
+        } ∷ []) (Some Omit)) keyless)) }
     // The base has a field that the format lacks.
     //      A          R VIEWR                     PFILE(CUST)
     //      A            NM                        RENAME(NAME)
@@ -168,8 +172,8 @@ pub fn selects_and_omits()
         line 4 kinds.Omit (Named (codes "NM")) blank (keyword 4 45 (codes "COMP") (word (codes "NG") ∷ word (codes "NAME") ∷ []) ∷ []) ∷
         [])
         ≡ Ok (Simple (view (codes "CUST") (plain (codes "NM") (characters 5) 0 ∷ []) (shown (characters 5) (Copied 0) ∷ [])
-            (rules (statement Select (field_itself (packed 3 0) 5) (tests.Literal AtLeast (whole 1) ∷ []) ∷
-                statement Omit (field_itself (characters 5) 0) (tests.Field AtMost (field_itself (characters 5) 0) ∷ []) ∷ []) None) keyless)) }
+        (rules (statement Select (field_itself (packed 3 0) 5) (tests.Literal AtLeast (whole 1) ∷ []) ∷
+        statement Omit (field_itself (characters 5) 0) (tests.Field AtMost (field_itself (characters 5) 0) ∷ []) ∷ []) None) keyless)) }
     //      A          R VIEWR                     PFILE(CUST)
     //      A          O NO
     ensures always { described 2 [] (
@@ -196,8 +200,8 @@ pub fn headers_and_details()
         line 6 kinds.Key (Named (codes "LINE")) blank [] ∷
         [])
         ≡ Ok (Multi (
-            all_of (codes "HEADERS") (codes "HDR") headers (keyed false Rising (Field (packed 3 0) 0 false false ∷ Absent ∷ [])) ∷
-            all_of (codes "DETAILS") (codes "DTL") details (keyed false Rising (Field (packed 3 0) 0 false false ∷ Field (packed 3 0) 2 false false ∷ [])) ∷ [])) }
+        all_of (codes "HEADERS") (codes "HDR") headers (keyed false Rising (Field (packed 3 0) 0 false false ∷ Absent ∷ [])) ∷
+        all_of (codes "DETAILS") (codes "DTL") details (keyed false Rising (Field (packed 3 0) 0 false false ∷ Field (packed 3 0) 2 false false ∷ [])) ∷ [])) }
     //      A                                      LIFO
     //      A          R DTL                       PFILE(DETAILS)
     //      A          K ORD
@@ -212,6 +216,27 @@ pub fn headers_and_details()
         line 6 kinds.Key (Named (codes "ORD")) blank [] ∷
         [])
         ≡ Ok (Multi (
-            all_of (codes "DETAILS") (codes "DTL") details (keyed false Falling (Field (packed 3 0) 0 false false ∷ Field (packed 3 0) 2 false false ∷ [])) ∷
-            all_of (codes "HEADERS") (codes "HDR") headers (keyed false Falling (Field (packed 3 0) 0 false false ∷ Absent ∷ [])) ∷ [])) }
+        all_of (codes "DETAILS") (codes "DTL") details (keyed false Falling (Field (packed 3 0) 0 false false ∷ Field (packed 3 0) 2 false false ∷ [])) ∷
+        all_of (codes "HEADERS") (codes "HDR") headers (keyed false Falling (Field (packed 3 0) 0 false false ∷ Absent ∷ [])) ∷ [])) }
+{}
+
+/// The same from the text of a source.
+pub fn read_from_text()
+    ensures renamed { described_by_text (
+        codes "     A          R VIEWR                     PFILE(CUST)" ∷
+        codes "     A            NM                        RENAME(NAME)" ∷
+        [])
+        ≡ Ok (Simple (view (codes "CUST") (plain (codes "NM") (characters 5) 0 ∷ []) (shown (characters 5) (Copied 0) ∷ []) all_records keyless)) }
+    ensures select_then_omit { described_by_text (
+        codes "     A          R VIEWR                     PFILE(CUST)" ∷
+        codes "     A          S NAME                      COMP(EQ 'X')" ∷
+        codes "     A          O NO                        COMP(GT 10)" ∷
+        [])
+        ≡ Ok (Simple (all_of_cust (rules (statement Select (field_itself (characters 5) 0) (tests.Literal Equals (text (0xE7 ∷ [])) ∷ []) ∷
+        statement Omit (field_itself (packed 3 0) 5) (tests.Literal Above (whole 10) ∷ []) ∷ []) None) keyless)) }
+    ensures at_fault { described_by_text (
+        codes "     A          R VIEWR                     PFILE(CUST)" ∷
+        codes "     A            NO              Q" ∷
+        [])
+        ≡ Err (record { line = 2; column = 35; cause = BadType }) }
 {}
