@@ -6,6 +6,7 @@ ghost use Rattle.dds_source.specs.declared.faults.DdsCause.TheVariants as causes
 ghost use Rattle.dds_source.specs.declared.specifications.NameEntry.TheVariants.{Blank, Named, StarNone};
 ghost use Rattle.dds_source.specs.declared.specifications.SpecificationKind.TheVariants as kinds;
 ghost use Rattle.dds_logical.specs.Sources.{described, keyword, flag, word, number, quoted, special, blank, entries, referring, line, fault, ordered};
+ghost use Rattle.dds_logical.specs.Fields.{too_many_faults};
 
 /// Lines that stand out of order: at 17, a field at 19.
 pub fn out_of_order()
@@ -354,7 +355,7 @@ pub fn no_format()
         ≡ fault 2 1 causes.NoFormat }
 {}
 
-/// On the last line, in its first column.
+/// A record or a key, on the last line, in its first column.
 pub fn too_large()
     //      A          R VIEWR                     PFILE(WIDE)
     //      A            W
@@ -372,6 +373,13 @@ pub fn too_large()
         line 2 kinds.Key (Named (codes "W")) blank [] ∷
         [])
         ≡ fault 2 1 causes.TooLarge }
+    // Formats, fields and key fields: at the name of the first that is too many.
+    ensures lines { too_many_faults 1 (
+        line 4 kinds.Field (Named (codes "A")) blank [] ∷
+        line 5 kinds.Field (Named (codes "B")) blank [] ∷
+        line 6 kinds.Field (Named (codes "C")) blank [] ∷
+        [])
+        ≡ record { line = 5; column = 19; cause = causes.TooLarge } ∷ [] }
 {}
 
 /// By line, then by column, then by cause.

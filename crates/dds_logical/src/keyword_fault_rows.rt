@@ -371,6 +371,18 @@ pub fn joins()
         line 3 kinds.Field (Named (codes "NAME")) blank [] ∷
         [])
         ≡ fault 1 45 causes.BadArguments }
+    // Each file is reached once, and one from a later file.
+    //      A          R JOINR                     JFILE(CUST ORDERS CHAINED)
+    //      A          J                           JOIN(CUST CHAINED)
+    //      A          J                           JOIN(CHAINED ORDERS)
+    //      A            NAME
+    ensures from_a_later { described 4 [] (
+        line 1 kinds.Record (Named (codes "JOINR")) blank (keyword 1 45 (codes "JFILE") (word (codes "CUST") ∷ word (codes "ORDERS") ∷ word (codes "CHAINED") ∷ []) ∷ []) ∷
+        line 2 kinds.Join Blank blank (keyword 2 45 (codes "JOIN") (word (codes "CUST") ∷ word (codes "CHAINED") ∷ []) ∷ []) ∷
+        line 3 kinds.Join Blank blank (keyword 3 45 (codes "JOIN") (word (codes "CHAINED") ∷ word (codes "ORDERS") ∷ []) ∷ []) ∷
+        line 4 kinds.Field (Named (codes "NAME")) blank [] ∷
+        [])
+        ≡ fault 1 45 causes.BadArguments }
     //      A          R JOINR                     JFILE(CUST ORDERS CHAINED)
     //      A          J                           JOIN(CUST ORDERS)
     //      A          J                           JFLD(NO ID)

@@ -93,10 +93,10 @@ pub fn all_fields()
         [])
         ≡ Ok (Simple (all_of_cust all_records
         (keyed true Rising (Field (packed 3 0) 5 false false ∷ Field (characters 5) 0 true true ∷ [])))) }
-    //      A                                      LIFO DYNSLT
+    //      A                                      LIFO DYNSLT JDFTVAL
     //      A          R VIEWR                     PFILE(CUST)
     //      A          K NO                        SIGNED
-    ensures last_first { described 3 (flag 1 45 (codes "LIFO") ∷ flag 1 50 (codes "DYNSLT") ∷ []) (
+    ensures last_first { described 3 (flag 1 45 (codes "LIFO") ∷ flag 1 50 (codes "DYNSLT") ∷ flag 1 57 (codes "JDFTVAL") ∷ []) (
         line 2 kinds.Record (Named (codes "VIEWR")) blank (keyword 2 45 (codes "PFILE") (word (codes "CUST") ∷ []) ∷ []) ∷
         line 3 kinds.Key (Named (codes "NO")) blank (flag 3 45 (codes "SIGNED") ∷ []) ∷
         [])
