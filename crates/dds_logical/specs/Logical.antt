@@ -96,7 +96,7 @@ described_by bases source fs =
     else one_or_several (map (view_described bases source.file (most_parts bases fs)) fs)
 
 -- the logical file that a source describes
-abbrev pub logical_specification : (List ℕ → Option PhysicalSpec) → Source → LogicalSpec
+unfoldable pub logical_specification : (List ℕ → Option PhysicalSpec) → Source → LogicalSpec
 logical_specification bases source = described_by bases source (formats_in source.specifications)
 
 -- what is wrong with the formats
@@ -117,7 +117,7 @@ faults_over bases source is_join fs =
     ++ format_missing_faults source.last_line is_join fs
 
 -- all that is wrong with a source
-abbrev pub logical_faults : (List ℕ → Option PhysicalSpec) → Source → List DdsFault
+unfoldable pub logical_faults : (List ℕ → Option PhysicalSpec) → Source → List DdsFault
 logical_faults bases source = faults_over bases source (is_join_file (formats_in source.specifications)) (formats_in source.specifications)
 
 abbrev pub unless_fault : LogicalSpec → Option DdsFault → Result LogicalSpec DdsFault
@@ -125,5 +125,5 @@ unless_fault spec None = Ok spec
 unless_fault spec (Some fault) = Err fault
 
 -- the logical file, or the first fault
-abbrev pub logical_of : (List ℕ → Option PhysicalSpec) → Source → Result LogicalSpec DdsFault
+unfoldable pub logical_of : (List ℕ → Option PhysicalSpec) → Source → Result LogicalSpec DdsFault
 logical_of bases source = unless_fault (logical_specification bases source) (first_after None (logical_faults bases source))

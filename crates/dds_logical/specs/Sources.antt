@@ -1,5 +1,5 @@
 -- The files and sources of the worked rows. Our own.
-use Rattle.std.specs.Prelude.{ℕ, Bool, true, false, nat_eq, List, [], ◌∷◌, map, Option, Some, None, Result, Err, if◌then◌else◌, codes, pos}
+use Rattle.std.specs.Prelude.{ℕ, Bool, true, false, nat_eq, List, [], ◌∷◌, map, Option, Some, None, Result, Ok, Err, if◌then◌else◌, codes, pos}
 use lib.Pointwise.{pointwise}
 use Rattle.field_types.specs.declared.kinds.Kind.TheVariants.{Char, Packed, Date}
 use Rattle.field_types.specs.declared.kinds.FieldType.{FieldType}
@@ -35,11 +35,14 @@ use Rattle.dds_source.specs.Reading.{source_in}
 use Rattle.dds_physical.specs.declared.physical_files.PhysicalSpec.{PhysicalSpec}
 use Rattle.dds_physical.specs.Defaults.{unspecified}
 use Rattle.file_model.specs.declared.joins.JoinPair.{JoinPair}
+use Rattle.file_model.specs.declared.paths.PathSpec.{PathSpec}
+use Rattle.file_model.specs.FilePaths.{simple_path}
 use Rattle.dds_logical.specs.declared.join_views.JoinView.{JoinView}
 use Rattle.dds_logical.specs.declared.join_views.JoinedFile.{JoinedFile}
 use Rattle.dds_logical.specs.declared.join_views.JoinedField.{JoinedField}
 use Rattle.dds_logical.specs.declared.views.View.{View}
 use Rattle.dds_logical.specs.declared.views.LogicalSpec.{LogicalSpec}
+use Rattle.dds_logical.specs.declared.views.LogicalSpec.TheVariants.{Simple, Multi, Join}
 use Rattle.dds_logical.specs.Logical.{logical_of}
 
 -- ---- physical files
@@ -181,6 +184,22 @@ unkeyed_join secondaries format_fields fields = record {
   keys = keyless;
   keeps_missing = false;
 }
+
+-- ---- access paths
+
+-- the path of a format over a member
+abbrev pub view_path : (member : ℕ) → View → PathSpec
+view_path member view = simple_path member view.rules (map (λ f. f.field) view.mapping) view.keys
+
+abbrev pub simple_view_path : LogicalSpec → Option PathSpec
+simple_view_path (Simple view) = Some (view_path 1 view)
+simple_view_path (Multi views) = None
+simple_view_path (Join view) = None
+
+-- of a simple file over member 1
+abbrev pub path_described : Result LogicalSpec DdsFault → Option PathSpec
+path_described (Ok spec) = simple_view_path spec
+path_described (Err fault) = None
 
 -- ---- sources
 

@@ -10,7 +10,7 @@ ghost use Rattle.dds_logical.specs.declared.views.LogicalSpec.TheVariants.{Simpl
 ghost use Rattle.dds_source.specs.declared.faults.DdsCause.TheVariants.{BadType};
 ghost use Rattle.dds_source.specs.declared.specifications.NameEntry.TheVariants.{Blank, Named, StarNone};
 ghost use Rattle.dds_source.specs.declared.specifications.SpecificationKind.TheVariants as kinds;
-ghost use Rattle.dds_logical.specs.Sources.{described, described_by_text, keyword, flag, word, number, quoted, special, blank, entries, line, characters, packed, whole, text, plain, shown, read_only, keyless, keyed, view, all_records, rules, statement, piece, field_itself, all_of, all_of_cust, headers, details};
+ghost use Rattle.dds_logical.specs.Sources.{path_described, described, described_by_text, keyword, flag, word, number, quoted, special, blank, entries, line, characters, packed, whole, text, plain, shown, read_only, keyless, keyed, view, all_records, rules, statement, piece, field_itself, all_of, all_of_cust, headers, details};
 
 /// A view has NAME alone, under another name.
 pub fn renamed_field()
@@ -218,6 +218,36 @@ pub fn headers_and_details()
         ≡ Ok (Multi (
         all_of (codes "DETAILS") (codes "DTL") details (keyed false Falling (Field (packed 3 0) 0 false false ∷ Field (packed 3 0) 2 false false ∷ [])) ∷
         all_of (codes "HEADERS") (codes "HDR") headers (keyed false Falling (Field (packed 3 0) 0 false false ∷ Absent ∷ [])) ∷ [])) }
+{}
+
+/// Two logical files with the same key under another field name have one path.
+pub fn shared_path()
+    //      A          R VIEWR                     PFILE(CUST)
+    //      A          K NO
+    ensures all_fields { path_described (described 2 [] (
+        line 1 kinds.Record (Named (codes "VIEWR")) blank (keyword 1 45 (codes "PFILE") (word (codes "CUST") ∷ []) ∷ []) ∷
+        line 2 kinds.Key (Named (codes "NO")) blank [] ∷
+        []))
+        ≡ Some (record {
+          formats = record { member = 1; rules = all_records; fields = field_itself (packed 3 0) 5 ∷ []; key = Field (packed 3 0) 0 false false ∷ [] } ∷ [];
+          unique = false;
+          ties = Rising;
+        }) }
+    //      A          R VIEWR                     PFILE(CUST)
+    //      A            NUMBER                    RENAME(NO)
+    //      A            NAME
+    //      A          K NUMBER
+    ensures renamed { path_described (described 4 [] (
+        line 1 kinds.Record (Named (codes "VIEWR")) blank (keyword 1 45 (codes "PFILE") (word (codes "CUST") ∷ []) ∷ []) ∷
+        line 2 kinds.Field (Named (codes "NUMBER")) blank (keyword 2 45 (codes "RENAME") (word (codes "NO") ∷ []) ∷ []) ∷
+        line 3 kinds.Field (Named (codes "NAME")) blank [] ∷
+        line 4 kinds.Key (Named (codes "NUMBER")) blank [] ∷
+        []))
+        ≡ Some (record {
+          formats = record { member = 1; rules = all_records; fields = field_itself (packed 3 0) 5 ∷ []; key = Field (packed 3 0) 0 false false ∷ [] } ∷ [];
+          unique = false;
+          ties = Rising;
+        }) }
 {}
 
 /// The same from the text of a source.
