@@ -313,6 +313,13 @@ pub fn base_files_and_fields()
         line 2 kinds.Field (Named (codes "NM")) blank (keyword 2 45 (codes "SST") (word (codes "NAM") ∷ number 1 ∷ []) ∷ []) ∷
         [])
         ≡ fault 2 45 causes.NoBaseField }
+    //      A          R VIEWR                     PFILE(CUST)
+    //      A            NM             3          CONCAT(NAME NAM)
+    ensures type_not_judged { described 2 [] (
+        line 1 kinds.Record (Named (codes "VIEWR")) blank (keyword 1 45 (codes "PFILE") (word (codes "CUST") ∷ []) ∷ []) ∷
+        line 2 kinds.Field (Named (codes "NM")) (entries (Some 3) None None None) (keyword 2 45 (codes "CONCAT") (word (codes "NAME") ∷ word (codes "NAM") ∷ []) ∷ []) ∷
+        [])
+        ≡ fault 2 45 causes.NoBaseField }
     //      A          R JOINR                     JFILE(CUST ORDERS)
     //      A          J                           JFLD(NO NO)
     //      A            ID
