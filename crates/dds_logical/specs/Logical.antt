@@ -1,8 +1,10 @@
 -- What logical file does a source describe, or what is the first thing wrong with it? (DDS for Physical and Logical Files,
 -- logical files; Database Programming, "Describing logical files".)
-use Rattle.std.specs.Prelude.{ℕ, Bool, false, List, [], ◌∷◌, ◌++◌, length, map, flat_map, Option, Some, None, Result, Ok, Err, if◌then◌else◌, codes}
+use Rattle.std.specs.Prelude.{ℕ, Bool, false, not, ◌&&◌, ◌==◌, List, [], ◌∷◌, ◌++◌, length, map, flat_map, Option, Some, None, Result, Ok, Err, if◌then◌else◌, codes}
 use Rattle.key_spec.specs.declared.KeyPart.{KeyPart}
 use Rattle.key_spec.specs.declared.KeySpec.{KeySpec}
+use Rattle.key_spec.specs.declared.Ties.{Ties}
+use Rattle.key_spec.specs.declared.Ties.TheVariants.{Rising}
 use Rattle.record_fmt.specs.declared.formats.Field.{Field}
 use Rattle.dds_source.specs.declared.faults.DdsFault.{DdsFault}
 use Rattle.dds_source.specs.declared.keywords.Keyword.{Keyword}
@@ -48,24 +50,32 @@ abbrev pub format_parts : (List ℕ → Option PhysicalSpec) → FormatLines →
 format_parts bases f = parts_of_lines (format_fields bases f) (key_lines f)
 
 -- how many positions the key of a file with these formats has
-abbrev pub most_parts : (List ℕ → Option PhysicalSpec) → List FormatLines → ℕ
-most_parts bases [] = 0
-most_parts bases (f ∷ fs) = later_of (length (key_lines f)) (most_parts bases fs)
+abbrev pub most_parts : List FormatLines → ℕ
+most_parts [] = 0
+most_parts (f ∷ fs) = later_of (length (key_lines f)) (most_parts fs)
 
-abbrev pub key_of : List Keyword → List KeyPart → KeySpec
-key_of ks ps = record { parts = ps; unique = is_there (codes "UNIQUE") ks; ties = ties_of ks }
+-- LIFO changes nothing in a file of one format without a key
+abbrev pub ties_with : (is_keyless : Bool) → List Keyword → Ties
+ties_with is_keyless ks = if is_keyless then Rising else ties_of ks
+
+abbrev pub is_keyless : (is_multi : Bool) → (positions : ℕ) → Bool
+is_keyless is_multi positions = not is_multi && (positions == 0)
+
+abbrev pub key_of : (is_multi : Bool) → (positions : ℕ) → List Keyword → List KeyPart → KeySpec
+key_of is_multi positions ks ps =
+    record { parts = padded positions ps; unique = is_there (codes "UNIQUE") ks; ties = ties_with (is_keyless is_multi positions) ks }
 
 abbrev pub find_field : (List ℕ → Option PhysicalSpec) → FormatLines → List ℕ → Option ViewField
 find_field bases f name = field_to_test (fields_named bases f) (base_of bases f) name
 
 -- what the lines of a format describe, in a file with these keywords and so many positions
-abbrev pub view_described : (List ℕ → Option PhysicalSpec) → List Keyword → ℕ → FormatLines → View
-view_described bases ks positions f = record {
+abbrev pub view_described : (List ℕ → Option PhysicalSpec) → List Keyword → (is_multi : Bool) → (positions : ℕ) → FormatLines → View
+view_described bases ks is_multi positions f = record {
   base = name_or_none (base_name f);
   format = record { name = name_or_none (name_of f.head.name); fields = format_fields bases f };
   mapping = mapping_of (fields_named bases f);
   rules = rules_said (find_field bases f) (selection_lines f);
-  keys = key_of ks (padded positions (format_parts bases f));
+  keys = key_of is_multi positions ks (format_parts bases f);
 }
 
 abbrev pub one_or_several : List View → LogicalSpec
@@ -93,7 +103,7 @@ join_described_by bases ks (f ∷ fs) = Join (join_described bases ks f)
 abbrev pub described_by : (List ℕ → Option PhysicalSpec) → Source → List FormatLines → LogicalSpec
 described_by bases source fs =
     if is_join_file fs then join_described_by bases source.file fs
-    else one_or_several (map (view_described bases source.file (most_parts bases fs)) fs)
+    else one_or_several (map (view_described bases source.file (is_multi_format fs) (most_parts fs)) fs)
 
 -- the logical file that a source describes
 unfoldable pub logical_specification : (List ℕ → Option PhysicalSpec) → Source → LogicalSpec

@@ -93,6 +93,13 @@ pub fn all_fields()
         [])
         ≡ Ok (Simple (all_of_cust all_records
         (keyed true Rising (Field (packed 3 0) 5 false false ∷ Field (characters 5) 0 true true ∷ [])))) }
+    // Without a key LIFO changes nothing.
+    //      A                                      LIFO
+    //      A          R VIEWR                     PFILE(CUST)
+    ensures no_key { described 2 (flag 1 45 (codes "LIFO") ∷ []) (
+        line 2 kinds.Record (Named (codes "VIEWR")) blank (keyword 2 45 (codes "PFILE") (word (codes "CUST") ∷ []) ∷ []) ∷
+        [])
+        ≡ Ok (Simple (all_of_cust all_records keyless)) }
     //      A                                      LIFO DYNSLT JDFTVAL
     //      A          R VIEWR                     PFILE(CUST)
     //      A          K NO                        SIGNED
@@ -248,6 +255,20 @@ pub fn shared_path()
           unique = false;
           ties = Rising;
         }) }
+{}
+
+/// Several formats without a key, the last record first.
+pub fn formats_without_a_key()
+    //      A                                      LIFO
+    //      A          R A                         PFILE(HEADERS)
+    //      A          R B                         PFILE(DETAILS)
+    ensures described { described 3 (flag 1 45 (codes "LIFO") ∷ []) (
+        line 2 kinds.Record (Named (codes "A")) blank (keyword 2 45 (codes "PFILE") (word (codes "HEADERS") ∷ []) ∷ []) ∷
+        line 3 kinds.Record (Named (codes "B")) blank (keyword 3 45 (codes "PFILE") (word (codes "DETAILS") ∷ []) ∷ []) ∷
+        [])
+        ≡ Ok (Multi (
+        all_of (codes "HEADERS") (codes "A") headers (keyed false Falling []) ∷
+        all_of (codes "DETAILS") (codes "B") details (keyed false Falling []) ∷ [])) }
 {}
 
 /// The same from the text of a source.
