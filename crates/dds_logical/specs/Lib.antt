@@ -1,0 +1,15 @@
+pub mod Bases
+pub mod FormatLines
+pub mod KeywordArguments
+pub mod KeywordRules
+pub mod LineOrder
+pub mod Origins
+pub mod Fields
+pub mod Keys
+pub mod Selections
+pub mod WholeFile
+pub mod JoinLines
+pub mod JoinFields
+pub mod JoinViews
+pub mod Logical
+pub mod Sources
