@@ -1,8 +1,8 @@
 -- What a run comes to: from a session that begins, and from words or an input that begin none.
 use Rattle.std.proofs.Common.{◌≡◌, ℕ, ◌≤◌, IsTrue, List, [], ◌++◌, length, map, ◌∙◌, ap, subst, arith}
 use Rattle.library_model.specs.declared.calls.Call.{Call}
-use Rattle.library_model.specs.State.{Memory, empty_library, begun, new_job}
-use Rattle.library_model.specs.History.{Standing}
+use Rattle.library_core.specs.State.{Memory, empty_library, begun, new_job}
+use Rattle.library_core.specs.History.{Standing}
 use Rattle.library_core.specs.Parts.{LibraryOver}
 use Rattle.library_core.specs.Stands.{Stands}
 use Rattle.input_scripts.specs.declared.Scripts.{Scripts}

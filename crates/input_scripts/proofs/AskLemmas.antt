@@ -9,8 +9,8 @@ use Rattle.library_model.specs.declared.requests.Request.{Request}
 use Rattle.library_model.specs.declared.requests.Request.TheVariants as request
 use Rattle.library_model.specs.declared.requests.ChainTo.{ChainTo}
 use Rattle.library_model.specs.declared.replies.Reply.{Reply}
-use Rattle.library_model.specs.Built.{is_built, locks_nothing}
-use Rattle.library_model.specs.Running.{is_end_job}
+use Rattle.built_requests.specs.Built.{is_built, locks_nothing}
+use Rattle.library_model.specs.Ending.{is_end_job}
 use Rattle.job_language.specs.Asks.{asks, asks_at, asks_form, asks_action, asks_statement, progress_of}
 use Rattle.job_language.specs.Requests.{request_of, chain_to_of, place_of, given_of}
 use Rattle.job_language.specs.Values.{both}

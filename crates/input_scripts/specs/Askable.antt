@@ -5,8 +5,8 @@ use Rattle.std.specs.Option.{is_none}
 use Rattle.field_types.specs.declared.values.Value.{Value}
 use Rattle.library_model.specs.declared.requests.Request.{Request}
 use Rattle.library_model.specs.declared.replies.Reply.{Reply}
-use Rattle.library_model.specs.Built.{is_built, locks_nothing}
-use Rattle.library_model.specs.Running.{is_end_job}
+use Rattle.built_requests.specs.Built.{is_built, locks_nothing}
+use Rattle.library_model.specs.Ending.{is_end_job}
 use Rattle.job_language.specs.declared.forms.RequestForm.{RequestForm}
 use Rattle.job_language.specs.declared.forms.RequestForm.TheVariants.{Fixed, DeleteReceiver, DisplayJournal, ApplyChanges, RemoveChanges, SetLowerLimit, SetGreaterThan, ReadEqual, ReadPriorEqual, Chain, Write, Update}
 use Rattle.job_language.specs.declared.statements.Action.{Action}

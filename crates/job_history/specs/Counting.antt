@@ -13,7 +13,7 @@ use Rattle.library_model.specs.declared.requests.Limit.{Limit}
 use Rattle.library_model.specs.declared.requests.Limit.TheVariants as limit
 use Rattle.library_model.specs.declared.requests.ChainTo.{ChainTo}
 use Rattle.library_model.specs.declared.requests.ChainTo.TheVariants.{Key, RecordNumber}
-use Rattle.library_model.specs.Running.{is_end_job}
+use Rattle.library_model.specs.Ending.{is_end_job}
 use Rattle.library_model.specs.declared.replies.Reply.{Reply}
 use Rattle.library_model.specs.declared.replies.Reply.TheVariants as reply
 

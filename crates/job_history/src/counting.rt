@@ -2,7 +2,7 @@
 ghost use Rattle.std.specs.Prelude.{◌≡◌, IsTrue, min, ◌+◌};
 ghost use Rattle.std.specs.List.{sum_by, All};
 ghost use Rattle.job_history.specs.Counting.{value_bytes, given_bytes, values_bytes, limit_bytes, request_bytes, entries_bytes, reply_bytes, call_bytes, capped};
-ghost use Rattle.library_model.specs.Running.{is_end_job};
+ghost use Rattle.library_model.specs.Ending.{is_end_job};
 ghost use Rattle.entry_codec.specs.Spelling.{HasSpelling};
 
 use entry_codec::{Entry, entry_length};

@@ -2,9 +2,9 @@
 use Rattle.std.proofs.Common.{◌≡◌, ◌≤◌, ℕ, ◌+◌, false, IsTrue, List, [], ◌∷◌, ◌++◌, refl, sym, ◌∙◌, ap, subst, arith, append_assoc, append-nil}
 use Rattle.std.specs.List.{AllByRecursion}
 use Rattle.library_model.specs.declared.calls.Call.{Call}
-use Rattle.library_model.specs.State.{Memory, State, job_at}
-use Rattle.library_model.specs.Running.{is_running}
-use Rattle.library_model.specs.History.{Outcome, Standing, Failed, Runs}
+use Rattle.library_core.specs.State.{Memory, State, job_at}
+use Rattle.library_core.specs.Running.{is_running}
+use Rattle.library_core.specs.History.{Outcome, Standing, Failed, Runs}
 use Rattle.library_core.specs.Stands.{Stands, IsAt, Goes}
 use Rattle.input_scripts.specs.declared.Scripts.{Scripts}
 use Rattle.job_runner.specs.Asked.{asked, AreAsked}

@@ -4,7 +4,7 @@ use Rattle.field_types.specs.declared.values.Value.{Value}
 use Rattle.library_model.specs.declared.replies.Reply.{Reply}
 use Rattle.library_model.specs.declared.requests.Request.{Request}
 use Rattle.library_model.specs.declared.requests.Request.TheVariants.{EndJob}
-use Rattle.library_model.specs.Running.{is_end_job}
+use Rattle.library_model.specs.Ending.{is_end_job}
 use Rattle.job_language.specs.declared.statements.Script.{Script}
 use Rattle.job_language.specs.declared.statements.Statement.{Statement}
 use Rattle.job_language.specs.declared.steps.Step.{Step}

@@ -7,7 +7,7 @@ use Rattle.library_model.specs.declared.requests.Request.{Request}
 use Rattle.library_model.specs.declared.requests.EndReason.{EndReason}
 use Rattle.library_model.specs.declared.requests.EndReason.TheVariants.{Normal, Escape, Expression, Statements, History}
 use Rattle.library_model.specs.declared.replies.Reply.{Reply}
-use Rattle.library_model.specs.Running.{end_asked, is_end_job}
+use Rattle.library_model.specs.Ending.{end_asked, is_end_job}
 
 -- the calls of one job, in order
 abbrev pub calls_of : ℕ → List Call → List Call

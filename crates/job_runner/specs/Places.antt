@@ -5,9 +5,10 @@ use Rattle.library_model.specs.declared.calls.Call.{Call}
 use Rattle.library_model.specs.declared.replies.Reply.{Reply}
 use Rattle.library_model.specs.declared.requests.Request.{Request}
 use Rattle.library_core.specs.Parts.{LibraryOver}
-use Rattle.library_model.specs.State.{Memory, JobState, job_at, new_job}
-use Rattle.library_model.specs.Running.{is_running, is_end_job}
-use Rattle.library_model.specs.Joint.{IsJoint}
+use Rattle.library_core.specs.State.{Memory, JobState, job_at, new_job}
+use Rattle.library_model.specs.Ending.{is_end_job}
+use Rattle.library_core.specs.Running.{is_running}
+use Rattle.library_core.specs.Joint.{IsJoint}
 use Rattle.library_model.specs.declared.limits.TheConstants.{MOST_JOBS}
 use Rattle.input_scripts.specs.declared.Scripts.{Scripts}
 use Rattle.input_scripts.specs.Askable.{is_askable_script}

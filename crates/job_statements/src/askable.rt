@@ -1,6 +1,6 @@
 //! Whether a statement may be run: the library answers its request, if it makes one. By `specs/Askable.antt` of input_scripts.
 ghost use Rattle.std.specs.Prelude.{◌≡◌};
-ghost use Rattle.library_model.specs.Built.{is_built, locks_nothing, is_file_path};
+ghost use Rattle.built_requests.specs.Built.{is_built, locks_nothing, is_file_path};
 ghost use Rattle.input_scripts.specs.Askable.{is_askable_form};
 ghost use Rattle.job_statements.specs.Reading.{is_runnable};
 

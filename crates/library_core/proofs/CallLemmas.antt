@@ -7,13 +7,14 @@ use Rattle.library_model.specs.declared.replies.Reply.TheVariants.{NoMemory}
 use Rattle.library_model.specs.declared.sources.NamedSource.{NamedSource}
 use Rattle.library_core.specs.declared.stop.Stop.{Stop}
 use Rattle.library_core.specs.declared.stop.Stop.TheVariants as stop
-use Rattle.library_model.specs.State.{Memory, State, JobState, JournalState, memory_of, with_journal, job_at, new_job, last_of_journal}
-use Rattle.library_model.specs.Change.{Change, unjournaled, changed, deposited}
-use Rattle.library_model.specs.Running.{is_running, is_end_job, runs_after}
+use Rattle.library_core.specs.State.{Memory, State, JobState, JournalState, memory_of, with_journal, job_at, new_job, last_of_journal}
+use Rattle.library_core.specs.Change.{Change, unjournaled, changed, deposited}
+use Rattle.library_model.specs.Ending.{is_end_job}
+use Rattle.library_core.specs.Running.{is_running, runs_after}
 use Rattle.library_model.specs.NeedsMemory.{needs_memory}
-use Rattle.library_model.specs.Joint.{IsJoint}
-use Rattle.library_model.specs.Step.{change, step, MayAnswer}
-use Rattle.library_model.specs.History.{Outcome, Standing, Failed, Comes}
+use Rattle.library_core.specs.Joint.{IsJoint}
+use Rattle.library_core.specs.Step.{change, step, MayAnswer}
+use Rattle.library_core.specs.History.{Outcome, Standing, Failed, Comes}
 use Rattle.library_core.specs.Parts.{LibraryOver}
 use Rattle.library_core.specs.Answers.{Answers, reply_of}
 use Rattle.library_core.specs.Stands.{Stands, IsAt, Goes, IsReady}

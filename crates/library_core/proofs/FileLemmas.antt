@@ -5,8 +5,8 @@ use Rattle.std.specs.Map.{keys_of, remove_entry}
 use Rattle.std.specs.Cmp.Lexicographic.{pointwise, same_text}
 use Rattle.std.proofs.lemmas.Cmp.{nat_list_eq_equiv}
 use Rattle.library_model.specs.Named.{Named, named, same_name}
-use Rattle.library_model.specs.State.{FileState}
-use Rattle.library_model.specs.DeleteFile.{without_file}
+use Rattle.library_core.specs.State.{FileState}
+use Rattle.library_core.specs.DeleteFile.{without_file}
 
 pub same_name-equal : (a b : List ℕ) → same_name a b ≡ true → a ≡ b
 same_name-equal a b same = same_text a b (sym same)

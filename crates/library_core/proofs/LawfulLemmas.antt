@@ -11,11 +11,11 @@ use Rattle.record_fmt.specs.declared.formats.Field.{Field}
 use Rattle.record_fmt.specs.Layout.{record_length}
 use Rattle.record_fmt.specs.Records.{record_held}
 use Rattle.library_model.specs.Named.{Named, named, same_name}
-use Rattle.library_model.specs.State.{Memory, FileState, OpenState, JobState, file_named, fields_of, open_named, job_at, opens_of, job_changed, new_job}
-use Rattle.library_model.specs.OpenFile.{with_open}
-use Rattle.library_model.specs.ChainRecord.{record_in}
-use Rattle.library_model.specs.CreatePhysicalFile.{with_file}
-use Rattle.library_model.specs.DeleteFile.{has_number, has_open_over, first_user, without_file, without_members}
+use Rattle.library_core.specs.State.{Memory, FileState, OpenState, JobState, file_named, fields_of, open_named, job_at, opens_of, job_changed, new_job}
+use Rattle.library_core.specs.OpenFile.{with_open}
+use Rattle.library_core.specs.ChainRecord.{record_in}
+use Rattle.library_core.specs.CreatePhysicalFile.{with_file}
+use Rattle.library_core.specs.DeleteFile.{has_number, has_open_over, first_user, without_file, without_members}
 use Rattle.library_model.specs.declared.requests.DeleteFile.{DeleteFile}
 use Rattle.library_core.specs.Parts.{Held}
 use Rattle.library_core.specs.Plans.{IsUnused}

@@ -1,3 +1,4 @@
+pub mod JobLemmas
 pub mod MemberLemmas
 pub mod FileLemmas
 pub mod LawfulLemmas

@@ -14,8 +14,8 @@ use Rattle.library_model.specs.declared.limits.TheConstants.{MOST_FILES, LAST_ME
 use Rattle.library_model.specs.declared.requests.CreatePhysicalFile.{CreatePhysicalFile}
 use Rattle.library_model.specs.declared.sources.NamedSource.{NamedSource}
 use Rattle.library_model.specs.SourceList.{text_of}
-use Rattle.library_model.specs.State.{Memory, file_named}
-use Rattle.library_model.specs.CreatePhysicalFile.{NewFile, formats_of, create_plan}
+use Rattle.library_core.specs.State.{Memory, file_named}
+use Rattle.library_core.specs.CreatePhysicalFile.{NewFile, formats_of, create_plan}
 use Rattle.library_core.specs.declared.stop.Stop.{Stop}
 use Rattle.library_core.specs.Answers.{Gives}
 use Rattle.library_core.specs.Described.{described_file, unread, undescribed}

@@ -13,17 +13,17 @@ use Rattle.library_model.specs.declared.requests.OpenFile.{OpenFile}
 use Rattle.library_model.specs.declared.requests.WriteRecord.{WriteRecord}
 use Rattle.library_model.specs.declared.requests.ChainRecord.{ChainRecord}
 use Rattle.library_model.specs.declared.requests.EndJob.{EndJob}
-use Rattle.library_model.specs.State.{Memory, FileState, OpenState, JobState, job_at, job_changed, new_job}
-use Rattle.library_model.specs.Change.{Change, does}
-use Rattle.library_model.specs.OpenFile.{with_open, new_open, open_plan, open_change}
-use Rattle.library_model.specs.EndJob.{ended_job, end_change}
-use Rattle.library_model.specs.CreatePhysicalFile.{NewFile, create_plan, create_change}
-use Rattle.library_model.specs.DeleteFile.{delete_plan, delete_change}
-use Rattle.library_model.specs.WriteRecord.{NewRecord, write_plan, write_change}
-use Rattle.library_model.specs.ChainRecord.{chain_plan, chain_change}
-use Rattle.library_model.specs.Running.{is_running, runs_after}
-use Rattle.library_model.specs.Joint.{IsIdle, IsJoint}
-use Rattle.library_model.specs.Step.{change}
+use Rattle.library_core.specs.State.{Memory, FileState, OpenState, JobState, job_at, job_changed, new_job}
+use Rattle.library_core.specs.Change.{Change, does}
+use Rattle.library_core.specs.OpenFile.{with_open, new_open, open_plan, open_change}
+use Rattle.library_core.specs.EndJob.{ended_job, end_change}
+use Rattle.library_core.specs.CreatePhysicalFile.{NewFile, create_plan, create_change}
+use Rattle.library_core.specs.DeleteFile.{delete_plan, delete_change}
+use Rattle.library_core.specs.WriteRecord.{NewRecord, write_plan, write_change}
+use Rattle.library_core.specs.ChainRecord.{chain_plan, chain_change}
+use Rattle.library_core.specs.Running.{is_running, runs_after}
+use Rattle.library_core.specs.Joint.{IsIdle, IsJoint}
+use Rattle.library_core.specs.Step.{change}
 use Rattle.library_core.proofs.LawfulLemmas.{AllByRecursion-job_changed, AllByRecursion-append}
 
 -- a change that leaves whether a job runs leaves it at each place

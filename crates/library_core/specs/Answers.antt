@@ -3,8 +3,8 @@ use Rattle.std.specs.Prelude.{◌≡◌, Bool, true, Result, Ok, Err}
 use Rattle.std.specs.Borrow.{Bor}
 use Rattle.library_model.specs.declared.replies.Reply.{Reply}
 use Rattle.library_model.specs.declared.replies.Reply.TheVariants.{NoMemory as NoMemoryReply}
-use Rattle.library_model.specs.State.{Memory}
-use Rattle.library_model.specs.Change.{Change, unjournaled}
+use Rattle.library_core.specs.State.{Memory}
+use Rattle.library_core.specs.Change.{Change, unjournaled}
 use Rattle.library_core.specs.declared.stop.Stop.{Stop}
 use Rattle.library_core.specs.declared.stop.Stop.TheVariants.{NoMemory, Refused}
 

@@ -7,8 +7,8 @@ use Rattle.dds_physical.specs.declared.physical_files.PhysicalError.{PhysicalErr
 use Rattle.dds_physical.specs.declared.physical_files.PhysicalError.TheVariants as physical_error
 use Rattle.library_model.specs.declared.replies.Reply.{Reply}
 use Rattle.library_model.specs.declared.replies.Reply.TheVariants.{DdsFault}
-use Rattle.library_model.specs.CreatePhysicalFile.{NewFile, described, spec_or_refused}
-use Rattle.library_model.specs.Refusals.{◌>>=◌}
+use Rattle.library_core.specs.CreatePhysicalFile.{NewFile, described, spec_or_refused}
+use Rattle.library_core.specs.Refusals.{◌>>=◌}
 use Rattle.library_core.specs.declared.stop.Stop.{Stop}
 use Rattle.library_core.specs.declared.stop.Stop.TheVariants.{NoMemory, Refused}
 

@@ -10,8 +10,8 @@ use Rattle.record_fmt.specs.declared.formats.Field.{Field}
 use Rattle.record_fmt.specs.Layout.{record_length}
 use Rattle.record_fmt.specs.Records.{record_held}
 use Rattle.library_model.specs.Named.{Named, named}
-use Rattle.library_model.specs.State.{Memory, FileState, OpenState, JobState, file_named, fields_of}
-use Rattle.library_model.specs.DeleteFile.{has_number}
+use Rattle.library_core.specs.State.{Memory, FileState, OpenState, JobState, file_named, fields_of}
+use Rattle.library_core.specs.DeleteFile.{has_number}
 
 -- where a record stands in the slot, a value stands in each of these fields of it
 abbrev pub HoldsValues : List Field → Slot → Type 0

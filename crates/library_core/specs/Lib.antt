@@ -1,3 +1,16 @@
+pub mod State
+pub mod Running
+pub mod Change
+pub mod Refusals
+pub mod CreatePhysicalFile
+pub mod DeleteFile
+pub mod OpenFile
+pub mod WriteRecord
+pub mod ChainRecord
+pub mod EndJob
+pub mod Step
+pub mod History
+pub mod Joint
 pub mod Parts
 pub mod Answers
 pub mod Described

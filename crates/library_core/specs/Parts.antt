@@ -2,7 +2,7 @@
 use Rattle.std.specs.Prelude.{ℕ, Bool, List}
 use Rattle.member_slots.specs.Members.{Numbered}
 use Rattle.library_model.specs.Named.{Named}
-use Rattle.library_model.specs.State.{Memory, FileState}
+use Rattle.library_core.specs.State.{Memory, FileState}
 
 -- the files in order of creation, and for how many more there is room
 pub record Files : Type 0 where

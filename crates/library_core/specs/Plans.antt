@@ -8,10 +8,10 @@ use Rattle.library_model.specs.declared.limits.TheConstants.{MOST_OPENS, LAST_ME
 use Rattle.library_model.specs.declared.requests.CreatePhysicalFile.{CreatePhysicalFile}
 use Rattle.library_model.specs.declared.requests.DeleteFile.{DeleteFile}
 use Rattle.library_model.specs.declared.requests.OpenFile.{OpenFile}
-use Rattle.library_model.specs.State.{Memory, FileState, file_named, fields_of, open_named, job_at, opens_of}
-use Rattle.library_model.specs.DeleteFile.{first_user}
-use Rattle.library_model.specs.OpenFile.{new_open}
-use Rattle.library_model.specs.WriteRecord.{NewRecord}
+use Rattle.library_core.specs.State.{Memory, FileState, file_named, fields_of, open_named, job_at, opens_of}
+use Rattle.library_core.specs.DeleteFile.{first_user}
+use Rattle.library_core.specs.OpenFile.{new_open}
+use Rattle.library_core.specs.WriteRecord.{NewRecord}
 use Rattle.library_core.specs.Parts.{Room}
 use Rattle.library_core.specs.Lawful.{Owns, OpenHolds}
 

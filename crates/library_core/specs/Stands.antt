@@ -2,10 +2,10 @@
 use Rattle.std.specs.Prelude.{◌≡◌, ℕ, true, false, IsTrue, List}
 use Rattle.library_model.specs.declared.calls.Call.{Call}
 use Rattle.library_model.specs.declared.sources.NamedSource.{NamedSource}
-use Rattle.library_model.specs.State.{State, memory_of, job_at}
-use Rattle.library_model.specs.Running.{is_running}
-use Rattle.library_model.specs.Joint.{IsJoint}
-use Rattle.library_model.specs.History.{Outcome, Standing, Failed, Comes}
+use Rattle.library_core.specs.State.{State, memory_of, job_at}
+use Rattle.library_core.specs.Running.{is_running}
+use Rattle.library_core.specs.Joint.{IsJoint}
+use Rattle.library_core.specs.History.{Outcome, Standing, Failed, Comes}
 use Rattle.library_core.specs.Parts.{LibraryOver}
 
 -- the library has the state

@@ -2,8 +2,8 @@
 ghost use Rattle.std.specs.Prelude.{◌≡◌, ◌-◌, ◌≤◌, None, Some, [], ◌∷◌, ◌++◌, length, OnOk, OnErr, IfOk, IsSome, option_map, option_copied};
 ghost use Rattle.record_fmt.specs.Layout.{IsLaidOut};
 ghost use Rattle.library_model.specs.Named.{named};
-ghost use Rattle.library_model.specs.State.{fields_of};
-ghost use Rattle.library_model.specs.DeleteFile.{file_refers, first_dependent, has_number, without_file};
+ghost use Rattle.library_core.specs.State.{fields_of};
+ghost use Rattle.library_core.specs.DeleteFile.{file_refers, first_dependent, has_number, without_file};
 
 use crate::described::Described;
 use dds_physical::Refs;
@@ -73,7 +73,7 @@ pub struct File {
 }
 
 impl Model for File {
-    ghost use Rattle.library_model.specs.State.{FileState};
+    ghost use Rattle.library_core.specs.State.{FileState};
 
     ghost Value = { FileState };
 

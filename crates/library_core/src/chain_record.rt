@@ -2,9 +2,9 @@
 ghost use Rattle.std.specs.Prelude.{◌≡◌, true, is_some, length, IfOk, IsTrue};
 ghost use Rattle.record_fmt.specs.Layout.{record_length};
 ghost use Rattle.record_fmt.specs.Records.{record_held};
-ghost use Rattle.library_model.specs.State.{job_at};
-ghost use Rattle.library_model.specs.Running.{is_running};
-ghost use Rattle.library_model.specs.ChainRecord.{chain_plan, chain_record, values_shown};
+ghost use Rattle.library_core.specs.State.{job_at};
+ghost use Rattle.library_core.specs.Running.{is_running};
+ghost use Rattle.library_core.specs.ChainRecord.{chain_plan, chain_record, values_shown};
 ghost use Rattle.library_core.specs.Answers.{Gives, Answers};
 
 use crate::contents::Contents;
@@ -26,7 +26,7 @@ impl Contents {
         Ok(Reply::Record(read))
     }
 
-    #[tactic(auto, unfolding(library_model::specs::ChainRecord::chain_plan))]
+    #[tactic(auto, unfolding(library_core::specs::ChainRecord::chain_plan))]
     fn plan_chain(&self, job: u32, args: &ChainRecord) -> Result<RecordRead, Stop>
         requires { IsTrue (is_running (job_at job self.now.memory.jobs)) }
         ensures { Gives result (chain_plan self.now.memory job args.now) }

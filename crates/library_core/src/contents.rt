@@ -1,9 +1,9 @@
 //! What the library has in memory: the files, the members and the jobs. Each request stands in a file of its own, in phases.
 ghost use Rattle.std.specs.Prelude.{◌≡◌, ◌+◌, ◌<◌, ◌≤◌, [], ◌∷◌, ◌++◌, length, IsTrue, IfOk, IfSome, OnOk, OnErr, option_map};
-ghost use Rattle.library_model.specs.State.{empty_library, memory_of, job_at, new_job, file_named, open_named};
-ghost use Rattle.library_model.specs.Running.{is_running};
-ghost use Rattle.library_model.specs.ChainRecord.{record_in};
-ghost use Rattle.library_model.specs.Refusals.{named_or_refused};
+ghost use Rattle.library_core.specs.State.{empty_library, memory_of, job_at, new_job, file_named, open_named};
+ghost use Rattle.library_core.specs.Running.{is_running};
+ghost use Rattle.library_core.specs.ChainRecord.{record_in};
+ghost use Rattle.library_core.specs.Refusals.{named_or_refused};
 ghost use Rattle.member_slots.specs.Member.{is_full, slot_at};
 ghost use Rattle.member_slots.specs.Members.{member_of};
 ghost use Rattle.library_core.specs.Answers.{Gives, Shows};

@@ -1,8 +1,8 @@
 //! CRTPF.
 ghost use Rattle.std.specs.Prelude.{◌≡◌, ◌∷◌, [], Ok, IfOk, OnOk};
 ghost use Rattle.library_model.specs.declared.replies.Reply.TheVariants.{Done};
-ghost use Rattle.library_model.specs.Change.{unjournaled};
-ghost use Rattle.library_model.specs.CreatePhysicalFile.{create_plan, create_physical_file, new_file, with_file};
+ghost use Rattle.library_core.specs.Change.{unjournaled};
+ghost use Rattle.library_core.specs.CreatePhysicalFile.{create_plan, create_physical_file, new_file, with_file};
 ghost use Rattle.library_core.specs.Answers.{Gives, Answers};
 ghost use Rattle.library_core.specs.Plans.{IsNewFile, HasFileRoom};
 
@@ -31,7 +31,7 @@ impl Contents {
         Ok(self.apply_create(args, file))
     }
 
-    #[tactic(auto, unfolding(library_model::specs::CreatePhysicalFile::create_plan))]
+    #[tactic(auto, unfolding(library_core::specs::CreatePhysicalFile::create_plan))]
     fn plan_create(&self, sources: &Sources, args: &CreatePhysicalFile) -> Result<Described, Stop>
         ensures plan { Gives result (create_plan sources.now self.now.memory args.now) }
         ensures new { IfOk result (λ plan. IsNewFile self.now.memory args.now) }

@@ -1,8 +1,8 @@
 //! DLTF.
 ghost use Rattle.std.specs.Prelude.{◌≡◌, Some, IfOk};
-ghost use Rattle.library_model.specs.State.{FileState, file_named};
-ghost use Rattle.library_model.specs.Change.{unjournaled};
-ghost use Rattle.library_model.specs.DeleteFile.{delete_plan, delete_change, delete_file, without_members};
+ghost use Rattle.library_core.specs.State.{FileState, file_named};
+ghost use Rattle.library_core.specs.Change.{unjournaled};
+ghost use Rattle.library_core.specs.DeleteFile.{delete_plan, delete_change, delete_file, without_members};
 ghost use Rattle.library_core.specs.Answers.{Shows, Answers};
 ghost use Rattle.library_core.specs.Plans.{IsUnused};
 
@@ -22,7 +22,7 @@ impl Contents {
         Ok(self.apply_delete(args))
     }
 
-    #[tactic(auto, unfolding(library_model::specs::DeleteFile::delete_plan))]
+    #[tactic(auto, unfolding(library_core::specs::DeleteFile::delete_plan))]
     fn plan_delete(&self, args: &DeleteFile) -> Result<&File, Stop>
         ensures plan { Shows result (delete_plan self.now.memory args.now) }
         ensures unused { IfOk result (λ file. IsUnused self.now.memory args.now file.now) }

@@ -2,7 +2,7 @@
 ghost use Rattle.std.specs.Prelude.{◌≡◌};
 ghost use Rattle.dds_physical.specs.References.{refers_to};
 ghost use Rattle.record_fmt.specs.Layout.{IsLaidOut};
-ghost use Rattle.library_model.specs.DeleteFile.{source_refers};
+ghost use Rattle.library_core.specs.DeleteFile.{source_refers};
 ghost use Rattle.dds_source.specs.Reading.{source_of};
 ghost use Rattle.library_core.specs.Answers.{Gives};
 ghost use Rattle.library_core.specs.Described.{described_file};
@@ -29,7 +29,7 @@ pub struct Described {
 impl Model for Described {
     ghost use Rattle.std.specs.Prelude.{◌≡◌, Ok};
     ghost use Rattle.dds_source.specs.Reading.{source_of};
-    ghost use Rattle.library_model.specs.CreatePhysicalFile.{NewFile};
+    ghost use Rattle.library_core.specs.CreatePhysicalFile.{NewFile};
 
     ghost Value = { NewFile };
 

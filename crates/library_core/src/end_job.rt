@@ -1,9 +1,9 @@
 //! ENDJOB.
 ghost use Rattle.std.specs.Prelude.{◌≡◌, IsTrue};
-ghost use Rattle.library_model.specs.State.{job_at};
-ghost use Rattle.library_model.specs.Running.{is_running};
-ghost use Rattle.library_model.specs.Change.{unjournaled};
-ghost use Rattle.library_model.specs.EndJob.{end_change};
+ghost use Rattle.library_core.specs.State.{job_at};
+ghost use Rattle.library_core.specs.Running.{is_running};
+ghost use Rattle.library_core.specs.Change.{unjournaled};
+ghost use Rattle.library_core.specs.EndJob.{end_change};
 
 use crate::contents::Contents;
 use library_model::replies::Reply;

@@ -3,11 +3,11 @@ ghost use Rattle.std.specs.Prelude.{◌≡◌, ◌+◌, ◌-◌, ◌<◌, ◌≤
 ghost use Rattle.std.specs.List.{list_any};
 ghost use Rattle.library_model.specs.declared.limits.TheConstants.{MOST_OPENS};
 ghost use Rattle.library_model.specs.Named.{named};
-ghost use Rattle.library_model.specs.State.{job_at, opens_of, new_job, job_changed};
-ghost use Rattle.library_model.specs.EndJob.{ended_job};
-ghost use Rattle.library_model.specs.Running.{is_running};
-ghost use Rattle.library_model.specs.OpenFile.{with_open};
-ghost use Rattle.library_model.specs.DeleteFile.{has_number, has_open_over, first_user};
+ghost use Rattle.library_core.specs.State.{job_at, opens_of, new_job, job_changed};
+ghost use Rattle.library_core.specs.EndJob.{ended_job};
+ghost use Rattle.library_core.specs.Running.{is_running};
+ghost use Rattle.library_core.specs.OpenFile.{with_open};
+ghost use Rattle.library_core.specs.DeleteFile.{has_number, has_open_over, first_user};
 
 use crate::catalogue::MemberNames;
 use field_types::names::Name;
@@ -26,7 +26,7 @@ pub struct Open {
 }
 
 impl Model for Open {
-    ghost use Rattle.library_model.specs.State.{OpenState};
+    ghost use Rattle.library_core.specs.State.{OpenState};
 
     ghost Value = { OpenState };
 
@@ -80,7 +80,7 @@ impl Model for Opens {
     ghost use Rattle.indexmap.specs.IndexMap.{spare};
     ghost use Rattle.library_model.specs.declared.limits.TheConstants.{MOST_OPENS};
     ghost use Rattle.library_model.specs.Named.{Named};
-    ghost use Rattle.library_model.specs.State.{OpenState};
+    ghost use Rattle.library_core.specs.State.{OpenState};
 
     ghost Value = { Named OpenState };
 
@@ -152,7 +152,7 @@ pub struct Job {
 }
 
 impl Model for Job {
-    ghost use Rattle.library_model.specs.State.{JobState};
+    ghost use Rattle.library_core.specs.State.{JobState};
 
     ghost Value = { JobState };
 
@@ -211,7 +211,7 @@ pub struct Jobs {
 
 impl Model for Jobs {
     ghost use Rattle.std.specs.Prelude.{List, ◌≤◌, length};
-    ghost use Rattle.library_model.specs.State.{JobState};
+    ghost use Rattle.library_core.specs.State.{JobState};
 
     ghost Value = { List JobState };
 

@@ -1,11 +1,11 @@
 //! The library over a store, and the one call on it.
 ghost use Rattle.std.specs.Prelude.{◌≡◌, ℕ, false, ◌+◌, ◌<◌, ◌∷◌, [], ◌++◌, length, IsTrue, IfOk, OnOk, OnErr, IsErrOf};
-ghost use Rattle.library_model.specs.State.{State, empty_library, memory_of, job_at, new_job};
-ghost use Rattle.library_model.specs.Built.{is_built};
+ghost use Rattle.library_core.specs.State.{State, empty_library, memory_of, job_at, new_job};
+ghost use Rattle.built_requests.specs.Built.{is_built};
 ghost use Rattle.library_model.specs.NeedsMemory.{needs_memory};
-ghost use Rattle.library_model.specs.Running.{is_running, runs_after};
-ghost use Rattle.library_model.specs.Joint.{IsJoint};
-ghost use Rattle.library_model.specs.Step.{change};
+ghost use Rattle.library_core.specs.Running.{is_running, runs_after};
+ghost use Rattle.library_core.specs.Joint.{IsJoint};
+ghost use Rattle.library_core.specs.Step.{change};
 ghost use Rattle.library_core.specs.Answers.{Answers, reply_of};
 ghost use Rattle.library_core.specs.Stands.{Stands, IsReady, Goes};
 ghost use Rattle.library_core.specs.declared.stop.Stop.TheVariants.{NoMemory};
@@ -123,7 +123,7 @@ fn reply_of(done: Result<Reply, Stop>) -> Reply
 
 impl Contents {
     /// Answers one request of a job, at a time.
-    #[tactic(auto, unfolding(library_model::specs::Step::change))]
+    #[tactic(auto, unfolding(library_core::specs::Step::change))]
     fn perform(
         &mut self,
         job: u32,

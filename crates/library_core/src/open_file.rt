@@ -1,9 +1,9 @@
 //! OPNDBF.
 ghost use Rattle.std.specs.Prelude.{◌≡◌, Ok, IfOk, IsTrue};
-ghost use Rattle.library_model.specs.State.{job_at};
-ghost use Rattle.library_model.specs.Running.{is_running};
-ghost use Rattle.library_model.specs.Change.{unjournaled};
-ghost use Rattle.library_model.specs.OpenFile.{open_plan, open_change, open_file};
+ghost use Rattle.library_core.specs.State.{job_at};
+ghost use Rattle.library_core.specs.Running.{is_running};
+ghost use Rattle.library_core.specs.Change.{unjournaled};
+ghost use Rattle.library_core.specs.OpenFile.{open_plan, open_change, open_file};
 ghost use Rattle.library_core.specs.Answers.{Gives, Answers};
 ghost use Rattle.library_core.specs.Plans.{IsNewOpen};
 
@@ -24,7 +24,7 @@ impl Contents {
         Ok(self.apply_open(job, args, member))
     }
 
-    #[tactic(auto, unfolding(library_model::specs::OpenFile::open_plan))]
+    #[tactic(auto, unfolding(library_core::specs::OpenFile::open_plan))]
     fn plan_open(&self, job: u32, args: &OpenFile) -> Result<u32, Stop>
         requires { IsTrue (is_running (job_at job self.now.memory.jobs)) }
         ensures plan { Gives result (open_plan self.now.memory job args.now) }

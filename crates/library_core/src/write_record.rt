@@ -1,10 +1,10 @@
 //! WRITE.
 ghost use Rattle.std.specs.Prelude.{◌≡◌, ◌≤◌, true, None, is_some, length, IfOk, OnOk, IsTrue, IsSome};
 ghost use Rattle.member_slots.specs.Members.{member_at};
-ghost use Rattle.library_model.specs.State.{job_at};
-ghost use Rattle.library_model.specs.Running.{is_running};
-ghost use Rattle.library_model.specs.Change.{unjournaled};
-ghost use Rattle.library_model.specs.WriteRecord.{write_plan, write_change, write_record, format_or_refused, packed};
+ghost use Rattle.library_core.specs.State.{job_at};
+ghost use Rattle.library_core.specs.Running.{is_running};
+ghost use Rattle.library_core.specs.Change.{unjournaled};
+ghost use Rattle.library_core.specs.WriteRecord.{write_plan, write_change, write_record, format_or_refused, packed};
 ghost use Rattle.record_fmt.specs.Layout.{record_length};
 ghost use Rattle.record_fmt.specs.Records.{record_given, record_held};
 ghost use Rattle.library_core.specs.Answers.{Gives, Allows, Answers};
@@ -30,7 +30,7 @@ struct NewRecord {
 }
 
 impl Model for NewRecord {
-    ghost use Rattle.library_model.specs.WriteRecord.{NewRecord as ToAdd};
+    ghost use Rattle.library_core.specs.WriteRecord.{NewRecord as ToAdd};
 
     ghost Value = { ToAdd };
 
@@ -48,7 +48,7 @@ impl Contents {
         Ok(self.apply_write(plan))
     }
 
-    #[tactic(auto, unfolding(library_model::specs::WriteRecord::write_plan))]
+    #[tactic(auto, unfolding(library_core::specs::WriteRecord::write_plan))]
     fn plan_write(&self, job: u32, args: &WriteRecord) -> Result<NewRecord, Stop>
         requires { IsTrue (is_running (job_at job self.now.memory.jobs)) }
         ensures plan { Gives result (write_plan self.now.memory job args.now) }

@@ -1,5 +1,4 @@
-//! What a request to the library means: the requests and replies, the state, one step, and which histories are
-//! legal. Begin with `requests.rt` and `specs/Step.antt`.
+//! What can be asked of a library, and what it replies. Begin with `requests.rt`.
 #![tactic(auto)]
 
 pub mod calls;

@@ -1,6 +1,6 @@
 //! The requests of a job, one struct of arguments each, with every default filled in.
 ghost use Rattle.std.specs.Prelude.{◌≡◌, IfOk, option_copied};
-ghost use Rattle.library_model.specs.Running.{end_asked};
+ghost use Rattle.library_model.specs.Ending.{end_asked};
 
 use crate::value_lists::{GivenValues, Values};
 use commit_level::Level;

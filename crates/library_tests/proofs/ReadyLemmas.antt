@@ -1,9 +1,10 @@
 -- A job that may make a call may make one after another job's call, and after another job has begun.
 use Rattle.std.proofs.Common.{◌≡◌, ℕ, ◌-◌, ◌==◌, Bool, true, false, if◌then◌else◌, IsTrue, List, [], ◌∷◌, ◌++◌, zero, suc, slice_get, Some, None, refl, sym, ◌∙◌, subst}
 use Rattle.library_model.specs.declared.requests.Request.{Request}
-use Rattle.library_model.specs.State.{Memory, JobState, job_at, new_job}
-use Rattle.library_model.specs.Running.{is_running, is_end_job, runs_after}
-use Rattle.library_model.specs.Joint.{IsJoint}
+use Rattle.library_core.specs.State.{Memory, JobState, job_at, new_job}
+use Rattle.library_model.specs.Ending.{is_end_job}
+use Rattle.library_core.specs.Running.{is_running, runs_after}
+use Rattle.library_core.specs.Joint.{IsJoint}
 use Rattle.library_core.specs.Parts.{LibraryOver}
 use Rattle.library_core.specs.Stands.{IsReady}
 

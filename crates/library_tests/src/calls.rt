@@ -1,8 +1,8 @@
 //! A table of calls: each reply against the one that the manual's rules give by hand, and that memory is left for each.
 ghost use Rattle.std.specs.Prelude.{◌≡◌, ◌<◌, false, length, IfSome, IsTrue};
-ghost use Rattle.library_model.specs.Built.{is_built};
-ghost use Rattle.library_model.specs.Running.{is_end_job};
-ghost use Rattle.library_model.specs.Joint.{IsJoint};
+ghost use Rattle.built_requests.specs.Built.{is_built};
+ghost use Rattle.library_model.specs.Ending.{is_end_job};
+ghost use Rattle.library_core.specs.Joint.{IsJoint};
 ghost use Rattle.library_core.specs.Stands.{IsReady};
 
 use dds_source::faults::{DdsCause, DdsFault};

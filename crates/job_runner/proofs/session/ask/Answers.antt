@@ -1,5 +1,5 @@
 use Rattle.std.proofs.Common.{◌≡◌, ◌∙◌, false, IsTrue, None, refl, sym, ap, option_copied}
-use Rattle.library_model.specs.Built.{is_built}
+use Rattle.built_requests.specs.Built.{is_built}
 use Rattle.job_language.specs.Asks.{asks, is_end}
 use Rattle.input_scripts.specs.Askable.{is_askable_script}
 use Rattle.input_scripts.proofs.AskLemmas.{asks-built}

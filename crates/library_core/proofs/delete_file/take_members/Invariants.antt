@@ -1,5 +1,5 @@
 use Rattle.std.proofs.Common.{◌≡◌, drop}
-use Rattle.library_model.specs.DeleteFile.{without_members}
+use Rattle.library_core.specs.DeleteFile.{without_members}
 use Rattle.library_core.proofs.delete_file.take_members.Given as goal
 
 abbrev pub invariant-loop-number : goal.invariant-loop-number

@@ -1,5 +1,5 @@
 use Rattle.std.proofs.Common.{◌≡◌, ◌+◌, drop}
-use Rattle.library_model.specs.DeleteFile.{first_user}
+use Rattle.library_core.specs.DeleteFile.{first_user}
 use Rattle.library_core.proofs.jobs.first_user.Given as goal
 
 abbrev pub invariant-loop-i : goal.invariant-loop-i

@@ -1,7 +1,7 @@
 use Rattle.std.proofs.Common.{◌≡◌, ◌∙◌, false, IsTrue, ap, subst, sym}
-use Rattle.library_model.specs.State.{job_at}
-use Rattle.library_model.specs.Running.{is_running}
-use Rattle.library_model.specs.Joint.{IsJoint}
+use Rattle.library_core.specs.State.{job_at}
+use Rattle.library_core.specs.Running.{is_running}
+use Rattle.library_core.specs.Joint.{IsJoint}
 use Rattle.library_core.specs.Parts.{LibraryOver}
 use Rattle.library_core.specs.Stands.{Stands}
 use Rattle.library_core.proofs.CallLemmas.{goes-answered, runs-answered, joint-answered}

@@ -1,5 +1,5 @@
 use Rattle.std.proofs.Common.{◌∙◌, sym, ap, List, ◌++◌, map}
-use Rattle.library_model.specs.State.{Memory, JobState, new_job}
+use Rattle.library_core.specs.State.{Memory, JobState, new_job}
 use Rattle.job_runner.proofs.PlaceLemmas.{IsSession-first, on_no_err}
 use Rattle.job_runner.proofs.session.Session.new.Goals as goal
 

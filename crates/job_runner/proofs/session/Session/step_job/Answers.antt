@@ -1,7 +1,7 @@
 use Rattle.std.proofs.Common.{◌≡◌, ◌∙◌, ◌≤◌, false, sym, refl, ap, arith, length}
 use Rattle.library_model.specs.declared.calls.Call.{Call}
 use Rattle.library_model.specs.declared.limits.TheConstants.{MOST_JOBS}
-use Rattle.library_model.specs.Running.{is_end_job}
+use Rattle.library_model.specs.Ending.{is_end_job}
 use Rattle.job_runner.specs.declared.session.Stepped.TheVariants as stepped
 use Rattle.job_runner.specs.Places.{unended}
 use Rattle.job_runner.proofs.MadeLemmas.{HasMade-called}

@@ -1,5 +1,5 @@
 use Rattle.std.proofs.Common.{◌≡◌}
-use Rattle.library_model.specs.DeleteFile.{first_dependent}
+use Rattle.library_core.specs.DeleteFile.{first_dependent}
 use Rattle.library_core.proofs.catalogue.Catalogue.first_dependent.Given as goal
 
 abbrev pub invariant-loop-other : goal.invariant-loop-other

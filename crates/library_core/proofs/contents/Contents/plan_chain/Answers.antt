@@ -1,6 +1,6 @@
 use Rattle.std.proofs.Common.{◌≡◌, ◌∙◌, sym, Some, rules}
 use Rattle.member_slots.specs.Members.{member_of}
-use Rattle.library_model.specs.State.{fields_of, file_named, open_named}
+use Rattle.library_core.specs.State.{fields_of, file_named, open_named}
 use Rattle.library_core.proofs.LawfulLemmas.{IsLibrary-seen, Owns-opened, HasRecords-member_of, values-record_in}
 use Rattle.library_core.proofs.contents.Contents.plan_chain.Goals as goal
 

@@ -1,6 +1,6 @@
 use Rattle.std.proofs.Common.{◌≡◌, ◌∙◌, sym, Some, arith, rules}
 use Rattle.library_model.specs.Named.{named}
-use Rattle.library_model.specs.State.{file_named, job_at, opens_of}
+use Rattle.library_core.specs.State.{file_named, job_at, opens_of}
 use Rattle.library_core.proofs.LawfulLemmas.{OpensMember-named}
 use Rattle.library_core.proofs.MapLemmas.{is_nothing}
 use Rattle.library_core.proofs.contents.Contents.plan_open.Goals as goal

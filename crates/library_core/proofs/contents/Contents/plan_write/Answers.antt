@@ -2,7 +2,7 @@ use Rattle.std.proofs.Common.{◌≡◌, ◌∙◌, ap, sym, subst, true, is_som
 use Rattle.record_fmt.specs.declared.formats.Format.{Format}
 use Rattle.record_fmt.specs.Layout.{record_length}
 use Rattle.record_fmt.specs.Records.{record_held}
-use Rattle.library_model.specs.State.{FileState, fields_of, file_named, open_named}
+use Rattle.library_core.specs.State.{FileState, fields_of, file_named, open_named}
 use Rattle.library_core.proofs.LawfulLemmas.{IsLibrary-seen, Owns-opened, Owns-same, HasRecords-member_of, IsThere-IsSome}
 use Rattle.library_core.proofs.contents.Contents.plan_write.Goals as goal
 

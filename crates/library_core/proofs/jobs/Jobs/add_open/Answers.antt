@@ -1,5 +1,5 @@
-use Rattle.library_model.specs.OpenFile.{with_open}
-use Rattle.library_model.proofs.JobLemmas.{slice_set-running}
+use Rattle.library_core.specs.OpenFile.{with_open}
+use Rattle.library_core.proofs.JobLemmas.{slice_set-running}
 use Rattle.library_core.proofs.jobs.Jobs.add_open.Goals as goal
 
 pub returns : goal.returns

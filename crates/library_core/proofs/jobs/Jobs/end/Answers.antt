@@ -1,5 +1,5 @@
-use Rattle.library_model.specs.EndJob.{ended_job}
-use Rattle.library_model.proofs.JobLemmas.{slice_set-running}
+use Rattle.library_core.specs.EndJob.{ended_job}
+use Rattle.library_core.proofs.JobLemmas.{slice_set-running}
 use Rattle.library_core.proofs.jobs.Jobs.end.Goals as goal
 
 pub returns : goal.returns

@@ -1,6 +1,6 @@
 use Rattle.std.proofs.Common.{◌≡◌}
 use Rattle.std.specs.List.{list_any}
-use Rattle.library_model.specs.DeleteFile.{has_number}
+use Rattle.library_core.specs.DeleteFile.{has_number}
 use Rattle.library_core.proofs.jobs.Opens.are_over.Given as goal
 
 abbrev pub invariant-loop-opened : goal.invariant-loop-opened

@@ -1,15 +1,9 @@
--- Which jobs run: those that have begun and whose ENDJOB was not answered. (Work Management, ending a job.)
-use Rattle.std.specs.Prelude.{ℕ, ◌==◌, ◌&&◌, Bool, true, false, not, List, Option, Some, None}
+-- How a request ends its job, where it does. (Work Management, ending a job.)
+use Rattle.std.specs.Prelude.{Bool, Option, Some, None}
 use Rattle.std.specs.Option.{is_some}
 use Rattle.library_model.specs.declared.requests.EndJob.{EndJob as EndingArguments}
 use Rattle.library_model.specs.declared.requests.Request.{Request}
 use Rattle.library_model.specs.declared.requests.Request.TheVariants.{CreatePhysicalFile, CreateLogicalFile, DeleteFile, AddMember, ClearMember, ReorganizeMember, StartJournaling, EndJournaling, ChangeJournal, DeleteReceiver, Checkpoint, DisplayJournal, ApplyChanges, RemoveChanges, StartCommitment, EndCommitment, Commit, Rollback, OpenFile, CloseFile, SetLowerLimit, SetGreaterThan, Read, ReadPrior, ReadEqual, ReadPriorEqual, Chain, Write, Update, Delete, Unlock, EndJob}
-use Rattle.library_model.specs.State.{JobState, job_at}
-
--- the job has begun and not ended
-abbrev pub is_running : Option JobState → Bool
-is_running None = false
-is_running (Some job) = not job.ended
 
 -- how a request ends its job, where it does
 abbrev pub end_asked : Request → Option EndingArguments
@@ -48,7 +42,3 @@ end_asked (Unlock args) = None
 
 abbrev pub is_end_job : Request → Bool
 is_end_job request = is_some (end_asked request)
-
--- whether a job runs after a request of another or its own: its own ENDJOB ends it, and nothing else does
-abbrev pub runs_after : ℕ → Request → List JobState → ℕ → Bool
-runs_after job request jobs other = not (is_end_job request && (other == job)) && is_running (job_at other jobs)

@@ -1,7 +1,7 @@
 -- What holds of a library between calls, beyond what its parts need: each clause is a definition of its own, and each request keeps it.
 use Rattle.std.specs.Prelude.{◌≡◌, true, []}
 use Rattle.std.specs.List.{AllByRecursion}
-use Rattle.library_model.specs.State.{Memory, JobState}
+use Rattle.library_core.specs.State.{Memory, JobState}
 
 -- a job that has ended has nothing open
 abbrev pub IsIdle : JobState → Type 0

@@ -4,9 +4,9 @@ use Rattle.std.specs.Prelude.{◌≡◌, IsTrue, List, [], ◌∷◌}
 use Rattle.library_model.specs.declared.calls.Call.{Call}
 use Rattle.library_model.specs.declared.replies.Reply.TheVariants.{StoreFault}
 use Rattle.library_model.specs.declared.sources.NamedSource.{NamedSource}
-use Rattle.library_model.specs.State.{State, JournalState, job_at}
-use Rattle.library_model.specs.Step.{step, MayAnswer}
-use Rattle.library_model.specs.Running.{is_running}
+use Rattle.library_core.specs.State.{State, JournalState, job_at}
+use Rattle.library_core.specs.Step.{step, MayAnswer}
+use Rattle.library_core.specs.Running.{is_running}
 
 -- what calls lead to: a state that stands, or a library that has failed, of which no more is known than what its journal was to hold
 pub data Outcome : Type 0 where

@@ -1,8 +1,8 @@
 -- A job that runs stands in the list of jobs, and to set it anew there is to change it.
 use Rattle.std.proofs.Common.{◌≡◌, ℕ, ◌-◌, ◌<◌, true, false, if◌then◌else◌, ◌==◌, IsTrue, List, [], ◌∷◌, Some, None, length, slice_get, slice_set, get_or, zero, suc, refl, sym, ◌∙◌, ap, arith}
 use Rattle.std.proofs.lemmas.Option.{slice_get-get_or}
-use Rattle.library_model.specs.State.{JobState, job_at, job_changed}
-use Rattle.library_model.specs.Running.{is_running}
+use Rattle.library_core.specs.State.{JobState, job_at, job_changed}
+use Rattle.library_core.specs.Running.{is_running}
 
 -- the jobs with a job set anew at its place
 pub slice_set-job_changed : (jobs : List JobState) (place : ℕ) (change : JobState → JobState) (job : JobState) → slice_get jobs place ≡ Some job → slice_set jobs place (change job) ≡ job_changed place change jobs

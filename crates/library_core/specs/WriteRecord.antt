@@ -11,9 +11,9 @@ use Rattle.library_model.specs.declared.replies.Reply.{Reply}
 use Rattle.library_model.specs.declared.replies.Reply.TheVariants.{NoSuchName, WrongOpen, BadValue, MemberFull, Added}
 use Rattle.library_model.specs.declared.replies.Missing.TheVariants.{Name}
 use Rattle.library_model.specs.Named.{same_name}
-use Rattle.library_model.specs.State.{Memory, fields_of}
-use Rattle.library_model.specs.Change.{Change, unjournaled, does}
-use Rattle.library_model.specs.Refusals.{◌>>=◌, refuse_if, opened_file}
+use Rattle.library_core.specs.State.{Memory, fields_of}
+use Rattle.library_core.specs.Change.{Change, unjournaled, does}
+use Rattle.library_core.specs.Refusals.{◌>>=◌, refuse_if, opened_file}
 
 -- a record to add, and the number of its member
 pub record NewRecord : Type 0 where

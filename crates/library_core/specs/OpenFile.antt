@@ -7,9 +7,9 @@ use Rattle.library_model.specs.declared.replies.Reply.{Reply}
 use Rattle.library_model.specs.declared.replies.Reply.TheVariants.{NameExists, LimitReached, Done}
 use Rattle.library_model.specs.declared.replies.LimitKind.TheVariants.{Opens}
 use Rattle.library_model.specs.Named.{named}
-use Rattle.library_model.specs.State.{Memory, OpenState, JobState, file_named, open_named, job_at, opens_of, with_job}
-use Rattle.library_model.specs.Change.{Change, unjournaled, does}
-use Rattle.library_model.specs.Refusals.{◌>>=◌, refuse_if, named_or_refused}
+use Rattle.library_core.specs.State.{Memory, OpenState, JobState, file_named, open_named, job_at, opens_of, with_job}
+use Rattle.library_core.specs.Change.{Change, unjournaled, does}
+use Rattle.library_core.specs.Refusals.{◌>>=◌, refuse_if, named_or_refused}
 
 -- the number of the member to open
 unfoldable pub open_plan : Memory → ℕ → OpenFile → Result ℕ Reply

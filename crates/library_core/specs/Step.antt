@@ -5,15 +5,15 @@ use Rattle.library_model.specs.declared.requests.Request.TheVariants.{CreatePhys
 use Rattle.library_model.specs.declared.replies.Reply.{Reply}
 use Rattle.library_model.specs.declared.replies.Reply.TheVariants.{NoMemory}
 use Rattle.library_model.specs.declared.sources.NamedSource.{NamedSource}
-use Rattle.library_model.specs.State.{Memory, State, memory_of}
-use Rattle.library_model.specs.Change.{Change, changed}
+use Rattle.library_core.specs.State.{Memory, State, memory_of}
+use Rattle.library_core.specs.Change.{Change, changed}
 use Rattle.library_model.specs.NeedsMemory.{needs_memory}
-use Rattle.library_model.specs.CreatePhysicalFile.{create_physical_file}
-use Rattle.library_model.specs.DeleteFile.{delete_file}
-use Rattle.library_model.specs.OpenFile.{open_file}
-use Rattle.library_model.specs.WriteRecord.{write_record}
-use Rattle.library_model.specs.ChainRecord.{chain_record}
-use Rattle.library_model.specs.EndJob.{end_job}
+use Rattle.library_core.specs.CreatePhysicalFile.{create_physical_file}
+use Rattle.library_core.specs.DeleteFile.{delete_file}
+use Rattle.library_core.specs.OpenFile.{open_file}
+use Rattle.library_core.specs.WriteRecord.{write_record}
+use Rattle.library_core.specs.ChainRecord.{chain_record}
+use Rattle.library_core.specs.EndJob.{end_job}
 
 -- what a request of a job at a time does to the memory, or its refusal; those that refuse for want of memory have no step yet, and is_built keeps them out
 unfoldable pub change : List NamedSource → Memory → ℕ → ℕ → Request → Result Change Reply

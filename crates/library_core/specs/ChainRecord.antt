@@ -13,9 +13,9 @@ use Rattle.library_model.specs.declared.requests.ChainTo.TheVariants.{Key, Recor
 use Rattle.library_model.specs.declared.replies.RecordRead.{RecordRead}
 use Rattle.library_model.specs.declared.replies.Reply.{Reply}
 use Rattle.library_model.specs.declared.replies.Reply.TheVariants.{WrongOpen, NotFound, Record}
-use Rattle.library_model.specs.State.{Memory, fields_of}
-use Rattle.library_model.specs.Change.{Change, unjournaled, does}
-use Rattle.library_model.specs.Refusals.{◌>>=◌, found, opened_file}
+use Rattle.library_core.specs.State.{Memory, fields_of}
+use Rattle.library_core.specs.Change.{Change, unjournaled, does}
+use Rattle.library_core.specs.Refusals.{◌>>=◌, found, opened_file}
 
 -- the relative record number that is asked for; a file without keys has no key to chain by
 abbrev pub number_asked : ChainTo → Result ℕ Reply

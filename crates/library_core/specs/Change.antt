@@ -3,7 +3,7 @@
 use Rattle.std.specs.Prelude.{Bool, false, Result, Ok, Err, List, [], ◌++◌}
 use Rattle.entry_codec.specs.declared.entries.Entry.{Entry}
 use Rattle.library_model.specs.declared.replies.Reply.{Reply}
-use Rattle.library_model.specs.State.{Memory, State, JournalState, with_journal}
+use Rattle.library_core.specs.State.{Memory, State, JournalState, with_journal}
 
 pub record Change : Type 0 where
   pub memory : Memory

@@ -10,9 +10,9 @@ use Rattle.library_model.specs.declared.requests.DeleteFile.{DeleteFile}
 use Rattle.library_model.specs.declared.replies.Reply.{Reply}
 use Rattle.library_model.specs.declared.replies.Reply.TheVariants.{Dependents, InUse, Done}
 use Rattle.library_model.specs.Named.{Named, same_name}
-use Rattle.library_model.specs.State.{Memory, FileState, JobState, file_named}
-use Rattle.library_model.specs.Change.{Change, unjournaled, does}
-use Rattle.library_model.specs.Refusals.{◌>>=◌, named_or_refused}
+use Rattle.library_core.specs.State.{Memory, FileState, JobState, file_named}
+use Rattle.library_core.specs.Change.{Change, unjournaled, does}
+use Rattle.library_core.specs.Refusals.{◌>>=◌, named_or_refused}
 
 -- a source that was read names the file in REF or REFFLD
 abbrev pub source_refers : List ℕ → Result Source DdsFault → Bool

@@ -2,8 +2,8 @@
 use Rattle.std.specs.Prelude.{ℕ, true, Result, Ok, []}
 use Rattle.library_model.specs.declared.replies.Reply.{Reply}
 use Rattle.library_model.specs.declared.replies.Reply.TheVariants.{Done}
-use Rattle.library_model.specs.State.{Memory, JobState, with_job}
-use Rattle.library_model.specs.Change.{Change, unjournaled}
+use Rattle.library_core.specs.State.{Memory, JobState, with_job}
+use Rattle.library_core.specs.Change.{Change, unjournaled}
 
 abbrev pub ended_job : JobState → JobState
 ended_job job = record job { ended = true; opens = [] }

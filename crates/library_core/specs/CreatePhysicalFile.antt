@@ -17,9 +17,9 @@ use Rattle.library_model.specs.declared.replies.Reply.{Reply}
 use Rattle.library_model.specs.declared.replies.Reply.TheVariants.{NameExists, LimitReached, Done, DdsFault as DdsFaultReply}
 use Rattle.library_model.specs.declared.replies.LimitKind.TheVariants.{Files, MemberNumbers}
 use Rattle.library_model.specs.SourceList.{text_of}
-use Rattle.library_model.specs.State.{Memory, FileState, file_named, fields_of}
-use Rattle.library_model.specs.Change.{Change, unjournaled, does}
-use Rattle.library_model.specs.Refusals.{◌>>=◌, refuse_if, named_or_refused}
+use Rattle.library_core.specs.State.{Memory, FileState, file_named, fields_of}
+use Rattle.library_core.specs.Change.{Change, unjournaled, does}
+use Rattle.library_core.specs.Refusals.{◌>>=◌, refuse_if, named_or_refused}
 
 -- what a file is made of: a source, and what it describes
 pub record NewFile : Type 0 where

@@ -4,7 +4,7 @@ use Rattle.library_model.specs.declared.replies.Reply.{Reply}
 use Rattle.library_model.specs.declared.replies.Reply.TheVariants.{NoSuchName}
 use Rattle.library_model.specs.declared.replies.Missing.TheVariants.{Name}
 use Rattle.library_model.specs.Named.{Named, named}
-use Rattle.library_model.specs.State.{Memory, FileState, OpenState, file_named, open_named}
+use Rattle.library_core.specs.State.{Memory, FileState, OpenState, file_named, open_named}
 
 infixl 10 ◌>>=◌
 -- go on with what was found, or stay with the refusal
