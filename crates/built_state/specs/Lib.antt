@@ -1,0 +1,3 @@
+pub mod Unkeyed
+pub mod Uncommitted
+pub mod Built
