@@ -66,6 +66,7 @@ pub fn set_greater_than(
 }
 
 /// Where the open is to stand. Without a key there is no position but by a relative record number.
+#[tactic(auto, unfolding(library_steps::specs::Reads::position_plan))]
 fn plan_position(
     contents: &Contents,
     job: u32,

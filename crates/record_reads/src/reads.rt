@@ -99,6 +99,7 @@ pub fn chain(contents: &mut Contents, job: u32, args: &ChainRecord) -> Result<Re
     carry_out(contents, job, plan)
 }
 
+#[tactic(auto, unfolding(library_steps::specs::Reads::read_plan))]
 fn plan_read(
     contents: &Contents,
     job: u32,
@@ -118,6 +119,7 @@ fn plan_read(
 }
 
 /// A file without a key has no records of a key.
+#[tactic(auto, unfolding(library_steps::specs::Reads::read_equal_plan))]
 fn plan_equal(contents: &Contents, job: u32, args: &ReadEqual) -> Result<PlannedRead, Stop>
     requires running { IsTrue (is_running (job_at job contents.now.state.jobs)) }
     requires unkeyed { AreUnkeyed contents.now.state.files }
@@ -129,6 +131,7 @@ fn plan_equal(contents: &Contents, job: u32, args: &ReadEqual) -> Result<Planned
     Err(Stop::Refused(Reply::WrongOpen))
 }
 
+#[tactic(auto, unfolding(library_steps::specs::Reads::chain_plan))]
 fn plan_chain(contents: &Contents, job: u32, args: &ChainRecord) -> Result<PlannedRead, Stop>
     requires running { IsTrue (is_running (job_at job contents.now.state.jobs)) }
     requires unkeyed { AreUnkeyed contents.now.state.files }
