@@ -1,5 +1,5 @@
 -- What the definitions make of a request through an open of a file without a key, once the open is found.
-use Rattle.std.proofs.Common.{◌≡◌, ℕ, if◌then◌else◌, Option, Result, Ok, Err, List, refl, ◌∙◌, ap}
+use Rattle.std.proofs.Common.{◌≡◌, ℕ, if◌then◌else◌, Option, Result, Ok, Err, List, ◌∙◌, ap}
 use Rattle.member_slots.specs.Members.{member_of}
 use Rattle.file_model.specs.KeyOrder.{KeyValue}
 use Rattle.file_model.specs.Paths.{PathEntry}
@@ -15,12 +15,9 @@ use Rattle.library_model.specs.declared.requests.ChainRecord.{ChainRecord}
 use Rattle.library_model.specs.declared.replies.Reply.{Reply}
 use Rattle.library_model.specs.declared.replies.Reply.TheVariants.{NotFound, WrongOpen}
 use Rattle.library_steps.specs.State.{State, Memory, FileState, OpenState, memory_of}
-use Rattle.library_steps.specs.Change.{Change, does}
 use Rattle.library_steps.specs.Refusals.{◌>>=◌, found, OpenedFile, opened_file}
 use Rattle.library_steps.specs.Records.{reading_of, key_asked}
-use Rattle.library_steps.specs.Reads.{bound_asked, whole_end, position_plan, position_change, if_lockable, read_change, read_plan, read_equal_plan, chained, chain_plan}
-use Rattle.library_parts.specs.declared.stop.Stop.{Stop}
-use Rattle.library_parts.specs.declared.stop.Stop.TheVariants.{NoMemory, Refused}
+use Rattle.library_steps.specs.Reads.{bound_asked, whole_end, position_plan, if_lockable, read_plan, read_equal_plan, chained, chain_plan}
 use Rattle.library_parts.specs.Finds.{HasMember}
 use Rattle.built_state.specs.Unkeyed.{IsUnkeyed, AreUnkeyed}
 use Rattle.record_reads.specs.Plans.{opened_with}
