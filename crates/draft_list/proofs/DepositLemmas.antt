@@ -8,8 +8,8 @@ use Rattle.library_model.specs.declared.replies.Reply.{Reply}
 use Rattle.library_steps.specs.State.{State, Memory, memory_of}
 use Rattle.library_steps.specs.Change.{Change, deposited, journaled}
 use Rattle.library_parts.specs.Answers.{Answers}
-use Rattle.library_parts.proofs.AnswerLemmas.{Answers-journaled}
-use Rattle.draft_list.specs.Deposits.{with_drafts}
+use Rattle.library_parts.proofs.AnswerLemmas.{changed-state}
+use Rattle.draft_list.specs.Deposits.{Leaves, with_drafts}
 
 pub with_drafts-none : (s : State) → with_drafts s [] ≡ s
 with_drafts-none s = ap (λ (es : List Entry). record s { entries = es }) (append-nil s.entries)
@@ -33,8 +33,13 @@ memory-with_drafts s drafts =
     let last : s.gone + length (s.entries ++ deposited (memory_of s) drafts) ≡ s.gone + length s.entries + length drafts = omega (arith, long, same) in
     ap (λ (n : ℕ). record (memory_of s) { last_entry = n }) last
 
-pub Answers-drafts : (old mid new : State) (drafts : List Draft) (forced : Bool) (reply : Reply) (wanted : Result Change Reply) → wanted ≡ Ok (journaled drafts forced reply (memory_of mid))
-    → mid.gone ≡ old.gone → mid.entries ≡ old.entries → new ≡ with_drafts mid drafts → Answers old new (Ok reply) wanted
-Answers-drafts old mid new drafts forced reply wanted is gone kept left =
-    Answers-journaled old new drafts forced reply (memory_of mid) wanted is (ap memory_of left ∙ memory-with_drafts mid drafts) gone
-    (ap (λ (s : State). s.entries) left ∙ ap (λ (es : List Entry). es ++ deposited (memory_of mid) drafts) kept)
+pub Leaves-drafts : (old mid new : State) (drafts : List Draft) (forced : Bool) (reply : Reply) (m : Memory) → memory_of mid ≡ m → m.gone ≡ old.gone → mid.entries ≡ old.entries
+    → new ≡ with_drafts mid drafts → Leaves old new (journaled drafts forced reply m)
+Leaves-drafts old mid new drafts forced reply m is gone kept left =
+    changed-state old new (deposited m drafts) (record m { last_entry = m.last_entry + length drafts })
+    (ap memory_of left ∙ memory-with_drafts mid drafts ∙ ap (λ (x : Memory). record x { last_entry = x.last_entry + length drafts }) is) gone
+    (ap (λ (s : State). s.entries) left ∙ (λ i. kept i ++ deposited (is i) drafts))
+
+-- where a change was done, it is the answer
+pub Answers-left : (old new : State) (c : Change) (reply : Reply) (wanted : Result Change Reply) → wanted ≡ Ok c → c.reply ≡ reply → Leaves old new c → Answers old new (Ok reply) wanted
+Answers-left old new c reply wanted is replies left = (c, is, replies, left)

@@ -10,7 +10,7 @@ use library_parts::Contents;
 use std::marker::Model;
 
 /// The job that deposits entries, and when it does.
-#[derive(Clone, Copy)]
+#[derive(Drop)]
 pub struct Author {
     job: Name,
     moment: u64,

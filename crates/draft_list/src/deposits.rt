@@ -1,16 +1,16 @@
 //! Depositing a list of drafts: whether sequences are left, room for all of them, and then one after the other.
-ghost use Rattle.std.specs.Prelude.{◌≡◌, ◌+◌, ◌≤◌, ◌++◌, Bool, List, Result, Ok, OnOk, length};
+ghost use Rattle.std.specs.Prelude.{◌≡◌, ◌+◌, ◌≤◌, ◌++◌, Bool, List, IfOk, OnOk, length};
 ghost use Rattle.entry_codec.specs.declared.entries.Draft.{Draft};
 ghost use Rattle.memory_journal.specs.declared.journal.TheConstants.{LAST_BEFORE_DEPOSIT};
 ghost use Rattle.library_model.specs.declared.replies.Reply.{Reply};
 ghost use Rattle.library_steps.specs.declared.limits.TheConstants.{LAST_SEQUENCE};
-ghost use Rattle.library_steps.specs.State.{State, memory_of};
-ghost use Rattle.library_steps.specs.Change.{Change, deposited, journaled};
+ghost use Rattle.library_steps.specs.State.{Memory, State, memory_of};
+ghost use Rattle.library_steps.specs.Change.{deposited, journaled};
 ghost use Rattle.library_steps.specs.Refusals.{sequences_left};
-ghost use Rattle.library_parts.specs.Answers.{Allows, Answers};
-ghost use Rattle.draft_list.specs.Deposits.{with_drafts};
+ghost use Rattle.library_parts.specs.Answers.{Allows};
+ghost use Rattle.draft_list.specs.Deposits.{Leaves, with_drafts};
 
-use crate::sizes::bytes_of;
+use crate::sizes::{bytes_of, draft_size};
 use entry_codec::Draft;
 use library_parts::{Contents, Stop};
 use std::alloc::AllocError;
@@ -22,6 +22,17 @@ pub fn may_deposit(contents: &Contents) -> Result<(), Stop>
 {
     contents.sequences_left()?;
     Ok(())
+}
+
+/// Makes room for the draft, and hands it back.
+pub fn with_room(contents: &mut Contents, draft: Draft) -> Result<Draft, AllocError>
+    ensures state { contents.new.state ≡ contents.old.state }
+    ensures others { contents.new.room ≡ record contents.old.room { entries = contents.new.room.entries } }
+    ensures room { OnOk result (1 ≤ contents.new.room.entries) }
+    ensures draft { IfOk result (λ kept. kept ≡ draft) }
+{
+    contents.reserve_entries(1, draft_size(&draft))?;
+    Ok(draft)
 }
 
 /// Makes room for these drafts.
@@ -47,7 +58,7 @@ pub fn deposit_all(contents: &mut Contents, drafts: Vec<Draft>)
     }
 }
 
-/// A state with the memory of a change and its drafts behind the entries that were there answers a request with the change.
-pub fn deposits_answer()
-    ensures { (old mid new : State) (drafts : List Draft) (forced : Bool) (reply : Reply) (wanted : Result Change Reply) → wanted ≡ Ok (journaled drafts forced reply (memory_of mid)) → mid.gone ≡ old.gone → mid.entries ≡ old.entries → new ≡ with_drafts mid drafts → Answers old new (Ok reply) wanted }
+/// A state in which a change's drafts were deposited behind its effect is what the change leaves.
+pub fn deposits_leave()
+    ensures { (old mid new : State) (drafts : List Draft) (forced : Bool) (reply : Reply) (m : Memory) → memory_of mid ≡ m → m.gone ≡ old.gone → mid.entries ≡ old.entries → new ≡ with_drafts mid drafts → Leaves old new (journaled drafts forced reply m) }
 {}

@@ -7,4 +7,4 @@ pub mod deposits;
 pub mod sizes;
 
 pub use authors::Author;
-pub use deposits::{deposit_all, deposits_answer, may_deposit, reserve_all};
+pub use deposits::{deposit_all, deposits_leave, may_deposit, reserve_all, with_room};

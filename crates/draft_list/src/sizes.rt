@@ -1,7 +1,7 @@
 //! How many bytes drafts come to as entries of the journal.
 ghost use Rattle.std.specs.Prelude.{◌≡◌, ◌+◌, ◌<◌, length, min};
 ghost use Rattle.library_steps.specs.EntrySizes.{body_size};
-ghost use Rattle.draft_list.specs.Sizes.{draft_bytes};
+ghost use Rattle.draft_list.specs.Sizes.{draft_bytes, draft_size};
 
 use entry_codec::{Draft, EntryKind};
 use field_types::texts::Image;
@@ -74,13 +74,21 @@ fn image_size(image: &Image) -> u64
     1 + image.as_bytes().len() as u64
 }
 
+/// The bytes of the draft as an entry.
+pub fn draft_size(draft: &Draft) -> u64
+    ensures size { result ≡ draft_size draft.now }
+    ensures few { result < 9223372036854775873 }
+{
+    FRONT_BYTES + body_size(&draft.kind)
+}
+
 /// The bytes of all these drafts, at most the greatest number.
 pub fn bytes_of(drafts: &[Draft]) -> u64
     ensures { result ≡ min (draft_bytes drafts.now) 18446744073709551615 }
 {
     let mut total: u64 = 0;
     for draft in drafts {
-        total = total.saturating_add(FRONT_BYTES + body_size(&draft.kind));
+        total = total.saturating_add(draft_size(draft));
     }
     total
 }
