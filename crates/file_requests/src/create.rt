@@ -29,6 +29,7 @@ use library_model::replies::{LimitKind, Reply};
 use library_model::requests::CreatePhysicalFile;
 use library_model::sources::Sources;
 use library_parts::{Contents, Stop, no_such_name};
+use std::alloc::AllocError;
 
 /// A file that is to be added, and the entry that tells of it.
 #[derive(Drop)]
@@ -124,7 +125,7 @@ fn prepare_create(
     timestamp: u64,
     args: &CreatePhysicalFile,
     described: Described,
-) -> Result<NewFile, Stop>
+) -> Result<NewFile, AllocError>
     requires running { IsTrue (is_running (job_at job contents.old.state.jobs)) }
     ensures state { contents.new.state ≡ contents.old.state }
     ensures file { IfOk result (λ new. new.file ≡ new_file args.now.file contents.old.state.next_member described) }

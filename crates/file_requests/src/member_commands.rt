@@ -26,6 +26,7 @@ use library_model::replies::{LimitKind, Reply};
 use library_model::requests::FileMember;
 use library_parts::{Contents, MemberFound, Stop};
 use library_steps::limits::MOST_MEMBERS;
+use std::alloc::AllocError;
 
 /// How a member's records lose their numbers.
 #[derive(Clone, Copy)]
@@ -170,7 +171,7 @@ fn prepare_renumbering(
     author: &Author,
     status: MemberStatus,
     way: Renumbering,
-) -> Result<Vec<Draft>, Stop>
+) -> Result<Vec<Draft>, AllocError>
     ensures state { contents.new.state ≡ contents.old.state }
     ensures drafts { IfOk result (λ drafts. drafts.items ≡ if_journaled (is_some status.images) (member_draft author.now status.number (kind_of way))) }
     ensures room { IfOk result (λ drafts. length drafts.items ≤ contents.new.room.entries) }

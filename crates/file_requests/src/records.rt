@@ -1,5 +1,5 @@
 //! The records of a member: how many there are, and the entries that tell of them as journaling begins.
-ghost use Rattle.std.specs.Prelude.{◌≡◌, ◌+◌, ◌≤◌, [], ◌∷◌, ◌++◌, length, IfOk, OnOk};
+ghost use Rattle.std.specs.Prelude.{◌≡◌, ◌+◌, ◌<◌, ◌≤◌, [], ◌∷◌, ◌++◌, length, IfOk, OnOk};
 ghost use Rattle.entry_codec.specs.declared.kinds.EntryKind.TheVariants.{JournalingStarted};
 ghost use Rattle.member_slots.specs.Member.{records};
 ghost use Rattle.member_slots.specs.Members.{member_of};
@@ -16,7 +16,8 @@ use std::alloc::AllocError;
 
 /// How many slots the member has.
 fn slots_of(contents: &Contents, member: u32) -> u32
-    ensures { result ≡ length (member_of member contents.now.state.members).slots }
+    ensures count { result ≡ length (member_of member contents.now.state.members).slots }
+    ensures few { result < 4294967295 }
 {
     contents.next_place(member) - 1
 }

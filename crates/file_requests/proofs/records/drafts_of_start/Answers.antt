@@ -11,3 +11,12 @@ loop-place-preserved c =
       drafts = drafts-step c.args.author.now c.args.member member c.loop-place.place _ _ _ within c.loop-place.invariant.drafts c.in_ok-push_record.ensures.drafts;
       few = omega (arith, c.loop-place.invariant.few, c.in_ok-push_record.ensures.few);
     }
+
+pub returns-clause-drafts : goal.returns-clause-drafts
+returns-clause-drafts c =
+    let member = member_of c.args.member c.args.contents.now.state.members in
+    let past : length member.slots ≤ c.loop-place.place = omega arith in
+    drafts-end c.args.author.now c.args.member _ c.loop-place.place member.slots _ _ past c.loop-place.invariant.drafts
+
+pub returns-clause-few : goal.returns-clause-few
+returns-clause-few c = omega (arith, c.loop-place.invariant.few, c.slots_of-slots.ensures.few)

@@ -1,4 +1,4 @@
-use Rattle.std.proofs.Common.{◌≡◌, ◌<◌, ◌≤◌, length, arith}
+use Rattle.std.proofs.Common.{◌≡◌, ◌+◌, ◌<◌, ◌≤◌, length, arith}
 use Rattle.member_slots.specs.Members.{member_of}
 use Rattle.file_requests.proofs.RecordLemmas.{records_from-place, records_from-end}
 use Rattle.file_requests.proofs.records.record_count.Goals as goal
@@ -9,10 +9,10 @@ loop-place-preserved c =
     let within : c.loop-place.place < length member.slots = omega arith in
     let step = records_from-place member c.loop-place.place within in
     let so_far = c.loop-place.invariant.counted in
-    let here = c.count_at.ensures.count in
+    let here = c.count_at-count.ensures.count in
     record {
       counted = omega (arith, step, so_far, here);
-      few = omega (arith, c.loop-place.invariant.few, c.count_at.ensures.few);
+      few = omega (arith, c.loop-place.invariant.few, c.count_at-count.ensures.few);
     }
 
 pub returns : goal.returns
