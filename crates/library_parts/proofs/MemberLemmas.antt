@@ -141,7 +141,7 @@ library_bytes-with number old new (entry ∷ members) there =
           omega (arith, before, after, rest)
     ] there
 
-length-push : {X : Type 0} (xs : List X) (x : X) → length (xs ++ x ∷ []) ≡ suc (length xs)
+pub length-push : {X : Type 0} (xs : List X) (x : X) → length (xs ++ x ∷ []) ≡ suc (length xs)
 length-push [] x = refl
 length-push (y ∷ xs) x = ap (λ n. suc n) (length-push xs x)
 
@@ -149,6 +149,18 @@ length-set : {X : Type 0} (xs : List X) (place : ℕ) (x : X) → length (slice_
 length-set [] place x = refl
 length-set (y ∷ xs) zero x = refl
 length-set (y ∷ xs) (suc place) x = ap (λ n. suc n) (length-set xs place x)
+
+-- another slot leaves how many there are, and how long records are
+pub length-changed : (member : MemberState) (rrn : ℕ) (slot : Slot) → length (changed member rrn slot).slots ≡ length member.slots
+length-changed member rrn slot =
+    elim (rrn == 0) as (λ b. length (if b then member else record member { slots = slice_set member.slots (rrn - 1) slot }).slots ≡ length member.slots) [
+      | true ↦ refl
+      | false ↦ length-set member.slots (rrn - 1) slot
+    ]
+
+pub record_length-changed : (member : MemberState) (rrn : ℕ) (slot : Slot) → (changed member rrn slot).record_length ≡ member.record_length
+record_length-changed member rrn slot =
+    elim (rrn == 0) as (λ b. (if b then member else record member { slots = slice_set member.slots (rrn - 1) slot }).record_length ≡ member.record_length) [ true ↦ refl | false ↦ refl ]
 
 pub weight-appended : (member : MemberState) (image : List ℕ) → weight (appended member image) ≡ weight member + member.record_length
 weight-appended member image = ap (λ n. n * member.record_length) (length-push member.slots (Live image)) ∙ suc-mul (length member.slots) member.record_length
