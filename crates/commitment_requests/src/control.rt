@@ -1,6 +1,5 @@
 //! STRCMTCTL and ENDCMTCTL.
-ghost use Rattle.std.specs.Prelude.{◌≡◌, ◌≤◌, Ok, Some, IsTrue, IfOk, OnOk, IsErrOf};
-ghost use Rattle.library_model.specs.declared.replies.Reply.TheVariants.{Done};
+ghost use Rattle.std.specs.Prelude.{◌≡◌, ◌≤◌, Ok, IsSome, IsTrue, OnOk, IsErrOf};
 ghost use Rattle.library_steps.specs.declared.limits.TheConstants.{LAST_SEQUENCE};
 ghost use Rattle.library_steps.specs.State.{memory_of, job_at, job_of};
 ghost use Rattle.library_steps.specs.History.{is_running};
@@ -9,7 +8,6 @@ ghost use Rattle.library_parts.specs.Answers.{Allows, Answers};
 ghost use Rattle.library_parts.specs.declared.stop.Stop.TheVariants.{NoMemory};
 ghost use Rattle.commitment_requests.specs.Started.{started};
 
-use commit_level::Level;
 use entry_codec::{Draft, EntryKind};
 use library_model::replies::Reply;
 use library_model::requests::StartCommitment;
@@ -74,32 +72,31 @@ fn apply_start(contents: &mut Contents, job: u32, timestamp: u64, args: &StartCo
     Reply::Done
 }
 
-/// ENDCMTCTL: refused while the job has changes pending or an open under commitment.
+/// ENDCMTCTL: refused while the job has changes pending or an open under commitment. It never wants memory.
 pub fn end_commitment(contents: &mut Contents, job: u32, timestamp: u64) -> Result<Reply, Stop>
     requires running { IsTrue (is_running (job_at job contents.old.state.jobs)) }
     ensures answers { Answers contents.old.state contents.new.state result (end_commitment (memory_of contents.old.state) job timestamp) }
     ensures never_short { IsErrOf result NoMemory → ⊥ }
 {
-    let _level = plan_end(contents, job)?;
+    plan_end(contents, job)?;
     contents.end_commitment(job, timestamp);
     Ok(Reply::Done)
 }
 
 #[tactic(auto, unfolding(library_steps::specs::Commitment::end_plan))]
-fn plan_end(contents: &Contents, job: u32) -> Result<Level, Stop>
+fn plan_end(contents: &Contents, job: u32) -> Result<(), Stop>
     requires { IsTrue (is_running (job_at job contents.now.state.jobs)) }
-    ensures level { IfOk result (λ level. (job_of job (memory_of contents.now.state)).level ≡ Some level) }
-    ensures plan { IfOk result (λ level. end_plan (memory_of contents.now.state) job ≡ Ok true) }
-    ensures refused { IfErr result (λ stop. (reply : Reply) × (stop ≡ Refused reply) × (end_plan (memory_of contents.now.state) job ≡ Err reply)) }
+    ensures plan { Allows result (end_plan (memory_of contents.now.state) job) }
+    ensures started { OnOk result (IsSome (job_of job (memory_of contents.now.state)).level) }
 {
-    let Some(level) = contents.level(job) else {
+    if contents.level(job).is_none() {
         return Err(Stop::Refused(Reply::NoDefinition));
-    };
+    }
     if let Some(group) = contents.cycle(job) {
         return Err(Stop::Refused(Reply::PendingChanges { group }));
     }
     if contents.has_committed_open(job) {
         return Err(Stop::Refused(Reply::InUse { job }));
     }
-    Ok(level)
+    Ok(())
 }

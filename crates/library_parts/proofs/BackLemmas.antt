@@ -110,9 +110,9 @@ pub AllGoBack-unused : (files : Named FileState) (members : NumberedMembers) (nu
 AllGoBack-unused files members number member locks jobs unused all =
     AllGoBack-kept files files members (with_member number member members) (λ undo. undo.member == number)
     (λ sequence undo other back. (
-      let differ : undo.member ≢ number = grind (arith, nat_tests) in
-      GoesBack-place files members (with_member number member members) sequence undo
-      (FitsPlace-same members (with_member number member members) undo (item_at-with_item_other undo.member number member members differ)) back))
+    let differ : undo.member ≢ number = grind (arith, nat_tests) in
+    GoesBack-place files members (with_member number member members) sequence undo
+    (FitsPlace-same members (with_member number member members) undo (item_at-with_item_other undo.member number member members differ)) back))
     (uses number locks) (λ n job none. unused-unchanged number n locks job none) 1 jobs unused all
 
 -- more slots of one member

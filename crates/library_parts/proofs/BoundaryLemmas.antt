@@ -206,10 +206,13 @@ journaled-answers s t drafts forced m is gone kept =
     let memory = ap (λ (n : ℕ). record (memory_of t) { last_entry = n }) last ∙ ap (λ (x : Memory). record x { last_entry = x.last_entry + length drafts }) is in
     let before : s.gone + length s.entries ≡ m.last_entry =
     (λ i. (sym gone) i + length ((sym kept) i)) ∙ ap (λ (x : Memory). x.last_entry) is in
-    let same : s.entries ++ entries ≡ s.entries ++ drafts_deposited m drafts = ap (λ (n : ℕ). s.entries ++ numbered_from (n + 1) drafts) before in
-    (journaled drafts forced Done m, refl, refl,
+    let same : s.entries ++ entries ≡ s.entries ++ drafts_deposited m drafts = ap (λ (n : ℕ). s.entries ++ numbered_from (n + 1) drafts) before in (
+      journaled drafts forced Done m,
+      refl,
+      refl,
       changed-state s (record t { entries = s.entries ++ entries }) (drafts_deposited m drafts) (record m { last_entry = m.last_entry + length drafts }) memory
-          (sym (ap (λ (x : Memory). x.gone) is) ∙ gone) same)
+          (sym (ap (λ (x : Memory). x.gone) is) ∙ gone) same,
+    )
 
 pub commit-answers : (s : State) (job timestamp : ℕ) (locks : List Lock) (jobs : List JobState) → memory_of (record s { locks = locks; jobs = jobs }) ≡ committed job (memory_of s)
     → Answers s (record s {

@@ -162,7 +162,7 @@ first-change : (members : Named MemberStatus) (undo : MemberChange) (undos : Lis
 first-change [] undo undos none = (refl, refl)
 first-change (entry ∷ members) undo undos none =
     let parts = neither (list_any (λ (u : MemberChange). u.member == entry.1.number) (undo ∷ undos))
-        (list_any (λ (e : List ℕ × MemberStatus). list_any (λ (u : MemberChange). u.member == e.1.number) (undo ∷ undos)) members) none in
+    (list_any (λ (e : List ℕ × MemberStatus). list_any (λ (u : MemberChange). u.member == e.1.number) (undo ∷ undos)) members) none in
     let here = neither (undo.member == entry.1.number) (list_any (λ (u : MemberChange). u.member == entry.1.number) undos) parts.0 in
     let rest = first-change members undo undos parts.1 in
     let differ = here.0 in

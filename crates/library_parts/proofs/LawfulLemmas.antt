@@ -14,6 +14,7 @@ use Rattle.file_catalogue.specs.Statuses.{after}
 use Rattle.file_catalogue.specs.declared.changes.StatusChange.{StatusChange}
 use Rattle.entry_codec.specs.declared.entries.Entry.{Entry}
 use Rattle.lock_table.specs.declared.lock.Lock.{Lock}
+use Rattle.job_table.specs.Table.{JobTable}
 use Rattle.job_table.specs.Users.{HasBegun, AreOfJobs}
 use Rattle.library_model.specs.Named.{Named, named, same_name}
 use Rattle.library_model.specs.declared.requests.OpenFile.{OpenFile}
@@ -103,6 +104,10 @@ AreOne-new_job s bytes name one = record {
   };
   counted = one.counted;
 }
+
+pub OnErr-jobs : {A E : Type 0} (result : Result A E) (now before : JobTable) → OnErr result (now ≡ before) → OnErr result (now.jobs ≡ before.jobs)
+OnErr-jobs (Ok a) now before kept = kept
+OnErr-jobs (Err e) now before kept = ap (λ (t : JobTable). t.jobs) kept
 
 -- the jobs after one has begun, or after it hasn't
 pub AreOne-begun : (s : State) (bytes : ℕ) (name : List ℕ) {A E : Type 0} (result : Result A E) (jobs : List JobState) → AreOne s bytes

@@ -1,5 +1,5 @@
 -- What a change of one member leaves of the others, and what it makes of the bytes of all.
-use Rattle.std.proofs.Common.{◌≡◌, ◌≢◌, inl, inr, ℕ, zero, suc, ◌+◌, ◌-◌, ◌*◌, ◌<◌, ◌≤◌, ◌==◌, if◌then◌else◌, Bool, true, false, cond, filter, List, [], ◌∷◌, ◌++◌, length, slice_set, Option, Some, None, is_some, IsSome, unwrap_or, subst, refl, sym, ◌∙◌, ap, arith, rules}
+use Rattle.std.proofs.Common.{◌≡◌, ◌≢◌, inl, inr, ℕ, zero, suc, ◌+◌, ◌-◌, ◌*◌, ◌<◌, ◌≤◌, ◌==◌, if◌then◌else◌, Bool, true, false, cond, filter, List, [], ◌∷◌, ◌++◌, length, slice_get, slice_set, Option, Some, None, is_some, IsSome, unwrap_or, subst, refl, sym, ◌∙◌, ap, arith, rules}
 use Rattle.std.specs.List.{AllByRecursion}
 use Rattle.std.proofs.Math.Nat.{suc-mul, mul-le-mul_right}
 use Rattle.std.proofs.lemmas.Bool.{cases_eq}
@@ -7,7 +7,7 @@ use Rattle.std.proofs.lemmas.Bool.Decides.{nat_tests}
 use Rattle.std.proofs.lemmas.List.Sums.{sum_by-cons}
 use Rattle.member_slots.specs.declared.slot.Slot.{Slot}
 use Rattle.member_slots.specs.declared.slot.Slot.TheVariants.{Live, Deleted}
-use Rattle.member_slots.specs.Member.{MemberState, empty_member, appended, changed, cleared, is_live, reorganized}
+use Rattle.member_slots.specs.Member.{MemberState, empty_member, appended, changed, cleared, is_live, reorganized, slot_at}
 use Rattle.member_slots.specs.Members.{Numbered, NumberedMembers, item_at, put_item, with_item, without_item, member_at, member_of, with_member}
 use Rattle.record_fmt.specs.declared.formats.Field.{Field}
 use Rattle.library_steps.specs.Ranges.{library_bytes}
@@ -108,6 +108,19 @@ HasRecords-changed fields member rrn slot has held =
       | true ↦ has
       | false ↦ record { long = has.long; values = AllByRecursion-set (HoldsValues fields) member.slots (rrn - 1) slot has.values held }
     ]
+
+AllByRecursion-get : {X : Type 0} (P : X → Type 0) (xs : List X) (place : ℕ) (x : X) → AllByRecursion P xs → slice_get xs place ≡ Some x → P x
+AllByRecursion-get P [] place x all here = absurd cc
+AllByRecursion-get P (y ∷ xs) zero x all here = let same : y ≡ x = cc in subst P same all.0
+AllByRecursion-get P (y ∷ xs) (suc place) x all here = AllByRecursion-get P xs place x all.1 here
+
+-- a slot of the member holds values
+pub HoldsValues-at : (fields : List Field) (member : MemberState) (rrn : ℕ) (slot : Slot) → HasRecords fields member → slot_at member rrn ≡ Some slot → HoldsValues fields slot
+HoldsValues-at fields member rrn slot has here =
+    elim (rrn == 0) as (λ b. (if b then None else slice_get member.slots (rrn - 1)) ≡ Some slot → HoldsValues fields slot) [
+      | true ↦ λ e. absurd cc
+      | false ↦ λ e. AllByRecursion-get (HoldsValues fields) member.slots (rrn - 1) slot has.values e
+    ] here
 
 -- a record that is put behind the last slot
 pub slot_put-appended : (member : MemberState) (image : List ℕ) → slot_put (length member.slots + 1) (Live image) member ≡ appended member image

@@ -64,7 +64,14 @@ impl Contents {
         let due = self.cycle_due(job);
         let undos = self.jobs.rollback(job);
         self.locks.release_job(job);
-        roll_back(&mut self.members, &mut self.journal, undos, cycle, name, timestamp);
+        roll_back(
+            &mut self.members,
+            &mut self.journal,
+            undos,
+            cycle,
+            name,
+            timestamp,
+        );
         self.due -= due;
     }
 
@@ -80,7 +87,14 @@ impl Contents {
         let due = self.cycle_due(job);
         let undos = self.jobs.end(job);
         self.locks.release_job(job);
-        roll_back(&mut self.members, &mut self.journal, undos, cycle, name, timestamp);
+        roll_back(
+            &mut self.members,
+            &mut self.journal,
+            undos,
+            cycle,
+            name,
+            timestamp,
+        );
         deposit_if(&mut self.journal, ended(name, timestamp, level));
         self.due = self.due - due - level_due(level);
     }
@@ -154,13 +168,7 @@ fn take_all_back(
 }
 
 /// Puts the slot before the change where it stood, and deposits the entries that tell of it.
-fn take_back(
-    members: &mut Members,
-    journal: &mut MemoryJournal,
-    undo: Undo,
-    job: Name,
-    moment: u64,
-)
+fn take_back(members: &mut Members, journal: &mut MemoryJournal, undo: Undo, job: Name, moment: u64)
     requires fits { FitsPlace members.old.members undo }
     requires room { 2 ≤ journal.old.room }
     ensures members { members.new.members ≡ member_back undo members.old.members }
@@ -194,7 +202,10 @@ fn tell(journal: &mut MemoryJournal, origin: &Origin, given: Slot, changed: Slot
     match given {
         Slot::Live(before) => match changed {
             Slot::Live(after) => {
-                let _sequence = journal.deposit(told(origin, EntryKind::UndoBeforeImage { image: after }));
+                let _sequence = journal.deposit(told(
+                    origin,
+                    EntryKind::UndoBeforeImage { image: after },
+                ));
                 let _sequence = journal.deposit(told(
                     origin,
                     EntryKind::UndoAfterImage {
@@ -215,7 +226,10 @@ fn tell(journal: &mut MemoryJournal, origin: &Origin, given: Slot, changed: Slot
         },
         Slot::Deleted => match changed {
             Slot::Live(after) => {
-                let _sequence = journal.deposit(told(origin, EntryKind::UndoDelete { image: after }));
+                let _sequence = journal.deposit(told(
+                    origin,
+                    EntryKind::UndoDelete { image: after },
+                ));
             }
             Slot::Deleted => {}
         },

@@ -46,6 +46,8 @@ impl Contents {
         requires fits { FitsSlot (member_of member self.old.state.members).record_length slot }
         requires values { MayStand self.old.state member slot }
         ensures before { result ≡ slot_there member rrn (memory_of self.old.state) }
+        ensures fitted { FitsSlot (member_of member self.old.state.members).record_length result }
+        ensures stood { MayStand self.old.state member result }
         ensures memory { memory_of self.new.state ≡ with_slot member rrn slot (memory_of self.old.state) }
         ensures entries { self.new.state.entries ≡ self.old.state.entries }
         ensures room { self.new.room ≡ self.old.room }

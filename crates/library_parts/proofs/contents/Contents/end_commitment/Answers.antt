@@ -17,8 +17,8 @@ use Rattle.library_parts.proofs.LawfulLemmas.{AreOne-commitment_ended, AreOne-jo
 use Rattle.library_parts.proofs.DueLemmas.{HasDue-changed, job_due-part, started-due}
 use Rattle.library_parts.proofs.contents.Contents.end_commitment.Goals as goal
 
-pub deposit-requires : goal.deposit-requires
-deposit-requires c =
+pub deposit-sequence-requires : goal.deposit-sequence-requires
+deposit-sequence-requires c =
     let inside = c.self.inside in
     let one = started-due (or_new (job_at c.args.job inside.jobs.jobs)).level (rw (← c.self.view_is) at c.requires.started) in
     omega (arith, one, job_due-part inside.jobs.jobs c.args.job, c.self.invariant.1.counted, c.self.invariant.1.fits)
@@ -40,7 +40,7 @@ invariant_of-self c =
     let counted = c.self.invariant.1.counted in
     let fits = c.self.invariant.1.fits in
     let few = c.self.invariant.1.few in
-    let kept = c.deposit.ensures.room in
+    let kept = c.deposit-sequence.ensures.room in
     rw (c.release_group.ensures, c.end_commitment.ensures) (
       AreOne-journal (record state { jobs = job_changed (c.args.job - 1) (with_level None) state.jobs; locks = freed (is_of_group c.args.job) state.locks }) _ _ _ _ _
           (AreOne-commitment_ended state _ _ (freed (is_of_group c.args.job) state.locks) c.self.invariant.0
@@ -54,5 +54,5 @@ returns c =
     let parts = c.self.inside in
     let state = state_of parts.catalogue parts.members parts.next_member parts.journal parts.locks parts.jobs in
     let draft = c.of_library-draft.ensures ∙ ap (λ (name : List ℕ). library_draft (author name c.args.timestamp) CommitmentEnded) c.name.ensures in
-    let journal = c.deposit.ensures.deposited ∙ ap (λ (d : Draft). deposited (d ∷ []) parts.journal.journal) draft in
+    let journal = c.deposit-sequence.ensures.deposited ∙ ap (λ (d : Draft). deposited (d ∷ []) parts.journal.journal) draft in
     rw (← c.self.view_is, journal, c.release_group.ensures, c.end_commitment.ensures) (ended-answers state c.args.job c.args.timestamp)

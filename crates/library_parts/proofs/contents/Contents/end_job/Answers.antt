@@ -31,7 +31,7 @@ invariant_of-self c =
     let fits = c.self.invariant.1.fits in
     let few = c.self.invariant.1.few in
     rw (c.release_job.ensures.locks, c.end-none.ensures.jobs) (
-    AreOne-ended _ _ _ _ c.self.invariant.0 (All-filter (λ lock. not (is_by c.args.job lock)) (λ lock. HasBegun (length inside.jobs.jobs) lock.job) inside.locks.held c.self.invariant.0.lawful.keepers),
-    HasDue-changed inside.jobs.jobs inside.due inside.journal.room _ _ c.args.job ended_job running c.self.invariant.1
-        (omega (arith, before, none, part, counted)) (omega (arith, fits)) (omega (arith, few)),
+      AreOne-ended _ _ _ _ c.self.invariant.0 (All-filter (λ lock. not (is_by c.args.job lock)) (λ lock. HasBegun (length inside.jobs.jobs) lock.job) inside.locks.held c.self.invariant.0.lawful.keepers),
+      HasDue-changed inside.jobs.jobs inside.due inside.journal.room _ _ c.args.job ended_job running c.self.invariant.1
+          (omega (arith, before, none, part, counted)) (omega (arith, fits)) (omega (arith, few)),
     )

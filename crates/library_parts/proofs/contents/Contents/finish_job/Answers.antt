@@ -82,10 +82,10 @@ invariant_of-self c =
     let more = c.deposit_if.ensures.room in
     rw (c.roll_back.ensures.members, c.end-undos.ensures.changes, c.release_job.ensures.locks, c.end-undos.ensures.jobs) (
       AreOne-journal (record state {
-            members = members_back (changes_in job.cycle) state.members;
-            jobs = job_changed (c.args.job - 1) ended_job state.jobs;
-            locks = freed (is_by c.args.job) state.locks;
-          }) _ _ _ _ _
+        members = members_back (changes_in job.cycle) state.members;
+        jobs = job_changed (c.args.job - 1) ended_job state.jobs;
+        locks = freed (is_by c.args.job) state.locks;
+      }) _ _ _ _ _
           (AreOne-finished state _ _ (freed (is_by c.args.job) state.locks) job.cycle c.self.invariant.0 back
           (All-filter (λ lock. not (is_by c.args.job lock)) (λ lock. HasBegun (length inside.jobs.jobs) lock.job) inside.locks.held c.self.invariant.0.lawful.keepers)),
       HasDue-changed inside.jobs.jobs inside.due inside.journal.room _ _ c.args.job ended_job running c.self.invariant.1

@@ -60,10 +60,10 @@ invariant_of-self c =
     let kept = c.roll_back.ensures.room in
     rw (c.roll_back.ensures.members, c.rollback-undos.ensures.changes, c.release_job.ensures.locks, c.rollback-undos.ensures.jobs) (
       AreOne-journal (record state {
-            members = members_back (changes_in job.cycle) state.members;
-            jobs = job_changed (c.args.job - 1) (λ j. with_opens rolled_back_open (without_cycle j)) state.jobs;
-            locks = freed (is_by c.args.job) state.locks;
-          }) _ _ _ _ _
+        members = members_back (changes_in job.cycle) state.members;
+        jobs = job_changed (c.args.job - 1) (λ j. with_opens rolled_back_open (without_cycle j)) state.jobs;
+        locks = freed (is_by c.args.job) state.locks;
+      }) _ _ _ _ _
           (AreOne-rolled_back state _ _ (freed (is_by c.args.job) state.locks) job.cycle c.self.invariant.0 back
           (All-filter (λ lock. not (is_by c.args.job lock)) (λ lock. HasBegun (length inside.jobs.jobs) lock.job) inside.locks.held c.self.invariant.0.lawful.keepers)),
       HasDue-changed inside.jobs.jobs inside.due inside.journal.room _ _ c.args.job (λ j. with_opens rolled_back_open (without_cycle j)) running c.self.invariant.1

@@ -8,8 +8,7 @@ switch-requires-clause-room c = let room = rw (← c.self.view_is) at c.requires
 pub invariant_of-self : goal.invariant_of-self
 invariant_of-self c =
     let room = rw (← c.self.view_is) at c.requires.room in
-    let kept = c.switch.ensures.room in
-    (
+    let kept = c.switch.ensures.room in (
       AreOne-journal _ _ _ _ _ _ c.self.invariant.0,
       record { counted = c.self.invariant.1.counted; fits = omega (arith, room, kept); few = c.self.invariant.1.few },
     )
