@@ -1,5 +1,5 @@
 -- Changes of commit cycles can still be taken back after whatever leaves their members and places.
-use Rattle.std.proofs.Common.{◌≡◌, ◌≢◌, ◌⊎◌, inl, inr, ℕ, zero, suc, ◌+◌, ◌-◌, ◌<◌, ◌≤◌, ◌==◌, ◌||◌, if◌then◌else◌, Bool, true, false, List, [], ◌∷◌, length, Option, Some, None, is_some, unwrap_or, slice_get, subst, refl, sym, ◌∙◌, ap, arith}
+use Rattle.std.proofs.Common.{◌≡◌, ◌≢◌, inl, inr, ℕ, zero, suc, ◌+◌, ◌-◌, ◌<◌, ◌≤◌, ◌==◌, ◌||◌, if◌then◌else◌, Bool, true, false, List, [], ◌∷◌, length, Option, Some, None, is_some, unwrap_or, slice_get, subst, refl, sym, ◌∙◌, ap, arith}
 use Rattle.std.specs.List.{AllByRecursion, list_any}
 use Rattle.std.proofs.lemmas.Bool.{cases_eq}
 use Rattle.std.proofs.lemmas.Bool.Decides.{nat_tests}
@@ -11,7 +11,7 @@ use Rattle.file_catalogue.specs.Owners.{Owns}
 use Rattle.job_table.specs.Changes.{cycle_from}
 use Rattle.lock_table.specs.declared.lock.Lock.{Lock}
 use Rattle.library_model.specs.Named.{Named}
-use Rattle.library_steps.specs.State.{FileState, CycleState, JobState, job_at, job_changed, or_new, fields_of}
+use Rattle.library_steps.specs.State.{FileState, CycleState, JobState, job_at, or_new, fields_of}
 use Rattle.library_steps.specs.SlotChange.{noted}
 use Rattle.library_steps.specs.Uses.{first_job, changes_in, has_open_over, has_changed, has_boundary_lock, uses}
 use Rattle.library_parts.specs.Lawful.{HoldsValues, FitsPlace, GoesBack, CycleGoesBack, AllGoBack}

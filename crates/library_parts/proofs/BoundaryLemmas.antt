@@ -1,5 +1,5 @@
 -- What the boundaries of jobs deposit and take back is what their definitions say.
-use Rattle.std.proofs.Common.{◌≡◌, ℕ, suc, ◌+◌, ◌-◌, ◌*◌, ◌≤◌, ◌==◌, if◌then◌else◌, Bool, true, false, List, [], ◌∷◌, ◌++◌, length, map, filter, option_to_list, Option, Some, None, is_some, IsSome, Result, Ok, append_assoc, length-append, subst, refl, sym, ◌∙◌, ap, arith, rules}
+use Rattle.std.proofs.Common.{◌≡◌, ℕ, suc, ◌+◌, ◌-◌, ◌*◌, ◌≤◌, ◌==◌, if◌then◌else◌, Bool, true, false, List, [], ◌∷◌, ◌++◌, length, map, filter, option_to_list, Option, Some, None, is_some, IsSome, Ok, append_assoc, length-append, subst, refl, sym, ◌∙◌, ap, arith, rules}
 use Rattle.std.specs.List.{AllByRecursion}
 use Rattle.std.specs.Option.{option_map}
 use Rattle.std.proofs.lemmas.Bool.Decides.{nat_tests}
@@ -15,20 +15,19 @@ use Rattle.journal_model.specs.Acts.{is_number}
 use Rattle.journal_model.specs.Replay.{before_of, is_in}
 use Rattle.journal_model.specs.Rollback.{MemberChange, change_drafts, undo_drafts, numbered_from}
 use Rattle.lock_table.specs.declared.lock.Lock.{Lock}
-use Rattle.lock_table.specs.declared.levels.Call.TheVariants.{Commit, Rollback, EndJob}
+use Rattle.lock_table.specs.declared.levels.Call.TheVariants.{Rollback, EndJob}
 use Rattle.lock_table.specs.Lock.{is_of_group}
 use Rattle.lock_table.specs.Table.{freed}
 use Rattle.memory_journal.specs.Journal.{Journal, deposited, last_entry}
-use Rattle.library_model.specs.declared.replies.Reply.{Reply}
 use Rattle.library_model.specs.declared.replies.Reply.TheVariants.{Done}
 use Rattle.library_model.specs.Named.{Named}
-use Rattle.library_steps.specs.State.{State, Memory, FileState, OpenState, CycleState, JobState, memory_of, job_of, job_changed, with_job, with_opens}
+use Rattle.library_steps.specs.State.{State, Memory, FileState, CycleState, JobState, memory_of, job_of, job_changed, with_job, with_opens}
 use Rattle.library_steps.specs.Change.{journaled, deposited as drafts_deposited}
-use Rattle.library_steps.specs.Commitment.{boundary_locks, changes_of, commit_change, commitment_ended, committed, committed_open, end_drafts, rollback_change, rolled_back, rolled_back_open, taken_back, undo_entries, with_level, without_cycle}
+use Rattle.library_steps.specs.Commitment.{boundary_locks, changes_of, commit_change, commitment_ended, committed, end_drafts, rollback_change, rolled_back, rolled_back_open, taken_back, undo_entries, with_level, without_cycle}
 use Rattle.library_steps.specs.Drafts.{author_of, library_draft}
 use Rattle.library_steps.specs.EndJob.{definition_entries, end_change, ended_job, job_ended}
 use Rattle.library_steps.specs.Locking.{with_locks}
-use Rattle.library_steps.specs.SlotChange.{slot_put, with_slot}
+use Rattle.library_steps.specs.SlotChange.{slot_put}
 use Rattle.library_steps.specs.Uses.{changes_in}
 use Rattle.job_table.specs.Users.{AreOfJobs}
 use Rattle.library_parts.specs.declared.boundaries.Origin.{Origin}

@@ -1,5 +1,5 @@
 -- What a boundary of a job takes back and deposits, in the order in which it is done. (Our own.)
-use Rattle.std.specs.Prelude.{ℕ, ◌+◌, false, Option, Some, None, List, [], ◌∷◌, ◌++◌, map, option_to_list}
+use Rattle.std.specs.Prelude.{ℕ, ◌+◌, false, Option, Some, List, [], ◌∷◌, ◌++◌, option_to_list}
 use Rattle.std.specs.Option.{option_map}
 use Rattle.commit_level.specs.declared.Level.{Level}
 use Rattle.entry_codec.specs.declared.entries.Draft.{Draft}

@@ -1,4 +1,4 @@
-use Rattle.library_parts.proofs.TakingBackLemmas.{IsUnderway, IsUnderway-first, IsUnderway-next, IsUnderway-none, journal-none, next-fits}
+use Rattle.library_parts.proofs.TakingBackLemmas.{IsUnderway-first, IsUnderway-next, next-fits}
 use Rattle.library_parts.proofs.boundaries.take_all_back.Goals as goal
 
 pub loop-undo-init : goal.loop-undo-init

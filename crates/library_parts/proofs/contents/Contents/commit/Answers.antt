@@ -1,11 +1,10 @@
-use Rattle.std.proofs.Common.{◌≡◌, ◌∙◌, ◌+◌, ◌-◌, ◌≤◌, ℕ, None, Option, List, length, option_to_list, ◌==◌, refl, sym, ap, arith}
+use Rattle.std.proofs.Common.{◌≡◌, ◌∙◌, ◌-◌, ℕ, None, Option, length, option_to_list, ◌==◌, ap, arith}
 use Rattle.std.specs.List.{list_any}
 use Rattle.std.specs.Option.{option_map}
 use Rattle.entry_codec.specs.declared.entries.Draft.{Draft}
 use Rattle.entry_codec.specs.declared.kinds.EntryKind.TheVariants.{CommitCycleCommitted}
 use Rattle.lock_table.specs.Table.{Locks}
 use Rattle.lock_table.specs.declared.levels.Call.TheVariants.{Commit}
-use Rattle.memory_journal.specs.Journal.{Journal}
 use Rattle.lock_table.specs.Levels.{locks_after}
 use Rattle.library_steps.specs.State.{memory_of, job_of, job_at, job_changed, or_new, with_opens}
 use Rattle.library_steps.specs.Commitment.{committed_open, without_cycle}

@@ -1,5 +1,4 @@
-use Rattle.std.proofs.Common.{◌≡◌, ◌∙◌, ◌+◌, ◌*◌, length, ap, arith}
-use Rattle.journal_model.specs.Rollback.{MemberChange}
+use Rattle.std.proofs.Common.{◌≡◌, ◌∙◌, length, ap, arith}
 use Rattle.library_steps.specs.State.{job_at, or_new}
 use Rattle.library_steps.specs.Uses.{changes_in}
 use Rattle.library_parts.proofs.DueLemmas.{cycle_due-changes, job_due-part}

@@ -1,4 +1,4 @@
-use Rattle.std.proofs.Common.{◌≡◌, ◌+◌, ◌-◌, ◌≤◌, arith}
+use Rattle.std.proofs.Common.{arith}
 use Rattle.library_parts.proofs.LawfulLemmas.{AreOne-journal}
 use Rattle.library_parts.proofs.contents.Contents.deposit.Goals as goal
 

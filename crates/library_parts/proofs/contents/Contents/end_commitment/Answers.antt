@@ -1,10 +1,10 @@
-use Rattle.std.proofs.Common.{◌≡◌, ◌∙◌, ◌+◌, ◌-◌, ◌≤◌, ℕ, List, None, [], ◌∷◌, ap, arith, not, length}
+use Rattle.std.proofs.Common.{◌≡◌, ◌∙◌, ◌-◌, ℕ, List, None, [], ◌∷◌, ap, arith, not, length}
 use Rattle.std.proofs.lemmas.List.Elements.{All-filter}
 use Rattle.entry_codec.specs.declared.entries.Draft.{Draft}
 use Rattle.entry_codec.specs.declared.kinds.EntryKind.TheVariants.{CommitmentEnded}
 use Rattle.lock_table.specs.Lock.{is_of_group}
 use Rattle.lock_table.specs.Table.{freed}
-use Rattle.memory_journal.specs.Journal.{Journal, deposited}
+use Rattle.memory_journal.specs.Journal.{deposited}
 use Rattle.job_table.specs.Users.{HasBegun}
 use Rattle.library_steps.specs.State.{job_at, job_changed, or_new}
 use Rattle.library_steps.specs.Commitment.{with_level}

@@ -1,4 +1,4 @@
-use Rattle.std.proofs.Common.{◌≡◌, ◌∙◌, ◌-◌, ap, arith, not}
+use Rattle.std.proofs.Common.{◌≡◌, ◌∙◌, ap, arith, not}
 use Rattle.std.proofs.lemmas.List.Elements.{All-filter}
 use Rattle.lock_table.specs.Lock.{is_by}
 use Rattle.job_table.specs.Users.{HasBegun}

@@ -1,4 +1,4 @@
-use Rattle.std.proofs.Common.{◌≡◌, ◌∙◌, ◌+◌, ◌-◌, ◌*◌, ◌≤◌, ◌++◌, ℕ, None, Option, List, not, length, option_to_list, subst, sym, ap, arith}
+use Rattle.std.proofs.Common.{◌≡◌, ◌∙◌, ◌-◌, ℕ, Option, List, not, length, option_to_list, subst, sym, ap, arith}
 use Rattle.entry_codec.specs.declared.entries.Draft.{Draft}
 use Rattle.std.specs.List.{AllByRecursion}
 use Rattle.std.specs.Option.{option_map}
@@ -6,9 +6,9 @@ use Rattle.std.proofs.lemmas.List.Elements.{All-filter}
 use Rattle.journal_model.specs.Rollback.{MemberChange}
 use Rattle.lock_table.specs.Lock.{is_by}
 use Rattle.lock_table.specs.Table.{Locks, freed}
-use Rattle.memory_journal.specs.Journal.{Journal, deposited}
+use Rattle.memory_journal.specs.Journal.{deposited}
 use Rattle.job_table.specs.Users.{HasBegun}
-use Rattle.library_steps.specs.State.{memory_of, job_of, job_at, job_changed, or_new, with_opens}
+use Rattle.library_steps.specs.State.{memory_of, job_of, job_at, job_changed, or_new}
 use Rattle.library_steps.specs.Locking.{is_committed}
 use Rattle.library_steps.specs.Uses.{changes_in}
 use Rattle.library_parts.specs.Boundaries.{definition_end, members_back, roll_drafts}

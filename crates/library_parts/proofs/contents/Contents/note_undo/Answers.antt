@@ -2,7 +2,6 @@ use Rattle.std.proofs.Common.{◌≡◌, ◌∙◌, ◌+◌, if◌then◌else◌
 use Rattle.library_steps.specs.State.{job_at, or_new}
 use Rattle.library_steps.specs.SlotChange.{noted, with_cycle}
 use Rattle.job_table.specs.Changes.{cycle_from}
-use Rattle.library_parts.specs.Due.{cycle_due}
 use Rattle.library_parts.specs.Lawful.{GoesBack}
 use Rattle.library_parts.proofs.LawfulLemmas.{AreOne-noted}
 use Rattle.library_parts.proofs.BackLemmas.{CycleGoesBack-noted, CycleGoesBack-of}

@@ -1,4 +1,4 @@
-use Rattle.std.proofs.Common.{◌≡◌, ◌∙◌, ◌+◌, ◌≤◌, ◌-◌, Some, ap, arith}
+use Rattle.std.proofs.Common.{◌≡◌, ◌∙◌, Some, ap, arith}
 use Rattle.library_steps.specs.State.{job_at, or_new}
 use Rattle.library_steps.specs.Commitment.{with_level}
 use Rattle.library_parts.specs.Due.{level_due}
