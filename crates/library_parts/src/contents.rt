@@ -1,8 +1,8 @@
 //! What the library has in memory: its parts joined. What requests look up stands in `finds.rt`, `records.rt`, `users.rt` and
 //! `locking.rt`; what their effects change in `opens.rt`.
-ghost use Rattle.std.specs.Prelude.{◌≡◌, ◌+◌, ◌<◌, [], ◌∷◌, ◌++◌, length, IfOk, OnOk, OnErr};
+ghost use Rattle.std.specs.Prelude.{◌≡◌, ◌+◌, ◌<◌, [], ◌∷◌, ◌++◌, length, IfOk, IsTrue, OnOk, OnErr};
 ghost use Rattle.library_steps.specs.History.{is_running};
-ghost use Rattle.library_steps.specs.State.{empty_library, job_at, new_job};
+ghost use Rattle.library_steps.specs.State.{empty_library, job_at, job_of, memory_of, new_job};
 ghost use Rattle.library_parts.specs.Lawful.{IsLibrary};
 
 use field_types::names::Name;
@@ -26,17 +26,20 @@ pub struct Contents {
     pub(crate) journal: MemoryJournal,
     pub(crate) locks: LockTable,
     pub(crate) jobs: Jobs,
+    /// How many entries the boundaries of the jobs may still deposit. The room for them is kept.
+    pub(crate) due: u64,
 }
 
 impl Model for Contents {
     ghost use Rattle.library_parts.specs.Parts.{LibraryParts, joined, state_of};
     ghost use Rattle.library_parts.specs.Lawful.{AreOne};
+    ghost use Rattle.library_parts.specs.Due.{HasDue};
 
     ghost Value = { LibraryParts };
 
-    ghost view = { λ c. joined c.catalogue c.members c.next_member c.journal c.locks c.jobs };
+    ghost view = { λ c. joined c.catalogue c.members c.next_member c.journal c.locks c.jobs c.due };
 
-    ghost invariant = { λ c. AreOne (state_of c.catalogue c.members c.next_member c.journal c.locks c.jobs) c.member_bytes };
+    ghost invariant = { λ c. AreOne (state_of c.catalogue c.members c.next_member c.journal c.locks c.jobs) c.member_bytes × HasDue c.jobs.jobs c.due c.journal.room };
 }
 
 impl Contents {
@@ -53,6 +56,7 @@ impl Contents {
             journal: MemoryJournal::new(alloc),
             locks: LockTable::new(alloc),
             jobs: Jobs::new(alloc),
+            due: 0,
         }
     }
 
@@ -69,6 +73,14 @@ impl Contents {
         ensures { result ≡ is_running (job_at job self.now.state.jobs) }
     {
         self.jobs.is_running(job)
+    }
+
+    /// The name of the job.
+    pub fn job_name(&self, job: u32) -> Name
+        requires { IsTrue (is_running (job_at job self.now.state.jobs)) }
+        ensures { result ≡ (job_of job (memory_of self.now.state)).name }
+    {
+        self.jobs.name(job)
     }
 
     /// Begins a job and answers its number.
