@@ -1,2 +1,10 @@
-//! Lemmas.
+//! The library over a store, and the one call that answers a request. Begin with `library.rt`.
 #![tactic(auto)]
+
+mod boundaries;
+pub mod library;
+
+pub use library_model::calls::Call;
+pub use library_model::replies::Reply;
+pub use library_model::requests::Request;
+pub use library_model::sources::Sources;

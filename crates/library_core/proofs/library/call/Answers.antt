@@ -1,0 +1,26 @@
+use Rattle.std.proofs.Common.{◌≡◌, ◌∙◌, false, IsTrue, ap, subst, sym}
+use Rattle.library_steps.specs.State.{job_at}
+use Rattle.library_steps.specs.History.{is_running}
+use Rattle.built_state.specs.Built.{IsBuilt}
+use Rattle.library_core.specs.Parts.{LibraryOver}
+use Rattle.library_core.specs.Stands.{Stands, IsReady}
+use Rattle.library_core.proofs.CallLemmas.{goes-answered, runs-answered, built-answered}
+use Rattle.library_core.proofs.library.call.Goals as goal
+
+pub returns-clause-goes : goal.returns-clause-goes
+returns-clause-goes g c s stands =
+    let seen = c.library.view_is in
+    let stood = subst (λ (l : LibraryOver g.row.S.Denot). Stands l s) (sym seen) stands in
+    let alive : c.library.inside.failed ≡ false = ap (λ (l : LibraryOver g.row.S.Denot). l.failed) seen ∙ c.requires.ready.alive in
+    rw c.reply_of.ensures (goes-answered c.args.sources.now _ _ s c.args.job c.args.timestamp c.args.request.now c.perform-done.result stood alive c.perform-done.ensures.step c.perform-done.ensures.memory)
+
+pub returns-clause-running : goal.returns-clause-running
+returns-clause-running g c other =
+    let seen = c.library.view_is in
+    let ready = subst (IsReady c.args.job) (sym seen) c.requires.ready in
+    rw (← seen) (runs-answered c.args.sources.now _ _ c.args.job c.args.timestamp c.args.request.now ready.running c.requires.built c.requires.unkeyed ready.built c.perform-done.result c.perform-done.ensures.step c.perform-done.ensures.memory other)
+
+pub returns-clause-kept : goal.returns-clause-kept
+returns-clause-kept g c =
+    let ready = subst (IsReady c.args.job) (sym c.library.view_is) c.requires.ready in
+    built-answered c.args.sources.now _ _ c.args.job c.args.timestamp c.args.request.now ready.running c.requires.built c.requires.unkeyed ready.built c.perform-done.result c.perform-done.ensures.step
