@@ -1,8 +1,8 @@
 //! What the library has in memory: its parts joined. What requests look up stands in `finds.rt`, `records.rt`, `users.rt` and
 //! `locking.rt`; what their effects change in `opens.rt`.
-ghost use Rattle.std.specs.Prelude.{◌≡◌, ◌+◌, ◌<◌, [], ◌∷◌, ◌++◌, length, IfOk, OnOk, OnErr};
+ghost use Rattle.std.specs.Prelude.{◌≡◌, ◌+◌, ◌<◌, [], ◌∷◌, ◌++◌, length, IfOk, IsTrue, OnOk, OnErr};
 ghost use Rattle.library_steps.specs.History.{is_running};
-ghost use Rattle.library_steps.specs.State.{empty_library, job_at, new_job};
+ghost use Rattle.library_steps.specs.State.{empty_library, job_at, job_of, memory_of, new_job};
 ghost use Rattle.library_parts.specs.Lawful.{IsLibrary};
 
 use field_types::names::Name;
@@ -69,6 +69,19 @@ impl Contents {
         ensures { result ≡ is_running (job_at job self.now.state.jobs) }
     {
         self.jobs.is_running(job)
+    }
+
+    /// The name of the job.
+    pub fn job_name(&self, job: u32) -> Name
+        requires { IsTrue (is_running (job_at job self.now.state.jobs)) }
+        ensures { result ≡ (job_of job (memory_of self.now.state)).name }
+    {
+        self.jobs.name(job)
+    }
+
+    /// What its copies of images and sources are made with.
+    pub fn alloc(&self) -> Global {
+        self.alloc
     }
 
     /// Begins a job and answers its number.
