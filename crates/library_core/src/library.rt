@@ -14,12 +14,21 @@ ghost use Rattle.library_parts.specs.declared.stop.Stop.TheVariants.{NoMemory};
 ghost use Rattle.library_core.specs.Running.{runs_after};
 ghost use Rattle.library_core.specs.Stands.{Stands, IsReady, Goes};
 
-use crate::boundaries::end_job;
+use crate::boundaries::{end_job, refuse_boundary};
 use field_types::names::Name;
+use file_requests::{
+    add_member, clear_member, close_file, create_physical_file, delete_file, end_journaling, open_file,
+    reorganize_member, start_journaling,
+};
+use journal_requests::{change_journal, delete_receiver, display_journal};
 use library_model::replies::Reply;
 use library_model::requests::Request;
 use library_model::sources::Sources;
 use library_parts::{Contents, Stop};
+use record_changes::{delete_record, unlock, update_record, write_record};
+use record_reads::{
+    chain, read, read_equal, read_prior, read_prior_equal, set_greater_than, set_lower_limit,
+};
 use std::alloc::{AllocError, Global};
 use std::marker::Model;
 use store_model::Store;
@@ -143,37 +152,39 @@ fn perform(
     ensures memory { IsErrOf result NoMemory → IsTrue (needs_memory request.now) }
 {
     match request {
-        Request::CreatePhysicalFile(_)
-        | Request::DeleteFile(_)
-        | Request::OpenFile(_)
-        | Request::Write(_)
-        | Request::Chain(_) => Err(Stop::NoMemory),
+        Request::CreatePhysicalFile(args) => {
+            create_physical_file(contents, job, timestamp, sources, args)
+        }
+        Request::DeleteFile(args) => delete_file(contents, job, timestamp, args),
+        Request::AddMember(args) => add_member(contents, job, timestamp, args),
+        Request::ClearMember(args) => clear_member(contents, job, timestamp, args),
+        Request::ReorganizeMember(args) => reorganize_member(contents, job, timestamp, args),
+        Request::StartJournaling(args) => start_journaling(contents, job, timestamp, args),
+        Request::EndJournaling(args) => end_journaling(contents, job, timestamp, args),
+        Request::ChangeJournal => change_journal(contents, job, timestamp),
+        Request::DeleteReceiver(args) => delete_receiver(contents, job, args),
+        Request::DisplayJournal(args) => display_journal(contents, job, args),
+        // What they need of the journal isn't kept as a fact of the library yet.
+        Request::ApplyChanges(_) | Request::RemoveChanges(_) => Err(Stop::NoMemory),
+        Request::EndCommitment | Request::Commit | Request::Rollback => {
+            Err(refuse_boundary(contents, job))
+        }
+        Request::OpenFile(args) => open_file(contents, job, args),
+        Request::CloseFile(args) => close_file(contents, job, args),
+        Request::SetLowerLimit(args) => set_lower_limit(contents, job, args),
+        Request::SetGreaterThan(args) => set_greater_than(contents, job, args),
+        Request::Read(args) => read(contents, job, args),
+        Request::ReadPrior(args) => read_prior(contents, job, args),
+        Request::ReadEqual(args) => read_equal(contents, job, args),
+        Request::ReadPriorEqual(args) => read_prior_equal(contents, job, args),
+        Request::Chain(args) => chain(contents, job, args),
+        Request::Write(args) => write_record(contents, job, timestamp, args),
+        Request::Update(args) => update_record(contents, job, timestamp, args),
+        Request::Delete(args) => delete_record(contents, job, timestamp, args),
+        Request::Unlock(args) => unlock(contents, job, args),
         Request::EndJob(_) => Ok(end_job(contents, job)),
-        Request::CreateLogicalFile(_)
-        | Request::AddMember(_)
-        | Request::ClearMember(_)
-        | Request::ReorganizeMember(_)
-        | Request::StartJournaling(_)
-        | Request::EndJournaling(_)
-        | Request::ChangeJournal
-        | Request::DeleteReceiver(_)
-        | Request::Checkpoint
-        | Request::DisplayJournal(_)
-        | Request::ApplyChanges(_)
-        | Request::RemoveChanges(_)
-        | Request::StartCommitment(_)
-        | Request::EndCommitment
-        | Request::Commit
-        | Request::Rollback
-        | Request::CloseFile(_)
-        | Request::SetLowerLimit(_)
-        | Request::SetGreaterThan(_)
-        | Request::Read(_)
-        | Request::ReadPrior(_)
-        | Request::ReadEqual(_)
-        | Request::ReadPriorEqual(_)
-        | Request::Update(_)
-        | Request::Delete(_)
-        | Request::Unlock(_) => unreachable!(),
+        Request::CreateLogicalFile(_) | Request::Checkpoint | Request::StartCommitment(_) => {
+            unreachable!()
+        }
     }
 }
