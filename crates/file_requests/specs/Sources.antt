@@ -1,5 +1,5 @@
 -- Whether CRTPF may add a file, and what it adds. (CL reference, CRTPF.)
-use Rattle.std.specs.Prelude.{ℕ, ◌≡◌, Bool, nat_le, nat_lt, Option, Result, Ok, List, length}
+use Rattle.std.specs.Prelude.{ℕ, Bool, nat_le, nat_lt, Option, Result, Ok, List, length}
 use Rattle.std.specs.Option.{is_some}
 use Rattle.record_fmt.specs.declared.formats.Format.{Format}
 use Rattle.library_model.specs.declared.limits.TheConstants.{MOST_FILES, LAST_MEMBER}

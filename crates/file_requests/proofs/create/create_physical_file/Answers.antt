@@ -1,4 +1,4 @@
-use Rattle.std.proofs.Common.{◌≡◌, ◌∙◌, [], ◌∷◌, Ok, sym, ap, true}
+use Rattle.std.proofs.Common.{◌∙◌, [], ◌∷◌, Ok, sym, ap, true}
 use Rattle.entry_codec.specs.declared.entries.Draft.{Draft}
 use Rattle.entry_codec.specs.declared.kinds.EntryKind.TheVariants.{FileCreated}
 use Rattle.entry_codec.specs.declared.kinds.FileKind.TheVariants.{Physical}

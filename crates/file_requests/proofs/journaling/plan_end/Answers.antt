@@ -1,4 +1,4 @@
-use Rattle.std.proofs.Common.{◌≡◌, ◌∙◌, true, false, sym, ap}
+use Rattle.std.proofs.Common.{◌≡◌, ◌∙◌, true, false, rules}
 use Rattle.std.specs.Option.{is_none}
 use Rattle.std.proofs.lemmas.Result.{err_from_is_err_and}
 use Rattle.library_model.specs.declared.replies.Reply.TheVariants.{NotJournaled}
@@ -14,11 +14,11 @@ returns-in_err-status-clause-plan c =
 pub returns-then-is_none-clause-plan : goal.returns-then-is_none-clause-plan
 returns-then-is_none-clause-plan c =
     let status = c.in_ok-status.status in
-    let test : is_none status.images ≡ true = ap is_none (sym c.images.ensures) ∙ sym c.is_none.ensures ∙ c.if-is_none.true in
+    let test : is_none status.images ≡ true = rw (← c.images.ensures) (search rules) in
     rw c.number.ensures (end_plan-found (memory_of c.args.contents.now.state) c.args.args.now status c.in_ok-status.ensures.plan ∙ refused-then _ (NotJournaled c.in_ok-status.status.number) status test)
 
 pub returns-clause-plan : goal.returns-clause-plan
 returns-clause-plan c =
     let status = c.in_ok-status.status in
-    let test : is_none status.images ≡ false = ap is_none (sym c.images.ensures) ∙ sym c.is_none.ensures ∙ c.if-is_none.false in
+    let test : is_none status.images ≡ false = rw (← c.images.ensures) (search rules) in
     end_plan-found (memory_of c.args.contents.now.state) c.args.args.now status c.in_ok-status.ensures.plan ∙ allowed-then _ (NotJournaled c.in_ok-status.status.number) status test

@@ -1,4 +1,4 @@
-use Rattle.std.proofs.Common.{◌≡◌, ◌∙◌, ◌+◌, ◌∷◌, length, ap}
+use Rattle.std.proofs.Common.{◌∙◌, ◌+◌, ◌∷◌, length, ap}
 use Rattle.entry_codec.specs.declared.kinds.EntryKind.TheVariants.{JournalingStarted}
 use Rattle.member_slots.specs.Members.{member_of}
 use Rattle.library_model.specs.declared.replies.Reply.TheVariants.{Done}

@@ -1,4 +1,4 @@
-use Rattle.std.proofs.Common.{◌≡◌, ◌+◌, ◌≤◌, length, ap, arith}
+use Rattle.std.proofs.Common.{arith}
 use Rattle.library_model.specs.Named.{named}
 use Rattle.file_requests.proofs.PlanLemmas.{gone-added}
 use Rattle.file_requests.proofs.member_commands.apply_add.Goals as goal

@@ -1,4 +1,4 @@
-use Rattle.std.proofs.Common.{◌≡◌, ◌∙◌, ◌+◌, ap}
+use Rattle.std.proofs.Common.{◌∙◌, ◌+◌, ap}
 use Rattle.std.specs.Option.{is_some}
 use Rattle.library_model.specs.declared.replies.Reply.TheVariants.{Done}
 use Rattle.library_steps.specs.State.{Memory, memory_of, with_status}

@@ -1,4 +1,4 @@
-use Rattle.std.proofs.Common.{◌≡◌, refl, ap}
+use Rattle.std.proofs.Common.{refl, ap}
 use Rattle.library_model.specs.declared.replies.Reply.TheVariants.{Done}
 use Rattle.library_steps.specs.State.{MemberStatus, memory_of, with_job}
 use Rattle.library_steps.specs.Change.{does, unjournaled}

@@ -1,4 +1,4 @@
-use Rattle.std.proofs.Common.{◌≡◌, ◌<◌, ◌≤◌, length, arith}
+use Rattle.std.proofs.Common.{◌<◌, ◌≤◌, length, arith}
 use Rattle.member_slots.specs.Members.{member_of}
 use Rattle.file_requests.proofs.RecordLemmas.{drafts-step, drafts-end}
 use Rattle.file_requests.proofs.records.drafts_of_start.Goals as goal

@@ -1,4 +1,4 @@
-use Rattle.std.proofs.Common.{◌≡◌, ◌+◌, ◌<◌, ◌≤◌, length, arith}
+use Rattle.std.proofs.Common.{◌+◌, ◌<◌, ◌≤◌, length, arith}
 use Rattle.member_slots.specs.Members.{member_of}
 use Rattle.file_requests.proofs.RecordLemmas.{records_from-place, records_from-end}
 use Rattle.file_requests.proofs.records.record_count.Goals as goal

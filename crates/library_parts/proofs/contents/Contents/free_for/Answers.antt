@@ -1,4 +1,4 @@
-use Rattle.std.proofs.Common.{◌≤◌, length, false, arith}
+use Rattle.std.proofs.Common.{◌≤◌, length, false, refl, arith}
 use Rattle.library_parts.proofs.AnswerLemmas.{AsksNone-of_open, AsksNone-unlocked, length-AsksNone}
 use Rattle.library_parts.proofs.LawfulLemmas.{AreOne-locks}
 use Rattle.library_parts.proofs.LockLemmas.{All-locks_after, running-HasBegun}
@@ -24,3 +24,6 @@ invariant_of-self c =
     rw (c.leave.ensures (λ n. false))
     (AreOne-locks _ _ _ c.self.invariant (All-locks_after (length inside.jobs.jobs) c.args.holder c.args.at
     (λ n. false) begun c.args.call c.args.level inside.locks.held c.self.invariant.lawful.keepers))
+
+pub returns-clause-room : goal.returns-clause-room
+returns-clause-room c = rw (← c.self.view_is, c.leave.ensures (λ n. false)) refl
