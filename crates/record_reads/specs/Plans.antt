@@ -11,16 +11,21 @@ use Rattle.lock_table.specs.Table.{blocker}
 use Rattle.file_model.specs.Paths.{PathEntry}
 use Rattle.file_model.specs.Positions.{Bound, Position, Before, Past}
 use Rattle.job_table.specs.Arrival.{arrival_position, entry_numbered}
+use Rattle.library_model.specs.declared.requests.SetPosition.{SetPosition}
+use Rattle.library_model.specs.declared.requests.ReadRecord.{ReadRecord}
+use Rattle.library_model.specs.declared.requests.LockOption.{LockOption}
 use Rattle.library_model.specs.declared.replies.Reply.{Reply}
 use Rattle.library_model.specs.declared.replies.Reply.TheVariants.{Record, Done}
 use Rattle.library_steps.specs.State.{Memory, FileState, OpenState, job_of, with_job}
-use Rattle.library_steps.specs.Change.{Change, unjournaled}
+use Rattle.library_steps.specs.Change.{Change, unjournaled, does}
 use Rattle.library_steps.specs.Refusals.{OpenedFile}
 use Rattle.library_steps.specs.Locking.{level_of, is_committed, with_locks}
-use Rattle.library_steps.specs.Reads.{open_changed, positioned, has_read}
+use Rattle.library_steps.specs.Reads.{open_changed, positioned, position_plan, position_change, has_read, read_plan, read_change, if_lockable}
 use Rattle.library_parts.specs.declared.stop.Stop.{Stop}
 use Rattle.library_parts.specs.declared.stop.Stop.TheVariants.{NoMemory, Refused}
 use Rattle.library_parts.specs.Locks.{IsRead}
+use Rattle.record_reads.specs.Arrival.{find_from, nothing_found}
+use Rattle.record_reads.specs.declared.reads.Direction.{Direction}
 use Rattle.record_reads.specs.declared.plans.UsedOpen.{UsedOpen}
 use Rattle.record_reads.specs.declared.plans.NewStand.{NewStand}
 use Rattle.record_reads.specs.declared.plans.PlannedRead.{PlannedRead}
@@ -64,12 +69,24 @@ abbrev pub bound_side : Side → Bound → Position PathEntry
 bound_side sides.Before = Before
 bound_side sides.Past = Past
 
+-- SETLL or SETGT
+abbrev pub position_set : Side → Memory → (job : ℕ) → SetPosition → Result Change Reply
+position_set side m job args = does (position_change m job) (position_plan (bound_side side) m job args)
+
 abbrev pub stand_change : Memory → (job : ℕ) → NewStand → Change
 stand_change m job new =
     unjournaled Done
     (with_job job (open_changed new.used.number (positioned (arrival_position new.position))) (with_locks (locks_through PositionCall job new.used 0 m) m))
 
 -- ---- reads
+
+-- READ or READP
+abbrev pub read_from : Direction → Memory → (job : ℕ) → ReadRecord → Result Change Reply
+read_from direction m job args = does (read_change m job) (read_plan (find_from direction) (nothing_found direction) m job args)
+
+-- the read of a record that was found, where the locks allow it
+abbrev pub record_read : OpenedFile → LockOption → (rrn : ℕ) → Memory → (job : ℕ) → Result Change Reply
+record_read its lock rrn m job = does (read_change m job) (if_lockable job m its lock (entry_numbered rrn))
 
 abbrev pub planned_change : Memory → (job : ℕ) → PlannedRead → Change
 planned_change m job plan =

@@ -17,6 +17,28 @@ pub(crate) struct UsedOpen {
     pub level: Option<Level>,
 }
 
+impl UsedOpen {
+    /// Through which open of the job records are locked.
+    pub(crate) fn holder(self, job: u32) -> Holder
+        ensures { result ≡ holder_through job self }
+    {
+        Holder {
+            job,
+            opened: self.number,
+        }
+    }
+
+    /// A record of the open's member.
+    pub(crate) fn record_id(self, rrn: u32) -> RecordId
+        ensures { result ≡ record_through self rrn }
+    {
+        RecordId {
+            member: self.member,
+            rrn,
+        }
+    }
+}
+
 /// An open, and where it is to stand.
 #[derive(Clone, Copy)]
 pub(crate) struct NewStand {
@@ -42,25 +64,5 @@ pub(crate) fn used_open(contents: &Contents, job: u32, opened: &Open) -> UsedOpe
         number: opened.number(),
         member: opened.member(),
         level: contents.level_of(job, opened),
-    }
-}
-
-/// Through which open of the job records are locked.
-pub(crate) fn holder_through(job: u32, used: UsedOpen) -> Holder
-    ensures { result ≡ holder_through job used }
-{
-    Holder {
-        job,
-        opened: used.number,
-    }
-}
-
-/// A record of the open's member.
-pub(crate) fn record_through(used: UsedOpen, rrn: u32) -> RecordId
-    ensures { result ≡ record_through used rrn }
-{
-    RecordId {
-        member: used.member,
-        rrn,
     }
 }

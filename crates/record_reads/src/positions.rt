@@ -4,15 +4,15 @@ ghost use Rattle.file_model.specs.Positions.{NumberBound};
 ghost use Rattle.job_table.specs.Arrival.{arrival_position};
 ghost use Rattle.library_model.specs.declared.replies.Reply.{Reply as AnyReply};
 ghost use Rattle.library_steps.specs.State.{memory_of, job_at};
-ghost use Rattle.library_steps.specs.Change.{Change, does};
+ghost use Rattle.library_steps.specs.Change.{Change};
 ghost use Rattle.library_steps.specs.History.{is_running};
-ghost use Rattle.library_steps.specs.Reads.{set_lower_limit, set_greater_than, position_plan, position_change};
+ghost use Rattle.library_steps.specs.Reads.{set_lower_limit, set_greater_than};
 ghost use Rattle.library_parts.specs.Answers.{Answers};
 ghost use Rattle.library_parts.specs.declared.stop.Stop.TheVariants.{NoMemory};
 ghost use Rattle.built_state.specs.Unkeyed.{AreUnkeyed};
-ghost use Rattle.record_reads.specs.Plans.{PlansAlways, bound_side, stand_change};
+ghost use Rattle.record_reads.specs.Plans.{PlansAlways, bound_side, position_set, stand_change};
 
-use crate::plans::{NewStand, holder_through, record_through, used_open};
+use crate::plans::{NewStand, used_open};
 use job_table::{ArrivalPosition, FilePosition};
 use library_model::replies::Reply;
 use library_model::requests::{Limit, SetPosition};
@@ -66,6 +66,7 @@ pub fn set_greater_than(
 }
 
 /// Where the open is to stand. Without a key there is no position but by a relative record number.
+#[tactic(auto, unfolding(library_steps::specs::Reads::position_plan))]
 fn plan_position(
     contents: &Contents,
     job: u32,
@@ -74,7 +75,7 @@ fn plan_position(
 ) -> Result<NewStand, Stop>
     requires running { IsTrue (is_running (job_at job contents.now.state.jobs)) }
     requires unkeyed { AreUnkeyed contents.now.state.files }
-    ensures { PlansAlways (stand_change (memory_of contents.now.state) job) result (does (position_change (memory_of contents.now.state) job) (position_plan (bound_side side) (memory_of contents.now.state) job args.now)) }
+    ensures { PlansAlways (stand_change (memory_of contents.now.state) job) result (position_set side (memory_of contents.now.state) job args.now) }
 {
     let OpenFound { opened, file: _ } = contents.opened_file(job, &args.open_id)?;
     match &args.to {
@@ -93,14 +94,14 @@ fn apply_position(contents: &mut Contents, job: u32, stand: NewStand) -> Reply
     ensures { (wanted : Result Change AnyReply) → wanted ≡ Ok (stand_change (memory_of contents.old.state) job stand) → Answers contents.old.state contents.new.state (Ok result) wanted }
 {
     effects_answer();
-    // A lock that was held has room.
+    // No more locks are left than were held, and those have room.
     let _held = contents.locks_held();
     let NewStand { used, position } = stand;
     contents.lock_for(
         Call::Position,
         used.level,
-        holder_through(job, used),
-        record_through(used, 0),
+        used.holder(job),
+        used.record_id(0),
     );
     contents.set_position(job, used.number, FilePosition::arrival(position));
     Reply::Done

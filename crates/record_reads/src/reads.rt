@@ -1,24 +1,23 @@
 //! READ, READP, READE, READPE and CHAIN.
 ghost use Rattle.std.specs.Prelude.{◌≡◌, Result, Ok, true, is_some, IfOk, IfSome, IsTrue, option_map};
 ghost use Rattle.member_slots.specs.Members.{member_at, member_of};
-ghost use Rattle.file_model.specs.Positions.{arrival_reading, next_equal, prior_equal};
+ghost use Rattle.file_model.specs.Positions.{arrival_reading};
 ghost use Rattle.job_table.specs.Arrival.{entry_numbered};
 ghost use Rattle.library_model.specs.declared.replies.Reply.{Reply as AnyReply};
-ghost use Rattle.library_model.specs.declared.replies.Reply.TheVariants.{EndOfFile, BeginOfFile};
 ghost use Rattle.library_steps.specs.State.{memory_of, job_at, fields_of};
-ghost use Rattle.library_steps.specs.Change.{Change, does};
+ghost use Rattle.library_steps.specs.Change.{Change};
 ghost use Rattle.library_steps.specs.History.{is_running};
 ghost use Rattle.library_steps.specs.Records.{live_record};
-ghost use Rattle.library_steps.specs.Reads.{read, read_prior, read_equal, read_prior_equal, chain, read_plan, chain_plan, read_change, read_call, if_lockable};
-ghost use Rattle.library_parts.specs.Answers.{Answers, Gives};
+ghost use Rattle.library_steps.specs.Reads.{read, read_prior, read_equal, read_prior_equal, chain, read_call};
+ghost use Rattle.library_parts.specs.Answers.{Answers};
 ghost use Rattle.library_parts.specs.Lawful.{IsThere};
 ghost use Rattle.library_parts.specs.Locks.{HasLockRoom, IsRead};
 ghost use Rattle.built_state.specs.Unkeyed.{AreUnkeyed};
 ghost use Rattle.record_reads.specs.Arrival.{HasRecord, find_from, nothing_found};
-ghost use Rattle.record_reads.specs.Plans.{Plans, MayLock, opened_with, planned_change};
+ghost use Rattle.record_reads.specs.Plans.{Plans, MayLock, opened_with, planned_change, read_from, record_read};
 
 use crate::arrival::{next_record, prior_record};
-use crate::plans::{PlannedRead, holder_through, record_through, used_open};
+use crate::plans::{PlannedRead, used_open};
 use crate::shown::record_shown;
 use file_catalogue::File;
 use job_table::{FoundRecord, Open};
@@ -99,6 +98,7 @@ pub fn chain(contents: &mut Contents, job: u32, args: &ChainRecord) -> Result<Re
     carry_out(contents, job, plan)
 }
 
+#[tactic(auto, unfolding(library_steps::specs::Reads::read_plan))]
 fn plan_read(
     contents: &Contents,
     job: u32,
@@ -107,7 +107,7 @@ fn plan_read(
 ) -> Result<PlannedRead, Stop>
     requires running { IsTrue (is_running (job_at job contents.now.state.jobs)) }
     requires unkeyed { AreUnkeyed contents.now.state.files }
-    ensures plan { Plans (planned_change (memory_of contents.now.state) job) result (does (read_change (memory_of contents.now.state) job) (read_plan (find_from direction) (nothing_found direction) (memory_of contents.now.state) job args.now)) }
+    ensures plan { Plans (planned_change (memory_of contents.now.state) job) result (read_from direction (memory_of contents.now.state) job args.now) }
     ensures lockable { IfOk result (MayLock (memory_of contents.now.state) job) }
 {
     let OpenFound { opened, file } = contents.opened_file(job, &args.open_id)?;
@@ -118,6 +118,7 @@ fn plan_read(
 }
 
 /// A file without a key has no records of a key.
+#[tactic(auto, unfolding(library_steps::specs::Reads::read_equal_plan))]
 fn plan_equal(contents: &Contents, job: u32, args: &ReadEqual) -> Result<PlannedRead, Stop>
     requires running { IsTrue (is_running (job_at job contents.now.state.jobs)) }
     requires unkeyed { AreUnkeyed contents.now.state.files }
@@ -129,6 +130,7 @@ fn plan_equal(contents: &Contents, job: u32, args: &ReadEqual) -> Result<Planned
     Err(Stop::Refused(Reply::WrongOpen))
 }
 
+#[tactic(auto, unfolding(library_steps::specs::Reads::chain_plan))]
 fn plan_chain(contents: &Contents, job: u32, args: &ChainRecord) -> Result<PlannedRead, Stop>
     requires running { IsTrue (is_running (job_at job contents.now.state.jobs)) }
     requires unkeyed { AreUnkeyed contents.now.state.files }
@@ -173,7 +175,7 @@ fn plan_record(
     requires running { IsTrue (is_running (job_at job contents.now.state.jobs)) }
     requires there { IsThere (fields_of file.now) (member_at opened.now.member contents.now.state.members) }
     requires live { is_some (live_record opened.now.member rrn (memory_of contents.now.state)) ≡ true }
-    ensures plan { Plans (planned_change (memory_of contents.now.state) job) result (does (read_change (memory_of contents.now.state) job) (if_lockable job (memory_of contents.now.state) (opened_with opened.now file.now) lock (entry_numbered rrn))) }
+    ensures plan { Plans (planned_change (memory_of contents.now.state) job) result (record_read (opened_with opened.now file.now) lock rrn (memory_of contents.now.state) job) }
     ensures lockable { IfOk result (MayLock (memory_of contents.now.state) job) }
 {
     let call = read_call(lock, opened);
@@ -226,12 +228,7 @@ fn apply_read(contents: &mut Contents, job: u32, plan: PlannedRead) -> Reply
         rrn,
         shown,
     } = plan;
-    contents.lock_for(
-        call,
-        used.level,
-        holder_through(job, used),
-        record_through(used, rrn),
-    );
+    contents.lock_for(call, used.level, used.holder(job), used.record_id(rrn));
     contents.note_read(job, used.number, call, FoundRecord::arrival(rrn));
     Reply::Record(shown)
 }
