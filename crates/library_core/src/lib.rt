@@ -2,6 +2,7 @@
 #![tactic(auto)]
 
 mod boundaries;
+mod dispatch;
 pub mod library;
 
 pub use library_model::calls::Call;
