@@ -1,0 +1,4 @@
+pub mod SourceLemmas
+pub mod UncommittedLemmas
+pub mod UniqueLemmas
+pub mod UnkeyedLemmas

@@ -1,6 +1,6 @@
 -- Files without a key, and sources that describe no other: no file with a key stands in a library until keyed files are built.
 -- (DDS for Physical and Logical Files, key field level.)
-use Rattle.std.specs.Prelude.{◌≡◌, ℕ, false, Option, Result, Ok, List, []}
+use Rattle.std.specs.Prelude.{◌≡◌, ℕ, false, Option, Ok, List, []}
 use Rattle.std.specs.List.{AllByRecursion}
 use Rattle.record_fmt.specs.declared.formats.Format.{Format}
 use Rattle.dds_physical.specs.declared.physical_files.PhysicalSpec.{PhysicalSpec}

@@ -15,6 +15,10 @@ pub record HasMemberRoom (room : Room) : Type 0 where
   pub names : 1 ≤ room.member_names
   pub members : 1 ≤ room.members
 
+-- how many slots can be added to the member
+abbrev pub spare_slots : Room → ℕ → ℕ
+spare_slots room member = unwrap_or (item_at member room.spares) 0
+
 -- a slot can be added to the member
 abbrev pub HasSlotRoom : Room → ℕ → Type 0
 HasSlotRoom room member = 1 ≤ unwrap_or (item_at member room.spares) 0

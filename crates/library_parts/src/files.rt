@@ -1,32 +1,51 @@
 //! What effects change of the files and of whole members.
 ghost use Rattle.std.specs.Prelude.{◌≡◌, ◌+◌, ◌≤◌, Some, None, IsSome, length};
-ghost use Rattle.library_steps.specs.CreatePhysicalFile.{with_file};
+ghost use Rattle.library_steps.specs.CreatePhysicalFile.{formats_of, with_file};
 ghost use Rattle.library_steps.specs.State.{FileState, memory_of};
 ghost use Rattle.library_model.specs.Named.{named};
 ghost use Rattle.member_slots.specs.Members.{without_member};
 ghost use Rattle.library_steps.specs.declared.limits.TheConstants.{MOST_LIBRARY_BYTES};
-ghost use Rattle.library_steps.specs.DeleteFile.{deleted, without_members};
+ghost use Rattle.library_steps.specs.DeleteFile.{deleted, first_dependent, without_members};
 ghost use Rattle.library_steps.specs.MemberCommands.{member_added};
 ghost use Rattle.library_steps.specs.Ranges.{library_bytes};
 ghost use Rattle.library_steps.specs.Uses.{user_of_any};
+ghost use Rattle.file_catalogue.specs.Described.{Describes};
+ghost use Rattle.file_catalogue.specs.Owners.{AreApart};
 ghost use Rattle.library_parts.specs.Files.{IsNewFile, IsNewMember};
 ghost use Rattle.library_parts.specs.Rooms.{HasFileRoom, HasMemberRoom};
 
 use crate::contents::Contents;
 use crate::members::weight;
+use dds_physical::PhysicalError;
 use field_types::names::Name;
-use file_catalogue::{File, Members as FileMembers};
+use field_types::texts::SourceText;
+use file_catalogue::{Described, File, Members as FileMembers};
 use library_model::requests::{DeleteFile, FileMember};
 use member_slots::member::Member;
 use member_slots::members::Members;
 
 impl Contents {
-    /// How many files there are, and the number of the next member.
+    /// How many files there are, and the number of the next member. No two members have one number.
     pub fn counts(&self) -> (usize, u32)
         ensures files { result.0 ≡ length self.now.state.files }
         ensures next_member { result.1 ≡ self.now.state.next_member }
+        ensures apart { AreApart self.now.state.files }
     {
         (self.catalogue.len(), self.next_member)
+    }
+
+    /// The first file, by creation, whose source names that file. It looks at every source.
+    pub fn first_dependent(&self, name: &Name) -> Option<Name>
+        ensures { result ≡ first_dependent name.now self.now.state.files }
+    {
+        self.catalogue.first_dependent(name)
+    }
+
+    /// Reads a source, which may refer to the files that are there.
+    pub fn describe(&self, text: &SourceText) -> Result<Described, PhysicalError>
+        ensures { Describes (formats_of (memory_of self.now.state)) text.now result }
+    {
+        Described::read(self.alloc, text, &self.catalogue)
     }
 
     /// Adds a file, whose one member has its name and the next number.
@@ -70,6 +89,7 @@ impl Contents {
         ensures file { named args.now.file self.old.state.files ≡ Some result }
         ensures memory { memory_of self.new.state ≡ deleted args.now result (memory_of self.old.state) }
         ensures entries { self.new.state.entries ≡ self.old.state.entries }
+        ensures others { (self.new.room.entries ≡ self.old.room.entries) × (self.new.room.locks ≡ self.old.room.locks) × (self.new.room.undos ≡ self.old.room.undos) }
     {
         // No two members have one number.
         let _len = self.catalogue.len();

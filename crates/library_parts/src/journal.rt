@@ -4,6 +4,7 @@ ghost use Rattle.library_steps.specs.declared.limits.TheConstants.{LAST_RECEIVER
 ghost use Rattle.library_steps.specs.Change.{deposited};
 ghost use Rattle.library_steps.specs.Receivers.{last_in, given_up};
 ghost use Rattle.library_steps.specs.State.{memory_of, with_entries};
+ghost use Rattle.journal_model.specs.Journal.{AreNumbered};
 ghost use Rattle.memory_journal.specs.declared.journal.TheConstants.{LAST_BEFORE_DEPOSIT};
 ghost use Rattle.memory_journal.specs.Journal.{fault_reply};
 ghost use Rattle.library_parts.specs.declared.stop.Stop.TheVariants.{Refused};
@@ -21,6 +22,7 @@ impl Contents {
     pub fn bounds(&self) -> (u64, u64)
         ensures first { result.0 ≡ self.now.state.gone + 1 }
         ensures last { result.1 ≡ (memory_of self.now.state).last_entry }
+        ensures numbered { AreNumbered (self.now.state.gone + 1) self.now.state.entries }
     {
         self.journal.bounds()
     }

@@ -1,5 +1,5 @@
 //! What a call asks of the record locks and of its job's commit cycle, and what refuses it.
-ghost use Rattle.std.specs.Prelude.{◌≡◌, ℕ, ◌+◌, ◌<◌, Bool, nat_lt, length, IsTrue};
+ghost use Rattle.std.specs.Prelude.{◌≡◌, ℕ, ◌+◌, ◌<◌, ◌≤◌, Bool, nat_lt, length, IsTrue};
 ghost use Rattle.lock_table.specs.declared.table.TheConstants.{MOST_LOCKS};
 ghost use Rattle.lock_table.specs.Lock.{is_of_open};
 ghost use Rattle.lock_table.specs.Levels.{locks_after, with_wanted};
@@ -143,6 +143,14 @@ impl Contents {
             Some(_) => self.locks.count_to_boundary(holder, at, LockKind::UPDATE) > MOST_LOCKS,
             None => self.locks.count() > MOST_LOCKS,
         }
+    }
+
+    /// How many locks are held. There is room for each of them.
+    pub fn locks_held(&self) -> u32
+        ensures count { result ≡ length self.now.state.locks }
+        ensures room { result ≤ self.now.room.locks }
+    {
+        self.locks.count()
     }
 
     /// What the open and its job hold on a record of its member.

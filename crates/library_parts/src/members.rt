@@ -1,8 +1,8 @@
 //! What effects change of members: their slots and their statuses.
-ghost use Rattle.std.specs.Prelude.{◌≡◌, ◌+◌, ◌≤◌, None, false, length, IsSome};
+ghost use Rattle.std.specs.Prelude.{◌≡◌, ◌+◌, ◌-◌, ◌≤◌, None, false, length, IsSome};
 ghost use Rattle.member_slots.specs.declared.slot.Slot.TheVariants.{Live};
 ghost use Rattle.member_slots.specs.Member.{FitsSlot, cleared, is_full, reorganized};
-ghost use Rattle.member_slots.specs.Members.{AreMembers, member_at, member_of};
+ghost use Rattle.member_slots.specs.Members.{AreMembers, member_at, member_of, with_item};
 ghost use Rattle.library_steps.specs.declared.limits.TheConstants.{MOST_LIBRARY_BYTES};
 ghost use Rattle.library_steps.specs.Ranges.{library_bytes};
 ghost use Rattle.library_steps.specs.Records.{slot_there};
@@ -10,7 +10,7 @@ ghost use Rattle.library_steps.specs.SlotChange.{touched, with_slot};
 ghost use Rattle.library_steps.specs.State.{memory_of, with_status};
 ghost use Rattle.library_steps.specs.Uses.{user_of};
 ghost use Rattle.library_steps.specs.WriteRecord.{next_place};
-ghost use Rattle.library_parts.specs.Rooms.{HasSlotRoom};
+ghost use Rattle.library_parts.specs.Rooms.{HasSlotRoom, spare_slots};
 ghost use Rattle.library_parts.specs.Slots.{MayStand, weight};
 ghost use Rattle.library_steps.specs.MemberCommands.{renumbered, with_slots};
 ghost use Rattle.library_steps.specs.Journaling.{journaled_from, no_longer_journaled};
@@ -33,6 +33,7 @@ impl Contents {
         ensures memory { memory_of self.new.state ≡ with_slot member (next_place member (memory_of self.old.state)) (Live image) (memory_of self.old.state) }
         ensures entries { self.new.state.entries ≡ self.old.state.entries }
         ensures room { self.new.room ≡ record self.old.room { spares = self.new.room.spares } }
+        ensures spent { self.new.room.spares ≡ with_item member (spare_slots self.old.room member - 1) self.old.room.spares }
     {
         let bytes = self.record_length(member);
         let _rrn = self.members.append(member, image).unwrap();

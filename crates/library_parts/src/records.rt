@@ -1,7 +1,7 @@
 //! What requests ask of a member: its slots, its places, its room, and the images that the journal keeps of it.
-ghost use Rattle.std.specs.Prelude.{◌≡◌, ◌≤◌, length, IfSome, option_map, option_copied};
+ghost use Rattle.std.specs.Prelude.{◌≡◌, ◌≤◌, length, Some, None, IfSome, MatchOption, option_map, option_copied};
 ghost use Rattle.member_slots.specs.Member.{is_full, slot_at};
-ghost use Rattle.member_slots.specs.Members.{member_of};
+ghost use Rattle.member_slots.specs.Members.{member_at, member_of};
 ghost use Rattle.library_steps.specs.State.{memory_of};
 ghost use Rattle.library_steps.specs.Records.{live_record};
 ghost use Rattle.library_steps.specs.SlotChange.{images_of, is_behind_last};
@@ -15,9 +15,17 @@ use crate::stop::Stop;
 use entry_codec::Images;
 use library_model::replies::{LimitKind, Reply};
 use library_steps::limits::MOST_LIBRARY_BYTES;
+use member_slots::member::Member;
 use member_slots::slot::Slot;
 
 impl Contents {
+    /// The member with that number.
+    pub fn member(&self, number: u32) -> Option<&Member>
+        ensures { MatchOption result (member_at number self.now.state.members ≡ None) (λ m. member_at number self.now.state.members ≡ Some m.now.state) }
+    {
+        self.members.at(number)
+    }
+
     /// The slot at a relative record number of a member.
     pub fn slot(&self, member: u32, rrn: u32) -> Option<&Slot>
         ensures { option_copied result ≡ slot_at (member_of member self.now.state.members) rrn }

@@ -6,7 +6,7 @@ ghost use Rattle.library_steps.specs.State.{memory_of, job_at};
 ghost use Rattle.library_steps.specs.History.{is_running};
 ghost use Rattle.memory_journal.specs.declared.journal.TheConstants.{LAST_BEFORE_DEPOSIT};
 ghost use Rattle.library_parts.specs.Locks.{HasLockRoom};
-ghost use Rattle.library_parts.specs.Rooms.{HasFileRoom, HasMemberRoom, HasSlotRoom, HasUndoRoom};
+ghost use Rattle.library_parts.specs.Rooms.{HasFileRoom, HasMemberRoom, HasSlotRoom, HasUndoRoom, spare_slots};
 
 use crate::contents::Contents;
 use entry_codec::Draft;
@@ -31,6 +31,16 @@ impl Contents {
         ensures room { OnOk result (HasSlotRoom self.new.room member) }
     {
         self.members.reserve(member, 1)
+    }
+
+    /// Makes room for so many slots more in the member.
+    pub fn reserve_slots(&mut self, member: u32, more: u32) -> Result<(), AllocError>
+        requires { IsSome (member_at member self.old.state.members) }
+        ensures state { self.new.state ≡ self.old.state }
+        ensures others { self.new.room ≡ record self.old.room { spares = self.new.room.spares } }
+        ensures room { OnOk result (more ≤ spare_slots self.new.room member) }
+    {
+        self.members.reserve(member, more)
     }
 
     /// Makes room for one lock more, where one more may be held.

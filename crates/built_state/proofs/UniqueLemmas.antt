@@ -1,0 +1,35 @@
+-- Among files without a key no member has a unique path, and no key is asked for.
+use Rattle.std.proofs.Common.{◌≡◌, ℕ, ◌&&◌, Bool, true, if◌then◌else◌, Ok, List, [], ◌∷◌, ◌++◌, refl, ap, ◌∙◌}
+use Rattle.std.specs.Prelude.{flat_map}
+use Rattle.std.specs.List.{filter_map}
+use Rattle.member_slots.specs.declared.slot.Slot.{Slot}
+use Rattle.file_model.specs.FilePaths.{physical_path}
+use Rattle.library_model.specs.Named.{Named}
+use Rattle.library_steps.specs.State.{Memory, FileState, fields_of}
+use Rattle.library_steps.specs.Refusals.{◌>>=◌}
+use Rattle.library_steps.specs.UniqueKeys.{UniquePath, NewKey, has_member, own_unique, unique_paths, new_key_in, new_keys, none_reserved, none_repeated, keys_free, all_apart}
+use Rattle.built_state.specs.Unkeyed.{IsUnkeyed, AreUnkeyed}
+
+own_unique-unkeyed : (member : ℕ) (entry : List ℕ × FileState) → IsUnkeyed entry.1.spec → own_unique member entry ≡ []
+own_unique-unkeyed member entry unkeyed =
+    let own : List UniquePath = record { file = entry.0; path = physical_path member (fields_of entry.1) entry.1.spec.keys } ∷ [] in
+    ap (λ (unique : Bool). if unique && has_member member entry.1.members then own else []) unkeyed.unique
+
+unique-unkeyed : (member : ℕ) (files : Named FileState) → AreUnkeyed files → flat_map (own_unique member) files ≡ []
+unique-unkeyed member [] unkeyed = refl
+unique-unkeyed member (entry ∷ files) unkeyed =
+    ap (λ (own : List UniquePath). own ++ flat_map (own_unique member) files) (own_unique-unkeyed member entry unkeyed.0) ∙ unique-unkeyed member files unkeyed.1
+
+pub unique_paths-unkeyed : (member : ℕ) (m : Memory) → AreUnkeyed m.files → unique_paths member m ≡ []
+unique_paths-unkeyed member m unkeyed = unique-unkeyed member m.files unkeyed
+
+pub all_apart-unkeyed : (member : ℕ) (m after : Memory) → AreUnkeyed m.files → all_apart (unique_paths member m) after ≡ Ok true
+all_apart-unkeyed member m after unkeyed = ap (λ (paths : List UniquePath). all_apart paths after) (unique_paths-unkeyed member m unkeyed)
+
+pub new_keys-unkeyed : (member : ℕ) (old : Slot) (image : List ℕ) (m : Memory) → AreUnkeyed m.files → new_keys member old image m ≡ []
+new_keys-unkeyed member old image m unkeyed =
+    ap (λ (paths : List UniquePath). flat_map (λ unique. filter_map (new_key_in unique.file old image) unique.path.formats) paths) (unique_paths-unkeyed member m unkeyed)
+
+pub keys_free-unkeyed : (job : ℕ) (commit : Bool) (member rrn : ℕ) (old : Slot) (image : List ℕ) (m : Memory) → AreUnkeyed m.files → keys_free job commit member rrn old image m ≡ Ok true
+keys_free-unkeyed job commit member rrn old image m unkeyed =
+    ap (λ (keys : List NewKey). none_reserved job commit keys m >>= λ none. none_repeated rrn keys m) (new_keys-unkeyed member old image m unkeyed)

@@ -1,0 +1,77 @@
+-- A record that stands there may be changed.
+use Rattle.std.proofs.Common.{◌≡◌, ◌∙◌, ℕ, zero, suc, ◌-◌, ◌≤◌, ◌==◌, true, false, if◌then◌else◌, is_some, Some, None, List, [], ◌∷◌, length, slice_get, sym, ap, subst, refl, arith}
+use Rattle.std.specs.List.{AllByRecursion}
+use Rattle.std.proofs.lemmas.Bool.Decides.{nat_tests}
+use Rattle.member_slots.specs.declared.slot.Slot.{Slot}
+use Rattle.member_slots.specs.declared.slot.Slot.TheVariants.{Live, Deleted}
+use Rattle.member_slots.specs.Member.{MemberState, FitsSlot, slot_at}
+use Rattle.member_slots.specs.Members.{member_of}
+use Rattle.record_fmt.specs.declared.formats.Field.{Field}
+use Rattle.record_fmt.specs.Layout.{record_length}
+use Rattle.record_fmt.specs.Records.{record_held}
+use Rattle.file_catalogue.specs.Owners.{Owns, AreApart}
+use Rattle.library_model.specs.Named.{Named, named}
+use Rattle.library_steps.specs.State.{State, FileState, fields_of, memory_of}
+use Rattle.library_steps.specs.Records.{live_record, record_in}
+use Rattle.library_parts.specs.Finds.{HasMember}
+use Rattle.library_parts.specs.Lawful.{HoldsValues, HasRecords}
+use Rattle.library_parts.proofs.MemberLemmas.{IsThere-IsSome, HasRecords-member_of}
+use Rattle.record_changes.specs.Places.{MayPut}
+
+-- a place where a record stands, and in each field of it a value
+pub record IsLivePlace (fields : List Field) (slots : List Slot) (rrn : ℕ) (image : List ℕ) : Type 0 where
+  pub first : 1 ≤ rrn
+  pub within : rrn ≤ length slots
+  pub held : is_some (record_held fields image) ≡ true
+
+live-slot : (fields : List Field) (slots : List Slot) (place : ℕ) (image : List ℕ) → AllByRecursion (HoldsValues fields) slots → record_in (slice_get slots place) ≡ Some image
+    → IsLivePlace fields slots (suc place) image
+live-slot fields [] place image all found = absurd cc
+live-slot fields (Live other ∷ slots) zero image all found =
+    let same : other ≡ image = cc in
+    record { first = omega arith; within = omega arith; held = subst (λ (i : List ℕ). is_some (record_held fields i) ≡ true) same all.0 }
+live-slot fields (Deleted ∷ slots) zero image all found = absurd cc
+live-slot fields (slot ∷ slots) (suc place) image all found =
+    let rest = live-slot fields slots place image all.1 found in
+    let within = rest.within in
+    record { first = omega arith; within = omega (arith, within); held = rest.held }
+
+live-place : (fields : List Field) (member : MemberState) (rrn : ℕ) (image : List ℕ) → HasRecords fields member → record_in (slot_at member rrn) ≡ Some image
+    → IsLivePlace fields member.slots rrn image
+live-place fields member rrn image has found =
+    elim (rrn == 0) as (λ b. (rrn == 0) ≡ b → record_in (if b then None else slice_get member.slots (rrn - 1)) ≡ Some image → IsLivePlace fields member.slots rrn image) [
+      | true ↦ λ e none. absurd cc
+      | false ↦ λ e some. (
+          let place : suc (rrn - 1) ≡ rrn = grind (arith, nat_tests) in
+          subst (λ n. IsLivePlace fields member.slots n image) place (live-slot fields member.slots (rrn - 1) image has.values some))
+    ] refl found
+
+-- two files that have one member are the same
+Owns-same : (files : Named FileState) (name other : List ℕ) (file another : FileState) (number : ℕ) → AreApart files → Owns files name file number → Owns files other another number → file ≡ another
+Owns-same files name other file another number apart one two =
+    let same : name ≡ other = apart.apart name other file another number one two in
+    let found : Some file ≡ Some another = sym one.there ∙ ap (λ (n : List ℕ). named n files) same ∙ two.there in
+    cc
+
+module _ (s : State) (name : List ℕ) (file : FileState) (member rrn : ℕ) (has : HasMember s name file member) (old : List ℕ) (found : live_record member rrn (memory_of s) ≡ Some old) where
+  its-records : HasRecords (fields_of file) (member_of member s.members)
+  its-records = HasRecords-member_of (fields_of file) member s.members has.there
+
+  its-place : IsLivePlace (fields_of file) (member_of member s.members).slots rrn old
+  its-place = live-place (fields_of file) (member_of member s.members) rrn old its-records found
+
+  -- a value stands in each field of it
+  pub live-held : is_some (record_held (fields_of file) old) ≡ true
+  live-held = its-place.held
+
+  pub MayPut-live : (slot : Slot) → AreApart s.files → FitsSlot (record_length (fields_of file)) slot → HoldsValues (fields_of file) slot → MayPut s.files s.members member rrn slot
+  MayPut-live slot apart fits holds =
+      let within = its-place.within in
+      record {
+        there = IsThere-IsSome (fields_of file) member s.members has.there;
+        first = its-place.first;
+        near = omega (arith, within);
+        fits = subst (λ (n : ℕ). FitsSlot n slot) (sym its-records.long) fits;
+        values = λ other another owns. subst (λ (f : FileState). HoldsValues (fields_of f) slot) (Owns-same s.files name other file another member apart has.owns owns) holds;
+        added = λ behind. absurd (omega (arith, within, behind));
+      }

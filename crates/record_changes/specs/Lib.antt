@@ -1,0 +1,4 @@
+pub mod Opens
+pub mod Plans
+pub mod Places
+pub mod Changes

@@ -1,0 +1,32 @@
+-- How a plan answers for a slot to change or a record to unlock: with it, the refusal, or want of memory. (Our own.)
+use Rattle.std.specs.Prelude.{◌≡◌, Result, Ok, Err}
+use Rattle.library_model.specs.declared.replies.Reply.{Reply}
+use Rattle.library_steps.specs.SlotChange.{NewSlot}
+use Rattle.library_steps.specs.ChangeRecord.{LastRead}
+use Rattle.library_parts.specs.declared.stop.Stop.{Stop}
+use Rattle.library_parts.specs.declared.stop.Stop.TheVariants.{NoMemory, Refused}
+use Rattle.record_changes.specs.declared.planned.PlannedSlot.{PlannedSlot}
+use Rattle.record_changes.specs.declared.planned.LockedRead.{LockedRead}
+use Rattle.record_changes.specs.Opens.{bare_slot, bare_read}
+
+abbrev pub new_slot : PlannedSlot → NewSlot
+new_slot planned = record { opened = planned.opened; rrn = planned.rrn; slot = planned.slot }
+
+abbrev pub last_read : LockedRead → LastRead
+last_read read = record { opened = read.opened; rrn = read.rrn }
+
+-- the wanted one, or its refusal, as the effect reads it
+abbrev pub as_read : {A : Type 0} → (A → A) → Result A Reply → Result A Reply
+as_read bare (Ok wanted) = Ok (bare wanted)
+as_read bare (Err reply) = Err reply
+
+abbrev pub PlansSlot : Result PlannedSlot Stop → Result NewSlot Reply → Type 0
+PlansSlot (Ok planned) wanted = as_read bare_slot wanted ≡ Ok (new_slot planned)
+PlansSlot (Err NoMemory) wanted = Unit {0}
+PlansSlot (Err (Refused reply)) wanted = wanted ≡ Err reply
+
+-- it never wants memory
+abbrev pub PlansRead : Result LockedRead Stop → Result LastRead Reply → Type 0
+PlansRead (Ok read) wanted = as_read bare_read wanted ≡ Ok (last_read read)
+PlansRead (Err NoMemory) wanted = ⊥
+PlansRead (Err (Refused reply)) wanted = wanted ≡ Err reply

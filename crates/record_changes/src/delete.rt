@@ -1,0 +1,93 @@
+//! DELETE.
+ghost use Rattle.std.specs.Prelude.{◌≡◌, ◌≤◌, false, Ok, IfOk, IsSome, IsTrue};
+ghost use Rattle.std.specs.List.{AllByRecursion};
+ghost use Rattle.library_steps.specs.declared.limits.TheConstants.{LAST_SEQUENCE};
+ghost use Rattle.library_steps.specs.State.{job_at, memory_of};
+ghost use Rattle.library_steps.specs.ChangeRecord.{delete_change, delete_plan, delete_record};
+ghost use Rattle.library_steps.specs.History.{is_running};
+ghost use Rattle.library_steps.specs.SlotChange.{images_of};
+ghost use Rattle.built_state.specs.Uncommitted.{IsUncommitted};
+ghost use Rattle.built_state.specs.Unkeyed.{AreUnkeyed};
+ghost use Rattle.library_parts.specs.Answers.{Answers};
+ghost use Rattle.record_changes.specs.Places.{HasEntryRoom, HasPlaceRoom, MayPut};
+ghost use Rattle.record_changes.specs.Plans.{PlansSlot, new_slot};
+
+use crate::change_slot::{change_slot, prepare_change};
+use crate::locks::free_locks;
+use crate::planned::{PlannedSlot, Through};
+use crate::refusals::{current_record, few_changes, may_change};
+use draft_list::may_deposit;
+use library_model::replies::Reply;
+use library_model::requests::OpenName;
+use library_parts::{Contents, OpenFound, Stop};
+use lock_table::Call;
+use member_slots::slot::Slot;
+
+/// Deletes the current record of the open.
+pub fn delete_record(
+    contents: &mut Contents,
+    job: u32,
+    timestamp: u64,
+    args: &OpenName,
+) -> Result<Reply, Stop>
+    requires running { IsTrue (is_running (job_at job contents.old.state.jobs)) }
+    requires unkeyed { AreUnkeyed contents.old.state.files }
+    requires uncommitted { AllByRecursion IsUncommitted contents.old.state.jobs }
+    ensures answers { Answers contents.old.state contents.new.state result (delete_record (memory_of contents.old.state) job timestamp args.now) }
+{
+    let planned = plan_delete(contents, job, args)?;
+    let again = prepare_change(contents, &planned)?;
+    Ok(apply_delete(contents, job, timestamp, planned, again))
+}
+
+#[tactic(auto, unfolding(library_steps::specs::ChangeRecord::delete_plan))]
+fn plan_delete(contents: &Contents, job: u32, args: &OpenName) -> Result<PlannedSlot, Stop>
+    requires running { IsTrue (is_running (job_at job contents.now.state.jobs)) }
+    requires uncommitted { AllByRecursion IsUncommitted contents.now.state.jobs }
+    ensures plan { PlansSlot result (delete_plan (memory_of contents.now.state) job args.now) }
+    ensures left { IfOk result (λ planned. (memory_of contents.now.state).last_entry ≤ LAST_SEQUENCE) }
+    ensures uncommitted { IfOk result (λ planned. planned.opened.commit ≡ false) }
+    ensures may { IfOk result (λ planned. MayPut contents.now.state.files contents.now.state.members planned.opened.member planned.rrn planned.slot) }
+{
+    // No two members have one number.
+    let _counts = contents.counts();
+    may_deposit(contents)?;
+    let OpenFound { opened, file: _ } = contents.opened_file(job, &args.open_id)?;
+    may_change(opened)?;
+    let rrn = current_record(opened)?;
+    contents.not_held(job, opened, rrn)?;
+    few_changes(contents, opened, rrn, &Slot::Deleted)?;
+    // A current record stands there: its lock keeps it.
+    let Some(_old) = contents.live_image(opened.member(), rrn) else {
+        return Err(Stop::NoMemory);
+    };
+    Ok(PlannedSlot {
+        opened: Through::of(opened),
+        rrn,
+        slot: Slot::Deleted,
+    })
+}
+
+fn apply_delete(
+    contents: &mut Contents,
+    job: u32,
+    timestamp: u64,
+    planned: PlannedSlot,
+    again: Slot,
+) -> Reply
+    requires running { IsTrue (is_running (job_at job contents.old.state.jobs)) }
+    requires left { (memory_of contents.old.state).last_entry ≤ LAST_SEQUENCE }
+    requires uncommitted { planned.opened.commit ≡ false }
+    requires may { MayPut contents.old.state.files contents.old.state.members planned.opened.member planned.rrn planned.slot }
+    requires place { HasPlaceRoom contents.old planned.opened.member planned.rrn }
+    requires entries { HasEntryRoom contents.old planned.opened.member }
+    requires again { IsSome (images_of planned.opened.member (memory_of contents.old.state)) → again ≡ planned.slot }
+    ensures { Answers contents.old.state contents.new.state (Ok result) (Ok (delete_change (memory_of contents.old.state) job timestamp (new_slot planned))) }
+{
+    let member = planned.opened.member();
+    let rrn = planned.rrn;
+    free_locks(contents, Call::Delete, job, &planned.opened, rrn);
+    change_slot(contents, job, timestamp, planned, again);
+    contents.give_up_record(job, member, rrn);
+    Reply::Done
+}

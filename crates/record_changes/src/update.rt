@@ -1,0 +1,97 @@
+//! UPDATE.
+ghost use Rattle.std.specs.Prelude.{◌≡◌, ◌≤◌, false, Ok, IfOk, IsSome, IsTrue};
+ghost use Rattle.std.specs.List.{AllByRecursion};
+ghost use Rattle.library_steps.specs.declared.limits.TheConstants.{LAST_SEQUENCE};
+ghost use Rattle.library_steps.specs.State.{job_at, memory_of};
+ghost use Rattle.library_steps.specs.ChangeRecord.{update_change, update_plan, update_record};
+ghost use Rattle.library_steps.specs.History.{is_running};
+ghost use Rattle.library_steps.specs.SlotChange.{images_of};
+ghost use Rattle.built_state.specs.Uncommitted.{IsUncommitted};
+ghost use Rattle.built_state.specs.Unkeyed.{AreUnkeyed};
+ghost use Rattle.library_parts.specs.Answers.{Answers};
+ghost use Rattle.record_changes.specs.Places.{HasEntryRoom, HasPlaceRoom, MayPut};
+ghost use Rattle.record_changes.specs.Plans.{PlansSlot, new_slot};
+
+use crate::change_slot::{change_slot, prepare_change};
+use crate::images::changed_image;
+use crate::locks::free_locks;
+use crate::planned::{PlannedSlot, Through};
+use crate::refusals::{current_record, few_changes, keys_free, may_change};
+use draft_list::may_deposit;
+use library_model::replies::Reply;
+use library_model::requests::UpdateRecord;
+use library_parts::{Contents, OpenFound, Stop};
+use lock_table::Call;
+use member_slots::slot::Slot;
+
+/// Changes the current record of the open.
+pub fn update_record(
+    contents: &mut Contents,
+    job: u32,
+    timestamp: u64,
+    args: &UpdateRecord,
+) -> Result<Reply, Stop>
+    requires running { IsTrue (is_running (job_at job contents.old.state.jobs)) }
+    requires unkeyed { AreUnkeyed contents.old.state.files }
+    requires uncommitted { AllByRecursion IsUncommitted contents.old.state.jobs }
+    ensures answers { Answers contents.old.state contents.new.state result (update_record (memory_of contents.old.state) job timestamp args.now) }
+{
+    let planned = plan_update(contents, job, args)?;
+    let again = prepare_change(contents, &planned)?;
+    Ok(apply_update(contents, job, timestamp, planned, again))
+}
+
+#[tactic(auto, unfolding(library_steps::specs::ChangeRecord::update_plan))]
+fn plan_update(contents: &Contents, job: u32, args: &UpdateRecord) -> Result<PlannedSlot, Stop>
+    requires running { IsTrue (is_running (job_at job contents.now.state.jobs)) }
+    requires unkeyed { AreUnkeyed contents.now.state.files }
+    requires uncommitted { AllByRecursion IsUncommitted contents.now.state.jobs }
+    ensures plan { PlansSlot result (update_plan (memory_of contents.now.state) job args.now) }
+    ensures left { IfOk result (λ planned. (memory_of contents.now.state).last_entry ≤ LAST_SEQUENCE) }
+    ensures uncommitted { IfOk result (λ planned. planned.opened.commit ≡ false) }
+    ensures may { IfOk result (λ planned. MayPut contents.now.state.files contents.now.state.members planned.opened.member planned.rrn planned.slot) }
+{
+    // No two members have one number.
+    let _counts = contents.counts();
+    may_deposit(contents)?;
+    let OpenFound { opened, file } = contents.opened_file(job, &args.open_id)?;
+    may_change(opened)?;
+    let rrn = current_record(opened)?;
+    // A current record stands there: its lock keeps it.
+    let Some(old) = contents.live_image(opened.member(), rrn) else {
+        return Err(Stop::NoMemory);
+    };
+    let image = changed_image(contents.alloc(), file.format(), args.values.as_slice(), old)?;
+    contents.not_held(job, opened, rrn)?;
+    keys_free(contents, job, opened, rrn, &image)?;
+    let slot = Slot::Live(image);
+    few_changes(contents, opened, rrn, &slot)?;
+    Ok(PlannedSlot {
+        opened: Through::of(opened),
+        rrn,
+        slot,
+    })
+}
+
+fn apply_update(
+    contents: &mut Contents,
+    job: u32,
+    timestamp: u64,
+    planned: PlannedSlot,
+    again: Slot,
+) -> Reply
+    requires running { IsTrue (is_running (job_at job contents.old.state.jobs)) }
+    requires left { (memory_of contents.old.state).last_entry ≤ LAST_SEQUENCE }
+    requires uncommitted { planned.opened.commit ≡ false }
+    requires may { MayPut contents.old.state.files contents.old.state.members planned.opened.member planned.rrn planned.slot }
+    requires place { HasPlaceRoom contents.old planned.opened.member planned.rrn }
+    requires entries { HasEntryRoom contents.old planned.opened.member }
+    requires again { IsSome (images_of planned.opened.member (memory_of contents.old.state)) → again ≡ planned.slot }
+    ensures { Answers contents.old.state contents.new.state (Ok result) (Ok (update_change (memory_of contents.old.state) job timestamp (new_slot planned))) }
+{
+    let number = planned.opened.number();
+    free_locks(contents, Call::Update, job, &planned.opened, planned.rrn);
+    change_slot(contents, job, timestamp, planned, again);
+    contents.give_up_current(job, number);
+    Reply::Done
+}

@@ -1,0 +1,5 @@
+pub mod SearchLemmas
+pub mod PositionLemmas
+pub mod PlanLemmas
+pub mod LockLemmas
+pub mod ShownLemmas

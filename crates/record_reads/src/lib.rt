@@ -1,0 +1,12 @@
+//! The requests that set positions and read records: SETLL, SETGT, READ, READP, READE, READPE and CHAIN, through opens of
+//! files without a key. Begin with `reads.rt`.
+#![tactic(auto)]
+
+mod arrival;
+mod plans;
+mod positions;
+mod reads;
+mod shown;
+
+pub use positions::{set_greater_than, set_lower_limit};
+pub use reads::{chain, read, read_equal, read_prior, read_prior_equal};

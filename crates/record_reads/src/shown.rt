@@ -1,0 +1,50 @@
+//! What a record shows.
+ghost use Rattle.std.specs.Prelude.{◌≡◌, true, is_some, length, IfOk};
+ghost use Rattle.member_slots.specs.Members.{member_at};
+ghost use Rattle.record_fmt.specs.Layout.{record_length};
+ghost use Rattle.record_fmt.specs.Records.{record_held};
+ghost use Rattle.library_steps.specs.State.{memory_of, fields_of};
+ghost use Rattle.library_steps.specs.Records.{live_record, record_shown, values_shown};
+ghost use Rattle.library_parts.specs.Lawful.{IsThere};
+
+use field_values::fields::ImageFault;
+use file_catalogue::File;
+use library_model::replies::RecordRead;
+use library_model::value_lists::Values;
+use library_parts::Contents;
+use record_fmt::formats::Format;
+use std::alloc::{AllocError, Global};
+
+/// The record of that number of a member of the file.
+pub(crate) fn record_shown(
+    contents: &Contents,
+    file: &File,
+    member: u32,
+    rrn: u32,
+) -> Result<RecordRead, AllocError>
+    requires there { IsThere (fields_of file.now) (member_at member contents.now.state.members) }
+    requires live { is_some (live_record member rrn (memory_of contents.now.state)) ≡ true }
+    ensures { IfOk result (λ shown. shown ≡ record_shown file.now rrn (live_record member rrn (memory_of contents.now.state))) }
+{
+    let image = contents.live_image(member, rrn).unwrap();
+    let format = file.format();
+    let values = values_shown(contents.alloc(), format, image)?;
+    Ok(RecordRead {
+        format: format.name,
+        rrn,
+        values,
+    })
+}
+
+/// The values that a record shows, in which one stands in each field.
+fn values_shown(alloc: Global, format: &Format, image: &[u8]) -> Result<Values, AllocError>
+    requires long { length image.now ≡ record_length format.now.fields }
+    requires held { is_some (record_held format.now.fields image.now) ≡ true }
+    ensures { IfOk result (λ values. values ≡ values_shown format.now.fields image.now) }
+{
+    match format.unpack(alloc, image) {
+        Ok(values) => Ok(Values::from_vec(values)),
+        Err(ImageFault::NoMemory) => Err(AllocError),
+        Err(ImageFault::BadImage(_)) => unreachable!(),
+    }
+}
