@@ -83,11 +83,6 @@ impl Contents {
         self.jobs.name(job)
     }
 
-    /// What its copies of images and sources are made with.
-    pub fn alloc(&self) -> Global {
-        self.alloc
-    }
-
     /// Begins a job and answers its number.
     pub fn begin_job(&mut self, name: Name) -> Result<u32, AllocError>
         requires { length self.old.state.jobs < 4294967295 }
