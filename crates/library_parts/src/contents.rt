@@ -60,6 +60,11 @@ impl Contents {
         }
     }
 
+    /// Where its parts take their memory.
+    pub fn alloc(&self) -> Global {
+        self.alloc
+    }
+
     /// How many jobs have begun. What the parts need of each other holds.
     pub fn jobs_begun(&self) -> usize
         ensures count { result ≡ length self.now.state.jobs }
