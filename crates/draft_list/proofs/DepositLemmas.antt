@@ -1,5 +1,5 @@
 -- What depositing drafts makes of a library.
-use Rattle.std.proofs.Common.{◌≡◌, ◌∙◌, ℕ, zero, suc, ◌+◌, Bool, List, [], ◌∷◌, ◌++◌, length, Result, Ok, refl, ap, sym, arith, append_assoc, append-nil, length-append}
+use Rattle.std.proofs.Common.{◌≡◌, ◌∙◌, ℕ, suc, ◌+◌, Bool, List, [], ◌∷◌, ◌++◌, length, Result, Ok, refl, ap, subst, true, arith, append_assoc, append-nil, length-append}
 use Rattle.entry_codec.specs.declared.entries.Draft.{Draft}
 use Rattle.entry_codec.specs.declared.entries.Entry.{Entry}
 use Rattle.entry_codec.specs.Drafts.{numbered}
@@ -40,6 +40,13 @@ Leaves-drafts old mid new drafts forced reply m is gone kept left =
     (ap memory_of left ∙ memory-with_drafts mid drafts ∙ ap (λ (x : Memory). record x { last_entry = x.last_entry + length drafts }) is) gone
     (ap (λ (s : State). s.entries) left ∙ (λ i. kept i ++ deposited (is i) drafts))
 
--- where a change was done, it is the answer
-pub Answers-left : (old new : State) (c : Change) (reply : Reply) (wanted : Result Change Reply) → wanted ≡ Ok c → c.reply ≡ reply → Leaves old new c → Answers old new (Ok reply) wanted
-Answers-left old new c reply wanted is replies left = (c, is, replies, left)
+-- where a change was done to a state that is the old one, by drafts that are those of the definition, it is the answer
+pub Answers-left : (old mid new : State) (made drafts : List Draft) (effect : Memory → Memory) (reply : Reply) (wanted : Result Change Reply) → mid ≡ old → made ≡ drafts
+    → wanted ≡ Ok (journaled drafts true reply (effect (memory_of old))) → Leaves mid new (journaled made true reply (effect (memory_of mid))) → Answers old new (Ok reply) wanted
+Answers-left old mid new made drafts effect reply wanted same are is left = (
+  journaled drafts true reply (effect (memory_of old)),
+  is,
+  refl,
+  subst (λ (s : State). Leaves s new (journaled drafts true reply (effect (memory_of s)))) same
+      (subst (λ (ds : List Draft). Leaves mid new (journaled ds true reply (effect (memory_of mid)))) are left),
+)

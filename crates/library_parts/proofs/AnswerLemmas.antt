@@ -1,9 +1,10 @@
 -- What a state is whose memory and entries are those of a change, and how many locks a call may leave.
-use Rattle.std.proofs.Common.{◌≡◌, ℕ, ◌+◌, ◌-◌, ◌≤◌, Bool, not, List, [], ◌∷◌, ◌++◌, length, drop, Option, Some, None, Result, Ok, refl, sym, ◌∙◌, ap, arith, suc}
+use Rattle.std.proofs.Common.{◌≡◌, ℕ, ◌+◌, ◌-◌, ◌≤◌, Bool, not, List, [], ◌∷◌, ◌++◌, length, drop, Option, Some, None, IfSome, Result, Ok, refl, sym, ◌∙◌, ap, arith, suc}
 use Rattle.std.specs.Ordering.{is_eq, match_ordering}
 use Rattle.std.specs.declared.cmp.Ordering.{Ordering}
 use Rattle.std.specs.declared.cmp.Ordering.TheVariants.{Less, Equal, Greater}
 use Rattle.commit_level.specs.declared.Level.{Level}
+use Rattle.commit_level.specs.declared.Level.TheVariants.{Chg, Cs, All}
 use Rattle.entry_codec.specs.declared.entries.Entry.{Entry}
 use Rattle.entry_codec.specs.declared.entries.Draft.{Draft}
 use Rattle.lock_table.specs.declared.lock.Lock.{Lock}
@@ -12,18 +13,19 @@ use Rattle.lock_table.specs.declared.lock.RecordId.{RecordId}
 use Rattle.lock_table.specs.declared.lock.Reach.{Reach}
 use Rattle.lock_table.specs.declared.lock.Reach.TheVariants.{Open, Boundary}
 use Rattle.lock_table.specs.declared.levels.Call.{Call}
+use Rattle.lock_table.specs.declared.levels.Call.TheVariants.{InputRead, UpdateRead, Update, Delete, Write, WriteAt, Unlock, Position, Close, Commit, Rollback, EndCommitment, EndJob}
 use Rattle.lock_table.specs.declared.levels.Wanted.{Wanted}
 use Rattle.lock_table.specs.declared.levels.OpenLocks.{OpenLocks}
 use Rattle.lock_table.specs.declared.levels.OpenLocks.TheVariants.{Stay, OfOpen, OfRecord, OfCommitted, OfJob}
 use Rattle.lock_table.specs.declared.table.TheConstants.{MOST_LOCKS}
 use Rattle.lock_table.specs.Lock.{lock_by, lock_cmp, is_of_open, is_of_record, is_of_opens, is_of_job}
 use Rattle.lock_table.specs.Table.{with_item, without_lock, with_lock_by}
-use Rattle.lock_table.specs.Levels.{gained, released, without_open_locks, with_wanted, locks_after}
+use Rattle.lock_table.specs.Levels.{asked, gained, released, without_open_locks, with_wanted, locks_after}
 use Rattle.library_model.specs.declared.replies.Reply.{Reply}
 use Rattle.library_steps.specs.State.{State, Memory, memory_of, with_entries}
 use Rattle.library_steps.specs.Change.{Change, deposited, journaled, unjournaled}
 use Rattle.library_parts.specs.Answers.{Answers}
-use Rattle.library_parts.specs.Locks.{IsOfOpen, HasLockRoom}
+use Rattle.library_parts.specs.Locks.{AsksNone, IsOfOpen, HasLockRoom}
 use Rattle.library_parts.specs.Parts.{Room}
 use Rattle.library_parts.proofs.LockLemmas.{length-filter, left-Open}
 
@@ -93,3 +95,54 @@ locks-fit call level holder at is_committed s room of has few =
     let fewer = length-without_open (released call level).open_locks holder at is_committed s.locks in
     let same = ap length left in
     omega (arith, more, fewer, same, has, few)
+
+-- ---- calls that ask for no lock
+
+pub AsksNone-of_open : (call : Call) → AsksNone call → IsOfOpen call
+AsksNone-of_open Unlock asks = tt
+AsksNone-of_open Position asks = tt
+AsksNone-of_open Close asks = tt
+AsksNone-of_open InputRead asks = absurd asks
+AsksNone-of_open UpdateRead asks = absurd asks
+AsksNone-of_open Update asks = absurd asks
+AsksNone-of_open Delete asks = absurd asks
+AsksNone-of_open Write asks = absurd asks
+AsksNone-of_open WriteAt asks = absurd asks
+AsksNone-of_open Commit asks = absurd asks
+AsksNone-of_open Rollback asks = absurd asks
+AsksNone-of_open EndCommitment asks = absurd asks
+AsksNone-of_open EndJob asks = absurd asks
+
+none-Unlock : (level : Option Level) → asked Unlock level ≡ None
+none-Unlock None = refl
+none-Unlock (Some Chg) = refl
+none-Unlock (Some Cs) = refl
+none-Unlock (Some All) = refl
+
+-- it asks for none, and leaves none
+pub AsksNone-none : (call : Call) (level : Option Level) → AsksNone call → (asked call level ≡ None) × (gained call level ≡ None)
+AsksNone-none Unlock level asks = (none-Unlock level, none-Unlock level)
+AsksNone-none Position level asks = (none-Unlock level, none-Unlock level)
+AsksNone-none Close level asks = (none-Unlock level, none-Unlock level)
+AsksNone-none InputRead level asks = absurd asks
+AsksNone-none UpdateRead level asks = absurd asks
+AsksNone-none Update level asks = absurd asks
+AsksNone-none Delete level asks = absurd asks
+AsksNone-none Write level asks = absurd asks
+AsksNone-none WriteAt level asks = absurd asks
+AsksNone-none Commit level asks = absurd asks
+AsksNone-none Rollback level asks = absurd asks
+AsksNone-none EndCommitment level asks = absurd asks
+AsksNone-none EndJob level asks = absurd asks
+
+pub AsksNone-unlocked : (call : Call) (level : Option Level) (P : Wanted → Type 0) → AsksNone call → IfSome (asked call level) P
+AsksNone-unlocked call level P asks = let none = (AsksNone-none call level asks).0 in rw none tt
+
+-- no more locks are left than were held
+pub length-AsksNone : (call : Call) (level : Option Level) (holder : Holder) (at : RecordId) (is_committed : ℕ → Bool) (held : List Lock) → AsksNone call
+    → length (locks_after call level holder at is_committed held) ≤ length held
+length-AsksNone call level holder at is_committed held asks =
+    let left = left-Open call level holder at is_committed held (AsksNone-of_open call asks) in
+    let none = (AsksNone-none call level asks).1 in
+    let fewer = length-without_open (released call level).open_locks holder at is_committed held in
+    rw left (rw none fewer)

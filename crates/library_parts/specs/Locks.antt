@@ -54,6 +54,22 @@ IsOfOpen Rollback = ⊥
 IsOfOpen EndCommitment = ⊥
 IsOfOpen EndJob = ⊥
 
+-- the call is of an open, and asks for no lock
+abbrev pub AsksNone : Call → Type 0
+AsksNone InputRead = ⊥
+AsksNone UpdateRead = ⊥
+AsksNone Update = ⊥
+AsksNone Delete = ⊥
+AsksNone Write = ⊥
+AsksNone WriteAt = ⊥
+AsksNone Unlock = Unit {0}
+AsksNone Position = Unit {0}
+AsksNone Close = Unit {0}
+AsksNone Commit = ⊥
+AsksNone Rollback = ⊥
+AsksNone EndCommitment = ⊥
+AsksNone EndJob = ⊥
+
 -- locks of one open, or of one record
 abbrev pub AreOfOpen : OpenLocks → Type 0
 AreOfOpen Stay = Unit {0}

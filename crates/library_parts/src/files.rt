@@ -89,6 +89,7 @@ impl Contents {
         ensures file { named args.now.file self.old.state.files ≡ Some result }
         ensures memory { memory_of self.new.state ≡ deleted args.now result (memory_of self.old.state) }
         ensures entries { self.new.state.entries ≡ self.old.state.entries }
+        ensures others { (self.new.room.entries ≡ self.old.room.entries) × (self.new.room.locks ≡ self.old.room.locks) × (self.new.room.undos ≡ self.old.room.undos) }
     {
         // No two members have one number.
         let _len = self.catalogue.len();

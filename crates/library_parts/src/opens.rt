@@ -14,7 +14,7 @@ ghost use Rattle.library_steps.specs.EndJob.{job_ended};
 ghost use Rattle.job_table.specs.Table.{HasRoomFor};
 ghost use Rattle.job_table.specs.declared.jobs.TheConstants.{LAST_OPEN};
 ghost use Rattle.library_parts.specs.Lawful.{OpensMember};
-ghost use Rattle.library_parts.specs.Locks.{IsOfOpen, HasLockRoom};
+ghost use Rattle.library_parts.specs.Locks.{AsksNone, IsOfOpen, HasLockRoom};
 
 use crate::contents::Contents;
 use crate::leave::leave;
@@ -106,6 +106,19 @@ impl Contents {
         ensures entries { self.new.state.entries ≡ self.old.state.entries }
         ensures room { self.new.room ≡ self.old.room }
     {
+        leave(&mut self.locks, call, level, holder, at);
+    }
+
+    /// The same of a call that asks for no lock, so that the locks need no room.
+    pub fn free_for(&mut self, call: Call, level: Option<Level>, holder: Holder, at: RecordId)
+        requires running { IsTrue (is_running (job_at holder.job self.old.state.jobs)) }
+        requires call { AsksNone call }
+        ensures memory { memory_of self.new.state ≡ with_locks (locks_after call level holder at (is_committed (job_of holder.job (memory_of self.old.state))) self.old.state.locks) (memory_of self.old.state) }
+        ensures entries { self.new.state.entries ≡ self.old.state.entries }
+        ensures room { self.new.room ≡ self.old.room }
+    {
+        // The locks that are held have room.
+        let _count = self.locks.count();
         leave(&mut self.locks, call, level, holder, at);
     }
 
