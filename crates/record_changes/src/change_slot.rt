@@ -7,7 +7,7 @@ ghost use Rattle.library_steps.specs.History.{is_running};
 ghost use Rattle.library_steps.specs.Records.{slot_there};
 ghost use Rattle.library_steps.specs.SlotChange.{images_of, with_slot};
 ghost use Rattle.record_changes.specs.Changes.{HasChanged};
-ghost use Rattle.record_changes.specs.Places.{HasEntryRoom, HasPlaceRoom, IsReady, MayPut};
+ghost use Rattle.record_changes.specs.Places.{HasEntryRoom, HasPlaceRoom, IsReady, MayChange, MayPut};
 ghost use Rattle.record_changes.specs.Plans.{new_slot};
 
 use crate::entries::ChangeEntries;
@@ -31,7 +31,7 @@ pub(crate) fn prepare_change(
 ) -> Result<Slot, AllocError>
     requires left { (memory_of contents.old.state).last_entry ≤ LAST_SEQUENCE }
     requires uncommitted { planned.now.opened.commit ≡ false }
-    requires may { MayPut contents.old.state.files contents.old.state.members planned.now.opened.member planned.now.rrn planned.now.slot }
+    requires may { MayChange contents.old.state planned.now }
     ensures state { contents.new.state ≡ contents.old.state }
     ensures ready { IfOk result (λ again. IsReady contents.new planned.now again) }
 {
@@ -60,6 +60,7 @@ fn prepare_entries(contents: &mut Contents, planned: &PlannedSlot) -> Result<Slo
 {
     let member = planned.opened.member();
     if contents.images_of(member).is_none() {
+        // No entry tells of it.
         return Ok(Slot::Deleted);
     }
     let bytes = ENTRY_BYTES + u64::from(contents.record_length(member));

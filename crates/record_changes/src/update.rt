@@ -8,7 +8,7 @@ ghost use Rattle.library_steps.specs.History.{is_running};
 ghost use Rattle.built_state.specs.Uncommitted.{IsUncommitted};
 ghost use Rattle.built_state.specs.Unkeyed.{AreUnkeyed};
 ghost use Rattle.library_parts.specs.Answers.{Answers};
-ghost use Rattle.record_changes.specs.Places.{IsReady, MayPut};
+ghost use Rattle.record_changes.specs.Places.{IsReady, MayChange};
 ghost use Rattle.record_changes.specs.Plans.{PlansSlot, new_slot};
 
 use crate::change_slot::{change_slot, prepare_change};
@@ -48,7 +48,7 @@ fn plan_update(contents: &Contents, job: u32, args: &UpdateRecord) -> Result<Pla
     ensures plan { PlansSlot result (update_plan (memory_of contents.now.state) job args.now) }
     ensures left { IfOk result (λ planned. (memory_of contents.now.state).last_entry ≤ LAST_SEQUENCE) }
     ensures uncommitted { IfOk result (λ planned. planned.opened.commit ≡ false) }
-    ensures may { IfOk result (λ planned. MayPut contents.now.state.files contents.now.state.members planned.opened.member planned.rrn planned.slot) }
+    ensures may { IfOk result (λ planned. MayChange contents.now.state planned) }
 {
     // No two members have one number.
     let _counts = contents.counts();

@@ -10,7 +10,7 @@ ghost use Rattle.built_state.specs.Uncommitted.{IsUncommitted};
 ghost use Rattle.built_state.specs.Unkeyed.{AreUnkeyed};
 ghost use Rattle.library_parts.specs.Answers.{Answers, Gives};
 ghost use Rattle.library_parts.specs.Locks.{IsWrite};
-ghost use Rattle.record_changes.specs.Places.{IsReady, MayPut};
+ghost use Rattle.record_changes.specs.Places.{IsReady, MayChange};
 ghost use Rattle.record_changes.specs.Plans.{PlansSlot, new_slot};
 
 use crate::change_slot::{change_slot, prepare_change};
@@ -53,7 +53,7 @@ fn plan_write(contents: &Contents, job: u32, args: &WriteRecord) -> Result<Plann
     ensures left { IfOk result (λ planned. (memory_of contents.now.state).last_entry ≤ LAST_SEQUENCE) }
     ensures uncommitted { IfOk result (λ planned. planned.opened.commit ≡ false) }
     ensures unlocked { IfOk result (λ planned. clashing (write_call args.now.record_number) job planned.opened planned.rrn (memory_of contents.now.state) ≡ None) }
-    ensures may { IfOk result (λ planned. MayPut contents.now.state.files contents.now.state.members planned.opened.member planned.rrn planned.slot) }
+    ensures may { IfOk result (λ planned. MayChange contents.now.state planned) }
 {
     // No two members have one number.
     let _counts = contents.counts();
