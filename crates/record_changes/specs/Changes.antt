@@ -16,6 +16,7 @@ drafts_in job timestamp new m = drafts_of (author_of m job timestamp) (job_of jo
 abbrev pub drafts_by : ChangeEntries → (old new : Slot) → List Draft
 drafts_by e old new = slot_drafts e.author e.cycle e.both e.behind_last e.member e.rrn old new
 
+-- the slot was changed as the definition says, and the drafts of the change deposited
 pub record HasChanged (job timestamp : ℕ) (new : NewSlot) (before after : State) : Type 0 where
   pub memory : memory_of after ≡ record (slot_changed job new (memory_of before)) {
     last_entry = (memory_of before).last_entry + length (drafts_in job timestamp new (memory_of before));

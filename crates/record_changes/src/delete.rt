@@ -56,7 +56,7 @@ fn plan_delete(contents: &Contents, job: u32, args: &OpenName) -> Result<Planned
     let rrn = current_record(opened)?;
     contents.not_held(job, opened, rrn)?;
     few_changes(contents, opened, rrn, &Slot::Deleted)?;
-    // A current record stands there: its lock keeps it.
+    // A current record stands there, since its lock keeps it. Nothing states that, so the call gives up where none does.
     let Some(_old) = contents.live_image(opened.member(), rrn) else {
         return Err(Stop::NoMemory);
     };

@@ -56,7 +56,7 @@ fn plan_update(contents: &Contents, job: u32, args: &UpdateRecord) -> Result<Pla
     let OpenFound { opened, file } = contents.opened_file(job, &args.open_id)?;
     may_change(opened)?;
     let rrn = current_record(opened)?;
-    // A current record stands there: its lock keeps it.
+    // A current record stands there, since its lock keeps it. Nothing states that, so the call gives up where none does.
     let Some(old) = contents.live_image(opened.member(), rrn) else {
         return Err(Stop::NoMemory);
     };
