@@ -18,11 +18,21 @@ pub struct Undo {
     rrn: u32,
     cycle: u64,
     before: Slot,
+    /// The slot before once more, for the entry that tells that it was put back.
+    again: Slot,
     after: Slot,
 }
 
+/// The slots of a change that is taken back: the one before it twice, and the one after it.
+#[derive(Drop)]
+pub struct UndoSlots {
+    pub before: Slot,
+    pub again: Slot,
+    pub after: Slot,
+}
+
 impl Model for Undo {
-    ghost use Rattle.std.specs.Prelude.{◌≤◌};
+    ghost use Rattle.std.specs.Prelude.{◌≡◌, ◌≤◌};
     ghost use Rattle.journal_model.specs.Rollback.{MemberChange};
     ghost use Rattle.job_table.specs.Changes.{change_of};
 
@@ -30,13 +40,15 @@ impl Model for Undo {
 
     ghost view = { λ u. change_of u.member u.rrn u.cycle u.before u.after };
 
-    ghost invariant = { λ u. 1 ≤ u.rrn };
+    ghost invariant = { λ u. (1 ≤ u.rrn) × (u.again ≡ u.before) };
 }
 
 impl Undo {
-    /// A change of the record with that number, in the commit cycle that began with the entry of that sequence.
-    pub fn new(member: u32, rrn: u32, cycle: u64, before: Slot, after: Slot) -> Undo
-        requires { 1 ≤ rrn }
+    /// A change of the record with that number, in the commit cycle that began with the entry of that sequence. The slot
+    /// before comes twice, so that taking the change back needs no memory.
+    pub fn new(member: u32, rrn: u32, cycle: u64, before: Slot, again: Slot, after: Slot) -> Undo
+        requires numbered { 1 ≤ rrn }
+        requires alike { again ≡ before }
         ensures { result ≡ change_of member rrn cycle before after }
     {
         Undo {
@@ -44,6 +56,7 @@ impl Undo {
             rrn,
             cycle,
             before,
+            again,
             after,
         }
     }
@@ -84,11 +97,17 @@ impl Undo {
         &self.after
     }
 
-    /// The slot before the change, to be put back.
-    pub fn into_before(self) -> Slot
-        ensures { result ≡ before_of self.change }
+    /// Its slots, to be put back and told of.
+    pub fn into_slots(self) -> UndoSlots
+        ensures before { result.before ≡ before_of self.change }
+        ensures again { result.again ≡ before_of self.change }
+        ensures after { result.after ≡ self.change.after }
     {
-        self.before
+        UndoSlots {
+            before: self.before,
+            again: self.again,
+            after: self.after,
+        }
     }
 
     /// The bytes of images in the entries that take the change back.

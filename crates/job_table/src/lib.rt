@@ -11,7 +11,7 @@ mod opens;
 mod positions;
 mod users;
 
-pub use changes::{Undo, Undos};
+pub use changes::{Undo, UndoSlots, Undos};
 pub use jobs::{Jobs, LAST_OPEN};
 pub use open::Open;
 pub use opens::OpenNumbers;

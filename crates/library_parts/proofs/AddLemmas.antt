@@ -1,5 +1,5 @@
 -- A library stays lawful with one member more in a file.
-use Rattle.std.proofs.Common.{◌≡◌, ◌≢◌, ◌⊎◌, inl, inr, ℕ, ◌+◌, ◌==◌, ◌||◌, true, false, cond, List, Option, Some, None, subst, refl, sym, ◌∙◌, ap, arith}
+use Rattle.std.proofs.Common.{◌≡◌, ◌≢◌, ◌⊎◌, inl, inr, ℕ, ◌+◌, ◌<◌, ◌==◌, ◌||◌, true, false, cond, List, Option, Some, None, subst, refl, sym, ◌∙◌, ap, arith}
 use Rattle.std.specs.Option.{option_map}
 use Rattle.std.proofs.lemmas.Bool.{cases_eq}
 use Rattle.std.proofs.lemmas.Bool.Decides.{nat_tests}
@@ -13,10 +13,13 @@ use Rattle.file_catalogue.proofs.StatusLemmas.{has_number-push}
 use Rattle.library_model.specs.Named.{named, same_name}
 use Rattle.library_steps.specs.State.{State, FileState, OpenState, fields_of}
 use Rattle.library_steps.specs.MemberCommands.{file_changed, with_member_name}
-use Rattle.library_parts.specs.Lawful.{IsThere, OpensMember, AreOne}
+use Rattle.journal_model.specs.Replay.{before_of}
+use Rattle.journal_model.specs.Rollback.{MemberChange}
+use Rattle.library_parts.specs.Lawful.{HoldsValues, IsThere, OpensMember, GoesBack, AreOne}
 use Rattle.library_parts.proofs.MemberLemmas.{item_at-put_item_other, item_at-put_item_same}
 use Rattle.library_parts.proofs.LawfulLemmas.{jobs-each}
-use Rattle.library_parts.proofs.FileLemmas.{Owns-below, bytes-put_member, numbers-put_member}
+use Rattle.library_parts.proofs.BackLemmas.{FitsPlace-same, AllGoBack-each}
+use Rattle.library_parts.proofs.FileLemmas.{number-below, Owns-below, bytes-put_member, numbers-put_member}
 
 module _ (s : State) (bytes : ℕ) (name member : List ℕ) (file : FileState) (one : AreOne s bytes) (there : named name s.files ≡ Some file) where
   -- a file among those with the member is one that was there, or the one with the member
@@ -80,6 +83,31 @@ module _ (s : State) (bytes : ℕ) (name member : List ℕ) (file : FileState) (
         | false ↦ holds
       ])
 
+  -- the new member was changed by nobody
+  values : (undo : MemberChange) → undo.member < s.next_member → ((before : List ℕ) (its : FileState) → Owns s.files before its undo.member → HoldsValues (fields_of its) (before_of undo.change))
+      → (other : List ℕ) (another : FileState)
+      → ((before : FileState) × (named other s.files ≡ Some before) × (with_member_name member s.next_member before ≡ another) × (before ≡ file)) ⊎ (named other s.files ≡ Some another)
+      → has_number undo.member another.members ≡ true → HoldsValues (fields_of another) (before_of undo.change)
+  values undo below held other another (inr found) has = held other another (record { there = found; has = has })
+  values undo below held other another (inl was) has =
+      let more : has_number undo.member (with_member_name member s.next_member was.0).members ≡ true = ap (λ (f : FileState). has_number undo.member f.members) was.2 ∙ has in
+      let either = sym (has_number-push undo.member was.0.members member s.next_member) ∙ more in
+      let differ : s.next_member ≢ undo.member = omega (arith, below) in
+      let before : has_number undo.member was.0.members ≡ true = grind (arith, nat_tests) in
+      subst (λ (f : FileState). HoldsValues (fields_of f) (before_of undo.change)) was.2 (held other was.0 (record { there = was.1; has = before }))
+
+  goes-back : (sequence : ℕ) (undo : MemberChange) → GoesBack s.files s.members sequence undo
+      → GoesBack (file_changed name (with_member_name member s.next_member) s.files) (put_member s.next_member (empty_member (record_length (fields_of file))) s.members) sequence undo
+  goes-back sequence undo back =
+      let below = number-below s.members undo.member s.next_member one.lawful.numbers back.place.there in
+      let apart : undo.member ≢ s.next_member = omega (arith, below) in
+      record {
+        cycle = back.cycle;
+        place = FitsPlace-same s.members (put_member s.next_member (empty_member (record_length (fields_of file))) s.members) undo
+            (item_at-put_item_other undo.member s.next_member (empty_member (record_length (fields_of file))) s.members apart) back.place;
+        values = λ other another owns. values undo below back.values other another (split other another owns.there) owns.has;
+      }
+
   pub AreOne-member_added : AreOne (record s {
     files = file_changed name (with_member_name member s.next_member) s.files;
     members = put_member s.next_member (empty_member (record_length (fields_of file))) s.members;
@@ -89,6 +117,8 @@ module _ (s : State) (bytes : ℕ) (name member : List ℕ) (file : FileState) (
     lawful = record {
       members = λ other another number owns. IsThere-added other another number (split other another owns.there) owns.has;
       opens = jobs-each s.files (file_changed name (with_member_name member s.next_member) s.files) opens-added s.jobs one.lawful.opens;
+      changes = AllGoBack-each s.files (file_changed name (with_member_name member s.next_member) s.files) s.members
+          (put_member s.next_member (empty_member (record_length (fields_of file))) s.members) goes-back s.jobs one.lawful.changes;
       numbers = numbers-put_member s.members s.next_member (empty_member (record_length (fields_of file))) one.lawful.numbers;
       keepers = one.lawful.keepers;
       few = omega (arith, same, few);

@@ -29,7 +29,7 @@ use Rattle.library_parts.specs.Locks.{AsksNone, IsOfOpen, HasLockRoom}
 use Rattle.library_parts.specs.Parts.{Room}
 use Rattle.library_parts.proofs.LockLemmas.{length-filter, left-Open}
 
-append-nil : {X : Type 0} (xs : List X) → xs ++ [] ≡ xs
+pub append-nil : {X : Type 0} (xs : List X) → xs ++ [] ≡ xs
 append-nil [] = refl
 append-nil (x ∷ xs) = ap (λ rest. x ∷ rest) (append-nil xs)
 

@@ -3,6 +3,7 @@ use Rattle.std.proofs.Common.{◌≡◌, ◌≢◌, ℕ, suc, ◌+◌, ◌<◌, 
 use Rattle.std.specs.List.{AllByRecursion, AllPairs, list_any}
 use Rattle.std.proofs.lemmas.Bool.Decides.{nat_tests}
 use Rattle.std.proofs.lemmas.List.Elements.{recursion_from_All}
+use Rattle.journal_model.specs.Rollback.{MemberChange}
 use Rattle.lock_table.specs.declared.lock.Lock.{Lock}
 use Rattle.member_slots.specs.Member.{MemberState, empty_member}
 use Rattle.member_slots.specs.Members.{Numbered, NumberedMembers, AreMembers, member_at, member_of, without_member}
@@ -13,14 +14,11 @@ use Rattle.library_model.specs.Named.{Named, named, same_name}
 use Rattle.library_steps.specs.State.{State, FileState, MemberStatus, OpenState, JobState, memory_of, fields_of}
 use Rattle.library_steps.specs.DeleteFile.{without_file, without_members}
 use Rattle.library_steps.specs.Ranges.{library_bytes}
-use Rattle.library_steps.specs.Uses.{first_job, has_open_over, has_changed, has_boundary_lock, uses, user_of_any}
-use Rattle.library_parts.specs.Lawful.{IsThere, OpensMember, OpenHolds, OpensHold, AreOne}
+use Rattle.library_steps.specs.Uses.{first_job, changes_in, has_open_over, has_changed, has_boundary_lock, uses, user_of_any}
+use Rattle.library_parts.specs.Lawful.{IsThere, OpensMember, OpenHolds, OpensHold, GoesBack, AreOne}
 use Rattle.library_parts.specs.Slots.{weight}
 use Rattle.library_parts.proofs.MemberLemmas.{item_at-without_item_other, library_bytes-cons}
-
-neither : (a b : Bool) → (a || b) ≡ false → (a ≡ false) × (b ≡ false)
-neither true b none = absurd cc
-neither false b none = (refl, none)
+use Rattle.library_parts.proofs.BackLemmas.{FitsPlace-same, AllGoBack-kept, neither, unused-unchanged}
 
 -- ---- a member less
 
@@ -149,6 +147,37 @@ jobs-unused files others members locks each number (job ∷ jobs) unused all =
       )
     ] refl unused
 
+-- a job that uses none of the members has changed none of them
+none-changed : (members : Named MemberStatus) (locks : List Lock) (number : ℕ) (job : JobState) → list_any (λ entry. uses entry.1.number locks number job) members ≡ false
+    → list_any (λ entry. has_changed entry.1.number job) members ≡ false
+none-changed [] locks number job none = refl
+none-changed (entry ∷ members) locks number job none =
+    let parts = neither (uses entry.1.number locks number job) (list_any (λ (e : List ℕ × MemberStatus). uses e.1.number locks number job) members) none in
+    rw (unused-unchanged entry.1.number number locks job parts.0) (none-changed members locks number job parts.1)
+
+-- of changes and members: no member is that of the first change, and none that of a later one
+first-change : (members : Named MemberStatus) (undo : MemberChange) (undos : List MemberChange)
+    → list_any (λ entry. list_any (λ (u : MemberChange). u.member == entry.1.number) (undo ∷ undos)) members ≡ false
+    → (has_number undo.member members ≡ false) × (list_any (λ entry. list_any (λ (u : MemberChange). u.member == entry.1.number) undos) members ≡ false)
+first-change [] undo undos none = (refl, refl)
+first-change (entry ∷ members) undo undos none =
+    let parts = neither (list_any (λ (u : MemberChange). u.member == entry.1.number) (undo ∷ undos))
+    (list_any (λ (e : List ℕ × MemberStatus). list_any (λ (u : MemberChange). u.member == e.1.number) (undo ∷ undos)) members) none in
+    let here = neither (undo.member == entry.1.number) (list_any (λ (u : MemberChange). u.member == entry.1.number) undos) parts.0 in
+    let rest = first-change members undo undos parts.1 in
+    let differ = here.0 in
+    let other : (entry.1.number == undo.member) ≡ false = grind (arith, nat_tests) in
+    (has_number-cons undo.member entry members ∙ rw (other, rest.0) refl, rw (here.1, rest.1) refl)
+
+changes-apart : (members : Named MemberStatus) (undos : List MemberChange) → list_any (λ entry. list_any (λ (u : MemberChange). u.member == entry.1.number) undos) members ≡ false
+    → list_any (λ (u : MemberChange). has_number u.member members) undos ≡ false
+changes-apart members [] none = refl
+changes-apart members (undo ∷ undos) none = let parts = first-change members undo undos none in rw parts.0 (changes-apart members undos parts.1)
+
+changes-unused : (members : Named MemberStatus) (locks : List Lock) (number : ℕ) (job : JobState) → list_any (λ entry. uses entry.1.number locks number job) members ≡ false
+    → list_any (λ (u : MemberChange). has_number u.member members) (changes_in job.cycle) ≡ false
+changes-unused members locks number job none = changes-apart members (changes_in job.cycle) (none-changed members locks number job none)
+
 module _ (s : State) (bytes after : ℕ) (name : List ℕ) (file : FileState) (one : AreOne s bytes) (apart : AreApart s.files) (there : named name s.files ≡ Some file) where
   -- an open that isn't over its members is of another file
   OpensMember-without : (opened : OpenState) → has_number opened.member file.members ≡ false → OpenHolds s.files opened → OpensMember opened.member (named opened.file (without_file name s.files))
@@ -176,6 +205,14 @@ module _ (s : State) (bytes after : ℕ) (name : List ℕ) (file : FileState) (o
         | false ↦ λ has. refl
       ] refl
 
+  goes-back : (sequence : ℕ) (undo : MemberChange) → has_number undo.member file.members ≡ false → GoesBack s.files s.members sequence undo
+      → GoesBack (without_file name s.files) (without_members file.members s.members) sequence undo
+  goes-back sequence undo absent back = record {
+    cycle = back.cycle;
+    place = FitsPlace-same s.members (without_members file.members s.members) undo (at-without_members file.members s.members undo.member absent) back.place;
+    values = λ other another owns. back.values other another (Owns-without other another undo.member owns);
+  }
+
   pub AreOne-deleted : user_of_any file.members (memory_of s) ≡ None → after ≡ library_bytes (without_members file.members s.members) → after ≤ bytes
       → AreOne (record s { files = without_file name s.files; members = without_members file.members s.members }) after
   AreOne-deleted unused counted fewer = let before = one.counted in let few = one.lawful.few in record {
@@ -183,6 +220,9 @@ module _ (s : State) (bytes after : ℕ) (name : List ℕ) (file : FileState) (o
       members = λ other another number owns. subst (IsThere (fields_of another)) (sym (at-without_members file.members s.members number (number-other other another number owns)))
           (one.lawful.members other another number (Owns-without other another number owns));
       opens = jobs-unused s.files (without_file name s.files) file.members s.locks OpensMember-without 1 s.jobs unused one.lawful.opens;
+      changes = AllGoBack-kept s.files (without_file name s.files) s.members (without_members file.members s.members) (λ undo. has_number undo.member file.members) goes-back
+          (λ number job. list_any (λ entry. uses entry.1.number s.locks number job) file.members)
+          (λ number job none. changes-unused file.members s.locks number job none) 1 s.jobs unused one.lawful.changes;
       numbers = numbers-without_members file.members s.members s.next_member one.lawful.numbers;
       keepers = one.lawful.keepers;
       few = omega (arith, counted, fewer, before, few);

@@ -14,15 +14,18 @@ use Rattle.library_steps.specs.State.{State, FileState, MemberStatus, fields_of}
 use Rattle.library_steps.specs.CreatePhysicalFile.{new_status}
 use Rattle.library_steps.specs.Ranges.{library_bytes}
 use Rattle.library_steps.specs.SlotChange.{status_among}
-use Rattle.library_parts.specs.Lawful.{IsThere, OpensMember, IsLibrary, AreOne}
+use Rattle.journal_model.specs.Replay.{before_of}
+use Rattle.journal_model.specs.Rollback.{MemberChange}
+use Rattle.library_parts.specs.Lawful.{HoldsValues, IsThere, OpensMember, GoesBack, IsLibrary, AreOne}
 use Rattle.library_parts.proofs.MemberLemmas.{item_at-put_item_other, item_at-put_item_same, IsThere-is_some, library_bytes-cons}
 use Rattle.library_parts.specs.Slots.{weight}
 use Rattle.library_parts.proofs.LawfulLemmas.{jobs-each}
+use Rattle.library_parts.proofs.BackLemmas.{FitsPlace-same, AllGoBack-each}
 
 -- ---- numbers
 
 -- a member that is there has a number below the next
-number-below : (members : NumberedMembers) (number next : ℕ) → AllByRecursion (λ entry. entry.number < next) members → is_some (member_at number members) ≡ true → number < next
+pub number-below : (members : NumberedMembers) (number next : ℕ) → AllByRecursion (λ entry. entry.number < next) members → is_some (member_at number members) ≡ true → number < next
 number-below [] number next all there = absurd cc
 number-below (entry ∷ members) number next all there = grind (arith, nat_tests, all.0, number-below members number next all.1)
 
@@ -87,6 +90,25 @@ module _ (s : State) (bytes : ℕ) (name member : List ℕ) (file : FileState) (
       subst (λ (f : FileState). IsThere (fields_of f) (member_at number (put_member s.next_member (empty_member (record_length (fields_of file))) s.members))) same.1 (subst (IsThere
       (fields_of file)) (sym put) (record { long = refl; values = tt }))
 
+  -- the new file has no member that was changed
+  values : (undo : MemberChange) → undo.member < s.next_member → ((before : List ℕ) (its : FileState) → Owns s.files before its undo.member → HoldsValues (fields_of its) (before_of undo.change))
+      → (other : List ℕ) (another : FileState) → (named other s.files ≡ Some another) ⊎ ((other ≡ name) × (file ≡ another)) → has_number undo.member another.members ≡ true
+      → HoldsValues (fields_of another) (before_of undo.change)
+  values undo below held other another (inl there) has = held other another (record { there = there; has = has })
+  values undo below held other another (inr same) has = let here = first_number another undo.member same.1 has in absurd (omega (arith, here, below))
+
+  goes-back : (sequence : ℕ) (undo : MemberChange) → GoesBack s.files s.members sequence undo
+      → GoesBack (s.files ++ (name, file) ∷ []) (put_member s.next_member (empty_member (record_length (fields_of file))) s.members) sequence undo
+  goes-back sequence undo back =
+      let below = number-below s.members undo.member s.next_member one.lawful.numbers back.place.there in
+      let apart : undo.member ≢ s.next_member = omega (arith, below) in
+      record {
+        cycle = back.cycle;
+        place = FitsPlace-same s.members (put_member s.next_member (empty_member (record_length (fields_of file))) s.members) undo
+            (item_at-put_item_other undo.member s.next_member (empty_member (record_length (fields_of file))) s.members apart) back.place;
+        values = λ other another owns. values undo below back.values other another (named-append other name s.files file another owns.there) owns.has;
+      }
+
   pub AreOne-with_file : AreOne (record s {
     files = s.files ++ (name, file) ∷ [];
     members = put_member s.next_member (empty_member (record_length
@@ -97,6 +119,7 @@ module _ (s : State) (bytes : ℕ) (name member : List ℕ) (file : FileState) (
     lawful = record {
       members = λ other another number owns. IsThere-put other another number (named-append other name s.files file another owns.there) owns.has;
       opens = jobs-each s.files (s.files ++ (name, file) ∷ []) (λ opened holds. OpensMember-append opened.member opened.file s.files (name, file) holds) s.jobs one.lawful.opens;
+      changes = AllGoBack-each s.files (s.files ++ (name, file) ∷ []) s.members (put_member s.next_member (empty_member (record_length (fields_of file))) s.members) goes-back s.jobs one.lawful.changes;
       numbers = numbers-put_member s.members s.next_member (empty_member (record_length (fields_of file))) one.lawful.numbers;
       keepers = one.lawful.keepers;
       few = omega (arith, same, few);

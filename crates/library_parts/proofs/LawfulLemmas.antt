@@ -6,12 +6,15 @@ use Rattle.member_slots.specs.declared.slot.Slot.{Slot}
 use Rattle.member_slots.specs.declared.slot.Slot.TheVariants.{Live}
 use Rattle.member_slots.specs.Member.{MemberState, appended, changed}
 use Rattle.member_slots.specs.Members.{member_at, member_of, with_member}
+use Rattle.journal_model.specs.Replay.{before_of}
 use Rattle.file_catalogue.specs.Owners.{Owns, has_number}
 use Rattle.file_catalogue.proofs.ChangeLemmas.{changed-from}
 use Rattle.file_catalogue.proofs.StatusLemmas.{has_number-changed_in, after-number}
 use Rattle.file_catalogue.specs.Statuses.{after}
 use Rattle.file_catalogue.specs.declared.changes.StatusChange.{StatusChange}
+use Rattle.entry_codec.specs.declared.entries.Entry.{Entry}
 use Rattle.lock_table.specs.declared.lock.Lock.{Lock}
+use Rattle.job_table.specs.Table.{JobTable}
 use Rattle.job_table.specs.Users.{HasBegun, AreOfJobs}
 use Rattle.library_model.specs.Named.{Named, named, same_name}
 use Rattle.library_model.specs.declared.requests.OpenFile.{OpenFile}
@@ -21,19 +24,22 @@ use Rattle.lock_table.specs.Table.{freed}
 use Rattle.commit_level.specs.declared.Level.{Level}
 use Rattle.commit_level.specs.declared.Level.TheVariants as levels
 use Rattle.lock_table.specs.Levels.{locks_after}
-use Rattle.library_steps.specs.State.{State, FileState, OpenState, JobState, empty_library, memory_of, job_of, job_changed, with_opens, status_changed, new_job, fields_of}
+use Rattle.library_steps.specs.State.{State, Receivers, FileState, OpenState, CycleState, JobState, empty_library, memory_of, job_of, job_changed, with_opens, status_changed, new_job, fields_of}
 use Rattle.library_steps.specs.declared.limits.TheConstants.{MOST_LIBRARY_BYTES}
 use Rattle.library_steps.specs.Ranges.{library_bytes}
 use Rattle.library_steps.specs.Opens.{with_open, without_open, new_open}
+use Rattle.library_steps.specs.SlotChange.{with_cycle}
 use Rattle.library_steps.specs.Reads.{open_changed}
 use Rattle.library_steps.specs.ChangeRecord.{without_current, without_record, is_current}
 use Rattle.library_steps.specs.Commitment.{boundary_locks, at_boundary, committed_open, with_level, without_cycle, committed, commitment_ended}
 use Rattle.library_steps.specs.Locking.{is_committed}
 use Rattle.library_steps.specs.EndJob.{ended_job, job_ended}
-use Rattle.library_parts.specs.Lawful.{OpensMember, OpenHolds, OpensHold, HasRecords, IsThere, IsLibrary, AreOne}
+use Rattle.library_steps.specs.Uses.{user_of}
+use Rattle.library_parts.specs.Lawful.{HoldsValues, OpensMember, OpenHolds, OpensHold, HasRecords, IsThere, CycleGoesBack, AllGoBack, IsLibrary, AreOne}
 use Rattle.record_fmt.specs.declared.formats.Field.{Field}
 use Rattle.library_parts.specs.Slots.{MayStand, weight}
-use Rattle.library_parts.proofs.MemberLemmas.{at-member_of, is_some-IsSome, IsThere-with_member, HasRecords-member_of, HasRecords-appended, HasRecords-changed, numbers-with_member, library_bytes-with, weight-appended, weight-changed}
+use Rattle.library_parts.proofs.MemberLemmas.{at-member_of, is_some-IsSome, IsThere-with_member, HasRecords-member_of, HasRecords-appended, HasRecords-changed, numbers-with_member, library_bytes-with, weight-appended, weight-changed, length-push, length-changed, record_length-changed}
+use Rattle.library_parts.proofs.BackLemmas.{AllGoBack-each, AllGoBack-with, AllGoBack-unused, GoesBack-values}
 use Rattle.library_parts.specs.Parts.{LibraryParts}
 
 pub AllByRecursion-append : {X : Type 0} (P : X → Type 0) (xs ys : List X) → AllByRecursion P xs → AllByRecursion P ys → AllByRecursion P (xs ++ ys)
@@ -51,11 +57,27 @@ AreOne-empty = record {
   lawful = record {
     members = λ name file number owns. absurd (let there = owns.there in cc);
     opens = tt;
+    changes = tt;
     numbers = tt;
     keepers = λ k d lt. absurd (omega arith);
     few = omega arith;
   };
   counted = refl;
+}
+
+-- another journal
+pub AreOne-journal : (s : State) (bytes gone : ℕ) (entries : List Entry) (receivers : Receivers) (checkpoint : ℕ) → AreOne s bytes
+    → AreOne (record s { gone = gone; entries = entries; receivers = receivers; checkpoint = checkpoint }) bytes
+AreOne-journal s bytes gone entries receivers checkpoint one = record {
+  lawful = record {
+    members = one.lawful.members;
+    opens = one.lawful.opens;
+    changes = one.lawful.changes;
+    numbers = one.lawful.numbers;
+    keepers = one.lawful.keepers;
+    few = one.lawful.few;
+  };
+  counted = one.counted;
 }
 
 -- ---- jobs that begin
@@ -75,12 +97,17 @@ AreOne-new_job s bytes name one = record {
   lawful = record {
     members = one.lawful.members;
     opens = AllByRecursion-append (OpensHold s.files) s.jobs (new_job name ∷ []) one.lawful.opens (tt, tt);
+    changes = AllByRecursion-append (λ (job : JobState). CycleGoesBack s.files s.members job.cycle) s.jobs (new_job name ∷ []) one.lawful.changes (tt, tt);
     numbers = one.lawful.numbers;
     keepers = AreOfJobs-more s.jobs (s.jobs ++ new_job name ∷ []) s.locks (length-more s.jobs (new_job name ∷ [])) one.lawful.keepers;
     few = one.lawful.few;
   };
   counted = one.counted;
 }
+
+pub OnErr-jobs : {A E : Type 0} (result : Result A E) (now before : JobTable) → OnErr result (now ≡ before) → OnErr result (now.jobs ≡ before.jobs)
+OnErr-jobs (Ok a) now before kept = kept
+OnErr-jobs (Err e) now before kept = ap (λ (t : JobTable). t.jobs) kept
 
 -- the jobs after one has begun, or after it hasn't
 pub AreOne-begun : (s : State) (bytes : ℕ) (name : List ℕ) {A E : Type 0} (result : Result A E) (jobs : List JobState) → AreOne s bytes
@@ -111,16 +138,18 @@ length-job_changed (suc place) change (job ∷ jobs) = ap (λ n. suc n) (length-
 
 pub AreOne-locks : (s : State) (bytes : ℕ) (locks : List Lock) → AreOne s bytes → AreOfJobs s.jobs locks → AreOne (record s { locks = locks }) bytes
 AreOne-locks s bytes locks one begun = record {
-  lawful = record { members = one.lawful.members; opens = one.lawful.opens; numbers = one.lawful.numbers; keepers = begun; few = one.lawful.few };
+  lawful = record { members = one.lawful.members; opens = one.lawful.opens; changes = one.lawful.changes; numbers = one.lawful.numbers; keepers = begun; few = one.lawful.few };
   counted = one.counted;
 }
 
 pub AreOne-job_changed : (s : State) (bytes place : ℕ) (change : JobState → JobState) → AreOne s bytes → ((job : JobState) → OpensHold s.files job → OpensHold s.files (change job))
+    → ((job : JobState) → CycleGoesBack s.files s.members job.cycle → CycleGoesBack s.files s.members (change job).cycle)
     → AreOne (record s { jobs = job_changed place change s.jobs }) bytes
-AreOne-job_changed s bytes place change one each = record {
+AreOne-job_changed s bytes place change one each back = record {
   lawful = record {
     members = one.lawful.members;
     opens = AllByRecursion-job_changed (OpensHold s.files) place change s.jobs each one.lawful.opens;
+    changes = AllByRecursion-job_changed (λ (job : JobState). CycleGoesBack s.files s.members job.cycle) place change s.jobs back one.lawful.changes;
     numbers = one.lawful.numbers;
     keepers = let same = length-job_changed place change s.jobs in AreOfJobs-more s.jobs (job_changed place change s.jobs) s.locks (omega (arith, same)) one.lawful.keepers;
     few = one.lawful.few;
@@ -128,9 +157,14 @@ AreOne-job_changed s bytes place change one each = record {
   counted = one.counted;
 }
 
+-- one change more in the commit cycle of a job
+pub AreOne-noted : (s : State) (bytes place : ℕ) (cycle : CycleState) → AreOne s bytes → CycleGoesBack s.files s.members (Some cycle)
+    → AreOne (record s { jobs = job_changed place (with_cycle cycle) s.jobs }) bytes
+AreOne-noted s bytes place cycle one back = AreOne-job_changed s bytes place (with_cycle cycle) one (λ job holds. holds) (λ job was. back)
+
 -- a job that has ended has no opens
 pub AreOne-ended : (s : State) (bytes place : ℕ) (locks : List Lock) → AreOne s bytes → AreOfJobs s.jobs locks → AreOne (record s { jobs = job_changed place ended_job s.jobs; locks = locks }) bytes
-AreOne-ended s bytes place locks one begun = AreOne-job_changed (record s { locks = locks }) bytes place ended_job (AreOne-locks s bytes locks one begun) (λ job holds. tt)
+AreOne-ended s bytes place locks one begun = AreOne-job_changed (record s { locks = locks }) bytes place ended_job (AreOne-locks s bytes locks one begun) (λ job holds. tt) (λ job back. tt)
 
 -- one open more, whose file and member are there
 pub AreOne-with_open : (s : State) (bytes place : ℕ) (args : OpenFile) (member : ℕ) → AreOne s bytes → OpensMember member (named args.file s.files)
@@ -138,14 +172,16 @@ pub AreOne-with_open : (s : State) (bytes place : ℕ) (args : OpenFile) (member
 AreOne-with_open s bytes place args member one holds =
     AreOne-job_changed s bytes place (with_open args member) one
     (λ job all. AllByRecursion-append (λ (e : List ℕ × OpenState). OpenHolds s.files e.1) job.opens ((args.open_id, new_open args (job.opened + 1) member) ∷ []) all (holds, tt))
+    (λ job back. back)
 
 -- one open less
 pub AreOne-without_open : (s : State) (bytes place : ℕ) (name : List ℕ) → AreOne s bytes → AreOne (record s { jobs = job_changed place (without_open name) s.jobs }) bytes
 AreOne-without_open s bytes place name one =
     AreOne-job_changed s bytes place (without_open name) one
     (λ job all. AllByRecursion-filter (λ (e : List ℕ × OpenState). OpenHolds s.files e.1) (λ (e : List ℕ × OpenState). not (same_name name e.0)) job.opens all)
+    (λ job back. back)
 
-opens-map : (files : Named FileState) (change : OpenState → OpenState) → ((opened : OpenState) → OpenHolds files opened → OpenHolds files (change opened)) → (opens : Named OpenState)
+pub opens-map : (files : Named FileState) (change : OpenState → OpenState) → ((opened : OpenState) → OpenHolds files opened → OpenHolds files (change opened)) → (opens : Named OpenState)
     → AllByRecursion (λ (e : List ℕ × OpenState). OpenHolds files e.1) opens
     → AllByRecursion (λ (e : List ℕ × OpenState). OpenHolds files e.1) (map (λ entry. (entry.0, change entry.1)) opens)
 opens-map files change each [] all = tt
@@ -153,7 +189,7 @@ opens-map files change each (entry ∷ opens) all = (each entry.1 all.0, opens-m
 
 pub AreOne-with_opens : (s : State) (bytes place : ℕ) (change : OpenState → OpenState) → AreOne s bytes → ((opened : OpenState) → OpenHolds s.files opened → OpenHolds s.files (change opened))
     → AreOne (record s { jobs = job_changed place (with_opens change) s.jobs }) bytes
-AreOne-with_opens s bytes place change one each = AreOne-job_changed s bytes place (with_opens change) one (λ job all. opens-map s.files change each job.opens all)
+AreOne-with_opens s bytes place change one each = AreOne-job_changed s bytes place (with_opens change) one (λ job all. opens-map s.files change each job.opens all) (λ job back. back)
 
 -- the open of one number changed, but for its file and member
 pub AreOne-open_changed : (s : State) (bytes place number : ℕ) (change : OpenState → OpenState) → AreOne s bytes → ((opened : OpenState) → OpenHolds s.files opened → OpenHolds s.files (change opened))
@@ -178,12 +214,14 @@ ended-memory s job locks jobs none left ended = rw (none, left, ended) refl
 pub AreOne-with_member : (s : State) (bytes after number : ℕ) (member : MemberState) → AreOne s bytes → ((name : List ℕ) (file : FileState) → Owns s.files name file number
     → HasRecords (fields_of file) member)
     → after ≡ library_bytes (with_member number member s.members) → library_bytes (with_member number member s.members) ≤ MOST_LIBRARY_BYTES
+    → AllGoBack s.files (with_member number member s.members) s.jobs
     → AreOne (record s { members = with_member number member s.members }) after
-AreOne-with_member s bytes after number member one kept counted few = record {
+AreOne-with_member s bytes after number member one kept counted few back = record {
   lawful = record {
     members = λ name file other owns. IsThere-with_member (fields_of file) s.members other number member (one.lawful.members name file other owns) (λ same. kept name file (subst
         (Owns s.files name file) same owns));
     opens = one.lawful.opens;
+    changes = back;
     numbers = numbers-with_member s.members number s.next_member member one.lawful.numbers;
     keepers = one.lawful.keepers;
     few = few;
@@ -204,6 +242,7 @@ AreOne-appended s bytes length number image one there values long few =
     AreOne-with_member s bytes (bytes + length) number (appended member image) one
     (λ name file owns. HasRecords-appended (fields_of file) member image (HasRecords-member_of (fields_of file) number s.members (one.lawful.members name file number owns)) (values name file owns))
     (omega (arith, after, weighs, counted, long)) (omega (arith, after, weighs, long, few))
+    (AllGoBack-with s.files s.members number (appended member image) s.jobs refl (let more = length-push member.slots (Live image) in omega (arith, more)) one.lawful.changes)
 
 -- another slot
 pub AreOne-changed : (s : State) (bytes number rrn : ℕ) (slot : Slot) → AreOne s bytes → IsSome (member_at number s.members) → MayStand s number slot
@@ -218,13 +257,14 @@ AreOne-changed s bytes number rrn slot one there values =
     AreOne-with_member s bytes bytes number (changed member rrn slot) one
     (λ name file owns. HasRecords-changed (fields_of file) member rrn slot (HasRecords-member_of (fields_of file) number s.members (one.lawful.members name file number owns)) (values name file owns))
     (omega (arith, after, weighs, counted)) (omega (arith, after, weighs, few))
+    (AllGoBack-with s.files s.members number (changed member rrn slot) s.jobs (record_length-changed member rrn slot) (let same = length-changed member rrn slot in omega (arith, same)) one.lawful.changes)
 
 -- no slots, or only those with records
 pub AreOne-slots : (s : State) (bytes after number : ℕ) (change : MemberState → MemberState) → AreOne s bytes → IsSome (member_at number s.members)
     → ((fields : List Field) (member : MemberState) → HasRecords fields member → HasRecords fields (change member)) → weight (change (member_of number s.members)) ≤ weight (member_of number s.members)
-    → after + weight (member_of number s.members) ≡ bytes + weight (change (member_of number s.members))
+    → after + weight (member_of number s.members) ≡ bytes + weight (change (member_of number s.members)) → user_of number (memory_of s) ≡ None
     → AreOne (record s { members = with_member number (change (member_of number s.members)) s.members }) after
-AreOne-slots s bytes after number change one there kept fewer is =
+AreOne-slots s bytes after number change one there kept fewer is unused =
     let member = member_of number s.members in
     let here : member_at number s.members ≡ Some member = at-member_of number s.members (is_some-IsSome (member_at number s.members) there) in
     let sum = library_bytes-with number member (change member) s.members here in
@@ -233,6 +273,7 @@ AreOne-slots s bytes after number change one there kept fewer is =
     AreOne-with_member s bytes after number (change member) one
     (λ name file owns. kept (fields_of file) member (HasRecords-member_of (fields_of file) number s.members (one.lawful.members name file number owns)))
     (omega (arith, sum, counted, is)) (omega (arith, sum, fewer, few))
+    (AllGoBack-unused s.files s.members number (change member) s.locks s.jobs unused one.lawful.changes)
 
 -- ---- the files changed, but for their fields and their members' numbers
 
@@ -272,6 +313,14 @@ module _ (change : FileState → FileState) (same_fields : (file : FileState) �
       let fields : fields_of was.0 ≡ fields_of file = sym (same_fields was.0) ∙ ap fields_of was.2 in
       subst (λ fs. IsThere fs (member_at number s.members)) fields there
 
+  HoldsValues-changed : (s : State) (name : List ℕ) (file : FileState) (number : ℕ) (slot : Slot)
+      → ((before : List ℕ) (its : FileState) → Owns s.files before its number → HoldsValues (fields_of its) slot)
+      → (was : (before : FileState) × (named name s.files ≡ Some before) × (change before ≡ file)) → has_number number file.members ≡ true → HoldsValues (fields_of file) slot
+  HoldsValues-changed s name file number slot values was has =
+      let before_has : has_number number was.0.members ≡ true = sym (same_members was.0 number) ∙ ap (λ (f : FileState). has_number number f.members) was.2 ∙ has in
+      let fields : fields_of was.0 ≡ fields_of file = sym (same_fields was.0) ∙ ap fields_of was.2 in
+      subst (λ fs. HoldsValues fs slot) fields (values name was.0 (record { there = was.1; has = before_has }))
+
   pub AreOne-files : (s : State) (bytes : ℕ) → AreOne s bytes → AreOne (record s { files = map (λ entry. (entry.0, change entry.1)) s.files }) bytes
   AreOne-files s bytes one = record {
     lawful = record {
@@ -279,6 +328,11 @@ module _ (change : FileState → FileState) (same_fields : (file : FileState) �
       opens = jobs-each s.files (map (λ entry. (entry.0, change entry.1)) s.files)
           (λ opened holds. subst (OpensMember opened.member) (sym (named-map change opened.file s.files)) (OpensMember-changed change same_members opened.member (named opened.file s.files) holds))
           s.jobs one.lawful.opens;
+      changes = AllGoBack-each s.files (map (λ entry. (entry.0, change entry.1)) s.files) s.members s.members
+          (λ sequence undo back. GoesBack-values s.files (map (λ entry. (entry.0, change entry.1)) s.files) s.members sequence undo
+          (λ name file owns. HoldsValues-changed s name file undo.member (before_of undo.change) back.values (changed-from change (named name s.files) file
+          (sym (named-map change name s.files) ∙ owns.there)) owns.has) back)
+          s.jobs one.lawful.changes;
       numbers = one.lawful.numbers;
       keepers = one.lawful.keepers;
       few = one.lawful.few;
@@ -299,6 +353,7 @@ AreOne-committed s bytes place locks one begun =
     AreOne-job_changed (record s { locks = locks }) bytes place (λ j. with_opens committed_open (without_cycle j)) (AreOne-locks s bytes locks one begun)
     (λ job all. opens-map s.files committed_open
     (λ opened holds. elim opened.commit as (λ b. OpenHolds s.files (if b then at_boundary opened else opened)) [ true ↦ holds | false ↦ holds ]) job.opens all)
+    (λ job back. tt)
 
 pub committed-memory : (s : State) (job : ℕ) (locks : List Lock) (jobs : List JobState) (numbers : List ℕ) → ((n : ℕ) → list_any (λ o. o == n) numbers ≡ is_committed (job_of job (memory_of s)) n)
     → locks ≡ locks_after Commit (job_of job (memory_of s)).level (record { job = job; opened = 0 }) (record { member = 0; rrn = 0 }) (λ n. list_any (λ o. o == n) numbers) s.locks
@@ -311,7 +366,7 @@ committed-memory s job locks jobs numbers same left ended =
 -- the jobs and the locks after commitment control has ended
 pub AreOne-commitment_ended : (s : State) (bytes place : ℕ) (locks : List Lock) → AreOne s bytes → AreOfJobs s.jobs locks
     → AreOne (record s { jobs = job_changed place (with_level None) s.jobs; locks = locks }) bytes
-AreOne-commitment_ended s bytes place locks one begun = AreOne-job_changed (record s { locks = locks }) bytes place (with_level None) (AreOne-locks s bytes locks one begun) (λ job holds. holds)
+AreOne-commitment_ended s bytes place locks one begun = AreOne-job_changed (record s { locks = locks }) bytes place (with_level None) (AreOne-locks s bytes locks one begun) (λ job holds. holds) (λ job back. back)
 
 -- whatever its level was, its boundary locks go
 group-freed : (level : Option Level) (job : ℕ) (is_committed : ℕ → Bool) (held : List Lock)

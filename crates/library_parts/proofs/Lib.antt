@@ -1,4 +1,8 @@
 pub mod MemberLemmas
+pub mod BackLemmas
+pub mod DueLemmas
+pub mod BoundaryLemmas
+pub mod TakingBackLemmas
 pub mod LawfulLemmas
 pub mod LockLemmas
 pub mod ResultLemmas

@@ -119,7 +119,7 @@ module _ (holder : Holder) (at : RecordId) (is_committed : ℕ → Bool) (held :
 
 -- ---- of which jobs they are
 
-running-within : (jobs : List JobState) (place : ℕ) → IsTrue (is_running (slice_get jobs place)) → place < length jobs
+pub running-within : (jobs : List JobState) (place : ℕ) → IsTrue (is_running (slice_get jobs place)) → place < length jobs
 running-within [] place h = absurd cc
 running-within (job ∷ jobs) zero h = omega arith
 running-within (job ∷ jobs) (suc place) h = omega (arith, running-within jobs place h)

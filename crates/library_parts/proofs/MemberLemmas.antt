@@ -1,5 +1,5 @@
 -- What a change of one member leaves of the others, and what it makes of the bytes of all.
-use Rattle.std.proofs.Common.{◌≡◌, ◌≢◌, inl, inr, ℕ, zero, suc, ◌+◌, ◌-◌, ◌*◌, ◌<◌, ◌≤◌, ◌==◌, if◌then◌else◌, Bool, true, false, cond, filter, List, [], ◌∷◌, ◌++◌, length, slice_set, Option, Some, None, is_some, IsSome, unwrap_or, subst, refl, sym, ◌∙◌, ap, arith, rules}
+use Rattle.std.proofs.Common.{◌≡◌, ◌≢◌, inl, inr, ℕ, zero, suc, ◌+◌, ◌-◌, ◌*◌, ◌<◌, ◌≤◌, ◌==◌, if◌then◌else◌, Bool, true, false, cond, filter, List, [], ◌∷◌, ◌++◌, length, slice_get, slice_set, Option, Some, None, is_some, IsSome, unwrap_or, subst, refl, sym, ◌∙◌, ap, arith, rules}
 use Rattle.std.specs.List.{AllByRecursion}
 use Rattle.std.proofs.Math.Nat.{suc-mul, mul-le-mul_right}
 use Rattle.std.proofs.lemmas.Bool.{cases_eq}
@@ -7,7 +7,7 @@ use Rattle.std.proofs.lemmas.Bool.Decides.{nat_tests}
 use Rattle.std.proofs.lemmas.List.Sums.{sum_by-cons}
 use Rattle.member_slots.specs.declared.slot.Slot.{Slot}
 use Rattle.member_slots.specs.declared.slot.Slot.TheVariants.{Live, Deleted}
-use Rattle.member_slots.specs.Member.{MemberState, empty_member, appended, changed, cleared, is_live, reorganized}
+use Rattle.member_slots.specs.Member.{MemberState, empty_member, appended, changed, cleared, is_live, reorganized, slot_at}
 use Rattle.member_slots.specs.Members.{Numbered, NumberedMembers, item_at, put_item, with_item, without_item, member_at, member_of, with_member}
 use Rattle.record_fmt.specs.declared.formats.Field.{Field}
 use Rattle.library_steps.specs.Ranges.{library_bytes}
@@ -109,6 +109,19 @@ HasRecords-changed fields member rrn slot has held =
       | false ↦ record { long = has.long; values = AllByRecursion-set (HoldsValues fields) member.slots (rrn - 1) slot has.values held }
     ]
 
+AllByRecursion-get : {X : Type 0} (P : X → Type 0) (xs : List X) (place : ℕ) (x : X) → AllByRecursion P xs → slice_get xs place ≡ Some x → P x
+AllByRecursion-get P [] place x all here = absurd cc
+AllByRecursion-get P (y ∷ xs) zero x all here = let same : y ≡ x = cc in subst P same all.0
+AllByRecursion-get P (y ∷ xs) (suc place) x all here = AllByRecursion-get P xs place x all.1 here
+
+-- a slot of the member holds values
+pub HoldsValues-at : (fields : List Field) (member : MemberState) (rrn : ℕ) (slot : Slot) → HasRecords fields member → slot_at member rrn ≡ Some slot → HoldsValues fields slot
+HoldsValues-at fields member rrn slot has here =
+    elim (rrn == 0) as (λ b. (if b then None else slice_get member.slots (rrn - 1)) ≡ Some slot → HoldsValues fields slot) [
+      | true ↦ λ e. absurd cc
+      | false ↦ λ e. AllByRecursion-get (HoldsValues fields) member.slots (rrn - 1) slot has.values e
+    ] here
+
 -- a record that is put behind the last slot
 pub slot_put-appended : (member : MemberState) (image : List ℕ) → slot_put (length member.slots + 1) (Live image) member ≡ appended member image
 slot_put-appended member image = let same : ((length member.slots + 1) == length member.slots + 1) ≡ true = grind (arith, nat_tests) in rw same refl
@@ -141,7 +154,7 @@ library_bytes-with number old new (entry ∷ members) there =
           omega (arith, before, after, rest)
     ] there
 
-length-push : {X : Type 0} (xs : List X) (x : X) → length (xs ++ x ∷ []) ≡ suc (length xs)
+pub length-push : {X : Type 0} (xs : List X) (x : X) → length (xs ++ x ∷ []) ≡ suc (length xs)
 length-push [] x = refl
 length-push (y ∷ xs) x = ap (λ n. suc n) (length-push xs x)
 
@@ -149,6 +162,18 @@ length-set : {X : Type 0} (xs : List X) (place : ℕ) (x : X) → length (slice_
 length-set [] place x = refl
 length-set (y ∷ xs) zero x = refl
 length-set (y ∷ xs) (suc place) x = ap (λ n. suc n) (length-set xs place x)
+
+-- another slot leaves how many there are, and how long records are
+pub length-changed : (member : MemberState) (rrn : ℕ) (slot : Slot) → length (changed member rrn slot).slots ≡ length member.slots
+length-changed member rrn slot =
+    elim (rrn == 0) as (λ b. length (if b then member else record member { slots = slice_set member.slots (rrn - 1) slot }).slots ≡ length member.slots) [
+      | true ↦ refl
+      | false ↦ length-set member.slots (rrn - 1) slot
+    ]
+
+pub record_length-changed : (member : MemberState) (rrn : ℕ) (slot : Slot) → (changed member rrn slot).record_length ≡ member.record_length
+record_length-changed member rrn slot =
+    elim (rrn == 0) as (λ b. (if b then member else record member { slots = slice_set member.slots (rrn - 1) slot }).record_length ≡ member.record_length) [ true ↦ refl | false ↦ refl ]
 
 pub weight-appended : (member : MemberState) (image : List ℕ) → weight (appended member image) ≡ weight member + member.record_length
 weight-appended member image = ap (λ n. n * member.record_length) (length-push member.slots (Live image)) ∙ suc-mul (length member.slots) member.record_length

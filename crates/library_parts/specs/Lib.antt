@@ -1,5 +1,7 @@
 pub mod Parts
 pub mod Lawful
+pub mod Due
+pub mod Boundaries
 pub mod Answers
 pub mod Finds
 pub mod Locks

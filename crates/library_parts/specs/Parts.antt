@@ -1,5 +1,5 @@
 -- What contracts see of a library in memory: its state, and its room for more apart from it. (Our own.)
-use Rattle.std.specs.Prelude.{ℕ, List}
+use Rattle.std.specs.Prelude.{ℕ, ◌-◌, List}
 use Rattle.member_slots.specs.Members.{Numbered, RoomyMembers}
 use Rattle.lock_table.specs.Table.{Locks}
 use Rattle.file_catalogue.specs.Parts.{Files}
@@ -8,7 +8,7 @@ use Rattle.job_table.specs.Table.{JobTable}
 use Rattle.library_steps.specs.State.{State}
 
 -- for how many more there is room: files, members among the files' names, members with slots, slots of each member, and
--- entries; for how many locks in all, and for how many changes of each job's commit cycle in all
+-- entries besides those that boundaries may still deposit; for how many locks in all, and for how many changes of each job's commit cycle in all
 pub record Room : Type 0 where
   pub files : ℕ
   pub member_names : ℕ
@@ -36,17 +36,17 @@ state_of catalogue members next_member journal locks jobs = record {
   jobs = jobs.jobs;
 }
 
-abbrev pub room_of : Files → RoomyMembers → Held → Locks → JobTable → Room
-room_of catalogue members journal locks jobs = record {
+abbrev pub room_of : Files → RoomyMembers → Held → Locks → JobTable → (due : ℕ) → Room
+room_of catalogue members journal locks jobs due = record {
   files = catalogue.room;
   member_names = catalogue.member_room;
   members = members.room;
   spares = members.spares;
-  entries = journal.room;
+  entries = journal.room - due;
   locks = locks.room;
   undos = jobs.rooms;
 }
 
-abbrev pub joined : Files → RoomyMembers → (next_member : ℕ) → Held → Locks → JobTable → LibraryParts
-joined catalogue members next_member journal locks jobs =
-    record { state = state_of catalogue members next_member journal locks jobs; room = room_of catalogue members journal locks jobs }
+abbrev pub joined : Files → RoomyMembers → (next_member : ℕ) → Held → Locks → JobTable → (due : ℕ) → LibraryParts
+joined catalogue members next_member journal locks jobs due =
+    record { state = state_of catalogue members next_member journal locks jobs; room = room_of catalogue members journal locks jobs due }

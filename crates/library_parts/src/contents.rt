@@ -26,17 +26,20 @@ pub struct Contents {
     pub(crate) journal: MemoryJournal,
     pub(crate) locks: LockTable,
     pub(crate) jobs: Jobs,
+    /// How many entries the boundaries of the jobs may still deposit. The room for them is kept.
+    pub(crate) due: u64,
 }
 
 impl Model for Contents {
     ghost use Rattle.library_parts.specs.Parts.{LibraryParts, joined, state_of};
     ghost use Rattle.library_parts.specs.Lawful.{AreOne};
+    ghost use Rattle.library_parts.specs.Due.{HasDue};
 
     ghost Value = { LibraryParts };
 
-    ghost view = { λ c. joined c.catalogue c.members c.next_member c.journal c.locks c.jobs };
+    ghost view = { λ c. joined c.catalogue c.members c.next_member c.journal c.locks c.jobs c.due };
 
-    ghost invariant = { λ c. AreOne (state_of c.catalogue c.members c.next_member c.journal c.locks c.jobs) c.member_bytes };
+    ghost invariant = { λ c. AreOne (state_of c.catalogue c.members c.next_member c.journal c.locks c.jobs) c.member_bytes × HasDue c.jobs.jobs c.due c.journal.room };
 }
 
 impl Contents {
@@ -53,6 +56,7 @@ impl Contents {
             journal: MemoryJournal::new(alloc),
             locks: LockTable::new(alloc),
             jobs: Jobs::new(alloc),
+            due: 0,
         }
     }
 

@@ -1,5 +1,5 @@
 //! What effects change of members: their slots and their statuses.
-ghost use Rattle.std.specs.Prelude.{◌≡◌, ◌+◌, ◌≤◌, false, length, IsSome};
+ghost use Rattle.std.specs.Prelude.{◌≡◌, ◌+◌, ◌≤◌, None, false, length, IsSome};
 ghost use Rattle.member_slots.specs.declared.slot.Slot.TheVariants.{Live};
 ghost use Rattle.member_slots.specs.Member.{FitsSlot, cleared, is_full, reorganized};
 ghost use Rattle.member_slots.specs.Members.{AreMembers, member_at, member_of};
@@ -8,6 +8,7 @@ ghost use Rattle.library_steps.specs.Ranges.{library_bytes};
 ghost use Rattle.library_steps.specs.Records.{slot_there};
 ghost use Rattle.library_steps.specs.SlotChange.{touched, with_slot};
 ghost use Rattle.library_steps.specs.State.{memory_of, with_status};
+ghost use Rattle.library_steps.specs.Uses.{user_of};
 ghost use Rattle.library_steps.specs.WriteRecord.{next_place};
 ghost use Rattle.library_parts.specs.Rooms.{HasSlotRoom};
 ghost use Rattle.library_parts.specs.Slots.{MayStand, weight};
@@ -45,6 +46,8 @@ impl Contents {
         requires fits { FitsSlot (member_of member self.old.state.members).record_length slot }
         requires values { MayStand self.old.state member slot }
         ensures before { result ≡ slot_there member rrn (memory_of self.old.state) }
+        ensures fitted { FitsSlot (member_of member self.old.state.members).record_length result }
+        ensures stood { MayStand self.old.state member result }
         ensures memory { memory_of self.new.state ≡ with_slot member rrn slot (memory_of self.old.state) }
         ensures entries { self.new.state.entries ≡ self.old.state.entries }
         ensures room { self.new.room ≡ self.old.room }
@@ -88,9 +91,10 @@ impl Contents {
         self.catalogue.renumbered(member, sequence);
     }
 
-    /// Removes all slots of the member.
+    /// Removes all slots of the member, which no job uses.
     pub fn clear(&mut self, member: u32)
-        requires { IsSome (member_at member self.old.state.members) }
+        requires there { IsSome (member_at member self.old.state.members) }
+        requires unused { user_of member (memory_of self.old.state) ≡ None }
         ensures memory { memory_of self.new.state ≡ with_slots member cleared (memory_of self.old.state) }
         ensures entries { self.new.state.entries ≡ self.old.state.entries }
         ensures room { self.new.room ≡ record self.old.room { spares = self.new.room.spares } }
@@ -100,9 +104,10 @@ impl Contents {
         self.member_bytes -= before;
     }
 
-    /// Removes the deleted slots of the member.
+    /// Removes the deleted slots of the member, which no job uses.
     pub fn reorganize(&mut self, member: u32)
-        requires { IsSome (member_at member self.old.state.members) }
+        requires there { IsSome (member_at member self.old.state.members) }
+        requires unused { user_of member (memory_of self.old.state) ≡ None }
         ensures memory { memory_of self.new.state ≡ with_slots member reorganized (memory_of self.old.state) }
         ensures entries { self.new.state.entries ≡ self.old.state.entries }
         ensures room { self.new.room ≡ record self.old.room { spares = self.new.room.spares } }

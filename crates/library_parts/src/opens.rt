@@ -17,6 +17,7 @@ ghost use Rattle.library_parts.specs.Lawful.{OpensMember};
 ghost use Rattle.library_parts.specs.Locks.{AsksNone, IsOfOpen, HasLockRoom};
 
 use crate::contents::Contents;
+use crate::cycles::level_due;
 use crate::leave::leave;
 use field_types::names::Name;
 use job_table::{FilePosition, FoundRecord};
@@ -122,15 +123,17 @@ impl Contents {
         leave(&mut self.locks, call, level, holder, at);
     }
 
-    /// Ends the job, which has no open commit cycle: its opens are closed and its locks gone.
+    /// Ends the job, which has no open commit cycle: its opens are closed and its locks gone. No entry tells of it.
     pub fn end_job(&mut self, job: u32)
         requires running { IsTrue (is_running (job_at job self.old.state.jobs)) }
         requires unchanged { (job_of job (memory_of self.old.state)).cycle ≡ None }
         ensures memory { memory_of self.new.state ≡ job_ended job (memory_of self.old.state) }
         ensures entries { self.new.state.entries ≡ self.old.state.entries }
-        ensures room { self.new.room ≡ record self.old.room { undos = self.new.room.undos } }
+        ensures room { self.new.room ≡ record self.old.room { entries = self.new.room.entries; undos = self.new.room.undos } }
     {
+        let before = level_due(self.jobs.level(job));
         self.locks.release_job(job);
         let _none = self.jobs.end(job);
+        self.due -= before;
     }
 }

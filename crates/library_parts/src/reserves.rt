@@ -14,13 +14,13 @@ use lock_table::MOST_LOCKS;
 use std::alloc::AllocError;
 
 impl Contents {
-    /// Makes room for so many entries more, with so many bytes.
+    /// Makes room for so many entries more, with so many bytes, besides those that boundaries may still deposit.
     pub fn reserve_entries(&mut self, entries: u32, bytes: u64) -> Result<(), AllocError>
         ensures state { self.new.state ≡ self.old.state }
         ensures others { self.new.room ≡ record self.old.room { entries = self.new.room.entries } }
         ensures room { OnOk result (entries ≤ self.new.room.entries) }
     {
-        self.journal.reserve(entries, bytes)
+        self.journal.reserve(u64::from(entries) + self.due, bytes)
     }
 
     /// Makes room for one slot more in the member.

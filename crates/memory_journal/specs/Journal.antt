@@ -1,6 +1,6 @@
 -- What the journal holds, what reading entries of it gives, and what attaching a receiver and giving receivers up change.
 -- (Journal Management, "Managing receivers".)
-use Rattle.std.specs.Prelude.{ℕ, ◌+◌, ◌-◌, Result, Ok, List, [], ◌++◌, length, drop, unwrap_or}
+use Rattle.std.specs.Prelude.{ℕ, ◌+◌, ◌-◌, Result, Ok, List, [], ◌++◌, length, drop, min, unwrap_or}
 use Rattle.entry_codec.specs.declared.entries.Entry.{Entry}
 use Rattle.entry_codec.specs.declared.entries.Draft.{Draft}
 use Rattle.journal_model.specs.Rollback.{numbered_from}
@@ -10,6 +10,7 @@ use Rattle.library_steps.specs.State.{Memory, Receivers, empty_library, memory_o
 use Rattle.library_steps.specs.Refusals.{◌>>=◌}
 use Rattle.library_steps.specs.JournalReads.{are_there, are_kept, entries_between}
 use Rattle.library_steps.specs.Receivers.{last_in}
+use Rattle.memory_journal.specs.declared.journal.TheConstants.{LAST_NUMBER}
 use Rattle.memory_journal.specs.declared.faults.JournalFault.{JournalFault}
 use Rattle.memory_journal.specs.declared.faults.JournalFault.TheVariants.{NoSuchEntry, ReceiverGone}
 
@@ -19,6 +20,10 @@ pub record Journal : Type 0 where
   pub entries : List Entry
   pub receivers : Receivers
   pub checkpoint : ℕ
+
+-- for how many more entries there is room: in memory, and among the sequences behind the last
+abbrev pub room_of : (spare last : ℕ) → ℕ
+room_of spare last = min spare (LAST_NUMBER - last)
 
 -- a journal, and for how many more entries there is room
 pub record Held : Type 0 where

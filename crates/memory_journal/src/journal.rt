@@ -3,7 +3,7 @@ ghost use Rattle.std.specs.Prelude.{◌≡◌, ◌≤◌, ◌<◌, ◌+◌, ◌^
 ghost use Rattle.library_steps.specs.declared.limits.TheConstants.{LAST_RECEIVER};
 ghost use Rattle.library_steps.specs.Receivers.{last_in};
 ghost use Rattle.journal_model.specs.Journal.{AreNumbered};
-ghost use Rattle.memory_journal.specs.declared.journal.TheConstants.{LAST_BEFORE_DEPOSIT};
+ghost use Rattle.memory_journal.specs.declared.journal.TheConstants.{LAST_NUMBER};
 ghost use Rattle.memory_journal.specs.Journal.{empty_journal, last_entry, read, fault_reply, deposited, attached, given_up, dropped};
 
 use crate::ends::next_receiver;
@@ -15,6 +15,9 @@ use std::marker::Model;
 
 /// The greatest last sequence behind which entries may be deposited.
 pub const LAST_BEFORE_DEPOSIT: u64 = 9_223_372_036_854_775_808;
+
+/// The greatest sequence of an entry.
+pub const LAST_NUMBER: u64 = 9_223_372_036_854_775_810;
 
 /// The entries that are kept, the receivers, and the last checkpoint.
 #[derive(Drop)]
@@ -29,8 +32,8 @@ pub struct MemoryJournal {
 impl Model for MemoryJournal {
     ghost use Rattle.std.specs.Prelude.{◌≤◌, ◌+◌, ◌-◌, length, vec_capacity, vec_len};
     ghost use Rattle.journal_model.specs.Journal.{AreNumbered};
-    ghost use Rattle.memory_journal.specs.declared.journal.TheConstants.{LAST_BEFORE_DEPOSIT};
-    ghost use Rattle.memory_journal.specs.Journal.{Held};
+    ghost use Rattle.memory_journal.specs.declared.journal.TheConstants.{LAST_NUMBER};
+    ghost use Rattle.memory_journal.specs.Journal.{Held, room_of};
 
     ghost Value = { Held };
 
@@ -41,10 +44,10 @@ impl Model for MemoryJournal {
         receivers = record { first = j.first; attached = j.attached };
         checkpoint = j.checkpoint;
       };
-      room = vec_capacity j.entries - vec_len j.entries;
+      room = room_of (vec_capacity j.entries - vec_len j.entries) (j.gone + length j.entries.items);
     } };
 
-    ghost invariant = { λ j. (j.gone + length j.entries.items ≤ LAST_BEFORE_DEPOSIT + 2) × AreNumbered (j.gone + 1) j.entries.items };
+    ghost invariant = { λ j. (j.gone + length j.entries.items ≤ LAST_NUMBER) × AreNumbered (j.gone + 1) j.entries.items };
 }
 
 impl MemoryJournal {
@@ -65,25 +68,29 @@ impl MemoryJournal {
     pub fn bounds(&self) -> (u64, u64)
         ensures first { result.0 ≡ self.now.journal.gone + 1 }
         ensures last { result.1 ≡ last_entry self.now.journal }
-        ensures fits { last_entry self.now.journal ≤ LAST_BEFORE_DEPOSIT + 2 }
+        ensures fits { last_entry self.now.journal ≤ LAST_NUMBER }
+        ensures room { self.now.room ≤ LAST_NUMBER }
         ensures numbered { AreNumbered (self.now.journal.gone + 1) self.now.journal.entries }
     {
         (self.gone + 1, self.gone + self.entries.len() as u64)
     }
 
-    /// Makes room for so many entries more. Their bytes count where the journal is on a disk.
-    pub fn reserve(&mut self, entries: u32, _bytes: u64) -> Result<(), AllocError>
+    /// Makes room for so many entries more, where so many sequences are left. Their bytes count where the journal is on a disk.
+    pub fn reserve(&mut self, entries: u64, _bytes: u64) -> Result<(), AllocError>
         ensures unchanged { self.new.journal ≡ self.old.journal }
         ensures room { OnOk result (entries ≤ self.new.room) }
         ensures kept { self.old.room ≤ self.new.room }
     {
+        let (_, last) = self.bounds();
+        if entries > LAST_NUMBER - last {
+            return Err(AllocError);
+        }
         self.entries.reserve(entries as usize)
     }
 
     /// Gives the draft the next sequence, and answers it.
     pub fn deposit(&mut self, draft: Draft) -> u64
-        requires room { 1 ≤ self.old.room }
-        requires left { last_entry self.old.journal ≤ LAST_BEFORE_DEPOSIT }
+        requires { 1 ≤ self.old.room }
         ensures sequence { result ≡ last_entry self.old.journal + 1 }
         ensures deposited { self.new.journal ≡ deposited (draft ∷ []) self.old.journal }
         ensures room { self.old.room ≤ self.new.room + 1 }
@@ -92,8 +99,7 @@ impl MemoryJournal {
     }
 
     fn push(&mut self, draft: Draft) -> u64
-        requires room { 1 ≤ self.old.room }
-        requires left { last_entry self.old.journal ≤ LAST_BEFORE_DEPOSIT + 1 }
+        requires { 1 ≤ self.old.room }
         ensures sequence { result ≡ last_entry self.old.journal + 1 }
         ensures deposited { self.new.journal ≡ deposited (draft ∷ []) self.old.journal }
         ensures room { self.old.room ≤ self.new.room + 1 }
@@ -152,7 +158,6 @@ impl MemoryJournal {
     pub fn switch(&mut self, next: Draft, previous: Draft) -> u32
         requires few { self.old.journal.receivers.attached < LAST_RECEIVER }
         requires room { 2 ≤ self.old.room }
-        requires left { last_entry self.old.journal ≤ LAST_BEFORE_DEPOSIT }
         ensures number { result ≡ self.old.journal.receivers.attached + 1 }
         ensures switched { self.new.journal ≡ attached (self.old.journal.receivers.attached + 1) (deposited (next ∷ previous ∷ []) self.old.journal) }
         ensures room { self.old.room ≤ self.new.room + 2 }

@@ -7,7 +7,7 @@ pub add-requires-clause-fresh : goal.add-requires-clause-fresh
 add-requires-clause-fresh c =
     let parts = c.self.inside in
     let state = state_of parts.catalogue parts.members parts.next_member parts.journal parts.locks parts.jobs in
-    rw (rw (← c.self.view_is) at c.requires.new.first) (next-unowned state c.self.invariant.lawful c.len-len.ensures.unique, tt)
+    rw (rw (← c.self.view_is) at c.requires.new.first) (next-unowned state c.self.invariant.0.lawful c.len-len.ensures.unique, tt)
 
 pub add-requires-clause-apart : goal.add-requires-clause-apart
 add-requires-clause-apart c = rw c.requires.new.first (distinct-one c.args.self.now.state.next_member)
@@ -15,4 +15,4 @@ add-requires-clause-apart c = rw c.requires.new.first (distinct-one c.args.self.
 pub invariant_of-self : goal.invariant_of-self
 invariant_of-self c =
     rw (c.add.ensures, on_ok c.put.result c.unwrap.result c.unwrap.ensures c.put.ensures.put, c.new-empty.ensures, c.length.ensures, c.format.ensures.format)
-    (AreOne-with_file _ _ c.args.name c.args.name c.args.file c.self.invariant (rw (← c.self.view_is) at c.requires.new.first))
+    (AreOne-with_file _ _ c.args.name c.args.name c.args.file c.self.invariant.0 (rw (← c.self.view_is) at c.requires.new.first), c.self.invariant.1)

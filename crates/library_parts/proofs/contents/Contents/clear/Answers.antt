@@ -13,8 +13,10 @@ invariant_of-self c =
     let member = member_of c.args.member members in
     let weighs : c.weight-before.result ≡ weight member = rw (← c.self.view_is) at c.weight-before.ensures.value in
     let few : c.weight-before.result ≤ library_bytes members = rw (← c.self.view_is) at c.weight-before.ensures.few in
-    let counted : c.self.inside.member_bytes ≡ library_bytes members = c.self.invariant.counted in
+    let counted : c.self.inside.member_bytes ≡ library_bytes members = c.self.invariant.0.counted in
     let none : weight (cleared member) ≡ 0 = weight-cleared member in
-    rw c.clear.ensures.cleared
-    (AreOne-slots _ _ _ c.args.member cleared c.self.invariant (rw (← c.self.view_is) at c.requires) (λ fields m has. HasRecords-cleared fields m has) (omega (arith, none)) (omega
-    (arith, weighs, few, counted, none)))
+    rw c.clear.ensures.cleared (
+      AreOne-slots _ _ _ c.args.member cleared c.self.invariant.0 (rw (← c.self.view_is) at c.requires.there) (λ fields m has. HasRecords-cleared fields m has) (omega (arith, none)) (omega
+          (arith, weighs, few, counted, none)) (rw (← c.self.view_is) at c.requires.unused),
+      c.self.invariant.1,
+    )

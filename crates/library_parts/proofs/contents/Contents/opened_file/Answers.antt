@@ -9,7 +9,7 @@ pub returns-clause-there : goal.returns-clause-there
 returns-clause-there c =
     let state = c.args.self.now.state in
     let opened = c.in_ok-opened.opened.now in
-    let lawful = IsLibrary-seen _ c.args.self.now c.self.view_is c.self.invariant.lawful in
+    let lawful = IsLibrary-seen _ c.args.self.now c.self.view_is c.self.invariant.0.lawful in
     let found : open_named c.args.name.now c.args.job (memory_of state) ≡ Some opened = found-is _ _ _ c.in_ok-opened.ensures in
     let here : named opened.file state.files ≡ Some c.in_ok-file.file.now = found-is _ _ _ (rw c.file.ensures at c.in_ok-file.ensures) in
     opened-there state c.args.job c.args.name.now opened c.in_ok-file.file.now lawful found here

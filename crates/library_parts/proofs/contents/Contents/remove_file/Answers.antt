@@ -15,11 +15,13 @@ invariant_of-self c =
     let members = parts.members.members in
     let file = c.remove-file.result in
     let taken = c.take_members-bytes in
-    let counted : parts.member_bytes ≡ library_bytes members = c.self.invariant.counted in
+    let counted : parts.member_bytes ≡ library_bytes members = c.self.invariant.0.counted in
     let gone = taken.ensures.gone ∙ ap (λ (names : Named MemberStatus). without_members names members) c.members.ensures in
     let left : library_bytes taken.new.members.members ≡ library_bytes (without_members file.members members) = ap (λ (ms : NumberedMembers). library_bytes ms) gone in
     let bytes : library_bytes taken.new.members.members + taken.result ≡ library_bytes members = taken.ensures.bytes in
     let unused = (rw (← c.self.view_is) at c.requires.unused) file c.remove-file.ensures.file in
-    rw (c.remove-file.ensures.removed, taken.ensures.gone, c.members.ensures)
-    (AreOne-deleted state parts.member_bytes (parts.member_bytes - taken.result) c.args.args.now.file file c.self.invariant c.len-len.ensures.apart c.remove-file.ensures.file unused
-    (omega (arith, counted, left, bytes)) (omega arith))
+    rw (c.remove-file.ensures.removed, taken.ensures.gone, c.members.ensures) (
+      AreOne-deleted state parts.member_bytes (parts.member_bytes - taken.result) c.args.args.now.file file c.self.invariant.0 c.len-len.ensures.apart c.remove-file.ensures.file unused
+          (omega (arith, counted, left, bytes)) (omega arith),
+      c.self.invariant.1,
+    )

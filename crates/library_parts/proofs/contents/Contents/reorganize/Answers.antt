@@ -11,13 +11,13 @@ pub invariant_of-self : goal.invariant_of-self
 invariant_of-self c =
     let members = c.self.inside.members.members in
     let member = member_of c.args.member members in
-    let there = rw (← c.self.view_is) at c.requires in
+    let there = rw (← c.self.view_is) at c.requires.there in
     let weighs : c.weight-before.result ≡ weight member = rw (← c.self.view_is) at c.weight-before.ensures.value in
     let few : c.weight-before.result ≤ library_bytes members = rw (← c.self.view_is) at c.weight-before.ensures.few in
-    let counted : c.self.inside.member_bytes ≡ library_bytes members = c.self.invariant.counted in
+    let counted : c.self.inside.member_bytes ≡ library_bytes members = c.self.invariant.0.counted in
     let fewer : weight (reorganized member) ≤ weight member = weight-reorganized member in
     let after : c.weight-after.result ≡ weight (reorganized member) =
     c.weight-after.ensures.value ∙ ap (λ (ms : NumberedMembers). weight (member_of c.args.member ms)) c.reorganize.ensures.reorganized
     ∙ ap weight (member_of-with c.args.member (reorganized member) members (is_some-IsSome _ there)) in
     rw c.reorganize.ensures.reorganized
-    (AreOne-slots _ _ _ c.args.member reorganized c.self.invariant there (λ fields m has. HasRecords-reorganized fields m has) fewer (omega (arith, weighs, few, counted, after)))
+    (AreOne-slots _ _ _ c.args.member reorganized c.self.invariant.0 there (λ fields m has. HasRecords-reorganized fields m has) fewer (omega (arith, weighs, few, counted, after)) (rw (← c.self.view_is) at c.requires.unused), c.self.invariant.1)

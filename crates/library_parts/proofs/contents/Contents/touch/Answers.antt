@@ -3,4 +3,4 @@ use Rattle.library_parts.proofs.LawfulLemmas.{AreOne-status}
 use Rattle.library_parts.proofs.contents.Contents.touch.Goals as goal
 
 pub invariant_of-self : goal.invariant_of-self
-invariant_of-self c = rw c.touch.ensures.files (AreOne-status _ _ c.args.member Touched c.self.invariant)
+invariant_of-self c = rw c.touch.ensures.files (AreOne-status _ _ c.args.member Touched c.self.invariant.0, c.self.invariant.1)

@@ -1,0 +1,10 @@
+use Rattle.library_parts.proofs.DueLemmas.{HasDue-begun}
+use Rattle.library_parts.proofs.LawfulLemmas.{AreOne-begun, OnErr-jobs}
+use Rattle.library_parts.proofs.contents.Contents.begin_job.Goals as goal
+
+pub invariant_of-self : goal.invariant_of-self
+invariant_of-self c =
+    let kept = OnErr-jobs c.begin.result c.begin.new.self c.self.inside.jobs c.begin.ensures.unchanged in (
+      AreOne-begun _ _ c.args.name c.begin.result c.begin.new.self.jobs c.self.invariant.0 c.begin.ensures.begun kept,
+      HasDue-begun _ _ _ _ c.args.name c.begin.result c.self.invariant.1 c.begin.ensures.begun kept,
+    )
