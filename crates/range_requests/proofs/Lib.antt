@@ -1,0 +1,9 @@
+pub mod EndLemmas
+pub mod ToldLemmas
+pub mod WalkLemmas
+pub mod PutLemmas
+pub mod StoodLemmas
+pub mod PlanLemmas
+pub mod AnswerLemmas
+pub mod ReadLemmas
+pub mod FoundLemmas

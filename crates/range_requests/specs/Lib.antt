@@ -1,0 +1,8 @@
+pub mod Told
+pub mod Ends
+pub mod Walks
+pub mod Puts
+pub mod Plans
+pub mod Stops
+pub mod Kinds
+pub mod Steps

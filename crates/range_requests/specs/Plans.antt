@@ -1,0 +1,49 @@
+-- What a plan has of the work that a request does.
+use Rattle.std.specs.Prelude.{◌≡◌, ℕ, ◌+◌, ◌<◌, ◌≤◌, Result, Ok, Err, List, length}
+use Rattle.entry_codec.specs.declared.entries.Entry.{Entry}
+use Rattle.member_slots.specs.Members.{member_at, member_of}
+use Rattle.file_catalogue.specs.Owners.{Owns}
+use Rattle.library_model.specs.declared.replies.Reply.{Reply}
+use Rattle.library_steps.specs.State.{State, FileState, MemberStatus, fields_of, memory_of}
+use Rattle.library_steps.specs.Ranges.{Range, RangeWork, range_between}
+use Rattle.library_parts.specs.declared.stop.Stop.{Stop}
+use Rattle.library_parts.specs.declared.stop.Stop.TheVariants.{NoMemory, Refused}
+use Rattle.library_parts.specs.Lawful.{IsThere}
+use Rattle.range_images.specs.Given.{given_slots}
+use Rattle.range_requests.specs.declared.found.Found.{Found}
+use Rattle.range_requests.specs.declared.plans.Plan.{Plan}
+use Rattle.range_requests.specs.Puts.{MayGive}
+
+-- the range that was found: its member, which a file has, and its ends, between which entries are kept
+pub record IsFound (s : State) (found : Found) (range : Range) : Type 0 where
+  pub status : MemberStatus
+  pub number : status.number ≡ found.member
+  pub same : range ≡ range_between status found.first found.last s.entries (memory_of s)
+
+pub record IsKept (s : State) (found : Found) : Type 0 where
+  pub kept : s.gone + 1 ≤ found.first
+  pub order : found.first ≤ found.last
+  pub there : found.last ≤ s.gone + length s.entries
+  pub name : List ℕ
+  pub file : FileState
+  pub owns : Owns s.files name file found.member
+  pub has : IsThere (fields_of file) (member_at found.member s.members)
+
+abbrev pub Finds : State → Result Found Stop → Result Range Reply → Type 0
+Finds s (Ok found) wanted = (range : Range) × (wanted ≡ Ok range) × IsFound s found range
+Finds s (Err NoMemory) wanted = ⊥
+Finds s (Err (Refused reply)) wanted = wanted ≡ Err reply
+
+-- the plan has the member, the slots and the entries of the work, and what is answered
+pub record IsPlanOf (s : State) (work : RangeWork) (plan : Plan) : Type 0 where
+  pub number : work.range.status.number ≡ plan.member
+  pub slots : work.done.slots ≡ given_slots plan.given.items (member_of plan.member s.members).slots
+  pub drafts : work.drafts ≡ plan.drafts.items
+  pub first : work.done.first ≡ plan.first
+  pub last : work.done.last ≡ plan.last
+  pub count : length work.done.changes ≡ plan.changes
+
+abbrev pub GivesPlan : State → Result Plan Stop → Result RangeWork Reply → Type 0
+GivesPlan s (Ok plan) wanted = (work : RangeWork) × (wanted ≡ Ok work) × IsPlanOf s work plan
+GivesPlan s (Err NoMemory) wanted = Unit {0}
+GivesPlan s (Err (Refused reply)) wanted = wanted ≡ Err reply

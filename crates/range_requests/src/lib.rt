@@ -1,0 +1,15 @@
+//! APYJRNCHG and RMVJRNCHG over the memory of a library: the changes of a range of the journal are made again in a member, or
+//! taken out of it. Begin with `commands.rt`.
+#![tactic(auto)]
+
+mod commands;
+mod ends;
+mod found;
+mod kept;
+mod plans;
+mod puts;
+mod stood;
+mod tells;
+mod walks;
+
+pub use commands::{apply_changes, remove_changes};
