@@ -1,15 +1,14 @@
 -- What a state answers to CHGJRN and DLTJRNRCV.
-use Rattle.std.proofs.Common.{◌≡◌, ℕ, ◌+◌, ◌-◌, List, [], ◌∷◌, ◌++◌, drop, Result, Ok, unwrap_or, refl, sym, ◌∙◌, ap, arith}
+use Rattle.std.proofs.Common.{◌≡◌, ℕ, ◌+◌, ◌-◌, List, [], ◌∷◌, ◌++◌, drop, Ok, unwrap_or, refl, sym, ◌∙◌, ap, arith}
 use Rattle.entry_codec.specs.declared.entries.Entry.{Entry}
 use Rattle.entry_codec.specs.declared.entries.Draft.{Draft}
 use Rattle.entry_codec.specs.declared.kinds.EntryKind.TheVariants.{NextReceiver, PreviousReceiver}
 use Rattle.library_model.specs.declared.requests.DeleteReceiver.{DeleteReceiver}
-use Rattle.library_model.specs.declared.replies.Reply.{Reply}
 use Rattle.library_model.specs.declared.replies.Reply.TheVariants.{Done, Receiver}
-use Rattle.library_steps.specs.State.{State, Receivers, memory_of, with_entries}
-use Rattle.library_steps.specs.Change.{deposited, does, journaled, unjournaled}
+use Rattle.library_steps.specs.State.{State, memory_of, with_entries}
+use Rattle.library_steps.specs.Change.{deposited, does, unjournaled}
 use Rattle.library_steps.specs.Drafts.{author_of, library_draft}
-use Rattle.library_steps.specs.Receivers.{attached, attach_change, delete_receiver, give_up_plan, given_up, last_in}
+use Rattle.library_steps.specs.Receivers.{attach_change, delete_receiver, give_up_plan, given_up, last_in}
 use Rattle.library_parts.specs.Answers.{Answers}
 
 append-nil : {X : Type 0} (xs : List X) → xs ++ [] ≡ xs

@@ -1,5 +1,5 @@
 -- The entries of a range as they are read, and what the journal tells of them.
-use Rattle.std.proofs.Common.{◌≡◌, ℕ, ◌+◌, ◌-◌, ◌≤◌, ◌==◌, true, List, [], length, take, drop, ◌∷◌, Option, Some, None, IfOk, IfSome, Result, Ok, Err, sym, ap, ◌∙◌, subst, arith}
+use Rattle.std.proofs.Common.{◌≡◌, ℕ, ◌+◌, ◌-◌, true, List, [], length, take, drop, ◌∷◌, Option, Some, None, IfOk, IfSome, Result, Ok, Err, sym, ap, ◌∙◌, subst, arith}
 use Rattle.std.specs.List.{AllByRecursion}
 use Rattle.std.specs.Option.{option_copied}
 use Rattle.std.proofs.lemmas.Bool.Decides.{nat_tests}
@@ -8,10 +8,9 @@ use Rattle.journal_model.specs.Acts.{entry_before, is_number}
 use Rattle.journal_model.specs.Journal.{AreNumbered}
 use Rattle.library_model.specs.Named.{Named}
 use Rattle.file_catalogue.specs.Owners.{Owns}
-use Rattle.library_steps.specs.JournalReads.{entries_between, prior_to}
+use Rattle.library_steps.specs.JournalReads.{entries_between}
 use Rattle.library_steps.specs.State.{State, FileState, fields_of, memory_of}
 use Rattle.library_parts.specs.declared.stop.Stop.{Stop}
-use Rattle.range_images.specs.Sides.{first_sequence}
 use Rattle.range_requests.specs.declared.found.Found.{Found}
 use Rattle.range_requests.specs.declared.plans.Read.{Read}
 use Rattle.range_requests.specs.declared.walks.Walk.{Walk}

@@ -1,5 +1,5 @@
 -- What the journal tells of a member's records, told of the slot changes that its entries make.
-use Rattle.std.proofs.Common.{◌≡◌, ℕ, zero, suc, ◌+◌, ◌-◌, ◌≤◌, ◌<◌, ◌&&◌, ◌==◌, nat_le, Bool, true, false, cond, List, [], ◌∷◌, ◌++◌, length, map, take, drop, reverse, Option, Some, None, IfSome, unwrap_or, Result, Ok, Err, refl, sym, ap, ◌∙◌, subst, arith}
+use Rattle.std.proofs.Common.{◌≡◌, ℕ, zero, suc, ◌+◌, ◌-◌, ◌<◌, ◌&&◌, nat_le, Bool, true, false, cond, List, [], ◌∷◌, ◌++◌, length, map, take, drop, reverse, Option, Some, None, IfSome, unwrap_or, Ok, Err, refl, sym, ap, ◌∙◌, subst, arith}
 use Rattle.std.specs.List.{AllByRecursion}
 use Rattle.std.proofs.lemmas.List.{reverse-append}
 use Rattle.std.proofs.lemmas.Bool.Decides.{nat_tests}
@@ -12,14 +12,14 @@ use Rattle.member_slots.specs.declared.slot.Slot.{Slot}
 use Rattle.member_slots.specs.declared.slot.Slot.TheVariants.{Live, Deleted}
 use Rattle.member_slots.specs.Member.{is_live}
 use Rattle.record_fmt.specs.declared.formats.Field.{Field}
-use Rattle.journal_model.specs.Acts.{Change, Act, act, acts, act_there, act_elsewhere, change_of, entry_before, held_before, is_number, is_same_number, is_same_record, place_of, updated_from, undone_from}
+use Rattle.journal_model.specs.Acts.{Change, act, acts, act_there, act_elsewhere, change_of, entry_before, held_before, is_number, is_same_number, is_same_record, place_of, updated_from, undone_from}
 use Rattle.journal_model.specs.Images.{images_of}
 use Rattle.journal_model.specs.Places.{slot_of, put_slot}
-use Rattle.journal_model.specs.Walks.{RangeFault, Numbered, number_change, numbered, is_met, misfit, apply, ◌then◌}
+use Rattle.journal_model.specs.Walks.{Numbered, number_change, numbered, is_met, misfit, apply, ◌then◌}
 use Rattle.range_images.specs.declared.slot_given.SlotGiven.{SlotGiven}
-use Rattle.range_images.specs.Given.{given_after, given_before, given_forward, given_back, AreInPlace, place_given}
+use Rattle.range_images.specs.Given.{given_before, given_forward, given_back, AreInPlace, place_given}
 use Rattle.range_images.proofs.GivenLemmas.{slot_of-past}
-use Rattle.range_requests.specs.Told.{IsRecordOf, MayHavePlace, NamesPlace, TellsRecord, is_of_record}
+use Rattle.range_requests.specs.Told.{IsRecordOf, MayHavePlace, NamesPlace, is_of_record}
 use Rattle.range_requests.specs.Walks.{AddRecords, FitsFields, IsFit, TellsOf}
 
 -- a slot change of records of these fields

@@ -92,12 +92,11 @@ pub(crate) fn backward(
     }
 }
 
-/// How many entries the part of so many has.
-fn length_of(part: Part, most: usize) -> usize
-    requires { (part.lo ≤ part.hi) × (part.hi - part.lo + 1 ≤ most) }
+/// How many entries the part has, which is at most all of a range.
+fn length_of(part: Part, _all: usize) -> usize
+    requires { (part.lo ≤ part.hi) × (part.hi - part.lo + 1 ≤ _all) }
     ensures { result ≡ part.hi - part.lo + 1 }
 {
-    let _ = most;
     (part.hi - part.lo) as usize + 1
 }
 

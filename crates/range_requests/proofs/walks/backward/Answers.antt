@@ -12,7 +12,7 @@ use Rattle.range_images.specs.Given as images
 use Rattle.range_images.specs.Given.{given_slots, AreInPlace}
 use Rattle.range_images.specs.Images.{range_done, removed_answer}
 use Rattle.range_images.specs.Sides.{first_sequence}
-use Rattle.range_requests.specs.Walks.{AddRecords, IsFit, TellsOf}
+use Rattle.range_requests.specs.Walks.{IsFit, TellsOf}
 use Rattle.range_requests.proofs.EndLemmas.{first-numbered, length-drop, numbered-drop, rest-whole}
 use Rattle.range_requests.proofs.ToldLemmas.{all-drop, all-take, back-fit, before-told, numbered-fit, within-adds, within-behind}
 use Rattle.range_requests.proofs.WalkLemmas.{backward-answer, backward-walked, images-refused, last-part}
