@@ -1,7 +1,6 @@
 -- What the end of a job answers that is under no commitment control.
 use Rattle.std.proofs.Common.{◌≡◌, ◌∙◌, ℕ, ◌+◌, true, List, [], ◌++◌, length, Ok, refl, sym, ap, arith, append-nil}
 use Rattle.std.specs.List.{AllByRecursion}
-use Rattle.entry_codec.specs.declared.entries.Entry.{Entry}
 use Rattle.entry_codec.specs.declared.entries.Draft.{Draft}
 use Rattle.library_model.specs.declared.replies.Reply.TheVariants.{Done}
 use Rattle.library_steps.specs.State.{Memory, State, memory_of, job_of}

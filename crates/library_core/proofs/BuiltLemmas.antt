@@ -1,5 +1,5 @@
 -- What stays so of files without a key, and of jobs that are under no commitment control.
-use Rattle.std.proofs.Common.{◌≡◌, ℕ, ◌-◌, ◌==◌, Bool, true, false, not, cond, filter, if◌then◌else◌, List, [], ◌∷◌, ◌++◌, map, Option, Some, None, IfSome, zero, suc, slice_get, refl}
+use Rattle.std.proofs.Common.{◌≡◌, ℕ, ◌-◌, ◌==◌, Bool, true, false, cond, filter, if◌then◌else◌, List, [], ◌∷◌, ◌++◌, map, Some, None, IfSome, zero, suc, slice_get, refl}
 use Rattle.std.specs.List.{AllByRecursion}
 use Rattle.library_model.specs.declared.sources.NamedSource.{NamedSource}
 use Rattle.library_model.specs.Named.{Named, named, same_name}

@@ -1,5 +1,5 @@
 -- From the answer of what is in memory to the call: the library has the state of the step, and what holds between calls holds after it.
-use Rattle.std.proofs.Common.{◌≡◌, ℕ, false, IsTrue, List, ◌++◌, Result, Ok, Err, IsErrOf, inl, inr, refl, sym, ◌∙◌, ap, subst}
+use Rattle.std.proofs.Common.{◌≡◌, ℕ, false, IsTrue, List, Result, Ok, Err, IsErrOf, inl, inr, refl, sym, ◌∙◌, ap, subst}
 use Rattle.std.proofs.lemmas.Result.{IfOk-at_ok}
 use Rattle.built_requests.specs.Built.{is_built}
 use Rattle.library_model.specs.Ending.{is_end_job}
@@ -9,9 +9,9 @@ use Rattle.library_model.specs.declared.replies.Reply.TheVariants.{NoMemory}
 use Rattle.library_model.specs.declared.requests.Request.{Request}
 use Rattle.library_model.specs.declared.requests.Request.TheVariants as request
 use Rattle.library_model.specs.declared.sources.NamedSource.{NamedSource}
-use Rattle.library_steps.specs.State.{State, JobState, memory_of, with_entries, job_at}
+use Rattle.library_steps.specs.State.{State, memory_of, job_at}
 use Rattle.library_steps.specs.Change.{Change, changed}
-use Rattle.library_steps.specs.History.{is_running, Outcome, Standing, Failed, Comes}
+use Rattle.library_steps.specs.History.{is_running, Standing}
 use Rattle.library_steps.specs.Step.{change, step, MayAnswer}
 use Rattle.built_state.specs.Built.{IsBuilt}
 use Rattle.built_state.specs.Unkeyed.{AreUnkeyedSources}
@@ -20,7 +20,7 @@ use Rattle.library_parts.specs.declared.stop.Stop.{Stop}
 use Rattle.library_parts.specs.declared.stop.Stop.TheVariants as stop
 use Rattle.library_core.specs.Parts.{LibraryOver}
 use Rattle.library_core.specs.Running.{runs_after}
-use Rattle.library_core.specs.Stands.{Stands, IsAt, Goes, IsReady}
+use Rattle.library_core.specs.Stands.{Stands, Goes}
 use Rattle.library_core.proofs.RunLemmas.{runs-on}
 use Rattle.library_core.proofs.StepLemmas.{Leaves, change-leaves}
 

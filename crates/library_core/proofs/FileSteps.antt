@@ -1,5 +1,5 @@
 -- What the requests on files and members leave: CRTPF, DLTF, ADDPFM, CLRPFM, RGZPFM, STRJRNPF and ENDJRNPF.
-use Rattle.std.proofs.Common.{◌≡◌, ℕ, ◌+◌, nat_le, nat_lt, not, List, [], ◌∷◌, ◌++◌, Option, Some, None, Result, Ok, Err, length, refl}
+use Rattle.std.proofs.Common.{◌≡◌, ℕ, ◌+◌, nat_le, nat_lt, not, List, [], ◌∷◌, Option, Result, Ok, Err, length, refl}
 use Rattle.std.specs.Option.{is_some}
 use Rattle.entry_codec.specs.declared.kinds.EntryKind.{EntryKind}
 use Rattle.entry_codec.specs.declared.kinds.EntryKind.TheVariants.{MemberCleared, MemberReorganized}
@@ -7,8 +7,7 @@ use Rattle.record_fmt.specs.declared.formats.Format.{Format}
 use Rattle.dds_source.specs.declared.faults.DdsFault.{DdsFault}
 use Rattle.dds_physical.specs.declared.physical_files.PhysicalSpec.{PhysicalSpec}
 use Rattle.member_slots.specs.Member.{MemberState, cleared, reorganized}
-use Rattle.library_model.specs.Named.{Named, same_name}
-use Rattle.library_model.specs.declared.replies.Reply.{Reply}
+use Rattle.library_model.specs.Named.{same_name}
 use Rattle.library_model.specs.declared.replies.Reply.TheVariants.{NameExists, NoSuchName, LimitReached}
 use Rattle.library_model.specs.declared.replies.Missing.TheVariants.{Name}
 use Rattle.library_model.specs.declared.replies.LimitKind.TheVariants.{Files, MemberNumbers}
@@ -20,13 +19,12 @@ use Rattle.library_model.specs.declared.requests.StartJournaling.{StartJournalin
 use Rattle.library_model.specs.declared.sources.NamedSource.{NamedSource}
 use Rattle.library_model.specs.SourceList.{text_of}
 use Rattle.library_steps.specs.State.{Memory, FileState, MemberStatus, file_named, with_status}
-use Rattle.library_steps.specs.Change.{Change}
-use Rattle.library_steps.specs.Refusals.{◌>>=◌, refuse_if, named_or_refused, sequences_left}
+use Rattle.library_steps.specs.Refusals.{refuse_if, named_or_refused, sequences_left}
 use Rattle.library_steps.specs.CreatePhysicalFile.{NewFile, formats_of, described, spec_or_refused, create_plan, create_change, create_physical_file, new_file}
 use Rattle.library_steps.specs.DeleteFile.{delete_plan, delete_change, delete_file, without_file}
 use Rattle.library_steps.specs.MemberCommands.{file_changed, with_member_name, renumbered, renumbering, empty_plan, add_member, clear_member, reorganize_member}
-use Rattle.library_steps.specs.Journaling.{journaled_from, no_longer_journaled, start_journaling, end_journaling}
-use Rattle.built_state.specs.Unkeyed.{IsUnkeyed, AreUnkeyed, IsUnkeyedText, AreUnkeyedSources}
+use Rattle.library_steps.specs.Journaling.{journaled_from, start_journaling, end_journaling}
+use Rattle.built_state.specs.Unkeyed.{IsUnkeyed, IsUnkeyedText, AreUnkeyedSources}
 use Rattle.library_core.proofs.ResultLemmas.{Holds, wider-holds, each-holds, found-holds, then-holds, bind-holds, does-holds}
 use Rattle.library_core.proofs.BuiltLemmas.{all-append, all-filter, AreUnkeyed-status, AreUnkeyed-member, text-unkeyed}
 use Rattle.library_core.proofs.SpareLemmas.{Spares, SparesIn, spares-files}

@@ -1,26 +1,24 @@
 -- What the journal's requests leave, and what COMMIT, ROLLBACK, ENDCMTCTL and ENDJOB do where no commitment control is started.
-use Rattle.std.proofs.Common.{◌≡◌, ◌∙◌, ℕ, ◌+◌, ◌-◌, IsTrue, List, [], ◌∷◌, ◌++◌, None, Result, Ok, Err, refl, sym, ap, subst}
+use Rattle.std.proofs.Common.{◌≡◌, ℕ, ◌+◌, List, [], ◌∷◌, Err, refl}
 use Rattle.std.specs.List.{AllByRecursion}
 use Rattle.entry_codec.specs.declared.entries.Entry.{Entry}
 use Rattle.journal_model.specs.Rollback.{MemberChange}
 use Rattle.journal_model.specs.Replay.{before_of}
-use Rattle.library_model.specs.declared.replies.Reply.{Reply}
 use Rattle.library_model.specs.declared.replies.Reply.TheVariants.{NoDefinition}
 use Rattle.library_model.specs.declared.requests.DeleteReceiver.{DeleteReceiver}
 use Rattle.library_model.specs.declared.requests.DisplayJournal.{DisplayJournal}
 use Rattle.library_model.specs.declared.requests.JournaledChanges.{JournaledChanges}
-use Rattle.library_steps.specs.State.{Memory, FileState, JobState, job_of}
-use Rattle.library_steps.specs.Change.{Change, does}
-use Rattle.library_steps.specs.Refusals.{◌>>=◌, found}
+use Rattle.library_steps.specs.State.{Memory, job_of}
+use Rattle.library_steps.specs.Refusals.{found}
 use Rattle.library_steps.specs.Receivers.{attach_plan, attach_change, change_journal, delete_receiver}
 use Rattle.library_steps.specs.JournalReads.{display_journal}
 use Rattle.library_steps.specs.Ranges.{range_change, apply_plan, remove_plan, apply_changes, remove_changes}
 use Rattle.library_steps.specs.SlotChange.{with_slot}
-use Rattle.library_steps.specs.Commitment.{end_plan, end_commitment, commit, rollback, taken_back, changes_of}
+use Rattle.library_steps.specs.Commitment.{end_plan, end_commitment, commit, rollback, taken_back}
 use Rattle.built_state.specs.Uncommitted.{IsUncommitted}
 use Rattle.library_core.proofs.ResultLemmas.{Holds, each-holds, does-holds, does-refused, bind-refused, found-none}
 use Rattle.library_core.proofs.BuiltLemmas.{uncommitted-job}
-use Rattle.library_core.proofs.SpareLemmas.{Spares, SparesIn, spares-all}
+use Rattle.library_core.proofs.SpareLemmas.{SparesIn, spares-all}
 
 pub change_journal-spares : (m : Memory) (job timestamp : ℕ) → Holds (change_journal m job timestamp) (SparesIn m)
 change_journal-spares m job timestamp = does-holds (attach_change m job timestamp) (attach_plan m) (SparesIn m) (each-holds (attach_plan m) _ (λ number. spares-all m.files m.jobs))

@@ -1,13 +1,10 @@
 -- What the requests through an open leave: OPNDBF and CLOF, WRITE, UPDATE, DELETE and UNLOCK, and the reads.
-use Rattle.std.proofs.Common.{◌≡◌, ℕ, ◌+◌, ◌-◌, nat_le, ◌==◌, ◌&&◌, Bool, true, false, not, if◌then◌else◌, List, [], ◌∷◌, ◌++◌, None, Option, Result, Ok, Err, length, refl}
+use Rattle.std.proofs.Common.{◌≡◌, ℕ, ◌+◌, ◌-◌, nat_le, Bool, true, false, not, if◌then◌else◌, List, [], ◌∷◌, None, Result, Ok, length, refl}
 use Rattle.std.specs.List.{AllByRecursion}
 use Rattle.std.specs.Option.{is_some}
 use Rattle.member_slots.specs.declared.slot.Slot.TheVariants.{Live, Deleted}
 use Rattle.record_fmt.specs.Records.{record_given}
-use Rattle.file_model.specs.Paths.{PathEntry}
-use Rattle.file_model.specs.Positions.{Bound, Position}
 use Rattle.journal_model.specs.Rollback.{MemberChange}
-use Rattle.lock_table.specs.declared.levels.Call.{Call}
 use Rattle.library_model.specs.Named.{Named, same_name}
 use Rattle.library_model.specs.declared.replies.Reply.{Reply}
 use Rattle.library_model.specs.declared.replies.Reply.TheVariants.{NameExists, LimitReached, NoDefinition, NoSuchName, WrongOpen, NoCurrentRecord}
@@ -23,9 +20,8 @@ use Rattle.library_model.specs.declared.requests.ReadRecord.{ReadRecord}
 use Rattle.library_model.specs.declared.requests.ReadEqual.{ReadEqual}
 use Rattle.library_model.specs.declared.requests.ChainRecord.{ChainRecord}
 use Rattle.library_steps.specs.State.{Memory, FileState, MemberStatus, OpenState, CycleState, JobState, fields_of, file_named, job_changed, job_of, open_named, with_opens, with_status}
-use Rattle.library_steps.specs.Change.{Change}
-use Rattle.library_steps.specs.Refusals.{◌>>=◌, found, refuse_if, named_or_refused, sequences_left, FoundMember, member_of_file, OpenedFile, opened_file}
-use Rattle.library_steps.specs.Opens.{may_commit, open_plan, new_open, with_open, open_file, without_open, closed, close_file}
+use Rattle.library_steps.specs.Refusals.{found, refuse_if, named_or_refused, sequences_left, FoundMember, member_of_file, OpenedFile, opened_file}
+use Rattle.library_steps.specs.Opens.{may_commit, open_plan, new_open, with_open, open_file, without_open, close_file}
 use Rattle.library_steps.specs.Locking.{few_locks}
 use Rattle.library_steps.specs.Records.{live_record, slot_there}
 use Rattle.library_steps.specs.UniqueKeys.{keys_free}

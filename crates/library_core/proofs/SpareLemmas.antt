@@ -1,9 +1,8 @@
 -- What a request leaves that ends no job: which jobs run, and that no file has a key and no job is under commitment control.
-use Rattle.std.proofs.Common.{◌≡◌, ◌∙◌, ℕ, ◌-◌, ◌==◌, Bool, true, false, if◌then◌else◌, List, [], ◌∷◌, map, refl}
+use Rattle.std.proofs.Common.{◌≡◌, ◌∙◌, ℕ, ◌-◌, ◌==◌, true, false, if◌then◌else◌, List, [], ◌∷◌, map, refl}
 use Rattle.std.specs.List.{AllByRecursion}
 use Rattle.library_model.specs.Named.{Named}
-use Rattle.journal_model.specs.Rollback.{MemberChange}
-use Rattle.library_steps.specs.State.{Memory, FileState, OpenState, CycleState, JobState, job_at, job_changed, with_opens}
+use Rattle.library_steps.specs.State.{Memory, FileState, OpenState, JobState, job_at, job_changed, with_opens}
 use Rattle.library_steps.specs.Change.{Change}
 use Rattle.library_steps.specs.History.{is_running}
 use Rattle.library_steps.specs.Reads.{open_changed}

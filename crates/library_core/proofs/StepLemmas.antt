@@ -1,20 +1,19 @@
 -- What the change of each request that is built leaves: which jobs run, and that nothing stands in the library that isn't built.
-use Rattle.std.proofs.Common.{◌≡◌, ◌∙◌, ℕ, ◌-◌, false, IsTrue, List, Result, Err, refl, sym, ap, subst}
+use Rattle.std.proofs.Common.{◌≡◌, ◌∙◌, ℕ, ◌-◌, false, IsTrue, List, Result, refl, sym, ap, subst}
 use Rattle.std.specs.List.{AllByRecursion}
 use Rattle.entry_codec.specs.declared.entries.Entry.{Entry}
 use Rattle.built_requests.specs.Built.{is_built}
 use Rattle.library_model.specs.Ending.{is_end_job}
-use Rattle.library_model.specs.Named.{Named}
 use Rattle.library_model.specs.declared.replies.Reply.{Reply}
 use Rattle.library_model.specs.declared.replies.Reply.TheVariants.{NoDefinition}
 use Rattle.library_model.specs.declared.requests.EndJob.{EndJob}
 use Rattle.library_model.specs.declared.requests.Request.{Request}
 use Rattle.library_model.specs.declared.requests.Request.TheVariants as request
 use Rattle.library_model.specs.declared.sources.NamedSource.{NamedSource}
-use Rattle.library_steps.specs.State.{Memory, FileState, JobState, job_at, job_changed, job_of}
+use Rattle.library_steps.specs.State.{Memory, JobState, job_at, job_changed, job_of}
 use Rattle.library_steps.specs.Change.{Change}
 use Rattle.library_steps.specs.Commitment.{changes_of}
-use Rattle.library_steps.specs.EndJob.{ended_job, end_change, end_job}
+use Rattle.library_steps.specs.EndJob.{ended_job, end_change}
 use Rattle.library_steps.specs.History.{is_running}
 use Rattle.library_steps.specs.Step.{change}
 use Rattle.built_state.specs.Unkeyed.{AreUnkeyed, AreUnkeyedSources}

@@ -1,5 +1,5 @@
 -- A job that may make a call may make one after another job's call, and after another job has begun.
-use Rattle.std.proofs.Common.{◌≡◌, ℕ, ◌-◌, ◌==◌, Bool, true, false, if◌then◌else◌, IsTrue, List, [], ◌∷◌, ◌++◌, zero, suc, slice_get, Some, None, refl, sym, ◌∙◌, subst}
+use Rattle.std.proofs.Common.{◌≡◌, ℕ, ◌-◌, ◌==◌, true, false, if◌then◌else◌, IsTrue, List, [], ◌∷◌, ◌++◌, zero, suc, slice_get, None, refl, sym, ◌∙◌, subst}
 use Rattle.library_model.specs.declared.requests.Request.{Request}
 use Rattle.library_model.specs.Ending.{is_end_job}
 use Rattle.library_steps.specs.State.{State, JobState, job_at, new_job}

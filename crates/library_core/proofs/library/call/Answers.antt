@@ -1,7 +1,4 @@
-use Rattle.std.proofs.Common.{◌≡◌, ◌∙◌, false, IsTrue, ap, subst, sym}
-use Rattle.library_steps.specs.State.{job_at}
-use Rattle.library_steps.specs.History.{is_running}
-use Rattle.built_state.specs.Built.{IsBuilt}
+use Rattle.std.proofs.Common.{◌≡◌, ◌∙◌, false, ap, subst, sym}
 use Rattle.library_core.specs.Parts.{LibraryOver}
 use Rattle.library_core.specs.Stands.{Stands, IsReady}
 use Rattle.library_core.proofs.CallLemmas.{goes-answered, runs-answered, built-answered}
