@@ -1,5 +1,5 @@
 //! COMMIT, ROLLBACK and ENDJOB. They never want memory: the room for what they deposit is kept from the changes on.
-ghost use Rattle.std.specs.Prelude.{◌≡◌, IsTrue, IsErrOf};
+ghost use Rattle.std.specs.Prelude.{IsTrue, IsErrOf};
 ghost use Rattle.library_steps.specs.State.{memory_of, job_at};
 ghost use Rattle.library_steps.specs.History.{is_running};
 ghost use Rattle.library_steps.specs.Commitment.{commit, rollback};

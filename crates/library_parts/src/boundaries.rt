@@ -1,6 +1,6 @@
 //! The boundaries of a job: COMMIT, ROLLBACK, ENDCMTCTL, and the end of a job with all that it left open. None of them wants memory, since
 //! room for their entries is kept, and each change has its slots at hand.
-ghost use Rattle.std.specs.Prelude.{◌≡◌, ℕ, ◌+◌, ◌*◌, ◌≤◌, Ok, Some, IsSome, IsTrue, List, length, map, option_map, option_to_list};
+ghost use Rattle.std.specs.Prelude.{◌≡◌, ◌+◌, ◌*◌, ◌≤◌, Ok, Some, IsSome, IsTrue, length, map, option_to_list};
 ghost use Rattle.std.specs.List.{AllByRecursion};
 ghost use Rattle.entry_codec.specs.declared.kinds.EntryKind.TheVariants.{CommitCycleCommitted, CommitCycleRolledBack, CommitmentEnded};
 ghost use Rattle.journal_model.specs.Replay.{before_of};
