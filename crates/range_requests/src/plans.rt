@@ -93,8 +93,8 @@ pub(crate) fn plan_remove(
 
 fn walk_forward(contents: &Contents, found: Found) -> Result<Walk, Stop>
     requires kept { IsKept contents.now.state found }
-    ensures walked { WalksRange contents.now.state found apply_range given_forward result }
-    ensures records { IfOk result (λ walk. AddRecords walk.given.items (slots_of contents.now.state found.member)) }
+    ensures walked { WalksRange contents.now.state found.entry apply_range given_forward result }
+    ensures records { IfOk result (λ walk. AddRecords walk.given.items (slots_of contents.now.state found.entry.member)) }
 {
     let member = contents.member(found.member).unwrap();
     let Read { prior, entries } = entries_read(contents, found);
@@ -103,8 +103,8 @@ fn walk_forward(contents: &Contents, found: Found) -> Result<Walk, Stop>
 
 fn walk_back(contents: &Contents, found: Found) -> Result<Walk, Stop>
     requires kept { IsKept contents.now.state found }
-    ensures walked { WalksRange contents.now.state found remove_range given_back result }
-    ensures records { IfOk result (λ walk. AddRecords walk.given.items (slots_of contents.now.state found.member)) }
+    ensures walked { WalksRange contents.now.state found.entry remove_range given_back result }
+    ensures records { IfOk result (λ walk. AddRecords walk.given.items (slots_of contents.now.state found.entry.member)) }
 {
     let member = contents.member(found.member).unwrap();
     let Read { prior, entries } = entries_read(contents, found);
@@ -115,7 +115,7 @@ fn walk_back(contents: &Contents, found: Found) -> Result<Walk, Stop>
 fn check_walk(contents: &Contents, found: Found, walk: &Walk) -> Result<(), Stop>
     requires kept { IsKept contents.now.state found }
     requires records { AddRecords walk.now.given.items (slots_of contents.now.state found.member) }
-    ensures fit { OnOk result (IsFitWalk contents.now.state found walk.now) }
+    ensures fit { OnOk result (IsFitWalk contents.now.state found.entry walk.now) }
     ensures short { IfErr result (λ stop. stop ≡ NoMemory) }
 {
     // No two files have one member.
@@ -125,7 +125,7 @@ fn check_walk(contents: &Contents, found: Found, walk: &Walk) -> Result<(), Stop
 
 fn entries_read<'a>(contents: &'a Contents, found: Found) -> Read<'a>
     requires { IsKept contents.now.state found }
-    ensures { IsReadOf contents.now.state found result }
+    ensures { IsReadOf contents.now.state found.entry result }
 {
     let (kept, _) = contents.bounds();
     let all = kept_entries(contents);
@@ -147,7 +147,7 @@ fn planned(
     requires kept { IsKept contents.now.state found }
     requires left { (memory_of contents.now.state).last_entry ≤ LAST_SEQUENCE }
     requires places { AreInPlace 1 walk.given.items (member_of found.member contents.now.state.members).slots }
-    ensures told { IfOk result (λ plan. IsToldBy contents.now.state author found walk way plan) }
+    ensures told { IfOk result (λ plan. IsToldBy contents.now.state author found.entry walk way plan) }
     ensures short { IfErr result (λ stop. stop ≡ NoMemory) }
 {
     let Ok(changes) = u32::try_from(walk.given.len()) else {
