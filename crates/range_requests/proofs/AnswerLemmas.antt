@@ -1,10 +1,9 @@
 -- What is answered once the slots of a plan were put and its entries deposited.
-use Rattle.std.proofs.Common.{◌≡◌, ℕ, List, Result, Ok, Err, true, refl, sym, ap, ◌∙◌, subst, length}
+use Rattle.std.proofs.Common.{◌≡◌, Result, Ok, true, refl, sym, ap, subst}
 use Rattle.member_slots.specs.Members.{NumberedMembers}
-use Rattle.library_model.specs.declared.requests.JournaledChanges.{JournaledChanges}
 use Rattle.library_model.specs.declared.replies.Reply.{Reply}
 use Rattle.library_model.specs.declared.replies.Reply.TheVariants as replies
-use Rattle.library_steps.specs.State.{State, Memory, memory_of}
+use Rattle.library_steps.specs.State.{State, memory_of}
 use Rattle.library_steps.specs.Change.{Change, does, journaled}
 use Rattle.library_steps.specs.Ranges.{RangeWork, range_change, with_range}
 use Rattle.library_parts.specs.Answers.{Answers}

@@ -1,6 +1,5 @@
 -- The first sequence behind the last break of a member, entry by entry; and the entries that are kept.
-use Rattle.std.proofs.Common.{◌≡◌, ℕ, zero, suc, ◌+◌, ◌-◌, ◌≤◌, ◌<◌, ◌||◌, ◌==◌, nat_lt, Bool, true, false, cond, List, [], ◌∷◌, ◌++◌, length, take, drop, get_or, reverse, Option, Some, None, unwrap_or, Result, Ok, Err, refl, sym, ap, ◌∙◌, subst, arith}
-use Rattle.std.specs.Borrow.{Bor}
+use Rattle.std.proofs.Common.{◌≡◌, ℕ, zero, suc, ◌+◌, ◌-◌, ◌≤◌, ◌<◌, nat_lt, Bool, true, false, cond, List, [], ◌∷◌, ◌++◌, length, take, drop, get_or, reverse, Option, Some, None, unwrap_or, Ok, Err, refl, sym, ap, ◌∙◌, subst, arith}
 use Rattle.std.specs.List.{find}
 use Rattle.std.specs.Option.{option_map}
 use Rattle.std.proofs.lemmas.List.{reverse-append, take_more}
@@ -9,7 +8,7 @@ use Rattle.entry_codec.specs.declared.entries.Entry.{Entry}
 use Rattle.entry_codec.specs.declared.kinds.EntryKind.{EntryKind}
 use Rattle.entry_codec.specs.declared.kinds.EntryKind.TheVariants.{FileCreated, FileDeleted, MemberAdded, JournalingStarted, InitialSlot, JournalingEnded, MemberCleared, MemberReorganized, ChangesApplied, ChangesRemoved, RecordAdded, RecordAddedAtNumber, BeforeImage}
 use Rattle.entry_codec.specs.declared.kinds.EntryKind.TheVariants.{AfterImage, RecordDeleted, UndoBeforeImage, UndoAfterImage, UndoDelete, CommitmentStarted, CommitCycleStarted, CommitCycleCommitted, CommitCycleRolledBack, CommitmentEnded, AbnormalEnd, NextReceiver, PreviousReceiver}
-use Rattle.journal_model.specs.Acts.{Act, act, acts, act_there, act_elsewhere, entry_before, is_number}
+use Rattle.journal_model.specs.Acts.{act, acts, act_there, act_elsewhere, entry_before, is_number}
 use Rattle.journal_model.specs.Journal.{AreNumbered}
 use Rattle.journal_model.specs.Ranges.{Placed, placed, is_break, first_of}
 use Rattle.library_model.specs.declared.replies.Reply.{Reply}

@@ -1,5 +1,5 @@
 -- What fits the fields of one file that has a member fits those of each.
-use Rattle.std.proofs.Common.{◌≡◌, ℕ, List, Option, Some, OnOk, Result, Ok, Err, unwrap_or, sym, ap, ◌∙◌, subst}
+use Rattle.std.proofs.Common.{◌≡◌, ℕ, List, Option, OnOk, Result, Ok, Err, unwrap_or, sym, ap, ◌∙◌, subst}
 use Rattle.std.specs.List.{AllByRecursion}
 use Rattle.record_fmt.specs.declared.formats.Format.{Format}
 use Rattle.library_model.specs.Named.{Named, named}

@@ -1,5 +1,5 @@
 -- What a plan has of the work that a request does, and that its slots may be given.
-use Rattle.std.proofs.Common.{◌≡◌, ℕ, zero, suc, ◌+◌, ◌-◌, ◌*◌, ◌<◌, ◌≤◌, ◌&&◌, nat_lt, Bool, true, false, cond, List, [], ◌∷◌, ◌++◌, length, map, flat_map, Option, Some, None, MatchOption, unwrap_or, Result, Ok, Err, refl, sym, ap, ◌∙◌, subst, arith}
+use Rattle.std.proofs.Common.{◌≡◌, ℕ, ◌+◌, ◌-◌, ◌*◌, ◌<◌, ◌≤◌, nat_lt, Bool, true, false, List, [], ◌∷◌, ◌++◌, length, map, flat_map, Option, Some, None, MatchOption, unwrap_or, Result, Ok, Err, refl, sym, ap, ◌∙◌, subst, arith}
 use Rattle.std.specs.Borrow.{Bor}
 use Rattle.std.specs.List.{AllByRecursion}
 use Rattle.std.proofs.Math.Nat.{add-mul}
@@ -11,7 +11,7 @@ use Rattle.entry_codec.specs.declared.kinds.EntryKind.TheVariants.{ChangesApplie
 use Rattle.entry_codec.specs.Drafts.{numbered}
 use Rattle.member_slots.specs.declared.slot.Slot.{Slot}
 use Rattle.member_slots.specs.declared.slot.Slot.TheVariants.{Live, Deleted}
-use Rattle.member_slots.specs.declared.member.TheConstants.{MOST_SLOTS, MOST_BYTES}
+use Rattle.member_slots.specs.declared.member.TheConstants.{MOST_BYTES}
 use Rattle.member_slots.specs.Member.{MemberState, RoomyMember, FitsSlot, empty_member}
 use Rattle.member_slots.specs.Members.{NumberedMembers, member_at, member_of, with_member}
 use Rattle.record_fmt.specs.declared.formats.Field.{Field}
@@ -24,7 +24,7 @@ use Rattle.library_model.specs.declared.replies.Reply.{Reply}
 use Rattle.library_model.specs.declared.replies.Reply.TheVariants as replies
 use Rattle.library_model.specs.declared.replies.LimitKind.TheVariants.{LibraryBytes, BlockBytes}
 use Rattle.library_model.specs.Named.{Named}
-use Rattle.built_state.specs.Unkeyed.{AreUnkeyed, IsUnkeyed}
+use Rattle.built_state.specs.Unkeyed.{AreUnkeyed}
 use Rattle.file_catalogue.specs.Owners.{Owns}
 use Rattle.library_steps.specs.declared.limits.TheConstants.{MOST_LIBRARY_BYTES, MOST_BLOCK_BYTES, LAST_SEQUENCE}
 use Rattle.library_steps.specs.State.{State, Memory, FileState, MemberStatus, fields_of, memory_of}
@@ -33,11 +33,11 @@ use Rattle.library_steps.specs.Drafts.{Author, author_of}
 use Rattle.library_steps.specs.EntrySizes.{entry_bytes, entry_size, body_size}
 use Rattle.library_steps.specs.Refusals.{◌>>=◌, refuse_if}
 use Rattle.library_steps.specs.Ranges.{Range, RangeWork, Given, allowed, apply_plan, done_or_refused, given_forward, given_back, library_bytes, range_between, range_named, remove_plan, slots_now, told, with_range, work_of}
-use Rattle.library_steps.specs.UniqueKeys.{UniquePath, all_apart, has_member, own_unique, unique_paths}
+use Rattle.library_steps.specs.UniqueKeys.{UniquePath, all_apart, own_unique, unique_paths}
 use Rattle.library_parts.specs.declared.stop.Stop.{Stop}
 use Rattle.library_parts.specs.declared.stop.Stop.TheVariants.{NoMemory, Refused}
 use Rattle.library_parts.specs.Answers.{Allows}
-use Rattle.library_parts.specs.Lawful.{HasRecords, HoldsValues, IsThere}
+use Rattle.library_parts.specs.Lawful.{HoldsValues}
 use Rattle.library_parts.proofs.MemberLemmas.{HasRecords-member_of, IsThere-IsSome, library_bytes-with}
 use Rattle.draft_list.specs.Sizes.{draft_bytes, draft_size}
 use Rattle.range_images.specs.declared.slot_given.SlotGiven.{SlotGiven}
@@ -45,10 +45,9 @@ use Rattle.range_images.specs.Given.{given_slots}
 use Rattle.range_requests.specs.declared.found.Found.{Found}
 use Rattle.range_requests.specs.declared.walks.Walk.{Walk}
 use Rattle.range_requests.specs.declared.tells.Way.{Way}
-use Rattle.range_requests.specs.declared.tells.Way.TheVariants.{Forward, Back}
 use Rattle.range_requests.specs.declared.plans.Plan.{Plan}
 use Rattle.range_requests.specs.Kinds.{kind_of}
-use Rattle.range_requests.specs.Fits.{FitsFields, IsFit, IsRecordOf, MayHavePlace}
+use Rattle.range_requests.specs.Fits.{FitsFields, IsFit}
 use Rattle.range_requests.specs.Walks.{IsWalked, Walks, as_given}
 use Rattle.range_requests.specs.Puts.{IsGivable, MayGive, given_to, members_given}
 use Rattle.range_requests.proofs.PutLemmas.{grows}

@@ -4,21 +4,19 @@ use Rattle.std.specs.List.{AllByRecursion}
 use Rattle.std.proofs.Math.Nat.{suc-mul, mul-le-mul_right}
 use Rattle.std.proofs.lemmas.Bool.Decides.{nat_tests}
 use Rattle.member_slots.specs.declared.slot.Slot.{Slot}
-use Rattle.member_slots.specs.declared.slot.Slot.TheVariants.{Live, Deleted}
+use Rattle.member_slots.specs.declared.slot.Slot.TheVariants.{Live}
 use Rattle.member_slots.specs.declared.member.TheConstants.{MOST_SLOTS, MOST_BYTES}
-use Rattle.member_slots.specs.Member.{MemberState, FitsSlot, appended, changed, is_full, is_live}
+use Rattle.member_slots.specs.Member.{MemberState, FitsSlot, appended, changed, is_full}
 use Rattle.member_slots.specs.Members.{Numbered, NumberedMembers, item_at, with_item, member_at, member_of, with_member}
 use Rattle.journal_model.specs.Places.{put_slot}
 use Rattle.journal_model.proofs.PlaceLemmas.{length-put_slot}
 use Rattle.library_model.specs.Named.{Named}
 use Rattle.file_catalogue.specs.Owners.{Owns}
-use Rattle.library_steps.specs.declared.limits.TheConstants.{MOST_LIBRARY_BYTES}
 use Rattle.library_steps.specs.Ranges.{library_bytes}
-use Rattle.library_steps.specs.SlotChange.{slot_put, with_slot}
+use Rattle.library_steps.specs.SlotChange.{with_slot}
 use Rattle.library_steps.specs.State.{State, Memory, FileState, memory_of}
 use Rattle.library_parts.specs.Parts.{Room}
-use Rattle.library_parts.specs.Rooms.{HasSlotRoom, spare_slots}
-use Rattle.library_parts.specs.Slots.{MayStand, weight}
+use Rattle.library_parts.specs.Rooms.{spare_slots}
 use Rattle.library_parts.proofs.MemberLemmas.{at-member_of, is_some-IsSome, item_at-with_item_same, library_bytes-with, member_of-with, slot_put-appended, slot_put-changed}
 use Rattle.range_images.specs.declared.slot_given.SlotGiven.{SlotGiven}
 use Rattle.range_images.specs.Given.{given_slots, place_given, AreInPlace}

@@ -1,5 +1,5 @@
 -- What going through a range gives, from its closed part and the slots that this gives.
-use Rattle.std.proofs.Common.{◌≡◌, ℕ, zero, suc, ◌+◌, ◌-◌, ◌≤◌, ◌<◌, Bool, true, false, cond, List, [], ◌∷◌, length, map, take, drop, reverse, Option, Some, None, unwrap_or, Result, Ok, Err, refl, sym, ap, ◌∙◌, subst, arith}
+use Rattle.std.proofs.Common.{◌≡◌, ℕ, zero, suc, ◌+◌, ◌-◌, ◌≤◌, ◌<◌, Bool, true, false, cond, List, [], ◌∷◌, length, map, take, drop, reverse, Option, Some, None, unwrap_or, Result, Ok, Err, refl, sym, ap, ◌∙◌, arith}
 use Rattle.std.proofs.lemmas.List.{length-reverse, length-map}
 use Rattle.entry_codec.specs.declared.entries.Entry.{Entry}
 use Rattle.member_slots.specs.declared.slot.Slot.{Slot}
@@ -8,8 +8,7 @@ use Rattle.journal_model.specs.Acts.{acts, entry_before}
 use Rattle.journal_model.specs.Closed.{closed_prefix, closed_suffix, greatest, is_closed, last}
 use Rattle.journal_model.specs.Journal.{AreNumbered}
 use Rattle.journal_model.specs.Parts.{applied_part, removed_part, removed_from}
-use Rattle.journal_model.specs.Walks.{Numbered, numbered, RangeFault, apply, remove}
-use Rattle.journal_model.specs.Walks as walks
+use Rattle.journal_model.specs.Walks.{Numbered, numbered, RangeFault, apply}
 use Rattle.journal_model.specs.Ranges.{RangeDone, done, first_fault, first_gap, first_renumbering, placed, straddled, apply_range, remove_range}
 use Rattle.library_steps.specs.Ranges as steps
 use Rattle.library_steps.specs.Ranges.{Given, done_or_refused, before_or_deleted}
@@ -20,7 +19,6 @@ use Rattle.group_bounds.specs.Bounds as group
 use Rattle.group_bounds.specs.Bounds.{TellsCut, prefix_cut, prefix_part, suffix_cut, suffix_part}
 use Rattle.range_images.specs.declared.fault.ImagesFault.{ImagesFault}
 use Rattle.range_images.specs.declared.fault.ImagesFault.TheVariants as images
-use Rattle.range_images.specs.declared.slot_given.SlotGiven.{SlotGiven}
 use Rattle.range_images.specs.Faults.{TellsFault}
 use Rattle.range_images.specs.Given.{given_after, given_before, given_forward, given_back, given_slots, AreInPlace}
 use Rattle.range_images.specs.Images.{applied_answer, removed_answer, range_done}

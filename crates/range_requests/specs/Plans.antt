@@ -1,6 +1,5 @@
 -- What a plan has of the work that a request does.
-use Rattle.std.specs.Prelude.{◌≡◌, ℕ, ◌+◌, ◌<◌, ◌≤◌, Result, Ok, Err, List, length}
-use Rattle.entry_codec.specs.declared.entries.Entry.{Entry}
+use Rattle.std.specs.Prelude.{◌≡◌, ℕ, ◌+◌, ◌≤◌, Result, Ok, Err, List, length}
 use Rattle.member_slots.specs.Members.{member_at, member_of}
 use Rattle.file_catalogue.specs.Owners.{Owns}
 use Rattle.library_model.specs.declared.replies.Reply.{Reply}
@@ -12,7 +11,6 @@ use Rattle.library_parts.specs.Lawful.{IsThere}
 use Rattle.range_images.specs.Given.{given_slots}
 use Rattle.range_requests.specs.declared.found.Found.{Found}
 use Rattle.range_requests.specs.declared.plans.Plan.{Plan}
-use Rattle.range_requests.specs.Puts.{MayGive}
 
 -- the range that was found: its member, which a file has, and its ends, between which entries are kept
 pub record IsFound (s : State) (found : Found) (range : Range) : Type 0 where

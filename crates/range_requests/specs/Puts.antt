@@ -1,12 +1,12 @@
 -- What slots that are put one after the other make of a library, and when they may be put.
-use Rattle.std.specs.Prelude.{◌≡◌, ℕ, ◌+◌, ◌*◌, ◌<◌, ◌≤◌, true, false, IsSome, List, [], ◌∷◌, length}
+use Rattle.std.specs.Prelude.{◌≡◌, ℕ, ◌+◌, ◌*◌, ◌<◌, ◌≤◌, true, false, IsSome, List, length}
 use Rattle.std.specs.List.{AllByRecursion}
 use Rattle.member_slots.specs.declared.member.TheConstants.{MOST_SLOTS, MOST_BYTES}
 use Rattle.member_slots.specs.Member.{MemberState, FitsSlot, is_full, is_live}
 use Rattle.member_slots.specs.Members.{NumberedMembers, member_at, member_of, with_member}
 use Rattle.library_steps.specs.declared.limits.TheConstants.{MOST_LIBRARY_BYTES}
 use Rattle.library_steps.specs.Ranges.{library_bytes}
-use Rattle.library_steps.specs.State.{State, Memory, memory_of}
+use Rattle.library_steps.specs.State.{State, Memory}
 use Rattle.library_parts.specs.Parts.{Room}
 use Rattle.library_parts.specs.Rooms.{HasSlotRoom, spare_slots}
 use Rattle.library_parts.specs.Slots.{MayStand}

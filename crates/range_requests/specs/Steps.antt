@@ -1,9 +1,7 @@
 -- What the steps of a plan give. (Our own.)
-use Rattle.std.specs.Prelude.{◌≡◌, ℕ, ◌+◌, ◌<◌, ◌≤◌, nat_lt, Bool, Option, None, Result, List, length, map}
+use Rattle.std.specs.Prelude.{◌≡◌, ℕ, ◌+◌, ◌<◌, ◌≤◌, nat_lt, Bool, Result, List, length, map}
 use Rattle.std.specs.List.{AllByRecursion}
 use Rattle.std.specs.Option.{option_copied}
-use Rattle.entry_codec.specs.declared.entries.Entry.{Entry}
-use Rattle.entry_codec.specs.declared.entries.Draft.{Draft}
 use Rattle.member_slots.specs.declared.slot.Slot.{Slot}
 use Rattle.member_slots.specs.Members.{member_of}
 use Rattle.file_catalogue.specs.Owners.{Owns}
@@ -23,7 +21,6 @@ use Rattle.library_steps.specs.Refusals.{◌>>=◌, refuse_if}
 use Rattle.library_parts.specs.declared.stop.Stop.{Stop}
 use Rattle.draft_list.specs.Sizes.{draft_bytes}
 use Rattle.range_images.specs.Sides.{first_sequence}
-use Rattle.range_images.specs.declared.slot_given.SlotGiven.{SlotGiven}
 use Rattle.range_requests.specs.declared.found.Found.{Found}
 use Rattle.range_requests.specs.declared.walks.Walk.{Walk}
 use Rattle.range_requests.specs.declared.tells.Way.{Way}

@@ -1,8 +1,3 @@
-use Rattle.std.proofs.Common.{List, subst}
-use Rattle.std.specs.List.{AllByRecursion}
-use Rattle.record_fmt.specs.declared.formats.Field.{Field}
-use Rattle.range_images.specs.declared.slot_given.SlotGiven.{SlotGiven}
-use Rattle.range_requests.specs.Fits.{IsFit}
 use Rattle.range_requests.proofs.FitLemmas.{fit-walk}
 use Rattle.range_requests.proofs.plans.check_walk.Goals as goal
 
