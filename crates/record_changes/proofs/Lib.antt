@@ -1,3 +1,4 @@
+mod AnswerLemmas
 mod FindLemmas
 mod LockLemmas
 mod PlaceLemmas

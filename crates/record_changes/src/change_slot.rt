@@ -7,7 +7,7 @@ ghost use Rattle.library_steps.specs.History.{is_running};
 ghost use Rattle.library_steps.specs.Records.{slot_there};
 ghost use Rattle.library_steps.specs.SlotChange.{images_of, with_slot};
 ghost use Rattle.record_changes.specs.Changes.{HasChanged};
-ghost use Rattle.record_changes.specs.Places.{HasEntryRoom, HasPlaceRoom, MayPut};
+ghost use Rattle.record_changes.specs.Places.{HasEntryRoom, HasPlaceRoom, IsReady, MayPut};
 ghost use Rattle.record_changes.specs.Plans.{new_slot};
 
 use crate::entries::ChangeEntries;
@@ -29,11 +29,11 @@ pub(crate) fn prepare_change(
     contents: &mut Contents,
     planned: &PlannedSlot,
 ) -> Result<Slot, AllocError>
-    requires { IsSome (member_at planned.now.opened.member contents.old.state.members) }
+    requires left { (memory_of contents.old.state).last_entry ≤ LAST_SEQUENCE }
+    requires uncommitted { planned.now.opened.commit ≡ false }
+    requires may { MayPut contents.old.state.files contents.old.state.members planned.now.opened.member planned.now.rrn planned.now.slot }
     ensures state { contents.new.state ≡ contents.old.state }
-    ensures place { OnOk result (HasPlaceRoom contents.new planned.now.opened.member planned.now.rrn) }
-    ensures entries { OnOk result (HasEntryRoom contents.new planned.now.opened.member) }
-    ensures again { IfOk result (λ again. IsSome (images_of planned.now.opened.member (memory_of contents.old.state)) → again ≡ planned.now.slot) }
+    ensures ready { IfOk result (λ again. IsReady contents.new planned.now again) }
 {
     reserve_place(contents, planned.opened.member(), planned.rrn)?;
     prepare_entries(contents, planned)
@@ -77,12 +77,7 @@ pub(crate) fn change_slot(
     again: Slot,
 )
     requires running { IsTrue (is_running (job_at job contents.old.state.jobs)) }
-    requires uncommitted { planned.opened.commit ≡ false }
-    requires left { (memory_of contents.old.state).last_entry ≤ LAST_SEQUENCE }
-    requires may { MayPut contents.old.state.files contents.old.state.members planned.opened.member planned.rrn planned.slot }
-    requires place { HasPlaceRoom contents.old planned.opened.member planned.rrn }
-    requires entries { HasEntryRoom contents.old planned.opened.member }
-    requires again { IsSome (images_of planned.opened.member (memory_of contents.old.state)) → again ≡ planned.slot }
+    requires ready { IsReady contents.old planned again }
     ensures { HasChanged job timestamp (new_slot planned) contents.old.state contents.new.state }
 {
     let author = Author::of(contents, job, timestamp);

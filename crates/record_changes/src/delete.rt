@@ -1,15 +1,14 @@
 //! DELETE.
-ghost use Rattle.std.specs.Prelude.{◌≡◌, ◌≤◌, false, Ok, IfOk, IsSome, IsTrue};
+ghost use Rattle.std.specs.Prelude.{◌≡◌, ◌≤◌, false, Ok, IfOk, IsTrue};
 ghost use Rattle.std.specs.List.{AllByRecursion};
 ghost use Rattle.library_steps.specs.declared.limits.TheConstants.{LAST_SEQUENCE};
 ghost use Rattle.library_steps.specs.State.{job_at, memory_of};
 ghost use Rattle.library_steps.specs.ChangeRecord.{delete_change, delete_plan, delete_record};
 ghost use Rattle.library_steps.specs.History.{is_running};
-ghost use Rattle.library_steps.specs.SlotChange.{images_of};
 ghost use Rattle.built_state.specs.Uncommitted.{IsUncommitted};
 ghost use Rattle.built_state.specs.Unkeyed.{AreUnkeyed};
 ghost use Rattle.library_parts.specs.Answers.{Answers};
-ghost use Rattle.record_changes.specs.Places.{HasEntryRoom, HasPlaceRoom, MayPut};
+ghost use Rattle.record_changes.specs.Places.{IsReady, MayPut};
 ghost use Rattle.record_changes.specs.Plans.{PlansSlot, new_slot};
 
 use crate::change_slot::{change_slot, prepare_change};
@@ -76,12 +75,7 @@ fn apply_delete(
     again: Slot,
 ) -> Reply
     requires running { IsTrue (is_running (job_at job contents.old.state.jobs)) }
-    requires left { (memory_of contents.old.state).last_entry ≤ LAST_SEQUENCE }
-    requires uncommitted { planned.opened.commit ≡ false }
-    requires may { MayPut contents.old.state.files contents.old.state.members planned.opened.member planned.rrn planned.slot }
-    requires place { HasPlaceRoom contents.old planned.opened.member planned.rrn }
-    requires entries { HasEntryRoom contents.old planned.opened.member }
-    requires again { IsSome (images_of planned.opened.member (memory_of contents.old.state)) → again ≡ planned.slot }
+    requires ready { IsReady contents.old planned again }
     ensures { Answers contents.old.state contents.new.state (Ok result) (Ok (delete_change (memory_of contents.old.state) job timestamp (new_slot planned))) }
 {
     let member = planned.opened.member();

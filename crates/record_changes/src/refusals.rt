@@ -1,5 +1,4 @@
 //! What refuses a change of a record, beside what the library refuses to all requests.
-ghost use Rattle.std.specs.Prelude.{◌≡◌, IsTrue};
 ghost use Rattle.member_slots.specs.declared.slot.Slot.TheVariants.{Deleted};
 ghost use Rattle.library_model.specs.declared.replies.Reply.TheVariants.{WrongOpen, NoCurrentRecord};
 ghost use Rattle.library_steps.specs.State.{memory_of};

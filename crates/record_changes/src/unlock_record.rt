@@ -1,5 +1,5 @@
 //! UNLOCK.
-ghost use Rattle.std.specs.Prelude.{◌≡◌, Ok, IsErrOf, IsTrue};
+ghost use Rattle.std.specs.Prelude.{Ok, IsErrOf, IsTrue};
 ghost use Rattle.library_steps.specs.State.{job_at, memory_of};
 ghost use Rattle.library_steps.specs.ChangeRecord.{unlock, unlock_change, unlock_plan};
 ghost use Rattle.library_steps.specs.History.{is_running};

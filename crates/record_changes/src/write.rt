@@ -1,17 +1,16 @@
 //! WRITE.
-ghost use Rattle.std.specs.Prelude.{◌≡◌, ◌≤◌, false, None, Ok, IfOk, IsSome, IsTrue};
+ghost use Rattle.std.specs.Prelude.{◌≡◌, ◌≤◌, false, None, Ok, IfOk, IsTrue};
 ghost use Rattle.std.specs.List.{AllByRecursion};
 ghost use Rattle.library_steps.specs.declared.limits.TheConstants.{LAST_SEQUENCE};
 ghost use Rattle.library_steps.specs.State.{job_at, memory_of};
 ghost use Rattle.library_steps.specs.History.{is_running};
 ghost use Rattle.library_steps.specs.Locking.{clashing};
-ghost use Rattle.library_steps.specs.SlotChange.{images_of};
 ghost use Rattle.library_steps.specs.WriteRecord.{next_place, place_asked, write_call, write_change, write_plan, write_record};
 ghost use Rattle.built_state.specs.Uncommitted.{IsUncommitted};
 ghost use Rattle.built_state.specs.Unkeyed.{AreUnkeyed};
 ghost use Rattle.library_parts.specs.Answers.{Answers, Gives};
 ghost use Rattle.library_parts.specs.Locks.{IsWrite};
-ghost use Rattle.record_changes.specs.Places.{HasEntryRoom, HasPlaceRoom, MayPut};
+ghost use Rattle.record_changes.specs.Places.{IsReady, MayPut};
 ghost use Rattle.record_changes.specs.Plans.{PlansSlot, new_slot};
 
 use crate::change_slot::{change_slot, prepare_change};
@@ -41,8 +40,8 @@ pub fn write_record(
 {
     let planned = plan_write(contents, job, args)?;
     let again = prepare_change(contents, &planned)?;
-    let call = write_call(args.record_number);
-    Ok(apply_write(contents, job, timestamp, call, planned, again))
+    let asked = args.record_number;
+    Ok(apply_write(contents, job, timestamp, asked, planned, again))
 }
 
 #[tactic(auto, unfolding(library_steps::specs::WriteRecord::write_plan))]
@@ -123,23 +122,17 @@ fn apply_write(
     contents: &mut Contents,
     job: u32,
     timestamp: u64,
-    call: Call,
+    asked: Option<u32>,
     planned: PlannedSlot,
     again: Slot,
 ) -> Reply
     requires running { IsTrue (is_running (job_at job contents.old.state.jobs)) }
-    requires call { IsWrite call }
-    requires left { (memory_of contents.old.state).last_entry ≤ LAST_SEQUENCE }
-    requires uncommitted { planned.opened.commit ≡ false }
-    requires unlocked { clashing call job planned.opened planned.rrn (memory_of contents.old.state) ≡ None }
-    requires may { MayPut contents.old.state.files contents.old.state.members planned.opened.member planned.rrn planned.slot }
-    requires place { HasPlaceRoom contents.old planned.opened.member planned.rrn }
-    requires entries { HasEntryRoom contents.old planned.opened.member }
-    requires again { IsSome (images_of planned.opened.member (memory_of contents.old.state)) → again ≡ planned.slot }
-    ensures { Answers contents.old.state contents.new.state (Ok result) (Ok (write_change (memory_of contents.old.state) job timestamp call (new_slot planned))) }
+    requires unlocked { clashing (write_call asked) job planned.opened planned.rrn (memory_of contents.old.state) ≡ None }
+    requires ready { IsReady contents.old planned again }
+    ensures { Answers contents.old.state contents.new.state (Ok result) (Ok (write_change (memory_of contents.old.state) job timestamp (write_call asked) (new_slot planned))) }
 {
     let rrn = planned.rrn;
-    free_locks(contents, call, job, &planned.opened, rrn);
+    free_locks(contents, write_call(asked), job, &planned.opened, rrn);
     change_slot(contents, job, timestamp, planned, again);
     Reply::Added { rrn }
 }

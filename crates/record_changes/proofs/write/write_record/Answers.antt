@@ -1,0 +1,16 @@
+use Rattle.std.proofs.Common.{refl}
+use Rattle.library_steps.specs.State.{memory_of}
+use Rattle.library_steps.specs.WriteRecord.{write_call, write_change, write_plan}
+use Rattle.record_changes.specs.Opens.{bare_slot}
+use Rattle.record_changes.specs.Plans.{new_slot}
+use Rattle.record_changes.proofs.AnswerLemmas.{Answers-planned}
+use Rattle.record_changes.proofs.write.write_record.Goals as goal
+
+pub returns : goal.returns
+returns c =
+    let old = c.args.contents.now.state in
+    let call = write_call c.args.args.now.record_number in
+    record {
+      answers = Answers-planned bare_slot (λ m. write_change m c.args.job c.args.timestamp call) (λ m new. refl) old c.prepare_change.new.contents.state c.apply_write.new.contents.state
+          c.apply_write.result (write_plan (memory_of old) c.args.job c.args.args.now) (new_slot c.in_ok-planned.planned) c.in_ok-planned.ensures.plan c.in_ok-again.ensures.state c.apply_write.ensures;
+    }
