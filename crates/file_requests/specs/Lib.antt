@@ -1,3 +1,4 @@
+pub mod Effects
 pub mod Sources
 pub mod Members
 pub mod Records

@@ -1,22 +1,17 @@
 //! CRTPF.
-ghost use Rattle.std.specs.Prelude.{◌≡◌, ◌≤◌, None, [], ◌∷◌, List, ℕ, true, IfOk, IsTrue, OnOk};
-ghost use Rattle.entry_codec.specs.declared.kinds.EntryKind.TheVariants.{FileCreated};
-ghost use Rattle.entry_codec.specs.declared.kinds.FileKind.TheVariants.{Physical};
+ghost use Rattle.std.specs.Prelude.{◌≡◌, ◌≤◌, None, [], ◌∷◌, IfOk, IsTrue, OnOk};
 ghost use Rattle.std.specs.Option.{is_some};
 ghost use Rattle.library_model.specs.Named.{named};
 ghost use Rattle.library_model.specs.declared.limits.TheConstants.{LAST_MEMBER};
-ghost use Rattle.library_model.specs.declared.replies.Reply.TheVariants.{Done};
 ghost use Rattle.library_steps.specs.declared.limits.TheConstants.{LAST_SEQUENCE};
 ghost use Rattle.library_steps.specs.State.{file_named, job_at, memory_of};
 ghost use Rattle.library_steps.specs.History.{is_running};
-ghost use Rattle.library_steps.specs.Change.{journaled};
 ghost use Rattle.library_steps.specs.CreatePhysicalFile.{create_physical_file, create_plan, formats_of, new_file, with_file};
-ghost use Rattle.library_steps.specs.Drafts.{author_of, member_draft};
 ghost use Rattle.library_parts.specs.Answers.{Allows, Answers, Gives};
 ghost use Rattle.library_parts.specs.Files.{IsNewFile};
 ghost use Rattle.library_parts.specs.Rooms.{HasFileRoom};
-ghost use Rattle.draft_list.specs.Deposits.{Leaves};
-ghost use Rattle.file_requests.specs.Sources.{file_allowed, file_of};
+ghost use Rattle.file_requests.specs.Effects.{Deposits};
+ghost use Rattle.file_requests.specs.Sources.{created_draft, file_allowed, file_of};
 
 use dds_physical::PhysicalError;
 use draft_list::{Author, may_deposit, with_room};
@@ -129,7 +124,7 @@ fn prepare_create(
     requires running { IsTrue (is_running (job_at job contents.old.state.jobs)) }
     ensures state { contents.new.state ≡ contents.old.state }
     ensures file { IfOk result (λ new. new.file ≡ new_file args.now.file contents.old.state.next_member described) }
-    ensures draft { IfOk result (λ new. new.draft ≡ member_draft (author_of (memory_of contents.old.state) job timestamp) contents.old.state.next_member (FileCreated Physical args.now.file described.source)) }
+    ensures draft { IfOk result (λ new. new.draft ≡ created_draft (memory_of contents.old.state) job timestamp args.now.file described.source) }
     ensures file_room { OnOk result (HasFileRoom contents.new.room) }
     ensures entry_room { OnOk result (1 ≤ contents.new.room.entries) }
 {
@@ -151,7 +146,7 @@ fn apply_create(contents: &mut Contents, args: &CreatePhysicalFile, new: NewFile
     requires file_room { HasFileRoom contents.old.room }
     requires entry_room { 1 ≤ contents.old.room.entries }
     requires left { (memory_of contents.old.state).last_entry ≤ LAST_SEQUENCE }
-    ensures { Leaves contents.old.state contents.new.state (journaled (new.draft ∷ []) true Done (with_file args.now.file new.file (memory_of contents.old.state))) }
+    ensures { Deposits contents.old.state contents.new.state (new.draft ∷ []) (with_file args.now.file new.file) }
 {
     let NewFile { file, draft } = new;
     contents.add_file(args.file, file);

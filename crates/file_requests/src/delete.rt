@@ -1,15 +1,13 @@
 //! DLTF.
-ghost use Rattle.std.specs.Prelude.{◌≡◌, ◌≤◌, Some, None, [], ◌∷◌, true, IfOk, IsSome, IsTrue, OnOk};
+ghost use Rattle.std.specs.Prelude.{◌≡◌, ◌≤◌, Some, None, [], ◌∷◌, IfOk, IsSome, IsTrue, OnOk};
 ghost use Rattle.library_model.specs.Named.{named};
-ghost use Rattle.library_model.specs.declared.replies.Reply.TheVariants.{Done};
 ghost use Rattle.library_steps.specs.declared.limits.TheConstants.{LAST_SEQUENCE};
 ghost use Rattle.library_steps.specs.State.{FileState, job_at, memory_of};
 ghost use Rattle.library_steps.specs.History.{is_running};
-ghost use Rattle.library_steps.specs.Change.{journaled};
 ghost use Rattle.library_steps.specs.DeleteFile.{delete_file, delete_plan, deleted};
 ghost use Rattle.library_steps.specs.Uses.{user_of_any};
 ghost use Rattle.library_parts.specs.Answers.{Answers, Shows};
-ghost use Rattle.draft_list.specs.Deposits.{Leaves};
+ghost use Rattle.file_requests.specs.Effects.{Deposits};
 
 use draft_list::{Author, may_deposit, with_room};
 use entry_codec::{Draft, EntryKind};
@@ -59,7 +57,7 @@ fn apply_delete(contents: &mut Contents, args: &DeleteFile, draft: Draft)
     requires unused { (file : FileState) → named args.now.file contents.old.state.files ≡ Some file → user_of_any file.members (memory_of contents.old.state) ≡ None }
     requires room { 1 ≤ contents.old.room.entries }
     requires left { (memory_of contents.old.state).last_entry ≤ LAST_SEQUENCE }
-    ensures { (file : FileState) → named args.now.file contents.old.state.files ≡ Some file → Leaves contents.old.state contents.new.state (journaled (draft ∷ []) true Done (deleted args.now file (memory_of contents.old.state))) }
+    ensures { (file : FileState) → named args.now.file contents.old.state.files ≡ Some file → Deposits contents.old.state contents.new.state (draft ∷ []) (deleted args.now file) }
 {
     let _file = contents.remove_file(args);
     let _sequence = contents.deposit(draft);

@@ -1,14 +1,13 @@
 //! STRJRNPF and ENDJRNPF.
-ghost use Rattle.std.specs.Prelude.{◌≡◌, ◌+◌, ◌≤◌, [], ◌∷◌, true, length, IfOk, IsTrue, OnOk};
+ghost use Rattle.std.specs.Prelude.{◌+◌, ◌≤◌, [], ◌∷◌, length, IsTrue, OnOk};
 ghost use Rattle.memory_journal.specs.declared.journal.TheConstants.{LAST_BEFORE_DEPOSIT};
-ghost use Rattle.library_model.specs.declared.replies.Reply.TheVariants.{Done};
 ghost use Rattle.library_steps.specs.declared.limits.TheConstants.{LAST_SEQUENCE};
-ghost use Rattle.library_steps.specs.State.{job_at, memory_of, with_status};
+ghost use Rattle.library_steps.specs.State.{job_at, memory_of};
 ghost use Rattle.library_steps.specs.History.{is_running};
-ghost use Rattle.library_steps.specs.Change.{journaled};
-ghost use Rattle.library_steps.specs.Journaling.{end_journaling, end_plan, journaled_from, no_longer_journaled, start_journaling, start_plan};
+ghost use Rattle.library_steps.specs.Journaling.{end_journaling, end_plan, start_journaling, start_plan};
 ghost use Rattle.library_parts.specs.Answers.{Answers, Gives};
-ghost use Rattle.draft_list.specs.Deposits.{Leaves};
+ghost use Rattle.file_requests.specs.Effects.{Deposits};
+ghost use Rattle.file_requests.specs.Records.{journaling_ended, journaling_started};
 
 use crate::member_commands::plan_member;
 use crate::records::{drafts_of_start, record_count};
@@ -53,7 +52,7 @@ fn plan_start(contents: &Contents, args: &StartJournaling) -> Result<MemberStatu
 fn apply_start(contents: &mut Contents, member: u32, images: Images, drafts: Vec<Draft>)
     requires room { length drafts.items ≤ contents.old.room.entries }
     requires left { (memory_of contents.old.state).last_entry + length drafts.items + 1 ≤ LAST_BEFORE_DEPOSIT }
-    ensures { Leaves contents.old.state contents.new.state (journaled drafts.items true Done (with_status member (journaled_from ((memory_of contents.old.state).last_entry + 1) images) (memory_of contents.old.state))) }
+    ensures { Deposits contents.old.state contents.new.state drafts.items (journaling_started member images) }
 {
     let (_, last) = contents.bounds();
     contents.start_journaling(member, last + 1, images);
@@ -100,7 +99,7 @@ fn plan_end(contents: &Contents, args: &FileMember) -> Result<MemberStatus, Stop
 fn apply_end(contents: &mut Contents, member: u32, records: u32, draft: Draft)
     requires room { 1 ≤ contents.old.room.entries }
     requires left { (memory_of contents.old.state).last_entry ≤ LAST_SEQUENCE }
-    ensures { Leaves contents.old.state contents.new.state (journaled (draft ∷ []) true Done (with_status member (no_longer_journaled ((memory_of contents.old.state).last_entry + 1) records) (memory_of contents.old.state))) }
+    ensures { Deposits contents.old.state contents.new.state (draft ∷ []) (journaling_ended member records) }
 {
     let (_, last) = contents.bounds();
     contents.end_journaling(member, last + 1, records);

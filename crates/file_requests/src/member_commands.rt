@@ -1,21 +1,21 @@
 //! ADDPFM, CLRPFM and RGZPFM.
-ghost use Rattle.std.specs.Prelude.{◌≡◌, ◌+◌, ◌≤◌, Some, [], ◌∷◌, true, length, IfOk, IsSome, IsTrue, OnOk};
+ghost use Rattle.std.specs.Prelude.{◌≡◌, ◌+◌, ◌≤◌, None, Some, [], ◌∷◌, length, IfOk, IsSome, IsTrue, OnOk};
 ghost use Rattle.std.specs.Option.{is_some};
 ghost use Rattle.memory_journal.specs.declared.journal.TheConstants.{LAST_BEFORE_DEPOSIT};
 ghost use Rattle.member_slots.specs.Members.{member_at};
 ghost use Rattle.library_model.specs.Named.{named};
-ghost use Rattle.library_model.specs.declared.replies.Reply.TheVariants.{Done};
 ghost use Rattle.library_steps.specs.declared.limits.TheConstants.{LAST_SEQUENCE};
-ghost use Rattle.library_steps.specs.State.{FileState, job_at, memory_of, with_status};
+ghost use Rattle.library_steps.specs.State.{FileState, job_at, memory_of};
 ghost use Rattle.library_steps.specs.History.{is_running};
-ghost use Rattle.library_steps.specs.Change.{does, journaled};
-ghost use Rattle.library_steps.specs.Drafts.{author_of, member_draft};
-ghost use Rattle.library_steps.specs.MemberCommands.{add_member, add_plan, clear_member, empty_plan, if_journaled, member_added, renumbered, renumbering, reorganize_member, with_slots};
+ghost use Rattle.library_steps.specs.Change.{does};
+ghost use Rattle.library_steps.specs.Drafts.{member_draft};
+ghost use Rattle.library_steps.specs.MemberCommands.{add_member, add_plan, clear_member, empty_plan, if_journaled, member_added, renumbering, reorganize_member, with_slots};
+ghost use Rattle.library_steps.specs.Uses.{user_of};
 ghost use Rattle.library_parts.specs.Answers.{Answers, Gives, Shows};
 ghost use Rattle.library_parts.specs.Files.{IsNewMember};
 ghost use Rattle.library_parts.specs.Rooms.{HasMemberRoom};
-ghost use Rattle.draft_list.specs.Deposits.{Leaves};
-ghost use Rattle.file_requests.specs.Members.{kind_of, slots_after};
+ghost use Rattle.file_requests.specs.Effects.{Deposits};
+ghost use Rattle.file_requests.specs.Members.{kind_of, renumbering_of, slots_after};
 
 use draft_list::{Author, deposit_all, may_deposit, reserve_all, with_room};
 use entry_codec::{Draft, EntryKind};
@@ -95,7 +95,7 @@ fn apply_add(contents: &mut Contents, args: &FileMember, draft: Draft)
     requires member_room { HasMemberRoom contents.old.room }
     requires entry_room { 1 ≤ contents.old.room.entries }
     requires left { (memory_of contents.old.state).last_entry ≤ LAST_SEQUENCE }
-    ensures { (file : FileState) → named args.now.file contents.old.state.files ≡ Some file → Leaves contents.old.state contents.new.state (journaled (draft ∷ []) true Done (member_added args.now file (memory_of contents.old.state))) }
+    ensures { (file : FileState) → named args.now.file contents.old.state.files ≡ Some file → Deposits contents.old.state contents.new.state (draft ∷ []) (member_added args.now file) }
 {
     contents.add_member(args);
     let _sequence = contents.deposit(draft);
@@ -155,6 +155,7 @@ pub(crate) fn plan_member(
 ) -> Result<MemberStatus, Stop>
     ensures plan { Gives result (empty_plan (memory_of contents.now.state) (record { file = file.now; member = member.now })) }
     ensures there { IfOk result (λ status. IsSome (member_at status.number contents.now.state.members)) }
+    ensures unused { IfOk result (λ status. user_of status.number (memory_of contents.now.state) ≡ None) }
     ensures left { OnOk result ((memory_of contents.now.state).last_entry ≤ LAST_SEQUENCE) }
 {
     may_deposit(contents)?;
@@ -195,9 +196,10 @@ fn kind_of(way: Renumbering) -> EntryKind
 
 fn apply_renumbering(contents: &mut Contents, member: u32, way: Renumbering, drafts: Vec<Draft>)
     requires there { IsSome (member_at member contents.old.state.members) }
+    requires unused { user_of member (memory_of contents.old.state) ≡ None }
     requires room { length drafts.items ≤ contents.old.room.entries }
     requires left { (memory_of contents.old.state).last_entry + length drafts.items + 1 ≤ LAST_BEFORE_DEPOSIT }
-    ensures { Leaves contents.old.state contents.new.state (journaled drafts.items true Done (with_status member (renumbered ((memory_of contents.old.state).last_entry + 1)) (with_slots member (slots_after way) (memory_of contents.old.state)))) }
+    ensures { Deposits contents.old.state contents.new.state drafts.items (renumbering_of way member) }
 {
     let (_, last) = contents.bounds();
     change_slots(contents, member, way);
@@ -206,7 +208,8 @@ fn apply_renumbering(contents: &mut Contents, member: u32, way: Renumbering, dra
 }
 
 fn change_slots(contents: &mut Contents, member: u32, way: Renumbering)
-    requires { IsSome (member_at member contents.old.state.members) }
+    requires there { IsSome (member_at member contents.old.state.members) }
+    requires unused { user_of member (memory_of contents.old.state) ≡ None }
     ensures memory { memory_of contents.new.state ≡ with_slots member (slots_after way) (memory_of contents.old.state) }
     ensures entries { contents.new.state.entries ≡ contents.old.state.entries }
     ensures room { contents.new.room.entries ≡ contents.old.room.entries }

@@ -1,12 +1,10 @@
 //! The records of a member: how many there are, and the entries that tell of them as journaling begins.
-ghost use Rattle.std.specs.Prelude.{◌≡◌, ◌+◌, ◌<◌, ◌≤◌, [], ◌∷◌, ◌++◌, length, IfOk, OnOk};
-ghost use Rattle.entry_codec.specs.declared.kinds.EntryKind.TheVariants.{JournalingStarted};
+ghost use Rattle.std.specs.Prelude.{◌≡◌, ◌+◌, ◌<◌, ◌≤◌, ◌++◌, length, IfOk, OnOk};
 ghost use Rattle.member_slots.specs.Member.{records};
 ghost use Rattle.member_slots.specs.Members.{member_of};
-ghost use Rattle.library_steps.specs.Drafts.{initial_drafts, member_draft};
 ghost use Rattle.library_steps.specs.Records.{live_record};
 ghost use Rattle.library_steps.specs.State.{memory_of};
-ghost use Rattle.file_requests.specs.Records.{count_at, drafts_at};
+ghost use Rattle.file_requests.specs.Records.{count_at, drafts_at, start_drafts};
 
 use draft_list::Author;
 use entry_codec::{Draft, EntryKind, Images};
@@ -51,7 +49,7 @@ pub(crate) fn drafts_of_start(
     images: Images,
     member: u32,
 ) -> Result<Vec<Draft>, AllocError>
-    ensures drafts { IfOk result (λ drafts. drafts.items ≡ member_draft author.now member (JournalingStarted images (length (member_of member contents.now.state.members).slots)) ∷ initial_drafts author.now member 1 (member_of member contents.now.state.members).slots) }
+    ensures drafts { IfOk result (λ drafts. drafts.items ≡ start_drafts author.now member images (member_of member contents.now.state.members).slots) }
     ensures few { IfOk result (λ drafts. length drafts.items ≤ 4294967295) }
 {
     let slots = slots_of(contents, member);

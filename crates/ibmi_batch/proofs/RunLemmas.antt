@@ -1,8 +1,8 @@
 -- What a run comes to: from a session that begins, and from words or an input that begin none.
 use Rattle.std.proofs.Common.{◌≡◌, ℕ, ◌≤◌, IsTrue, List, [], ◌++◌, length, map, ◌∙◌, ap, subst, arith}
 use Rattle.library_model.specs.declared.calls.Call.{Call}
-use Rattle.library_core.specs.State.{Memory, empty_library, begun, new_job}
-use Rattle.library_core.specs.History.{Standing}
+use Rattle.library_steps.specs.State.{State, empty_library, begun, new_job}
+use Rattle.library_steps.specs.History.{Standing}
 use Rattle.library_core.specs.Parts.{LibraryOver}
 use Rattle.library_core.specs.Stands.{Stands}
 use Rattle.input_scripts.specs.declared.Scripts.{Scripts}
@@ -19,7 +19,7 @@ use Rattle.ibmi_batch.specs.Outcome.{Reading, Writing, IsWholeRun, Listed, Nothi
 pub stands-begun : {S : Type 0} (old new : LibraryOver S) (names : List (List ℕ)) → Stands old empty_library → BeginsJobs old new names → Stands new (begun empty_library names)
 stands-begun old new names stands begins = record {
   alive = begins.failed ∙ stands.alive;
-  memory = begins.memory ∙ ap (λ (m : Memory). record m { jobs = m.jobs ++ map new_job names }) stands.memory;
+  state = begins.state ∙ ap (λ (s : State). record s { jobs = s.jobs ++ map new_job names }) stands.state;
 }
 
 -- all the calls of a session that began with none

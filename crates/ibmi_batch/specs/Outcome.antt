@@ -2,8 +2,8 @@
 -- Sources and sinks may tell what they have left and taken; what the jobs did is said whether they tell it or not.
 use Rattle.std.specs.Prelude.{◌≡◌, ℕ, ◌<◌, ◌≤◌, Bool, true, false, IsTrue, Some, List, [], ◌++◌, length, take}
 use Rattle.text_lines.specs.Lines.{lines_of}
-use Rattle.library_core.specs.State.{State, empty_library, begun}
-use Rattle.library_core.specs.History.{Outcome, Standing, Runs}
+use Rattle.library_steps.specs.State.{State, empty_library, begun}
+use Rattle.library_steps.specs.History.{Outcome, Standing, Runs}
 use Rattle.library_model.specs.declared.calls.Call.{Call}
 use Rattle.input_scripts.specs.declared.Scripts.{Scripts}
 use Rattle.script_builder.specs.Least.{least}

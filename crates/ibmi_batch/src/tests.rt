@@ -346,7 +346,7 @@ const LINES: [&str; 9] = [
 ];
 
 /// A line of the first input, what stands there in its place, and the line at fault.
-const FAULTS: [(usize, &str, u32); 29] = [
+const FAULTS: [(usize, &str, u32); 30] = [
     (1, "", 1),
     (1, "//DDS", 1),
     (1, "//DDSCUST", 1),
@@ -371,15 +371,16 @@ const FAULTS: [(usize, &str, u32); 29] = [
     (8, "CHAIN OPNID(CUST) RRN() LCK(*NO)", 8),
     (8, "CHAIN OPNID(CUST) RRN(-1) LCK(*NO)", 8),
     (8, "CHAIN OPNID(CUST) RRN(4294967296) LCK(*NO)", 8),
-    (8, "CHAIN OPNID(CUST) RRN(1) LCK(*DFT)", 8),
-    (8, "UPDATE OPNID(CUST) VAL('A')", 8),
+    (8, "CRTLF FILE(VIEW) SRC(CUST)", 8),
+    (8, "CHKPT", 8),
+    (8, "STRCMTCTL LCKLVL(*CHG)", 8),
     (9, "//END ", 9),
     (9, "//end", 9),
     (9, "//END\n", 10),
 ];
 
 /// A line of the first input, and what may stand there in its place without a fault.
-const VARIANTS: [(usize, &str, u32); 9] = [
+const VARIANTS: [(usize, &str, u32); 11] = [
     (1, "//DDS \t CUST \t", 0),
     (4, "//JOB\t@J_.9", 0),
     (5, "", 0),
@@ -389,6 +390,8 @@ const VARIANTS: [(usize, &str, u32); 9] = [
     (7, "WRITE OPNID(CUST) VAL('ABCDEF')", 0),
     (7, "WRITE  OPNID(CUST)  VAL( X'00fFA1b2C3' )", 0),
     (8, "CHAIN OPNID(CUST) RRN(4294967295) LCK(*NO)", 0),
+    (8, "CHAIN OPNID(CUST) RRN(1) LCK(*DFT)", 0),
+    (8, "UPDATE OPNID(CUST) VAL('A')", 0),
 ];
 
 /// The text of each status.

@@ -53,7 +53,7 @@ as_many (part ∷ parts) = counted (job_name part.card) (as_many parts)
     counted None others = others
     counted (Some name) others = omega arith
 
-noted-none : (b : Bool) (line : ℕ) (later : List ℕ) → noted b line later ≡ [] → (b ≡ false) × (later ≡ [])
+pub noted-none : (b : Bool) (line : ℕ) (later : List ℕ) → noted b line later ≡ [] → (b ≡ false) × (later ≡ [])
 noted-none true line later is = absurd cc
 noted-none false line later is = (refl, is)
 

@@ -1,3 +1,4 @@
 mod InputLemmas
 mod JobLemmas
 mod LeastLemmas
+mod UnkeyedLemmas

@@ -1,5 +1,5 @@
 -- Which sources describe a file with a key, which can't be made yet. (DDS for Physical and Logical Files, key field level.)
-use Rattle.std.specs.Prelude.{ℕ, Bool, true, false, ◌&&◌, Option, List, [], ◌∷◌, Result, Ok, Err}
+use Rattle.std.specs.Prelude.{ℕ, Bool, true, false, ◌&&◌, List, [], ◌∷◌, Result, Ok, Err}
 use Rattle.std.specs.List.{list_any}
 use Rattle.std.specs.Option.{is_some}
 use Rattle.text_lines.specs.Lines.{text_of_lines}

@@ -2,21 +2,15 @@
 use Rattle.std.proofs.Common.{◌≡◌, ℕ, zero, suc, Bool, true, false, not, Option, Some, None, List, [], ◌∷◌, slice_get, refl}
 use Rattle.std.specs.Prelude.{IfSome, option_map}
 use Rattle.std.specs.List.{list_all}
-use Rattle.std.specs.Option.{is_none}
 use Rattle.std.proofs.lemmas.Bool.{and_parts}
 use Rattle.field_types.specs.declared.values.Value.{Value}
 use Rattle.library_model.specs.declared.requests.Request.{Request}
 use Rattle.library_model.specs.declared.requests.Request.TheVariants as request
-use Rattle.library_model.specs.declared.requests.ChainTo.{ChainTo}
 use Rattle.library_model.specs.declared.replies.Reply.{Reply}
-use Rattle.built_requests.specs.Built.{is_built, locks_nothing}
+use Rattle.built_requests.specs.Built.{is_built}
 use Rattle.library_model.specs.Ending.{is_end_job}
 use Rattle.job_language.specs.Asks.{asks, asks_at, asks_form, asks_action, asks_statement, progress_of}
-use Rattle.job_language.specs.Requests.{request_of, chain_to_of, place_of, given_of}
-use Rattle.job_language.specs.Values.{both}
-use Rattle.job_language.specs.declared.operands.NumberOperand.{NumberOperand}
-use Rattle.job_language.specs.declared.forms.ChainForm.{ChainForm}
-use Rattle.job_language.specs.declared.forms.WriteForm.{WriteForm}
+use Rattle.job_language.specs.Requests.{request_of, record_number, sequence_of, display_of, changes_of, position_of, read_equal_of, chain_of, write_of, update_of}
 use Rattle.job_language.specs.declared.forms.RequestForm.{RequestForm}
 use Rattle.job_language.specs.declared.forms.RequestForm.TheVariants.{Fixed, DeleteReceiver, DisplayJournal, ApplyChanges, RemoveChanges, SetLowerLimit, SetGreaterThan, ReadEqual, ReadPriorEqual, Chain, Write, Update}
 use Rattle.job_language.specs.declared.progress.Stage.{Stage}
@@ -31,28 +25,24 @@ use Rattle.input_scripts.specs.Askable.{is_askable_form, is_askable, is_askable_
 abbrev Open : Request → Type 0
 Open request = (is_built request ≡ true) × (not (is_end_job request) ≡ true)
 
-chain-open : (form : ChainForm) → locks_nothing form.lock ≡ true → (to : Option ChainTo) → IfSome (option_map request.Chain (option_map (λ to. record { open_id = form.open_id; to = to; lock = form.lock }) to)) Open
-chain-open form free None = tt
-chain-open form free (Some to) = (free, refl)
-
-write-open : (form : WriteForm) (values : List Value) (number : Option NumberOperand) (given : Option (List (Option Value))) → is_none number ≡ true → IfSome (option_map request.Write (both (λ rrn given. Some (record { open_id = form.open_id; format = form.format; record_number = rrn; values = given })) (place_of values number) given)) Open
-write-open form values None None end = tt
-write-open form values None (Some given) end = (refl, refl)
-write-open form values (Some number) given end = absurd (let some : false ≡ true = end in cc)
+-- whatever the request is made of, where something is missing none is made
+made-open : {A : Type 0} (make : A → Request) → ((args : A) → Open (make args)) → (args : Option A) → IfSome (option_map make args) Open
+made-open make opens None = tt
+made-open make opens (Some args) = opens args
 
 form-open : (values : List Value) (form : RequestForm) → is_askable_form form ≡ true → IfSome (request_of values form) Open
 form-open values (Fixed asked) h = and_parts (is_built asked) (not (is_end_job asked)) h
-form-open values (Chain form) h = chain-open form h (chain_to_of values form.to)
-form-open values (Write form) h = write-open form values form.record_number (given_of values form.values) h
-form-open values (DeleteReceiver operand) h = absurd (let some : false ≡ true = h in cc)
-form-open values (DisplayJournal from to) h = absurd (let some : false ≡ true = h in cc)
-form-open values (ApplyChanges form) h = absurd (let some : false ≡ true = h in cc)
-form-open values (RemoveChanges form) h = absurd (let some : false ≡ true = h in cc)
-form-open values (SetLowerLimit form) h = absurd (let some : false ≡ true = h in cc)
-form-open values (SetGreaterThan form) h = absurd (let some : false ≡ true = h in cc)
-form-open values (ReadEqual form) h = absurd (let some : false ≡ true = h in cc)
-form-open values (ReadPriorEqual form) h = absurd (let some : false ≡ true = h in cc)
-form-open values (Update form) h = absurd (let some : false ≡ true = h in cc)
+form-open values (DeleteReceiver operand) h = made-open (λ number. request.DeleteReceiver (record { number = number })) (λ number. (refl, refl)) (record_number values operand)
+form-open values (DisplayJournal from to) h = made-open request.DisplayJournal (λ args. (refl, refl)) (display_of (sequence_of values from) (sequence_of values to))
+form-open values (ApplyChanges form) h = made-open request.ApplyChanges (λ args. (refl, refl)) (changes_of values form)
+form-open values (RemoveChanges form) h = made-open request.RemoveChanges (λ args. (refl, refl)) (changes_of values form)
+form-open values (SetLowerLimit form) h = made-open request.SetLowerLimit (λ args. (refl, refl)) (position_of values form)
+form-open values (SetGreaterThan form) h = made-open request.SetGreaterThan (λ args. (refl, refl)) (position_of values form)
+form-open values (ReadEqual form) h = made-open request.ReadEqual (λ args. (refl, refl)) (read_equal_of values form)
+form-open values (ReadPriorEqual form) h = made-open request.ReadPriorEqual (λ args. (refl, refl)) (read_equal_of values form)
+form-open values (Chain form) h = made-open request.Chain (λ args. (refl, refl)) (chain_of values form)
+form-open values (Write form) h = made-open request.Write (λ args. (refl, refl)) (write_of values form)
+form-open values (Update form) h = made-open request.Update (λ args. (refl, refl)) (update_of values form)
 
 -- the statement at a place is one of them
 there : (statements : List Statement) (place : ℕ) → list_all (λ statement. is_askable statement.action) statements ≡ true → IfSome (slice_get statements place) (λ statement. is_askable statement.action ≡ true)

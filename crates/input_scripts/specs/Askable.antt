@@ -1,11 +1,10 @@
 -- Which statements a job may run so far: those whose request the library answers, whatever its variables hold. (Our own.)
-use Rattle.std.specs.Prelude.{ℕ, Bool, true, false, not, ◌&&◌, Option, Some, None, List, IsTrue, IfSome, slice_get}
+use Rattle.std.specs.Prelude.{ℕ, Bool, true, not, ◌&&◌, Option, Some, None, List, IsTrue, IfSome, slice_get}
 use Rattle.std.specs.List.{list_all}
-use Rattle.std.specs.Option.{is_none}
 use Rattle.field_types.specs.declared.values.Value.{Value}
 use Rattle.library_model.specs.declared.requests.Request.{Request}
 use Rattle.library_model.specs.declared.replies.Reply.{Reply}
-use Rattle.built_requests.specs.Built.{is_built, locks_nothing}
+use Rattle.built_requests.specs.Built.{is_built}
 use Rattle.library_model.specs.Ending.{is_end_job}
 use Rattle.job_language.specs.declared.forms.RequestForm.{RequestForm}
 use Rattle.job_language.specs.declared.forms.RequestForm.TheVariants.{Fixed, DeleteReceiver, DisplayJournal, ApplyChanges, RemoveChanges, SetLowerLimit, SetGreaterThan, ReadEqual, ReadPriorEqual, Chain, Write, Update}
@@ -19,17 +18,17 @@ use Rattle.job_language.specs.Asks.{asks}
 -- the library answers it, and it isn't the end of the job, which a job asks for by itself
 abbrev pub is_askable_form : RequestForm → Bool
 is_askable_form (Fixed request) = is_built request && not (is_end_job request)
-is_askable_form (Chain form) = locks_nothing form.lock
-is_askable_form (Write form) = is_none form.record_number
-is_askable_form (DeleteReceiver operand) = false
-is_askable_form (DisplayJournal from to) = false
-is_askable_form (ApplyChanges form) = false
-is_askable_form (RemoveChanges form) = false
-is_askable_form (SetLowerLimit form) = false
-is_askable_form (SetGreaterThan form) = false
-is_askable_form (ReadEqual form) = false
-is_askable_form (ReadPriorEqual form) = false
-is_askable_form (Update form) = false
+is_askable_form (DeleteReceiver operand) = true
+is_askable_form (DisplayJournal from to) = true
+is_askable_form (ApplyChanges form) = true
+is_askable_form (RemoveChanges form) = true
+is_askable_form (SetLowerLimit form) = true
+is_askable_form (SetGreaterThan form) = true
+is_askable_form (ReadEqual form) = true
+is_askable_form (ReadPriorEqual form) = true
+is_askable_form (Chain form) = true
+is_askable_form (Write form) = true
+is_askable_form (Update form) = true
 
 -- a statement that asks nothing may be run in any case
 abbrev pub is_askable : Action → Bool

@@ -7,7 +7,7 @@ use Rattle.std.proofs.lemmas.Bool.Decides.{nat_tests}
 use Rattle.library_model.specs.declared.calls.Call.{Call}
 use Rattle.library_model.specs.declared.sources.NamedSource.{NamedSource}
 use Rattle.library_model.specs.Ending.{is_end_job}
-use Rattle.library_core.specs.History.{Outcome, Standing, Failed, Runs}
+use Rattle.library_steps.specs.History.{Outcome, Standing, Failed, Runs}
 use Rattle.job_language.specs.declared.statements.Script.{Script}
 use Rattle.job_runner.specs.Ended.{calls_of, ends_once}
 use Rattle.job_runner.specs.Asked.{AreAsked, script_of, no_script}

@@ -2,9 +2,8 @@
 use Rattle.std.proofs.Common.{◌≡◌, ◌≤◌, ℕ, ◌+◌, false, IsTrue, List, [], ◌∷◌, ◌++◌, refl, sym, ◌∙◌, ap, subst, arith, append_assoc, append-nil}
 use Rattle.std.specs.List.{AllByRecursion}
 use Rattle.library_model.specs.declared.calls.Call.{Call}
-use Rattle.library_core.specs.State.{Memory, State, job_at}
-use Rattle.library_core.specs.Running.{is_running}
-use Rattle.library_core.specs.History.{Outcome, Standing, Failed, Runs}
+use Rattle.library_steps.specs.State.{State, job_at}
+use Rattle.library_steps.specs.History.{is_running, Outcome, Standing, Failed, Runs}
 use Rattle.library_core.specs.Stands.{Stands, IsAt, Goes}
 use Rattle.input_scripts.specs.declared.Scripts.{Scripts}
 use Rattle.job_runner.specs.Asked.{asked, AreAsked}
@@ -76,7 +75,7 @@ next-more gives first mid later jobs front back =
     (front.0 ++ back.0, HasMade-more gives first mid later front.0 back.0 front.1 back.1, AreInOrder-append jobs front.0 back.0 front.2 front.3 back.2, all-append (λ (call : Call). call.job ≤ jobs + 1) front.0 back.0 early late)
 
 -- one call, from what the library's own call says of it
-pub HasMade-called : {S C : Type 0} (gives : C → ℕ → C → Type 0) (first later : SessionOver S C) (made : Call) → first.library.failed ≡ false → IsTrue (is_running (job_at made.job first.library.memory.jobs)) → ((s : State) → Stands first.library s → Goes first.scripts.sources later.library s made) → later.calls ≡ first.calls ++ made ∷ [] → made.request ≡ asked first.scripts.scripts made.job first.calls → gives first.clock made.timestamp later.clock → later.scripts ≡ first.scripts → later.library.store ≡ first.library.store → later.library.failed ≡ false → HasMade gives first later (made ∷ [])
+pub HasMade-called : {S C : Type 0} (gives : C → ℕ → C → Type 0) (first later : SessionOver S C) (made : Call) → first.library.failed ≡ false → IsTrue (is_running (job_at made.job first.library.state.jobs)) → ((s : State) → Stands first.library s → Goes first.scripts.sources later.library s made) → later.calls ≡ first.calls ++ made ∷ [] → made.request ≡ asked first.scripts.scripts made.job first.calls → gives first.clock made.timestamp later.clock → later.scripts ≡ first.scripts → later.library.store ≡ first.library.store → later.library.failed ≡ false → HasMade gives first later (made ∷ [])
 HasMade-called gives first later made alive running goes calls asks_it given scripts store alive_still = record {
   calls = calls;
   legal = led;
@@ -90,6 +89,6 @@ HasMade-called gives first later made alive running goes calls asks_it given scr
     led : (from : Outcome) → IsAt first.library from → (to : Outcome) × Runs first.scripts.sources from (made ∷ []) to × IsAt later.library to
     led (Standing s) stands =
         let done = goes s stands in
-        let runs : IsTrue (is_running (job_at made.job s.jobs)) = subst (λ (m : Memory). IsTrue (is_running (job_at made.job m.jobs))) stands.memory running in
+        let runs : IsTrue (is_running (job_at made.job s.jobs)) = subst (λ (t : State). IsTrue (is_running (job_at made.job t.jobs))) stands.state running in
         (done.outcome, (runs, done.outcome, done.comes, refl), done.at)
-    led (Failed journal) failed = absurd (let e = alive in let f = failed in cc)
+    led (Failed entries) failed = absurd (let e = alive in let f = failed in cc)

@@ -10,10 +10,13 @@ use Rattle.library_model.specs.declared.calls.Call.{Call}
 use Rattle.library_model.specs.declared.requests.Request.{Request}
 use Rattle.library_model.specs.declared.replies.Reply.{Reply}
 use Rattle.library_model.specs.declared.limits.TheConstants.{MOST_JOBS}
-use Rattle.library_core.specs.State.{Memory, JobState, job_at, new_job}
+use Rattle.library_steps.specs.State.{State, JobState, job_at, new_job}
+use Rattle.library_steps.specs.History.{is_running}
 use Rattle.library_model.specs.Ending.{is_end_job}
-use Rattle.library_core.specs.Running.{is_running, runs_after}
-use Rattle.library_core.specs.Joint.{IsJoint, IsIdle}
+use Rattle.library_core.specs.Running.{runs_after}
+use Rattle.built_state.specs.Built.{IsBuilt}
+use Rattle.built_state.specs.Uncommitted.{IsUncommitted}
+use Rattle.built_state.specs.Unkeyed.{AreUnkeyed, AreUnkeyedSources}
 use Rattle.input_scripts.specs.declared.Scripts.{Scripts}
 use Rattle.input_scripts.specs.Askable.{is_askable_script}
 use Rattle.job_language.specs.declared.statements.Script.{Script}
@@ -99,7 +102,7 @@ runs_after-other : (job : ℕ) (r : Request) (jobs : List JobState) (other : ℕ
 runs_after-other job r jobs other apart = grind (arith, nat_tests, common_steps)
 
 -- a session, a job of it that has not ended, and what a call of that job has made of both
-pub record Called (scripts : Scripts) (old new : Memory) (calls : List Call) (room : ℕ) (kept : List Place) (job : ℕ) (progress : ScriptState) (place : Place) (call : Call) : Type 0 where
+pub record Called (scripts : Scripts) (old new : State) (calls : List Call) (room : ℕ) (kept : List Place) (job : ℕ) (progress : ScriptState) (place : Place) (call : Call) : Type 0 where
   pub is : IsSession scripts old calls room kept
   pub from : 1 ≤ job
   pub here : slice_get kept (job - 1) ≡ Some place
@@ -109,18 +112,18 @@ pub record Called (scripts : Scripts) (old new : Memory) (calls : List Call) (ro
   pub after : (other : ℕ) → is_running (job_at other new.jobs) ≡ runs_after job call.request old.jobs other
 
 -- the place of a job, by its number
-pub place-is : (scripts : Scripts) (memory : Memory) (calls : List Call) (room : ℕ) (kept : List Place) (job : ℕ) (place : Place) → IsSession scripts memory calls room kept → 1 ≤ job → slice_get kept (job - 1) ≡ Some place → IsPlace scripts.scripts memory.jobs calls job place
-place-is scripts memory calls room kept job place is from here =
+pub place-is : (scripts : Scripts) (state : State) (calls : List Call) (room : ℕ) (kept : List Place) (job : ℕ) (place : Place) → IsSession scripts state calls room kept → 1 ≤ job → slice_get kept (job - 1) ≡ Some place → IsPlace scripts.scripts state.jobs calls job place
+place-is scripts state calls room kept job place is from here =
     let number : job - 1 + 1 ≡ job = omega arith in
-    subst (λ n. IsPlace scripts.scripts memory.jobs calls n place) number (is.places (job - 1) place here)
+    subst (λ n. IsPlace scripts.scripts state.jobs calls n place) number (is.places (job - 1) place here)
 
 -- a job that hasn't ended runs in the library
-pub runs-still : (scripts : Scripts) (memory : Memory) (calls : List Call) (room : ℕ) (kept : List Place) (job : ℕ) (place : Place) → IsSession scripts memory calls room kept → 1 ≤ job → slice_get kept (job - 1) ≡ Some place → place.ended ≡ false → IsTrue (is_running (job_at job memory.jobs))
-runs-still scripts memory calls room kept job place is from here runs =
-    let before = place-is scripts memory calls room kept job place is from here in
+pub runs-still : (scripts : Scripts) (state : State) (calls : List Call) (room : ℕ) (kept : List Place) (job : ℕ) (place : Place) → IsSession scripts state calls room kept → 1 ≤ job → slice_get kept (job - 1) ≡ Some place → place.ended ≡ false → IsTrue (is_running (job_at job state.jobs))
+runs-still scripts state calls room kept job place is from here runs =
+    let before = place-is scripts state calls room kept job place is from here in
     rw (before.running, runs) refl
 
-module _ (scripts : Scripts) (old new : Memory) (calls : List Call) (room : ℕ) (kept : List Place) (job : ℕ) (progress : ScriptState) (place : Place) (call : Call) (called : Called scripts old new calls room kept job progress place call) where
+module _ (scripts : Scripts) (old new : State) (calls : List Call) (room : ℕ) (kept : List Place) (job : ℕ) (progress : ScriptState) (place : Place) (call : Call) (called : Called scripts old new calls room kept job progress place call) where
   kept-own : (at : ℕ) (found : Place) → at ≡ job - 1 → slice_get (slice_set kept (job - 1) (place_after progress calls call)) at ≡ Some found → IsPlace scripts.scripts new.jobs (calls ++ call ∷ []) (at + 1) found
   kept-own at found own there =
       let before = place-is scripts old calls room kept job place called.is called.from called.here in
@@ -146,9 +149,10 @@ module _ (scripts : Scripts) (old new : Memory) (calls : List Call) (room : ℕ)
       ] refl
 
   -- the session with one call more, and one place of the room used
-  IsSession-called : (left : ℕ) → IsJoint new → unended kept ≤ left + (if is_end_job call.request then 1 else 0) → IsSession scripts new (calls ++ call ∷ []) left (slice_set kept (job - 1) (place_after progress calls call))
-  IsSession-called left joint fits = record {
-    joint = joint;
+  IsSession-called : (left : ℕ) → IsBuilt new → unended kept ≤ left + (if is_end_job call.request then 1 else 0) → IsSession scripts new (calls ++ call ∷ []) left (slice_set kept (job - 1) (place_after progress calls call))
+  IsSession-called left built fits = record {
+    built = built;
+    unkeyed = called.is.unkeyed;
     askable = called.is.askable;
     jobs = length-slice_set kept (job - 1) (place_after progress calls call) ∙ called.is.jobs;
     few = called.is.few;
@@ -160,9 +164,9 @@ module _ (scripts : Scripts) (old new : Memory) (calls : List Call) (room : ℕ)
       enough = omega (arith, fits, unended-set kept (job - 1) place (place_after progress calls call) called.here called.runs)
 
 -- the same with the parts of the next place as the code has them
-pub IsSession-next : (scripts : Scripts) (old new : Memory) (calls later : List Call) (room left : ℕ) (kept : List Place) (job : ℕ) (progress : ScriptState) (place : Place) (call : Call) (at : ℕ) (ended : Bool) → Called scripts old new calls room kept job progress place call → IsJoint new → later ≡ calls ++ call ∷ [] → at ≡ length calls → ended ≡ is_end_job call.request → unended kept ≤ left + (if is_end_job call.request then 1 else 0) → IsSession scripts new later left (slice_set kept (job - 1) (record { progress = progress; waiting = Some at; ended = ended }))
-IsSession-next scripts old new calls later room left kept job progress place call at ended called joint more stands ends fits =
-    rw (more, stands, ends) (IsSession-called scripts old new calls room kept job progress place call called left joint fits)
+pub IsSession-next : (scripts : Scripts) (old new : State) (calls later : List Call) (room left : ℕ) (kept : List Place) (job : ℕ) (progress : ScriptState) (place : Place) (call : Call) (at : ℕ) (ended : Bool) → Called scripts old new calls room kept job progress place call → IsBuilt new → later ≡ calls ++ call ∷ [] → at ≡ length calls → ended ≡ is_end_job call.request → unended kept ≤ left + (if is_end_job call.request then 1 else 0) → IsSession scripts new later left (slice_set kept (job - 1) (record { progress = progress; waiting = Some at; ended = ended }))
+IsSession-next scripts old new calls later room left kept job progress place call at ended called built more stands ends fits =
+    rw (more, stands, ends) (IsSession-called scripts old new calls room kept job progress place call called left built fits)
 
 -- what holds where a call succeeds, of one that has
 pub on_is_ok : {A E P : Type 0} (r : Result A E) → is_ok r ≡ true → OnOk r P → P
@@ -180,8 +184,8 @@ fits-end true before room left many kept more used spare few = omega (arith, kep
 fits-end false before room left many kept more used spare few = let enough = spare refl in omega (arith, enough, used, few)
 
 -- the place of a job that a session has
-pub place-here : (scripts : Scripts) (memory : Memory) (calls : List Call) (room : ℕ) (kept : List Place) (job : ℕ) (place : Place) → IsSession scripts memory calls room kept → (1 ≤ job) × (job ≤ length scripts.scripts) → place ≡ get_or kept (job - 1) place → slice_get kept (job - 1) ≡ Some place
-place-here scripts memory calls room kept job place is within at =
+pub place-here : (scripts : Scripts) (state : State) (calls : List Call) (room : ℕ) (kept : List Place) (job : ℕ) (place : Place) → IsSession scripts state calls room kept → (1 ≤ job) × (job ≤ length scripts.scripts) → place ≡ get_or kept (job - 1) place → slice_get kept (job - 1) ≡ Some place
+place-here scripts state calls room kept job place is within at =
     let inside : job - 1 < length kept = omega (arith, is.jobs, within) in
     slice_get-get_or kept (job - 1) place inside ∙ ap (λ (p : Place). Some p) (sym at)
 
@@ -189,10 +193,11 @@ place-here scripts memory calls room kept job place is within at =
 IsPlace-still : (scripts : List Script) (jobs : List JobState) (calls : List Call) (job : ℕ) (place next : Place) → IsPlace scripts jobs calls job place → next.ended ≡ place.ended → GoesOn (script_of scripts job) calls (calls_of job calls) next → IsPlace scripts jobs calls job next
 IsPlace-still scripts jobs calls job place next is same on = record { ended = same ∙ is.ended; running = rw same is.running; goes_on = λ open_ended. on }
 
-pub IsSession-same : (scripts : Scripts) (memory : Memory) (calls later : List Call) (room more : ℕ) (kept : List Place) (job : ℕ) (place next : Place) → IsSession scripts memory calls room kept → 1 ≤ job → slice_get kept (job - 1) ≡ Some place → later ≡ calls → room ≤ more → place.ended ≡ false → next.ended ≡ place.ended → GoesOn (script_of scripts.scripts job) calls (calls_of job calls) next → IsSession scripts memory later more (slice_set kept (job - 1) next)
-IsSession-same scripts memory calls later room more kept job place next is from here same enough runs still on =
+pub IsSession-same : (scripts : Scripts) (state : State) (calls later : List Call) (room more : ℕ) (kept : List Place) (job : ℕ) (place next : Place) → IsSession scripts state calls room kept → 1 ≤ job → slice_get kept (job - 1) ≡ Some place → later ≡ calls → room ≤ more → place.ended ≡ false → next.ended ≡ place.ended → GoesOn (script_of scripts.scripts job) calls (calls_of job calls) next → IsSession scripts state later more (slice_set kept (job - 1) next)
+IsSession-same scripts state calls later room more kept job place next is from here same enough runs still on =
     rw same (record {
-      joint = is.joint;
+      built = is.built;
+      unkeyed = is.unkeyed;
       askable = is.askable;
       jobs = length-slice_set kept (job - 1) next ∙ is.jobs;
       few = is.few;
@@ -203,12 +208,12 @@ IsSession-same scripts memory calls later room more kept job place next is from 
     few : unended (slice_set kept (job - 1) next) ≤ more
     few = let set = unended-set kept (job - 1) place next here runs in omega (arith, set, is.enough, enough)
 
-    by-place : (at : ℕ) (found : Place) → slice_get (slice_set kept (job - 1) next) at ≡ Some found → (own : Bool) → (at == (job - 1)) ≡ own → IsPlace scripts.scripts memory.jobs calls (at + 1) found
+    by-place : (at : ℕ) (found : Place) → slice_get (slice_set kept (job - 1) next) at ≡ Some found → (own : Bool) → (at == (job - 1)) ≡ own → IsPlace scripts.scripts state.jobs calls (at + 1) found
     by-place at found there true own =
         let here_at : at ≡ job - 1 = grind (arith, nat_tests) in
         let it = slice_get-slice_set_same kept (job - 1) place next found here (rw here_at at there) in
         let at_job : at + 1 ≡ job = omega (arith, here_at, from) in
-        rw (it, at_job) (IsPlace-still scripts.scripts memory.jobs calls job place next (place-is scripts memory calls room kept job place is from here) still on)
+        rw (it, at_job) (IsPlace-still scripts.scripts state.jobs calls job place next (place-is scripts state calls room kept job place is from here) still on)
     by-place at found there false other =
         let apart : at ≢ job - 1 = grind (arith, nat_tests) in
         is.places at found (sym (slice_get-slice_set_other kept (job - 1) at next apart) ∙ there)
@@ -265,20 +270,21 @@ first-place-is scripts jobs at place script begun named there within fresh = rw 
   goes_on = λ e. record { no_end = search rules; reply = None; waits = refl; stands = rw (script-at scripts.scripts at script there) (IsProgress-first script) };
 })
 
-idle-new : (names : List (List ℕ)) → AllByRecursion IsIdle (map new_job names)
-idle-new [] = tt
-idle-new (name ∷ names) = (λ e. refl, idle-new names)
+uncommitted-new : (names : List (List ℕ)) → AllByRecursion IsUncommitted (map new_job names)
+uncommitted-new [] = tt
+uncommitted-new (name ∷ names) = (record { level = refl; cycle = refl; opens = tt }, uncommitted-new names)
 
-pub IsSession-first : (scripts : Scripts) (memory : Memory) (room : ℕ) (kept : List Place) → memory.jobs ≡ map new_job scripts.names → IsTrue (list_all is_askable_script scripts.scripts) → length scripts.names ≡ length scripts.scripts → length scripts.scripts ≤ MOST_JOBS → MOST_JOBS ≤ room → kept ≡ map first_place scripts.scripts → IsSession scripts memory [] room kept
-IsSession-first scripts memory room kept begun askable named few enough fresh =
+pub IsSession-first : (scripts : Scripts) (state : State) (room : ℕ) (kept : List Place) → AreUnkeyed state.files → AreUnkeyedSources scripts.sources → state.jobs ≡ map new_job scripts.names → IsTrue (list_all is_askable_script scripts.scripts) → length scripts.names ≡ length scripts.scripts → length scripts.scripts ≤ MOST_JOBS → MOST_JOBS ≤ room → kept ≡ map first_place scripts.scripts → IsSession scripts state [] room kept
+IsSession-first scripts state room kept files unkeyed begun askable named few enough fresh =
     let many : length kept ≡ length scripts.scripts = rw fresh (length-map scripts.scripts first_place) in
     record {
-      joint = record { idle = rw begun (idle-new scripts.names) };
+      built = record { files = files; jobs = rw begun (uncommitted-new scripts.names) };
+      unkeyed = unkeyed;
       askable = askable;
       jobs = many;
       few = few;
       enough = omega (arith, unended-most kept, many, few, enough);
-      places = λ at place there. let first = first-places scripts.scripts at place (rw fresh at there) in first-place-is scripts memory.jobs at place first.0 begun named first.1 first.2 first.3;
+      places = λ at place there. let first = first-places scripts.scripts at place (rw fresh at there) in first-place-is scripts state.jobs at place first.0 begun named first.1 first.2 first.3;
     }
 
 pub on_no_err : {A E P : Type 0} (r : Result A E) → is_err r ≡ false → OnOk r P → P

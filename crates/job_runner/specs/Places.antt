@@ -5,10 +5,11 @@ use Rattle.library_model.specs.declared.calls.Call.{Call}
 use Rattle.library_model.specs.declared.replies.Reply.{Reply}
 use Rattle.library_model.specs.declared.requests.Request.{Request}
 use Rattle.library_core.specs.Parts.{LibraryOver}
-use Rattle.library_core.specs.State.{Memory, JobState, job_at, new_job}
+use Rattle.library_steps.specs.State.{State, JobState, job_at, new_job}
+use Rattle.library_steps.specs.History.{is_running}
 use Rattle.library_model.specs.Ending.{is_end_job}
-use Rattle.library_core.specs.Running.{is_running}
-use Rattle.library_core.specs.Joint.{IsJoint}
+use Rattle.built_state.specs.Built.{IsBuilt}
+use Rattle.built_state.specs.Unkeyed.{AreUnkeyedSources}
 use Rattle.library_model.specs.declared.limits.TheConstants.{MOST_JOBS}
 use Rattle.input_scripts.specs.declared.Scripts.{Scripts}
 use Rattle.input_scripts.specs.Askable.{is_askable_script}
@@ -54,13 +55,14 @@ abbrev pub unended : List Place → ℕ
 unended kept = count_by (λ place. not place.ended) kept
 
 -- each job's place, and room in the history for the ENDJOB of each job
-pub record IsSession (scripts : Scripts) (memory : Memory) (calls : List Call) (room : ℕ) (kept : List Place) : Type 0 where
-  pub joint : IsJoint memory
+pub record IsSession (scripts : Scripts) (state : State) (calls : List Call) (room : ℕ) (kept : List Place) : Type 0 where
+  pub built : IsBuilt state
+  pub unkeyed : AreUnkeyedSources scripts.sources
   pub askable : IsTrue (list_all is_askable_script scripts.scripts)
   pub jobs : length kept ≡ length scripts.scripts
   pub few : length scripts.scripts ≤ MOST_JOBS
   pub enough : unended kept ≤ room
-  pub places : (job : ℕ) (place : Place) → slice_get kept job ≡ Some place → IsPlace scripts.scripts memory.jobs calls (job + 1) place
+  pub places : (job : ℕ) (place : Place) → slice_get kept job ≡ Some place → IsPlace scripts.scripts state.jobs calls (job + 1) place
 
 -- the place of a job that has made no call
 abbrev pub first_place : Script → Place
@@ -68,6 +70,6 @@ first_place script = record { progress = start script; waiting = None; ended = f
 
 -- the library with a job of each name begun, in order, after those that it had
 pub record BeginsJobs {S : Type 0} (old new : LibraryOver S) (names : List (List ℕ)) : Type 0 where
-  pub memory : new.memory ≡ record old.memory { jobs = old.memory.jobs ++ map new_job names }
+  pub state : new.state ≡ record old.state { jobs = old.state.jobs ++ map new_job names }
   pub store : new.store ≡ old.store
   pub failed : new.failed ≡ old.failed

@@ -1,7 +1,7 @@
 -- What a session is, and what a session has become of one: a library, a clock, the scripts of its jobs, and the calls that they have made.
 use Rattle.std.specs.Prelude.{◌≡◌, ℕ, ◌+◌, ◌-◌, if◌then◌else◌, List, ◌++◌, length}
 use Rattle.library_model.specs.declared.calls.Call.{Call}
-use Rattle.library_core.specs.History.{Outcome, Runs}
+use Rattle.library_steps.specs.History.{Outcome, Runs}
 use Rattle.library_core.specs.Parts.{LibraryOver}
 use Rattle.library_core.specs.Stands.{IsAt}
 use Rattle.input_scripts.specs.declared.Scripts.{Scripts}

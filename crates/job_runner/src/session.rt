@@ -4,7 +4,9 @@ ghost use Rattle.std.specs.List.{list_all};
 ghost use Rattle.library_model.specs.declared.limits.TheConstants.{MOST_JOBS};
 ghost use Rattle.library_model.specs.declared.calls.Call.{Call};
 ghost use Rattle.library_model.specs.declared.replies.Reply.{Reply as ReplyValue};
-ghost use Rattle.library_core.specs.State.{new_job};
+ghost use Rattle.library_steps.specs.State.{new_job};
+ghost use Rattle.built_state.specs.Built.{IsBuilt};
+ghost use Rattle.built_state.specs.Unkeyed.{AreUnkeyedSources};
 ghost use Rattle.built_requests.specs.Built.{is_built};
 ghost use Rattle.library_model.specs.Ending.{is_end_job};
 ghost use Rattle.job_runner.specs.declared.session.Stepped.TheVariants.{Called, Ended, Stopped};
@@ -79,7 +81,7 @@ impl<S: Store, C: Clock> Model for Session<S, C> {
 
     ghost view = { λ s. record { library = s.library; clock = s.clock; scripts = s.scripts; calls = s.history.calls } };
 
-    ghost invariant = { λ s. IsSession s.scripts s.library.memory s.history.calls s.history.room s.places.items };
+    ghost invariant = { λ s. IsSession s.scripts s.library.state s.history.calls s.history.room s.places.items };
 }
 
 impl<S: Store, C: Clock> Session<S, C> {
@@ -90,7 +92,9 @@ impl<S: Store, C: Clock> Session<S, C> {
         clock: C,
         scripts: Scripts,
     ) -> Result<Session<S, C>, (Library<S>, C)>
-        requires fresh { library.memory.jobs ≡ [] }
+        requires fresh { library.state.jobs ≡ [] }
+        requires built { IsBuilt library.state }
+        requires unkeyed { AreUnkeyedSources scripts.sources }
         requires askable { IsTrue (list_all is_askable_script scripts.scripts) }
         requires named { length scripts.names ≡ length scripts.scripts }
         requires few { length scripts.scripts ≤ MOST_JOBS }
@@ -294,7 +298,7 @@ fn is_end_job(request: &Request) -> bool
 
 /// Begins a job of each name, in order.
 fn begin_jobs<S: Store>(library: &mut Library<S>, names: &[Name]) -> Result<(), AllocError>
-    requires few { length library.old.memory.jobs + length names.now ≤ MOST_JOBS }
+    requires few { length library.old.state.jobs + length names.now ≤ MOST_JOBS }
     ensures begun { OnOk result (BeginsJobs library.old library.new names.now) }
     ensures store { library.new.store ≡ library.old.store }
 {

@@ -1,9 +1,10 @@
-pub mod JobLemmas
-pub mod MemberLemmas
-pub mod FileLemmas
-pub mod LawfulLemmas
-pub mod ReadLemmas
-pub mod RecordLemmas
+pub mod ResultLemmas
+pub mod RunLemmas
+pub mod BuiltLemmas
+pub mod SpareLemmas
+pub mod FileSteps
+pub mod RecordSteps
+pub mod JournalSteps
 pub mod StepLemmas
+pub mod BoundaryLemmas
 pub mod CallLemmas
-pub mod MapLemmas

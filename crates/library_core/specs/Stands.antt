@@ -1,22 +1,21 @@
--- What a library is of a state, and what a call makes of it. The memory is known over every store; the journal stands on the disk.
+-- What a library is of a state, and what a call makes of it. (Our own.)
 use Rattle.std.specs.Prelude.{◌≡◌, ℕ, true, false, IsTrue, List}
 use Rattle.library_model.specs.declared.calls.Call.{Call}
 use Rattle.library_model.specs.declared.sources.NamedSource.{NamedSource}
-use Rattle.library_core.specs.State.{State, memory_of, job_at}
-use Rattle.library_core.specs.Running.{is_running}
-use Rattle.library_core.specs.Joint.{IsJoint}
-use Rattle.library_core.specs.History.{Outcome, Standing, Failed, Comes}
+use Rattle.library_steps.specs.State.{State, job_at}
+use Rattle.library_steps.specs.History.{is_running, Outcome, Standing, Failed, Comes}
+use Rattle.built_state.specs.Built.{IsBuilt}
 use Rattle.library_core.specs.Parts.{LibraryOver}
 
 -- the library has the state
 pub record Stands {S : Type 0} (library : LibraryOver S) (s : State) : Type 0 where
   pub alive : library.failed ≡ false
-  pub memory : library.memory ≡ memory_of s
+  pub state : library.state ≡ s
 
 -- the library is what calls have led to
 abbrev pub IsAt : {S : Type 0} → LibraryOver S → Outcome → Type 0
 IsAt library (Standing s) = Stands library s
-IsAt library (Failed journal) = library.failed ≡ true
+IsAt library (Failed entries) = library.failed ≡ true
 
 -- from a state that it had, the call led the library to an outcome of that call
 pub record Goes {S : Type 0} (sources : List NamedSource) (new : LibraryOver S) (s : State) (call : Call) : Type 0 where
@@ -24,8 +23,8 @@ pub record Goes {S : Type 0} (sources : List NamedSource) (new : LibraryOver S) 
   pub comes : Comes sources s call outcome
   pub at : IsAt new outcome
 
--- the job may make a call: it runs, the library hasn't failed, and what holds between calls holds
+-- the job may make a call: it runs, the library hasn't failed, and nothing stands in it that isn't built
 pub record IsReady {S : Type 0} (job : ℕ) (library : LibraryOver S) : Type 0 where
   pub alive : library.failed ≡ false
-  pub running : IsTrue (is_running (job_at job library.memory.jobs))
-  pub joint : IsJoint library.memory
+  pub running : IsTrue (is_running (job_at job library.state.jobs))
+  pub built : IsBuilt library.state

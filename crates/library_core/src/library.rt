@@ -1,27 +1,26 @@
-//! The library over a store, and the one call on it.
-ghost use Rattle.std.specs.Prelude.{◌≡◌, ℕ, false, ◌+◌, ◌<◌, ◌∷◌, [], ◌++◌, length, IsTrue, IfOk, OnOk, OnErr, IsErrOf};
-ghost use Rattle.library_core.specs.State.{State, empty_library, memory_of, job_at, new_job};
+//! The library over a store, and the one call on it. What each request does is asked for in `dispatch.rt`.
+ghost use Rattle.std.specs.Prelude.{◌≡◌, ℕ, false, ◌+◌, ◌<◌, ◌∷◌, [], ◌++◌, length, IsTrue, IfOk, OnOk, OnErr};
 ghost use Rattle.built_requests.specs.Built.{is_built};
-ghost use Rattle.library_model.specs.NeedsMemory.{needs_memory};
-ghost use Rattle.library_core.specs.Running.{is_running, runs_after};
-ghost use Rattle.library_core.specs.Joint.{IsJoint};
-ghost use Rattle.library_core.specs.Step.{change};
-ghost use Rattle.library_core.specs.Answers.{Answers, reply_of};
+ghost use Rattle.built_state.specs.Built.{IsBuilt};
+ghost use Rattle.built_state.specs.Unkeyed.{AreUnkeyedSources};
+ghost use Rattle.library_steps.specs.State.{State, empty_library, job_at, new_job};
+ghost use Rattle.library_steps.specs.History.{is_running};
+ghost use Rattle.library_parts.specs.Answers.{reply_of};
+ghost use Rattle.library_core.specs.Running.{runs_after};
 ghost use Rattle.library_core.specs.Stands.{Stands, IsReady, Goes};
-ghost use Rattle.library_core.specs.declared.stop.Stop.TheVariants.{NoMemory};
 
-use crate::contents::Contents;
-use crate::stop::Stop;
+use crate::dispatch::perform;
 use field_types::names::Name;
 use library_model::replies::Reply;
 use library_model::requests::Request;
 use library_model::sources::Sources;
+use library_parts::{Contents, Stop};
 use std::alloc::{AllocError, Global};
 use std::marker::Model;
 use store_model::Store;
 
-/// A library. Contracts see what it has in memory, the store that it will keep its journal in, and whether a call has
-/// found the store at fault.
+/// A library. Contracts see its state, the store that it will keep its journal in, and whether a call has found the store
+/// at fault.
 pub struct Library<S: Store> {
     store: S,
     contents: Contents,
@@ -33,7 +32,7 @@ impl<S: Store> Model for Library<S> {
 
     ghost Value = { LibraryOver S };
 
-    ghost view = { λ l. record { store = l.store; memory = l.contents.memory; failed = l.failed } };
+    ghost view = { λ l. record { store = l.store; state = l.contents.state; failed = l.failed } };
 }
 
 impl<S: Store> Library<S> {
@@ -41,7 +40,7 @@ impl<S: Store> Library<S> {
     pub fn empty(alloc: Global, store: S) -> Library<S>
         ensures store { result.store ≡ store }
         ensures stands { Stands result empty_library }
-        ensures joint { IsJoint result.memory }
+        ensures built { IsBuilt result.state }
     {
         Library {
             store,
@@ -59,18 +58,18 @@ impl<S: Store> Library<S> {
 
     /// How many jobs have begun.
     pub fn jobs(&self) -> usize
-        ensures { result ≡ length self.now.memory.jobs }
+        ensures { result ≡ length self.now.state.jobs }
     {
         self.contents.jobs_begun()
     }
 
     /// Begins a job and answers its number, which is the next from 1.
     pub fn begin_job(&mut self, name: &Name) -> Result<u32, AllocError>
-        requires { length self.old.memory.jobs < 4294967295 }
-        ensures number { IfOk result (λ n. n ≡ length self.old.memory.jobs + 1) }
-        ensures begun { OnOk result (self.new.memory ≡ record self.old.memory { jobs = self.old.memory.jobs ++ new_job name.now ∷ [] }) }
-        ensures unchanged { OnErr result (self.new.memory ≡ self.old.memory) }
-        ensures ready { self.old.failed ≡ false → IsJoint self.old.memory → IfOk result (λ n. IsReady n self.new) }
+        requires { length self.old.state.jobs < 4294967295 }
+        ensures number { IfOk result (λ n. n ≡ length self.old.state.jobs + 1) }
+        ensures begun { OnOk result (self.new.state ≡ record self.old.state { jobs = self.old.state.jobs ++ new_job name.now ∷ [] }) }
+        ensures unchanged { OnErr result (self.new.state ≡ self.old.state) }
+        ensures ready { self.old.failed ≡ false → IsBuilt self.old.state → IfOk result (λ n. IsReady n self.new) }
         ensures store { self.new.store ≡ self.old.store }
         ensures failed { self.new.failed ≡ self.old.failed }
     {
@@ -100,13 +99,14 @@ pub fn call<S: Store>(
 ) -> Reply
     requires ready { IsReady job library.old }
     requires built { IsTrue (is_built request.now) }
+    requires unkeyed { AreUnkeyedSources sources.now }
     ensures goes { (s : State) → Stands library.old s → Goes sources.now library.new s (record { job = job; timestamp = timestamp; request = request.now; reply = result }) }
-    ensures running { (other : ℕ) → is_running (job_at other library.new.memory.jobs) ≡ runs_after job request.now library.old.memory.jobs other }
-    ensures joint { IsJoint library.new.memory }
+    ensures running { (other : ℕ) → is_running (job_at other library.new.state.jobs) ≡ runs_after job request.now library.old.state.jobs other }
+    ensures kept { IsBuilt library.new.state }
     ensures store { library.new.store ≡ library.old.store }
     ensures alive { library.new.failed ≡ false }
 {
-    let done = library.contents.perform(job, timestamp, sources, request);
+    let done = perform(&mut library.contents, job, timestamp, sources, request);
     reply_of(done)
 }
 
@@ -118,57 +118,5 @@ fn reply_of(done: Result<Reply, Stop>) -> Reply
         Ok(reply) => reply,
         Err(Stop::NoMemory) => Reply::NoMemory,
         Err(Stop::Refused(reply)) => reply,
-    }
-}
-
-impl Contents {
-    /// Answers one request of a job, at a time.
-    #[tactic(auto, unfolding(library_core::specs::Step::change))]
-    fn perform(
-        &mut self,
-        job: u32,
-        _timestamp: u64,
-        sources: &Sources,
-        request: &Request,
-    ) -> Result<Reply, Stop>
-        requires running { IsTrue (is_running (job_at job self.old.memory.jobs)) }
-        requires built { IsTrue (is_built request.now) }
-        ensures step { Answers self.old.memory self.new.memory result (change sources.now self.old.memory job _timestamp request.now) }
-        ensures memory { IsErrOf result NoMemory → IsTrue (needs_memory request.now) }
-    {
-        match request {
-            Request::CreatePhysicalFile(args) => self.create_physical_file(sources, args),
-            Request::DeleteFile(args) => self.delete_file(args),
-            Request::OpenFile(args) => self.open_file(job, args),
-            Request::Write(args) => self.write_record(job, args),
-            Request::Chain(args) => self.chain_record(job, args),
-            Request::EndJob(_) => Ok(self.end_job(job)),
-            Request::CreateLogicalFile(_)
-            | Request::AddMember(_)
-            | Request::ClearMember(_)
-            | Request::ReorganizeMember(_)
-            | Request::StartJournaling(_)
-            | Request::EndJournaling(_)
-            | Request::ChangeJournal
-            | Request::DeleteReceiver(_)
-            | Request::Checkpoint
-            | Request::DisplayJournal(_)
-            | Request::ApplyChanges(_)
-            | Request::RemoveChanges(_)
-            | Request::StartCommitment(_)
-            | Request::EndCommitment
-            | Request::Commit
-            | Request::Rollback
-            | Request::CloseFile(_)
-            | Request::SetLowerLimit(_)
-            | Request::SetGreaterThan(_)
-            | Request::Read(_)
-            | Request::ReadPrior(_)
-            | Request::ReadEqual(_)
-            | Request::ReadPriorEqual(_)
-            | Request::Update(_)
-            | Request::Delete(_)
-            | Request::Unlock(_) => unreachable!(),
-        }
     }
 }

@@ -60,6 +60,11 @@ impl Contents {
         }
     }
 
+    /// Where its parts take their memory.
+    pub fn alloc(&self) -> Global {
+        self.alloc
+    }
+
     /// How many jobs have begun. What the parts need of each other holds.
     pub fn jobs_begun(&self) -> usize
         ensures count { result ≡ length self.now.state.jobs }
@@ -81,11 +86,6 @@ impl Contents {
         ensures { result ≡ (job_of job (memory_of self.now.state)).name }
     {
         self.jobs.name(job)
-    }
-
-    /// What its copies of images and sources are made with.
-    pub fn alloc(&self) -> Global {
-        self.alloc
     }
 
     /// Begins a job and answers its number.

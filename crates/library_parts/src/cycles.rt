@@ -65,7 +65,8 @@ impl Contents {
         requires few_bytes { open_bytes (memory_of self.old.state) + change_bytes undo ≤ MOST_GROUP_BYTES }
         ensures memory { memory_of self.new.state ≡ with_job job (with_cycle (noted undo (cycle_for (memory_of self.old.state) (job_of job (memory_of self.old.state))))) (memory_of self.old.state) }
         ensures entries { self.new.state.entries ≡ self.old.state.entries }
-        ensures room_stays { self.new.room ≡ record self.old.room { entries = self.new.room.entries } }
+        ensures others { self.new.room ≡ record self.old.room { entries = self.new.room.entries } }
+        ensures left { self.old.room.entries ≤ self.new.room.entries + 3 }
     {
         let (_, last) = self.journal.bounds();
         let more = noted_due(self.jobs.cycle(job).is_some());

@@ -1,5 +1,5 @@
 //! What requests ask of a member: its slots, its places, its room, and the images that the journal keeps of it.
-ghost use Rattle.std.specs.Prelude.{◌≡◌, ◌≤◌, length, None, Some, IfSome, MatchOption, option_map, option_copied};
+ghost use Rattle.std.specs.Prelude.{◌≡◌, ◌≤◌, length, Some, None, IfSome, MatchOption, option_map, option_copied};
 ghost use Rattle.member_slots.specs.Member.{is_full, slot_at};
 ghost use Rattle.member_slots.specs.Members.{member_at, member_of};
 ghost use Rattle.library_steps.specs.State.{memory_of};

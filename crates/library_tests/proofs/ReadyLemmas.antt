@@ -1,10 +1,11 @@
 -- A job that may make a call may make one after another job's call, and after another job has begun.
 use Rattle.std.proofs.Common.{◌≡◌, ℕ, ◌-◌, ◌==◌, Bool, true, false, if◌then◌else◌, IsTrue, List, [], ◌∷◌, ◌++◌, zero, suc, slice_get, Some, None, refl, sym, ◌∙◌, subst}
 use Rattle.library_model.specs.declared.requests.Request.{Request}
-use Rattle.library_core.specs.State.{Memory, JobState, job_at, new_job}
 use Rattle.library_model.specs.Ending.{is_end_job}
-use Rattle.library_core.specs.Running.{is_running, runs_after}
-use Rattle.library_core.specs.Joint.{IsJoint}
+use Rattle.library_steps.specs.State.{State, JobState, job_at, new_job}
+use Rattle.library_steps.specs.History.{is_running}
+use Rattle.built_state.specs.Built.{IsBuilt}
+use Rattle.library_core.specs.Running.{runs_after}
 use Rattle.library_core.specs.Parts.{LibraryOver}
 use Rattle.library_core.specs.Stands.{IsReady}
 
@@ -25,17 +26,17 @@ running-append number jobs more running =
     place-append (suc place) (job ∷ jobs) more h = place-append place jobs more h
 
 -- a job that may make a call may make one after a call that ends no job
-pub IsReady-on : {S : Type 0} (job other : ℕ) (r : Request) (old new : LibraryOver S) → IsReady other old → is_end_job r ≡ false → new.failed ≡ false → ((n : ℕ) → is_running (job_at n new.memory.jobs) ≡ runs_after job r old.memory.jobs n) → IsJoint new.memory → IsReady other new
-IsReady-on job other r old new ready goes_on alive runs joint = record {
+pub IsReady-on : {S : Type 0} (job other : ℕ) (r : Request) (old new : LibraryOver S) → IsReady other old → is_end_job r ≡ false → new.failed ≡ false → ((n : ℕ) → is_running (job_at n new.state.jobs) ≡ runs_after job r old.state.jobs n) → IsBuilt new.state → IsReady other new
+IsReady-on job other r old new ready goes_on alive runs built = record {
   alive = alive;
-  running = rw (runs other, runs-on job r old.memory.jobs other goes_on) ready.running;
-  joint = joint;
+  running = rw (runs other, runs-on job r old.state.jobs other goes_on) ready.running;
+  built = built;
 }
 
 -- nor does a job that begins keep it from that
-pub IsReady-begun : {S : Type 0} (job : ℕ) (name : List ℕ) (old new : LibraryOver S) → IsReady job old → IsJoint new.memory → new.failed ≡ old.failed → new.memory ≡ record old.memory { jobs = old.memory.jobs ++ new_job name ∷ [] } → IsReady job new
-IsReady-begun job name old new ready joint alive begun = record {
+pub IsReady-begun : {S : Type 0} (job : ℕ) (name : List ℕ) (old new : LibraryOver S) → IsReady job old → IsBuilt new.state → new.failed ≡ old.failed → new.state ≡ record old.state { jobs = old.state.jobs ++ new_job name ∷ [] } → IsReady job new
+IsReady-begun job name old new ready built alive begun = record {
   alive = alive ∙ ready.alive;
-  running = subst (λ (m : Memory). IsTrue (is_running (job_at job m.jobs))) (sym begun) (running-append job old.memory.jobs (new_job name ∷ []) ready.running);
-  joint = joint;
+  running = subst (λ (s : State). IsTrue (is_running (job_at job s.jobs))) (sym begun) (running-append job old.state.jobs (new_job name ∷ []) ready.running);
+  built = built;
 }

@@ -2,4 +2,12 @@
 #![tactic(auto)]
 
 #[cfg(test)]
+mod answers;
+#[cfg(test)]
+mod asks;
+#[cfg(test)]
 mod calls;
+#[cfg(test)]
+mod setups;
+#[cfg(test)]
+mod tables;

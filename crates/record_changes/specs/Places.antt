@@ -35,6 +35,9 @@ pub record MayPut (files : Named FileState) (members : NumberedMembers) (member 
   pub values : (name : List ℕ) (file : FileState) → Owns files name file member → HoldsValues (fields_of file) slot
   pub added : rrn ≡ length (member_of member members).slots + 1 → MayAdd members member slot
 
+abbrev pub MayChange : State → PlannedSlot → Type 0
+MayChange s planned = MayPut s.files s.members planned.opened.member planned.rrn planned.slot
+
 -- the slot may be put back at the place, which the member has
 pub record MayReturn (s : State) (member rrn : ℕ) (slot : Slot) : Type 0 where
   pub there : is_some (member_at member s.members) ≡ true
@@ -69,7 +72,7 @@ HasEntryRoom parts true member = 6 ≤ parts.room.entries
 pub record IsReady (parts : LibraryParts) (job : ℕ) (planned : PlannedSlot) (prepared : Prepared) : Type 0 where
   pub left : (memory_of parts.state).last_entry ≤ LAST_SEQUENCE
   pub few : AreFewChanges planned (memory_of parts.state)
-  pub may : MayPut parts.state.files parts.state.members planned.opened.member planned.rrn planned.slot
+  pub may : MayChange parts.state planned
   pub place : HasPlaceRoom parts planned.opened.member planned.rrn
   pub entries : HasEntryRoom parts planned.opened.commit planned.opened.member
   pub again : IsSome (images_of planned.opened.member (memory_of parts.state)) → prepared.again ≡ planned.slot

@@ -1,4 +1,4 @@
--- How a plan answers for a slot to change or a record to unlock: with it, the refusal, or want of memory. (Our own.)
+-- How a plan answers for a slot to change or a record to unlock: with it, the refusal, or out of memory. (Our own.)
 use Rattle.std.specs.Prelude.{◌≡◌, Result, Ok, Err}
 use Rattle.library_model.specs.declared.replies.Reply.{Reply}
 use Rattle.library_steps.specs.SlotChange.{NewSlot}
@@ -25,7 +25,7 @@ PlansSlot (Ok planned) wanted = as_read bare_slot wanted ≡ Ok (new_slot planne
 PlansSlot (Err NoMemory) wanted = Unit {0}
 PlansSlot (Err (Refused reply)) wanted = wanted ≡ Err reply
 
--- it never wants memory
+-- it is never out of memory
 abbrev pub PlansRead : Result LockedRead Stop → Result LastRead Reply → Type 0
 PlansRead (Ok read) wanted = as_read bare_read wanted ≡ Ok (last_read read)
 PlansRead (Err NoMemory) wanted = ⊥

@@ -9,7 +9,7 @@ ghost use Rattle.lock_table.specs.declared.levels.Call.TheVariants.{Delete};
 ghost use Rattle.library_parts.specs.Answers.{Answers};
 ghost use Rattle.library_parts.specs.Locks.{HasLockRoom};
 ghost use Rattle.record_changes.specs.Locks.{MayLock};
-ghost use Rattle.record_changes.specs.Places.{AreFewChanges, IsReady, MayPut};
+ghost use Rattle.record_changes.specs.Places.{AreFewChanges, IsReady, MayChange};
 ghost use Rattle.record_changes.specs.Plans.{PlansSlot, new_slot};
 
 use crate::change_slot::change_slot;
@@ -47,7 +47,7 @@ fn plan_delete(contents: &Contents, job: u32, args: &OpenName) -> Result<Planned
     ensures left { IfOk result (λ planned. (memory_of contents.now.state).last_entry ≤ LAST_SEQUENCE) }
     ensures few { IfOk result (λ planned. AreFewChanges planned (memory_of contents.now.state)) }
     ensures locks { IfOk result (λ planned. MayLock Delete job planned.opened planned.rrn (memory_of contents.now.state)) }
-    ensures may { IfOk result (λ planned. MayPut contents.now.state.files contents.now.state.members planned.opened.member planned.rrn planned.slot) }
+    ensures may { IfOk result (λ planned. MayChange contents.now.state planned) }
 {
     // No two members have one number.
     let _counts = contents.counts();
@@ -57,7 +57,7 @@ fn plan_delete(contents: &Contents, job: u32, args: &OpenName) -> Result<Planned
     let rrn = current_record(opened)?;
     contents.not_held(job, opened, rrn)?;
     few_changes(contents, opened, rrn, &Slot::Deleted)?;
-    // A current record stands there: its lock keeps it.
+    // A current record stands there, since its lock keeps it. Nothing states that, so the call gives up where none does.
     let Some(_old) = contents.live_image(opened.member(), rrn) else {
         return Err(Stop::NoMemory);
     };

@@ -3,10 +3,10 @@ ghost use Rattle.std.specs.Prelude.{◌≡◌, ◌+◌, ◌≤◌, [], ◌∷◌
 ghost use Rattle.member_slots.specs.declared.slot.Slot.TheVariants.{Live, Deleted};
 ghost use Rattle.library_steps.specs.declared.limits.TheConstants.{LAST_SEQUENCE};
 ghost use Rattle.library_steps.specs.State.{memory_of};
-ghost use Rattle.library_steps.specs.Drafts.{added, record_draft, slot_drafts};
+ghost use Rattle.library_steps.specs.Drafts.{added, record_draft};
 ghost use Rattle.memory_journal.specs.declared.journal.TheConstants.{LAST_BEFORE_DEPOSIT};
 ghost use Rattle.draft_list.specs.Deposits.{with_drafts};
-ghost use Rattle.record_changes.specs.Changes.{started};
+ghost use Rattle.record_changes.specs.Changes.{drafts_by, started};
 
 use draft_list::Author;
 use entry_codec::EntryKind;
@@ -35,7 +35,7 @@ impl ChangeEntries {
     pub(crate) fn deposit(&self, contents: &mut Contents, old: Slot, new: Slot)
         requires room { length (started self.now.author self.now.start) + 2 ≤ contents.old.room.entries }
         requires left { (memory_of contents.old.state).last_entry ≤ LAST_SEQUENCE }
-        ensures { contents.new.state ≡ with_drafts contents.old.state (started self.now.author self.now.start ++ slot_drafts self.now.author self.now.cycle self.now.both self.now.behind_last self.now.member self.now.rrn old new) }
+        ensures { contents.new.state ≡ with_drafts contents.old.state (started self.now.author self.now.start ++ drafts_by self.now old new) }
     {
         self.deposit_start(contents);
         self.deposit_slot(contents, old, new);
@@ -57,7 +57,7 @@ impl ChangeEntries {
     fn deposit_slot(&self, contents: &mut Contents, old: Slot, new: Slot)
         requires room { 2 ≤ contents.old.room.entries }
         requires left { (memory_of contents.old.state).last_entry + 1 ≤ LAST_BEFORE_DEPOSIT }
-        ensures { contents.new.state ≡ with_drafts contents.old.state (slot_drafts self.now.author self.now.cycle self.now.both self.now.behind_last self.now.member self.now.rrn old new) }
+        ensures { contents.new.state ≡ with_drafts contents.old.state (drafts_by self.now old new) }
     {
         match old {
             Slot::Live(before) => self.deposit_changed(contents, before, new),
@@ -68,7 +68,7 @@ impl ChangeEntries {
     fn deposit_changed(&self, contents: &mut Contents, before: Image, new: Slot)
         requires room { 2 ≤ contents.old.room.entries }
         requires left { (memory_of contents.old.state).last_entry + 1 ≤ LAST_BEFORE_DEPOSIT }
-        ensures { contents.new.state ≡ with_drafts contents.old.state (slot_drafts self.now.author self.now.cycle self.now.both self.now.behind_last self.now.member self.now.rrn (Live before) new) }
+        ensures { contents.new.state ≡ with_drafts contents.old.state (drafts_by self.now (Live before) new) }
     {
         match new {
             Slot::Live(after) => self.deposit_updated(contents, before, after),
@@ -82,7 +82,7 @@ impl ChangeEntries {
     fn deposit_updated(&self, contents: &mut Contents, before: Image, after: Image)
         requires room { 2 ≤ contents.old.room.entries }
         requires left { (memory_of contents.old.state).last_entry + 1 ≤ LAST_BEFORE_DEPOSIT }
-        ensures { contents.new.state ≡ with_drafts contents.old.state (slot_drafts self.now.author self.now.cycle self.now.both self.now.behind_last self.now.member self.now.rrn (Live before) (Live after)) }
+        ensures { contents.new.state ≡ with_drafts contents.old.state (drafts_by self.now (Live before) (Live after)) }
     {
         if self.both {
             self.deposit_kind(contents, EntryKind::BeforeImage { image: before });
@@ -99,7 +99,7 @@ impl ChangeEntries {
     fn deposit_added(&self, contents: &mut Contents, new: Slot)
         requires room { 1 ≤ contents.old.room.entries }
         requires left { (memory_of contents.old.state).last_entry + 1 ≤ LAST_BEFORE_DEPOSIT }
-        ensures { contents.new.state ≡ with_drafts contents.old.state (slot_drafts self.now.author self.now.cycle self.now.both self.now.behind_last self.now.member self.now.rrn Deleted new) }
+        ensures { contents.new.state ≡ with_drafts contents.old.state (drafts_by self.now Deleted new) }
     {
         if let Slot::Live(image) = new {
             self.deposit_kind(contents, added(self.behind_last, image));

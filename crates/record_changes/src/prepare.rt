@@ -7,7 +7,7 @@ ghost use Rattle.library_steps.specs.History.{is_running};
 ghost use Rattle.library_steps.specs.Records.{slot_there};
 ghost use Rattle.library_steps.specs.SlotChange.{images_of};
 ghost use Rattle.library_parts.specs.Locks.{HasLockRoom};
-ghost use Rattle.record_changes.specs.Places.{AreFewChanges, HasEntryRoom, HasPlaceRoom, HasUndoRoomIf, IsReady, MayPut, undo_of};
+ghost use Rattle.record_changes.specs.Places.{AreFewChanges, HasEntryRoom, HasPlaceRoom, HasUndoRoomIf, IsReady, MayChange, undo_of};
 ghost use Rattle.record_changes.specs.Plans.{new_slot};
 
 use crate::cycles::cycle_of;
@@ -36,7 +36,7 @@ pub(crate) fn prepare_change(
     requires running { IsTrue (is_running (job_at job contents.old.state.jobs)) }
     requires left { (memory_of contents.old.state).last_entry ≤ LAST_SEQUENCE }
     requires few { AreFewChanges planned.now (memory_of contents.old.state) }
-    requires may { MayPut contents.old.state.files contents.old.state.members planned.now.opened.member planned.now.rrn planned.now.slot }
+    requires may { MayChange contents.old.state planned.now }
     ensures state { contents.new.state ≡ contents.old.state }
     ensures locks { OnOk result (HasLockRoom contents.new.state contents.new.room) }
     ensures ready { IfOk result (λ prepared. IsReady contents.new job planned.now prepared) }
@@ -102,6 +102,7 @@ fn copy_for_entry(contents: &Contents, planned: &PlannedSlot) -> Result<Slot, Al
     ensures { IfOk result (λ again. IsSome (images_of planned.now.opened.member (memory_of contents.now.state)) → again ≡ planned.now.slot) }
 {
     if contents.images_of(planned.opened.member()).is_none() {
+        // No entry tells of it.
         return Ok(Slot::Deleted);
     }
     planned.slot.copied(contents.alloc())

@@ -59,7 +59,7 @@ pub(crate) fn keys_free(
 ) -> Result<(), Stop>
     requires { AreUnkeyed contents.now.state.files }
     ensures written { Allows result (keys_free job opened.now.commit opened.now.member rrn Deleted image.now (memory_of contents.now.state)) }
-    ensures updated { Allows result (keys_free job opened.now.commit opened.now.member rrn (slot_there opened.now.member rrn (memory_of contents.now.state)) image.now (memory_of contents.now.state)) }
+    ensures updated { let m = memory_of contents.now.state in Allows result (keys_free job opened.now.commit opened.now.member rrn (slot_there opened.now.member rrn m) image.now m) }
 {
     unkeyed_files_have_no_unique_keys();
     Ok(())

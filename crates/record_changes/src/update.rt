@@ -9,7 +9,7 @@ ghost use Rattle.lock_table.specs.declared.levels.Call.TheVariants.{Update};
 ghost use Rattle.library_parts.specs.Answers.{Answers};
 ghost use Rattle.library_parts.specs.Locks.{HasLockRoom};
 ghost use Rattle.record_changes.specs.Locks.{MayLock};
-ghost use Rattle.record_changes.specs.Places.{AreFewChanges, IsReady, MayPut};
+ghost use Rattle.record_changes.specs.Places.{AreFewChanges, IsReady, MayChange};
 ghost use Rattle.record_changes.specs.Plans.{PlansSlot, new_slot};
 
 use crate::change_slot::change_slot;
@@ -49,7 +49,7 @@ fn plan_update(contents: &Contents, job: u32, args: &UpdateRecord) -> Result<Pla
     ensures left { IfOk result (λ planned. (memory_of contents.now.state).last_entry ≤ LAST_SEQUENCE) }
     ensures few { IfOk result (λ planned. AreFewChanges planned (memory_of contents.now.state)) }
     ensures locks { IfOk result (λ planned. MayLock Update job planned.opened planned.rrn (memory_of contents.now.state)) }
-    ensures may { IfOk result (λ planned. MayPut contents.now.state.files contents.now.state.members planned.opened.member planned.rrn planned.slot) }
+    ensures may { IfOk result (λ planned. MayChange contents.now.state planned) }
 {
     // No two members have one number.
     let _counts = contents.counts();
@@ -57,7 +57,7 @@ fn plan_update(contents: &Contents, job: u32, args: &UpdateRecord) -> Result<Pla
     let OpenFound { opened, file } = contents.opened_file(job, &args.open_id)?;
     may_change(opened)?;
     let rrn = current_record(opened)?;
-    // A current record stands there: its lock keeps it.
+    // A current record stands there, since its lock keeps it. Nothing states that, so the call gives up where none does.
     let Some(old) = contents.live_image(opened.member(), rrn) else {
         return Err(Stop::NoMemory);
     };

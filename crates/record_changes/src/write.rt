@@ -11,7 +11,7 @@ ghost use Rattle.built_state.specs.Unkeyed.{AreUnkeyed};
 ghost use Rattle.library_parts.specs.Answers.{Answers, Gives};
 ghost use Rattle.library_parts.specs.Locks.{HasLockRoom, IsWrite};
 ghost use Rattle.record_changes.specs.Locks.{MayLock};
-ghost use Rattle.record_changes.specs.Places.{AreFewChanges, IsReady, MayPut};
+ghost use Rattle.record_changes.specs.Places.{AreFewChanges, IsReady, MayChange};
 ghost use Rattle.record_changes.specs.Plans.{PlansSlot, new_slot};
 
 use crate::change_slot::change_slot;
@@ -53,7 +53,7 @@ fn plan_write(contents: &Contents, job: u32, args: &WriteRecord) -> Result<Plann
     ensures left { IfOk result (λ planned. (memory_of contents.now.state).last_entry ≤ LAST_SEQUENCE) }
     ensures few { IfOk result (λ planned. AreFewChanges planned (memory_of contents.now.state)) }
     ensures locks { IfOk result (λ planned. MayLock (write_call args.now.record_number) job planned.opened planned.rrn (memory_of contents.now.state)) }
-    ensures may { IfOk result (λ planned. MayPut contents.now.state.files contents.now.state.members planned.opened.member planned.rrn planned.slot) }
+    ensures may { IfOk result (λ planned. MayChange contents.now.state planned) }
 {
     // No two members have one number.
     let _counts = contents.counts();

@@ -4,10 +4,11 @@ use Rattle.entry_codec.specs.declared.kinds.EntryKind.TheVariants.{JournalingEnd
 use Rattle.member_slots.specs.Member.{records}
 use Rattle.member_slots.specs.Members.{member_of}
 use Rattle.library_model.specs.declared.replies.Reply.TheVariants.{Done}
-use Rattle.library_steps.specs.State.{Memory, memory_of, with_status}
+use Rattle.library_steps.specs.State.{memory_of, with_status}
 use Rattle.library_steps.specs.Change.{does, journaled}
 use Rattle.library_steps.specs.Journaling.{no_longer_journaled, end_change}
 use Rattle.library_steps.specs.Drafts.{Author, author_of, member_draft}
+use Rattle.file_requests.specs.Records.{journaling_ended}
 use Rattle.draft_list.proofs.DepositLemmas.{Answers-left}
 use Rattle.file_requests.proofs.journaling.end_journaling.Goals as goal
 
@@ -25,7 +26,7 @@ returns c =
     let left = rw number at c.apply_end.ensures in
     record {
       answers = Answers-left old c.with_room.new.contents.state c.apply_end.new.contents.state (c.in_ok-draft.draft ∷ []) drafts
-          (λ (x : Memory). with_status status.number (no_longer_journaled (x.last_entry + 1) c.record_count-records.result) x) Done _ c.with_room.ensures.state (ap (λ (d : Draft). d ∷ []) told)
+          (journaling_ended status.number c.record_count-records.result) Done _ c.with_room.ensures.state (ap (λ (d : Draft). d ∷ []) told)
           (ap (does (end_change m c.args.job c.args.timestamp)) c.in_ok-status.ensures.plan
           ∙ ap (λ (n : ℕ). Ok (journaled drafts true Done (with_status status.number (no_longer_journaled (m.last_entry + 1) n) m))) (sym counted)) left;
     }

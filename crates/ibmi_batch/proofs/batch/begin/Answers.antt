@@ -1,7 +1,7 @@
 use Rattle.std.proofs.Common.{◌≡◌, ◌≤◌, [], length, true, Some, Err, ap, refl, sym, ◌∙◌, subst, map, rules}
 use Rattle.std.specs.Prelude.{string_bytes}
 use Rattle.text_lines.specs.Lines.{lines_of}
-use Rattle.library_core.specs.State.{empty_library}
+use Rattle.library_steps.specs.State.{empty_library}
 use Rattle.script_builder.specs.Least.{least}
 use Rattle.input_reader.specs.Input.{faults_of, input_of}
 use Rattle.ibmi_batch.specs.declared.limits.TheConstants.{MOST_INPUT}

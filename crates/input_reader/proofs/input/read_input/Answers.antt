@@ -4,10 +4,12 @@ use Rattle.script_builder.specs.Least.{least}
 use Rattle.input_scripts.specs.declared.Scripts.{Scripts}
 use Rattle.input_cards.specs.SectionTexts.{parts_in}
 use Rattle.input_reader.specs.Input.{faults_of}
+use Rattle.input_reader.specs.KeyedSources.{keyed_sources}
 use Rattle.input_reader.specs.Ready.{AreReady}
 use Rattle.input_reader.proofs.InputLemmas.{least-of_all, few-jobs}
 use Rattle.input_reader.proofs.JobLemmas.{as_many}
 use Rattle.input_reader.proofs.LeastLemmas.{least-none, lesser-none}
+use Rattle.input_reader.proofs.UnkeyedLemmas.{sources-unkeyed}
 use Rattle.input_reader.proofs.input.read_input.Goals as goal
 
 pub returns-in-Some-clause-fault : goal.returns-in-Some-clause-fault
@@ -56,4 +58,5 @@ returns-clause-ready c =
       askable = c.in_ok-jobs.ensures.askable;
       as_many = as_many parts ∙ ap length (sym (c.in_ok-jobs.ensures.scripts none.1));
       few = few-jobs lines parts same (least-none (faults_of lines) (sym found));
+      unkeyed = sources-unkeyed parts (least-none (keyed_sources parts) (sym c.in_ok-keyed.ensures ∙ plain.1));
     }

@@ -49,7 +49,7 @@ call-reply-requires-clause-ready g c =
     record {
       alive = sym c.failed.ensures ∙ c.if-failed.false;
       running = runs-still _ _ _ _ _ c.args.job c.index_mut-place.result.now c.self.invariant within.0 here c.if-place.false;
-      joint = c.self.invariant.joint;
+      built = c.self.invariant.built;
     }
 
 pub invariant_of-self-2 : goal.invariant_of-self-2
@@ -57,7 +57,7 @@ invariant_of-self-2 g c =
     let within = rw (← c.self.view_is) at c.requires in
     let here = place-here _ _ _ _ _ c.args.job c.index_mut-place.result.now c.self.invariant within c.index_mut-place.ensures.value in
     let made : Call = record { job = c.args.job; timestamp = c.now-timestamp.result; request = c.in-Ok.request; reply = c.call-reply.result } in
-    let called : Called c.self.inside.scripts c.self.inside.library.memory c.call-reply.new.library.memory c.self.inside.history.calls c.self.inside.history.room c.self.inside.places.items c.args.job c.ask.new.place.progress c.index_mut-place.result.now made = record {
+    let called : Called c.self.inside.scripts c.self.inside.library.state c.call-reply.new.library.state c.self.inside.history.calls c.self.inside.history.room c.self.inside.places.items c.args.job c.ask.new.place.progress c.index_mut-place.result.now made = record {
       is = c.self.invariant;
       from = within.0;
       here = here;
@@ -69,7 +69,7 @@ invariant_of-self-2 g c =
     let few : unended c.self.inside.places.items ≤ MOST_JOBS = omega (arith, unended-most c.self.inside.places.items, c.self.invariant.jobs, c.self.invariant.few) in
     let spare = λ (goes_on : is_end_job c.in-Ok.request ≡ false). on_is_ok c.reserve.result (sym c.is_ok-room.ensures.value ∙ c.in-Ok.ensures.room goes_on) c.reserve.ensures.room in
     let fits = fits-end (is_end_job c.in-Ok.request) c.self.inside.history.room c.reserve.new.self.room c.push.new.self.room (unended c.self.inside.places.items) c.self.invariant.enough c.reserve.ensures.kept c.push.ensures.room spare few in
-    IsSession-next c.self.inside.scripts _ _ c.self.inside.history.calls _ c.self.inside.history.room _ c.self.inside.places.items c.args.job c.ask.new.place.progress c.index_mut-place.result.now made _ _ called c.call-reply.ensures.joint (rw c.reserve.ensures.unchanged at c.push.ensures.calls) (ap length (c.calls.ensures ∙ c.reserve.ensures.unchanged)) c.is_end_job-place.ensures fits
+    IsSession-next c.self.inside.scripts _ _ c.self.inside.history.calls _ c.self.inside.history.room _ c.self.inside.places.items c.args.job c.ask.new.place.progress c.index_mut-place.result.now made _ _ called c.call-reply.ensures.kept (rw c.reserve.ensures.unchanged at c.push.ensures.calls) (ap length (c.calls.ensures ∙ c.reserve.ensures.unchanged)) c.is_end_job-place.ensures fits
 
 pub returns-clause-ended : goal.returns-clause-ended
 returns-clause-ended g c =
@@ -92,4 +92,4 @@ returns-clause-nearer g c = λ e.
     let here = place-here _ _ _ _ _ c.args.job c.index_mut-place.result.now c.self.invariant within c.index_mut-place.ensures.value in
     let is = place-is _ _ _ _ _ c.args.job c.index_mut-place.result.now c.self.invariant within.0 here in
     let made : Call = record { job = c.args.job; timestamp = c.now-timestamp.result; request = c.in-Ok.request; reply = c.call-reply.result } in
-    rw (← c.self.view_is) (remaining-called c.self.inside.scripts.scripts c.self.inside.library.memory.jobs c.self.inside.history.calls c.push.new.self.calls c.args.job c.index_mut-place.result.now c.ask.new.place.progress made is c.if-place.false refl (rw c.reserve.ensures.unchanged at c.in-Ok.ensures.moved) (rw c.reserve.ensures.unchanged at c.push.ensures.calls))
+    rw (← c.self.view_is) (remaining-called c.self.inside.scripts.scripts c.self.inside.library.state.jobs c.self.inside.history.calls c.push.new.self.calls c.args.job c.index_mut-place.result.now c.ask.new.place.progress made is c.if-place.false refl (rw c.reserve.ensures.unchanged at c.in-Ok.ensures.moved) (rw c.reserve.ensures.unchanged at c.push.ensures.calls))

@@ -30,3 +30,10 @@ invariant_of-self c =
       HasDue-changed inside.jobs.jobs inside.due inside.journal.room _ _ c.args.job (with_cycle (noted c.args.undo (cycle_from sequence job.cycle))) running c.self.invariant.1
           (omega (arith, more, after)) (omega (arith, room, more, few)) (omega (arith, room, more, few, most)),
     )
+
+pub returns-clause-left : goal.returns-clause-left
+returns-clause-left c =
+    let job = or_new (job_at c.args.job c.self.inside.jobs.jobs) in
+    let more : c.noted_due-more.result ≡ (if is_some job.cycle then 2 else 3) =
+    c.noted_due-more.ensures ∙ ap (λ b. if b then 2 else 3) (c.is_some.ensures ∙ ap is_some c.cycle.ensures ∙ some-mapped _ job.cycle) in
+    rw (← c.self.view_is) (omega (arith, more, few-noted (is_some job.cycle)))

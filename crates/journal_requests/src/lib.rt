@@ -1,0 +1,9 @@
+//! The requests about the journal itself: DSPJRN, CHGJRN and DLTJRNRCV, over the memory of a library.
+#![tactic(auto)]
+
+mod display;
+mod receivers;
+mod spelled;
+
+pub use display::display_journal;
+pub use receivers::{change_journal, delete_receiver};
