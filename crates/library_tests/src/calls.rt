@@ -103,10 +103,26 @@ fn check_rows(rt: &impl Abort, alloc: Global, table: &str, rows: &[(By, Ask, Ans
 }
 
 #[test]
-fn calls_are_answered(rt: HostRuntime) {
+fn records_are_answered(rt: HostRuntime) {
     check_rows(&rt, rt.alloc(), "records", &RECORDS);
+}
+
+#[test]
+fn files_go(rt: HostRuntime) {
     check_rows(&rt, rt.alloc(), "files that go", &DELETED);
+}
+
+#[test]
+fn the_journal_is_shown(rt: HostRuntime) {
     check_rows(&rt, rt.alloc(), "the journal", &JOURNAL_CALLS);
+}
+
+#[test]
+fn records_are_locked(rt: HostRuntime) {
     check_rows(&rt, rt.alloc(), "locks", &LOCKS);
+}
+
+#[test]
+fn records_are_changed(rt: HostRuntime) {
     check_rows(&rt, rt.alloc(), "changes", &CHANGES);
 }
