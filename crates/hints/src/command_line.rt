@@ -4,48 +4,48 @@ use crate::hint::Hint;
 use crate::words::is_in_small_letters;
 use std::alloc::{AllocError, Global};
 
-/// What is wrong with words that are no command.
+/// What is wrong with words that are no command; nothing where they are one.
 pub fn words_help(alloc: Global, words: &[String]) -> Result<HelpText, AllocError> {
     let mut help = HelpText::new(alloc);
-    help.push_hint(&words_hint(words))?;
+    if let Some(hint) = words_hint(words) {
+        help.push_hint(&hint)?;
+    }
     Ok(help)
 }
 
-fn words_hint(words: &[String]) -> Hint<'_> {
+fn words_hint(words: &[String]) -> Option<Hint<'_>> {
     match words {
-        [] => Hint::Plain(b"type RUN and the folder of the library"),
+        [] => Some(Hint::Plain(b"type RUN and the folder of the library")),
         [command, others @ ..] => {
             if command.as_bytes() == b"RUN".as_slice() {
                 folder_hint(others)
             } else if is_in_small_letters(command.as_bytes(), b"RUN") {
-                Hint::Plain(b"RUN has capital letters")
+                Some(Hint::Plain(b"RUN has capital letters"))
             } else {
-                Hint::Word(b"the first word is RUN, and not ", command.as_bytes(), b"")
+                Some(Hint::Word(b"the first word is RUN, and not ", command.as_bytes(), b""))
             }
         }
     }
 }
 
 /// What is wrong with the words after RUN.
-fn folder_hint(words: &[String]) -> Hint<'_> {
+fn folder_hint(words: &[String]) -> Option<Hint<'_>> {
     match words {
-        [] => Hint::Plain(b"type the folder of the library after RUN"),
-        [folder] => {
-            if folder.as_bytes().is_empty() {
-                Hint::Plain(b"the folder's name is empty")
-            } else {
-                Hint::Word(
-                    b"a folder's name doesn't begin with a hyphen; type ./",
-                    folder.as_bytes(),
-                    b"",
-                )
-            }
-        }
-        [_, word, ..] => Hint::Word(
-            b"there is one word after RUN; put apostrophes around a name with blanks, and take out ",
+        [] => Some(Hint::Plain(b"type the folder of the library after RUN")),
+        [folder] => match folder.as_bytes() {
+            [] => Some(Hint::Plain(b"the folder's name is empty")),
+            [b'-', ..] => Some(Hint::Word(
+                b"a folder's name doesn't begin with a hyphen; type ./",
+                folder.as_bytes(),
+                b"",
+            )),
+            [_, ..] => None,
+        },
+        [_, word, ..] => Some(Hint::Word(
+            b"one word follows RUN; put apostrophes around a name with blanks, or take out ",
             word.as_bytes(),
             b"",
-        ),
+        )),
     }
 }
 

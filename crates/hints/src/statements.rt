@@ -100,7 +100,7 @@ fn command_hint<'a>(
     if let Some(hint) = place_hint(command.name, job) {
         return Some(hint);
     }
-    if let Some(hint) = variables_hint(parameters, job) {
+    if let Some(hint) = variables_hint(command.name, parameters, job) {
         return Some(hint);
     }
     label_hint(command.name, parameters, job)
@@ -179,13 +179,16 @@ fn follows_request(before: Option<&[u8]>) -> bool {
 }
 
 /// A variable that no DCL before the statement declares.
-fn variables_hint<'a>(parameters: &'a [u8], job: JobLines<'_>) -> Option<Hint<'a>> {
-    for name in [b"VAL".as_slice(), b"VALUE", b"COND", b"TO", b"RRN", b"KEY"] {
-        if let Some(inside) = given(parameters, name) {
-            if let Some(hint) = undeclared_hint(inside, job) {
-                return Some(hint);
-            }
+fn variables_hint<'a>(command: &[u8], parameters: &'a [u8], job: JobLines<'_>) -> Option<Hint<'a>> {
+    if command == b"DCL".as_slice() {
+        return None;
+    }
+    let mut rest: &[u8] = b"VAR VAL VALUE COND TO RRN KEY";
+    while let Some((name, others)) = next_word(rest) {
+        if let Some(hint) = undeclared_hint(given(parameters, name).unwrap_or(b""), job) {
+            return Some(hint);
         }
+        rest = others;
     }
     None
 }

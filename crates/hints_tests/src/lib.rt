@@ -1,0 +1,9 @@
+//! Tests of the help beside statuses.
+#![tactic(auto)]
+
+#[cfg(test)]
+mod cards;
+#[cfg(test)]
+mod runs;
+#[cfg(test)]
+mod statements;
