@@ -5,6 +5,7 @@ use ibmi_batch::status::Status;
 use std::alloc::{AllocError, Global};
 
 /// What a run leaves that help may speak of.
+#[derive(Clone, Copy)]
 pub(crate) struct Remains<'a> {
     pub(crate) words: &'a [String],
     pub(crate) input: &'a Kept,
