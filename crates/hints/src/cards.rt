@@ -32,7 +32,24 @@ pub(crate) fn card_hint<'a>(
     if let Some(hint) = open_block_hint(input, card.number) {
         return Ok(Some(hint));
     }
-    key_hint(alloc, card)
+    match key_hint(alloc, card)? {
+        Some(hint) => Ok(Some(hint)),
+        None => Ok(number_hint(card.text)),
+    }
+}
+
+/// What is left to be wrong with the card of a source or a job: that there are too many.
+fn number_hint(card: &[u8]) -> Option<Hint<'_>> {
+    let (word, _) = first_word(card);
+    if word == b"//DDS".as_slice() || word == b"//JOB".as_slice() {
+        Some(Hint::Word(
+            b"the card is right by itself; there may be too many ",
+            word,
+            b" (docs/limits.md)",
+        ))
+    } else {
+        None
+    }
 }
 
 /// What is wrong with a card by itself.
@@ -122,13 +139,6 @@ fn earlier_hint<'a>(input: &'a [u8], card: InputLine<'a>) -> Option<Hint<'a>> {
     if word == b"//SCHED".as_slice() {
         return schedule_hint(input, card, rest);
     }
-    let count = cards_before(input, card.number, word);
-    if word == b"//JOB".as_slice() && count >= MOST_JOBS {
-        return Some(Hint::Plain(b"an input has at most 64 jobs"));
-    }
-    if word == b"//DDS".as_slice() && count >= MOST_SOURCES {
-        return Some(Hint::Plain(b"an input has at most 1,000 sources"));
-    }
     match same_card(input, card.number, word, trimmed(rest)) {
         Some(number) => Some(Hint::Number(b"line ", number, b" has a card of the same name")),
         None => None,
@@ -136,7 +146,7 @@ fn earlier_hint<'a>(input: &'a [u8], card: InputLine<'a>) -> Option<Hint<'a>> {
 }
 
 fn schedule_hint<'a>(input: &'a [u8], card: InputLine<'a>, turns: &'a [u8]) -> Option<Hint<'a>> {
-    if cards_before(input, card.number, b"//SCHED") > 0 {
+    if has_word_before(input, card.number, b"//SCHED") {
         return Some(Hint::Plain(b"an input has one //SCHED alone"));
     }
     let mut rest = turns;
@@ -149,20 +159,19 @@ fn schedule_hint<'a>(input: &'a [u8], card: InputLine<'a>, turns: &'a [u8]) -> O
     None
 }
 
-/// How many cards of this word are before a line.
-fn cards_before(input: &[u8], line: u32, word: &[u8]) -> usize {
-    let mut count = 0usize;
+/// Whether a line before one begins with a word.
+fn has_word_before(input: &[u8], line: u32, word: &[u8]) -> bool {
     let mut rest = input;
     for _ in 1..line {
         let Some((text, after)) = split_line(rest) else {
-            return count;
+            return false;
         };
         if first_word(text).0 == word {
-            count = count.saturating_add(1);
+            return true;
         }
         rest = after;
     }
-    count
+    false
 }
 
 /// The line of the first card of this word and name before a line.
