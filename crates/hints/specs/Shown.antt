@@ -1,6 +1,7 @@
 -- What bytes look like in the help: printable characters alone, so that no byte of an input reaches a terminal as it is. (Our own.)
-use Rattle.std.specs.Prelude.{ℕ, ◌+◌, ◌-◌, ◌/◌, ◌%◌, Bool, nat_le, ◌==◌, ◌&&◌, ◌||◌, if◌then◌else◌, List, [], ◌∷◌, ◌++◌}
+use Rattle.std.specs.Prelude.{ℕ, ◌+◌, ◌-◌, ◌/◌, ◌%◌, Bool, nat_le, ◌==◌, ◌&&◌, ◌||◌, if◌then◌else◌, Option, Some, None, List, [], ◌∷◌, ◌++◌}
 use Rattle.std.specs.List.{flat_map}
+use Rattle.hints.specs.declared.visible.TheConstants.{MOST_SHOWN}
 
 -- one of the 95 printable characters of ASCII
 abbrev pub is_printable : ℕ → Bool
@@ -29,3 +30,13 @@ width b = if is_printable b then 1 else 4
 abbrev pub shown : List ℕ → ℕ → List ℕ
 shown [] room = []
 shown (b ∷ bs) room = if nat_le (width b) room then visible b ++ shown bs (room - width b) else []
+
+-- the line of a number, counted from 1
+abbrev pub line_of : List (List ℕ) → ℕ → Option (List ℕ)
+line_of [] number = None
+line_of (line ∷ lines) number = if nat_le number 1 then Some line else line_of lines (number - 1)
+
+-- how a line is shown, with its line feed; nothing for a line that isn't there
+abbrev pub shown_line : Option (List ℕ) → List ℕ
+shown_line None = []
+shown_line (Some line) = shown line MOST_SHOWN ++ 10 ∷ []

@@ -22,5 +22,5 @@ mod words;
 pub use command_line::{terminal_help, words_help};
 pub use ended_jobs::jobs_help;
 pub use help_text::HelpText;
-pub use script::script_help;
+pub use script::{line_help, script_help};
 pub use visible::MOST_SHOWN;

@@ -1,5 +1,7 @@
 //! The lines of an input: a line by its number, the card before it, the statements of a job.
-ghost use Rattle.std.specs.Prelude.{◌<◌, ◌≤◌, IfSome, length};
+ghost use Rattle.std.specs.Prelude.{◌≡◌, ◌<◌, ◌≤◌, IfSome, length, option_map};
+ghost use Rattle.text_lines.specs.Lines.{lines_of};
+ghost use Rattle.hints.specs.Shown.{line_of};
 
 use crate::words::{unindented, without_end};
 use std::alloc::{AllocError, Global};
@@ -16,13 +18,17 @@ pub(crate) struct InputLine<'a> {
 }
 
 /// The line of this number.
-pub(crate) fn line_at(input: &[u8], number: u32) -> Option<InputLine<'_>> {
+pub(crate) fn line_at(input: &[u8], number: u32) -> Option<InputLine<'_>>
+    ensures { option_map (λ line. line.text.now) result ≡ line_of (lines_of input.now) number }
+{
     let mut rest = input;
-    for _ in 1..number {
+    let mut left = number;
+    while left > 1 {
         let Some((_, after)) = split_line(rest) else {
             return None;
         };
         rest = after;
+        left -= 1;
     }
     match split_line(rest) {
         Some((text, after)) => Some(InputLine {

@@ -101,6 +101,9 @@ fn value_hint<'a>(parameter: &'a [u8], inside: &'a [u8]) -> Option<Hint<'a>> {
     if parameter == b"VAL".as_slice() {
         return values_hint(inside);
     }
+    if parameter == b"MSGID".as_slice() {
+        return message_hint(inside);
+    }
     if parameter == b"OPTION".as_slice() {
         return choice_hint(inside, b"*INP *ALL", b"OPTION is *INP or *ALL");
     }
@@ -116,6 +119,22 @@ fn choice_hint<'a>(inside: &[u8], choices: &[u8], sentence: &'static [u8]) -> Op
     } else {
         Some(Hint::Plain(sentence))
     }
+}
+
+/// A message of IBM i, as CPF5006, among the names of replies.
+fn message_hint(names: &[u8]) -> Option<Hint<'_>> {
+    let mut rest = names;
+    while let Some((word, others)) = next_word(rest) {
+        if word.iter().any(|byte| byte.is_ascii_digit()) {
+            return Some(Hint::Word(
+                b"MSGID has *ANY or names of replies (docs/messages.md), and not ",
+                word,
+                b"",
+            ));
+        }
+        rest = others;
+    }
+    None
 }
 
 /// The first word that is no value.

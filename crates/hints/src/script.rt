@@ -1,4 +1,8 @@
 //! Help beside the status of an input at fault.
+ghost use Rattle.std.specs.Prelude.{◌≡◌, ◌≤◌, ◌+◌, IfOk, length};
+ghost use Rattle.text_lines.specs.Lines.{lines_of};
+ghost use Rattle.hints.specs.Shown.{line_of, shown_line};
+
 use crate::cards::{card_hint, first_line_hint};
 use crate::characters::character_hint;
 use crate::columns::{RULER, column_hint, fault_in};
@@ -7,6 +11,7 @@ use crate::hint::Hint;
 use crate::job_lines::JobLines;
 use crate::lines::{InputLine, card_before, is_card, joined, line_at};
 use crate::statements::statement_hint;
+use crate::visible::MOST_SHOWN;
 use crate::words::{first_word, trimmed};
 use std::alloc::{AllocError, Global};
 use text_lines::lines::split_line;
@@ -22,15 +27,29 @@ enum Part<'a> {
     Statement(InputLine<'a>),
 }
 
-/// The line of this number as far as it is shown, and what is known to be wrong with it if it is the first at fault.
+/// The line of this number, as far as it is shown; nothing where there is none.
+pub fn line_help(alloc: Global, input: &[u8], number: u32) -> Result<HelpText, AllocError>
+    ensures shown { IfOk result (λ help. help ≡ shown_line (line_of (lines_of input.now) number)) }
+    ensures short { IfOk result (λ help. length help ≤ MOST_SHOWN + 1) }
+{
+    let mut help = HelpText::new(alloc);
+    match line_at(input, number) {
+        Some(line) => {
+            help.push_cut(line.text)?;
+            help.end_line()?;
+            Ok(help)
+        }
+        None => Ok(help),
+    }
+}
+
+/// What is known to be wrong with the line of this number, if it is the first at fault.
 pub fn script_help(alloc: Global, input: &[u8], number: u32) -> Result<HelpText, AllocError> {
     let mut help = HelpText::new(alloc);
     let Some(line) = line_at(input, number) else {
         help.push_hint(&end_hint(input))?;
         return Ok(help);
     };
-    help.push_cut(line.text)?;
-    help.end_line()?;
     if let Some(part) = part_of(input, line) {
         push_part(alloc, &mut help, input, line, part)?;
     }

@@ -1,5 +1,5 @@
 //! Mistakes in cards, in lines of sources and between the lines of a job: an input, its line at fault, and the help.
-use hints::script_help;
+use crate::texts::whole_help;
 use std::alloc::Global;
 use std::process::Abort;
 use std::test::Fail;
@@ -205,8 +205,8 @@ const UNKNOWN: Rows = &[
 
 fn check_rows(rt: &impl Abort, alloc: Global, rows: Rows) -> Result<(), Fail> {
     for &(input, line, wanted) in rows {
-        let help = script_help(alloc, input, line)?;
-        assert_eq!(rt; help.as_bytes(), wanted.as_bytes(), "{wanted}");
+        let help = whole_help(alloc, input, line)?;
+        assert_eq!(rt; help.as_slice(), wanted.as_bytes(), "{wanted}");
     }
     Ok(())
 }
@@ -246,13 +246,13 @@ fn unknown(rt: HostRuntime) -> Result<(), Fail> {
 fn long_lines(rt: HostRuntime) -> Result<(), Fail> {
     let mut input = vec![in rt.alloc(); b'x'; 98]?;
     input.extend_from_slice(b"\x07yz\n")?;
-    let help = script_help(rt.alloc(), input.as_slice(), 1)?;
+    let help = whole_help(rt.alloc(), input.as_slice(), 1)?;
     let front = help
-        .as_bytes()
+        .as_slice()
         .iter()
         .take_while(|&&byte| byte == b'x')
         .count();
     assert_eq!(rt; front, 98);
-    assert_eq!(rt; help.as_bytes().get(98).copied(), Some(b'\n'));
+    assert_eq!(rt; help.as_slice().get(98).copied(), Some(b'\n'));
     Ok(())
 }

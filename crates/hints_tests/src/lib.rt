@@ -7,3 +7,5 @@ mod cards;
 mod runs;
 #[cfg(test)]
 mod statements;
+#[cfg(test)]
+mod texts;

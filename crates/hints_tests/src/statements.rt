@@ -1,5 +1,5 @@
 //! Mistakes in a statement, and the hint that each gets.
-use hints::script_help;
+use crate::texts::whole_help;
 use std::alloc::{AllocError, Global};
 use std::process::Abort;
 use std::test::Fail;
@@ -63,6 +63,10 @@ const PARAMETERS: Rows = &[
 ];
 
 const VALUES: Rows = &[
+    (
+        "MONMSG MSGID(CPF5006)",
+        "MSGID has *ANY or names of replies (docs/messages.md), and not CPF5006",
+    ),
     ("DLTF FILE(cust)", "the letters of a name are capital: cust"),
     (
         "DLTF FILE(CUSTOMERMASTER)",
@@ -214,9 +218,9 @@ fn check_row(
     hint: &str,
 ) -> Result<(), Fail> {
     let input = input_with(alloc, statement)?;
-    let help = script_help(alloc, input.as_slice(), 2)?;
+    let help = whole_help(alloc, input.as_slice(), 2)?;
     let wanted = wanted(alloc, shown, hint)?;
-    assert_eq!(rt; help.as_bytes(), wanted.as_slice(), "{hint}");
+    assert_eq!(rt; help.as_slice(), wanted.as_slice(), "{hint}");
     Ok(())
 }
 

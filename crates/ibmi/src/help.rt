@@ -1,6 +1,6 @@
 //! Help on standard error, below the text of a status. Where it can't be made, nothing is printed.
 use crate::kept::Kept;
-use hints::{HelpText, jobs_help, script_help, terminal_help, words_help};
+use hints::{HelpText, jobs_help, line_help, script_help, terminal_help, words_help};
 use ibmi_batch::status::Status;
 use std::alloc::{AllocError, Global};
 
@@ -14,25 +14,10 @@ pub(crate) struct Remains<'a> {
 
 /// Says what helps beside a status.
 pub(crate) fn say_help<R: Eprint>(rt: &R, alloc: Global, status: Status, remains: &Remains<'_>) {
-    if let Some(help) = status_help(alloc, status, remains) {
-        say(rt, &help);
-    }
-}
-
-/// Says what to type, where words that are a run have a terminal as their input.
-pub(crate) fn say_terminal_help<R: Eprint>(rt: &R, alloc: Global, words: &[String]) {
-    if words_help(alloc, words).is_ok_and(|help| help.as_bytes().is_empty()) {
-        if let Ok(help) = terminal_help(alloc) {
-            say(rt, &help);
-        }
-    }
-}
-
-fn status_help(alloc: Global, status: Status, remains: &Remains<'_>) -> Option<HelpText> {
-    let help: Result<HelpText, AllocError> = match status {
-        Status::Words => words_help(alloc, remains.words),
-        Status::Script { line } => script_help(alloc, remains.input.whole()?, line),
-        Status::JobsEnded => jobs_help(alloc, remains.input.whole()?, remains.listing.whole()?),
+    match status {
+        Status::Words => say(rt, words_help(alloc, remains.words)),
+        Status::Script { line } => say_script_help(rt, alloc, line, remains),
+        Status::JobsEnded => say_jobs_help(rt, alloc, remains),
         Status::Done
         | Status::ReadFault
         | Status::TooLong
@@ -41,12 +26,34 @@ fn status_help(alloc: Global, status: Status, remains: &Remains<'_>) -> Option<H
         | Status::StoreFault
         | Status::WriteFault
         | Status::NoMemory
-        | Status::Exists => return None,
-    };
-    help.ok()
+        | Status::Exists => {}
+    }
 }
 
-fn say<R: Eprint>(rt: &R, help: &HelpText) {
+fn say_script_help<R: Eprint>(rt: &R, alloc: Global, line: u32, remains: &Remains<'_>) {
+    if let Some(input) = remains.input.whole() {
+        say(rt, line_help(alloc, input, line));
+        say(rt, script_help(alloc, input, line));
+    }
+}
+
+fn say_jobs_help<R: Eprint>(rt: &R, alloc: Global, remains: &Remains<'_>) {
+    if let (Some(input), Some(listing)) = (remains.input.whole(), remains.listing.whole()) {
+        say(rt, jobs_help(alloc, input, listing));
+    }
+}
+
+/// Says what to type, where words that are a run have a terminal as their input.
+pub(crate) fn say_terminal_help<R: Eprint>(rt: &R, alloc: Global, words: &[String]) {
+    if words_help(alloc, words).is_ok_and(|help| help.as_bytes().is_empty()) {
+        say(rt, terminal_help(alloc));
+    }
+}
+
+fn say<R: Eprint>(rt: &R, help: Result<HelpText, AllocError>) {
+    let Ok(help) = help else {
+        return;
+    };
     if let Ok(text) = str::from_utf8(help.as_bytes()) {
         let _ = eprint!(rt; "{text}");
     }
