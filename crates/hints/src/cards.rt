@@ -65,7 +65,7 @@ fn word_hint(card: &[u8]) -> Option<Hint<'_>> {
         return if rest.is_empty() {
             None
         } else {
-            Some(Hint::Plain(b"//END stands alone: not even a blank is behind it"))
+            Some(Hint::Plain(b"//END stands alone: not even a blank is after it"))
         };
     }
     Some(unknown_card(word))
@@ -89,29 +89,29 @@ fn unknown_card(word: &[u8]) -> Hint<'_> {
     )
 }
 
-/// A card with something right behind its word.
+/// A card with something right after its word.
 fn glued_card(card: &[u8]) -> Hint<'_> {
     if card == b"//END".as_slice() {
-        Hint::Plain(b"//END stands alone: not even a blank is behind it")
+        Hint::Plain(b"//END stands alone: not even a blank is after it")
     } else {
-        Hint::Word(b"a blank is missing behind ", card, b"")
+        Hint::Word(b"a blank is missing after ", card, b"")
     }
 }
 
 /// What is wrong with the name of a source or a job.
 fn named_hint<'a>(word: &'a [u8], rest: &'a [u8]) -> Option<Hint<'a>> {
-    let (name, behind) = first_word(unindented(rest));
+    let (name, others) = first_word(unindented(rest));
     if name.is_empty() {
-        return Some(Hint::Word(b"a name is missing behind ", word, b""));
+        return Some(Hint::Word(b"a name is missing after ", word, b""));
     }
     if let Some(hint) = name_hint(name) {
         return Some(hint);
     }
-    let more = trimmed(behind);
+    let more = trimmed(others);
     if more.is_empty() {
         None
     } else {
-        Some(Hint::Word(b"a card has one name alone; behind it stands ", more, b""))
+        Some(Hint::Word(b"a card has one name alone; after it stands ", more, b""))
     }
 }
 
@@ -181,8 +181,8 @@ fn same_card(input: &[u8], line: u32, word: &[u8], name: &[u8]) -> Option<u32> {
         let Some((text, after)) = split_line(rest) else {
             return None;
         };
-        let (other, behind) = first_word(text);
-        if other == word && trimmed(behind) == name {
+        let (other, others_name) = first_word(text);
+        if other == word && trimmed(others_name) == name {
             return Some(current);
         }
         rest = after;

@@ -109,9 +109,9 @@ fn push_part(
     match part {
         Part::First => help.push_hint(&first_line_hint(line.text)),
         Part::AfterEnd => help.push_hint(&Hint::Plain(
-            b"//END is the last line: nothing is behind it, not even an empty line",
+            b"//END is the last line: nothing is after it, not even an empty line",
         )),
-        Part::AfterSchedule => help.push_hint(&Hint::Plain(b"the line behind //SCHED is a card")),
+        Part::AfterSchedule => help.push_hint(&Hint::Plain(b"the line after //SCHED is a card")),
         Part::Card => push_card(alloc, help, input, line),
         Part::Source(card) => push_source(alloc, help, card, line),
         Part::Statement(card) => push_statement(alloc, help, card, line),

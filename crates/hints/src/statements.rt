@@ -77,10 +77,10 @@ fn unknown_command(word: &[u8]) -> Hint<'_> {
         return Hint::Plain(b"a card begins in the first column");
     }
     if word == b"A".as_slice() {
-        return Hint::Plain(b"a line of a source stands behind its card, //DDS and a name");
+        return Hint::Plain(b"a line of a source stands after its card, //DDS and a name");
     }
     if word.contains(&b'(') {
-        return Hint::Plain(b"a statement begins with a command, and a blank behind it");
+        return Hint::Plain(b"a statement begins with a command, and a blank after it");
     }
     Hint::Word(b"no command is called ", word, b"")
 }
@@ -159,10 +159,10 @@ fn place_hint(command: &'static [u8], job: JobLines<'_>) -> Option<Hint<'static>
         return Some(Hint::Plain(b"there is no open DO that this ENDDO would end"));
     }
     if command == b"ELSE".as_slice() && job.command_before() != Some(b"ENDDO".as_slice()) {
-        return Some(Hint::Plain(b"ELSE stands directly behind the ENDDO of its IF"));
+        return Some(Hint::Plain(b"ELSE stands directly after the ENDDO of its IF"));
     }
     if command == b"MONMSG".as_slice() && !follows_request(job.command_before()) {
-        return Some(Hint::Plain(b"MONMSG stands directly behind a request"));
+        return Some(Hint::Plain(b"MONMSG stands directly after a request"));
     }
     None
 }

@@ -4,7 +4,7 @@ ghost use Rattle.std.specs.Prelude.{◌<◌, ◌≤◌, IfSome, length};
 use text_lines::characters::folded;
 use text_lines::lines::{blanks_before, is_blank};
 
-/// What stands behind the blanks at the front of a text.
+/// What stands after the blanks at the front of a text.
 pub(crate) fn unindented(text: &[u8]) -> &[u8]
     ensures { length result.now ≤ length text.now }
 {

@@ -35,12 +35,12 @@ const CARDS: Rows = &[
     (
         b"//JOBJ1\n//END\n",
         1,
-        "//JOBJ1\nhint: a blank is missing behind //JOB\n",
+        "//JOBJ1\nhint: a blank is missing after //JOB\n",
     ),
     (
         b"//JOB\n//END\n",
         1,
-        "//JOB\nhint: a name is missing behind //JOB\n",
+        "//JOB\nhint: a name is missing after //JOB\n",
     ),
     (
         b"//JOB j1\n//END\n",
@@ -50,7 +50,7 @@ const CARDS: Rows = &[
     (
         b"//JOB J1 J2\n//END\n",
         1,
-        "//JOB J1 J2\nhint: a card has one name alone; behind it stands J2\n",
+        "//JOB J1 J2\nhint: a card has one name alone; after it stands J2\n",
     ),
     (
         b"//STEP J1\n//END\n",
@@ -88,12 +88,12 @@ const ENDS: Rows = &[
     (
         b"//JOB J1\n//END \n",
         2,
-        "//END \nhint: //END stands alone: not even a blank is behind it\n",
+        "//END \nhint: //END stands alone: not even a blank is after it\n",
     ),
     (
         b"//JOB J1\n//END.\n",
         2,
-        "//END.\nhint: //END stands alone: not even a blank is behind it\n",
+        "//END.\nhint: //END stands alone: not even a blank is after it\n",
     ),
     (
         b"//JOB J1\n//end\n",
@@ -103,12 +103,12 @@ const ENDS: Rows = &[
     (
         b"//JOB J1\n//END\n\n",
         3,
-        "\nhint: //END is the last line: nothing is behind it, not even an empty line\n",
+        "\nhint: //END is the last line: nothing is after it, not even an empty line\n",
     ),
     (
         b"//JOB J1\n//END\n//JOB J2\n",
         3,
-        "//JOB J2\nhint: //END is the last line: nothing is behind it, not even an empty line\n",
+        "//JOB J2\nhint: //END is the last line: nothing is after it, not even an empty line\n",
     ),
     (
         b"//JOB J1\nDOWHILE COND(1 *EQ 1)\n//END\n",
@@ -131,7 +131,7 @@ const SCHEDULES: Rows = &[
     (
         b"//SCHED *RR\nRETURN\n//END\n",
         2,
-        "RETURN\nhint: the line behind //SCHED is a card\n",
+        "RETURN\nhint: the line after //SCHED is a card\n",
     ),
     (
         b"//SCHED *RR\n//SCHED *RR\n//END\n",

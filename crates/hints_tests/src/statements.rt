@@ -24,11 +24,11 @@ const COMMANDS: Rows = &[
     (" //END", "a card begins in the first column"),
     (
         "     A            NAME           5A",
-        "a line of a source stands behind its card, //DDS and a name",
+        "a line of a source stands after its card, //DDS and a name",
     ),
     (
         "DLTF(CUST)",
-        "a statement begins with a command, and a blank behind it",
+        "a statement begins with a command, and a blank after it",
     ),
     ("l1: RETURN", "the letters of a name are capital: l1"),
     ("L1:", "a label stands before a statement, on its line"),
@@ -129,11 +129,11 @@ const PLACES: Rows = &[
     ("ENDDO", "there is no open DO that this ENDDO would end"),
     (
         "ELSE CMD(DO)",
-        "ELSE stands directly behind the ENDDO of its IF",
+        "ELSE stands directly after the ENDDO of its IF",
     ),
     (
         "MONMSG MSGID(*ANY)",
-        "MONMSG stands directly behind a request",
+        "MONMSG stands directly after a request",
     ),
 ];
 
