@@ -1,5 +1,5 @@
 //! Mistakes in cards, in lines of sources and between the lines of a job: an input, its line at fault, and the help.
-use crate::texts::whole_help;
+use crate::texts::{line_at_fault, whole_help};
 use std::alloc::Global;
 use std::process::Abort;
 use std::test::Fail;
@@ -7,6 +7,11 @@ use std::test::Fail;
 type Rows = &'static [(&'static [u8], u32, &'static str)];
 
 const CARDS: Rows = &[
+    (
+        b"//DDS C\n     A          R CR\n     A            N              5A\n     A          K N\n//END\n",
+        1,
+        "//DDS C\nhint: the source has a key field, in line 4 of the input; keyed files aren't built yet\n",
+    ),
     (
         b"\xEF\xBB\xBF//JOB J1\n//END\n",
         1,
@@ -140,12 +145,8 @@ const SCHEDULES: Rows = &[
     ),
 ];
 
+/// Faults of sources, which are replies and no faults of the input.
 const SOURCES: Rows = &[
-    (
-        b"//DDS C\n     A          R CR\n     A            N              5A\n     A          K N\n//END\n",
-        1,
-        "//DDS C\nhint: the source has a key field, in line 4 of the input; keyed files aren't built yet\n",
-    ),
     (
         b"//DDS C\n     A         R CR\n//END\n",
         2,
@@ -203,6 +204,13 @@ const UNKNOWN: Rows = &[
     ),
 ];
 
+fn check_faults(rt: &impl Abort, alloc: Global, rows: Rows) -> Result<(), Fail> {
+    for &(input, line, wanted) in rows {
+        assert_eq!(rt; line_at_fault(alloc, input)?, Some(line), "{wanted}");
+    }
+    check_rows(rt, alloc, rows)
+}
+
 fn check_rows(rt: &impl Abort, alloc: Global, rows: Rows) -> Result<(), Fail> {
     for &(input, line, wanted) in rows {
         let help = whole_help(alloc, input, line)?;
@@ -213,17 +221,17 @@ fn check_rows(rt: &impl Abort, alloc: Global, rows: Rows) -> Result<(), Fail> {
 
 #[test]
 fn cards(rt: HostRuntime) -> Result<(), Fail> {
-    check_rows(&rt, rt.alloc(), CARDS)
+    check_faults(&rt, rt.alloc(), CARDS)
 }
 
 #[test]
 fn ends(rt: HostRuntime) -> Result<(), Fail> {
-    check_rows(&rt, rt.alloc(), ENDS)
+    check_faults(&rt, rt.alloc(), ENDS)
 }
 
 #[test]
 fn schedules(rt: HostRuntime) -> Result<(), Fail> {
-    check_rows(&rt, rt.alloc(), SCHEDULES)
+    check_faults(&rt, rt.alloc(), SCHEDULES)
 }
 
 #[test]
@@ -233,7 +241,7 @@ fn sources(rt: HostRuntime) -> Result<(), Fail> {
 
 #[test]
 fn jobs(rt: HostRuntime) -> Result<(), Fail> {
-    check_rows(&rt, rt.alloc(), JOBS)
+    check_faults(&rt, rt.alloc(), JOBS)
 }
 
 #[test]

@@ -1,5 +1,5 @@
 //! Mistakes in a statement, and the hint that each gets.
-use crate::texts::whole_help;
+use crate::texts::{line_at_fault, whole_help};
 use std::alloc::{AllocError, Global};
 use std::process::Abort;
 use std::test::Fail;
@@ -218,6 +218,7 @@ fn check_row(
     hint: &str,
 ) -> Result<(), Fail> {
     let input = input_with(alloc, statement)?;
+    assert_eq!(rt; line_at_fault(alloc, input.as_slice())?, Some(2), "{hint}");
     let help = whole_help(alloc, input.as_slice(), 2)?;
     let wanted = wanted(alloc, shown, hint)?;
     assert_eq!(rt; help.as_slice(), wanted.as_slice(), "{hint}");
