@@ -24,15 +24,36 @@ const COMMANDS: &[(&[u8], &[u8], &[u8])] = &[
     (b"RETURN", b"", b""),
     (b"CRTPF", b"FILE SRC", b"FILE SRC"),
     (b"DLTF", b"FILE", b"FILE"),
+    (b"ADDPFM", b"FILE MBR", b"FILE"),
+    (b"CLRPFM", b"FILE MBR", b"FILE"),
+    (b"RGZPFM", b"FILE MBR", b"FILE"),
+    (b"STRJRNPF", b"FILE MBR IMAGES", b"FILE"),
+    (b"ENDJRNPF", b"FILE MBR", b"FILE"),
+    (b"CHGJRN", b"", b""),
+    (b"DLTJRNRCV", b"RCV", b"RCV"),
+    (b"DSPJRN", b"FROMENT TOENT", b"FROMENT TOENT"),
+    (b"APYJRNCHG", b"FILE MBR FROMENT TOENT", b"FILE"),
+    (b"RMVJRNCHG", b"FILE MBR FROMENT TOENT", b"FILE"),
+    (b"ENDCMTCTL", b"", b""),
+    (b"COMMIT", b"", b""),
+    (b"ROLLBACK", b"", b""),
+    (b"CLOF", b"OPNID", b"OPNID"),
+    (b"SETLL", b"OPNID KEY RRN", b"OPNID"),
+    (b"SETGT", b"OPNID KEY RRN", b"OPNID"),
+    (b"READ", b"OPNID LCK TO", b"OPNID"),
+    (b"READP", b"OPNID LCK TO", b"OPNID"),
+    (b"READE", b"OPNID KEY LCK TO", b"OPNID KEY"),
+    (b"READPE", b"OPNID KEY LCK TO", b"OPNID KEY"),
+    (b"UPDATE", b"OPNID VAL", b"OPNID VAL"),
+    (b"DELETE", b"OPNID", b"OPNID"),
+    (b"UNLOCK", b"OPNID", b"OPNID"),
     (b"OPNDBF", b"FILE OPTION MBR OPNID COMMIT ACCPTH", b"FILE"),
     (b"WRITE", b"OPNID FMT RRN VAL", b"OPNID VAL"),
     (b"CHAIN", b"OPNID KEY RRN LCK TO", b"OPNID"),
 ];
 
 /// The commands that aren't built yet.
-const TO_COME: &[u8] =
-    b"CRTLF ADDPFM CLRPFM RGZPFM STRJRNPF ENDJRNPF CHGJRN DLTJRNRCV CHKPT DSPJRN APYJRNCHG RMVJRNCHG \
-STRCMTCTL ENDCMTCTL COMMIT ROLLBACK CLOF SETLL SETGT READ READP READE READPE UPDATE DELETE UNLOCK";
+const TO_COME: &[u8] = b"CRTLF CHKPT STRCMTCTL";
 
 /// The command of a word that may be run.
 pub(crate) fn command_named(word: &[u8]) -> Option<CommandWords> {

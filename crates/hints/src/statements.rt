@@ -4,7 +4,7 @@ use crate::hint::Hint;
 use crate::job_lines::{JobLines, label_and_body};
 use crate::names::name_hint;
 use crate::parameters::{given, parameters_hint};
-use crate::words::{has_word, next_word, trimmed};
+use crate::words::{has_word, next_word};
 
 /// The first thing that is known to be wrong with a statement whose lines are joined.
 pub(crate) fn statement_hint<'a>(text: &'a [u8], job: JobLines<'_>) -> Option<Hint<'a>> {
@@ -94,7 +94,7 @@ fn command_hint<'a>(
     if let Some(hint) = parameters_hint(command, parameters) {
         return Some(hint);
     }
-    if let Some(hint) = unbuilt_hint(command.name, parameters) {
+    if let Some(hint) = position_hint(command.name, parameters) {
         return Some(hint);
     }
     if let Some(hint) = place_hint(command.name, job) {
@@ -106,48 +106,16 @@ fn command_hint<'a>(
     label_hint(command.name, parameters, job)
 }
 
-/// What a command may say and the program doesn't answer yet.
-fn unbuilt_hint<'a>(command: &[u8], parameters: &'a [u8]) -> Option<Hint<'a>> {
-    if command == b"CHAIN".as_slice() {
-        return chain_hint(parameters);
+/// A command that goes to a position by one of two parameters, and has none of them or both.
+fn position_hint<'a>(command: &'static [u8], parameters: &[u8]) -> Option<Hint<'a>> {
+    if !has_word(b"CHAIN SETLL SETGT", command) {
+        return None;
     }
-    if command == b"WRITE".as_slice() && !is_left_out(parameters, b"RRN", b"*END") {
-        return Some(Hint::Plain(
-            b"WRITE is built at the end of the member alone so far: leave RRN out",
-        ));
-    }
-    if command == b"OPNDBF".as_slice() {
-        if !is_left_out(parameters, b"COMMIT", b"*NO") {
-            return Some(Hint::Plain(b"commitment control isn't built yet: leave COMMIT out"));
-        }
-        if !is_left_out(parameters, b"ACCPTH", b"*FILE") {
-            return Some(Hint::Plain(b"ACCPTH is built with *FILE alone so far: leave it out"));
-        }
-    }
-    None
-}
-
-fn chain_hint(parameters: &[u8]) -> Option<Hint<'_>> {
     match (given(parameters, b"RRN"), given(parameters, b"KEY")) {
-        (None, None) => Some(Hint::Plain(b"CHAIN needs RRN(..) or KEY(..)")),
-        (Some(_), Some(_)) => Some(Hint::Plain(b"CHAIN has RRN or KEY, and not both")),
-        (Some(_), None) | (None, Some(_)) if !is_given(parameters, b"LCK", b"*NO") => Some(
-            Hint::Plain(b"CHAIN is built without a lock alone so far: add LCK(*NO)"),
-        ),
+        (None, None) => Some(Hint::Word(b"", command, b" needs RRN(..) or KEY(..)")),
+        (Some(_), Some(_)) => Some(Hint::Word(b"", command, b" has RRN or KEY, and not both")),
         (Some(_), None) | (None, Some(_)) => None,
     }
-}
-
-fn is_given(parameters: &[u8], name: &[u8], word: &[u8]) -> bool {
-    match given(parameters, name) {
-        Some(inside) => trimmed(inside) == word,
-        None => false,
-    }
-}
-
-/// Whether a parameter isn't given, or says what is so without it.
-fn is_left_out(parameters: &[u8], name: &[u8], default: &[u8]) -> bool {
-    given(parameters, name).is_none() || is_given(parameters, name, default)
 }
 
 /// A command that may not stand where it stands.

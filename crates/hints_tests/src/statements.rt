@@ -97,28 +97,14 @@ const VALUES: Rows = &[
     ("CHGVAR VAR(&N) VALUE(1)", "no DCL before it declares &N"),
 ];
 
-const NOT_YET: Rows = &[
-    (
-        "OPNDBF FILE(A) COMMIT(*YES)",
-        "commitment control isn't built yet: leave COMMIT out",
-    ),
-    (
-        "OPNDBF FILE(A) ACCPTH(*ARRIVAL)",
-        "ACCPTH is built with *FILE alone so far: leave it out",
-    ),
-    (
-        "WRITE OPNID(A) RRN(3) VAL('A')",
-        "WRITE is built at the end of the member alone so far: leave RRN out",
-    ),
-    (
-        "CHAIN OPNID(A) RRN(1)",
-        "CHAIN is built without a lock alone so far: add LCK(*NO)",
-    ),
+const POSITIONS: Rows = &[
     ("CHAIN OPNID(A) LCK(*NO)", "CHAIN needs RRN(..) or KEY(..)"),
     (
         "CHAIN OPNID(A) RRN(1) KEY(1) LCK(*NO)",
         "CHAIN has RRN or KEY, and not both",
     ),
+    ("SETLL OPNID(A)", "SETLL needs RRN(..) or KEY(..)"),
+    ("READE OPNID(A)", "a parameter is missing: KEY(..)"),
 ];
 
 const PLACES: Rows = &[
@@ -259,8 +245,8 @@ fn values(rt: HostRuntime) -> Result<(), Fail> {
 }
 
 #[test]
-fn not_yet(rt: HostRuntime) -> Result<(), Fail> {
-    check_rows(&rt, rt.alloc(), NOT_YET)
+fn positions(rt: HostRuntime) -> Result<(), Fail> {
+    check_rows(&rt, rt.alloc(), POSITIONS)
 }
 
 #[test]
