@@ -2,10 +2,15 @@
 //! The run itself stands in the crate `ibmi_batch`, the real source, sink and clock in the crate `outside`.
 #![tactic(auto)]
 
+mod help;
+mod kept;
+
+use crate::help::{Remains, say_help, say_terminal_help};
+use crate::kept::{KeptSink, KeptSource};
 use ibmi_batch::batch::program;
 use ibmi_batch::status::Status;
 use outside::{StandardInput, StandardOutput, SystemClock};
-use std::io::ErrorKind;
+use std::io::{ErrorKind, IsTerminal};
 use std::process::ExitCode;
 use std::{env, io};
 use store_model::{MemoryStore, OpenGate};
@@ -21,8 +26,12 @@ fn main(rt: HostRuntime) -> ExitCode {
     let Ok(clock) = rt.clone() else {
         return end(&rt, Status::NoMemory);
     };
-    let mut input = StandardInput::new(rt.reader());
-    let mut output = StandardOutput::new(io::writer(&rt));
+    let reader = rt.reader();
+    if reader.is_terminal() {
+        say_terminal_help(&rt, rt.alloc(), words.as_slice());
+    }
+    let mut input = KeptSource::new(rt.alloc(), StandardInput::new(reader));
+    let mut output = KeptSink::new(rt.alloc(), StandardOutput::new(io::writer(&rt)));
     let (status, _store, _clock) = program(
         &rt,
         rt.alloc(),
@@ -33,7 +42,14 @@ fn main(rt: HostRuntime) -> ExitCode {
         SystemClock::new(clock),
         &OpenGate,
     );
-    end(&rt, status)
+    let code = end(&rt, status);
+    let remains = Remains {
+        words: words.as_slice(),
+        input: input.kept(),
+        listing: output.kept(),
+    };
+    say_help(&rt, rt.alloc(), status, &remains);
+    code
 }
 
 /// What a run comes to whose words can't be had: one of them is no text, or there is no memory for them.

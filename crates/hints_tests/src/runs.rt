@@ -1,0 +1,106 @@
+//! Help for jobs that ended early, for words and for a terminal.
+use hints::{jobs_help, terminal_help, words_help};
+use std::alloc::{AllocError, Global};
+use std::process::Abort;
+use std::test::Fail;
+
+const INPUT: &[u8] =
+    b"//JOB J1\nCHAIN OPNID(CUST) RRN(2) LCK(*NO)\n//JOB J2\n CHGVAR VAR(&N) VALUE('A' + 1)\n//END\n";
+
+/// A listing, and the help.
+const LISTINGS: &[(&[u8], &str)] = &[
+    (
+        b"HISTORY\n1 J1 70 ENDJOB REASON(*NORMAL) LINE(0) => OK\nEND 1\n",
+        "",
+    ),
+    (
+        b"HISTORY\n1 J1 70 CHAIN OPNID(CUST) RRN(2) LCK(*NO) => NotFound\n2 J1 71 ENDJOB REASON(*ESCAPE) LINE(2) => OK\nEND 2\n",
+        "job J1 ended with *ESCAPE at line 2\nrequest: CHAIN OPNID(CUST) RRN(2) LCK(*NO)\nreply: NotFound\n",
+    ),
+    (
+        b"HISTORY\n1 J1 70 WRITE OPNID(C) VAL(' => ') => MemberFull\n2 J2 71 DLTF FILE(C) => OK\n3 J1 72 ENDJOB REASON(*ESCAPE) LINE(2) => OK\nEND 3\n",
+        "job J1 ended with *ESCAPE at line 2\nrequest: WRITE OPNID(C) VAL(' => ')\nreply: MemberFull\n",
+    ),
+    (
+        b"HISTORY\n1 J2 70 ENDJOB REASON(*EXPR) LINE(4) => OK\nEND 1\n",
+        "job J2 ended with *EXPR at line 4\nhint: an expression has no value, or TO has more variables than the record fields\nline: CHGVAR VAR(&N) VALUE('A' + 1)\n",
+    ),
+    (
+        b"HISTORY\n1 J2 70 ENDJOB REASON(*STMT) LINE(0) => OK\nEND 1\n",
+        "job J2 ended with *STMT\nhint: 100,000 statements were run, as a rule by a loop that doesn't end\n",
+    ),
+    (
+        b"HISTORY\n1 J2 70 ENDJOB REASON(*HISTORY) LINE(0) => OK\nEND 1\n",
+        "job J2 ended with *HISTORY\nhint: the run has as many calls as it may have: split it\n",
+    ),
+];
+
+fn check_listings(
+    rt: &impl Abort,
+    alloc: Global,
+    rows: &[(&'static [u8], &'static str)],
+) -> Result<(), Fail> {
+    for &(listing, wanted) in rows {
+        let help = jobs_help(alloc, INPUT, listing)?;
+        assert_eq!(rt; help.as_bytes(), wanted.as_bytes(), "{wanted}");
+    }
+    Ok(())
+}
+
+#[test]
+fn ended_jobs(rt: HostRuntime) -> Result<(), Fail> {
+    check_listings(&rt, rt.alloc(), LISTINGS)
+}
+
+/// Words, and the help.
+const WORDS: &[(&[&str], &str)] = &[
+    (&[], "hint: type RUN and the folder of the library\n"),
+    (&["RUN"], "hint: type the folder of the library after RUN\n"),
+    (&["run", "lib"], "hint: RUN has capital letters\n"),
+    (&["lib"], "hint: the first word is RUN, and not lib\n"),
+    (&["RUN", ""], "hint: the folder's name is empty\n"),
+    (
+        &["RUN", "-v"],
+        "hint: a folder's name doesn't begin with a hyphen; type ./-v\n",
+    ),
+    (
+        &["RUN", "my", "lib"],
+        "hint: one word follows RUN; put apostrophes around a name with blanks, or take out lib\n",
+    ),
+    (&["RUN", "lib"], ""),
+];
+
+fn strings(alloc: Global, words: &[&str]) -> Result<Vec<String>, AllocError> {
+    let mut strings = Vec::new(alloc);
+    for word in words {
+        strings.push(String::from_str(alloc, word)?)?;
+    }
+    Ok(strings)
+}
+
+fn check_words(
+    rt: &impl Abort,
+    alloc: Global,
+    rows: &[(&[&'static str], &'static str)],
+) -> Result<(), Fail> {
+    for &(words, wanted) in rows {
+        let words = strings(alloc, words)?;
+        let help = words_help(alloc, words.as_slice())?;
+        assert_eq!(rt; help.as_bytes(), wanted.as_bytes(), "{wanted}");
+    }
+    Ok(())
+}
+
+#[test]
+fn words(rt: HostRuntime) -> Result<(), Fail> {
+    check_words(&rt, rt.alloc(), WORDS)
+}
+
+#[test]
+fn terminal(rt: HostRuntime) -> Result<(), Fail> {
+    let help = terminal_help(rt.alloc())?;
+    let wanted =
+        "hint: the input is read from the terminal: type it, //END as its last line, and then Ctrl-D\nhint: to run an input that is in a file, type ibmi RUN folder < file\n";
+    assert_eq!(rt; help.as_bytes(), wanted.as_bytes());
+    Ok(())
+}
