@@ -34,6 +34,7 @@ const COMMANDS: &[(&[u8], &[u8], &[u8])] = &[
     (b"DSPJRN", b"FROMENT TOENT", b"FROMENT TOENT"),
     (b"APYJRNCHG", b"FILE MBR FROMENT TOENT", b"FILE"),
     (b"RMVJRNCHG", b"FILE MBR FROMENT TOENT", b"FILE"),
+    (b"STRCMTCTL", b"LCKLVL", b"LCKLVL"),
     (b"ENDCMTCTL", b"", b""),
     (b"COMMIT", b"", b""),
     (b"ROLLBACK", b"", b""),
@@ -53,7 +54,7 @@ const COMMANDS: &[(&[u8], &[u8], &[u8])] = &[
 ];
 
 /// The commands that aren't built yet.
-const TO_COME: &[u8] = b"CRTLF CHKPT STRCMTCTL";
+const TO_COME: &[u8] = b"CRTLF CHKPT";
 
 /// The command of a word that may be run.
 pub(crate) fn command_named(word: &[u8]) -> Option<CommandWords> {

@@ -15,7 +15,6 @@ const COMMANDS: Rows = &[
     ("Readp OPNID(A)", "commands have capital letters: READP"),
     ("CRTLF FILE(A) SRC(A)", "CRTLF isn't built yet"),
     ("CHKPT", "CHKPT isn't built yet"),
-    ("STRCMTCTL LCKLVL(*ALL)", "STRCMTCTL isn't built yet"),
     (
         "ENDJOB",
         "ENDJOB is no statement: a job ends after its last one",
