@@ -1,4 +1,5 @@
 mod AnswerLemmas
+mod ChangeLemmas
 mod FindLemmas
 mod LockLemmas
 mod PlaceLemmas

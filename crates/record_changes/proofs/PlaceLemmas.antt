@@ -1,22 +1,24 @@
 -- A record that stands there may be changed.
-use Rattle.std.proofs.Common.{◌≡◌, ◌∙◌, ℕ, zero, suc, ◌-◌, ◌≤◌, ◌==◌, true, false, if◌then◌else◌, is_some, Some, None, List, [], ◌∷◌, length, slice_get, sym, ap, subst, refl, arith}
+use Rattle.std.proofs.Common.{◌≡◌, ◌∙◌, ℕ, zero, suc, ◌+◌, ◌-◌, ◌<◌, ◌≤◌, ◌==◌, true, false, if◌then◌else◌, is_some, IsSome, Option, Some, None, unwrap_or, List, [], ◌∷◌, length, length-append, slice_get, sym, ap, subst, refl, arith}
 use Rattle.std.specs.List.{AllByRecursion}
 use Rattle.std.proofs.lemmas.Bool.Decides.{nat_tests}
 use Rattle.member_slots.specs.declared.slot.Slot.{Slot}
 use Rattle.member_slots.specs.declared.slot.Slot.TheVariants.{Live, Deleted}
-use Rattle.member_slots.specs.Member.{MemberState, FitsSlot, slot_at}
-use Rattle.member_slots.specs.Members.{member_of}
+use Rattle.member_slots.specs.Member.{MemberState, FitsSlot, appended, changed, empty_member, slot_at}
+use Rattle.member_slots.specs.Members.{NumberedMembers, member_at, member_of, with_member}
 use Rattle.record_fmt.specs.declared.formats.Field.{Field}
 use Rattle.record_fmt.specs.Layout.{record_length}
 use Rattle.record_fmt.specs.Records.{record_held}
 use Rattle.file_catalogue.specs.Owners.{Owns, AreApart}
 use Rattle.library_model.specs.Named.{Named, named}
-use Rattle.library_steps.specs.State.{State, FileState, fields_of, memory_of}
+use Rattle.library_steps.specs.State.{Memory, State, FileState, fields_of, memory_of}
 use Rattle.library_steps.specs.Records.{live_record, record_in}
+use Rattle.library_steps.specs.SlotChange.{slot_put, with_slot}
 use Rattle.library_parts.specs.Finds.{HasMember}
 use Rattle.library_parts.specs.Lawful.{HoldsValues, HasRecords}
-use Rattle.library_parts.proofs.MemberLemmas.{IsThere-IsSome, HasRecords-member_of}
-use Rattle.record_changes.specs.Places.{MayPut}
+use Rattle.library_parts.proofs.MemberLemmas.{IsThere-IsSome, HasRecords-member_of, item_at-with_item_same, length-changed, record_length-changed, slot_put-appended, slot_put-changed}
+use Rattle.library_parts.specs.Slots.{MayStand}
+use Rattle.record_changes.specs.Places.{MayPut, MayReturn}
 
 -- a place where a record stands, and in each field of it a value
 pub record IsLivePlace (fields : List Field) (slots : List Slot) (rrn : ℕ) (image : List ℕ) : Type 0 where
@@ -75,3 +77,65 @@ module _ (s : State) (name : List ℕ) (file : FileState) (member rrn : ℕ) (ha
         values = λ other another owns. subst (λ (f : FileState). HoldsValues (fields_of f) slot) (Owns-same s.files name other file another member apart has.owns owns) holds;
         added = λ behind. absurd (omega (arith, within, behind));
       }
+
+-- ---- a place without a record
+
+pub deleted-there : (o : Option Slot) → record_in o ≡ None → unwrap_or o Deleted ≡ Deleted
+deleted-there None none = refl
+deleted-there (Some Deleted) none = refl
+deleted-there (Some (Live image)) none = absurd cc
+
+nothing-behind : (slots : List Slot) → slice_get slots (length slots) ≡ None
+nothing-behind [] = refl
+nothing-behind (slot ∷ slots) = nothing-behind slots
+
+-- the place behind the last
+pub next-empty : (member : MemberState) → unwrap_or (slot_at member (length member.slots + 1)) Deleted ≡ Deleted
+next-empty member =
+    elim ((length member.slots + 1) == 0) as (λ b. unwrap_or (if b then None else slice_get member.slots (length member.slots + 1 - 1)) Deleted ≡ Deleted) [
+      | true ↦ refl
+      | false ↦ (
+          let place : length member.slots + 1 - 1 ≡ length member.slots = omega arith in
+          ap (λ (n : ℕ). unwrap_or (slice_get member.slots n) Deleted) place ∙ ap (λ (o : Option Slot). unwrap_or o Deleted) (nothing-behind member.slots))
+    ]
+
+-- ---- the slot that stood at a place where another is put
+
+is_some-of : {A : Type 0} (o : Option A) → IsSome o → is_some o ≡ true
+is_some-of None there = absurd there
+is_some-of (Some a) there = refl
+
+length-appended : (member : MemberState) (image : List ℕ) → length (appended member image).slots ≡ length member.slots + 1
+length-appended member image = length-append member.slots (Live image ∷ [])
+
+module _ (before after : State) (member rrn : ℕ) (slot old : Slot) (put : memory_of after ≡ with_slot member rrn slot (memory_of before)) (may : MayPut before.files before.members member rrn slot)
+    (fits : FitsSlot (member_of member before.members).record_length old) (stood : MayStand before member old) where
+  abbrev its : MemberState
+  its = member_of member before.members
+
+  back-at : (now : MemberState) → slot_put rrn slot its ≡ now → rrn ≤ length now.slots → now.record_length ≡ its.record_length → MayReturn after member rrn old
+  back-at now is near long =
+      let there = is_some-of (member_at member before.members) may.there in
+      let members : after.members ≡ with_member member now before.members =
+      ap (λ (m : Memory). m.members) put ∙ ap (λ (s : MemberState). with_member member s before.members) is in
+      let here : member_at member after.members ≡ Some now = ap (λ (ms : NumberedMembers). member_at member ms) members ∙ item_at-with_item_same member now before.members there in
+      let first = may.first in
+      record {
+        there = ap (λ (o : Option MemberState). is_some o) here;
+        place = subst (λ (o : Option MemberState). rrn - 1 < length (unwrap_or o (empty_member 0)).slots) (sym here) (omega (arith, first, near));
+        fits = subst (λ (o : Option MemberState). FitsSlot (unwrap_or o (empty_member 0)).record_length old) (sym here) (subst (λ (n : ℕ). FitsSlot n old) (sym long) fits);
+        values = subst (λ (files : Named FileState). (name : List ℕ) (file : FileState) → Owns files name file member → HoldsValues (fields_of file) old)
+            (sym (ap (λ (m : Memory). m.files) put)) stood;
+      }
+
+  -- at a place that the member had
+  pub MayReturn-within : rrn ≤ length its.slots → MayReturn after member rrn old
+  MayReturn-within within =
+      let same = length-changed its rrn slot in
+      back-at (changed its rrn slot) (slot_put-changed its rrn slot within) (omega (arith, same, within)) (record_length-changed its rrn slot)
+
+  -- behind the last
+  pub MayReturn-behind : (image : List ℕ) → slot ≡ Live image → rrn ≡ length its.slots + 1 → MayReturn after member rrn old
+  MayReturn-behind image live behind =
+      let same = length-appended its image in
+      back-at (appended its image) ((λ i. slot_put (behind i) (live i) its) ∙ slot_put-appended its image) (omega (arith, same, behind)) refl

@@ -2,3 +2,4 @@ pub mod Opens
 pub mod Plans
 pub mod Places
 pub mod Changes
+pub mod Locks

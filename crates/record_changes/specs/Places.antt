@@ -1,19 +1,24 @@
 -- Which slots may be put at which places, and what is ready before one is put. (Our own.)
-use Rattle.std.specs.Prelude.{◌≡◌, ℕ, ◌+◌, ◌≤◌, true, false, IsSome, List, length}
+use Rattle.std.specs.Prelude.{◌≡◌, ℕ, ◌+◌, ◌-◌, ◌<◌, ◌≤◌, Bool, true, false, Option, None, Some, IsSome, is_some, Ok, List, length}
 use Rattle.member_slots.specs.declared.slot.Slot.{Slot}
 use Rattle.member_slots.specs.Member.{FitsSlot, is_full, is_live}
 use Rattle.member_slots.specs.Members.{NumberedMembers, member_at, member_of}
 use Rattle.file_catalogue.specs.Owners.{Owns}
+use Rattle.journal_model.specs.Rollback.{MemberChange}
 use Rattle.library_model.specs.Named.{Named}
 use Rattle.library_steps.specs.declared.limits.TheConstants.{LAST_SEQUENCE, MOST_LIBRARY_BYTES}
-use Rattle.library_steps.specs.State.{State, FileState, fields_of, memory_of}
+use Rattle.library_steps.specs.State.{Memory, State, FileState, JobState, fields_of, job_of, memory_of}
+use Rattle.library_steps.specs.Records.{slot_there}
 use Rattle.library_steps.specs.Ranges.{library_bytes}
-use Rattle.library_steps.specs.SlotChange.{images_of}
+use Rattle.library_steps.specs.SlotChange.{NewSlot, images_of, change_made, few_changes}
 use Rattle.library_steps.specs.WriteRecord.{next_place}
 use Rattle.library_parts.specs.Lawful.{HoldsValues}
 use Rattle.library_parts.specs.Parts.{LibraryParts}
-use Rattle.library_parts.specs.Rooms.{HasSlotRoom}
+use Rattle.library_parts.specs.Rooms.{HasSlotRoom, HasUndoRoom}
+use Rattle.library_parts.specs.Slots.{MayStand}
 use Rattle.record_changes.specs.declared.planned.PlannedSlot.{PlannedSlot}
+use Rattle.record_changes.specs.declared.planned.Prepared.{Prepared}
+use Rattle.record_changes.specs.Plans.{new_slot}
 
 -- the slot adds a record, for which the member and the library have room
 pub record MayAdd (members : NumberedMembers) (member : ℕ) (slot : Slot) : Type 0 where
@@ -33,19 +38,43 @@ pub record MayPut (files : Named FileState) (members : NumberedMembers) (member 
 abbrev pub MayChange : State → PlannedSlot → Type 0
 MayChange s planned = MayPut s.files s.members planned.opened.member planned.rrn planned.slot
 
+-- the slot may be put back at the place, which the member has
+pub record MayReturn (s : State) (member rrn : ℕ) (slot : Slot) : Type 0 where
+  pub there : is_some (member_at member s.members) ≡ true
+  pub place : rrn - 1 < length (member_of member s.members).slots
+  pub fits : FitsSlot (member_of member s.members).record_length slot
+  pub values : MayStand s member slot
+
+-- the change isn't too much for the open commit cycles
+abbrev pub AreFewChanges : PlannedSlot → Memory → Type 0
+AreFewChanges planned m = few_changes planned.opened.commit (slot_there planned.opened.member planned.rrn m) planned.slot m ≡ Ok true
+
+-- the change as the job's commit cycle keeps it, where it belongs to one
+abbrev pub undo_of : (commit : Bool) → Memory → JobState → NewSlot → Option MemberChange
+undo_of false m job new = None
+undo_of true m job new = Some (change_made m job new)
+
+abbrev pub HasUndoRoomIf : (commit : Bool) → ℕ → LibraryParts → Type 0
+HasUndoRoomIf false job parts = Unit {0}
+HasUndoRoomIf true job parts = HasUndoRoom job parts
+
 -- where the place is behind the last, the member has room for it
 abbrev pub HasPlaceRoom : LibraryParts → (member rrn : ℕ) → Type 0
 HasPlaceRoom parts member rrn = rrn ≡ next_place member (memory_of parts.state) → HasSlotRoom parts.room member
 
--- where the member is journaled, there is room for the entries of a change: two at most
-abbrev pub HasEntryRoom : LibraryParts → (member : ℕ) → Type 0
-HasEntryRoom parts member = IsSome (images_of member (memory_of parts.state)) → 2 ≤ parts.room.entries
+-- there is room for the entries of a change: for two where the member is journaled; under commitment for the start of the cycle besides, and for
+-- three that would take the change back and end the cycle
+abbrev pub HasEntryRoom : LibraryParts → (commit : Bool) → (member : ℕ) → Type 0
+HasEntryRoom parts false member = IsSome (images_of member (memory_of parts.state)) → 2 ≤ parts.room.entries
+HasEntryRoom parts true member = 6 ≤ parts.room.entries
 
--- the planned slot may be put, outside commitment; all memory that it wants is taken, and the slot is there once more for its entry
-pub record IsReady (parts : LibraryParts) (planned : PlannedSlot) (again : Slot) : Type 0 where
+-- the planned slot may be put, and all memory that it wants is taken
+pub record IsReady (parts : LibraryParts) (job : ℕ) (planned : PlannedSlot) (prepared : Prepared) : Type 0 where
   pub left : (memory_of parts.state).last_entry ≤ LAST_SEQUENCE
-  pub uncommitted : planned.opened.commit ≡ false
+  pub few : AreFewChanges planned (memory_of parts.state)
   pub may : MayChange parts.state planned
   pub place : HasPlaceRoom parts planned.opened.member planned.rrn
-  pub entries : HasEntryRoom parts planned.opened.member
-  pub same : IsSome (images_of planned.opened.member (memory_of parts.state)) → again ≡ planned.slot
+  pub entries : HasEntryRoom parts planned.opened.commit planned.opened.member
+  pub again : IsSome (images_of planned.opened.member (memory_of parts.state)) → prepared.again ≡ planned.slot
+  pub undo : prepared.undo ≡ undo_of planned.opened.commit (memory_of parts.state) (job_of job (memory_of parts.state)) (new_slot planned)
+  pub undo_room : HasUndoRoomIf planned.opened.commit job parts

@@ -1,105 +1,108 @@
-//! The effect of a changed slot: the slot itself, the status of its member, and its entries.
-ghost use Rattle.std.specs.Prelude.{◌≡◌, ◌≤◌, false, IfOk, IsSome, IsTrue, OnOk};
-ghost use Rattle.member_slots.specs.Members.{member_at};
-ghost use Rattle.library_steps.specs.declared.limits.TheConstants.{LAST_SEQUENCE};
+//! The effect of a changed slot: the slot itself, the job's commit cycle, the status of its member, and its entries. It takes no
+//! memory.
+ghost use Rattle.std.specs.Prelude.{◌≡◌, ◌+◌, ◌≤◌, ◌||◌, IfSome, IsSome, IsTrue};
 ghost use Rattle.library_steps.specs.State.{job_at, memory_of};
 ghost use Rattle.library_steps.specs.History.{is_running};
 ghost use Rattle.library_steps.specs.Records.{slot_there};
-ghost use Rattle.library_steps.specs.SlotChange.{images_of, with_slot};
-ghost use Rattle.record_changes.specs.Changes.{HasChanged};
-ghost use Rattle.record_changes.specs.Places.{HasEntryRoom, HasPlaceRoom, IsReady, MayChange, MayPut};
+ghost use Rattle.library_steps.specs.SlotChange.{are_both, images_of, slot_changed, with_slot};
+ghost use Rattle.record_changes.specs.Changes.{HasChanged, MayKeep, entries_kept, entries_left, with_kept};
+ghost use Rattle.record_changes.specs.Places.{HasPlaceRoom, IsReady, MayPut, MayReturn};
 ghost use Rattle.record_changes.specs.Plans.{new_slot};
 
+use crate::cycles::{cycle_begun, cycle_of};
 use crate::entries::ChangeEntries;
-use crate::planned::PlannedSlot;
+use crate::planned::{PlannedSlot, Prepared};
 use draft_list::Author;
 use entry_codec::Images;
+use job_table::Undo;
 use library_parts::Contents;
 use member_slots::slot::Slot;
-use std::alloc::AllocError;
 
-/// The most entries of a change.
-const MOST_ENTRIES: u32 = 2;
-
-/// The bytes of an entry with an image, beside those of the image.
-const ENTRY_BYTES: u64 = 50;
-
-/// Takes all the memory that the change wants, and answers the slot once more, for its entry.
-pub(crate) fn prepare_change(
-    contents: &mut Contents,
-    planned: &PlannedSlot,
-) -> Result<Slot, AllocError>
-    requires left { (memory_of contents.old.state).last_entry ≤ LAST_SEQUENCE }
-    requires uncommitted { planned.now.opened.commit ≡ false }
-    requires may { MayChange contents.old.state planned.now }
-    ensures state { contents.new.state ≡ contents.old.state }
-    ensures ready { IfOk result (λ again. IsReady contents.new planned.now again) }
-{
-    reserve_place(contents, planned.opened.member(), planned.rrn)?;
-    prepare_entries(contents, planned)
+/// The slots of a change that its entries tell of.
+#[derive(Drop)]
+struct ToldSlots {
+    old: Slot,
+    new: Slot,
 }
 
-/// Makes room for a slot more, where the place is behind the last.
-fn reserve_place(contents: &mut Contents, member: u32, rrn: u32) -> Result<(), AllocError>
-    requires { IsSome (member_at member contents.old.state.members) }
-    ensures state { contents.new.state ≡ contents.old.state }
-    ensures room { OnOk result (HasPlaceRoom contents.new member rrn) }
-{
-    if !contents.is_behind_last(member, rrn) {
-        return Ok(());
-    }
-    contents.reserve_slot(member)
-}
-
-/// Makes room for the entries, where the member is journaled, and answers the slot once more.
-fn prepare_entries(contents: &mut Contents, planned: &PlannedSlot) -> Result<Slot, AllocError>
-    ensures state { contents.new.state ≡ contents.old.state }
-    ensures others { contents.new.room ≡ record contents.old.room { entries = contents.new.room.entries } }
-    ensures room { OnOk result (HasEntryRoom contents.new planned.now.opened.member) }
-    ensures again { IfOk result (λ again. IsSome (images_of planned.now.opened.member (memory_of contents.old.state)) → again ≡ planned.now.slot) }
-{
-    let member = planned.opened.member();
-    if contents.images_of(member).is_none() {
-        // No entry tells of it.
-        return Ok(Slot::Deleted);
-    }
-    let bytes = ENTRY_BYTES + u64::from(contents.record_length(member));
-    contents.reserve_entries(MOST_ENTRIES, u64::from(MOST_ENTRIES) * bytes)?;
-    planned.slot.copied(contents.alloc())
-}
-
-/// Gives a slot another content, through an open that isn't under commitment control. `again` is that content once more,
-/// where the member is journaled. It takes no memory.
+/// Gives a slot another content.
 pub(crate) fn change_slot(
     contents: &mut Contents,
     job: u32,
     timestamp: u64,
     planned: PlannedSlot,
-    again: Slot,
+    prepared: Prepared,
 )
     requires running { IsTrue (is_running (job_at job contents.old.state.jobs)) }
-    requires ready { IsReady contents.old planned again }
+    requires ready { IsReady contents.old job planned prepared }
     ensures { HasChanged job timestamp (new_slot planned) contents.old.state contents.new.state }
 {
     let author = Author::of(contents, job, timestamp);
-    let PlannedSlot { opened, rrn, slot } = planned;
-    let member = opened.member();
-    let images = contents.images_of(member);
+    let member = planned.opened.member();
+    let rrn = planned.rrn;
+    let commit = planned.opened.commit();
+    let start = cycle_begun(contents, job, &planned.opened);
+    let cycle = cycle_of(contents, job, &planned.opened);
     let behind_last = contents.is_behind_last(member, rrn);
-    let old = put_slot(contents, member, rrn, slot);
-    contents.touch(member);
+    let images = contents.images_of(member);
+    let told = put_kept(contents, job, planned, prepared);
     let Some(images) = images else {
         return;
     };
     let entries = ChangeEntries {
         author,
-        cycle: None,
+        start,
+        cycle,
         member,
         rrn,
-        both: images == Images::Both,
+        both: are_both(commit, images),
         behind_last,
     };
-    entries.deposit(contents, old, again);
+    entries.deposit(contents, told.old, told.new);
+}
+
+/// Whether the entries have the images before changes too.
+fn are_both(commit: bool, images: Images) -> bool
+    ensures { result ≡ (commit || are_both images) }
+{
+    commit || images == Images::Both
+}
+
+/// Puts the slot at its place, and keeps the change in the job's commit cycle if it belongs to one.
+fn put_kept(
+    contents: &mut Contents,
+    job: u32,
+    planned: PlannedSlot,
+    prepared: Prepared,
+) -> ToldSlots
+    requires running { IsTrue (is_running (job_at job contents.old.state.jobs)) }
+    requires ready { IsReady contents.old job planned prepared }
+    ensures old { result.old ≡ slot_there planned.opened.member planned.rrn (memory_of contents.old.state) }
+    ensures new { result.new ≡ prepared.again }
+    ensures memory { memory_of contents.new.state ≡ slot_changed job (new_slot planned) (memory_of contents.old.state) }
+    ensures entries { contents.new.state.entries ≡ contents.old.state.entries }
+    ensures left { IsSome (images_of planned.opened.member (memory_of contents.old.state)) → entries_left planned.opened.commit ≤ contents.new.room.entries }
+{
+    let PlannedSlot { opened, rrn, slot } = planned;
+    let Prepared { again, undo } = prepared;
+    let member = opened.member();
+    let old = put_slot(contents, member, rrn, slot);
+    keep_change(contents, job, undo);
+    contents.touch(member);
+    ToldSlots { old, new: again }
+}
+
+/// Keeps the change in the job's commit cycle, if there is one to keep.
+fn keep_change(contents: &mut Contents, job: u32, undo: Option<Undo>)
+    requires running { IsTrue (is_running (job_at job contents.old.state.jobs)) }
+    requires may { IfSome undo (MayKeep job contents.old) }
+    ensures memory { memory_of contents.new.state ≡ with_kept job undo (memory_of contents.old.state) }
+    ensures entries { contents.new.state.entries ≡ contents.old.state.entries }
+    ensures room { contents.old.room.entries ≤ contents.new.room.entries + entries_kept undo }
+{
+    if let Some(undo) = undo {
+        contents.note_undo(job, undo);
+    }
 }
 
 /// Puts the slot at its place, and hands back the one that stood there.
@@ -107,6 +110,7 @@ fn put_slot(contents: &mut Contents, member: u32, rrn: u32, slot: Slot) -> Slot
     requires may { MayPut contents.old.state.files contents.old.state.members member rrn slot }
     requires room { HasPlaceRoom contents.old member rrn }
     ensures before { result ≡ slot_there member rrn (memory_of contents.old.state) }
+    ensures back { MayReturn contents.new.state member rrn result }
     ensures memory { memory_of contents.new.state ≡ with_slot member rrn slot (memory_of contents.old.state) }
     ensures entries { contents.new.state.entries ≡ contents.old.state.entries }
     ensures room { contents.new.room ≡ record contents.old.room { spares = contents.new.room.spares } }

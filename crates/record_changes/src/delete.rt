@@ -1,19 +1,21 @@
 //! DELETE.
-ghost use Rattle.std.specs.Prelude.{◌≡◌, ◌≤◌, false, Ok, IfOk, IsTrue};
-ghost use Rattle.std.specs.List.{AllByRecursion};
+ghost use Rattle.std.specs.Prelude.{◌≤◌, Ok, IfOk, IsTrue};
 ghost use Rattle.library_steps.specs.declared.limits.TheConstants.{LAST_SEQUENCE};
 ghost use Rattle.library_steps.specs.State.{job_at, memory_of};
 ghost use Rattle.library_steps.specs.ChangeRecord.{delete_change, delete_plan, delete_record};
 ghost use Rattle.library_steps.specs.History.{is_running};
-ghost use Rattle.built_state.specs.Uncommitted.{IsUncommitted};
 ghost use Rattle.built_state.specs.Unkeyed.{AreUnkeyed};
+ghost use Rattle.lock_table.specs.declared.levels.Call.TheVariants.{Delete};
 ghost use Rattle.library_parts.specs.Answers.{Answers};
-ghost use Rattle.record_changes.specs.Places.{IsReady, MayChange};
+ghost use Rattle.library_parts.specs.Locks.{HasLockRoom};
+ghost use Rattle.record_changes.specs.Locks.{MayLock};
+ghost use Rattle.record_changes.specs.Places.{AreFewChanges, IsReady, MayChange};
 ghost use Rattle.record_changes.specs.Plans.{PlansSlot, new_slot};
 
-use crate::change_slot::{change_slot, prepare_change};
-use crate::locks::free_locks;
-use crate::planned::{PlannedSlot, Through};
+use crate::change_slot::change_slot;
+use crate::locks::{leave_locks, may_lock};
+use crate::planned::{PlannedSlot, Prepared, Through};
+use crate::prepare::prepare_change;
 use crate::refusals::{current_record, few_changes, may_change};
 use draft_list::may_deposit;
 use library_model::replies::Reply;
@@ -31,21 +33,20 @@ pub fn delete_record(
 ) -> Result<Reply, Stop>
     requires running { IsTrue (is_running (job_at job contents.old.state.jobs)) }
     requires unkeyed { AreUnkeyed contents.old.state.files }
-    requires uncommitted { AllByRecursion IsUncommitted contents.old.state.jobs }
     ensures answers { Answers contents.old.state contents.new.state result (delete_record (memory_of contents.old.state) job timestamp args.now) }
 {
     let planned = plan_delete(contents, job, args)?;
-    let again = prepare_change(contents, &planned)?;
-    Ok(apply_delete(contents, job, timestamp, planned, again))
+    let prepared = prepare_change(contents, job, &planned)?;
+    Ok(apply_delete(contents, job, timestamp, planned, prepared))
 }
 
 #[tactic(auto, unfolding(library_steps::specs::ChangeRecord::delete_plan))]
 fn plan_delete(contents: &Contents, job: u32, args: &OpenName) -> Result<PlannedSlot, Stop>
     requires running { IsTrue (is_running (job_at job contents.now.state.jobs)) }
-    requires uncommitted { AllByRecursion IsUncommitted contents.now.state.jobs }
     ensures plan { PlansSlot result (delete_plan (memory_of contents.now.state) job args.now) }
     ensures left { IfOk result (λ planned. (memory_of contents.now.state).last_entry ≤ LAST_SEQUENCE) }
-    ensures uncommitted { IfOk result (λ planned. planned.opened.commit ≡ false) }
+    ensures few { IfOk result (λ planned. AreFewChanges planned (memory_of contents.now.state)) }
+    ensures locks { IfOk result (λ planned. MayLock Delete job planned.opened planned.rrn (memory_of contents.now.state)) }
     ensures may { IfOk result (λ planned. MayChange contents.now.state planned) }
 {
     // No two members have one number.
@@ -60,6 +61,7 @@ fn plan_delete(contents: &Contents, job: u32, args: &OpenName) -> Result<Planned
     let Some(_old) = contents.live_image(opened.member(), rrn) else {
         return Err(Stop::NoMemory);
     };
+    may_lock(contents, Call::Delete, job, opened, rrn)?;
     Ok(PlannedSlot {
         opened: Through::of(opened),
         rrn,
@@ -72,16 +74,18 @@ fn apply_delete(
     job: u32,
     timestamp: u64,
     planned: PlannedSlot,
-    again: Slot,
+    prepared: Prepared,
 ) -> Reply
     requires running { IsTrue (is_running (job_at job contents.old.state.jobs)) }
-    requires ready { IsReady contents.old planned again }
+    requires locks { MayLock Delete job planned.opened planned.rrn (memory_of contents.old.state) }
+    requires lock_room { HasLockRoom contents.old.state contents.old.room }
+    requires ready { IsReady contents.old job planned prepared }
     ensures { Answers contents.old.state contents.new.state (Ok result) (Ok (delete_change (memory_of contents.old.state) job timestamp (new_slot planned))) }
 {
     let member = planned.opened.member();
     let rrn = planned.rrn;
-    free_locks(contents, Call::Delete, job, &planned.opened, rrn);
-    change_slot(contents, job, timestamp, planned, again);
+    leave_locks(contents, Call::Delete, job, &planned.opened, rrn);
+    change_slot(contents, job, timestamp, planned, prepared);
     contents.give_up_record(job, member, rrn);
     Reply::Done
 }

@@ -3,11 +3,13 @@
 #![tactic(auto)]
 
 mod change_slot;
+mod cycles;
 mod delete;
 mod entries;
 mod images;
 mod locks;
 mod planned;
+mod prepare;
 mod refusals;
 mod unlock_record;
 mod update;

@@ -3,7 +3,7 @@ ghost use Rattle.std.specs.Prelude.{◌≡◌};
 ghost use Rattle.library_steps.specs.Locking.{holder_of, record_of};
 ghost use Rattle.record_changes.specs.Opens.{bare};
 
-use job_table::Open;
+use job_table::{Open, Undo};
 use lock_table::{Holder, RecordId};
 use member_slots::slot::Slot;
 use std::marker::Model;
@@ -83,6 +83,15 @@ pub(crate) struct PlannedSlot {
     pub(crate) opened: Through,
     pub(crate) rrn: u32,
     pub(crate) slot: Slot,
+}
+
+/// Copies of slots that a change wants besides, so that it takes no memory.
+#[derive(Drop)]
+pub(crate) struct Prepared {
+    /// The new slot once more, for its entry, where the member is journaled.
+    pub(crate) again: Slot,
+    /// The change as the commit cycle keeps it, where the open is under commitment control.
+    pub(crate) undo: Option<Undo>,
 }
 
 /// The record that the open read last, which is locked.

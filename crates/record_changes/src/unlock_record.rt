@@ -12,7 +12,6 @@ use crate::planned::{LockedRead, Through};
 use library_model::replies::Reply;
 use library_model::requests::OpenName;
 use library_parts::{Contents, OpenFound, Stop};
-use lock_table::Call;
 
 /// Gives up the record that the open read last. It takes no memory.
 pub fn unlock(contents: &mut Contents, job: u32, args: &OpenName) -> Result<Reply, Stop>
@@ -50,7 +49,7 @@ fn apply_unlock(contents: &mut Contents, job: u32, read: LockedRead) -> Reply
     requires { IsTrue (is_running (job_at job contents.old.state.jobs)) }
     ensures { Answers contents.old.state contents.new.state (Ok result) (Ok (unlock_change (memory_of contents.old.state) job (last_read read))) }
 {
-    free_locks(contents, Call::Unlock, job, &read.opened, read.rrn);
+    free_locks(contents, job, &read.opened, read.rrn);
     contents.give_up_current(job, read.opened.number());
     Reply::Done
 }

@@ -1,22 +1,24 @@
 //! WRITE.
-ghost use Rattle.std.specs.Prelude.{◌≡◌, ◌≤◌, false, None, Ok, IfOk, IsTrue};
-ghost use Rattle.std.specs.List.{AllByRecursion};
+ghost use Rattle.std.specs.Prelude.{◌≡◌, ◌≤◌, None, Ok, IfOk, IsTrue};
+ghost use Rattle.member_slots.specs.declared.slot.Slot.TheVariants.{Deleted};
 ghost use Rattle.library_steps.specs.declared.limits.TheConstants.{LAST_SEQUENCE};
 ghost use Rattle.library_steps.specs.State.{job_at, memory_of};
 ghost use Rattle.library_steps.specs.History.{is_running};
 ghost use Rattle.library_steps.specs.Locking.{clashing};
+ghost use Rattle.library_steps.specs.Records.{slot_there};
 ghost use Rattle.library_steps.specs.WriteRecord.{next_place, place_asked, write_call, write_change, write_plan, write_record};
-ghost use Rattle.built_state.specs.Uncommitted.{IsUncommitted};
 ghost use Rattle.built_state.specs.Unkeyed.{AreUnkeyed};
 ghost use Rattle.library_parts.specs.Answers.{Answers, Gives};
-ghost use Rattle.library_parts.specs.Locks.{IsWrite};
-ghost use Rattle.record_changes.specs.Places.{IsReady, MayChange};
+ghost use Rattle.library_parts.specs.Locks.{HasLockRoom, IsWrite};
+ghost use Rattle.record_changes.specs.Locks.{MayLock};
+ghost use Rattle.record_changes.specs.Places.{AreFewChanges, IsReady, MayChange};
 ghost use Rattle.record_changes.specs.Plans.{PlansSlot, new_slot};
 
-use crate::change_slot::{change_slot, prepare_change};
+use crate::change_slot::change_slot;
 use crate::images::new_image;
-use crate::locks::free_locks;
-use crate::planned::{PlannedSlot, Through};
+use crate::locks::leave_locks;
+use crate::planned::{PlannedSlot, Prepared, Through};
+use crate::prepare::prepare_change;
 use crate::refusals::{is_format, keys_free, may_change};
 use draft_list::may_deposit;
 use job_table::Open;
@@ -35,24 +37,22 @@ pub fn write_record(
 ) -> Result<Reply, Stop>
     requires running { IsTrue (is_running (job_at job contents.old.state.jobs)) }
     requires unkeyed { AreUnkeyed contents.old.state.files }
-    requires uncommitted { AllByRecursion IsUncommitted contents.old.state.jobs }
     ensures answers { Answers contents.old.state contents.new.state result (write_record (memory_of contents.old.state) job timestamp args.now) }
 {
     let planned = plan_write(contents, job, args)?;
-    let again = prepare_change(contents, &planned)?;
+    let prepared = prepare_change(contents, job, &planned)?;
     let asked = args.record_number;
-    Ok(apply_write(contents, job, timestamp, asked, planned, again))
+    Ok(apply_write(contents, job, timestamp, asked, planned, prepared))
 }
 
 #[tactic(auto, unfolding(library_steps::specs::WriteRecord::write_plan))]
 fn plan_write(contents: &Contents, job: u32, args: &WriteRecord) -> Result<PlannedSlot, Stop>
     requires running { IsTrue (is_running (job_at job contents.now.state.jobs)) }
     requires unkeyed { AreUnkeyed contents.now.state.files }
-    requires uncommitted { AllByRecursion IsUncommitted contents.now.state.jobs }
     ensures plan { PlansSlot result (write_plan (memory_of contents.now.state) job args.now) }
     ensures left { IfOk result (λ planned. (memory_of contents.now.state).last_entry ≤ LAST_SEQUENCE) }
-    ensures uncommitted { IfOk result (λ planned. planned.opened.commit ≡ false) }
-    ensures unlocked { IfOk result (λ planned. clashing (write_call args.now.record_number) job planned.opened planned.rrn (memory_of contents.now.state) ≡ None) }
+    ensures few { IfOk result (λ planned. AreFewChanges planned (memory_of contents.now.state)) }
+    ensures locks { IfOk result (λ planned. MayLock (write_call args.now.record_number) job planned.opened planned.rrn (memory_of contents.now.state)) }
     ensures may { IfOk result (λ planned. MayChange contents.now.state planned) }
 {
     // No two members have one number.
@@ -89,11 +89,16 @@ fn place_asked(
     ensures place { Gives result (place_asked job opened.now asked (memory_of contents.now.state)) }
     ensures first { IfOk result (λ rrn. 1 ≤ rrn) }
     ensures near { IfOk result (λ rrn. rrn ≤ next_place opened.now.member (memory_of contents.now.state)) }
-    ensures unlocked { opened.now.commit ≡ false → IfOk result (λ rrn. clashing (write_call asked) job opened.now rrn (memory_of contents.now.state) ≡ None) }
+    ensures unlocked { IfOk result (λ rrn. clashing (write_call asked) job opened.now rrn (memory_of contents.now.state) ≡ None) }
+    ensures empty { IfOk result (λ rrn. slot_there opened.now.member rrn (memory_of contents.now.state) ≡ Deleted) }
 {
     let member = opened.member();
     let next = contents.next_place(member);
     let Some(rrn) = asked else {
+        // No job has a lock behind the last place.
+        if contents.clashing(Call::Write, job, opened, next).is_some() {
+            return Err(Stop::NoMemory);
+        }
         return Ok(next);
     };
     if rrn == 0 || rrn > next {
@@ -124,15 +129,16 @@ fn apply_write(
     timestamp: u64,
     asked: Option<u32>,
     planned: PlannedSlot,
-    again: Slot,
+    prepared: Prepared,
 ) -> Reply
     requires running { IsTrue (is_running (job_at job contents.old.state.jobs)) }
-    requires unlocked { clashing (write_call asked) job planned.opened planned.rrn (memory_of contents.old.state) ≡ None }
-    requires ready { IsReady contents.old planned again }
+    requires locks { MayLock (write_call asked) job planned.opened planned.rrn (memory_of contents.old.state) }
+    requires lock_room { HasLockRoom contents.old.state contents.old.room }
+    requires ready { IsReady contents.old job planned prepared }
     ensures { Answers contents.old.state contents.new.state (Ok result) (Ok (write_change (memory_of contents.old.state) job timestamp (write_call asked) (new_slot planned))) }
 {
     let rrn = planned.rrn;
-    free_locks(contents, write_call(asked), job, &planned.opened, rrn);
-    change_slot(contents, job, timestamp, planned, again);
+    leave_locks(contents, write_call(asked), job, &planned.opened, rrn);
+    change_slot(contents, job, timestamp, planned, prepared);
     Reply::Added { rrn }
 }

@@ -5,13 +5,8 @@ use Rattle.record_fmt.specs.Layout.{record_length}
 use Rattle.record_fmt.specs.Records.{record_held}
 use Rattle.library_steps.specs.State.{OpenState, fields_of, memory_of}
 use Rattle.library_steps.specs.Records.{live_record}
-use Rattle.record_changes.proofs.FindLemmas.{opened_file-uncommitted}
 use Rattle.record_changes.proofs.PlaceLemmas.{MayPut-live}
 use Rattle.record_changes.proofs.update.plan_update.Goals as goal
-
-pub returns-clause-uncommitted : goal.returns-clause-uncommitted
-returns-clause-uncommitted c =
-    ap (λ (o : OpenState). o.commit) c.of.ensures ∙ opened_file-uncommitted _ c.args.job (memory_of c.args.contents.now.state) _ c.requires.uncommitted c.in_ok-opened.ensures.found
 
 pub returns-clause-may : goal.returns-clause-may
 returns-clause-may c =

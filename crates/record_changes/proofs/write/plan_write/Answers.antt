@@ -1,13 +1,17 @@
-use Rattle.std.proofs.Common.{◌∙◌, ap}
-use Rattle.library_steps.specs.State.{OpenState, memory_of}
-use Rattle.record_changes.proofs.FindLemmas.{opened_file-uncommitted}
+use Rattle.std.proofs.Common.{◌≡◌, Ok, true, subst, sym}
+use Rattle.member_slots.specs.declared.slot.Slot.{Slot}
+use Rattle.member_slots.specs.declared.slot.Slot.TheVariants.{Live}
+use Rattle.lock_table.specs.declared.table.TheConstants.{MOST_LOCKS}
+use Rattle.library_steps.specs.State.{memory_of}
+use Rattle.library_steps.specs.SlotChange.{few_changes}
+use Rattle.record_changes.proofs.ChangeLemmas.{few-of}
 use Rattle.record_changes.proofs.write.plan_write.Goals as goal
 
-pub returns-clause-uncommitted : goal.returns-clause-uncommitted
-returns-clause-uncommitted c =
-    ap (λ (o : OpenState). o.commit) c.of.ensures ∙ opened_file-uncommitted _ c.args.job (memory_of c.args.contents.now.state) _ c.requires.uncommitted c.in_ok-opened.ensures.found
+pub returns-clause-few : goal.returns-clause-few
+returns-clause-few c =
+    let memory = memory_of c.args.contents.now.state in
+    let opened = c.in_ok-opened.field-0.opened.now in
+    rw c.of.ensures (subst (λ (slot : Slot). few_changes opened.commit slot (Live c.in_ok-image.image) memory ≡ Ok true) (sym c.in_ok-rrn.ensures.empty) c.in_ok-few_changes.ensures)
 
-pub returns-clause-unlocked : goal.returns-clause-unlocked
-returns-clause-unlocked c =
-    let uncommitted = opened_file-uncommitted _ c.args.job (memory_of c.args.contents.now.state) _ c.requires.uncommitted c.in_ok-opened.ensures.found in
-    rw c.of.ensures (c.in_ok-rrn.ensures.unlocked uncommitted)
+pub returns-clause-locks : goal.returns-clause-locks
+returns-clause-locks c = rw c.of.ensures (record { unlocked = c.in_ok-rrn.ensures.unlocked; few = few-of MOST_LOCKS _ _ (rw c.write_call.ensures.call at c.in_ok-few_locks_to_write.ensures) })

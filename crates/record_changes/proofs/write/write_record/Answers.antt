@@ -12,5 +12,5 @@ returns c =
     let call = write_call c.args.args.now.record_number in
     record {
       answers = Answers-planned bare_slot (λ m. write_change m c.args.job c.args.timestamp call) (λ m new. refl) old c.prepare_change.new.contents.state c.apply_write.new.contents.state
-          c.apply_write.result (write_plan (memory_of old) c.args.job c.args.args.now) (new_slot c.in_ok-planned.planned) c.in_ok-planned.ensures.plan c.in_ok-again.ensures.state c.apply_write.ensures;
+          c.apply_write.result (write_plan (memory_of old) c.args.job c.args.args.now) (new_slot c.in_ok-planned.planned) c.in_ok-planned.ensures.plan c.in_ok-prepared.ensures.state c.apply_write.ensures;
     }

@@ -1,0 +1,160 @@
+-- What a changed slot leaves: the change in its commit cycle, and its entries.
+use Rattle.std.proofs.Common.{◌≡◌, ◌∙◌, ℕ, ◌+◌, ◌-◌, ◌≤◌, ◌||◌, Bool, true, false, if◌then◌else◌, nat_lt, is_some, Option, Some, None, IfSome, IsSome, Ok, List, [], ◌∷◌, ◌++◌, length, sym, ap, subst, refl, arith}
+use Rattle.std.proofs.lemmas.Bool.Decides.{nat_tests}
+use Rattle.entry_codec.specs.declared.entries.Draft.{Draft}
+use Rattle.entry_codec.specs.declared.kinds.Images.{Images}
+use Rattle.member_slots.specs.declared.slot.Slot.{Slot}
+use Rattle.member_slots.specs.Member.{FitsSlot}
+use Rattle.member_slots.specs.Members.{member_of}
+use Rattle.journal_model.specs.Rollback.{MemberChange, numbered_from}
+use Rattle.job_table.specs.Table.{JobTable, HasRoomFor}
+use Rattle.library_model.specs.declared.replies.Reply.{Reply}
+use Rattle.library_steps.specs.declared.limits.TheConstants.{MOST_GROUP_CHANGES, MOST_GROUP_BYTES}
+use Rattle.library_steps.specs.State.{Memory, State, CycleState, JobState, fields_of, job_of, memory_of, with_status}
+use Rattle.library_steps.specs.Change.{deposited}
+use Rattle.library_steps.specs.Refusals.{◌>>=◌, refuse_if}
+use Rattle.library_steps.specs.Records.{slot_there}
+use Rattle.library_steps.specs.Drafts.{Author, author_of, slot_drafts}
+use Rattle.library_steps.specs.SlotChange.{NewSlot, are_both, begins_cycle, change_made, change_bytes, cycle_for, cycle_number, drafts_of, few_changes, images_of, is_behind_last, open_bytes, open_changes, slot_changed, touched, undo_bytes, with_slot, with_undo}
+use Rattle.library_parts.specs.Lawful.{HoldsValues}
+use Rattle.library_parts.specs.Parts.{LibraryParts, Room}
+use Rattle.draft_list.specs.Deposits.{with_drafts}
+use Rattle.draft_list.proofs.DepositLemmas.{memory-with_drafts, with_drafts-none, with_drafts-cons}
+use Rattle.record_changes.specs.declared.planned.PlannedSlot.{PlannedSlot}
+use Rattle.record_changes.specs.declared.planned.Prepared.{Prepared}
+use Rattle.record_changes.specs.Changes.{HasChanged, MayKeep, drafts_in, entries_kept, entries_left, started, with_kept}
+use Rattle.record_changes.specs.Places.{HasEntryRoom, HasUndoRoomIf, IsReady, MayReturn, undo_of}
+use Rattle.record_changes.specs.Plans.{new_slot}
+
+-- ---- refusals that don't hold
+
+refused-not : (b : Bool) (reply : Reply) → refuse_if b reply ≡ Ok true → b ≡ false
+refused-not true reply is = absurd cc
+refused-not false reply is = refl
+
+most-of : (most count : ℕ) → nat_lt most count ≡ false → count ≤ most
+most-of most count is = grind (arith, nat_tests)
+
+pub few-of : (most count : ℕ) (reply : Reply) → refuse_if (nat_lt most count) reply ≡ Ok true → count ≤ most
+few-of most count reply is = most-of most count (refused-not (nat_lt most count) reply is)
+
+neither : (a b : Bool) (one other : Reply) → (refuse_if a one >>= λ _. refuse_if b other) ≡ Ok true → (a ≡ false) × (b ≡ false)
+neither true b one other is = absurd cc
+neither false true one other is = absurd cc
+neither false false one other is = (refl, refl)
+
+-- ---- the slot is put, and its change is kept
+
+module _ (parts mid : LibraryParts) (job : ℕ) (planned : PlannedSlot) (prepared : Prepared) (old : Slot) (ready : IsReady parts job planned prepared)
+    (stood : old ≡ slot_there planned.opened.member planned.rrn (memory_of parts.state)) (back : MayReturn mid.state planned.opened.member planned.rrn old)
+    (put : memory_of mid.state ≡ with_slot planned.opened.member planned.rrn planned.slot (memory_of parts.state))
+    (room : mid.room ≡ record parts.room { spares = mid.room.spares }) where
+  abbrev before : Memory
+  before = memory_of parts.state
+
+  may-by : (commit : Bool) → HasEntryRoom parts commit planned.opened.member → HasUndoRoomIf commit job parts
+      → few_changes commit (slot_there planned.opened.member planned.rrn before) planned.slot before ≡ Ok true
+      → IfSome (undo_of commit before (job_of job before) (new_slot planned)) (MayKeep job mid)
+  may-by false entries undos few = tt
+  may-by true entries undos few =
+      let same : mid.room.entries ≡ parts.room.entries = ap (λ (r : Room). r.entries) room in
+      let jobs : parts.state.jobs ≡ mid.state.jobs = sym (ap (λ (m : Memory). m.jobs) put) in
+      let rooms : parts.room.undos ≡ mid.room.undos = sym (ap (λ (r : Room). r.undos) room) in
+      let changes : open_changes before ≡ open_changes (memory_of mid.state) = sym (ap open_changes put) in
+      let bytes : open_bytes before ≡ open_bytes (memory_of mid.state) = sym (ap open_bytes put) in
+      let both = neither (nat_lt MOST_GROUP_CHANGES (open_changes before + 1))
+      (nat_lt MOST_GROUP_BYTES (open_bytes before + undo_bytes (slot_there planned.opened.member planned.rrn before) planned.slot)) _ _ few in
+      record {
+        room = subst (λ (t : JobTable). HasRoomFor job t) (λ i. record { jobs = jobs i; rooms = rooms i }) undos;
+        entries = omega (arith, same, entries);
+        goes_back = record {
+          cycle = sym (ap (λ (m : Memory). Some (cycle_for m (job_of job m)).sequence) put);
+          place = record { there = back.there; place = back.place; fits = subst (λ (s : Slot). FitsSlot (member_of planned.opened.member mid.state.members).record_length s) stood back.fits };
+          values = λ name file owns. subst (λ (s : Slot). HoldsValues (fields_of file) s) stood (back.values name file owns);
+        };
+        few_changes = subst (λ (n : ℕ). n + 1 ≤ MOST_GROUP_CHANGES) changes (most-of MOST_GROUP_CHANGES (open_changes before + 1) both.0);
+        few_bytes = subst (λ (n : ℕ). n + undo_bytes (slot_there planned.opened.member planned.rrn before) planned.slot ≤ MOST_GROUP_BYTES) bytes (most-of MOST_GROUP_BYTES _ both.1);
+      }
+
+  pub kept-may : IfSome prepared.undo (MayKeep job mid)
+  kept-may = subst (λ (o : Option MemberChange). IfSome o (MayKeep job mid)) (sym ready.undo) (may-by planned.opened.commit ready.entries ready.undo_room ready.few)
+
+  changed-by : (commit : Bool) → with_status planned.opened.member touched
+      (with_kept job (undo_of commit before (job_of job before) (new_slot planned)) (with_slot planned.opened.member planned.rrn planned.slot before))
+      ≡ with_undo commit job (change_made before (job_of job before) (new_slot planned)) (cycle_for before (job_of job before))
+      (with_status planned.opened.member touched (with_slot planned.opened.member planned.rrn planned.slot before))
+  changed-by false = refl
+  changed-by true = refl
+
+  pub kept-changed : (kept after : Memory) → kept ≡ with_kept job prepared.undo (memory_of mid.state) → after ≡ with_status planned.opened.member touched kept
+      → after ≡ slot_changed job (new_slot planned) before
+  kept-changed kept after is touch =
+      touch ∙ ap (with_status planned.opened.member touched) (is ∙ (λ i. with_kept job (ready.undo i) (put i))) ∙ changed-by planned.opened.commit
+
+  left-by : (commit : Bool) (after : ℕ) → HasEntryRoom parts commit planned.opened.member → IsSome (images_of planned.opened.member before)
+      → mid.room.entries ≤ after + entries_kept (undo_of commit before (job_of job before) (new_slot planned)) → entries_left commit ≤ after
+  left-by false after entries some kept =
+      let same : mid.room.entries ≡ parts.room.entries = ap (λ (r : Room). r.entries) room in let two = entries some in omega (arith, same, two, kept)
+  left-by true after entries some kept =
+      let same : mid.room.entries ≡ parts.room.entries = ap (λ (r : Room). r.entries) room in omega (arith, same, entries, kept)
+
+  pub kept-left : (after : ℕ) → IsSome (images_of planned.opened.member before) → mid.room.entries ≤ after + entries_kept prepared.undo → entries_left planned.opened.commit ≤ after
+  kept-left after some kept =
+      left-by planned.opened.commit after ready.entries some (subst (λ (o : Option MemberChange). mid.room.entries ≤ after + entries_kept o) ready.undo kept)
+
+-- ---- its entries
+
+last-by : (commit : Bool) (job : ℕ) (undo : MemberChange) (cycle : CycleState) (m : Memory) → (with_undo commit job undo cycle m).last_entry ≡ m.last_entry
+last-by false job undo cycle m = refl
+last-by true job undo cycle m = refl
+
+-- no entry is deposited by it yet
+pub changed-last : (job : ℕ) (new : NewSlot) (m : Memory) → (slot_changed job new m).last_entry ≡ m.last_entry
+changed-last job new m =
+    last-by new.opened.commit job (change_made m (job_of job m) new) (cycle_for m (job_of job m)) (with_status new.opened.member touched (with_slot new.opened.member new.rrn new.slot m))
+
+pub HasChanged-told : (job timestamp : ℕ) (new : NewSlot) (before mid after : State) (made : List Draft) → memory_of mid ≡ slot_changed job new (memory_of before)
+    → mid.entries ≡ before.entries → after ≡ with_drafts mid made → made ≡ drafts_in job timestamp new (memory_of before) → HasChanged job timestamp new before after
+HasChanged-told job timestamp new before mid after made is kept told are =
+    let last = changed-last job new (memory_of before) in
+    let drafts = drafts_in job timestamp new (memory_of before) in
+    record {
+      memory = ap memory_of told ∙ memory-with_drafts mid made ∙ (λ i. record (is i) { last_entry = (is i).last_entry + length (are i) })
+          ∙ ap (λ (n : ℕ). record (slot_changed job new (memory_of before)) { last_entry = n + length drafts }) last;
+      entries = ap (λ (s : State). s.entries) told ∙ (λ i. kept i ++ deposited (is i) (are i)) ∙ ap (λ (n : ℕ). before.entries ++ numbered_from (n + 1) drafts) last;
+    }
+
+pub HasChanged-untold : (job timestamp : ℕ) (new : NewSlot) (before after : State) → memory_of after ≡ slot_changed job new (memory_of before) → after.entries ≡ before.entries
+    → images_of new.opened.member (memory_of before) ≡ None → HasChanged job timestamp new before after
+HasChanged-untold job timestamp new before after is kept none =
+    HasChanged-told job timestamp new before after after [] is kept (sym (with_drafts-none after))
+    (sym (ap (λ (images : Option Images). drafts_of (author_of (memory_of before) job timestamp) (job_of job (memory_of before)) new images (memory_of before)) none))
+
+pub drafts-told : (job timestamp : ℕ) (new : NewSlot) (m : Memory) (images : Images) (author : Author) (start cycle : Option ℕ) (both behind : Bool) (old again : Slot)
+    → images_of new.opened.member m ≡ Some images → author ≡ author_of m job timestamp
+    → ((a : Author) → started a start ≡ (if new.opened.commit then begins_cycle a m (job_of job m) else []))
+    → cycle ≡ cycle_number new.opened.commit m (job_of job m) → both ≡ (new.opened.commit || are_both images) → behind ≡ is_behind_last new.opened.member new.rrn m
+    → old ≡ slot_there new.opened.member new.rrn m → again ≡ new.slot
+    → started author start ++ slot_drafts author cycle both behind new.opened.member new.rrn old again ≡ drafts_in job timestamp new m
+drafts-told job timestamp new m images author start cycle both behind old again some by starts of keep last stood same =
+    (λ i. started (by i) start ++ slot_drafts (by i) (of i) (keep i) (last i) new.opened.member new.rrn (stood i) (same i))
+    ∙ ap (λ (front : List Draft). front ++ slot_drafts (author_of m job timestamp) (cycle_number new.opened.commit m (job_of job m)) (new.opened.commit || are_both images)
+    (is_behind_last new.opened.member new.rrn m) new.opened.member new.rrn (slot_there new.opened.member new.rrn m) new.slot) (starts (author_of m job timestamp))
+    ∙ ap (λ (kept : Option Images). drafts_of (author_of m job timestamp) (job_of job m) new kept m) (sym some)
+
+begins-most : (b : Bool) (d : Draft) → length (if b then [] else d ∷ []) ≤ 1
+begins-most true d = omega arith
+begins-most false d = omega arith
+
+start-by : (commit : Bool) (author : Author) (m : Memory) (job : JobState) (after : ℕ) → entries_left commit ≤ after → length (if commit then begins_cycle author m job else []) + 2 ≤ after
+start-by false author m job after left = omega (arith, left)
+start-by true author m job after left = let most = begins-most (is_some job.cycle) _ in omega (arith, left, most)
+
+-- there is room for them
+pub start-fits : (commit : Bool) (author : Author) (m : Memory) (job : JobState) (start : Option ℕ) (after : ℕ) → started author start ≡ (if commit then begins_cycle author m job else [])
+    → entries_left commit ≤ after → length (started author start) + 2 ≤ after
+start-fits commit author m job start after is left = subst (λ (drafts : List Draft). length drafts + 2 ≤ after) (sym is) (start-by commit author m job after left)
+
+pub with_drafts-start : (s : State) (author : Author) (start : Option ℕ) (rest : List Draft) → with_drafts (with_drafts s (started author start)) rest ≡ with_drafts s (started author start ++ rest)
+with_drafts-start s author None rest = ap (λ (x : State). with_drafts x rest) (with_drafts-none s)
+with_drafts-start s author (Some cycle) rest = with_drafts-cons s _ rest
