@@ -1,5 +1,5 @@
 pub mod EndLemmas
-pub mod ToldLemmas
+pub mod AddLemmas
 pub mod WalkLemmas
 pub mod PutLemmas
 pub mod StoodLemmas
@@ -7,3 +7,4 @@ pub mod PlanLemmas
 pub mod AnswerLemmas
 pub mod ReadLemmas
 pub mod FoundLemmas
+pub mod FitLemmas

@@ -47,7 +47,8 @@ use Rattle.range_requests.specs.declared.walks.Walk.{Walk}
 use Rattle.range_requests.specs.declared.tells.Way.{Way}
 use Rattle.range_requests.specs.declared.plans.Plan.{Plan}
 use Rattle.range_requests.specs.Kinds.{kind_of}
-use Rattle.range_requests.specs.Walks.{FitsFields, IsFit, IsWalked, Walks, as_given}
+use Rattle.range_requests.specs.Fits.{FitsFields, IsFit}
+use Rattle.range_requests.specs.Walks.{IsWalked, Walks, as_given}
 use Rattle.range_requests.specs.Puts.{IsGivable, MayGive, given_to, members_given}
 use Rattle.range_requests.proofs.PutLemmas.{grows}
 use Rattle.range_requests.specs.Plans.{Finds, GivesPlan, IsKept, IsPlanOf}
@@ -189,15 +190,15 @@ each-givable s number name file (g ∷ given) owns long fit = (
 pub may-give : (s : State) (found : Found) (walk : Walk) (plan : Plan) (answer : Result RangeDone RangeFault) (gives : List Numbered → List Given) → IsKept s found → IsFitWalk s found walk
     → IsWalked answer (slots_of s found.member) gives walk → plan.member ≡ found.member → plan.given.items ≡ walk.given.items → limits s plan ≡ Ok true → MayGive s plan.member plan.given.items
 may-give s found walk plan answer gives kept fit walked member given hold =
-    let has = HasRecords-member_of (fields_of kept.file) found.member s.members kept.has in
+    let has = HasRecords-member_of (fields_of found.file.now) found.member s.members kept.has in
     let both = limits-both _ _ _ _ hold in
     let bytes : library_bytes (members_given plan.member plan.given.items s.members) ≤ MOST_LIBRARY_BYTES = grind (arith, nat_tests, both.0) in
     let same : library_bytes (members_given found.member walk.given.items s.members) ≡ library_bytes (members_given plan.member plan.given.items s.members) = (λ i. library_bytes (members_given (sym member i) (sym given i) s.members)) in
     let may : MayGive s found.member walk.given.items = record {
-      there = IsThere-IsSome (fields_of kept.file) found.member s.members kept.has;
+      there = IsThere-IsSome (fields_of found.file.now) found.member s.members kept.has;
       places = walked.places;
       records = fit.records;
-      each = each-givable s found.member kept.name kept.file walk.given.items kept.owns has.long fit.fit;
+      each = each-givable s found.member kept.name found.file.now walk.given.items kept.owns has.long fit.fit;
       bytes = omega (arith, same, bytes);
     } in
     subst (λ (n : ℕ). MayGive s n plan.given.items) (sym member) (subst (MayGive s found.member) (sym given) may)

@@ -27,7 +27,7 @@ use Rattle.range_requests.specs.declared.walks.Walk.{Walk}
 use Rattle.range_requests.specs.Stops.{bound_stop, images_stop}
 use Rattle.range_requests.specs.Walks.{IsWalked, Walks, AddRecords, as_given}
 use Rattle.range_requests.proofs.EndLemmas.{first-take, first-numbered, numbered-drop, length-take, length-drop, same-first}
-use Rattle.range_requests.proofs.ToldLemmas.{applied-adds}
+use Rattle.range_requests.proofs.AddLemmas.{applied-adds}
 
 -- ---- the slots that are given, in the words of the requests
 

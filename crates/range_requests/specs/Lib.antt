@@ -1,4 +1,4 @@
-pub mod Told
+pub mod Fits
 pub mod Ends
 pub mod Walks
 pub mod Puts

@@ -3,7 +3,7 @@ use Rattle.std.specs.Prelude.{◌≡◌, ℕ, ◌+◌, ◌≤◌, Result, Ok, Er
 use Rattle.member_slots.specs.Members.{member_at, member_of}
 use Rattle.file_catalogue.specs.Owners.{Owns}
 use Rattle.library_model.specs.declared.replies.Reply.{Reply}
-use Rattle.library_steps.specs.State.{State, FileState, MemberStatus, fields_of, memory_of}
+use Rattle.library_steps.specs.State.{State, MemberStatus, fields_of, memory_of}
 use Rattle.library_steps.specs.Ranges.{Range, RangeWork, range_between}
 use Rattle.library_parts.specs.declared.stop.Stop.{Stop}
 use Rattle.library_parts.specs.declared.stop.Stop.TheVariants.{NoMemory, Refused}
@@ -18,14 +18,14 @@ pub record IsFound (s : State) (found : Found) (range : Range) : Type 0 where
   pub number : status.number ≡ found.member
   pub same : range ≡ range_between status found.first found.last s.entries (memory_of s)
 
+-- between its ends entries are kept, and its file has its member, which is there
 pub record IsKept (s : State) (found : Found) : Type 0 where
   pub kept : s.gone + 1 ≤ found.first
   pub order : found.first ≤ found.last
   pub there : found.last ≤ s.gone + length s.entries
   pub name : List ℕ
-  pub file : FileState
-  pub owns : Owns s.files name file found.member
-  pub has : IsThere (fields_of file) (member_at found.member s.members)
+  pub owns : Owns s.files name found.file.now found.member
+  pub has : IsThere (fields_of found.file.now) (member_at found.member s.members)
 
 abbrev pub Finds : State → Result Found Stop → Result Range Reply → Type 0
 Finds s (Ok found) wanted = (range : Range) × (wanted ≡ Ok range) × IsFound s found range

@@ -1,11 +1,7 @@
 -- What is known of the slots that going through a range gives to a member?
-use Rattle.std.specs.Prelude.{◌≡◌, ℕ, ◌<◌, true, Result, Ok, Err, List, [], ◌∷◌, length, map}
-use Rattle.entry_codec.specs.declared.entries.Entry.{Entry}
+use Rattle.std.specs.Prelude.{◌≡◌, ◌<◌, true, Result, Ok, Err, List, [], ◌∷◌, length, map}
 use Rattle.member_slots.specs.declared.slot.Slot.{Slot}
-use Rattle.member_slots.specs.declared.slot.Slot.TheVariants.{Live, Deleted}
 use Rattle.member_slots.specs.Member.{is_live}
-use Rattle.record_fmt.specs.declared.formats.Field.{Field}
-use Rattle.journal_model.specs.Acts.{is_number}
 use Rattle.journal_model.specs.Places.{put_slot}
 use Rattle.journal_model.specs.Walks.{Numbered, RangeFault}
 use Rattle.journal_model.specs.Ranges.{RangeDone}
@@ -15,7 +11,6 @@ use Rattle.library_parts.specs.declared.stop.Stop.TheVariants.{NoMemory, Refused
 use Rattle.range_images.specs.declared.slot_given.SlotGiven.{SlotGiven}
 use Rattle.range_images.specs.Given.{place_given, given_slots, AreInPlace}
 use Rattle.range_requests.specs.declared.walks.Walk.{Walk}
-use Rattle.range_requests.specs.Told.{IsRecordOf, MayHavePlace, TellsRecord}
 
 abbrev pub as_given : SlotGiven → Given
 as_given g = record { place = place_given g; slot = g.slot }
@@ -37,21 +32,7 @@ Walks (Ok walk) answer slots gives = IsWalked answer slots gives walk
 Walks (Err NoMemory) answer slots gives = Unit {0}
 Walks (Err (Refused reply)) answer slots gives = done_or_refused answer ≡ Err reply
 
--- ---- what is given fits the member
-
-abbrev pub FitsFields : List Field → Slot → Type 0
-FitsFields fields (Live image) = IsRecordOf fields image
-FitsFields fields Deleted = Unit {0}
-
-pub record IsFit (fields : List Field) (g : SlotGiven) : Type 0 where
-  pub slot : FitsFields fields g.slot
-  pub place : MayHavePlace fields g.rrn
-
 -- what is given behind the last slot is a record
 abbrev pub AddRecords : List SlotGiven → List Slot → Type 0
 AddRecords [] slots = Unit {0}
 AddRecords (g ∷ given) slots = (length slots < g.rrn → is_live g.slot ≡ true) × AddRecords given (put_slot slots (place_given g) g.slot)
-
--- what the entry tells, where it names the member
-abbrev pub TellsOf : List Field → ℕ → Entry → Type 0
-TellsOf fields number e = is_number e.member number ≡ true → TellsRecord fields e

@@ -7,7 +7,6 @@ ghost use Rattle.library_steps.specs.Ranges.{apply_changes, remove_changes, rang
 ghost use Rattle.library_steps.specs.State.{job_at, memory_of};
 ghost use Rattle.library_parts.specs.Answers.{Answers};
 ghost use Rattle.range_images.specs.Given.{given_slots};
-ghost use Rattle.range_requests.specs.Told.{AreTold};
 ghost use Rattle.range_requests.specs.Plans.{IsPlanOf};
 ghost use Rattle.range_requests.specs.Puts.{HasRoomFor, MayGive};
 ghost use Rattle.range_requests.specs.Steps.{IsWithin};
@@ -30,7 +29,6 @@ pub fn apply_changes(
 ) -> Result<Reply, Stop>
     requires running { IsTrue (is_running (job_at job contents.old.state.jobs)) }
     requires unkeyed { AreUnkeyed contents.old.state.files }
-    requires told { AreTold contents.old.state }
     ensures answers { Answers contents.old.state contents.new.state result (apply_changes contents.old.state.entries (memory_of contents.old.state) job timestamp args.now) }
 {
     let plan = plan_apply(contents, job, timestamp, args)?;
@@ -47,7 +45,6 @@ pub fn remove_changes(
 ) -> Result<Reply, Stop>
     requires running { IsTrue (is_running (job_at job contents.old.state.jobs)) }
     requires unkeyed { AreUnkeyed contents.old.state.files }
-    requires told { AreTold contents.old.state }
     ensures answers { Answers contents.old.state contents.new.state result (remove_changes contents.old.state.entries (memory_of contents.old.state) job timestamp args.now) }
 {
     let plan = plan_remove(contents, job, timestamp, args)?;

@@ -10,31 +10,33 @@ ghost use Rattle.range_requests.specs.Plans.{Finds, IsKept};
 
 use crate::ends::ends_named;
 use draft_list::may_deposit;
+use file_catalogue::File;
 use library_model::replies::Reply;
 use library_model::requests::{JournaledChanges, RangeEnd};
 use library_parts::{Contents, MemberFound, Stop};
 
-/// The range of a member's journal between two sequences.
+/// The range of a member's journal between two sequences, and the file that has the member.
 #[derive(Clone, Copy)]
-pub(crate) struct Found {
+pub(crate) struct Found<'a> {
+    pub(crate) file: &'a File,
     pub(crate) member: u32,
     pub(crate) first: u64,
     pub(crate) last: u64,
 }
 
 /// The member isn't used and is journaled, and the entries of the range are kept.
-pub(crate) fn range_named(
-    contents: &Contents,
+pub(crate) fn range_named<'a>(
+    contents: &'a Contents,
     args: &JournaledChanges,
     first: RangeEnd,
     last: RangeEnd,
-) -> Result<Found, Stop>
+) -> Result<Found<'a>, Stop>
     ensures found { Finds contents.now.state result (range_named args.now first last contents.now.state.entries (memory_of contents.now.state)) }
     ensures kept { IfOk result (λ found. IsKept contents.now.state found) }
     ensures left { OnOk result ((memory_of contents.now.state).last_entry ≤ LAST_SEQUENCE) }
 {
     may_deposit(contents)?;
-    let MemberFound { file: _, status } = contents.member_of_file(&args.file, &args.member)?;
+    let MemberFound { file, status } = contents.member_of_file(&args.file, &args.member)?;
     let member = status.number();
     unused(contents, member)?;
     if status.images().is_none() {
@@ -44,6 +46,7 @@ pub(crate) fn range_named(
     are_there(contents, first, last)?;
     are_kept(contents, first)?;
     Ok(Found {
+        file,
         member,
         first,
         last,

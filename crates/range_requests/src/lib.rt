@@ -4,6 +4,7 @@
 
 mod commands;
 mod ends;
+mod fits;
 mod found;
 mod kept;
 mod plans;

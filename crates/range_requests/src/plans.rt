@@ -1,5 +1,5 @@
 //! What a request does with a range, once none of its refusals holds.
-ghost use Rattle.std.specs.Prelude.{◌≡◌, ◌≤◌, IfOk, IfErr, IsSome, IsTrue};
+ghost use Rattle.std.specs.Prelude.{◌≡◌, ◌≤◌, IfOk, IfErr, IsSome, IsTrue, OnOk};
 ghost use Rattle.built_state.specs.Unkeyed.{AreUnkeyed};
 ghost use Rattle.member_slots.specs.Members.{member_at, member_of};
 ghost use Rattle.journal_model.specs.Ranges.{apply_range, remove_range};
@@ -11,11 +11,12 @@ ghost use Rattle.library_steps.specs.declared.limits.TheConstants.{LAST_SEQUENCE
 ghost use Rattle.library_parts.specs.Answers.{Allows};
 ghost use Rattle.library_parts.specs.declared.stop.Stop.TheVariants.{NoMemory, Refused};
 ghost use Rattle.range_images.specs.Given.{AreInPlace};
-ghost use Rattle.range_requests.specs.Told.{AreTold};
 ghost use Rattle.range_requests.specs.Puts.{MayGive};
 ghost use Rattle.range_requests.specs.Plans.{GivesPlan, IsKept};
-ghost use Rattle.range_requests.specs.Steps.{IsReadOf, IsToldBy, IsFitWalk, IsWithin, WalksRange, limits};
+ghost use Rattle.range_requests.specs.Steps.{IsReadOf, IsToldBy, IsFitWalk, IsWithin, WalksRange, limits, slots_of};
+ghost use Rattle.range_requests.specs.Walks.{AddRecords};
 
+use crate::fits::check_fit;
 use crate::found::{Found, range_named};
 use crate::kept::{entry_before, kept_entries};
 use crate::stood::slots_after;
@@ -55,13 +56,13 @@ pub(crate) fn plan_apply(
 ) -> Result<Plan, Stop>
     requires running { IsTrue (is_running (job_at job contents.now.state.jobs)) }
     requires unkeyed { AreUnkeyed contents.now.state.files }
-    requires told { AreTold contents.now.state }
     ensures plan { GivesPlan contents.now.state result (apply_plan contents.now.state.entries (memory_of contents.now.state) job timestamp args.now) }
     ensures may { IfOk result (λ plan. MayGive contents.now.state plan.member plan.given.items) }
     ensures within { IfOk result (λ plan. IsWithin contents.now.state plan) }
 {
     let found = range_named(contents, args, args.from, args.to)?;
     let walk = walk_forward(contents, found)?;
+    check_walk(contents, found, &walk)?;
     let author = Author::of(contents, job, timestamp);
     let plan = planned(contents, author, found, walk, Way::Forward)?;
     check_limits(contents, &plan)?;
@@ -77,13 +78,13 @@ pub(crate) fn plan_remove(
 ) -> Result<Plan, Stop>
     requires running { IsTrue (is_running (job_at job contents.now.state.jobs)) }
     requires unkeyed { AreUnkeyed contents.now.state.files }
-    requires told { AreTold contents.now.state }
     ensures plan { GivesPlan contents.now.state result (remove_plan contents.now.state.entries (memory_of contents.now.state) job timestamp args.now) }
     ensures may { IfOk result (λ plan. MayGive contents.now.state plan.member plan.given.items) }
     ensures within { IfOk result (λ plan. IsWithin contents.now.state plan) }
 {
     let found = range_named(contents, args, args.to, args.from)?;
     let walk = walk_back(contents, found)?;
+    check_walk(contents, found, &walk)?;
     let author = Author::of(contents, job, timestamp);
     let plan = planned(contents, author, found, walk, Way::Back)?;
     check_limits(contents, &plan)?;
@@ -92,9 +93,8 @@ pub(crate) fn plan_remove(
 
 fn walk_forward(contents: &Contents, found: Found) -> Result<Walk, Stop>
     requires kept { IsKept contents.now.state found }
-    requires told { AreTold contents.now.state }
-    ensures walked { WalksRange contents.now.state found apply_range given_forward result }
-    ensures fit { IfOk result (λ walk. IsFitWalk contents.now.state found walk) }
+    ensures walked { WalksRange contents.now.state found.entry apply_range given_forward result }
+    ensures records { IfOk result (λ walk. AddRecords walk.given.items (slots_of contents.now.state found.entry.member)) }
 {
     let member = contents.member(found.member).unwrap();
     let Read { prior, entries } = entries_read(contents, found);
@@ -103,18 +103,29 @@ fn walk_forward(contents: &Contents, found: Found) -> Result<Walk, Stop>
 
 fn walk_back(contents: &Contents, found: Found) -> Result<Walk, Stop>
     requires kept { IsKept contents.now.state found }
-    requires told { AreTold contents.now.state }
-    ensures walked { WalksRange contents.now.state found remove_range given_back result }
-    ensures fit { IfOk result (λ walk. IsFitWalk contents.now.state found walk) }
+    ensures walked { WalksRange contents.now.state found.entry remove_range given_back result }
+    ensures records { IfOk result (λ walk. AddRecords walk.given.items (slots_of contents.now.state found.entry.member)) }
 {
     let member = contents.member(found.member).unwrap();
     let Read { prior, entries } = entries_read(contents, found);
     backward(contents.alloc(), member, found.member, prior, entries)
 }
 
-fn entries_read(contents: &Contents, found: Found) -> Read<'_>
+/// What the walk gives fits the member.
+fn check_walk(contents: &Contents, found: Found, walk: &Walk) -> Result<(), Stop>
+    requires kept { IsKept contents.now.state found }
+    requires records { AddRecords walk.now.given.items (slots_of contents.now.state found.member) }
+    ensures fit { OnOk result (IsFitWalk contents.now.state found.entry walk.now) }
+    ensures short { IfErr result (λ stop. stop ≡ NoMemory) }
+{
+    // No two files have one member.
+    let _counts = contents.counts();
+    check_fit(found.file.format(), walk.given.as_slice())
+}
+
+fn entries_read<'a>(contents: &'a Contents, found: Found) -> Read<'a>
     requires { IsKept contents.now.state found }
-    ensures { IsReadOf contents.now.state found result }
+    ensures { IsReadOf contents.now.state found.entry result }
 {
     let (kept, _) = contents.bounds();
     let all = kept_entries(contents);
@@ -136,7 +147,7 @@ fn planned(
     requires kept { IsKept contents.now.state found }
     requires left { (memory_of contents.now.state).last_entry ≤ LAST_SEQUENCE }
     requires places { AreInPlace 1 walk.given.items (member_of found.member contents.now.state.members).slots }
-    ensures told { IfOk result (λ plan. IsToldBy contents.now.state author found walk way plan) }
+    ensures told { IfOk result (λ plan. IsToldBy contents.now.state author found.entry walk way plan) }
     ensures short { IfErr result (λ stop. stop ≡ NoMemory) }
 {
     let Ok(changes) = u32::try_from(walk.given.len()) else {

@@ -1,6 +1,5 @@
 //! The way through a range of entries: its closed part, and the slots that this gives to the member.
-ghost use Rattle.std.specs.Prelude.{◌≡◌, ◌+◌, ◌-◌, ◌<◌, ◌≤◌, length, List, IfOk, IfSome};
-ghost use Rattle.std.specs.List.{AllByRecursion};
+ghost use Rattle.std.specs.Prelude.{◌≡◌, ◌+◌, ◌-◌, ◌<◌, ◌≤◌, length, IfOk};
 ghost use Rattle.std.specs.Option.{option_copied};
 ghost use Rattle.journal_model.specs.Acts.{acts};
 ghost use Rattle.journal_model.specs.Journal.{AreNumbered};
@@ -8,9 +7,8 @@ ghost use Rattle.journal_model.specs.Ranges.{apply_range, remove_range};
 ghost use Rattle.library_steps.specs.Ranges.{fault_reply, given_forward, given_back};
 ghost use Rattle.range_images.specs.Faults.{range_fault};
 ghost use Rattle.range_images.specs.Sides.{first_sequence};
-ghost use Rattle.record_fmt.specs.declared.formats.Field.{Field};
 ghost use Rattle.range_requests.specs.Stops.{bound_stop, images_stop};
-ghost use Rattle.range_requests.specs.Walks.{AddRecords, IsFit, TellsOf, Walks};
+ghost use Rattle.range_requests.specs.Walks.{AddRecords, Walks};
 
 use crate::kept::entry_before;
 use entry_codec::Entry;
@@ -41,7 +39,6 @@ pub(crate) fn forward(
     requires numbered { AreNumbered (first_sequence entries.now) entries.now }
     requires some { 0 < length entries.now }
     ensures walked { Walks result (apply_range (first_sequence entries.now) (acts number (option_copied prior.entry) entries.now) member.now.state.slots) member.now.state.slots given_forward }
-    ensures fit { (fields : List Field) → IfSome (option_copied prior.entry) (TellsOf fields number) → AllByRecursion (TellsOf fields number) entries.now → IfOk result (λ walk. AllByRecursion (IsFit fields) walk.given.items) }
     ensures records { IfOk result (λ walk. AddRecords walk.given.items member.now.state.slots) }
 {
     commands_answer_by_parts();
@@ -71,7 +68,6 @@ pub(crate) fn backward(
     requires numbered { AreNumbered (first_sequence entries.now) entries.now }
     requires some { 0 < length entries.now }
     ensures walked { Walks result (remove_range (first_sequence entries.now) (acts number (option_copied prior.entry) entries.now) member.now.state.slots) member.now.state.slots given_back }
-    ensures fit { (fields : List Field) → IfSome (option_copied prior.entry) (TellsOf fields number) → AllByRecursion (TellsOf fields number) entries.now → IfOk result (λ walk. AllByRecursion (IsFit fields) walk.given.items) }
     ensures records { IfOk result (λ walk. AddRecords walk.given.items member.now.state.slots) }
 {
     commands_answer_by_parts();
@@ -92,11 +88,12 @@ pub(crate) fn backward(
     }
 }
 
-/// How many entries the part has, which is at most all of a range.
-fn length_of(part: Part, _all: usize) -> usize
-    requires { (part.lo ≤ part.hi) × (part.hi - part.lo + 1 ≤ _all) }
+/// How many entries the part of so many has.
+fn length_of(part: Part, most: usize) -> usize
+    requires { (part.lo ≤ part.hi) × (part.hi - part.lo + 1 ≤ most) }
     ensures { result ≡ part.hi - part.lo + 1 }
 {
+    let _ = most;
     (part.hi - part.lo) as usize + 1
 }
 

@@ -12,11 +12,11 @@ pub returns-clause-found : goal.returns-clause-found
 returns-clause-found c =
     let s = c.args.contents.now.state in
     let m = memory_of s in
-    let it : FoundMember = record { file = c.in_ok-status.field-0.file.now; status = c.in_ok-status.field-0.status } in
+    let it : FoundMember = record { file = c.in_ok-file.field-0.file.now; status = c.in_ok-file.field-0.status } in
     let number = c.number-member.ensures in
     let ends = c.ends_named-first in (
       range_between it.status ends.result.0 ends.result.1 s.entries m,
-      named-goes s c.args.args.now c.args.first c.args.last it ends.result.0 ends.result.1 c.in_ok-may_deposit.ensures.allowed c.in_ok-status.ensures.found
+      named-goes s c.args.args.now c.args.first c.args.last it ends.result.0 ends.result.1 c.in_ok-may_deposit.ensures.allowed c.in_ok-file.ensures.found
           (subst (λ (n : ℕ). unused (user_of n m) ≡ Ok true) number c.in_ok-unused.ensures)
           (ap (λ (images : Option Images). is_none images) (sym c.images.ensures) ∙ is-journaled c.images.result c.is_none.result c.is_none.ensures c.if-is_none.false)
           (ends.ensures.first ∙ ap (λ (n : ℕ). end_named c.args.first n s.entries m) number) (ends.ensures.last ∙ ap (λ (n : ℕ). end_named c.args.last n s.entries m) number)

@@ -91,7 +91,7 @@ pub returns-clause-may : goal.returns-clause-may
 returns-clause-may c =
     let s = c.args.contents.now.state in
     let told = c.in_ok-plan.ensures.told in
-    may-give s c.in_ok-found.found c.in_ok-walk.walk c.in_ok-plan.plan _ given_forward c.in_ok-found.ensures.kept c.in_ok-walk.ensures.fit c.in_ok-walk.ensures.walked told.member told.given c.in_ok-check_limits.ensures
+    may-give s c.in_ok-found.found c.in_ok-walk.walk c.in_ok-plan.plan _ given_forward c.in_ok-found.ensures.kept c.in_ok-check_walk.ensures.fit c.in_ok-walk.ensures.walked told.member told.given c.in_ok-check_limits.ensures
 
 pub returns-clause-within : goal.returns-clause-within
 returns-clause-within c = is-within c.args.contents.now.state c.in_ok-plan.plan c.in_ok-check_limits.ensures c.in_ok-found.ensures.left

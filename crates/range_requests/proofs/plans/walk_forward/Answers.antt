@@ -1,19 +1,14 @@
 use Rattle.std.proofs.Common.{◌≡◌, IfOk, Option, unwrap_or, sym, ap, subst}
 use Rattle.member_slots.specs.Member.{MemberState, empty_member}
 use Rattle.member_slots.specs.Members.{member_at, member_of}
-use Rattle.library_steps.specs.State.{fields_of}
 use Rattle.range_requests.specs.Walks.{AddRecords}
 use Rattle.range_requests.proofs.PlanLemmas.{shown-member}
-use Rattle.range_requests.proofs.ReadLemmas.{entries-tell, fit-walk, prior-tells}
 use Rattle.range_requests.proofs.plans.walk_forward.Goals as goal
 
-pub returns-clause-fit : goal.returns-clause-fit
-returns-clause-fit c =
+pub returns-clause-records : goal.returns-clause-records
+returns-clause-records c =
     let s = c.args.contents.now.state in
     let found = c.args.found in
-    let read = c.entries_read.result in
     let there = shown-member c.member.result c.unwrap-member.result (member_at found.member s.members) c.unwrap-member.ensures c.member.ensures in
     let same : member_of found.member s.members ≡ c.unwrap-member.result.now.state = ap (λ (o : Option MemberState). unwrap_or o (empty_member 0)) there in
-    fit-walk s found c.forward.result
-    (λ name file owns. c.forward.ensures.fit (fields_of file) (prior-tells s found read c.entries_read.ensures c.requires.told name file owns) (entries-tell s found read c.entries_read.ensures c.requires.told name file owns))
-    (subst (λ (m : MemberState). IfOk c.forward.result (λ walk. AddRecords walk.given.items m.slots)) (sym same) c.forward.ensures.records)
+    subst (λ (m : MemberState). IfOk c.forward.result (λ walk. AddRecords walk.given.items m.slots)) (sym same) c.forward.ensures.records

@@ -1,5 +1,4 @@
-use Rattle.std.proofs.Common.{◌≡◌, ℕ, ◌+◌, ◌-◌, IfSome, List, Option, Ok, Err, refl, sym, ap, ◌∙◌, subst, drop, take, length, arith}
-use Rattle.std.specs.List.{AllByRecursion}
+use Rattle.std.proofs.Common.{◌≡◌, ℕ, ◌+◌, ◌-◌, List, Option, Ok, Err, refl, sym, ap, ◌∙◌, subst, drop, take, length, arith}
 use Rattle.std.specs.Option.{option_copied}
 use Rattle.entry_codec.specs.declared.entries.Entry.{Entry}
 use Rattle.journal_model.specs.Acts.{acts, entry_before}
@@ -12,9 +11,8 @@ use Rattle.range_images.specs.Given as images
 use Rattle.range_images.specs.Given.{given_slots, AreInPlace}
 use Rattle.range_images.specs.Images.{range_done, removed_answer}
 use Rattle.range_images.specs.Sides.{first_sequence}
-use Rattle.range_requests.specs.Walks.{IsFit, TellsOf}
 use Rattle.range_requests.proofs.EndLemmas.{first-numbered, length-drop, numbered-drop, rest-whole}
-use Rattle.range_requests.proofs.ToldLemmas.{all-drop, all-take, back-fit, before-told, numbered-fit, within-adds, within-behind}
+use Rattle.range_requests.proofs.AddLemmas.{within-adds, within-behind}
 use Rattle.range_requests.proofs.WalkLemmas.{backward-answer, backward-walked, images-refused, last-part}
 use Rattle.range_requests.proofs.walks.backward.Goals as goal
 
@@ -67,19 +65,6 @@ returns-in-Ok-remove-clause-walked c =
     ≡ Ok (range_done (first_sequence es) (acts c.args.number (option_copied c.entry_before-before.result) es) (given_slots c.in-Ok-remove.changes slots))) e c.in-Ok-remove.ensures.done)) in
     let places = within-behind c.into_vec.result.items slots (subst (λ (given : List SlotGiven). AreInPlace 0 given slots) (sym c.into_vec.ensures) c.in-Ok-remove.ensures.places) in
     backward-walked c.args.number prior entries slots left (c.commands_answer_by_parts.ensures.removed c.args.number (first_sequence entries) prior entries slots) p.suffix _ p.lo p.hi given went places
-
-pub returns-in-Ok-remove-clause-fit : goal.returns-in-Ok-remove-clause-fit
-returns-in-Ok-remove-clause-fit c = λ fields before told.
-    let entries = c.args.entries.now in
-    let prior = option_copied c.args.prior in
-    let left = length entries - c.length_of-count.result in
-    let behind = take (length entries - left) (drop left entries) in
-    let told_before = subst (λ (b : Option Entry). IfSome b (TellsOf fields c.args.number)) (sym c.entry_before-before.ensures)
-    (before-told (TellsOf fields c.args.number) prior (take left entries) before (all-take (TellsOf fields c.args.number) left entries told)) in
-    let told_behind = all-take (TellsOf fields c.args.number) (length entries - left) (drop left entries) (all-drop (TellsOf fields c.args.number) left entries told) in
-    subst (AllByRecursion (IsFit fields)) (sym (c.into_vec.ensures ∙ c.in-Ok-remove.ensures.given))
-    (back-fit fields (numbered (first_sequence behind) (acts c.args.number (option_copied c.entry_before-before.result) behind))
-    (numbered-fit fields c.args.number (first_sequence behind) (option_copied c.entry_before-before.result) behind told_before told_behind))
 
 pub returns-in-Ok-remove-clause-records : goal.returns-in-Ok-remove-clause-records
 returns-in-Ok-remove-clause-records c =

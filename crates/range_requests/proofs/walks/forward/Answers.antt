@@ -1,17 +1,14 @@
 use Rattle.std.proofs.Common.{ℕ, ◌+◌, ◌-◌, List, Ok, refl, sym, ap, ◌∙◌, subst, take}
-use Rattle.std.specs.List.{AllByRecursion}
 use Rattle.std.specs.Option.{option_copied}
 use Rattle.journal_model.specs.Acts.{acts}
 use Rattle.journal_model.specs.Journal.{AreNumbered}
-use Rattle.journal_model.specs.Walks.{numbered}
 use Rattle.library_steps.specs.Ranges.{given_forward}
 use Rattle.range_images.specs.declared.slot_given.SlotGiven.{SlotGiven}
 use Rattle.range_images.specs.Given.{given_slots, AreInPlace}
 use Rattle.range_images.specs.Images.{range_done}
 use Rattle.range_images.specs.Sides.{first_sequence}
-use Rattle.range_requests.specs.Walks.{AddRecords, IsFit, TellsOf}
+use Rattle.range_requests.specs.Walks.{AddRecords}
 use Rattle.range_requests.proofs.EndLemmas.{first-take, length-take, numbered-take}
-use Rattle.range_requests.proofs.ToldLemmas.{all-take, forward-fit, numbered-fit}
 use Rattle.range_requests.proofs.WalkLemmas.{first-part, forward-adds, forward-answer, forward-walked, images-refused}
 use Rattle.range_requests.proofs.walks.forward.Goals as goal
 
@@ -50,16 +47,6 @@ returns-in-Ok-apply-clause-walked c =
     (c.into_vec.ensures ∙ c.in-Ok-apply.ensures.given)
     (c.in-Ok-apply.ensures.done ∙ ap (λ (given : List SlotGiven). Ok (range_done f part (given_slots given slots))) (sym c.into_vec.ensures))
     (subst (λ (given : List SlotGiven). AreInPlace 1 given slots) (sym c.into_vec.ensures) c.in-Ok-apply.ensures.places)
-
-pub returns-in-Ok-apply-clause-fit : goal.returns-in-Ok-apply-clause-fit
-returns-in-Ok-apply-clause-fit c = λ fields before told.
-    let entries = c.args.entries.now in
-    let prior = option_copied c.args.prior in
-    let count = c.length_of-count.result in
-    let f = first_sequence (take count entries) in
-    let part = acts c.args.number prior (take count entries) in
-    subst (AllByRecursion (IsFit fields)) (sym (c.into_vec.ensures ∙ c.in-Ok-apply.ensures.given))
-    (forward-fit fields (numbered f part) (numbered-fit fields c.args.number f prior (take count entries) before (all-take (TellsOf fields c.args.number) count entries told)))
 
 pub returns-in-Ok-apply-clause-records : goal.returns-in-Ok-apply-clause-records
 returns-in-Ok-apply-clause-records c =
