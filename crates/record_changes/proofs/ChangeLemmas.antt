@@ -1,7 +1,8 @@
 -- What a changed slot leaves: the change in its commit cycle, and its entries.
-use Rattle.std.proofs.Common.{◌≡◌, ◌∙◌, ℕ, ◌+◌, ◌-◌, ◌≤◌, ◌||◌, Bool, true, false, if◌then◌else◌, nat_lt, is_some, Option, Some, None, IfSome, IsSome, Ok, List, [], ◌∷◌, ◌++◌, length, sym, ap, subst, refl, arith}
+use Rattle.std.proofs.Common.{◌≡◌, ◌∙◌, ℕ, zero, suc, ◌+◌, ◌-◌, ◌≤◌, ◌==◌, ◌||◌, IsTrue, slice_get, Bool, true, false, if◌then◌else◌, nat_lt, is_some, Option, Some, None, IfSome, IsSome, Ok, List, [], ◌∷◌, ◌++◌, length, sym, ap, subst, refl, arith}
 use Rattle.std.proofs.lemmas.Bool.Decides.{nat_tests}
 use Rattle.entry_codec.specs.declared.entries.Draft.{Draft}
+use Rattle.entry_codec.specs.declared.kinds.EntryKind.TheVariants.{CommitCycleStarted}
 use Rattle.entry_codec.specs.declared.kinds.Images.{Images}
 use Rattle.member_slots.specs.declared.slot.Slot.{Slot}
 use Rattle.member_slots.specs.Member.{FitsSlot}
@@ -10,16 +11,21 @@ use Rattle.journal_model.specs.Rollback.{MemberChange, numbered_from}
 use Rattle.job_table.specs.Table.{JobTable, HasRoomFor}
 use Rattle.library_model.specs.declared.replies.Reply.{Reply}
 use Rattle.library_steps.specs.declared.limits.TheConstants.{MOST_GROUP_CHANGES, MOST_GROUP_BYTES}
-use Rattle.library_steps.specs.State.{Memory, State, CycleState, JobState, fields_of, job_of, memory_of, with_status}
+use Rattle.library_steps.specs.State.{Memory, State, CycleState, JobState, fields_of, job_at, job_changed, job_of, memory_of, with_status}
+use Rattle.library_steps.specs.History.{is_running}
+use Rattle.library_steps.specs.Locking.{with_locks}
+use Rattle.lock_table.specs.declared.lock.Lock.{Lock}
+use Rattle.library_parts.specs.Answers.{Answers}
+use Rattle.library_parts.proofs.AnswerLemmas.{changed-state}
 use Rattle.library_steps.specs.Change.{deposited}
 use Rattle.library_steps.specs.Refusals.{◌>>=◌, refuse_if}
 use Rattle.library_steps.specs.Records.{slot_there}
-use Rattle.library_steps.specs.Drafts.{Author, author_of, slot_drafts}
-use Rattle.library_steps.specs.SlotChange.{NewSlot, are_both, begins_cycle, change_made, change_bytes, cycle_for, cycle_number, drafts_of, few_changes, images_of, is_behind_last, open_bytes, open_changes, slot_changed, touched, undo_bytes, with_slot, with_undo}
+use Rattle.library_steps.specs.Drafts.{Author, author_of, cycle_draft, slot_drafts}
+use Rattle.library_steps.specs.SlotChange.{NewSlot, are_both, begins_cycle, change_made, change_bytes, cycle_for, cycle_number, drafts_of, few_changes, images_of, is_behind_last, open_bytes, noted, open_changes, slot_change, slot_changed, touched, undo_bytes, with_cycle, with_slot, with_undo}
 use Rattle.library_parts.specs.Lawful.{HoldsValues}
 use Rattle.library_parts.specs.Parts.{LibraryParts, Room}
 use Rattle.draft_list.specs.Deposits.{with_drafts}
-use Rattle.draft_list.proofs.DepositLemmas.{memory-with_drafts, with_drafts-none, with_drafts-cons}
+use Rattle.draft_list.proofs.DepositLemmas.{memory-with_drafts, with_drafts-none}
 use Rattle.record_changes.specs.declared.planned.PlannedSlot.{PlannedSlot}
 use Rattle.record_changes.specs.declared.planned.Prepared.{Prepared}
 use Rattle.record_changes.specs.Changes.{HasChanged, MayKeep, drafts_in, entries_kept, entries_left, started, with_kept}
@@ -148,13 +154,89 @@ begins-most false d = omega arith
 
 start-by : (commit : Bool) (author : Author) (m : Memory) (job : JobState) (after : ℕ) → entries_left commit ≤ after → length (if commit then begins_cycle author m job else []) + 2 ≤ after
 start-by false author m job after left = omega (arith, left)
-start-by true author m job after left = let most = begins-most (is_some job.cycle) _ in omega (arith, left, most)
+start-by true author m job after left =
+    let most = begins-most (is_some job.cycle) (cycle_draft author (m.last_entry + 1) CommitCycleStarted) in omega (arith, left, most)
 
 -- there is room for them
 pub start-fits : (commit : Bool) (author : Author) (m : Memory) (job : JobState) (start : Option ℕ) (after : ℕ) → started author start ≡ (if commit then begins_cycle author m job else [])
     → entries_left commit ≤ after → length (started author start) + 2 ≤ after
 start-fits commit author m job start after is left = subst (λ (drafts : List Draft). length drafts + 2 ≤ after) (sym is) (start-by commit author m job after left)
 
-pub with_drafts-start : (s : State) (author : Author) (start : Option ℕ) (rest : List Draft) → with_drafts (with_drafts s (started author start)) rest ≡ with_drafts s (started author start ++ rest)
-with_drafts-start s author None rest = ap (λ (x : State). with_drafts x rest) (with_drafts-none s)
-with_drafts-start s author (Some cycle) rest = with_drafts-cons s _ rest
+-- ---- the request
+
+running-at : (place : ℕ) (cycle : CycleState) (jobs : List JobState) → IsTrue (is_running (slice_get jobs place)) → IsTrue (is_running (slice_get (job_changed place (with_cycle cycle) jobs) place))
+running-at place cycle [] runs = runs
+running-at zero cycle (job ∷ jobs) runs = runs
+running-at (suc place) cycle (job ∷ jobs) runs = running-at place cycle jobs runs
+
+running-kept : (job : ℕ) (cycle : CycleState) (jobs : List JobState) → IsTrue (is_running (job_at job jobs)) → IsTrue (is_running (job_at job (job_changed (job - 1) (with_cycle cycle) jobs)))
+running-kept job cycle jobs runs =
+    elim (job == 0) as (λ b. IsTrue (is_running (if b then None else slice_get jobs (job - 1)))
+    → IsTrue (is_running (if b then None else slice_get (job_changed (job - 1) (with_cycle cycle) jobs) (job - 1)))) [
+      | true ↦ λ h. h
+      | false ↦ running-at (job - 1) cycle jobs
+    ] runs
+
+running-by : (commit : Bool) (job : ℕ) (undo : MemberChange) (cycle : CycleState) (m : Memory) → IsTrue (is_running (job_at job m.jobs)) → IsTrue (is_running (job_at job (with_undo commit job undo cycle m).jobs))
+running-by false job undo cycle m runs = runs
+running-by true job undo cycle m runs = running-kept job (noted undo cycle) m.jobs runs
+
+locked-by : (commit : Bool) (job : ℕ) (undo : MemberChange) (cycle : CycleState) (m : Memory) (locks : List Lock)
+    → with_undo commit job undo cycle (with_locks locks m) ≡ with_locks locks (with_undo commit job undo cycle m)
+locked-by false job undo cycle m locks = refl
+locked-by true job undo cycle m locks = refl
+
+gone-by : (commit : Bool) (job : ℕ) (undo : MemberChange) (cycle : CycleState) (m : Memory) → (with_undo commit job undo cycle m).gone ≡ m.gone
+gone-by false job undo cycle m = refl
+gone-by true job undo cycle m = refl
+
+number-locked : (commit : Bool) (m : Memory) (job : JobState) (locks : List Lock) → cycle_number commit (with_locks locks m) job ≡ cycle_number commit m job
+number-locked false m job locks = refl
+number-locked true m job locks = refl
+
+-- locks are nothing to its entries
+drafts-locked : (author : Author) (job : JobState) (new : NewSlot) (images : Option Images) (m : Memory) (locks : List Lock) → drafts_of author job new images (with_locks locks m) ≡ drafts_of author job new images m
+drafts-locked author job new None m locks = refl
+drafts-locked author job new (Some images) m locks =
+    ap (λ (cycle : Option ℕ). (if new.opened.commit then begins_cycle author m job else []) ++ slot_drafts author cycle (new.opened.commit || are_both images)
+    (is_behind_last new.opened.member new.rrn m) new.opened.member new.rrn (slot_there new.opened.member new.rrn m) new.slot) (number-locked new.opened.commit m job locks)
+
+-- the job runs on
+pub changed-running : (job timestamp : ℕ) (new : NewSlot) (before after : State) → HasChanged job timestamp new before after → IsTrue (is_running (job_at job before.jobs)) → IsTrue (is_running (job_at job after.jobs))
+changed-running job timestamp new before after changed runs =
+    let m = memory_of before in
+    subst (λ (jobs : List JobState). IsTrue (is_running (job_at job jobs))) (sym (ap (λ (x : Memory). x.jobs) changed.memory))
+    (running-by new.opened.commit job (change_made m (job_of job m) new) (cycle_for m (job_of job m)) (with_status new.opened.member touched (with_slot new.opened.member new.rrn new.slot m)) runs)
+
+-- what else the call does to the memory leaves the journal alone
+pub record LeavesJournal (f : Memory → Memory) : Type 0 where
+  pub last : (m : Memory) (n : ℕ) → f (record m { last_entry = n }) ≡ record (f m) { last_entry = n }
+  pub same : (m : Memory) → (f m).last_entry ≡ m.last_entry
+  pub gone : (m : Memory) → (f m).gone ≡ m.gone
+
+pub Answers-changed : (job timestamp : ℕ) (new : NewSlot) (old locked changed after : State) (locks : List Lock) (f : Memory → Memory) (reply : Reply) → LeavesJournal f
+    → locked ≡ record old { locks = locks } → HasChanged job timestamp new locked changed → memory_of after ≡ f (memory_of changed) → after.entries ≡ changed.entries
+    → Answers old after (Ok reply) (Ok (slot_change job timestamp new reply (λ m. f (with_locks locks m)) (memory_of old)))
+Answers-changed job timestamp new old locked changed after locks f reply leaves is has memory entries =
+    let here : HasChanged job timestamp new (record old { locks = locks }) changed = subst (λ (s : State). HasChanged job timestamp new s changed) is has in
+    let m = memory_of old in
+    let drafts = drafts_in job timestamp new m in
+    let made = drafts_in job timestamp new (with_locks locks m) in
+    let told : made ≡ drafts = drafts-locked (author_of m job timestamp) (job_of job m) new (images_of new.opened.member m) m locks in
+    let undo = change_made m (job_of job m) new in
+    let cycle = cycle_for m (job_of job m) in
+    let put = with_status new.opened.member touched (with_slot new.opened.member new.rrn new.slot m) in
+    let body = f (with_locks locks (slot_changed job new m)) in
+    let last : body.last_entry ≡ m.last_entry = leaves.same (with_locks locks (slot_changed job new m)) ∙ changed-last job new m in
+    let gone : body.gone ≡ m.gone = leaves.gone (with_locks locks (slot_changed job new m)) ∙ gone-by new.opened.commit job undo cycle put in
+    (
+      slot_change job timestamp new reply (λ x. f (with_locks locks x)) m,
+      refl,
+      refl,
+      changed-state old after (deposited body drafts) (record body { last_entry = body.last_entry + length drafts })
+          (memory ∙ ap f here.memory ∙ ap (λ (x : Memory). f (record x { last_entry = m.last_entry + length made })) (locked-by new.opened.commit job undo cycle put locks)
+          ∙ ap (λ (ds : List Draft). f (record (with_locks locks (slot_changed job new m)) { last_entry = m.last_entry + length ds })) told
+          ∙ leaves.last (with_locks locks (slot_changed job new m)) (m.last_entry + length drafts) ∙ ap (λ (n : ℕ). record body { last_entry = n + length drafts }) (sym last))
+          gone
+          (entries ∙ here.entries ∙ ap (λ (ds : List Draft). old.entries ++ deposited m ds) told ∙ ap (λ (n : ℕ). old.entries ++ numbered_from (n + 1) drafts) (sym last)),
+    )

@@ -4,7 +4,7 @@ use Rattle.std.specs.List.{AllByRecursion}
 use Rattle.std.proofs.lemmas.Bool.Decides.{nat_tests}
 use Rattle.member_slots.specs.declared.slot.Slot.{Slot}
 use Rattle.member_slots.specs.declared.slot.Slot.TheVariants.{Live, Deleted}
-use Rattle.member_slots.specs.Member.{MemberState, FitsSlot, appended, changed, empty_member, slot_at}
+use Rattle.member_slots.specs.Member.{MemberState, FitsSlot, is_live, appended, changed, empty_member, slot_at}
 use Rattle.member_slots.specs.Members.{NumberedMembers, member_at, member_of, with_member}
 use Rattle.record_fmt.specs.declared.formats.Field.{Field}
 use Rattle.record_fmt.specs.Layout.{record_length}
@@ -101,9 +101,9 @@ next-empty member =
 
 -- ---- the slot that stood at a place where another is put
 
-is_some-of : {A : Type 0} (o : Option A) → IsSome o → is_some o ≡ true
-is_some-of None there = absurd there
-is_some-of (Some a) there = refl
+live-of : (slot : Slot) → is_live slot ≡ true → (image : List ℕ) × (slot ≡ Live image)
+live-of (Live image) live = (image, refl)
+live-of Deleted live = absurd cc
 
 length-appended : (member : MemberState) (image : List ℕ) → length (appended member image).slots ≡ length member.slots + 1
 length-appended member image = length-append member.slots (Live image ∷ [])
@@ -115,7 +115,7 @@ module _ (before after : State) (member rrn : ℕ) (slot old : Slot) (put : memo
 
   back-at : (now : MemberState) → slot_put rrn slot its ≡ now → rrn ≤ length now.slots → now.record_length ≡ its.record_length → MayReturn after member rrn old
   back-at now is near long =
-      let there = is_some-of (member_at member before.members) may.there in
+      let there = may.there in
       let members : after.members ≡ with_member member now before.members =
       ap (λ (m : Memory). m.members) put ∙ ap (λ (s : MemberState). with_member member s before.members) is in
       let here : member_at member after.members ≡ Some now = ap (λ (ms : NumberedMembers). member_at member ms) members ∙ item_at-with_item_same member now before.members there in
@@ -135,7 +135,8 @@ module _ (before after : State) (member rrn : ℕ) (slot old : Slot) (put : memo
       back-at (changed its rrn slot) (slot_put-changed its rrn slot within) (omega (arith, same, within)) (record_length-changed its rrn slot)
 
   -- behind the last
-  pub MayReturn-behind : (image : List ℕ) → slot ≡ Live image → rrn ≡ length its.slots + 1 → MayReturn after member rrn old
-  MayReturn-behind image live behind =
-      let same = length-appended its image in
-      back-at (appended its image) ((λ i. slot_put (behind i) (live i) its) ∙ slot_put-appended its image) (omega (arith, same, behind)) refl
+  pub MayReturn-behind : rrn ≡ length its.slots + 1 → MayReturn after member rrn old
+  MayReturn-behind behind =
+      let live = live-of slot (may.added behind).live in
+      let same = length-appended its live.0 in
+      back-at (appended its live.0) ((λ i. slot_put (behind i) (live.1 i) its) ∙ slot_put-appended its live.0) (omega (arith, same, behind)) refl

@@ -1,6 +1,9 @@
 //! The effect of a changed slot: the slot itself, the job's commit cycle, the status of its member, and its entries. It takes no
 //! memory.
-ghost use Rattle.std.specs.Prelude.{◌≡◌, ◌+◌, ◌≤◌, ◌||◌, IfSome, IsSome, IsTrue};
+ghost use Rattle.std.specs.Prelude.{◌≡◌, ◌+◌, ◌≤◌, ◌||◌, length, IfSome, IsSome, IsTrue};
+ghost use Rattle.member_slots.specs.declared.slot.Slot.TheVariants.{Deleted};
+ghost use Rattle.member_slots.specs.Members.{member_of};
+ghost use Rattle.library_parts.specs.Rooms.{HasSlotRoom};
 ghost use Rattle.library_steps.specs.State.{job_at, memory_of};
 ghost use Rattle.library_steps.specs.History.{is_running};
 ghost use Rattle.library_steps.specs.Records.{slot_there};
@@ -116,11 +119,37 @@ fn put_slot(contents: &mut Contents, member: u32, rrn: u32, slot: Slot) -> Slot
     ensures room { contents.new.room ≡ record contents.old.room { spares = contents.new.room.spares } }
 {
     if !contents.is_behind_last(member, rrn) {
-        return contents.set_slot(member, rrn, slot);
+        return replace(contents, member, rrn, slot);
     }
-    // Only a record is put behind the last slot.
+    append(contents, member, rrn, slot);
+    Slot::Deleted
+}
+
+/// Puts the slot at a place that the member has.
+fn replace(contents: &mut Contents, member: u32, rrn: u32, slot: Slot) -> Slot
+    requires may { MayPut contents.old.state.files contents.old.state.members member rrn slot }
+    requires within { rrn ≤ length (member_of member contents.old.state.members).slots }
+    ensures before { result ≡ slot_there member rrn (memory_of contents.old.state) }
+    ensures back { MayReturn contents.new.state member rrn result }
+    ensures memory { memory_of contents.new.state ≡ with_slot member rrn slot (memory_of contents.old.state) }
+    ensures entries { contents.new.state.entries ≡ contents.old.state.entries }
+    ensures room { contents.new.room ≡ contents.old.room }
+{
+    contents.set_slot(member, rrn, slot)
+}
+
+/// Puts the slot behind the last of the member. Only a record is put there.
+fn append(contents: &mut Contents, member: u32, rrn: u32, slot: Slot)
+    requires may { MayPut contents.old.state.files contents.old.state.members member rrn slot }
+    requires behind { rrn ≡ length (member_of member contents.old.state.members).slots + 1 }
+    requires room { HasSlotRoom contents.old.room member }
+    ensures before { slot_there member rrn (memory_of contents.old.state) ≡ Deleted }
+    ensures back { MayReturn contents.new.state member rrn Deleted }
+    ensures memory { memory_of contents.new.state ≡ with_slot member rrn slot (memory_of contents.old.state) }
+    ensures entries { contents.new.state.entries ≡ contents.old.state.entries }
+    ensures room { contents.new.room ≡ record contents.old.room { spares = contents.new.room.spares } }
+{
     if let Slot::Live(image) = slot {
         contents.append_record(member, image);
     }
-    Slot::Deleted
 }

@@ -1,10 +1,9 @@
 //! What these calls ask of the record locks, and what they leave of them.
-ghost use Rattle.std.specs.Prelude.{◌≡◌, ◌≤◌, true, length, IsTrue, OnOk};
+ghost use Rattle.std.specs.Prelude.{◌≡◌, true, None, Ok, IsTrue, OnOk};
 ghost use Rattle.lock_table.specs.declared.levels.Call.TheVariants.{Unlock, Write};
-ghost use Rattle.lock_table.specs.declared.table.TheConstants.{MOST_LOCKS};
 ghost use Rattle.library_steps.specs.State.{job_at, job_of, memory_of};
 ghost use Rattle.library_steps.specs.History.{is_running};
-ghost use Rattle.library_steps.specs.Locking.{level_of, locks_left};
+ghost use Rattle.library_steps.specs.Locking.{clashing, few_locks, level_of, locks_left};
 ghost use Rattle.library_parts.specs.Locks.{HasLockRoom, IsOfOpen};
 ghost use Rattle.record_changes.specs.Locks.{IsOfCurrent, MayLock};
 
@@ -40,23 +39,37 @@ pub(crate) fn may_lock(
     requires call { IsOfCurrent call }
     ensures { OnOk result (MayLock call job opened.now rrn (memory_of contents.now.state)) }
 {
-    if contents.clashing(call, job, opened, rrn).is_some() {
-        return Err(AllocError);
-    }
-    if !are_few(contents, job, opened, rrn) {
-        return Err(AllocError);
-    }
+    is_free(contents, call, job, opened, rrn)?;
+    are_few(contents, job, opened, rrn)?;
     Ok(())
 }
 
-/// Whether the locks are not too many with the one that a change keeps to the boundary.
-fn are_few(contents: &Contents, job: u32, opened: &Open, rrn: u32) -> bool
+/// No other job's lock clashes with the one that the call asks for.
+fn is_free(
+    contents: &Contents,
+    call: Call,
+    job: u32,
+    opened: &Open,
+    rrn: u32,
+) -> Result<(), AllocError>
     requires { IsTrue (is_running (job_at job contents.now.state.jobs)) }
-    ensures { result ≡ true → length (locks_left Write job opened.now rrn (memory_of contents.now.state)) ≤ MOST_LOCKS }
+    ensures { OnOk result (clashing call job opened.now rrn (memory_of contents.now.state) ≡ None) }
 {
-    contents
-        .few_locks_to_write(Call::Write, job, opened, rrn)
-        .is_ok()
+    match contents.clashing(call, job, opened, rrn) {
+        Some(_) => Err(AllocError),
+        None => Ok(()),
+    }
+}
+
+/// The locks are not too many with the one that a change keeps to the boundary.
+fn are_few(contents: &Contents, job: u32, opened: &Open, rrn: u32) -> Result<(), AllocError>
+    requires { IsTrue (is_running (job_at job contents.now.state.jobs)) }
+    ensures { OnOk result (few_locks Write job opened.now rrn (memory_of contents.now.state) ≡ Ok true) }
+{
+    match contents.few_locks_to_write(Call::Write, job, opened, rrn) {
+        Ok(()) => Ok(()),
+        Err(_) => Err(AllocError),
+    }
 }
 
 /// What a change leaves of the locks.

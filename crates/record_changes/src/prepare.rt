@@ -115,6 +115,7 @@ fn copy_for_cycle(
     planned: &PlannedSlot,
 ) -> Result<Option<Undo>, AllocError>
     requires running { IsTrue (is_running (job_at job contents.now.state.jobs)) }
+    requires left { (memory_of contents.now.state).last_entry ≤ LAST_SEQUENCE }
     requires first { 1 ≤ planned.now.rrn }
     ensures { IfOk result (λ undo. undo ≡ undo_of planned.now.opened.commit (memory_of contents.now.state) (job_of job (memory_of contents.now.state)) (new_slot planned.now)) }
 {
