@@ -1,4 +1,4 @@
--- Which requests the library answers so far: all but CRTLF, CHKPT and STRCMTCTL, and so none through a logical file or under commitment control.
+-- Which requests the library answers so far: all but CRTLF and CHKPT, and so none through a logical file.
 use Rattle.std.specs.Prelude.{Bool, true, false}
 use Rattle.library_model.specs.declared.requests.Request.{Request}
 use Rattle.library_model.specs.declared.requests.Request.TheVariants.{CreatePhysicalFile, CreateLogicalFile, DeleteFile, AddMember, ClearMember, ReorganizeMember, StartJournaling, EndJournaling, ChangeJournal, DeleteReceiver, Checkpoint, DisplayJournal, ApplyChanges, RemoveChanges, StartCommitment, EndCommitment, Commit, Rollback, OpenFile, CloseFile, SetLowerLimit, SetGreaterThan, Read, ReadPrior, ReadEqual, ReadPriorEqual, Chain, Write, Update, Delete, Unlock, EndJob}
@@ -18,7 +18,7 @@ is_built Checkpoint = false
 is_built (DisplayJournal args) = true
 is_built (ApplyChanges args) = true
 is_built (RemoveChanges args) = true
-is_built (StartCommitment args) = false
+is_built (StartCommitment args) = true
 is_built EndCommitment = true
 is_built Commit = true
 is_built Rollback = true

@@ -1,4 +1,3 @@
 pub mod SourceLemmas
-pub mod UncommittedLemmas
 pub mod UniqueLemmas
 pub mod UnkeyedLemmas

@@ -1,3 +1,2 @@
 pub mod Unkeyed
-pub mod Uncommitted
 pub mod Built

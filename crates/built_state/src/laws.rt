@@ -1,6 +1,6 @@
-//! What follows where no file has a key and no job is under commitment control: contracts of functions that do nothing.
-ghost use Rattle.std.specs.Prelude.{◌≡◌, ℕ, Bool, true, false, Option, Some, None, Result, Ok, Err, List, []};
-ghost use Rattle.std.specs.List.{AllByRecursion, list_any};
+//! What follows where no file has a key: contracts of functions that do nothing.
+ghost use Rattle.std.specs.Prelude.{◌≡◌, ℕ, Bool, true, false, Option, Some, Ok, Err, List, []};
+ghost use Rattle.std.specs.List.{list_any};
 ghost use Rattle.field_types.specs.declared.values.Value.{Value};
 ghost use Rattle.member_slots.specs.declared.slot.Slot.{Slot};
 ghost use Rattle.member_slots.specs.Members.{member_of};
@@ -11,14 +11,10 @@ ghost use Rattle.dds_physical.specs.WholeFile.{is_key_kind};
 ghost use Rattle.file_model.specs.Positions.{arrival_reading};
 ghost use Rattle.library_model.specs.declared.replies.Reply.TheVariants.{WrongOpen};
 ghost use Rattle.library_model.specs.Named.{Named, named};
-ghost use Rattle.library_steps.specs.State.{Memory, FileState, OpenState, JobState, job_of, open_named};
-ghost use Rattle.library_steps.specs.Locking.{level_of};
+ghost use Rattle.library_steps.specs.State.{Memory, FileState, OpenState};
 ghost use Rattle.library_steps.specs.Records.{is_keyed, reading_of, key_asked, number_asked};
 ghost use Rattle.library_steps.specs.UniqueKeys.{unique_paths, keys_free, all_apart};
-ghost use Rattle.library_steps.specs.Uses.{changes_in};
-ghost use Rattle.library_steps.specs.SlotChange.{not_held, open_changes, open_bytes};
 ghost use Rattle.built_state.specs.Unkeyed.{IsUnkeyed, AreUnkeyed, IsUnkeyedText};
-ghost use Rattle.built_state.specs.Uncommitted.{IsUncommitted};
 
 /// A file that is found among files without a key has none: it is read in arrival order, by relative record numbers and no key.
 pub fn unkeyed_files_read_in_arrival_order()
@@ -34,17 +30,6 @@ pub fn unkeyed_files_have_no_unique_keys()
     ensures paths { (member : ℕ) (m : Memory) → AreUnkeyed m.files → unique_paths member m ≡ [] }
     ensures free { (job : ℕ) (commit : Bool) (member rrn : ℕ) (old : Slot) (image : List ℕ) (m : Memory) → AreUnkeyed m.files → keys_free job commit member rrn old image m ≡ Ok true }
     ensures apart { (member : ℕ) (m after : Memory) → AreUnkeyed m.files → all_apart (unique_paths member m) after ≡ Ok true }
-{}
-
-/// Jobs that aren't under commitment control have no open that is, no lock level, and no change that may still be taken back.
-pub fn uncommitted_jobs()
-    ensures each { (job : ℕ) (m : Memory) → AllByRecursion IsUncommitted m.jobs → IsUncommitted (job_of job m) }
-    ensures opened { (job : ℕ) (name : List ℕ) (opened : OpenState) (m : Memory) → AllByRecursion IsUncommitted m.jobs → open_named name job m ≡ Some opened → opened.commit ≡ false }
-    ensures level { (job : JobState) (opened : OpenState) → IsUncommitted job → level_of job opened ≡ None }
-    ensures changes { (job : JobState) → IsUncommitted job → changes_in job.cycle ≡ [] }
-    ensures held { (job : ℕ) (opened : OpenState) (rrn : ℕ) (m : Memory) → AllByRecursion IsUncommitted m.jobs → not_held job opened rrn m ≡ Ok true }
-    ensures counted { (m : Memory) → AllByRecursion IsUncommitted m.jobs → open_changes m ≡ 0 }
-    ensures bytes { (m : Memory) → AllByRecursion IsUncommitted m.jobs → open_bytes m ≡ 0 }
 {}
 
 /// A source without a key line describes a file without a key, and one with a fault describes none.

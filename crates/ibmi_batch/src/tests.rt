@@ -346,7 +346,7 @@ const LINES: [&str; 9] = [
 ];
 
 /// A line of the first input, what stands there in its place, and the line at fault.
-const FAULTS: [(usize, &str, u32); 30] = [
+const FAULTS: [(usize, &str, u32); 29] = [
     (1, "", 1),
     (1, "//DDS", 1),
     (1, "//DDSCUST", 1),
@@ -373,20 +373,21 @@ const FAULTS: [(usize, &str, u32); 30] = [
     (8, "CHAIN OPNID(CUST) RRN(4294967296) LCK(*NO)", 8),
     (8, "CRTLF FILE(VIEW) SRC(CUST)", 8),
     (8, "CHKPT", 8),
-    (8, "STRCMTCTL LCKLVL(*CHG)", 8),
     (9, "//END ", 9),
     (9, "//end", 9),
     (9, "//END\n", 10),
 ];
 
 /// A line of the first input, and what may stand there in its place without a fault.
-const VARIANTS: [(usize, &str, u32); 11] = [
+const VARIANTS: [(usize, &str, u32); 13] = [
     (1, "//DDS \t CUST \t", 0),
     (4, "//JOB\t@J_.9", 0),
     (5, "", 0),
     (5, "/* a comment */", 0),
     (5, "CRTPF SRC(CUST) FILE(CUST)", 0),
     (6, "OPNDBF FILE(CUST) +\n   OPTION(*ALL)", 0),
+    (6, "OPNDBF FILE(CUST) OPTION(*ALL) COMMIT(*YES)", 0),
+    (6, "STRCMTCTL LCKLVL(*CHG)", 0),
     (7, "WRITE OPNID(CUST) VAL('ABCDEF')", 0),
     (7, "WRITE  OPNID(CUST)  VAL( X'00fFA1b2C3' )", 0),
     (8, "CHAIN OPNID(CUST) RRN(4294967295) LCK(*NO)", 0),

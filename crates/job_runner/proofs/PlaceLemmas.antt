@@ -1,6 +1,6 @@
 -- What one call more makes of the places that a session keeps.
 use Rattle.std.proofs.Common.{◌≡◌, ◌≢◌, ℕ, ◌+◌, ◌-◌, ◌<◌, ◌≤◌, Bool, true, false, not, ◌==◌, IsTrue, if◌then◌else◌, Option, Some, None, List, [], ◌∷◌, ◌++◌, length, map, slice_get, slice_set, zero, suc, refl, sym, ◌∙◌, ap, subst, arith, rules, length-append, get_or, unwrap_or, Result, Ok, Err, OnOk}
-use Rattle.std.specs.List.{list_all, AllByRecursion}
+use Rattle.std.specs.List.{list_all}
 use Rattle.std.specs.Result.{is_ok, is_err}
 use Rattle.std.proofs.lemmas.Grind.{common_steps}
 use Rattle.std.proofs.lemmas.List.{length-map}
@@ -15,7 +15,6 @@ use Rattle.library_steps.specs.History.{is_running}
 use Rattle.library_model.specs.Ending.{is_end_job}
 use Rattle.library_core.specs.Running.{runs_after}
 use Rattle.built_state.specs.Built.{IsBuilt}
-use Rattle.built_state.specs.Uncommitted.{IsUncommitted}
 use Rattle.built_state.specs.Unkeyed.{AreUnkeyed, AreUnkeyedSources}
 use Rattle.input_scripts.specs.declared.Scripts.{Scripts}
 use Rattle.input_scripts.specs.Askable.{is_askable_script}
@@ -270,15 +269,11 @@ first-place-is scripts jobs at place script begun named there within fresh = rw 
   goes_on = λ e. record { no_end = search rules; reply = None; waits = refl; stands = rw (script-at scripts.scripts at script there) (IsProgress-first script) };
 })
 
-uncommitted-new : (names : List (List ℕ)) → AllByRecursion IsUncommitted (map new_job names)
-uncommitted-new [] = tt
-uncommitted-new (name ∷ names) = (record { level = refl; cycle = refl; opens = tt }, uncommitted-new names)
-
 pub IsSession-first : (scripts : Scripts) (state : State) (room : ℕ) (kept : List Place) → AreUnkeyed state.files → AreUnkeyedSources scripts.sources → state.jobs ≡ map new_job scripts.names → IsTrue (list_all is_askable_script scripts.scripts) → length scripts.names ≡ length scripts.scripts → length scripts.scripts ≤ MOST_JOBS → MOST_JOBS ≤ room → kept ≡ map first_place scripts.scripts → IsSession scripts state [] room kept
 IsSession-first scripts state room kept files unkeyed begun askable named few enough fresh =
     let many : length kept ≡ length scripts.scripts = rw fresh (length-map scripts.scripts first_place) in
     record {
-      built = record { files = files; jobs = rw begun (uncommitted-new scripts.names) };
+      built = record { files = files };
       unkeyed = unkeyed;
       askable = askable;
       jobs = many;

@@ -13,7 +13,7 @@ fn is_built(request: &Request) -> bool
     ensures { result ≡ is_built request.now }
 {
     match request {
-        Request::CreateLogicalFile(_) | Request::Checkpoint | Request::StartCommitment(_) => false,
+        Request::CreateLogicalFile(_) | Request::Checkpoint => false,
         Request::CreatePhysicalFile(_)
         | Request::DeleteFile(_)
         | Request::AddMember(_)
@@ -26,6 +26,7 @@ fn is_built(request: &Request) -> bool
         | Request::DisplayJournal(_)
         | Request::ApplyChanges(_)
         | Request::RemoveChanges(_)
+        | Request::StartCommitment(_)
         | Request::EndCommitment
         | Request::Commit
         | Request::Rollback

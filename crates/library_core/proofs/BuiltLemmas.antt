@@ -1,13 +1,12 @@
--- What stays so of files without a key, and of jobs that are under no commitment control.
-use Rattle.std.proofs.Common.{◌≡◌, ℕ, ◌-◌, ◌==◌, Bool, true, false, cond, filter, if◌then◌else◌, List, [], ◌∷◌, ◌++◌, map, Some, None, IfSome, zero, suc, slice_get, refl}
+-- What stays so of files without a key.
+use Rattle.std.proofs.Common.{ℕ, Bool, true, false, cond, filter, if◌then◌else◌, List, [], ◌∷◌, ◌++◌, map, Some, IfSome}
 use Rattle.std.specs.List.{AllByRecursion}
 use Rattle.library_model.specs.declared.sources.NamedSource.{NamedSource}
-use Rattle.library_model.specs.Named.{Named, named, same_name}
+use Rattle.library_model.specs.Named.{Named, same_name}
 use Rattle.library_model.specs.SourceList.{text_of}
-use Rattle.library_steps.specs.State.{Memory, FileState, MemberStatus, OpenState, JobState, job_of, job_changed, new_job, or_new, status_changed}
+use Rattle.library_steps.specs.State.{FileState, MemberStatus, status_changed}
 use Rattle.library_steps.specs.MemberCommands.{file_changed, with_member_name}
 use Rattle.built_state.specs.Unkeyed.{IsUnkeyed, AreUnkeyed, IsUnkeyedText, AreUnkeyedSources}
-use Rattle.built_state.specs.Uncommitted.{IsUncommitted}
 
 pub all-append : {X : Type 0} (P : X → Type 0) (xs ys : List X) → AllByRecursion P xs → AllByRecursion P ys → AllByRecursion P (xs ++ ys)
 all-append P [] ys all more = more
@@ -20,12 +19,6 @@ all-filter P test (x ∷ xs) all =
       | true ↦ (all.0, all-filter P test xs all.1)
       | false ↦ all-filter P test xs all.1
     ]
-
-pub all-job_changed : (P : JobState → Type 0) (place : ℕ) (change : JobState → JobState) (jobs : List JobState) → ((job : JobState) → P job → P (change job))
-    → AllByRecursion P jobs → AllByRecursion P (job_changed place change jobs)
-all-job_changed P place change [] each all = tt
-all-job_changed P zero change (job ∷ jobs) each all = (each job all.0, all.1)
-all-job_changed P (suc place) change (job ∷ jobs) each all = (all.0, all-job_changed P place change jobs each all.1)
 
 -- ---- files
 
@@ -48,34 +41,4 @@ text-unkeyed (source ∷ others) name all =
     elim (same_name source.name name) as (λ b. IfSome (if b then Some source.text else text_of others name) IsUnkeyedText) [
       | true ↦ all.0
       | false ↦ text-unkeyed others name all.1
-    ]
-
--- ---- jobs
-
-pub IsUncommitted-new_job : (name : List ℕ) → IsUncommitted (new_job name)
-IsUncommitted-new_job name = record { level = refl; cycle = refl; opens = tt }
-
-pub uncommitted-begun : (name : List ℕ) (jobs : List JobState) → AllByRecursion IsUncommitted jobs → AllByRecursion IsUncommitted (jobs ++ new_job name ∷ [])
-uncommitted-begun name jobs all = all-append IsUncommitted jobs (new_job name ∷ []) all (IsUncommitted-new_job name, tt)
-
-uncommitted-place : (place : ℕ) (jobs : List JobState) → AllByRecursion IsUncommitted jobs → IsUncommitted (or_new (slice_get jobs place))
-uncommitted-place place [] all = IsUncommitted-new_job []
-uncommitted-place zero (job ∷ jobs) all = all.0
-uncommitted-place (suc place) (job ∷ jobs) all = uncommitted-place place jobs all.1
-
--- the job of a number
-pub uncommitted-job : (number : ℕ) (m : Memory) → AllByRecursion IsUncommitted m.jobs → IsUncommitted (job_of number m)
-uncommitted-job number m all =
-    elim (number == 0) as (λ b. IsUncommitted (or_new (if b then None else slice_get m.jobs (number - 1)))) [
-      | true ↦ IsUncommitted-new_job []
-      | false ↦ uncommitted-place (number - 1) m.jobs all
-    ]
-
--- an open that such a job has by a name
-pub uncommitted-open : (name : List ℕ) (opens : Named OpenState) → AllByRecursion (λ entry. entry.1.commit ≡ false) opens → IfSome (named name opens) (λ opened. opened.commit ≡ false)
-uncommitted-open name [] all = tt
-uncommitted-open name (entry ∷ opens) all =
-    elim (same_name name entry.0) as (λ b. IfSome (cond b (Some entry.1) (named name opens)) (λ opened. opened.commit ≡ false)) [
-      | true ↦ all.0
-      | false ↦ uncommitted-open name opens all.1
     ]

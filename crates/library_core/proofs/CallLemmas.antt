@@ -55,7 +55,7 @@ refused-no_end sources s job timestamp _ reply refused = refl
 -- what a call makes of which jobs run, and of what holds between calls
 module _ (sources : List NamedSource) (old new : State) (job timestamp : ℕ) (r : Request) (running : IsTrue (is_running (job_at job old.jobs))) (built : IsTrue (is_built r)) (unkeyed : AreUnkeyedSources sources) (holds : IsBuilt old) where
   left : (c : Change) → change sources old.entries (memory_of old) job timestamp r ≡ Ok c → Leaves job r (memory_of old) c
-  left c done = IfOk-at_ok (Leaves job r (memory_of old)) done (change-leaves sources old.entries (memory_of old) job timestamp running unkeyed holds.jobs r built).holds
+  left c done = IfOk-at_ok (Leaves job r (memory_of old)) done (change-leaves sources old.entries (memory_of old) job timestamp running unkeyed r built).holds
 
   -- which jobs run then
   pub runs-answered : (result : Result Reply Stop) → Answers old new result (change sources old.entries (memory_of old) job timestamp r) → (IsErrOf result stop.NoMemory → IsTrue (needs_memory r)) → (other : ℕ)
@@ -69,6 +69,6 @@ module _ (sources : List NamedSource) (old new : State) (job timestamp : ℕ) (r
   pub built-answered : (result : Result Reply Stop) → Answers old new result (change sources old.entries (memory_of old) job timestamp r) → IsBuilt new
   built-answered (Ok reply) (c, done, given, leads) =
       let keeps = left c done in
-      subst IsBuilt (sym leads) (record { files = keeps.unkeyed holds.files; jobs = keeps.uncommitted holds.jobs })
+      subst IsBuilt (sym leads) (record { files = keeps.unkeyed holds.files })
   built-answered (Err stop.NoMemory) same = subst IsBuilt (sym same) holds
   built-answered (Err (stop.Refused reply)) (same, refused) = subst IsBuilt (sym same) holds

@@ -1,24 +1,20 @@
--- What the journal's requests leave, and what COMMIT, ROLLBACK, ENDCMTCTL and ENDJOB do where no commitment control is started.
-use Rattle.std.proofs.Common.{◌≡◌, ℕ, ◌+◌, List, [], ◌∷◌, Err, refl}
-use Rattle.std.specs.List.{AllByRecursion}
+-- What the requests of the journal and of commitment control leave.
+use Rattle.std.proofs.Common.{◌≡◌, ℕ, ◌+◌, ◌-◌, None, Some, List, [], ◌∷◌, refl}
 use Rattle.entry_codec.specs.declared.entries.Entry.{Entry}
 use Rattle.journal_model.specs.Rollback.{MemberChange}
 use Rattle.journal_model.specs.Replay.{before_of}
-use Rattle.library_model.specs.declared.replies.Reply.TheVariants.{NoDefinition}
 use Rattle.library_model.specs.declared.requests.DeleteReceiver.{DeleteReceiver}
 use Rattle.library_model.specs.declared.requests.DisplayJournal.{DisplayJournal}
 use Rattle.library_model.specs.declared.requests.JournaledChanges.{JournaledChanges}
-use Rattle.library_steps.specs.State.{Memory, job_of}
-use Rattle.library_steps.specs.Refusals.{found}
+use Rattle.library_model.specs.declared.requests.StartCommitment.{StartCommitment}
+use Rattle.library_steps.specs.State.{Memory, job_changed, job_of, with_opens}
 use Rattle.library_steps.specs.Receivers.{attach_plan, attach_change, change_journal, delete_receiver}
 use Rattle.library_steps.specs.JournalReads.{display_journal}
 use Rattle.library_steps.specs.Ranges.{range_change, apply_plan, remove_plan, apply_changes, remove_changes}
 use Rattle.library_steps.specs.SlotChange.{with_slot}
-use Rattle.library_steps.specs.Commitment.{end_plan, end_commitment, commit, rollback, taken_back}
-use Rattle.built_state.specs.Uncommitted.{IsUncommitted}
-use Rattle.library_core.proofs.ResultLemmas.{Holds, each-holds, does-holds, does-refused, bind-refused, found-none}
-use Rattle.library_core.proofs.BuiltLemmas.{uncommitted-job}
-use Rattle.library_core.proofs.SpareLemmas.{SparesIn, spares-all}
+use Rattle.library_steps.specs.Commitment.{start_commitment, with_level, end_commitment, commit, committed_open, without_cycle, rollback, rolled_back_open, changes_of, taken_back}
+use Rattle.library_core.proofs.ResultLemmas.{Holds, each-holds, does-holds}
+use Rattle.library_core.proofs.SpareLemmas.{Spares, SparesIn, spares-all, spares-job}
 
 pub change_journal-spares : (m : Memory) (job timestamp : ℕ) → Holds (change_journal m job timestamp) (SparesIn m)
 change_journal-spares m job timestamp = does-holds (attach_change m job timestamp) (attach_plan m) (SparesIn m) (each-holds (attach_plan m) _ (λ number. spares-all m.files m.jobs))
@@ -39,22 +35,6 @@ remove_changes-spares entries m job timestamp args =
 
 -- ---- boundaries
 
-undefined : (m : Memory) (job : ℕ) → AllByRecursion IsUncommitted m.jobs → found (job_of job m).level NoDefinition ≡ Err NoDefinition
-undefined m job all = found-none (job_of job m).level NoDefinition (uncommitted-job job m all).level
-
-pub commit-refused : (m : Memory) (job timestamp : ℕ) → AllByRecursion IsUncommitted m.jobs → commit m job timestamp ≡ Err NoDefinition
-commit-refused m job timestamp all = does-refused _ (found (job_of job m).level NoDefinition) NoDefinition (undefined m job all)
-
-pub rollback-refused : (m : Memory) (job timestamp : ℕ) → AllByRecursion IsUncommitted m.jobs → rollback m job timestamp ≡ Err NoDefinition
-rollback-refused m job timestamp all = does-refused _ (found (job_of job m).level NoDefinition) NoDefinition (undefined m job all)
-
-undefined-end : (m : Memory) (job : ℕ) → AllByRecursion IsUncommitted m.jobs → end_plan m job ≡ Err NoDefinition
-unfolding end_plan
-undefined-end m job all = bind-refused (found (job_of job m).level NoDefinition) _ NoDefinition (undefined m job all)
-
-pub end_commitment-refused : (m : Memory) (job timestamp : ℕ) → AllByRecursion IsUncommitted m.jobs → end_commitment m job timestamp ≡ Err NoDefinition
-end_commitment-refused m job timestamp all = does-refused _ (end_plan m job) NoDefinition (undefined-end m job all)
-
 -- what is taken back is in members alone
 pub taken_back-jobs : (undos : List MemberChange) (m : Memory) → (taken_back undos m).jobs ≡ m.jobs
 taken_back-jobs [] m = refl
@@ -63,3 +43,20 @@ taken_back-jobs (undo ∷ undos) m = taken_back-jobs undos (with_slot undo.membe
 pub taken_back-files : (undos : List MemberChange) (m : Memory) → (taken_back undos m).files ≡ m.files
 taken_back-files [] m = refl
 taken_back-files (undo ∷ undos) m = taken_back-files undos (with_slot undo.member (undo.change.place + 1) (before_of undo.change) m)
+
+pub start_commitment-spares : (m : Memory) (job timestamp : ℕ) (args : StartCommitment) → Holds (start_commitment m job timestamp args) (SparesIn m)
+start_commitment-spares m job timestamp args = does-holds _ _ (SparesIn m) (each-holds _ _ (λ started. spares-job m.files job (with_level (Some args.level)) m.jobs (λ j. refl)))
+
+pub end_commitment-spares : (m : Memory) (job timestamp : ℕ) → Holds (end_commitment m job timestamp) (SparesIn m)
+end_commitment-spares m job timestamp = does-holds _ _ (SparesIn m) (each-holds _ _ (λ ended. spares-job m.files job (with_level None) m.jobs (λ j. refl)))
+
+pub commit-spares : (m : Memory) (job timestamp : ℕ) → Holds (commit m job timestamp) (SparesIn m)
+commit-spares m job timestamp =
+    does-holds _ _ (SparesIn m) (each-holds _ _ (λ level. spares-job m.files job (λ j. with_opens committed_open (without_cycle j)) m.jobs (λ j. refl)))
+
+pub rollback-spares : (m : Memory) (job timestamp : ℕ) → Holds (rollback m job timestamp) (SparesIn m)
+rollback-spares m job timestamp = does-holds _ _ (SparesIn m) (each-holds _ _ (λ level. back))
+  where
+    back : Spares m.files (taken_back (changes_of (job_of job m).cycle) m).files m.jobs (job_changed (job - 1) (λ j. with_opens rolled_back_open (without_cycle j)) (taken_back (changes_of (job_of job m).cycle) m).jobs)
+    back = rw (taken_back-files (changes_of (job_of job m).cycle) m, taken_back-jobs (changes_of (job_of job m).cycle) m)
+        (spares-job m.files job (λ j. with_opens rolled_back_open (without_cycle j)) m.jobs (λ j. refl))

@@ -6,5 +6,4 @@ pub mod FileSteps
 pub mod RecordSteps
 pub mod JournalSteps
 pub mod StepLemmas
-pub mod BoundaryLemmas
 pub mod CallLemmas

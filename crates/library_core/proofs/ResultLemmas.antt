@@ -1,5 +1,5 @@
 -- What holds of the plans and changes of a request where they aren't refused, followed from one refusal to the next.
-use Rattle.std.proofs.Common.{◌≡◌, Option, Some, None, Result, Ok, Err, IfOk, IfSome, refl}
+use Rattle.std.proofs.Common.{Option, Some, None, Result, Ok, Err, IfOk, IfSome}
 use Rattle.std.proofs.lemmas.Result.{IfOk-weaker}
 use Rattle.library_model.specs.declared.replies.Reply.{Reply}
 use Rattle.library_steps.specs.Change.{Change, does}
@@ -35,21 +35,3 @@ bind-holds (Err e) Q next P here rest = record { holds = tt }
 pub does-holds : {A : Type 0} (effect : A → Change) (plan : Result A Reply) (P : Change → Type 0) → Holds plan (λ x. P (effect x)) → Holds (does effect plan) P
 does-holds effect (Ok x) P here = record { holds = here.holds }
 does-holds effect (Err e) P here = record { holds = tt }
-
--- what is refused does nothing
-pub refused-holds : {A : Type 0} (r : Result A Reply) (reply : Reply) (P : A → Type 0) → r ≡ Err reply → Holds r P
-refused-holds (Ok x) reply P is = absurd cc
-refused-holds (Err e) reply P is = record { holds = tt }
-
--- what is refused for want of a thing
-pub found-none : {A : Type 0} (thing : Option A) (reply : Reply) → thing ≡ None → found thing reply ≡ Err reply
-found-none None reply none = refl
-found-none (Some x) reply none = absurd cc
-
-pub does-refused : {A : Type 0} (effect : A → Change) (plan : Result A Reply) (reply : Reply) → plan ≡ Err reply → does effect plan ≡ Err reply
-does-refused effect (Ok x) reply is = absurd cc
-does-refused effect (Err e) reply is = cc
-
-pub bind-refused : {A B : Type 0} (r : Result A Reply) (next : A → Result B Reply) (reply : Reply) → r ≡ Err reply → (r >>= next) ≡ Err reply
-bind-refused (Ok x) next reply is = absurd cc
-bind-refused (Err e) next reply is = cc

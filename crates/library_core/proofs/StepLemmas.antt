@@ -1,11 +1,9 @@
--- What the change of each request that is built leaves: which jobs run, and that nothing stands in the library that isn't built.
+-- What the change of each request that is built leaves: which jobs run, and that no file has a key.
 use Rattle.std.proofs.Common.{◌≡◌, ◌∙◌, ℕ, ◌-◌, false, IsTrue, List, Result, refl, sym, ap, subst}
-use Rattle.std.specs.List.{AllByRecursion}
 use Rattle.entry_codec.specs.declared.entries.Entry.{Entry}
 use Rattle.built_requests.specs.Built.{is_built}
 use Rattle.library_model.specs.Ending.{is_end_job}
 use Rattle.library_model.specs.declared.replies.Reply.{Reply}
-use Rattle.library_model.specs.declared.replies.Reply.TheVariants.{NoDefinition}
 use Rattle.library_model.specs.declared.requests.EndJob.{EndJob}
 use Rattle.library_model.specs.declared.requests.Request.{Request}
 use Rattle.library_model.specs.declared.requests.Request.TheVariants as request
@@ -17,27 +15,23 @@ use Rattle.library_steps.specs.EndJob.{ended_job, end_change}
 use Rattle.library_steps.specs.History.{is_running}
 use Rattle.library_steps.specs.Step.{change}
 use Rattle.built_state.specs.Unkeyed.{AreUnkeyed, AreUnkeyedSources}
-use Rattle.built_state.specs.Uncommitted.{IsUncommitted}
 use Rattle.library_core.specs.Running.{runs_after}
 use Rattle.library_core.proofs.RunLemmas.{runs-ended, runs-on}
-use Rattle.library_core.proofs.BuiltLemmas.{all-job_changed}
 use Rattle.library_core.proofs.SpareLemmas.{SparesIn}
-use Rattle.library_core.proofs.ResultLemmas.{Holds, wider-holds, refused-holds}
+use Rattle.library_core.proofs.ResultLemmas.{Holds, wider-holds}
 use Rattle.library_core.proofs.FileSteps.{create_physical_file-spares, delete_file-spares, add_member-spares, clear_member-spares, reorganize_member-spares, start_journaling-spares, end_journaling-spares}
 use Rattle.library_core.proofs.RecordSteps.{open_file-spares, close_file-spares, write_record-spares, update_record-spares, delete_record-spares, unlock-spares, set_lower_limit-spares, set_greater_than-spares, read-spares, read_prior-spares, read_equal-spares, read_prior_equal-spares, chain-spares}
-use Rattle.library_core.proofs.JournalSteps.{change_journal-spares, delete_receiver-spares, display_journal-spares, apply_changes-spares, remove_changes-spares, commit-refused, rollback-refused, end_commitment-refused, taken_back-jobs, taken_back-files}
+use Rattle.library_core.proofs.JournalSteps.{change_journal-spares, delete_receiver-spares, display_journal-spares, apply_changes-spares, remove_changes-spares, start_commitment-spares, end_commitment-spares, commit-spares, rollback-spares, taken_back-jobs, taken_back-files}
 
 pub record Leaves (job : ℕ) (r : Request) (m : Memory) (c : Change) : Type 0 where
   pub runs : (other : ℕ) → is_running (job_at other c.memory.jobs) ≡ runs_after job r m.jobs other
   pub unkeyed : AreUnkeyed m.files → AreUnkeyed c.memory.files
-  pub uncommitted : AllByRecursion IsUncommitted m.jobs → AllByRecursion IsUncommitted c.memory.jobs
 
 -- a request that ends no job
 leaves-spared : (job : ℕ) (r : Request) (m : Memory) (c : Change) → is_end_job r ≡ false → SparesIn m c → Leaves job r m c
 leaves-spared job r m c goes_on spares = record {
   runs = λ other. spares.runs other ∙ sym (runs-on job r m.jobs other goes_on);
   unkeyed = spares.unkeyed;
-  uncommitted = spares.uncommitted;
 }
 
 -- ENDJOB ends its own
@@ -48,11 +42,10 @@ end_job-leaves m job timestamp args running =
     record {
       runs = λ other. ap (λ (js : List JobState). is_running (job_at other (job_changed (job - 1) ended_job js))) jobs ∙ runs-ended job other m.jobs running;
       unkeyed = λ all. subst AreUnkeyed (sym files) all;
-      uncommitted = λ all. subst (λ (js : List JobState). AllByRecursion IsUncommitted (job_changed (job - 1) ended_job js)) (sym jobs) (all-job_changed IsUncommitted (job - 1) ended_job m.jobs (λ j is. record { level = refl; cycle = refl; opens = tt }) all);
     }
 
 -- what every change leaves
-module _ (sources : List NamedSource) (entries : List Entry) (m : Memory) (job timestamp : ℕ) (running : IsTrue (is_running (job_at job m.jobs))) (unkeyed : AreUnkeyedSources sources) (uncommitted : AllByRecursion IsUncommitted m.jobs) where
+module _ (sources : List NamedSource) (entries : List Entry) (m : Memory) (job timestamp : ℕ) (running : IsTrue (is_running (job_at job m.jobs))) (unkeyed : AreUnkeyedSources sources) where
   spared : (r : Request) (wanted : Result Change Reply) → is_end_job r ≡ false → Holds wanted (SparesIn m) → Holds wanted (Leaves job r m)
   spared r wanted goes_on spares = wider-holds wanted (SparesIn m) (Leaves job r m) (λ c kept. leaves-spared job r m c goes_on kept) spares
 
@@ -72,11 +65,11 @@ module _ (sources : List NamedSource) (entries : List Entry) (m : Memory) (job t
   change-leaves (request.DisplayJournal args) built = spared (request.DisplayJournal args) _ refl (display_journal-spares entries m args)
   change-leaves (request.ApplyChanges args) built = spared (request.ApplyChanges args) _ refl (apply_changes-spares entries m job timestamp args)
   change-leaves (request.RemoveChanges args) built = spared (request.RemoveChanges args) _ refl (remove_changes-spares entries m job timestamp args)
-  change-leaves (request.StartCommitment args) built = absurd cc
-  change-leaves request.EndCommitment built = refused-holds _ NoDefinition _ (end_commitment-refused m job timestamp uncommitted)
-  change-leaves request.Commit built = refused-holds _ NoDefinition _ (commit-refused m job timestamp uncommitted)
-  change-leaves request.Rollback built = refused-holds _ NoDefinition _ (rollback-refused m job timestamp uncommitted)
-  change-leaves (request.OpenFile args) built = spared (request.OpenFile args) _ refl (open_file-spares m job args uncommitted)
+  change-leaves (request.StartCommitment args) built = spared (request.StartCommitment args) _ refl (start_commitment-spares m job timestamp args)
+  change-leaves request.EndCommitment built = spared request.EndCommitment _ refl (end_commitment-spares m job timestamp)
+  change-leaves request.Commit built = spared request.Commit _ refl (commit-spares m job timestamp)
+  change-leaves request.Rollback built = spared request.Rollback _ refl (rollback-spares m job timestamp)
+  change-leaves (request.OpenFile args) built = spared (request.OpenFile args) _ refl (open_file-spares m job args)
   change-leaves (request.CloseFile args) built = spared (request.CloseFile args) _ refl (close_file-spares m job args)
   change-leaves (request.SetLowerLimit args) built = spared (request.SetLowerLimit args) _ refl (set_lower_limit-spares m job args)
   change-leaves (request.SetGreaterThan args) built = spared (request.SetGreaterThan args) _ refl (set_greater_than-spares m job args)
@@ -85,8 +78,8 @@ module _ (sources : List NamedSource) (entries : List Entry) (m : Memory) (job t
   change-leaves (request.ReadEqual args) built = spared (request.ReadEqual args) _ refl (read_equal-spares m job args)
   change-leaves (request.ReadPriorEqual args) built = spared (request.ReadPriorEqual args) _ refl (read_prior_equal-spares m job args)
   change-leaves (request.Chain args) built = spared (request.Chain args) _ refl (chain-spares m job args)
-  change-leaves (request.Write args) built = spared (request.Write args) _ refl (write_record-spares m job timestamp args uncommitted)
-  change-leaves (request.Update args) built = spared (request.Update args) _ refl (update_record-spares m job timestamp args uncommitted)
-  change-leaves (request.Delete args) built = spared (request.Delete args) _ refl (delete_record-spares m job timestamp args uncommitted)
+  change-leaves (request.Write args) built = spared (request.Write args) _ refl (write_record-spares m job timestamp args)
+  change-leaves (request.Update args) built = spared (request.Update args) _ refl (update_record-spares m job timestamp args)
+  change-leaves (request.Delete args) built = spared (request.Delete args) _ refl (delete_record-spares m job timestamp args)
   change-leaves (request.Unlock args) built = spared (request.Unlock args) _ refl (unlock-spares m job args)
   change-leaves (request.EndJob args) built = record { holds = end_job-leaves m job timestamp args running }

@@ -1,9 +1,7 @@
 //! What a request asks for: each of them of the crate that does it.
 ghost use Rattle.std.specs.Prelude.{IsTrue, IsErrOf};
-ghost use Rattle.std.specs.List.{AllByRecursion};
 ghost use Rattle.built_requests.specs.Built.{is_built};
 ghost use Rattle.built_state.specs.Unkeyed.{AreUnkeyed};
-ghost use Rattle.built_state.specs.Uncommitted.{IsUncommitted};
 ghost use Rattle.library_model.specs.NeedsMemory.{needs_memory};
 ghost use Rattle.library_steps.specs.State.{memory_of, job_at};
 ghost use Rattle.library_steps.specs.History.{is_running};
@@ -11,7 +9,7 @@ ghost use Rattle.library_steps.specs.Step.{change};
 ghost use Rattle.library_parts.specs.Answers.{Answers};
 ghost use Rattle.library_parts.specs.declared.stop.Stop.TheVariants.{NoMemory};
 
-use crate::boundaries::{end_job, refuse_boundary};
+use commitment_requests::{commit, end_commitment, end_job, rollback, start_commitment};
 use file_requests::{
     add_member, clear_member, close_file, create_physical_file, delete_file, end_journaling,
     open_file, reorganize_member, start_journaling,
@@ -21,6 +19,7 @@ use library_model::replies::Reply;
 use library_model::requests::Request;
 use library_model::sources::Sources;
 use library_parts::{Contents, Stop};
+use range_requests::{apply_changes, remove_changes};
 use record_changes::{delete_record, unlock, update_record, write_record};
 use record_reads::{
     chain, read, read_equal, read_prior, read_prior_equal, set_greater_than, set_lower_limit,
@@ -38,7 +37,6 @@ pub(crate) fn perform(
     requires running { IsTrue (is_running (job_at job contents.old.state.jobs)) }
     requires built { IsTrue (is_built request.now) }
     requires unkeyed { AreUnkeyed contents.old.state.files }
-    requires uncommitted { AllByRecursion IsUncommitted contents.old.state.jobs }
     ensures step { Answers contents.old.state contents.new.state result (change sources.now contents.old.state.entries (memory_of contents.old.state) job timestamp request.now) }
     ensures memory { IsErrOf result NoMemory → IsTrue (needs_memory request.now) }
 {
@@ -55,11 +53,12 @@ pub(crate) fn perform(
         Request::ChangeJournal => change_journal(contents, job, timestamp),
         Request::DeleteReceiver(args) => delete_receiver(contents, job, args),
         Request::DisplayJournal(args) => display_journal(contents, job, args),
-        // What they need of the journal isn't kept as a fact of the library yet.
-        Request::ApplyChanges(_) | Request::RemoveChanges(_) => Err(Stop::NoMemory),
-        Request::EndCommitment | Request::Commit | Request::Rollback => {
-            Err(refuse_boundary(contents, job))
-        }
+        Request::ApplyChanges(args) => apply_changes(contents, job, timestamp, args),
+        Request::RemoveChanges(args) => remove_changes(contents, job, timestamp, args),
+        Request::StartCommitment(args) => start_commitment(contents, job, timestamp, args),
+        Request::EndCommitment => end_commitment(contents, job, timestamp),
+        Request::Commit => commit(contents, job, timestamp),
+        Request::Rollback => rollback(contents, job, timestamp),
         Request::OpenFile(args) => open_file(contents, job, args),
         Request::CloseFile(args) => close_file(contents, job, args),
         Request::SetLowerLimit(args) => set_lower_limit(contents, job, args),
@@ -74,8 +73,6 @@ pub(crate) fn perform(
         Request::Delete(args) => delete_record(contents, job, timestamp, args),
         Request::Unlock(args) => unlock(contents, job, args),
         Request::EndJob(_) => end_job(contents, job, timestamp),
-        Request::CreateLogicalFile(_) | Request::Checkpoint | Request::StartCommitment(_) => {
-            unreachable!()
-        }
+        Request::CreateLogicalFile(_) | Request::Checkpoint => unreachable!(),
     }
 }

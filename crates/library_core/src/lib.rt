@@ -1,7 +1,6 @@
 //! The library over a store, and the one call that answers a request. Begin with `library.rt`.
 #![tactic(auto)]
 
-mod boundaries;
 mod dispatch;
 pub mod library;
 

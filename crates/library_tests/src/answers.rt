@@ -17,6 +17,10 @@ pub enum Answer {
     Receiver(u32),
     /// Entries from the first sequence to the last.
     Entries(u64, u64),
+    /// Entries of these journal codes and entry types.
+    Kinds(&'static [&'static [u8; 3]]),
+    /// The closed part of a range, and how many changes were made.
+    Range(u64, u64, u32),
     Refused(Refusal),
 }
 
@@ -40,7 +44,14 @@ pub enum Refusal {
     InUse(u32),
     NotJournaled(u32),
     PlaceInUse(u32),
+    HeldByGroup(u32),
+    HeldToBoundary,
     StillNeeded(u64),
+    PendingChanges(u64),
+    Straddled(u64),
+    Gap(u64),
+    /// The sequence, and the relative record number.
+    DoesNotFit(u64, u32),
     /// The job, the member, and the relative record number.
     RecordInUse(u32, u32, u32),
 }
@@ -76,6 +87,14 @@ fn are_from_to(entries: &[Entry], from: u64, to: u64) -> bool {
     }
 }
 
+fn are_of_kinds(entries: &[Entry], wanted: &[&[u8; 3]]) -> bool {
+    entries.len() == wanted.len()
+        && entries
+            .iter()
+            .zip(wanted)
+            .all(|(entry, letters)| entry.kind.letters() == *letters)
+}
+
 fn is_refusal(reply: &Reply, refusal: Refusal) -> bool {
     match (reply, refusal) {
         (Reply::NotFound, Refusal::NotFound) => true,
@@ -99,7 +118,15 @@ fn is_refusal(reply: &Reply, refusal: Refusal) -> bool {
         (Reply::InUse { job }, Refusal::InUse(wanted)) => *job == wanted,
         (Reply::NotJournaled { member }, Refusal::NotJournaled(wanted)) => *member == wanted,
         (Reply::PlaceInUse { rrn }, Refusal::PlaceInUse(wanted)) => *rrn == wanted,
+        (Reply::HeldByGroup { rrn }, Refusal::HeldByGroup(wanted)) => *rrn == wanted,
+        (Reply::HeldToBoundary, Refusal::HeldToBoundary) => true,
         (Reply::StillNeeded { sequence }, Refusal::StillNeeded(wanted)) => *sequence == wanted,
+        (Reply::PendingChanges { group }, Refusal::PendingChanges(wanted)) => *group == wanted,
+        (Reply::Straddled { group }, Refusal::Straddled(wanted)) => *group == wanted,
+        (Reply::Gap { sequence }, Refusal::Gap(wanted)) => *sequence == wanted,
+        (Reply::DoesNotFit { sequence, rrn }, Refusal::DoesNotFit(wanted, at)) => {
+            *sequence == wanted && *rrn == at
+        }
         (Reply::RecordInUse { job, member, rrn }, Refusal::RecordInUse(by, of, at)) => {
             *job == by && *member == of && *rrn == at
         }
@@ -118,6 +145,15 @@ pub fn is_answer(reply: &Reply, answer: Answer) -> bool {
         (Reply::Entries(shown), Answer::Entries(from, to)) => {
             are_from_to(shown.as_slice(), from, to)
         }
+        (Reply::Entries(shown), Answer::Kinds(wanted)) => { are_of_kinds(shown.as_slice(), wanted) }
+        (
+            Reply::Range {
+                first,
+                last,
+                changes,
+            },
+            Answer::Range(from, to, made),
+        ) => *first == from && *last == to && *changes == made,
         (_, Answer::Refused(refusal)) => is_refusal(reply, refusal),
         _ => false,
     }

@@ -3,14 +3,16 @@ ghost use Rattle.std.specs.Prelude.{◌≡◌, false, IfSome, IsTrue};
 ghost use Rattle.built_requests.specs.Built.{is_built};
 ghost use Rattle.library_model.specs.Ending.{is_end_job};
 
+use commit_level::Level;
 use entry_codec::Images;
 use field_types::names::Name;
 use field_types::texts::Text;
 use field_types::values::{Dec, Value};
 use library_model::requests::{
     AccessPath, ChainRecord, ChainTo, CreatePhysicalFile, DeleteFile, DeleteReceiver,
-    DisplayJournal, FileMember, Limit, LockOption, OpenFile, OpenName, OpenOption, ReadEqual,
-    ReadRecord, Request, SetPosition, StartJournaling, UpdateRecord, WriteRecord,
+    DisplayJournal, FileMember, JournaledChanges, Limit, LockOption, OpenFile, OpenName,
+    OpenOption, RangeEnd, ReadEqual, ReadRecord, Request, SetPosition, StartCommitment,
+    StartJournaling, UpdateRecord, WriteRecord,
 };
 use library_model::value_lists::{GivenValues, Values};
 use std::alloc::Global;
@@ -49,6 +51,12 @@ pub enum FileAsk {
     EndJournaling(&'static str, &'static str),
     /// OPNDBF OPNID FILE MBR OPTION
     Open(&'static str, &'static str, &'static str, OpenOption),
+    /// OPNDBF OPNID FILE MBR OPTION(*ALL) COMMIT(*YES)
+    OpenCommitted(&'static str, &'static str, &'static str),
+    /// APYJRNCHG FILE MBR FROMENT TOENT
+    Apply(&'static str, &'static str, u64, u64),
+    /// RMVJRNCHG FILE MBR FROMENT TOENT
+    Remove(&'static str, &'static str, u64, u64),
 }
 
 /// What is asked of the journal, or of commitment control.
@@ -60,6 +68,8 @@ pub enum JournalAsk {
     DeleteReceiver(u32),
     /// DSPJRN FROMENT TOENT
     Display(u64, u64),
+    /// STRCMTCTL LCKLVL
+    StartCommitment(Level),
     /// ENDCMTCTL
     EndCommitment,
     Commit,
@@ -142,6 +152,32 @@ fn member_of(file: &str, member: &str) -> Option<FileMember> {
     })
 }
 
+fn open_of(
+    open_id: &str,
+    file: &str,
+    member: &str,
+    option: OpenOption,
+    commit: bool,
+) -> Option<OpenFile> {
+    Some(OpenFile {
+        file: named(file)?,
+        option,
+        member: named(member)?,
+        open_id: named(open_id)?,
+        commit,
+        access_path: AccessPath::File,
+    })
+}
+
+fn range_of(file: &str, member: &str, from: u64, to: u64) -> Option<JournaledChanges> {
+    Some(JournaledChanges {
+        file: named(file)?,
+        member: named(member)?,
+        from: RangeEnd::Sequence(from),
+        to: RangeEnd::Sequence(to),
+    })
+}
+
 fn file_request(ask: FileAsk) -> Option<Request>
     ensures built { IfSome result (λ r. IsTrue (is_built r)) }
     ensures goes_on { IfSome result (λ r. is_end_job r ≡ false) }
@@ -161,14 +197,18 @@ fn file_request(ask: FileAsk) -> Option<Request>
             images: Images::Both,
         }),
         FileAsk::EndJournaling(file, member) => Request::EndJournaling(member_of(file, member)?),
-        FileAsk::Open(open_id, file, member, option) => Request::OpenFile(OpenFile {
-            file: named(file)?,
-            option,
-            member: named(member)?,
-            open_id: named(open_id)?,
-            commit: false,
-            access_path: AccessPath::File,
-        }),
+        FileAsk::Open(open_id, file, member, option) => {
+            Request::OpenFile(open_of(open_id, file, member, option, false)?)
+        }
+        FileAsk::OpenCommitted(open_id, file, member) => {
+            Request::OpenFile(open_of(open_id, file, member, OpenOption::All, true)?)
+        }
+        FileAsk::Apply(file, member, from, to) => {
+            Request::ApplyChanges(range_of(file, member, from, to)?)
+        }
+        FileAsk::Remove(file, member, from, to) => {
+            Request::RemoveChanges(range_of(file, member, from, to)?)
+        }
     })
 }
 
@@ -180,6 +220,7 @@ fn journal_request(ask: JournalAsk) -> Request
         JournalAsk::Change => Request::ChangeJournal,
         JournalAsk::DeleteReceiver(number) => Request::DeleteReceiver(DeleteReceiver { number }),
         JournalAsk::Display(from, to) => Request::DisplayJournal(DisplayJournal { from, to }),
+        JournalAsk::StartCommitment(level) => Request::StartCommitment(StartCommitment { level }),
         JournalAsk::EndCommitment => Request::EndCommitment,
         JournalAsk::Commit => Request::Commit,
         JournalAsk::Rollback => Request::Rollback,

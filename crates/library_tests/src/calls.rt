@@ -1,5 +1,5 @@
 //! Tables of calls: each reply against the one that the manual's rules give by hand, and that memory is left for each.
-//! The tables stand in `tables.rt` and `setups.rt`.
+//! The tables stand in `tables.rt`, `setups.rt`, `cycles.rt` and `ranges.rt`.
 ghost use Rattle.std.specs.Prelude.{◌≡◌, ◌<◌, false, length, IfSome, IsTrue};
 ghost use Rattle.built_requests.specs.Built.{is_built};
 ghost use Rattle.built_state.specs.Built.{IsBuilt};
@@ -9,6 +9,8 @@ ghost use Rattle.library_core.specs.Stands.{IsReady};
 
 use crate::answers::{Answer, is_answer};
 use crate::asks::{Ask, By, named, request_of};
+use crate::cycles::{CYCLES, LEVELS, POSITIONS};
+use crate::ranges::RANGES;
 use crate::setups::{CHANGES, JOURNAL_CALLS, LOCKS};
 use crate::tables::{DELETED, RECORDS, SOURCES};
 use field_types::names::Name;
@@ -125,4 +127,12 @@ fn records_are_locked(rt: HostRuntime) {
 #[test]
 fn records_are_changed(rt: HostRuntime) {
     check_rows(&rt, rt.alloc(), "changes", &CHANGES);
+}
+
+#[test]
+fn calls_of_commit_cycles_are_answered(rt: HostRuntime) {
+    check_rows(&rt, rt.alloc(), "commit cycles", &CYCLES);
+    check_rows(&rt, rt.alloc(), "positions", &POSITIONS);
+    check_rows(&rt, rt.alloc(), "levels", &LEVELS);
+    check_rows(&rt, rt.alloc(), "ranges", &RANGES);
 }

@@ -8,6 +8,10 @@ mod asks;
 #[cfg(test)]
 mod calls;
 #[cfg(test)]
+mod cycles;
+#[cfg(test)]
+mod ranges;
+#[cfg(test)]
 mod setups;
 #[cfg(test)]
 mod tables;

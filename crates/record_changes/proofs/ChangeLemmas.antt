@@ -190,6 +190,17 @@ gone-by : (commit : Bool) (job : ℕ) (undo : MemberChange) (cycle : CycleState)
 gone-by false job undo cycle m = refl
 gone-by true job undo cycle m = refl
 
+number-locked : (commit : Bool) (m : Memory) (job : JobState) (locks : List Lock) → cycle_number commit (with_locks locks m) job ≡ cycle_number commit m job
+number-locked false m job locks = refl
+number-locked true m job locks = refl
+
+-- locks are nothing to its entries
+drafts-locked : (author : Author) (job : JobState) (new : NewSlot) (images : Option Images) (m : Memory) (locks : List Lock) → drafts_of author job new images (with_locks locks m) ≡ drafts_of author job new images m
+drafts-locked author job new None m locks = refl
+drafts-locked author job new (Some images) m locks =
+    ap (λ (cycle : Option ℕ). (if new.opened.commit then begins_cycle author m job else []) ++ slot_drafts author cycle (new.opened.commit || are_both images)
+    (is_behind_last new.opened.member new.rrn m) new.opened.member new.rrn (slot_there new.opened.member new.rrn m) new.slot) (number-locked new.opened.commit m job locks)
+
 -- the job runs on
 pub changed-running : (job timestamp : ℕ) (new : NewSlot) (before after : State) → HasChanged job timestamp new before after → IsTrue (is_running (job_at job before.jobs)) → IsTrue (is_running (job_at job after.jobs))
 changed-running job timestamp new before after changed runs =
@@ -210,6 +221,8 @@ Answers-changed job timestamp new old locked changed after locks f reply leaves 
     let here : HasChanged job timestamp new (record old { locks = locks }) changed = subst (λ (s : State). HasChanged job timestamp new s changed) is has in
     let m = memory_of old in
     let drafts = drafts_in job timestamp new m in
+    let made = drafts_in job timestamp new (with_locks locks m) in
+    let told : made ≡ drafts = drafts-locked (author_of m job timestamp) (job_of job m) new (images_of new.opened.member m) m locks in
     let undo = change_made m (job_of job m) new in
     let cycle = cycle_for m (job_of job m) in
     let put = with_status new.opened.member touched (with_slot new.opened.member new.rrn new.slot m) in
@@ -221,8 +234,9 @@ Answers-changed job timestamp new old locked changed after locks f reply leaves 
       refl,
       refl,
       changed-state old after (deposited body drafts) (record body { last_entry = body.last_entry + length drafts })
-          (memory ∙ ap f here.memory ∙ ap (λ (x : Memory). f (record x { last_entry = m.last_entry + length drafts })) (locked-by new.opened.commit job undo cycle put locks)
+          (memory ∙ ap f here.memory ∙ ap (λ (x : Memory). f (record x { last_entry = m.last_entry + length made })) (locked-by new.opened.commit job undo cycle put locks)
+          ∙ ap (λ (ds : List Draft). f (record (with_locks locks (slot_changed job new m)) { last_entry = m.last_entry + length ds })) told
           ∙ leaves.last (with_locks locks (slot_changed job new m)) (m.last_entry + length drafts) ∙ ap (λ (n : ℕ). record body { last_entry = n + length drafts }) (sym last))
           gone
-          (entries ∙ here.entries ∙ ap (λ (n : ℕ). old.entries ++ numbered_from (n + 1) drafts) (sym last)),
+          (entries ∙ here.entries ∙ ap (λ (ds : List Draft). old.entries ++ deposited m ds) told ∙ ap (λ (n : ℕ). old.entries ++ numbered_from (n + 1) drafts) (sym last)),
     )

@@ -1,11 +1,12 @@
-use Rattle.std.proofs.Common.{◌∙◌, ℕ, ap, unwrap_or}
+use Rattle.std.proofs.Common.{◌≡◌, rules}
 use Rattle.member_slots.specs.declared.slot.Slot.TheVariants.{Deleted}
-use Rattle.member_slots.specs.Member.{slot_at}
-use Rattle.member_slots.specs.Members.{member_of}
-use Rattle.record_changes.proofs.PlaceLemmas.{next-empty}
+use Rattle.library_steps.specs.State.{memory_of}
+use Rattle.library_steps.specs.SlotChange.{with_slot}
+use Rattle.record_changes.proofs.PlaceLemmas.{MayReturn-behind}
 use Rattle.record_changes.proofs.change_slot.append.Goals as goal
 
-pub returns-clause-before : goal.returns-clause-before
-returns-clause-before c =
-    let its = member_of c.args.member c.args.contents.now.state.members in
-    ap (λ (n : ℕ). unwrap_or (slot_at its n) Deleted) c.requires.behind ∙ next-empty its
+pub returns-in-Live-clause-back : goal.returns-in-Live-clause-back
+returns-in-Live-clause-back c =
+    let old = c.args.contents.now.state in
+    let put : memory_of c.append_record.new.self.state ≡ with_slot c.args.member c.args.rrn c.args.slot (memory_of old) = search rules in
+    MayReturn-behind old c.append_record.new.self.state c.args.member c.args.rrn c.args.slot Deleted put c.requires.may tt (λ name file owns. tt) c.requires.behind

@@ -20,4 +20,4 @@ returns c =
     let old = c.args.contents.now.state in
     Answers-changed c.args.job c.args.timestamp planned old c.leave_locks.new.contents.state c.change_slot.new.contents.state c.give_up_record.new.self.state
     (locks_left Delete c.args.job planned.opened planned.rrn (memory_of old)) (with_job c.args.job (with_opens (without_record c.args.planned.opened.member c.args.planned.rrn))) Done (record { last = λ m n. refl; same = λ m. refl; gone = λ m. refl })
-    c.leave_locks.ensures.state c.change_slot.ensures c.give_up_record.ensures.memory c.give_up_record.ensures.entries
+    c.leave_locks.ensures.state c.change_slot.ensures (rw c.member-member.ensures at c.give_up_record.ensures.memory) c.give_up_record.ensures.entries

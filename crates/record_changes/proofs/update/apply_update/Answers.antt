@@ -21,4 +21,4 @@ returns c =
     let old = c.args.contents.now.state in
     Answers-changed c.args.job c.args.timestamp planned old c.leave_locks.new.contents.state c.change_slot.new.contents.state c.give_up_current.new.self.state
     (locks_left Update c.args.job planned.opened planned.rrn (memory_of old)) (with_job c.args.job (open_changed c.args.planned.opened.number without_current)) Done (record { last = λ m n. refl; same = λ m. refl; gone = λ m. refl })
-    c.leave_locks.ensures.state c.change_slot.ensures c.give_up_current.ensures.memory c.give_up_current.ensures.entries
+    c.leave_locks.ensures.state c.change_slot.ensures (rw c.number-number.ensures at c.give_up_current.ensures.memory) c.give_up_current.ensures.entries
