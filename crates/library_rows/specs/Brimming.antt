@@ -1,7 +1,17 @@
 -- Libraries at a limit, or in another state that few calls lead to, and what calls on them are answered.
-use Rattle.std.specs.Prelude.{ℕ, ◌-◌, true, false, Some, List, [], ◌∷◌, ◌++◌, replicate, codes}
-use Rattle.member_slots.specs.declared.slot.Slot.TheVariants.{Deleted}
+use Rattle.std.specs.Prelude.{ℕ, ◌-◌, true, false, Option, Some, None, List, [], ◌∷◌, ◌++◌, replicate, codes}
+use Rattle.commit_level.specs.declared.Level.TheVariants.{Chg}
+use Rattle.entry_codec.specs.declared.entries.Entry.{Entry}
+use Rattle.entry_codec.specs.declared.kinds.Images.TheVariants.{Both}
+use Rattle.entry_codec.specs.declared.kinds.EntryKind.{EntryKind}
+use Rattle.entry_codec.specs.declared.kinds.EntryKind.TheVariants.{JournalingStarted, RecordAdded}
+use Rattle.file_model.specs.Paths.{PathEntry}
+use Rattle.file_model.specs.Positions.{Position}
+use Rattle.key_spec.specs.declared.KeySpec.{KeySpec}
+use Rattle.member_slots.specs.declared.slot.Slot.{Slot}
+use Rattle.member_slots.specs.declared.slot.Slot.TheVariants.{Deleted, Live}
 use Rattle.member_slots.specs.Members.{NumberedMembers}
+use Rattle.lock_table.specs.declared.lock.Lock.{Lock}
 use Rattle.lock_table.specs.declared.lock.Reach.TheVariants.{Boundary}
 use Rattle.lock_table.specs.Lock.{lock_by, update_kind}
 use Rattle.journal_model.specs.Rollback.{MemberChange}
@@ -113,3 +123,47 @@ locked_by_job job rrn s = record s { locks = lock_by (record { job = job; opened
 
 abbrev pub unlocked : State → State
 unlocked s = record s { locks = [] }
+
+-- the same for an image of any length
+abbrev pub took_image : (image : List ℕ) → MemberChange
+took_image image = record { member = 1; change = record { place = 8; cycle = Some 90; before = Some (Live image); after = Deleted } }
+
+-- the file was made from this source
+abbrev pub made_from : (source : List ℕ) → State
+made_from source = record (library no_key) { files = (cust, record (customers no_key) { source = source }) ∷ [] }
+
+-- the member is journaled, and its slots are these; its journal tells of a record that was added: 1 CT, 2 JM, 3 PT
+abbrev pub journaled_status : MemberStatus
+journaled_status = record (new_status 1) { images = Some Both; last_break = 2 }
+
+abbrev pub of_member : (sequence : ℕ) → (rrn : Option ℕ) → EntryKind → Entry
+of_member sequence rrn kind = record { sequence = sequence; job = Some (codes "J1"); moment = 0; group = None; member = Some 1; rrn = rrn; kind = kind }
+
+abbrev pub added_image : (image : List ℕ) → List Slot → State
+added_image image slots = record (library no_key) {
+  files = (cust, record (customers no_key) { members = (cust, journaled_status) ∷ [] }) ∷ [];
+  members = record { number = 1; item = record { record_length = 5; slots = slots } } ∷ [];
+  entries = creation ∷ of_member 2 None (JournalingStarted Both 0) ∷ of_member 3 (Some 1) (RecordAdded image) ∷ [];
+}
+
+-- an open under commitment, for update of record 1
+abbrev pub committed : OpenState
+committed = record an_open { commit = true; current = Some 1 }
+
+-- J1 has this open by the name U, over the customer A
+abbrev pub opened_by : KeySpec → OpenState → State
+opened_by keys opened = record (library keys) {
+  members = record { number = 1; item = record { record_length = 5; slots = customer (codes "A") ∷ [] } } ∷ [];
+  jobs = record (new_job (codes "J1")) { level = Some Chg; opens = (codes "U", opened) ∷ [] } ∷ new_job (codes "J2") ∷ [];
+}
+
+-- J2's open commit cycle keeps an image
+abbrev pub image_kept : (image : List ℕ) → State
+image_kept image = in_cycle 2 90 (took_image image ∷ []) (opened_by no_key committed)
+
+abbrev pub at_position : Position PathEntry → OpenState
+at_position position = record committed { position = position }
+
+-- these locks, and the position of the open
+abbrev pub with_these_locks : KeySpec → Position PathEntry → List Lock → State
+with_these_locks keys position locks = record (opened_by keys (at_position position)) { locks = locks }

@@ -8,6 +8,7 @@ mod commitment_refusals;
 mod file_refusals;
 mod journal_refusals;
 mod keys;
+mod limit_refusals;
 mod locks;
 mod members;
 mod ranges;
