@@ -14,7 +14,7 @@ use Rattle.library_model.specs.declared.requests.Limit.TheVariants as limit
 use Rattle.library_model.specs.declared.requests.ChainTo.TheVariants as chain_to
 use Rattle.library_model.specs.declared.requests.RangeEnd.{RangeEnd}
 use Rattle.library_rows.specs.Customers.{cust}
-use Rattle.library_rows.specs.Calls.{Asked, by, three_customers, journal, opens, open_as, close, write, chain, chain_with, chain_key, update, delete, start_commitment}
+use Rattle.library_rows.specs.Calls.{Asked, by, three_customers, journal, opens, open_as, close, write, chain, chain_key, update, delete, start_commitment}
 use Rattle.library_rows.specs.Locks.{at_level}
 use Rattle.library_rows.specs.Cycles.{pending}
 use Rattle.library_rows.specs.MemberCalls.{its_member, after_alone}

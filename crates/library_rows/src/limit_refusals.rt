@@ -64,6 +64,6 @@ pub fn checkpoint_is_too_long()
 
 /// APYJRNCHG and RMVJRNCHG: the bytes of the library, and then those of the entries.
 pub fn range_is_too_long()
-    ensures bytes { (image : List ℕ) → length image ≡ 534773760 → replies_from (added_image image [] ) (by 1 (apply (Sequence 3) (Sequence 3)) ∷ []) ≡ LimitReached BlockBytes 534773760 ∷ [] }
+    ensures bytes { (image : List ℕ) → length image ≡ 534773760 → replies_from (added_image image []) (by 1 (apply (Sequence 3) (Sequence 3)) ∷ []) ≡ LimitReached BlockBytes 534773760 ∷ [] }
     ensures library { (image : List ℕ) → length image ≡ 534773760 → replies_from (four_bytes_left (added_image image [])) (by 1 (apply (Sequence 3) (Sequence 3)) ∷ []) ≡ LimitReached LibraryBytes 1073741824 ∷ [] }
 {}
