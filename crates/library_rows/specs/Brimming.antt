@@ -4,7 +4,7 @@ use Rattle.commit_level.specs.declared.Level.TheVariants.{Chg}
 use Rattle.entry_codec.specs.declared.entries.Entry.{Entry}
 use Rattle.entry_codec.specs.declared.kinds.Images.TheVariants.{Both}
 use Rattle.entry_codec.specs.declared.kinds.EntryKind.{EntryKind}
-use Rattle.entry_codec.specs.declared.kinds.EntryKind.TheVariants.{JournalingStarted, RecordAdded}
+use Rattle.entry_codec.specs.declared.kinds.EntryKind.TheVariants.{JournalingStarted, RecordAdded, RecordDeleted}
 use Rattle.file_model.specs.Paths.{PathEntry}
 use Rattle.file_model.specs.Positions.{Position}
 use Rattle.key_spec.specs.declared.KeySpec.{KeySpec}
@@ -132,19 +132,26 @@ took_image image = record { member = 1; change = record { place = 8; cycle = Som
 abbrev pub made_from : (source : List ℕ) → State
 made_from source = record (library no_key) { files = (cust, record (customers no_key) { source = source }) ∷ [] }
 
--- the member is journaled, and its slots are these; its journal tells of a record that was added: 1 CT, 2 JM, 3 PT
+-- the member is journaled, its slots are these, and its journal tells of a change of record 1: 1 CT, 2 JM, 3 the change
 abbrev pub journaled_status : MemberStatus
 journaled_status = record (new_status 1) { images = Some Both; last_break = 2 }
 
 abbrev pub of_member : (sequence : ℕ) → (rrn : Option ℕ) → EntryKind → Entry
 of_member sequence rrn kind = record { sequence = sequence; job = Some (codes "J1"); moment = 0; group = None; member = Some 1; rrn = rrn; kind = kind }
 
-abbrev pub added_image : (image : List ℕ) → List Slot → State
-added_image image slots = record (library no_key) {
-  files = (cust, record (customers no_key) { members = (cust, journaled_status) ∷ [] }) ∷ [];
+abbrev pub told_of : KeySpec → EntryKind → List Slot → State
+told_of keys kind slots = record (library keys) {
+  files = (cust, record (customers keys) { members = (cust, journaled_status) ∷ [] }) ∷ [];
   members = record { number = 1; item = record { record_length = 5; slots = slots } } ∷ [];
-  entries = creation ∷ of_member 2 None (JournalingStarted Both 0) ∷ of_member 3 (Some 1) (RecordAdded image) ∷ [];
+  entries = creation ∷ of_member 2 None (JournalingStarted Both 0) ∷ of_member 3 (Some 1) kind ∷ [];
 }
+
+-- record 1 isn't there, and record 2 has the image with which it was added or deleted
+abbrev pub record_added : KeySpec → (image : List ℕ) → State
+record_added keys image = told_of keys (RecordAdded image) (Deleted ∷ Live image ∷ [])
+
+abbrev pub record_deleted : KeySpec → (image : List ℕ) → State
+record_deleted keys image = told_of keys (RecordDeleted (Some image)) (Deleted ∷ Live image ∷ [])
 
 -- an open under commitment, for update of record 1
 abbrev pub committed : OpenState

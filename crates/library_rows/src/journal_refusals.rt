@@ -54,7 +54,8 @@ pub fn range_is_not_named()
     ensures in_use { replies_behind no_key (by 2 opens ∷ []) (by 1 (apply First Last) ∷ by 1 (remove Last First) ∷ []) ≡ InUse 2 ∷ InUse 2 ∷ [] }
     ensures not_journaled { replies_from (library no_key) (by 1 (apply (Sequence 0) (Sequence 9)) ∷ by 1 (remove (Sequence 9) (Sequence 0)) ∷ []) ≡ NotJournaled 1 ∷ NotJournaled 1 ∷ [] }
     ensures no_entries { replies_from (gone_by 10 (led_to no_key closed_customers)) (by 1 (apply (Sequence 5) (Sequence 16)) ∷ by 1 (remove (Sequence 16) (Sequence 5)) ∷ []) ≡ NoSuchEntry ∷ NoSuchEntry ∷ [] }
-    ensures receiver { replies_from (gone_by 10 (led_to no_key closed_customers)) (by 1 (apply (Sequence 10) (Sequence 15)) ∷ by 1 (remove (Sequence 15) (Sequence 10)) ∷ []) ≡ ReceiverGone 11 ∷ ReceiverGone 11 ∷ [] }
+    ensures receiver { replies_from (gone_by 10 (led_to no_key journaled_twice)) (by 1 (apply (Sequence 10) (Sequence 15)) ∷ by 1 (remove (Sequence 15) (Sequence 10)) ∷ []) ≡ ReceiverGone 11 ∷ ReceiverGone 11 ∷ [] }
+    ensures kept { replies_from (gone_by 10 (led_to no_key journaled_twice)) (by 1 (apply (Sequence 11) (Sequence 15)) ∷ by 1 (remove (Sequence 15) (Sequence 11)) ∷ []) ≡ Straddled 4 ∷ Straddled 4 ∷ [] }
 {}
 
 /// What is refused where it is gone through: a cut commit cycle, the journaling's beginning or end, places that moved, an image that is missing.

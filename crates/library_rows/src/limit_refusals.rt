@@ -11,16 +11,22 @@ ghost use Rattle.library_model.specs.declared.replies.LimitKind.TheVariants.{Loc
 ghost use Rattle.library_steps.specs.State.{memory_of};
 ghost use Rattle.library_steps.specs.Locking.{clashing, locks_left};
 ghost use Rattle.library_steps.specs.SlotChange.{open_bytes};
-ghost use Rattle.library_rows.specs.Customers.{cust, no_key, by_name};
-ghost use Rattle.library_rows.specs.Calls.{by, read, read_prior, read_equal, chain, chain_key, write, update, delete, apply};
+ghost use Rattle.library_rows.specs.Customers.{cust, no_key, by_name, held};
+ghost use Rattle.library_rows.specs.Calls.{by, read, read_prior, read_equal, chain, chain_key, write, update, delete, apply, remove};
 ghost use Rattle.library_rows.specs.Shown.{led_to};
-ghost use Rattle.library_rows.specs.Brimming.{replies_from, took, took_image, in_cycle, at_position, with_these_locks, image_kept, with_another, made_from, added_image, four_bytes_left};
+ghost use Rattle.library_rows.specs.Brimming.{replies_from, took, took_image, in_cycle, at_position, with_these_locks, image_kept, with_another, made_from, record_added, record_deleted, four_bytes_left};
 ghost use Rattle.library_rows.specs.RefusedCalls.{first_for_update, read_prior_equal};
 
 /// A lock too many, by each way of reading a record for update; another job's lock on it comes first.
 pub fn reads_lock_too_much()
     ensures in_use { (locks : List Lock) → clashing UpdateRead 1 (at_position Start) 1 (memory_of (with_these_locks no_key Start locks)) ≡ Some 2 →
         replies_from (with_these_locks no_key Start locks) (by 1 (read Default (codes "U")) ∷ by 1 (chain (codes "U") 1) ∷ []) ≡ RecordInUse 2 1 1 ∷ RecordInUse 2 1 1 ∷ [] }
+    ensures in_use_prior { (locks : List Lock) → clashing UpdateRead 1 (at_position End) 1 (memory_of (with_these_locks no_key End locks)) ≡ Some 2 →
+        replies_from (with_these_locks no_key End locks) (by 1 (read_prior (codes "U")) ∷ []) ≡ RecordInUse 2 1 1 ∷ [] }
+    ensures in_use_equal { (locks : List Lock) → clashing UpdateRead 1 (at_position Start) 1 (memory_of (with_these_locks by_name Start locks)) ≡ Some 2 →
+        replies_from (with_these_locks by_name Start locks) (by 1 (read_equal (codes "U") (codes "A")) ∷ by 1 (chain_key (codes "U") (codes "A")) ∷ []) ≡ RecordInUse 2 1 1 ∷ RecordInUse 2 1 1 ∷ [] }
+    ensures in_use_prior_equal { (locks : List Lock) → clashing UpdateRead 1 (at_position End) 1 (memory_of (with_these_locks by_name End locks)) ≡ Some 2 →
+        replies_from (with_these_locks by_name End locks) (by 1 (read_prior_equal (codes "U") (codes "A")) ∷ []) ≡ RecordInUse 2 1 1 ∷ [] }
     ensures next { (locks : List Lock) → clashing UpdateRead 1 (at_position Start) 1 (memory_of (with_these_locks no_key Start locks)) ≡ None →
         nat_lt 500000 (length (locks_left UpdateRead 1 (at_position Start) 1 (memory_of (with_these_locks no_key Start locks)))) ≡ true →
         replies_from (with_these_locks no_key Start locks) (by 1 (read Default (codes "U")) ∷ by 1 (chain (codes "U") 1) ∷ []) ≡ LimitReached Locks 500000 ∷ LimitReached Locks 500000 ∷ [] }
@@ -62,8 +68,12 @@ pub fn checkpoint_is_too_long()
     ensures bytes { (source : List ℕ) → length source ≡ 534773760 → replies_from (made_from source) (by 1 request.Checkpoint ∷ []) ≡ LimitReached BlockBytes 534773760 ∷ [] }
 {}
 
-/// APYJRNCHG and RMVJRNCHG: the bytes of the library, and then those of the entries.
+/// APYJRNCHG and RMVJRNCHG: the bytes of the library, then those of the entries, then a key that two records have.
 pub fn range_is_too_long()
-    ensures bytes { (image : List ℕ) → length image ≡ 534773760 → replies_from (added_image image []) (by 1 (apply (Sequence 3) (Sequence 3)) ∷ []) ≡ LimitReached BlockBytes 534773760 ∷ [] }
-    ensures library { (image : List ℕ) → length image ≡ 534773760 → replies_from (four_bytes_left (added_image image [])) (by 1 (apply (Sequence 3) (Sequence 3)) ∷ []) ≡ LimitReached LibraryBytes 1073741824 ∷ [] }
+    ensures library { (image : List ℕ) → length image ≡ 534773760 → replies_from (four_bytes_left (record_added no_key image)) (by 1 (apply (Sequence 3) (Sequence 3)) ∷ []) ≡ LimitReached LibraryBytes 1073741824 ∷ [] }
+    ensures removed { (image : List ℕ) → length image ≡ 534773760 → replies_from (four_bytes_left (record_deleted no_key image)) (by 1 (remove (Sequence 3) (Sequence 3)) ∷ []) ≡ LimitReached LibraryBytes 1073741824 ∷ [] }
+    ensures entries { (image : List ℕ) → length image ≡ 534773760 → replies_from (record_added by_name image) (by 1 (apply (Sequence 3) (Sequence 3)) ∷ []) ≡ LimitReached BlockBytes 534773760 ∷ [] }
+    ensures entries_removed { (image : List ℕ) → length image ≡ 534773760 → replies_from (record_deleted by_name image) (by 1 (remove (Sequence 3) (Sequence 3)) ∷ []) ≡ LimitReached BlockBytes 534773760 ∷ [] }
+    ensures keys { replies_from (record_added by_name (held (codes "A"))) (by 1 (apply (Sequence 3) (Sequence 3)) ∷ []) ≡ DuplicateKey cust 1 ∷ [] }
+    ensures keys_removed { replies_from (record_deleted by_name (held (codes "A"))) (by 1 (remove (Sequence 3) (Sequence 3)) ∷ []) ≡ DuplicateKey cust 1 ∷ [] }
 {}

@@ -3,6 +3,7 @@ ghost use Rattle.std.specs.Prelude.{◌≡◌, [], ◌∷◌, ◌++◌, codes};
 ghost use Rattle.commit_level.specs.declared.Level.TheVariants.{All};
 ghost use Rattle.field_types.specs.declared.faults.RecordFault.TheVariants.{Count, BadField};
 ghost use Rattle.field_types.specs.declared.faults.ValueFault.TheVariants.{TooWide};
+ghost use Rattle.library_model.specs.declared.requests.Request.TheVariants as request;
 ghost use Rattle.library_model.specs.declared.requests.LockOption.TheVariants.{Default};
 ghost use Rattle.library_model.specs.declared.requests.Limit.TheVariants.{LowValue, HighValue, RecordNumber};
 ghost use Rattle.library_model.specs.declared.replies.Reply.TheVariants.{Done, NoSuchName, WrongOpen, BadValue, EndOfFile, BeginOfFile, NotFound, RecordInUse, NoCurrentRecord, HeldToBoundary};
@@ -13,7 +14,7 @@ ghost use Rattle.library_rows.specs.Shown.{replies_behind};
 ghost use Rattle.library_rows.specs.Locks.{row, at_level};
 ghost use Rattle.library_rows.specs.KeyedCalls.{by_key};
 ghost use Rattle.library_rows.specs.Brimming.{replies_from};
-ghost use Rattle.library_rows.specs.RefusedCalls.{none, too_long, two_values, set_lower_to, set_greater_to, read_prior_equal, read_equal_to_two, chain_to_two, open_by_arrival};
+ghost use Rattle.library_rows.specs.RefusedCalls.{none, too_long, two_values, set_lower_to, set_greater_to, read_prior_equal, read_equal_to_two, chain_to_two, open_by_arrival, first_for_update};
 
 /// An open that isn't there, in each of these requests; another job's doesn't count.
 pub fn open_is_not_there()
@@ -61,5 +62,7 @@ pub fn record_is_not_unlocked()
     ensures not_read { replies_behind no_key three_customers (by 1 (unlock cust) ∷ []) ≡ NoCurrentRecord ∷ [] }
     ensures given_up { replies_behind no_key three_customers (by 1 (chain cust 1) ∷ by 1 (unlock cust) ∷ by 1 (unlock cust) ∷ []) ≡ row 1 (codes "A") ∷ Done ∷ NoCurrentRecord ∷ [] }
     ensures positioned { replies_behind no_key three_customers (by 1 (chain cust 1) ∷ by 1 (set_lower_to (RecordNumber 1) cust) ∷ by 1 (unlock cust) ∷ []) ≡ row 1 (codes "A") ∷ Done ∷ NoCurrentRecord ∷ [] }
+    ensures committed { replies_behind no_key first_for_update (by 1 (chain cust 2) ∷ by 1 request.Commit ∷ by 1 (unlock (codes "U")) ∷ by 1 (unlock cust) ∷ []) ≡ row 2 (codes "B") ∷ Done ∷ NoCurrentRecord ∷ Done ∷ [] }
+    ensures rolled_back { replies_behind no_key first_for_update (by 1 (chain cust 2) ∷ by 1 request.Rollback ∷ by 1 (unlock (codes "U")) ∷ by 1 (unlock cust) ∷ []) ≡ row 2 (codes "B") ∷ Done ∷ NoCurrentRecord ∷ NoCurrentRecord ∷ [] }
     ensures held { replies_behind no_key (at_level All) (by 1 (chain (codes "U") 1) ∷ by 1 (unlock (codes "U")) ∷ []) ≡ row 1 (codes "A") ∷ HeldToBoundary ∷ [] }
 {}
