@@ -2,7 +2,7 @@
 ghost use Rattle.std.specs.Prelude.{◌≡◌, ℕ, ◌+◌, nat_lt, true, Some, None, List, [], ◌∷◌, ◌++◌, length, replicate, codes};
 ghost use Rattle.file_model.specs.Positions.Position.{Start, End};
 ghost use Rattle.lock_table.specs.declared.lock.Lock.{Lock};
-ghost use Rattle.lock_table.specs.declared.levels.Call.TheVariants.{UpdateRead, Write};
+ghost use Rattle.lock_table.specs.declared.levels.Call.TheVariants.{UpdateRead, Write, WriteAt};
 ghost use Rattle.library_model.specs.declared.requests.Request.TheVariants as request;
 ghost use Rattle.library_model.specs.declared.requests.RangeEnd.TheVariants.{Sequence};
 ghost use Rattle.library_model.specs.declared.requests.LockOption.TheVariants.{Default};
@@ -12,7 +12,7 @@ ghost use Rattle.library_steps.specs.State.{memory_of};
 ghost use Rattle.library_steps.specs.Locking.{clashing, locks_left};
 ghost use Rattle.library_steps.specs.SlotChange.{open_bytes};
 ghost use Rattle.library_rows.specs.Customers.{cust, no_key, by_name, held};
-ghost use Rattle.library_rows.specs.Calls.{by, read, read_prior, read_equal, chain, chain_key, write, update, delete, apply, remove};
+ghost use Rattle.library_rows.specs.Calls.{by, read, read_prior, read_equal, chain, chain_key, write, write_at, update, delete, apply, remove};
 ghost use Rattle.library_rows.specs.Shown.{led_to};
 ghost use Rattle.library_rows.specs.Brimming.{replies_from, took, took_image, in_cycle, at_position, with_these_locks, image_kept, with_another, made_from, record_added, record_deleted, four_bytes_left};
 ghost use Rattle.library_rows.specs.RefusedCalls.{first_for_update, read_prior_equal};
@@ -46,6 +46,9 @@ pub fn write_locks_too_much()
     ensures key { (locks : List Lock) → replies_from (with_these_locks by_name Start locks) (by 1 (write (codes "U") (codes "A")) ∷ []) ≡ DuplicateKey cust 1 ∷ [] }
     ensures locks { (locks : List Lock) → nat_lt 500000 (length (locks_left Write 1 (at_position Start) 2 (memory_of (with_these_locks no_key Start locks)))) ≡ true →
         replies_from (in_cycle 2 90 (replicate 100000 (took 9 (codes "Z"))) (with_these_locks no_key Start locks)) (by 1 (write (codes "U") (codes "D")) ∷ []) ≡ LimitReached Locks 500000 ∷ [] }
+    ensures place { (locks : List Lock) → clashing WriteAt 1 (at_position Start) 2 (memory_of (with_these_locks no_key Start locks)) ≡ None →
+        nat_lt 500000 (length (locks_left WriteAt 1 (at_position Start) 2 (memory_of (with_these_locks no_key Start locks)))) ≡ true →
+        replies_from (with_these_locks no_key Start locks) (by 1 (write_at (codes "U") 2 (codes "D")) ∷ []) ≡ LimitReached Locks 500000 ∷ [] }
 {}
 
 /// A change with whose image the open commit cycles would keep a byte too many; one change too many comes first.

@@ -64,5 +64,7 @@ pub fn record_is_not_unlocked()
     ensures positioned { replies_behind no_key three_customers (by 1 (chain cust 1) ∷ by 1 (set_lower_to (RecordNumber 1) cust) ∷ by 1 (unlock cust) ∷ []) ≡ row 1 (codes "A") ∷ Done ∷ NoCurrentRecord ∷ [] }
     ensures committed { replies_behind no_key first_for_update (by 1 (chain cust 2) ∷ by 1 request.Commit ∷ by 1 (unlock (codes "U")) ∷ by 1 (unlock cust) ∷ []) ≡ row 2 (codes "B") ∷ Done ∷ NoCurrentRecord ∷ Done ∷ [] }
     ensures rolled_back { replies_behind no_key first_for_update (by 1 (chain cust 2) ∷ by 1 request.Rollback ∷ by 1 (unlock (codes "U")) ∷ by 1 (unlock cust) ∷ []) ≡ row 2 (codes "B") ∷ Done ∷ NoCurrentRecord ∷ NoCurrentRecord ∷ [] }
+    ensures read_before { replies_behind no_key (at_level All) (by 1 (chain cust 1) ∷ by 1 request.Rollback ∷ by 1 (chain (codes "U") 1) ∷ by 1 (unlock cust) ∷ []) ≡ row 1 (codes "A") ∷ Done ∷ row 1 (codes "A") ∷ NoCurrentRecord ∷ [] }
+    ensures read_still { replies_behind no_key (at_level All) (by 1 (chain cust 1) ∷ by 1 request.Commit ∷ by 1 (chain (codes "U") 1) ∷ by 1 (unlock cust) ∷ []) ≡ row 1 (codes "A") ∷ Done ∷ row 1 (codes "A") ∷ HeldToBoundary ∷ [] }
     ensures held { replies_behind no_key (at_level All) (by 1 (chain (codes "U") 1) ∷ by 1 (unlock (codes "U")) ∷ []) ≡ row 1 (codes "A") ∷ HeldToBoundary ∷ [] }
 {}
