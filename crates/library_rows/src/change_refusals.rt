@@ -19,39 +19,59 @@ pub fn open_does_not_change()
         LimitReached Sequences 4611686018427387903 ∷ LimitReached Sequences 4611686018427387903 ∷ LimitReached Sequences 4611686018427387903 ∷ [] }
     ensures absent { replies_behind no_key (by 2 opens ∷ []) (by 1 (write_as none cust (codes "A")) ∷ by 1 (update cust (codes "A")) ∷ by 1 (delete cust) ∷ []) ≡
         NoSuchName (missing.Name cust) ∷ NoSuchName (missing.Name cust) ∷ NoSuchName (missing.Name cust) ∷ [] }
-    ensures no_format { replies_behind no_key (by 1 (open_for_input cust) ∷ []) (by 1 (write_as none cust (codes "A")) ∷ []) ≡ NoSuchName (missing.Name none) ∷ [] }
-    ensures reads_alone { replies_behind no_key (by 1 (open_for_input cust) ∷ []) (by 1 (write cust too_long) ∷ by 1 (update cust (codes "A")) ∷ by 1 (delete cust) ∷ []) ≡ WrongOpen ∷ WrongOpen ∷ WrongOpen ∷ [] }
+    ensures no_format { replies_behind no_key (by 1 (open_for_input cust) ∷ []) (by 1 (write_as none cust (codes "A")) ∷ []) ≡
+        NoSuchName (missing.Name none) ∷ [] }
+    ensures reads_alone { replies_behind no_key
+        (by 1 (open_for_input cust) ∷ []) (by 1 (write cust too_long) ∷ by 1 (update cust (codes "A")) ∷ by 1 (delete cust) ∷ []) ≡
+        WrongOpen ∷ WrongOpen ∷ WrongOpen ∷ [] }
 {}
 
 /// UPDATE and DELETE without a record; a bad value before what holds of the record or its place.
 pub fn value_is_bad()
-    ensures no_record { replies_behind no_key three_customers (by 1 (update cust too_long) ∷ by 1 (delete cust) ∷ []) ≡ NoCurrentRecord ∷ NoCurrentRecord ∷ [] }
+    ensures no_record { replies_behind no_key three_customers (by 1 (update cust too_long) ∷ by 1 (delete cust) ∷ []) ≡
+        NoCurrentRecord ∷ NoCurrentRecord ∷ [] }
     ensures place { replies_behind no_key three_customers (by 1 (write_at cust 0 too_long) ∷ by 1 (write_at cust 1 too_long) ∷ by 1 (write_nothing cust) ∷ []) ≡
         BadValue (BadField 1 TooWide) ∷ BadValue (BadField 1 TooWide) ∷ BadValue Count ∷ [] }
-    ensures record { replies_behind no_key first_changed (by 1 (update cust too_long) ∷ by 1 (update_nothing cust) ∷ []) ≡ BadValue (BadField 1 TooWide) ∷ BadValue Count ∷ [] }
+    ensures record { replies_behind no_key first_changed (by 1 (update cust too_long) ∷ by 1 (update_nothing cust) ∷ []) ≡
+        BadValue (BadField 1 TooWide) ∷ BadValue Count ∷ [] }
 {}
 
 /// WRITE at a place: there is none, a record is there, another job's lock is on it, the own commit cycle has changed it.
 pub fn place_is_not_given()
-    ensures no_place { replies_behind no_key three_customers (by 1 (write_at cust 0 (codes "D")) ∷ by 1 (write_at cust 5 (codes "D")) ∷ []) ≡ NotFound ∷ NotFound ∷ [] }
+    ensures no_place { replies_behind no_key three_customers
+        (by 1 (write_at cust 0 (codes "D")) ∷ by 1 (write_at cust 5 (codes "D")) ∷ []) ≡
+        NotFound ∷ NotFound ∷ [] }
     ensures taken { replies_behind no_key two_jobs (by 2 (write_at cust 3 (codes "D")) ∷ []) ≡ PlaceInUse 3 ∷ [] }
-    ensures locked { replies_from (locked_by_job 2 1 (led_to no_key first_deleted)) (by 1 (write_at cust 1 (codes "D")) ∷ []) ≡ RecordInUse 2 1 1 ∷ [] }
-    ensures others { replies_behind no_key first_deleted (by 2 opens ∷ by 2 (write_at cust 1 (codes "D")) ∷ []) ≡ Done ∷ RecordInUse 1 1 1 ∷ [] }
+    ensures locked { replies_from (locked_by_job 2 1 (led_to no_key first_deleted)) (by 1 (write_at cust 1 (codes "D")) ∷ []) ≡
+        RecordInUse 2 1 1 ∷ [] }
+    ensures others { replies_behind no_key first_deleted (by 2 opens ∷ by 2 (write_at cust 1 (codes "D")) ∷ []) ≡
+        Done ∷ RecordInUse 1 1 1 ∷ [] }
     ensures held { replies_behind no_key first_deleted (by 1 (write_at cust 1 (codes "D")) ∷ []) ≡ HeldByGroup 1 ∷ [] }
-    ensures held_past_the_last { replies_from (in_cycle 1 90 (took 8193 (codes "D") ∷ []) (full_member (led_to no_key (by 1 opens ∷ [])))) (by 1 (write_at cust 8193 (codes "D")) ∷ []) ≡ HeldByGroup 8193 ∷ [] }
+    ensures held_past_the_last { replies_from (in_cycle 1 90 (took 8193 (codes "D") ∷ []) (full_member (led_to no_key
+        (by 1 opens ∷ [])))) (by 1 (write_at cust 8193 (codes "D")) ∷ []) ≡
+        HeldByGroup 8193 ∷ [] }
 {}
 
 /// WRITE without room: of the member, of the library.
 pub fn room_is_not_given()
-    ensures member { replies_from (four_bytes_left (full_member (led_to no_key (by 1 opens ∷ [])))) (by 1 (write cust (codes "D")) ∷ by 1 (write_at cust 8193 (codes "D")) ∷ []) ≡ MemberFull ∷ MemberFull ∷ [] }
-    ensures library { replies_from (in_cycle 2 90 (took 1 (codes "K") ∷ []) (four_bytes_left (led_to by_name (by 1 opens ∷ [])))) (by 1 (write cust (codes "K")) ∷ []) ≡ LimitReached LibraryBytes 1073741824 ∷ [] }
+    ensures member { replies_from (four_bytes_left (full_member (led_to no_key
+        (by 1 opens ∷ [])))) (by 1 (write cust (codes "D")) ∷ by 1 (write_at cust 8193 (codes "D")) ∷ []) ≡
+        MemberFull ∷ MemberFull ∷ [] }
+    ensures library { replies_from (in_cycle 2 90 (took 1 (codes "K") ∷ []) (four_bytes_left (led_to by_name
+        (by 1 opens ∷ [])))) (by 1 (write cust (codes "K")) ∷ []) ≡
+        LimitReached LibraryBytes 1073741824 ∷ [] }
 {}
 
 /// WRITE of a key that is not free: another job's commit cycle keeps it, the own does, another record has it.
 pub fn key_is_not_free()
-    ensures others { replies_from (in_cycle 1 91 (took 7 (codes "A") ∷ []) (in_cycle 2 90 (took 9 (codes "A") ∷ took 8 (codes "A") ∷ []) (led_to by_name by_key))) (by 1 (write cust (codes "A")) ∷ []) ≡ RecordInUse 2 1 8 ∷ [] }
-    ensures own { replies_from (in_cycle 1 91 (took 9 (codes "A") ∷ took 7 (codes "A") ∷ []) (led_to by_name by_key)) (by 1 (write cust (codes "A")) ∷ []) ≡ HeldByGroup 7 ∷ [] }
-    ensures repeated { replies_behind by_name by_key (by 1 (write cust (codes "A")) ∷ by 1 (write cust (codes "C")) ∷ []) ≡ DuplicateKey cust 1 ∷ DuplicateKey cust 3 ∷ [] }
+    ensures others { replies_from (in_cycle 1 91 (took 7 (codes "A") ∷ []) (in_cycle 2 90 (took 9 (codes "A") ∷ took 8 (codes "A") ∷ []) (led_to by_name by_key)))
+        (by 1 (write cust (codes "A")) ∷ []) ≡
+        RecordInUse 2 1 8 ∷ [] }
+    ensures own { replies_from (in_cycle 1 91 (took 9 (codes "A") ∷ took 7 (codes "A") ∷ []) (led_to by_name by_key))
+        (by 1 (write cust (codes "A")) ∷ []) ≡
+        HeldByGroup 7 ∷ [] }
+    ensures repeated { replies_behind by_name by_key (by 1 (write cust (codes "A")) ∷ by 1 (write cust (codes "C")) ∷ []) ≡
+        DuplicateKey cust 1 ∷ DuplicateKey cust 3 ∷ [] }
 {}
 
 /// UPDATE: the own commit cycle has changed the record; a key that is not free.
@@ -60,13 +80,18 @@ pub fn record_is_not_updated()
         (by 1 (update cust (codes "B")) ∷ []) ≡ HeldByGroup 1 ∷ [] }
     ensures others { replies_from (in_cycle 1 91 (took 7 (codes "B") ∷ []) (in_cycle 2 90 (took 8 (codes "B") ∷ []) (led_to by_name (by_key ++ by 1 (chain_key cust (codes "A")) ∷ []))))
         (by 1 (update cust (codes "B")) ∷ []) ≡ RecordInUse 2 1 8 ∷ [] }
-    ensures own { replies_from (in_cycle 1 91 (took 7 (codes "B") ∷ []) (led_to by_name (by_key ++ by 1 (chain_key cust (codes "A")) ∷ []))) (by 1 (update cust (codes "B")) ∷ []) ≡ HeldByGroup 7 ∷ [] }
-    ensures repeated { replies_behind by_name (by_key ++ by 1 (chain_key cust (codes "A")) ∷ []) (by 1 (update cust (codes "B")) ∷ []) ≡ DuplicateKey cust 2 ∷ [] }
+    ensures own { replies_from (in_cycle 1 91 (took 7 (codes "B") ∷ []) (led_to by_name (by_key ++ by 1 (chain_key cust (codes "A")) ∷ [])))
+        (by 1 (update cust (codes "B")) ∷ []) ≡
+        HeldByGroup 7 ∷ [] }
+    ensures repeated { replies_behind by_name (by_key ++ by 1 (chain_key cust (codes "A")) ∷ [])
+        (by 1 (update cust (codes "B")) ∷ []) ≡
+        DuplicateKey cust 2 ∷ [] }
 {}
 
 /// DELETE: the own commit cycle has changed the record.
 pub fn record_is_not_deleted()
-    ensures held { replies_behind no_key first_changed (by 1 (delete cust) ∷ by 1 (update cust (codes "A2")) ∷ []) ≡ HeldByGroup 1 ∷ HeldByGroup 1 ∷ [] }
+    ensures held { replies_behind no_key first_changed (by 1 (delete cust) ∷ by 1 (update cust (codes "A2")) ∷ []) ≡
+        HeldByGroup 1 ∷ HeldByGroup 1 ∷ [] }
 {}
 
 /// Under commitment one change too many, in all open commit cycles together.
@@ -77,5 +102,7 @@ pub fn cycle_takes_no_more()
 
 /// A key that is another record's comes before one change too many.
 pub fn key_comes_before_the_cycle()
-    ensures { replies_from (in_cycle 2 90 (replicate 100000 (took 9 (codes "Z"))) (led_to by_name keyed_for_update)) (by 1 (write (codes "U") (codes "B")) ∷ by 1 (update (codes "U") (codes "B")) ∷ []) ≡ DuplicateKey cust 2 ∷ DuplicateKey cust 2 ∷ [] }
+    ensures { replies_from (in_cycle 2 90 (replicate 100000 (took 9 (codes "Z"))) (led_to by_name keyed_for_update))
+        (by 1 (write (codes "U") (codes "B")) ∷ by 1 (update (codes "U") (codes "B")) ∷ []) ≡
+        DuplicateKey cust 2 ∷ DuplicateKey cust 2 ∷ [] }
 {}

@@ -15,7 +15,9 @@ ghost use Rattle.library_rows.specs.RefusedCalls.{none, new, open_of};
 
 /// STRCMTCTL: the last sequence, a definition that is there.
 pub fn commitment_is_not_started()
-    ensures sequences { replies_from (worn_out (led_to no_key (by 1 (start_commitment Chg) ∷ []))) (by 1 (start_commitment Chg) ∷ []) ≡ LimitReached Sequences 4611686018427387903 ∷ [] }
+    ensures sequences { replies_from (worn_out (led_to no_key
+        (by 1 (start_commitment Chg) ∷ []))) (by 1 (start_commitment Chg) ∷ []) ≡
+        LimitReached Sequences 4611686018427387903 ∷ [] }
     ensures started { replies_behind no_key (by 1 (start_commitment Chg) ∷ []) (by 1 (start_commitment Chg) ∷ []) ≡ AlreadyStarted ∷ [] }
 {}
 
@@ -24,15 +26,20 @@ pub fn commitment_is_not_ended()
     ensures no_definition { replies_behind no_key (by 2 (start_commitment Chg) ∷ []) (by 1 request.EndCommitment ∷ by 1 request.Commit ∷ by 1 request.Rollback ∷ []) ≡
         NoDefinition ∷ NoDefinition ∷ NoDefinition ∷ [] }
     ensures pending { replies_behind no_key pending (by 1 request.EndCommitment ∷ []) ≡ PendingChanges 7 ∷ [] }
-    ensures in_use { replies_behind no_key (by 1 (journal Both) ∷ by 1 (start_commitment Chg) ∷ by 1 opens ∷ by 1 (open_as (codes "U") true) ∷ []) (by 1 request.EndCommitment ∷ []) ≡ InUse 1 ∷ [] }
+    ensures in_use { replies_behind no_key
+        (by 1 (journal Both) ∷ by 1 (start_commitment Chg) ∷ by 1 opens ∷ by 1 (open_as (codes "U") true) ∷ []) (by 1 request.EndCommitment ∷ []) ≡
+        InUse 1 ∷ [] }
 {}
 
 /// OPNDBF and CLOF: a name that is taken, too many opens, a name that isn't there; under commitment no definition, a member that isn't journaled.
 pub fn open_is_refused()
-    ensures opens { replies_from (more_opens 31) (by 1 (open_of none none cust true) ∷ by 1 (open_of none none new true) ∷ []) ≡ NameExists cust ∷ LimitReached Opens 32 ∷ [] }
+    ensures opens { replies_from (more_opens 31) (by 1 (open_of none none cust true) ∷ by 1 (open_of none none new true) ∷ []) ≡
+        NameExists cust ∷ LimitReached Opens 32 ∷ [] }
     ensures last_open { replies_from (more_opens 30) (by 1 (open_of none none new true) ∷ []) ≡ NoSuchName (missing.Name none) ∷ [] }
-    ensures absent { replies_from (library no_key) (by 1 (open_of none none new true) ∷ by 1 (open_of cust none new true) ∷ []) ≡ NoSuchName (missing.Name none) ∷ NoSuchName (missing.Name none) ∷ [] }
+    ensures absent { replies_from (library no_key) (by 1 (open_of none none new true) ∷ by 1 (open_of cust none new true) ∷ []) ≡
+        NoSuchName (missing.Name none) ∷ NoSuchName (missing.Name none) ∷ [] }
     ensures no_definition { replies_from (library no_key) (by 1 (open_of cust cust new true) ∷ []) ≡ NoDefinition ∷ [] }
-    ensures not_journaled { replies_behind no_key (by 1 (start_commitment Chg) ∷ []) (by 1 (open_of cust cust new true) ∷ []) ≡ NotJournaled 1 ∷ [] }
+    ensures not_journaled { replies_behind no_key (by 1 (start_commitment Chg) ∷ []) (by 1 (open_of cust cust new true) ∷ []) ≡
+        NotJournaled 1 ∷ [] }
     ensures not_open { replies_behind no_key (by 2 opens ∷ []) (by 1 (close cust) ∷ []) ≡ NoSuchName (missing.Name cust) ∷ [] }
 {}

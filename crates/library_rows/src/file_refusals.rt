@@ -16,22 +16,28 @@ ghost use Rattle.library_rows.specs.RefusedCalls.{none, new, nowhere, create, dr
 
 /// CRTPF: the last sequence, a name that is taken, too many files, the last member's number, a source that isn't there.
 pub fn file_is_not_created()
-    ensures sequences { replies_from (worn_out (library no_key)) (by 1 (create cust none) ∷ []) ≡ LimitReached Sequences 4611686018427387903 ∷ [] }
-    ensures last_sequence { replies_from (gone_by 4611686018427387902 (library no_key)) (by 1 (create new none) ∷ []) ≡ NoSuchName (missing.Name none) ∷ [] }
+    ensures sequences { replies_from (worn_out (library no_key)) (by 1 (create cust none) ∷ []) ≡
+        LimitReached Sequences 4611686018427387903 ∷ [] }
+    ensures last_sequence { replies_from (gone_by 4611686018427387902 (library no_key)) (by 1 (create new none) ∷ []) ≡
+        NoSuchName (missing.Name none) ∷ [] }
     ensures files { replies_from (next_member_is 4000000001 (more_files 499 (library no_key))) (by 1 (create cust none) ∷ by 1 (create new none) ∷ []) ≡
         NameExists cust ∷ LimitReached Files 500 ∷ [] }
     ensures last_file { replies_from (more_files 498 (library no_key)) (by 1 (create new none) ∷ []) ≡ NoSuchName (missing.Name none) ∷ [] }
-    ensures numbers { replies_from (next_member_is 4000000001 (library no_key)) (by 1 (create new none) ∷ []) ≡ LimitReached MemberNumbers 4000000000 ∷ [] }
-    ensures last_number { replies_from (next_member_is 4000000000 (library no_key)) (by 1 (create new none) ∷ []) ≡ NoSuchName (missing.Name none) ∷ [] }
+    ensures numbers { replies_from (next_member_is 4000000001 (library no_key)) (by 1 (create new none) ∷ []) ≡
+        LimitReached MemberNumbers 4000000000 ∷ [] }
+    ensures last_number { replies_from (next_member_is 4000000000 (library no_key)) (by 1 (create new none) ∷ []) ≡
+        NoSuchName (missing.Name none) ∷ [] }
 {}
 
 /// ADDPFM: the last sequence, a file that isn't there, a name that is taken, too many members, the last member's number.
 pub fn member_is_not_added()
-    ensures sequences { replies_from (worn_out (library no_key)) (by 1 (request.AddMember nowhere) ∷ []) ≡ LimitReached Sequences 4611686018427387903 ∷ [] }
+    ensures sequences { replies_from (worn_out (library no_key)) (by 1 (request.AddMember nowhere) ∷ []) ≡
+        LimitReached Sequences 4611686018427387903 ∷ [] }
     ensures absent { replies_from (library no_key) (by 1 (request.AddMember nowhere) ∷ []) ≡ NoSuchName (missing.Name none) ∷ [] }
     ensures members { replies_from (next_member_is 4000000001 (more_members 31)) (by 1 (request.AddMember its_member) ∷ by 1 (request.AddMember another) ∷ []) ≡
         NameExists cust ∷ LimitReached Members 32 ∷ [] }
-    ensures last_member { replies_from (next_member_is 4000000001 (more_members 30)) (by 1 (request.AddMember another) ∷ []) ≡ LimitReached MemberNumbers 4000000000 ∷ [] }
+    ensures last_member { replies_from (next_member_is 4000000001 (more_members 30)) (by 1 (request.AddMember another) ∷ []) ≡
+        LimitReached MemberNumbers 4000000000 ∷ [] }
     ensures last_number { replies_from (next_member_is 4000000000 (more_members 30)) (by 1 (request.AddMember another) ∷ []) ≡ Done ∷ [] }
 {}
 
@@ -43,23 +49,34 @@ pub fn member_is_not_emptied()
         NoSuchName (missing.Name none) ∷ NoSuchName (missing.Name none) ∷ [] }
     ensures no_member { replies_behind no_key (by 2 opens ∷ []) (by 1 (request.ClearMember another) ∷ by 1 (request.ReorganizeMember another) ∷ []) ≡
         NoSuchName (missing.Name (codes "OLD")) ∷ NoSuchName (missing.Name (codes "OLD")) ∷ [] }
-    ensures opened { replies_behind no_key (by 2 opens ∷ []) (by 1 (request.ClearMember its_member) ∷ by 1 (request.ReorganizeMember its_member) ∷ []) ≡ InUse 2 ∷ InUse 2 ∷ [] }
-    ensures least { replies_behind no_key (by 2 opens ∷ by 1 opens ∷ []) (by 2 (request.ClearMember its_member) ∷ by 2 (request.ReorganizeMember its_member) ∷ []) ≡ InUse 1 ∷ InUse 1 ∷ [] }
-    ensures changed { replies_from (unlocked (led_to no_key left_pending)) (by 2 (request.ClearMember its_member) ∷ by 2 (request.ReorganizeMember its_member) ∷ []) ≡ InUse 1 ∷ InUse 1 ∷ [] }
-    ensures locked { replies_behind no_key left_locked (by 2 (request.ClearMember its_member) ∷ by 2 (request.ReorganizeMember its_member) ∷ []) ≡ InUse 1 ∷ InUse 1 ∷ [] }
+    ensures opened { replies_behind no_key
+        (by 2 opens ∷ []) (by 1 (request.ClearMember its_member) ∷ by 1 (request.ReorganizeMember its_member) ∷ []) ≡
+        InUse 2 ∷ InUse 2 ∷ [] }
+    ensures least { replies_behind no_key
+        (by 2 opens ∷ by 1 opens ∷ []) (by 2 (request.ClearMember its_member) ∷ by 2 (request.ReorganizeMember its_member) ∷ []) ≡
+        InUse 1 ∷ InUse 1 ∷ [] }
+    ensures changed { replies_from (unlocked (led_to no_key left_pending))
+        (by 2 (request.ClearMember its_member) ∷ by 2 (request.ReorganizeMember its_member) ∷ []) ≡
+        InUse 1 ∷ InUse 1 ∷ [] }
+    ensures locked { replies_behind no_key left_locked
+        (by 2 (request.ClearMember its_member) ∷ by 2 (request.ReorganizeMember its_member) ∷ []) ≡
+        InUse 1 ∷ InUse 1 ∷ [] }
 {}
 
 /// STRJRNPF: the last sequence, a name that isn't there, a member that is used, one that is journaled.
 pub fn journaling_is_not_started()
-    ensures sequences { replies_from (worn_out (library no_key)) (by 1 (journal_of none none) ∷ []) ≡ LimitReached Sequences 4611686018427387903 ∷ [] }
-    ensures absent { replies_behind no_key (by 2 opens ∷ []) (by 1 (journal_of none none) ∷ by 1 (journal_of cust none) ∷ []) ≡ NoSuchName (missing.Name none) ∷ NoSuchName (missing.Name none) ∷ [] }
+    ensures sequences { replies_from (worn_out (library no_key)) (by 1 (journal_of none none) ∷ []) ≡
+        LimitReached Sequences 4611686018427387903 ∷ [] }
+    ensures absent { replies_behind no_key (by 2 opens ∷ []) (by 1 (journal_of none none) ∷ by 1 (journal_of cust none) ∷ []) ≡
+        NoSuchName (missing.Name none) ∷ NoSuchName (missing.Name none) ∷ [] }
     ensures in_use { replies_behind no_key three_customers (by 2 (journal After) ∷ []) ≡ InUse 1 ∷ [] }
     ensures started { replies_behind no_key closed_customers (by 2 (journal Both) ∷ []) ≡ AlreadyStarted ∷ [] }
 {}
 
 /// ENDJRNPF: the last sequence, a name that isn't there, a member that is used, one that isn't journaled.
 pub fn journaling_is_not_ended()
-    ensures sequences { replies_from (worn_out (library no_key)) (by 1 (request.EndJournaling nowhere) ∷ []) ≡ LimitReached Sequences 4611686018427387903 ∷ [] }
+    ensures sequences { replies_from (worn_out (library no_key)) (by 1 (request.EndJournaling nowhere) ∷ []) ≡
+        LimitReached Sequences 4611686018427387903 ∷ [] }
     ensures absent { replies_behind no_key (by 2 opens ∷ []) (by 1 (request.EndJournaling nowhere) ∷ by 1 (request.EndJournaling another) ∷ []) ≡
         NoSuchName (missing.Name none) ∷ NoSuchName (missing.Name (codes "OLD")) ∷ [] }
     ensures in_use { replies_behind no_key (by 2 opens ∷ []) (by 1 (request.EndJournaling its_member) ∷ []) ≡ InUse 2 ∷ [] }
@@ -68,9 +85,14 @@ pub fn journaling_is_not_ended()
 
 /// DLTF: the last sequence, a name that isn't there, a file that another one refers to, a member that is used.
 pub fn file_is_not_deleted()
-    ensures sequences { replies_from (worn_out (library no_key)) (by 1 (drop_file none) ∷ []) ≡ LimitReached Sequences 4611686018427387903 ∷ [] }
-    ensures absent { replies_from (with_another (keyword_line (codes "REF(NONE)")) 2 (library no_key)) (by 1 (drop_file none) ∷ []) ≡ NoSuchName (missing.Name none) ∷ [] }
-    ensures referred_to { replies_from (with_another (keyword_line (codes "REF(CUST)")) 2 (led_to no_key (by 2 opens ∷ []))) (by 1 (drop_file cust) ∷ []) ≡ Dependents (codes "OTHER") ∷ [] }
+    ensures sequences { replies_from (worn_out (library no_key)) (by 1 (drop_file none) ∷ []) ≡
+        LimitReached Sequences 4611686018427387903 ∷ [] }
+    ensures absent { replies_from (with_another (keyword_line (codes "REF(NONE)")) 2 (library no_key))
+        (by 1 (drop_file none) ∷ []) ≡
+        NoSuchName (missing.Name none) ∷ [] }
+    ensures referred_to { replies_from (with_another (keyword_line (codes "REF(CUST)")) 2 (led_to no_key
+        (by 2 opens ∷ []))) (by 1 (drop_file cust) ∷ []) ≡
+        Dependents (codes "OTHER") ∷ [] }
     ensures in_use { replies_behind no_key (by 2 opens ∷ []) (by 1 (drop_file cust) ∷ []) ≡ InUse 2 ∷ [] }
 {}
 

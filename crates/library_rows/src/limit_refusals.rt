@@ -43,7 +43,9 @@ pub fn reads_lock_too_much()
 
 /// WRITE: a key that is another record's comes before a lock too many, and that before a change too many.
 pub fn write_locks_too_much()
-    ensures key { (locks : List Lock) → replies_from (with_these_locks by_name Start locks) (by 1 (write (codes "U") (codes "A")) ∷ []) ≡ DuplicateKey cust 1 ∷ [] }
+    ensures key { (locks : List Lock) → replies_from (with_these_locks by_name Start locks)
+        (by 1 (write (codes "U") (codes "A")) ∷ []) ≡
+        DuplicateKey cust 1 ∷ [] }
     ensures locks { (locks : List Lock) → nat_lt 500000 (length (locks_left Write 1 (at_position Start) 2 (memory_of (with_these_locks no_key Start locks)))) ≡ true →
         replies_from (in_cycle 2 90 (replicate 100000 (took 9 (codes "Z"))) (with_these_locks no_key Start locks)) (by 1 (write (codes "U") (codes "D")) ∷ []) ≡ LimitReached Locks 500000 ∷ [] }
     ensures place { (locks : List Lock) → clashing WriteAt 1 (at_position Start) 2 (memory_of (with_these_locks no_key Start locks)) ≡ None →
@@ -67,16 +69,28 @@ pub fn images_are_too_long()
 
 /// CHKPT: a member whose changes no entry tells, and then entries that are too long.
 pub fn checkpoint_is_too_long()
-    ensures untold { (source : List ℕ) → length source ≡ 534773760 → replies_from (with_another [] 2 (made_from source)) (by 1 request.Checkpoint ∷ []) ≡ NotJournaled 2 ∷ [] }
-    ensures bytes { (source : List ℕ) → length source ≡ 534773760 → replies_from (made_from source) (by 1 request.Checkpoint ∷ []) ≡ LimitReached BlockBytes 534773760 ∷ [] }
+    ensures untold { (source : List ℕ) → length source ≡ 534773760 →
+        replies_from (with_another [] 2 (made_from source)) (by 1 request.Checkpoint ∷ []) ≡ NotJournaled 2 ∷ [] }
+    ensures bytes { (source : List ℕ) → length source ≡ 534773760 →
+        replies_from (made_from source) (by 1 request.Checkpoint ∷ []) ≡ LimitReached BlockBytes 534773760 ∷ [] }
 {}
 
 /// APYJRNCHG and RMVJRNCHG: the bytes of the library, then those of the entries, then a key that two records have.
 pub fn range_is_too_long()
-    ensures library { (image : List ℕ) → length image ≡ 534773760 → replies_from (four_bytes_left (record_added no_key image)) (by 1 (apply (Sequence 3) (Sequence 3)) ∷ []) ≡ LimitReached LibraryBytes 1073741824 ∷ [] }
-    ensures removed { (image : List ℕ) → length image ≡ 534773760 → replies_from (four_bytes_left (record_deleted no_key image)) (by 1 (remove (Sequence 3) (Sequence 3)) ∷ []) ≡ LimitReached LibraryBytes 1073741824 ∷ [] }
-    ensures entries { (image : List ℕ) → length image ≡ 534773760 → replies_from (record_added by_name image) (by 1 (apply (Sequence 3) (Sequence 3)) ∷ []) ≡ LimitReached BlockBytes 534773760 ∷ [] }
-    ensures entries_removed { (image : List ℕ) → length image ≡ 534773760 → replies_from (record_deleted by_name image) (by 1 (remove (Sequence 3) (Sequence 3)) ∷ []) ≡ LimitReached BlockBytes 534773760 ∷ [] }
-    ensures keys { replies_from (record_added by_name (held (codes "A"))) (by 1 (apply (Sequence 3) (Sequence 3)) ∷ []) ≡ DuplicateKey cust 1 ∷ [] }
-    ensures keys_removed { replies_from (record_deleted by_name (held (codes "A"))) (by 1 (remove (Sequence 3) (Sequence 3)) ∷ []) ≡ DuplicateKey cust 1 ∷ [] }
+    ensures library { (image : List ℕ) → length image ≡ 534773760 →
+        replies_from (four_bytes_left (record_added no_key image)) (by 1 (apply (Sequence 3) (Sequence 3)) ∷ []) ≡
+        LimitReached LibraryBytes 1073741824 ∷ [] }
+    ensures removed { (image : List ℕ) → length image ≡ 534773760 →
+        replies_from (four_bytes_left (record_deleted no_key image)) (by 1 (remove (Sequence 3) (Sequence 3)) ∷ []) ≡
+        LimitReached LibraryBytes 1073741824 ∷ [] }
+    ensures entries { (image : List ℕ) → length image ≡ 534773760 →
+        replies_from (record_added by_name image) (by 1 (apply (Sequence 3) (Sequence 3)) ∷ []) ≡ LimitReached BlockBytes 534773760 ∷ [] }
+    ensures entries_removed { (image : List ℕ) → length image ≡ 534773760 →
+        replies_from (record_deleted by_name image) (by 1 (remove (Sequence 3) (Sequence 3)) ∷ []) ≡
+        LimitReached BlockBytes 534773760 ∷ [] }
+    ensures keys { replies_from (record_added by_name (held (codes "A"))) (by 1 (apply (Sequence 3) (Sequence 3)) ∷ []) ≡
+        DuplicateKey cust 1 ∷ [] }
+    ensures keys_removed { replies_from (record_deleted by_name (held (codes "A")))
+        (by 1 (remove (Sequence 3) (Sequence 3)) ∷ []) ≡
+        DuplicateKey cust 1 ∷ [] }
 {}

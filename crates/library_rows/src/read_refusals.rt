@@ -18,7 +18,9 @@ ghost use Rattle.library_rows.specs.RefusedCalls.{none, too_long, two_values, se
 
 /// An open that isn't there, in each of these requests; another job's doesn't count.
 pub fn open_is_not_there()
-    ensures positions { replies_behind no_key (by 2 opens ∷ []) (by 1 (set_lower cust too_long) ∷ by 1 (set_greater cust too_long) ∷ []) ≡ NoSuchName (missing.Name cust) ∷ NoSuchName (missing.Name cust) ∷ [] }
+    ensures positions { replies_behind no_key
+        (by 2 opens ∷ []) (by 1 (set_lower cust too_long) ∷ by 1 (set_greater cust too_long) ∷ []) ≡
+        NoSuchName (missing.Name cust) ∷ NoSuchName (missing.Name cust) ∷ [] }
     ensures reads { replies_behind no_key (by 2 opens ∷ []) (by 1 (read Default cust) ∷ by 1 (read_prior cust) ∷ by 1 (chain cust 9) ∷ []) ≡
         NoSuchName (missing.Name cust) ∷ NoSuchName (missing.Name cust) ∷ NoSuchName (missing.Name cust) ∷ [] }
     ensures equal { replies_behind no_key (by 2 opens ∷ []) (by 1 (read_equal cust too_long) ∷ by 1 (read_prior_equal cust too_long) ∷ by 1 (chain_key cust too_long) ∷ by 1 (unlock cust) ∷ []) ≡
@@ -29,23 +31,37 @@ pub fn open_is_not_there()
 pub fn open_is_of_the_other_kind()
     ensures positions { replies_behind no_key (by 1 opens ∷ []) (by 1 (set_lower cust too_long) ∷ by 1 (set_greater cust too_long) ∷ by 1 (set_lower_to LowValue cust) ∷ by 1 (set_greater_to HighValue cust) ∷ []) ≡
         WrongOpen ∷ WrongOpen ∷ WrongOpen ∷ WrongOpen ∷ [] }
-    ensures reads { replies_behind no_key (by 1 opens ∷ []) (by 1 (read_equal cust too_long) ∷ by 1 (read_prior_equal cust too_long) ∷ by 1 (chain_key cust too_long) ∷ []) ≡ WrongOpen ∷ WrongOpen ∷ WrongOpen ∷ [] }
-    ensures by_arrival { replies_behind by_name (by 1 (open_by_arrival cust) ∷ []) (by 1 (set_lower cust too_long) ∷ by 1 (read_equal cust too_long) ∷ by 1 (chain_key cust too_long) ∷ []) ≡ WrongOpen ∷ WrongOpen ∷ WrongOpen ∷ [] }
-    ensures by_number { replies_behind by_name (by 1 opens ∷ []) (by 1 (set_lower_to (RecordNumber 1) cust) ∷ by 1 (set_greater_to (RecordNumber 1) cust) ∷ by 1 (chain cust 9) ∷ []) ≡ WrongOpen ∷ WrongOpen ∷ WrongOpen ∷ [] }
+    ensures reads { replies_behind no_key
+        (by 1 opens ∷ []) (by 1 (read_equal cust too_long) ∷ by 1 (read_prior_equal cust too_long) ∷ by 1 (chain_key cust too_long) ∷ []) ≡
+        WrongOpen ∷ WrongOpen ∷ WrongOpen ∷ [] }
+    ensures by_arrival { replies_behind by_name
+        (by 1 (open_by_arrival cust) ∷ []) (by 1 (set_lower cust too_long) ∷ by 1 (read_equal cust too_long) ∷ by 1 (chain_key cust too_long) ∷ []) ≡
+        WrongOpen ∷ WrongOpen ∷ WrongOpen ∷ [] }
+    ensures by_number { replies_behind by_name
+        (by 1 opens ∷ []) (by 1 (set_lower_to (RecordNumber 1) cust) ∷ by 1 (set_greater_to (RecordNumber 1) cust) ∷ by 1 (chain cust 9) ∷ []) ≡
+        WrongOpen ∷ WrongOpen ∷ WrongOpen ∷ [] }
 {}
 
 /// A key that is none of the open's, where no record would be found.
 pub fn key_is_bad()
-    ensures positions { replies_behind by_name (by 1 opens ∷ []) (by 1 (set_lower cust too_long) ∷ by 1 (set_greater cust too_long) ∷ []) ≡ BadValue (BadField 1 TooWide) ∷ BadValue (BadField 1 TooWide) ∷ [] }
+    ensures positions { replies_behind by_name
+        (by 1 opens ∷ []) (by 1 (set_lower cust too_long) ∷ by 1 (set_greater cust too_long) ∷ []) ≡
+        BadValue (BadField 1 TooWide) ∷ BadValue (BadField 1 TooWide) ∷ [] }
     ensures reads { replies_behind by_name (by 1 opens ∷ []) (by 1 (read_equal cust too_long) ∷ by 1 (read_prior_equal cust too_long) ∷ by 1 (chain_key cust too_long) ∷ []) ≡
         BadValue (BadField 1 TooWide) ∷ BadValue (BadField 1 TooWide) ∷ BadValue (BadField 1 TooWide) ∷ [] }
-    ensures count { replies_behind by_name (by 1 opens ∷ []) (by 1 (set_lower_to two_values cust) ∷ by 1 (read_equal_to_two cust) ∷ by 1 (chain_to_two cust) ∷ []) ≡ BadValue Count ∷ BadValue Count ∷ BadValue Count ∷ [] }
+    ensures count { replies_behind by_name
+        (by 1 opens ∷ []) (by 1 (set_lower_to two_values cust) ∷ by 1 (read_equal_to_two cust) ∷ by 1 (chain_to_two cust) ∷ []) ≡
+        BadValue Count ∷ BadValue Count ∷ BadValue Count ∷ [] }
 {}
 
 /// Nothing is left to read.
 pub fn nothing_is_read()
-    ensures arrival { replies_behind no_key (by 1 opens ∷ []) (by 1 (read Default cust) ∷ by 1 (read_prior cust) ∷ by 1 (chain cust 0) ∷ by 1 (chain cust 1) ∷ []) ≡ EndOfFile ∷ BeginOfFile ∷ NotFound ∷ NotFound ∷ [] }
-    ensures key { replies_behind by_name by_key (by 1 (read_equal cust (codes "X")) ∷ by 1 (read_prior_equal cust (codes "X")) ∷ by 1 (chain_key cust (codes "X")) ∷ []) ≡ EndOfFile ∷ BeginOfFile ∷ NotFound ∷ [] }
+    ensures arrival { replies_behind no_key
+        (by 1 opens ∷ []) (by 1 (read Default cust) ∷ by 1 (read_prior cust) ∷ by 1 (chain cust 0) ∷ by 1 (chain cust 1) ∷ []) ≡
+        EndOfFile ∷ BeginOfFile ∷ NotFound ∷ NotFound ∷ [] }
+    ensures key { replies_behind by_name by_key
+        (by 1 (read_equal cust (codes "X")) ∷ by 1 (read_prior_equal cust (codes "X")) ∷ by 1 (chain_key cust (codes "X")) ∷ []) ≡
+        EndOfFile ∷ BeginOfFile ∷ NotFound ∷ [] }
 {}
 
 /// A record that another job has for update, through each way of reading it.
@@ -60,11 +76,23 @@ pub fn record_is_in_use()
 /// UNLOCK: nothing was read, it was given up, a position was set, or it is kept to the boundary.
 pub fn record_is_not_unlocked()
     ensures not_read { replies_behind no_key three_customers (by 1 (unlock cust) ∷ []) ≡ NoCurrentRecord ∷ [] }
-    ensures given_up { replies_behind no_key three_customers (by 1 (chain cust 1) ∷ by 1 (unlock cust) ∷ by 1 (unlock cust) ∷ []) ≡ row 1 (codes "A") ∷ Done ∷ NoCurrentRecord ∷ [] }
-    ensures positioned { replies_behind no_key three_customers (by 1 (chain cust 1) ∷ by 1 (set_lower_to (RecordNumber 1) cust) ∷ by 1 (unlock cust) ∷ []) ≡ row 1 (codes "A") ∷ Done ∷ NoCurrentRecord ∷ [] }
-    ensures committed { replies_behind no_key first_for_update (by 1 (chain cust 2) ∷ by 1 request.Commit ∷ by 1 (unlock (codes "U")) ∷ by 1 (unlock cust) ∷ []) ≡ row 2 (codes "B") ∷ Done ∷ NoCurrentRecord ∷ Done ∷ [] }
-    ensures rolled_back { replies_behind no_key first_for_update (by 1 (chain cust 2) ∷ by 1 request.Rollback ∷ by 1 (unlock (codes "U")) ∷ by 1 (unlock cust) ∷ []) ≡ row 2 (codes "B") ∷ Done ∷ NoCurrentRecord ∷ NoCurrentRecord ∷ [] }
-    ensures read_before { replies_behind no_key (at_level All) (by 1 (chain cust 1) ∷ by 1 request.Rollback ∷ by 1 (chain (codes "U") 1) ∷ by 1 (unlock cust) ∷ []) ≡ row 1 (codes "A") ∷ Done ∷ row 1 (codes "A") ∷ NoCurrentRecord ∷ [] }
-    ensures read_still { replies_behind no_key (at_level All) (by 1 (chain cust 1) ∷ by 1 request.Commit ∷ by 1 (chain (codes "U") 1) ∷ by 1 (unlock cust) ∷ []) ≡ row 1 (codes "A") ∷ Done ∷ row 1 (codes "A") ∷ HeldToBoundary ∷ [] }
-    ensures held { replies_behind no_key (at_level All) (by 1 (chain (codes "U") 1) ∷ by 1 (unlock (codes "U")) ∷ []) ≡ row 1 (codes "A") ∷ HeldToBoundary ∷ [] }
+    ensures given_up { replies_behind no_key three_customers (by 1 (chain cust 1) ∷ by 1 (unlock cust) ∷ by 1 (unlock cust) ∷ []) ≡
+        row 1 (codes "A") ∷ Done ∷ NoCurrentRecord ∷ [] }
+    ensures positioned { replies_behind no_key three_customers
+        (by 1 (chain cust 1) ∷ by 1 (set_lower_to (RecordNumber 1) cust) ∷ by 1 (unlock cust) ∷ []) ≡
+        row 1 (codes "A") ∷ Done ∷ NoCurrentRecord ∷ [] }
+    ensures committed { replies_behind no_key first_for_update
+        (by 1 (chain cust 2) ∷ by 1 request.Commit ∷ by 1 (unlock (codes "U")) ∷ by 1 (unlock cust) ∷ []) ≡
+        row 2 (codes "B") ∷ Done ∷ NoCurrentRecord ∷ Done ∷ [] }
+    ensures rolled_back { replies_behind no_key first_for_update
+        (by 1 (chain cust 2) ∷ by 1 request.Rollback ∷ by 1 (unlock (codes "U")) ∷ by 1 (unlock cust) ∷ []) ≡
+        row 2 (codes "B") ∷ Done ∷ NoCurrentRecord ∷ NoCurrentRecord ∷ [] }
+    ensures read_before { replies_behind no_key (at_level All)
+        (by 1 (chain cust 1) ∷ by 1 request.Rollback ∷ by 1 (chain (codes "U") 1) ∷ by 1 (unlock cust) ∷ []) ≡
+        row 1 (codes "A") ∷ Done ∷ row 1 (codes "A") ∷ NoCurrentRecord ∷ [] }
+    ensures read_still { replies_behind no_key (at_level All)
+        (by 1 (chain cust 1) ∷ by 1 request.Commit ∷ by 1 (chain (codes "U") 1) ∷ by 1 (unlock cust) ∷ []) ≡
+        row 1 (codes "A") ∷ Done ∷ row 1 (codes "A") ∷ HeldToBoundary ∷ [] }
+    ensures held { replies_behind no_key (at_level All) (by 1 (chain (codes "U") 1) ∷ by 1 (unlock (codes "U")) ∷ []) ≡
+        row 1 (codes "A") ∷ HeldToBoundary ∷ [] }
 {}
