@@ -1,5 +1,5 @@
 -- Libraries at a limit, or in another state that few calls lead to, and what calls on them are answered.
-use Rattle.std.specs.Prelude.{ℕ, ◌-◌, true, false, Option, Some, None, List, [], ◌∷◌, ◌++◌, replicate, codes}
+use Rattle.std.specs.Prelude.{◌≡◌, ℕ, ◌-◌, nat_lt, length, true, false, Option, Some, None, List, [], ◌∷◌, ◌++◌, replicate, codes}
 use Rattle.commit_level.specs.declared.Level.TheVariants.{Chg}
 use Rattle.entry_codec.specs.declared.entries.Entry.{Entry}
 use Rattle.entry_codec.specs.declared.kinds.Images.TheVariants.{Both}
@@ -13,6 +13,7 @@ use Rattle.member_slots.specs.declared.slot.Slot.TheVariants.{Deleted, Live}
 use Rattle.member_slots.specs.Members.{NumberedMembers}
 use Rattle.lock_table.specs.declared.lock.Lock.{Lock}
 use Rattle.lock_table.specs.declared.lock.Reach.TheVariants.{Boundary}
+use Rattle.lock_table.specs.declared.levels.Call.{Call}
 use Rattle.lock_table.specs.Lock.{lock_by, update_kind}
 use Rattle.journal_model.specs.Rollback.{MemberChange}
 use Rattle.library_model.specs.declared.requests.OpenOption.TheVariants.{All}
@@ -20,8 +21,9 @@ use Rattle.library_model.specs.declared.requests.AccessPath.TheVariants.{File}
 use Rattle.library_model.specs.declared.requests.Request.{Request}
 use Rattle.library_model.specs.declared.replies.Reply.{Reply}
 use Rattle.library_model.specs.declared.sources.NamedSource.{NamedSource}
-use Rattle.library_steps.specs.State.{State, FileState, MemberStatus, OpenState, new_job, job_changed}
+use Rattle.library_steps.specs.State.{State, FileState, MemberStatus, OpenState, new_job, job_changed, memory_of}
 use Rattle.library_steps.specs.CreatePhysicalFile.{new_status}
+use Rattle.library_steps.specs.Locking.{clashing, locks_left}
 use Rattle.library_steps.specs.Opens.{new_open}
 use Rattle.library_steps.specs.SlotChange.{with_cycle}
 use Rattle.library_steps.specs.Step.{step}
@@ -174,3 +176,12 @@ at_position position = record committed { position = position }
 -- these locks, and the position of the open
 abbrev pub with_these_locks : KeySpec → Position PathEntry → List Lock → State
 with_these_locks keys position locks = record (opened_by keys (at_position position)) { locks = locks }
+
+-- a call of J1 on the record meets, of these locks, that of another job, or none
+abbrev pub IsMetBy : Call → (rrn : ℕ) → KeySpec → Position PathEntry → List Lock → Option ℕ → Type 0
+IsMetBy call rrn keys position locks other = clashing call 1 (at_position position) rrn (memory_of (with_these_locks keys position locks)) ≡ other
+
+-- it would leave more than 500,000
+abbrev pub LeavesTooMany : Call → (rrn : ℕ) → KeySpec → Position PathEntry → List Lock → Type 0
+LeavesTooMany call rrn keys position locks =
+    nat_lt 500000 (length (locks_left call 1 (at_position position) rrn (memory_of (with_these_locks keys position locks)))) ≡ true
