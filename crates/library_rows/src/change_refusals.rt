@@ -15,9 +15,11 @@ ghost use Rattle.library_rows.specs.RefusedCalls.{none, too_long, open_for_input
 
 /// WRITE, UPDATE and DELETE: the last sequence, an open that isn't there, one that reads alone.
 pub fn open_does_not_change()
-    ensures sequences { replies_from (worn_out (library no_key)) (by 1 (write none (codes "A")) ∷ by 1 (update none (codes "A")) ∷ by 1 (delete none) ∷ []) ≡
+    ensures sequences { replies_from (worn_out (library no_key)) (by 1 (write none (codes "A")) ∷ by 1 (update none (codes "A"))
+        ∷ by 1 (delete none) ∷ []) ≡
         LimitReached Sequences 4611686018427387903 ∷ LimitReached Sequences 4611686018427387903 ∷ LimitReached Sequences 4611686018427387903 ∷ [] }
-    ensures absent { replies_behind no_key (by 2 opens ∷ []) (by 1 (write_as none cust (codes "A")) ∷ by 1 (update cust (codes "A")) ∷ by 1 (delete cust) ∷ []) ≡
+    ensures absent { replies_behind no_key (by 2 opens ∷ []) (by 1 (write_as none cust (codes "A")) ∷ by 1 (update cust (codes "A"))
+        ∷ by 1 (delete cust) ∷ []) ≡
         NoSuchName (missing.Name cust) ∷ NoSuchName (missing.Name cust) ∷ NoSuchName (missing.Name cust) ∷ [] }
     ensures no_format { replies_behind no_key (by 1 (open_for_input cust) ∷ []) (by 1 (write_as none cust (codes "A")) ∷ []) ≡
         NoSuchName (missing.Name none) ∷ [] }
@@ -30,7 +32,8 @@ pub fn open_does_not_change()
 pub fn value_is_bad()
     ensures no_record { replies_behind no_key three_customers (by 1 (update cust too_long) ∷ by 1 (delete cust) ∷ []) ≡
         NoCurrentRecord ∷ NoCurrentRecord ∷ [] }
-    ensures place { replies_behind no_key three_customers (by 1 (write_at cust 0 too_long) ∷ by 1 (write_at cust 1 too_long) ∷ by 1 (write_nothing cust) ∷ []) ≡
+    ensures place { replies_behind no_key three_customers (by 1 (write_at cust 0 too_long) ∷ by 1 (write_at cust 1 too_long)
+        ∷ by 1 (write_nothing cust) ∷ []) ≡
         BadValue (BadField 1 TooWide) ∷ BadValue (BadField 1 TooWide) ∷ BadValue Count ∷ [] }
     ensures record { replies_behind no_key first_changed (by 1 (update cust too_long) ∷ by 1 (update_nothing cust) ∷ []) ≡
         BadValue (BadField 1 TooWide) ∷ BadValue Count ∷ [] }
@@ -64,7 +67,8 @@ pub fn room_is_not_given()
 
 /// WRITE of a key that is not free: another job's commit cycle keeps it, the own does, another record has it.
 pub fn key_is_not_free()
-    ensures others { replies_from (in_cycle 1 91 (took 7 (codes "A") ∷ []) (in_cycle 2 90 (took 9 (codes "A") ∷ took 8 (codes "A") ∷ []) (led_to by_name by_key)))
+    ensures others { replies_from (in_cycle 1 91 (took 7 (codes "A") ∷ []) (in_cycle 2 90 (took 9 (codes "A") ∷ took 8 (codes "A") ∷ [])
+        (led_to by_name by_key)))
         (by 1 (write cust (codes "A")) ∷ []) ≡
         RecordInUse 2 1 8 ∷ [] }
     ensures own { replies_from (in_cycle 1 91 (took 9 (codes "A") ∷ took 7 (codes "A") ∷ []) (led_to by_name by_key))
@@ -76,9 +80,11 @@ pub fn key_is_not_free()
 
 /// UPDATE: the own commit cycle has changed the record; a key that is not free.
 pub fn record_is_not_updated()
-    ensures held { replies_from (in_cycle 1 91 (took 1 (codes "Z") ∷ []) (in_cycle 2 90 (took 8 (codes "B") ∷ []) (led_to by_name (by_key ++ by 1 (chain_key cust (codes "A")) ∷ []))))
+    ensures held { replies_from (in_cycle 1 91 (took 1 (codes "Z") ∷ []) (in_cycle 2 90 (took 8 (codes "B") ∷ [])
+        (led_to by_name (by_key ++ by 1 (chain_key cust (codes "A")) ∷ []))))
         (by 1 (update cust (codes "B")) ∷ []) ≡ HeldByGroup 1 ∷ [] }
-    ensures others { replies_from (in_cycle 1 91 (took 7 (codes "B") ∷ []) (in_cycle 2 90 (took 8 (codes "B") ∷ []) (led_to by_name (by_key ++ by 1 (chain_key cust (codes "A")) ∷ []))))
+    ensures others { replies_from (in_cycle 1 91 (took 7 (codes "B") ∷ []) (in_cycle 2 90 (took 8 (codes "B") ∷ [])
+        (led_to by_name (by_key ++ by 1 (chain_key cust (codes "A")) ∷ []))))
         (by 1 (update cust (codes "B")) ∷ []) ≡ RecordInUse 2 1 8 ∷ [] }
     ensures own { replies_from (in_cycle 1 91 (took 7 (codes "B") ∷ []) (led_to by_name (by_key ++ by 1 (chain_key cust (codes "A")) ∷ [])))
         (by 1 (update cust (codes "B")) ∷ []) ≡
@@ -96,7 +102,8 @@ pub fn record_is_not_deleted()
 
 /// Under commitment one change too many, in all open commit cycles together.
 pub fn cycle_takes_no_more()
-    ensures records { replies_from (in_cycle 2 90 (replicate 100000 (took 9 (codes "Z"))) (led_to no_key first_for_update)) (by 1 (write (codes "U") (codes "D")) ∷ by 1 (update (codes "U") (codes "D")) ∷ by 1 (delete (codes "U")) ∷ []) ≡
+    ensures records { replies_from (in_cycle 2 90 (replicate 100000 (took 9 (codes "Z"))) (led_to no_key first_for_update))
+        (by 1 (write (codes "U") (codes "D")) ∷ by 1 (update (codes "U") (codes "D")) ∷ by 1 (delete (codes "U")) ∷ []) ≡
         LimitReached GroupChanges 100000 ∷ LimitReached GroupChanges 100000 ∷ LimitReached GroupChanges 100000 ∷ [] }
 {}
 

@@ -23,7 +23,8 @@ pub fn commitment_is_not_started()
 
 /// ENDCMTCTL, COMMIT and ROLLBACK: no definition; the first also open changes, and an open under commitment.
 pub fn commitment_is_not_ended()
-    ensures no_definition { replies_behind no_key (by 2 (start_commitment Chg) ∷ []) (by 1 request.EndCommitment ∷ by 1 request.Commit ∷ by 1 request.Rollback ∷ []) ≡
+    ensures no_definition { replies_behind no_key (by 2 (start_commitment Chg) ∷ []) (by 1 request.EndCommitment ∷ by 1 request.Commit
+        ∷ by 1 request.Rollback ∷ []) ≡
         NoDefinition ∷ NoDefinition ∷ NoDefinition ∷ [] }
     ensures pending { replies_behind no_key pending (by 1 request.EndCommitment ∷ []) ≡ PendingChanges 7 ∷ [] }
     ensures in_use { replies_behind no_key

@@ -20,7 +20,8 @@ pub fn file_is_not_created()
         LimitReached Sequences 4611686018427387903 ∷ [] }
     ensures last_sequence { replies_from (gone_by 4611686018427387902 (library no_key)) (by 1 (create new none) ∷ []) ≡
         NoSuchName (missing.Name none) ∷ [] }
-    ensures files { replies_from (next_member_is 4000000001 (more_files 499 (library no_key))) (by 1 (create cust none) ∷ by 1 (create new none) ∷ []) ≡
+    ensures files { replies_from (next_member_is 4000000001 (more_files 499 (library no_key))) (by 1 (create cust none)
+        ∷ by 1 (create new none) ∷ []) ≡
         NameExists cust ∷ LimitReached Files 500 ∷ [] }
     ensures last_file { replies_from (more_files 498 (library no_key)) (by 1 (create new none) ∷ []) ≡ NoSuchName (missing.Name none) ∷ [] }
     ensures numbers { replies_from (next_member_is 4000000001 (library no_key)) (by 1 (create new none) ∷ []) ≡
@@ -34,7 +35,8 @@ pub fn member_is_not_added()
     ensures sequences { replies_from (worn_out (library no_key)) (by 1 (request.AddMember nowhere) ∷ []) ≡
         LimitReached Sequences 4611686018427387903 ∷ [] }
     ensures absent { replies_from (library no_key) (by 1 (request.AddMember nowhere) ∷ []) ≡ NoSuchName (missing.Name none) ∷ [] }
-    ensures members { replies_from (next_member_is 4000000001 (more_members 31)) (by 1 (request.AddMember its_member) ∷ by 1 (request.AddMember another) ∷ []) ≡
+    ensures members { replies_from (next_member_is 4000000001 (more_members 31)) (by 1 (request.AddMember its_member)
+        ∷ by 1 (request.AddMember another) ∷ []) ≡
         NameExists cust ∷ LimitReached Members 32 ∷ [] }
     ensures last_member { replies_from (next_member_is 4000000001 (more_members 30)) (by 1 (request.AddMember another) ∷ []) ≡
         LimitReached MemberNumbers 4000000000 ∷ [] }
@@ -98,6 +100,7 @@ pub fn file_is_not_deleted()
 
 /// CRTPF: a source with a fault, whose position 6 holds another letter than A.
 pub fn source_is_refused()
-    ensures { reply_with (record { name = codes "BAD"; text = codes "     X          R CUSTR" ++ 10 ∷ [] } ∷ []) (library no_key) (create new (codes "BAD")) ≡
+    ensures { reply_with (record { name = codes "BAD"; text = codes "     X          R CUSTR" ++ 10 ∷ [] } ∷ [])
+        (library no_key) (create new (codes "BAD")) ≡
         replies.DdsFault (record { line = 1; column = 6; cause = BadColumn }) }
 {}

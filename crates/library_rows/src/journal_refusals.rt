@@ -99,7 +99,8 @@ pub fn range_is_not_gone_through()
 
 /// What is refused of what it leaves: too many bytes, a key twice.
 pub fn range_is_not_left()
-    ensures bytes { replies_from (four_bytes_left (led_to by_name added_again)) (by 1 (apply (Sequence 3) (Sequence 3)) ∷ by 1 (remove (Sequence 4) (Sequence 4)) ∷ []) ≡
+    ensures bytes { replies_from (four_bytes_left (led_to by_name added_again)) (by 1 (apply (Sequence 3) (Sequence 3))
+        ∷ by 1 (remove (Sequence 4) (Sequence 4)) ∷ []) ≡
         LimitReached LibraryBytes 1073741824 ∷ LimitReached LibraryBytes 1073741824 ∷ [] }
     ensures key { replies_behind by_name added_again
         (by 1 (apply (Sequence 3) (Sequence 3)) ∷ by 1 (remove (Sequence 4) (Sequence 4)) ∷ []) ≡

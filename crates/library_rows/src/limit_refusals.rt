@@ -24,7 +24,8 @@ pub fn reads_lock_too_much()
     ensures in_use_prior { (locks : List Lock) → IsMetBy UpdateRead 1 no_key End locks (Some 2) →
         replies_from (with_these_locks no_key End locks) (by 1 (read_prior (codes "U")) ∷ []) ≡ RecordInUse 2 1 1 ∷ [] }
     ensures in_use_equal { (locks : List Lock) → IsMetBy UpdateRead 1 by_name Start locks (Some 2) →
-        replies_from (with_these_locks by_name Start locks) (by 1 (read_equal (codes "U") (codes "A")) ∷ by 1 (chain_key (codes "U") (codes "A")) ∷ []) ≡
+        replies_from (with_these_locks by_name Start locks) (by 1 (read_equal (codes "U") (codes "A"))
+        ∷ by 1 (chain_key (codes "U") (codes "A")) ∷ []) ≡
         RecordInUse 2 1 1 ∷ RecordInUse 2 1 1 ∷ [] }
     ensures in_use_prior_equal { (locks : List Lock) → IsMetBy UpdateRead 1 by_name End locks (Some 2) →
         replies_from (with_these_locks by_name End locks) (by 1 (read_prior_equal (codes "U") (codes "A")) ∷ []) ≡
@@ -35,7 +36,8 @@ pub fn reads_lock_too_much()
     ensures prior { (locks : List Lock) → IsMetBy UpdateRead 1 no_key End locks None → LeavesTooMany UpdateRead 1 no_key End locks →
         replies_from (with_these_locks no_key End locks) (by 1 (read_prior (codes "U")) ∷ []) ≡ LimitReached Locks 500000 ∷ [] }
     ensures next_equal { (locks : List Lock) → IsMetBy UpdateRead 1 by_name Start locks None → LeavesTooMany UpdateRead 1 by_name Start locks →
-        replies_from (with_these_locks by_name Start locks) (by 1 (read_equal (codes "U") (codes "A")) ∷ by 1 (chain_key (codes "U") (codes "A")) ∷ []) ≡
+        replies_from (with_these_locks by_name Start locks) (by 1 (read_equal (codes "U") (codes "A"))
+        ∷ by 1 (chain_key (codes "U") (codes "A")) ∷ []) ≡
         LimitReached Locks 500000 ∷ LimitReached Locks 500000 ∷ [] }
     ensures prior_equal { (locks : List Lock) → IsMetBy UpdateRead 1 by_name End locks None → LeavesTooMany UpdateRead 1 by_name End locks →
         replies_from (with_these_locks by_name End locks) (by 1 (read_prior_equal (codes "U") (codes "A")) ∷ []) ≡

@@ -23,13 +23,15 @@ pub fn open_is_not_there()
         NoSuchName (missing.Name cust) ∷ NoSuchName (missing.Name cust) ∷ [] }
     ensures reads { replies_behind no_key (by 2 opens ∷ []) (by 1 (read Default cust) ∷ by 1 (read_prior cust) ∷ by 1 (chain cust 9) ∷ []) ≡
         NoSuchName (missing.Name cust) ∷ NoSuchName (missing.Name cust) ∷ NoSuchName (missing.Name cust) ∷ [] }
-    ensures equal { replies_behind no_key (by 2 opens ∷ []) (by 1 (read_equal cust too_long) ∷ by 1 (read_prior_equal cust too_long) ∷ by 1 (chain_key cust too_long) ∷ by 1 (unlock cust) ∷ []) ≡
+    ensures equal { replies_behind no_key (by 2 opens ∷ []) (by 1 (read_equal cust too_long) ∷ by 1 (read_prior_equal cust too_long)
+        ∷ by 1 (chain_key cust too_long) ∷ by 1 (unlock cust) ∷ []) ≡
         NoSuchName (missing.Name cust) ∷ NoSuchName (missing.Name cust) ∷ NoSuchName (missing.Name cust) ∷ NoSuchName (missing.Name cust) ∷ [] }
 {}
 
 /// An open that has no key is asked by one, which no field takes besides; one that has a key by a number.
 pub fn open_is_of_the_other_kind()
-    ensures positions { replies_behind no_key (by 1 opens ∷ []) (by 1 (set_lower cust too_long) ∷ by 1 (set_greater cust too_long) ∷ by 1 (set_lower_to LowValue cust) ∷ by 1 (set_greater_to HighValue cust) ∷ []) ≡
+    ensures positions { replies_behind no_key (by 1 opens ∷ []) (by 1 (set_lower cust too_long) ∷ by 1 (set_greater cust too_long)
+        ∷ by 1 (set_lower_to LowValue cust) ∷ by 1 (set_greater_to HighValue cust) ∷ []) ≡
         WrongOpen ∷ WrongOpen ∷ WrongOpen ∷ WrongOpen ∷ [] }
     ensures reads { replies_behind no_key
         (by 1 opens ∷ []) (by 1 (read_equal cust too_long) ∷ by 1 (read_prior_equal cust too_long) ∷ by 1 (chain_key cust too_long) ∷ []) ≡
@@ -47,7 +49,8 @@ pub fn key_is_bad()
     ensures positions { replies_behind by_name
         (by 1 opens ∷ []) (by 1 (set_lower cust too_long) ∷ by 1 (set_greater cust too_long) ∷ []) ≡
         BadValue (BadField 1 TooWide) ∷ BadValue (BadField 1 TooWide) ∷ [] }
-    ensures reads { replies_behind by_name (by 1 opens ∷ []) (by 1 (read_equal cust too_long) ∷ by 1 (read_prior_equal cust too_long) ∷ by 1 (chain_key cust too_long) ∷ []) ≡
+    ensures reads { replies_behind by_name (by 1 opens ∷ []) (by 1 (read_equal cust too_long) ∷ by 1 (read_prior_equal cust too_long)
+        ∷ by 1 (chain_key cust too_long) ∷ []) ≡
         BadValue (BadField 1 TooWide) ∷ BadValue (BadField 1 TooWide) ∷ BadValue (BadField 1 TooWide) ∷ [] }
     ensures count { replies_behind by_name
         (by 1 opens ∷ []) (by 1 (set_lower_to two_values cust) ∷ by 1 (read_equal_to_two cust) ∷ by 1 (chain_to_two cust) ∷ []) ≡
@@ -66,10 +69,12 @@ pub fn nothing_is_read()
 
 /// A record that another job has for update, through each way of reading it.
 pub fn record_is_in_use()
-    ensures arrival { replies_behind no_key (three_customers ++ by 1 (chain cust 1) ∷ by 2 opens ∷ []) (by 2 (read Default cust) ∷ by 2 (chain cust 2) ∷ by 2 (read_prior cust) ∷ by 2 (chain cust 1) ∷ []) ≡
+    ensures arrival { replies_behind no_key (three_customers ++ by 1 (chain cust 1) ∷ by 2 opens ∷ []) (by 2 (read Default cust)
+        ∷ by 2 (chain cust 2) ∷ by 2 (read_prior cust) ∷ by 2 (chain cust 1) ∷ []) ≡
         RecordInUse 1 1 1 ∷ row 2 (codes "B") ∷ RecordInUse 1 1 1 ∷ RecordInUse 1 1 1 ∷ [] }
     ensures key { replies_behind by_name (by_key ++ by 1 (chain_key cust (codes "B")) ∷ by 2 opens ∷ [])
-        (by 2 (set_lower cust (codes "B")) ∷ by 2 (read_equal cust (codes "B")) ∷ by 2 (chain_key cust (codes "B")) ∷ by 2 (chain_key cust (codes "C")) ∷ by 2 (read_prior_equal cust (codes "B")) ∷ []) ≡
+        (by 2 (set_lower cust (codes "B")) ∷ by 2 (read_equal cust (codes "B")) ∷ by 2 (chain_key cust (codes "B"))
+        ∷ by 2 (chain_key cust (codes "C")) ∷ by 2 (read_prior_equal cust (codes "B")) ∷ []) ≡
         Done ∷ RecordInUse 1 1 2 ∷ RecordInUse 1 1 2 ∷ row 3 (codes "C") ∷ RecordInUse 1 1 2 ∷ [] }
 {}
 
