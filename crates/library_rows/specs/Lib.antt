@@ -6,3 +6,5 @@ pub mod Locks
 pub mod Cycles
 pub mod KeyedCalls
 pub mod MemberCalls
+pub mod Brimming
+pub mod RefusedCalls
