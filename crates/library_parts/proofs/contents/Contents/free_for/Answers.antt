@@ -21,9 +21,11 @@ pub invariant_of-self : goal.invariant_of-self
 invariant_of-self c =
     let inside = c.self.inside in
     let begun = running-HasBegun inside.jobs.jobs c.args.holder.job (rw (← c.self.view_is) at c.requires.running) in
-    rw (c.leave.ensures (λ n. false))
-    (AreOne-locks _ _ _ c.self.invariant.0 (All-locks_after (length inside.jobs.jobs) c.args.holder c.args.at
-    (λ n. false) begun c.args.call c.args.level inside.locks.held c.self.invariant.0.lawful.keepers), c.self.invariant.1)
+    rw (c.leave.ensures (λ n. false)) (
+      AreOne-locks _ _ _ c.self.invariant.0 (All-locks_after (length inside.jobs.jobs) c.args.holder c.args.at
+          (λ n. false) begun c.args.call c.args.level inside.locks.held c.self.invariant.0.lawful.keepers),
+      c.self.invariant.1,
+    )
 
 pub returns-clause-room : goal.returns-clause-room
 returns-clause-room c = rw (← c.self.view_is, c.leave.ensures (λ n. false)) refl
