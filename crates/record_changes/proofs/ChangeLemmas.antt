@@ -1,8 +1,7 @@
--- What a changed slot leaves: the change in its commit cycle, and its entries.
-use Rattle.std.proofs.Common.{◌≡◌, ◌∙◌, ℕ, zero, suc, ◌+◌, ◌-◌, ◌≤◌, ◌==◌, ◌||◌, IsTrue, slice_get, Bool, true, false, if◌then◌else◌, nat_lt, is_some, Option, Some, None, IfSome, IsSome, Ok, List, [], ◌∷◌, ◌++◌, length, sym, ap, subst, refl, arith}
+-- What a changed slot leaves: the change in its commit cycle, and what the request makes of it.
+use Rattle.std.proofs.Common.{◌≡◌, ◌∙◌, ℕ, zero, suc, ◌+◌, ◌-◌, ◌≤◌, ◌==◌, ◌||◌, IsTrue, slice_get, Bool, true, false, if◌then◌else◌, nat_lt, Option, Some, None, IfSome, IsSome, Ok, List, [], ◌∷◌, ◌++◌, length, sym, ap, subst, refl, arith}
 use Rattle.std.proofs.lemmas.Bool.Decides.{nat_tests}
 use Rattle.entry_codec.specs.declared.entries.Draft.{Draft}
-use Rattle.entry_codec.specs.declared.kinds.EntryKind.TheVariants.{CommitCycleStarted}
 use Rattle.entry_codec.specs.declared.kinds.Images.{Images}
 use Rattle.member_slots.specs.declared.slot.Slot.{Slot}
 use Rattle.member_slots.specs.Member.{FitsSlot}
@@ -20,15 +19,13 @@ use Rattle.library_parts.proofs.AnswerLemmas.{changed-state}
 use Rattle.library_steps.specs.Change.{deposited}
 use Rattle.library_steps.specs.Refusals.{◌>>=◌, refuse_if}
 use Rattle.library_steps.specs.Records.{slot_there}
-use Rattle.library_steps.specs.Drafts.{Author, author_of, cycle_draft, slot_drafts}
-use Rattle.library_steps.specs.SlotChange.{NewSlot, are_both, begins_cycle, change_made, change_bytes, cycle_for, cycle_number, drafts_of, few_changes, images_of, is_behind_last, open_bytes, noted, open_changes, slot_change, slot_changed, touched, undo_bytes, with_cycle, with_slot, with_undo}
+use Rattle.library_steps.specs.Drafts.{Author, author_of, slot_drafts}
+use Rattle.library_steps.specs.SlotChange.{NewSlot, are_both, begins_cycle, change_made, cycle_for, cycle_number, drafts_of, few_changes, images_of, is_behind_last, open_bytes, noted, open_changes, slot_change, slot_changed, touched, undo_bytes, with_cycle, with_slot, with_undo}
 use Rattle.library_parts.specs.Lawful.{HoldsValues}
 use Rattle.library_parts.specs.Parts.{LibraryParts, Room}
-use Rattle.draft_list.specs.Deposits.{with_drafts}
-use Rattle.draft_list.proofs.DepositLemmas.{memory-with_drafts, with_drafts-none}
 use Rattle.record_changes.specs.declared.planned.PlannedSlot.{PlannedSlot}
 use Rattle.record_changes.specs.declared.planned.Prepared.{Prepared}
-use Rattle.record_changes.specs.Changes.{HasChanged, MayKeep, drafts_in, entries_kept, entries_left, started, with_kept}
+use Rattle.record_changes.specs.Changes.{HasChanged, MayKeep, drafts_in, entries_kept, entries_left, with_kept}
 use Rattle.record_changes.specs.Places.{HasEntryRoom, HasUndoRoomIf, IsReady, MayReturn, undo_of}
 use Rattle.record_changes.specs.Plans.{new_slot}
 
@@ -119,49 +116,6 @@ pub changed-last : (job : ℕ) (new : NewSlot) (m : Memory) → (slot_changed jo
 changed-last job new m =
     last-by new.opened.commit job (change_made m (job_of job m) new) (cycle_for m (job_of job m)) (with_status new.opened.member touched (with_slot new.opened.member new.rrn new.slot m))
 
-pub HasChanged-told : (job timestamp : ℕ) (new : NewSlot) (before mid after : State) (made : List Draft) → memory_of mid ≡ slot_changed job new (memory_of before)
-    → mid.entries ≡ before.entries → after ≡ with_drafts mid made → made ≡ drafts_in job timestamp new (memory_of before) → HasChanged job timestamp new before after
-HasChanged-told job timestamp new before mid after made is kept told are =
-    let last = changed-last job new (memory_of before) in
-    let drafts = drafts_in job timestamp new (memory_of before) in
-    record {
-      memory = ap memory_of told ∙ memory-with_drafts mid made ∙ (λ i. record (is i) { last_entry = (is i).last_entry + length (are i) })
-          ∙ ap (λ (n : ℕ). record (slot_changed job new (memory_of before)) { last_entry = n + length drafts }) last;
-      entries = ap (λ (s : State). s.entries) told ∙ (λ i. kept i ++ deposited (is i) (are i)) ∙ ap (λ (n : ℕ). before.entries ++ numbered_from (n + 1) drafts) last;
-    }
-
-pub HasChanged-untold : (job timestamp : ℕ) (new : NewSlot) (before after : State) → memory_of after ≡ slot_changed job new (memory_of before) → after.entries ≡ before.entries
-    → images_of new.opened.member (memory_of before) ≡ None → HasChanged job timestamp new before after
-HasChanged-untold job timestamp new before after is kept none =
-    HasChanged-told job timestamp new before after after [] is kept (sym (with_drafts-none after))
-    (sym (ap (λ (images : Option Images). drafts_of (author_of (memory_of before) job timestamp) (job_of job (memory_of before)) new images (memory_of before)) none))
-
-pub drafts-told : (job timestamp : ℕ) (new : NewSlot) (m : Memory) (images : Images) (author : Author) (start cycle : Option ℕ) (both behind : Bool) (old again : Slot)
-    → images_of new.opened.member m ≡ Some images → author ≡ author_of m job timestamp
-    → ((a : Author) → started a start ≡ (if new.opened.commit then begins_cycle a m (job_of job m) else []))
-    → cycle ≡ cycle_number new.opened.commit m (job_of job m) → both ≡ (new.opened.commit || are_both images) → behind ≡ is_behind_last new.opened.member new.rrn m
-    → old ≡ slot_there new.opened.member new.rrn m → again ≡ new.slot
-    → started author start ++ slot_drafts author cycle both behind new.opened.member new.rrn old again ≡ drafts_in job timestamp new m
-drafts-told job timestamp new m images author start cycle both behind old again some by starts of keep last stood same =
-    (λ i. started (by i) start ++ slot_drafts (by i) (of i) (keep i) (last i) new.opened.member new.rrn (stood i) (same i))
-    ∙ ap (λ (front : List Draft). front ++ slot_drafts (author_of m job timestamp) (cycle_number new.opened.commit m (job_of job m)) (new.opened.commit || are_both images)
-    (is_behind_last new.opened.member new.rrn m) new.opened.member new.rrn (slot_there new.opened.member new.rrn m) new.slot) (starts (author_of m job timestamp))
-    ∙ ap (λ (kept : Option Images). drafts_of (author_of m job timestamp) (job_of job m) new kept m) (sym some)
-
-begins-most : (b : Bool) (d : Draft) → length (if b then [] else d ∷ []) ≤ 1
-begins-most true d = omega arith
-begins-most false d = omega arith
-
-start-by : (commit : Bool) (author : Author) (m : Memory) (job : JobState) (after : ℕ) → entries_left commit ≤ after → length (if commit then begins_cycle author m job else []) + 2 ≤ after
-start-by false author m job after left = omega (arith, left)
-start-by true author m job after left =
-    let most = begins-most (is_some job.cycle) (cycle_draft author (m.last_entry + 1) CommitCycleStarted) in omega (arith, left, most)
-
--- there is room for them
-pub start-fits : (commit : Bool) (author : Author) (m : Memory) (job : JobState) (start : Option ℕ) (after : ℕ) → started author start ≡ (if commit then begins_cycle author m job else [])
-    → entries_left commit ≤ after → length (started author start) + 2 ≤ after
-start-fits commit author m job start after is left = subst (λ (drafts : List Draft). length drafts + 2 ≤ after) (sym is) (start-by commit author m job after left)
-
 -- ---- the request
 
 running-at : (place : ℕ) (cycle : CycleState) (jobs : List JobState) → IsTrue (is_running (slice_get jobs place)) → IsTrue (is_running (slice_get (job_changed place (with_cycle cycle) jobs) place))
@@ -228,8 +182,7 @@ Answers-changed job timestamp new old locked changed after locks f reply leaves 
     let put = with_status new.opened.member touched (with_slot new.opened.member new.rrn new.slot m) in
     let body = f (with_locks locks (slot_changed job new m)) in
     let last : body.last_entry ≡ m.last_entry = leaves.same (with_locks locks (slot_changed job new m)) ∙ changed-last job new m in
-    let gone : body.gone ≡ m.gone = leaves.gone (with_locks locks (slot_changed job new m)) ∙ gone-by new.opened.commit job undo cycle put in
-    (
+    let gone : body.gone ≡ m.gone = leaves.gone (with_locks locks (slot_changed job new m)) ∙ gone-by new.opened.commit job undo cycle put in (
       slot_change job timestamp new reply (λ x. f (with_locks locks x)) m,
       refl,
       refl,

@@ -49,7 +49,9 @@ impl ChangeEntries {
         ensures room { contents.old.room.entries ≤ contents.new.room.entries + length (started self.now.author self.now.start) }
     {
         if let Some(cycle) = self.start {
-            let draft = self.author.cycle_draft(cycle, EntryKind::CommitCycleStarted);
+            let draft = self
+                .author
+                .cycle_draft(cycle, EntryKind::CommitCycleStarted);
             let _sequence = contents.deposit(draft);
         }
     }

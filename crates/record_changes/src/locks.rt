@@ -73,13 +73,7 @@ fn are_few(contents: &Contents, job: u32, opened: &Open, rrn: u32) -> Result<(),
 }
 
 /// What a change leaves of the locks.
-pub(crate) fn leave_locks(
-    contents: &mut Contents,
-    call: Call,
-    job: u32,
-    opened: &Through,
-    rrn: u32,
-)
+pub(crate) fn leave_locks(contents: &mut Contents, call: Call, job: u32, opened: &Through, rrn: u32)
     requires running { IsTrue (is_running (job_at job contents.old.state.jobs)) }
     requires call { IsOfOpen call }
     requires may { MayLock call job opened.now rrn (memory_of contents.old.state) }

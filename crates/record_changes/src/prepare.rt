@@ -81,11 +81,7 @@ fn reserve_entries(contents: &mut Contents, planned: &PlannedSlot) -> Result<(),
 }
 
 /// Makes room for the change in the job's commit cycle, if it belongs to one.
-fn reserve_undo(
-    contents: &mut Contents,
-    job: u32,
-    planned: &PlannedSlot,
-) -> Result<(), AllocError>
+fn reserve_undo(contents: &mut Contents, job: u32, planned: &PlannedSlot) -> Result<(), AllocError>
     requires { IsTrue (is_running (job_at job contents.old.state.jobs)) }
     ensures state { contents.new.state ≡ contents.old.state }
     ensures others { contents.new.room ≡ record contents.old.room { undos = contents.new.room.undos } }
