@@ -105,18 +105,46 @@ fn check_rows(rt: &impl Abort, alloc: Global, table: &str, rows: &[(By, Ask, Ans
 }
 
 #[test]
-fn calls_are_answered(rt: HostRuntime) {
+fn calls_on_records_are_answered(rt: HostRuntime) {
     check_rows(&rt, rt.alloc(), "records", &RECORDS);
+}
+
+#[test]
+fn calls_on_files_that_go_are_answered(rt: HostRuntime) {
     check_rows(&rt, rt.alloc(), "files that go", &DELETED);
+}
+
+#[test]
+fn calls_on_the_journal_are_answered(rt: HostRuntime) {
     check_rows(&rt, rt.alloc(), "the journal", &JOURNAL_CALLS);
+}
+
+#[test]
+fn calls_on_locks_are_answered(rt: HostRuntime) {
     check_rows(&rt, rt.alloc(), "locks", &LOCKS);
+}
+
+#[test]
+fn calls_on_changes_are_answered(rt: HostRuntime) {
     check_rows(&rt, rt.alloc(), "changes", &CHANGES);
 }
 
 #[test]
-fn calls_of_commit_cycles_are_answered(rt: HostRuntime) {
+fn calls_on_commit_cycles_are_answered(rt: HostRuntime) {
     check_rows(&rt, rt.alloc(), "commit cycles", &CYCLES);
+}
+
+#[test]
+fn calls_on_positions_are_answered(rt: HostRuntime) {
     check_rows(&rt, rt.alloc(), "positions", &POSITIONS);
+}
+
+#[test]
+fn calls_on_levels_are_answered(rt: HostRuntime) {
     check_rows(&rt, rt.alloc(), "levels", &LEVELS);
+}
+
+#[test]
+fn calls_on_ranges_are_answered(rt: HostRuntime) {
     check_rows(&rt, rt.alloc(), "ranges", &RANGES);
 }
