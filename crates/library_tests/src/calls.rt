@@ -105,34 +105,46 @@ fn check_rows(rt: &impl Abort, alloc: Global, table: &str, rows: &[(By, Ask, Ans
 }
 
 #[test]
-fn records_are_answered(rt: HostRuntime) {
+fn calls_on_records_are_answered(rt: HostRuntime) {
     check_rows(&rt, rt.alloc(), "records", &RECORDS);
 }
 
 #[test]
-fn files_go(rt: HostRuntime) {
+fn calls_on_files_that_go_are_answered(rt: HostRuntime) {
     check_rows(&rt, rt.alloc(), "files that go", &DELETED);
 }
 
 #[test]
-fn the_journal_is_shown(rt: HostRuntime) {
+fn calls_on_the_journal_are_answered(rt: HostRuntime) {
     check_rows(&rt, rt.alloc(), "the journal", &JOURNAL_CALLS);
 }
 
 #[test]
-fn records_are_locked(rt: HostRuntime) {
+fn calls_on_locks_are_answered(rt: HostRuntime) {
     check_rows(&rt, rt.alloc(), "locks", &LOCKS);
 }
 
 #[test]
-fn records_are_changed(rt: HostRuntime) {
+fn calls_on_changes_are_answered(rt: HostRuntime) {
     check_rows(&rt, rt.alloc(), "changes", &CHANGES);
 }
 
 #[test]
-fn calls_of_commit_cycles_are_answered(rt: HostRuntime) {
+fn calls_on_commit_cycles_are_answered(rt: HostRuntime) {
     check_rows(&rt, rt.alloc(), "commit cycles", &CYCLES);
+}
+
+#[test]
+fn calls_on_positions_are_answered(rt: HostRuntime) {
     check_rows(&rt, rt.alloc(), "positions", &POSITIONS);
+}
+
+#[test]
+fn calls_on_levels_are_answered(rt: HostRuntime) {
     check_rows(&rt, rt.alloc(), "levels", &LEVELS);
+}
+
+#[test]
+fn calls_on_ranges_are_answered(rt: HostRuntime) {
     check_rows(&rt, rt.alloc(), "ranges", &RANGES);
 }
