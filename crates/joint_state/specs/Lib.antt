@@ -1,0 +1,5 @@
+pub mod Locks
+pub mod CurrentRecords
+pub mod Cycles
+pub mod Told
+pub mod Joint
