@@ -175,7 +175,7 @@ fn has_word_before(input: &[u8], line: u32, word: &[u8]) -> bool {
 }
 
 /// The line of the first card of this word and name before a line.
-fn same_card(input: &[u8], line: u32, word: &[u8], name: &[u8]) -> Option<u32> {
+pub(crate) fn same_card(input: &[u8], line: u32, word: &[u8], name: &[u8]) -> Option<u32> {
     let mut rest = input;
     for current in 1..line {
         let Some((text, after)) = split_line(rest) else {

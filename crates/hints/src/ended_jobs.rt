@@ -1,4 +1,5 @@
 //! Jobs that ended otherwise than by the end of their script, as a listing tells of them.
+use crate::dds_faults::push_fault_line;
 use crate::help_text::HelpText;
 use crate::hint::Hint;
 use crate::lines::line_at;
@@ -77,7 +78,7 @@ fn push_end(help: &mut HelpText, end: EarlyEnd<'_>) -> Result<(), AllocError> {
     help.end_line()
 }
 
-/// What a job ended by: after a refusal its last request and the reply, else the line that is to blame, or its reason alone.
+/// What a job ended by: after a refusal its last request and the reply, with the line of a source at fault, else the line that is to blame, or its reason alone.
 fn push_cause(
     help: &mut HelpText,
     input: &[u8],
@@ -85,7 +86,7 @@ fn push_cause(
     end: EarlyEnd<'_>,
 ) -> Result<(), AllocError> {
     if end.reason == b"*ESCAPE".as_slice() {
-        return push_last_call(help, before, end.job);
+        return push_last_call(help, input, before, end.job);
     }
     if let Some(hint) = reason_hint(end.reason) {
         help.push_hint(&hint)?;
@@ -120,7 +121,12 @@ fn push_input_line(help: &mut HelpText, input: &[u8], number: u32) -> Result<(),
 }
 
 /// The last call of a job in the front of a listing.
-fn push_last_call(help: &mut HelpText, before: &[u8], job: &[u8]) -> Result<(), AllocError> {
+fn push_last_call(
+    help: &mut HelpText,
+    input: &[u8],
+    before: &[u8],
+    job: &[u8],
+) -> Result<(), AllocError> {
     let Some(call) = last_call(before, job) else {
         return Ok(());
     };
@@ -130,7 +136,8 @@ fn push_last_call(help: &mut HelpText, before: &[u8], job: &[u8]) -> Result<(), 
     help.end_line()?;
     help.push(b"reply: ")?;
     help.push_cut(reply)?;
-    help.end_line()
+    help.end_line()?;
+    push_fault_line(help, input, request, reply)
 }
 
 fn last_call<'a>(before: &'a [u8], job: &[u8]) -> Option<CallLine<'a>> {

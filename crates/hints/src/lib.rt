@@ -7,6 +7,7 @@ mod characters;
 mod columns;
 mod command_line;
 mod commands;
+mod dds_faults;
 mod ended_jobs;
 mod help_text;
 mod hint;

@@ -5,7 +5,7 @@ use std::process::Abort;
 use std::test::Fail;
 
 const INPUT: &[u8] =
-    b"//JOB J1\nCHAIN OPNID(CUST) RRN(2) LCK(*NO)\n//JOB J2\n CHGVAR VAR(&N) VALUE('A' + 1)\n//END\n";
+    b"//JOB J1\nCHAIN OPNID(CUST) RRN(2) LCK(*NO)\n//JOB J2\n CHGVAR VAR(&N) VALUE('A' + 1)\n//DDS S\n     A          R R\n     A            F\n//END\n";
 
 /// A listing, and the help.
 const LISTINGS: &[(&[u8], &str)] = &[
@@ -20,6 +20,10 @@ const LISTINGS: &[(&[u8], &str)] = &[
     (
         b"HISTORY\n1 J1 70 WRITE OPNID(C) VAL(' => ') => MemberFull\n2 J2 71 DLTF FILE(C) => OK\n3 J1 72 ENDJOB REASON(*ESCAPE) LINE(2) => OK\nEND 3\n",
         "job J1 ended with *ESCAPE at line 2\nrequest: WRITE OPNID(C) VAL(' => ')\nreply: MemberFull\n",
+    ),
+    (
+        b"HISTORY\n1 J1 70 CRTPF FILE(S) SRC(S) => DdsFault LINE(2) COL(34) CAUSE(BadLength)\n2 J1 71 ENDJOB REASON(*ESCAPE) LINE(2) => OK\nEND 2\n",
+        "job J1 ended with *ESCAPE at line 2\nrequest: CRTPF FILE(S) SRC(S)\nreply: DdsFault LINE(2) COL(34) CAUSE(BadLength)\nline 7 of the input:\n     A            F\n....+....1....+....2....+....3....+....4....+....5....+....6....+....7....+....8\n",
     ),
     (
         b"HISTORY\n1 J2 70 ENDJOB REASON(*EXPR) LINE(4) => OK\nEND 1\n",
