@@ -57,6 +57,10 @@ pub enum FileAsk {
     Apply(&'static str, &'static str, u64, u64),
     /// RMVJRNCHG FILE MBR FROMENT TOENT
     Remove(&'static str, &'static str, u64, u64),
+    /// APYJRNCHG FILE MBR, from *FIRST to *LAST
+    ApplyAll(&'static str, &'static str),
+    /// RMVJRNCHG FILE MBR, from *LAST back to *FIRST
+    RemoveAll(&'static str, &'static str),
 }
 
 /// What is asked of the journal, or of commitment control.
@@ -170,11 +174,20 @@ fn open_of(
 }
 
 fn range_of(file: &str, member: &str, from: u64, to: u64) -> Option<JournaledChanges> {
+    between(
+        file,
+        member,
+        RangeEnd::Sequence(from),
+        RangeEnd::Sequence(to),
+    )
+}
+
+fn between(file: &str, member: &str, from: RangeEnd, to: RangeEnd) -> Option<JournaledChanges> {
     Some(JournaledChanges {
         file: named(file)?,
         member: named(member)?,
-        from: RangeEnd::Sequence(from),
-        to: RangeEnd::Sequence(to),
+        from,
+        to,
     })
 }
 
@@ -208,6 +221,12 @@ fn file_request(ask: FileAsk) -> Option<Request>
         }
         FileAsk::Remove(file, member, from, to) => {
             Request::RemoveChanges(range_of(file, member, from, to)?)
+        }
+        FileAsk::ApplyAll(file, member) => {
+            Request::ApplyChanges(between(file, member, RangeEnd::First, RangeEnd::Last)?)
+        }
+        FileAsk::RemoveAll(file, member) => {
+            Request::RemoveChanges(between(file, member, RangeEnd::Last, RangeEnd::First)?)
         }
     })
 }

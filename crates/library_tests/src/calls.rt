@@ -1,5 +1,5 @@
 //! Tables of calls: each reply against the one that the manual's rules give by hand, and that memory is left for each.
-//! The tables stand in `tables.rt`, `setups.rt`, `cycles.rt` and `ranges.rt`.
+//! The tables stand in `tables.rt`, `setups.rt`, `cycles.rt`, `ranges.rt` and `undone.rt`.
 ghost use Rattle.std.specs.Prelude.{◌≡◌, ◌<◌, false, length, IfSome, IsTrue};
 ghost use Rattle.built_requests.specs.Built.{is_built};
 ghost use Rattle.built_state.specs.Built.{IsBuilt};
@@ -13,6 +13,7 @@ use crate::cycles::{CYCLES, LEVELS, POSITIONS};
 use crate::ranges::RANGES;
 use crate::setups::{CHANGES, JOURNAL_CALLS, LOCKS};
 use crate::tables::{DELETED, RECORDS, SOURCES};
+use crate::undone::UNDONE;
 use field_types::names::Name;
 use input_reader::input::read_input;
 use input_scripts::Scripts;
@@ -147,4 +148,9 @@ fn calls_on_levels_are_answered(rt: HostRuntime) {
 #[test]
 fn calls_on_ranges_are_answered(rt: HostRuntime) {
     check_rows(&rt, rt.alloc(), "ranges", &RANGES);
+}
+
+#[test]
+fn calls_on_changes_that_are_undone_are_answered(rt: HostRuntime) {
+    check_rows(&rt, rt.alloc(), "changes that are undone", &UNDONE);
 }

@@ -15,3 +15,5 @@ mod ranges;
 mod setups;
 #[cfg(test)]
 mod tables;
+#[cfg(test)]
+mod undone;
