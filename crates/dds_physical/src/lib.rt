@@ -22,8 +22,3 @@ mod texts;
 pub use dependents::refers_to;
 pub use physical_files::{PhysicalError, PhysicalSpec, physical};
 pub use refs::Refs;
-
-#[cfg(test)]
-mod test_rows;
-#[cfg(test)]
-mod tests;

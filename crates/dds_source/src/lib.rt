@@ -26,8 +26,3 @@ pub use reading::read_source;
 pub use specifications::{
     Columns, LengthEntry, NameEntry, Source, Specification, SpecificationKind, Specifications,
 };
-
-#[cfg(test)]
-mod test_rows;
-#[cfg(test)]
-mod tests;

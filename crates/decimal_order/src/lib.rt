@@ -4,5 +4,3 @@
 pub mod laws;
 pub mod order;
 pub mod powers;
-#[cfg(test)]
-mod tests;

@@ -84,6 +84,3 @@ fn entry(place: u8) -> Option<u8>
 {
     if place == 0 { None } else { Some(place) }
 }
-
-#[cfg(test)]
-mod tests;

@@ -17,6 +17,3 @@ pub use entries::{Draft, Entry};
 pub use kinds::{EntryKind, FileKind, Images, MAX_RECORD_LENGTH, MIN_RECORD_LENGTH};
 pub use reading::{one_spelling, read_entry};
 pub use writing::{entry_length, write_entry};
-
-#[cfg(test)]
-mod tests;

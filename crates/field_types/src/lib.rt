@@ -6,7 +6,5 @@ pub mod faults;
 pub mod kinds;
 pub mod lists;
 pub mod names;
-#[cfg(test)]
-mod tests;
 pub mod texts;
 pub mod values;

@@ -8,10 +8,4 @@ mod decimals;
 pub mod fields;
 mod moments;
 mod packed;
-#[cfg(test)]
-mod test_images;
-#[cfg(test)]
-mod test_rows;
-#[cfg(test)]
-mod tests;
 mod zoned;

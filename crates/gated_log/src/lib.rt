@@ -13,6 +13,3 @@ pub use layout::{FRAME, MAX_BLOCK, put_frame};
 pub use log::{Log, create, format};
 pub use opening::open;
 pub use reading::one_reading;
-
-#[cfg(test)]
-mod tests;

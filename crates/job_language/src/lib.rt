@@ -9,7 +9,5 @@ pub mod refusals;
 mod requests;
 pub mod statements;
 pub mod steps;
-#[cfg(test)]
-mod tests;
 mod values;
 mod variables;

@@ -10,8 +10,6 @@ mod list;
 mod page;
 mod positions;
 mod search;
-#[cfg(test)]
-mod tests;
 
 pub use counting::Steps;
 pub use entries::{Entry, EntryRef, are_in_order};

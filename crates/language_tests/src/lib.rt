@@ -1,4 +1,4 @@
-//! Tests of the history of a run and of its texts.
+//! Tests of the job language, of the history of a run and of its texts.
 #![tactic(auto)]
 
 #[cfg(test)]
@@ -7,3 +7,9 @@ mod entries;
 mod histories;
 #[cfg(test)]
 mod listings;
+#[cfg(test)]
+mod numbers;
+#[cfg(test)]
+mod progress;
+#[cfg(test)]
+mod scripts;

@@ -10,8 +10,6 @@ mod lock;
 mod part;
 mod sorted;
 mod table;
-#[cfg(test)]
-mod tests;
 mod tree;
 
 pub use commit_level::Level;

@@ -5,5 +5,3 @@ pub mod laws;
 pub mod member;
 pub mod members;
 pub mod slot;
-#[cfg(test)]
-mod tests;

@@ -6,6 +6,3 @@ pub mod packing;
 pub mod records;
 
 pub use field_types::faults::RecordFault;
-
-#[cfg(test)]
-mod tests;

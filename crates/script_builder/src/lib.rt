@@ -18,8 +18,6 @@ pub mod phrases;
 mod repeats;
 pub mod rests;
 mod stack;
-#[cfg(test)]
-mod tests;
 pub mod ways;
 
 use crate::name_table::NameTable;

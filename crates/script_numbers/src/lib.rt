@@ -6,7 +6,5 @@ pub mod order;
 pub mod products;
 mod splits;
 pub mod sums;
-#[cfg(test)]
-mod tests;
 pub mod units;
 pub mod zeros;

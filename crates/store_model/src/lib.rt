@@ -25,6 +25,3 @@ pub use memory_store::MemoryStore;
 pub use sink::{Sink, write_all};
 pub use source::{ReadError, Source, read_to_end};
 pub use store::Store;
-
-#[cfg(test)]
-mod tests;

@@ -4,5 +4,3 @@
 pub mod characters;
 pub mod decimals;
 pub mod lines;
-#[cfg(test)]
-mod tests;

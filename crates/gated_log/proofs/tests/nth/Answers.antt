@@ -1,4 +1,0 @@
-use Rattle.gated_log.proofs.tests.nth.Goals as goal
-
-pub block-requires-clause-settled : goal.block-requires-clause-settled
-block-requires-clause-settled g c = λ tells. ∣ c.in_ok-log.ensures.opened tells ∣₁
