@@ -13,3 +13,5 @@ mod numbers;
 mod progress;
 #[cfg(test)]
 mod scripts;
+#[cfg(test)]
+mod statements;
