@@ -50,6 +50,7 @@ pub enum Refusal {
     PendingChanges(u64),
     Straddled(u64),
     Gap(u64),
+    NeedsBoth(u64),
     /// The sequence, and the relative record number.
     DoesNotFit(u64, u32),
     /// The job, the member, and the relative record number.
@@ -124,6 +125,7 @@ fn is_refusal(reply: &Reply, refusal: Refusal) -> bool {
         (Reply::PendingChanges { group }, Refusal::PendingChanges(wanted)) => *group == wanted,
         (Reply::Straddled { group }, Refusal::Straddled(wanted)) => *group == wanted,
         (Reply::Gap { sequence }, Refusal::Gap(wanted)) => *sequence == wanted,
+        (Reply::NeedsBoth { sequence }, Refusal::NeedsBoth(wanted)) => *sequence == wanted,
         (Reply::DoesNotFit { sequence, rrn }, Refusal::DoesNotFit(wanted, at)) => {
             *sequence == wanted && *rrn == at
         }

@@ -47,6 +47,8 @@ pub enum FileAsk {
     Reorganize(&'static str, &'static str),
     /// STRJRNPF FILE MBR IMAGES(*BOTH)
     StartJournaling(&'static str, &'static str),
+    /// STRJRNPF FILE MBR IMAGES(*AFTER)
+    StartJournalingAfter(&'static str, &'static str),
     /// ENDJRNPF FILE MBR
     EndJournaling(&'static str, &'static str),
     /// OPNDBF OPNID FILE MBR OPTION
@@ -208,6 +210,11 @@ fn file_request(ask: FileAsk) -> Option<Request>
             file: named(file)?,
             member: named(member)?,
             images: Images::Both,
+        }),
+        FileAsk::StartJournalingAfter(file, member) => Request::StartJournaling(StartJournaling {
+            file: named(file)?,
+            member: named(member)?,
+            images: Images::After,
         }),
         FileAsk::EndJournaling(file, member) => Request::EndJournaling(member_of(file, member)?),
         FileAsk::Open(open_id, file, member, option) => {

@@ -13,7 +13,7 @@ use crate::cycles::{CYCLES, LEVELS, POSITIONS};
 use crate::ranges::RANGES;
 use crate::setups::{CHANGES, JOURNAL_CALLS, LOCKS};
 use crate::tables::{DELETED, RECORDS, SOURCES};
-use crate::undone::UNDONE;
+use crate::undone::{AFTER_IMAGES, UNDONE};
 use field_types::names::Name;
 use input_reader::input::read_input;
 use input_scripts::Scripts;
@@ -153,4 +153,14 @@ fn calls_on_ranges_are_answered(rt: HostRuntime) {
 #[test]
 fn calls_on_changes_that_are_undone_are_answered(rt: HostRuntime) {
     check_rows(&rt, rt.alloc(), "changes that are undone", &UNDONE);
+}
+
+#[test]
+fn calls_on_after_images_are_answered(rt: HostRuntime) {
+    check_rows(
+        &rt,
+        rt.alloc(),
+        "images after a change alone",
+        &AFTER_IMAGES,
+    );
 }

@@ -152,3 +152,44 @@ pub const UNDONE: [(By, Ask, Answer); 29] = [
         Answer::Refused(Refusal::Gap(2)),
     ),
 ];
+
+/// Entry 3 is the add and 4 the UPDATE, which has no image of the record before it.
+pub const AFTER_IMAGES: [(By, Ask, Answer); 9] = [
+    (
+        By::First,
+        Ask::OfFile(FileAsk::Create("CUST", "CUST")),
+        Answer::Done,
+    ),
+    (
+        By::First,
+        Ask::OfFile(FileAsk::StartJournalingAfter("CUST", "CUST")),
+        Answer::Done,
+    ),
+    (By::First, OPEN, Answer::Done),
+    (
+        By::First,
+        Ask::OfRecord("CUST", RecordAsk::Write(A)),
+        Answer::Added(1),
+    ),
+    (
+        By::First,
+        Ask::OfRecord("CUST", RecordAsk::ChainLocked(1)),
+        Answer::Record(1, "CUSTR", A_READ),
+    ),
+    (
+        By::First,
+        Ask::OfRecord("CUST", RecordAsk::Update(A1)),
+        Answer::Done,
+    ),
+    (By::First, CLOSE, Answer::Done),
+    (
+        By::First,
+        Ask::OfFile(FileAsk::RemoveAll("CUST", "CUST")),
+        Answer::Refused(Refusal::NeedsBoth(4)),
+    ),
+    (
+        By::First,
+        Ask::OfFile(FileAsk::ApplyAll("CUST", "CUST")),
+        Answer::Refused(Refusal::DoesNotFit(3, 1)),
+    ),
+];
