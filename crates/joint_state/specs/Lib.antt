@@ -3,3 +3,5 @@ pub mod CurrentRecords
 pub mod Cycles
 pub mod Told
 pub mod Joint
+pub mod Agreed
+pub mod Sound
