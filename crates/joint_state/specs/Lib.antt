@@ -1,3 +1,4 @@
+pub mod Opens
 pub mod Locks
 pub mod CurrentRecords
 pub mod Cycles
