@@ -4,6 +4,7 @@ use Rattle.std.specs.List.{AllByRecursion}
 use Rattle.lock_table.specs.Table.{AreCompatible}
 use Rattle.library_steps.specs.State.{State, JobState, memory_of}
 use Rattle.library_steps.specs.Uses.{changes_in}
+use Rattle.joint_state.specs.Opens.{HasOpens}
 use Rattle.joint_state.specs.Locks.{LockStands}
 use Rattle.joint_state.specs.CurrentRecords.{AllCurrentStand}
 use Rattle.joint_state.specs.Cycles.{ChangesAreLocked, StandAsMade, IsUnderControl, HasBegun}
@@ -18,6 +19,7 @@ pub record IsIdle (job : JobState) : Type 0 where
 pub record JobStands (s : State) (number : ℕ) (job : JobState) : Type 0 where
   pub idle : IsIdle job
   pub control : IsUnderControl job
+  pub opens : HasOpens job
   pub begun : HasBegun (memory_of s) job
   pub current : AllCurrentStand (memory_of s) number job
   pub locked : ChangesAreLocked (memory_of s) number job

@@ -1,5 +1,8 @@
+pub mod Opens
 pub mod Locks
 pub mod CurrentRecords
 pub mod Cycles
 pub mod Told
 pub mod Joint
+pub mod Agreed
+pub mod Sound

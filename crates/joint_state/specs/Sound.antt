@@ -1,0 +1,36 @@
+-- All that holds of a library between calls, and what it is that each answered request keeps it. (Our own.)
+use Rattle.std.specs.Prelude.{◌≡◌, ℕ, ◌++◌, IsTrue, Ok, List}
+use Rattle.file_catalogue.specs.Owners.{AreApart}
+use Rattle.library_model.specs.declared.requests.Request.{Request}
+use Rattle.library_model.specs.declared.sources.NamedSource.{NamedSource}
+use Rattle.library_steps.specs.State.{State, memory_of, with_entries, job_at}
+use Rattle.library_steps.specs.Change.{Change}
+use Rattle.library_steps.specs.Step.{change}
+use Rattle.library_steps.specs.History.{is_running}
+use Rattle.library_parts.specs.Lawful.{IsLibrary}
+use Rattle.joint_state.specs.Joint.{IsJoint}
+use Rattle.joint_state.specs.Agreed.{Agrees}
+
+pub record IsSound (s : State) : Type 0 where
+  pub library : IsLibrary s
+  pub apart : AreApart s.files
+  pub joint : IsJoint s
+  pub agreed : Agrees s
+
+-- the library that a change leaves
+abbrev pub after : State → Change → State
+after s done = with_entries s.gone (s.entries ++ done.entries) done.memory
+
+-- a job that runs asks something of a sound library, which does it
+pub record Does (s : State) (done : Change) : Type 0 where
+  pub sound : IsSound s
+  pub sources : List NamedSource
+  pub job : ℕ
+  pub timestamp : ℕ
+  pub request : Request
+  pub running : IsTrue (is_running (job_at job s.jobs))
+  pub does : change sources s.entries (memory_of s) job timestamp request ≡ Ok done
+
+-- this holds of a sound library after whatever is done to it
+abbrev pub IsKept : (State → Type 0) → Type 0
+IsKept P = (s : State) (done : Change) → Does s done → P (after s done)

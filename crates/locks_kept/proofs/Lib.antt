@@ -1,0 +1,17 @@
+pub mod RefusalLemmas
+pub mod JobLemmas
+pub mod OpenLemmas
+pub mod Effects
+pub mod AroundEffects
+pub mod FoundLemmas
+pub mod OpenEffects
+pub mod ChangeEffects
+pub mod AllEffects
+pub mod JobsKept
+pub mod LockLists
+pub mod RecordLocks
+pub mod CompatibleKept
+pub mod SlotLemmas
+pub mod UserLemmas
+pub mod LocksKept
+pub mod CurrentKept
