@@ -6,7 +6,7 @@ use Rattle.library_steps.specs.State.{State, JobState, memory_of}
 use Rattle.library_steps.specs.Uses.{changes_in}
 use Rattle.joint_state.specs.Locks.{LockStands}
 use Rattle.joint_state.specs.CurrentRecords.{AllCurrentStand}
-use Rattle.joint_state.specs.Cycles.{ChangesAreLocked, StandAsMade, IsUnderControl, HasBegun}
+use Rattle.joint_state.specs.Cycles.{ChangesAreLocked, StandAsMade, IsUnderControl, HasBegun, AreJournaled}
 use Rattle.joint_state.specs.Told.{AreTold}
 
 -- a job that has ended has nothing open, and is under no commitment control
@@ -18,6 +18,7 @@ pub record IsIdle (job : JobState) : Type 0 where
 pub record JobStands (s : State) (number : ℕ) (job : JobState) : Type 0 where
   pub idle : IsIdle job
   pub control : IsUnderControl job
+  pub journaled : AreJournaled (memory_of s) job
   pub begun : HasBegun (memory_of s) job
   pub current : AllCurrentStand (memory_of s) number job
   pub locked : ChangesAreLocked (memory_of s) number job
