@@ -8,6 +8,7 @@ use Rattle.journal_model.specs.Places.{slot_of}
 use Rattle.journal_model.specs.Replay.{before_of}
 use Rattle.journal_model.specs.Rollback.{MemberChange}
 use Rattle.library_steps.specs.State.{Memory, CycleState, JobState}
+use Rattle.library_steps.specs.SlotChange.{images_of}
 use Rattle.library_steps.specs.Uses.{changes_in}
 
 -- the job with this number has the lock of each record that its open commit cycle changed
@@ -30,3 +31,7 @@ pub record IsUnderControl (job : JobState) : Type 0 where
 -- an open commit cycle began with an entry of the journal
 abbrev pub HasBegun : Memory → JobState → Type 0
 HasBegun m job = IfSome job.cycle (λ cycle. cycle.sequence ≤ m.last_entry)
+
+-- the members of the job's opens under commitment are journaled, so that each commit cycle begins with an entry
+abbrev pub AreJournaled : Memory → JobState → Type 0
+AreJournaled m job = AllByRecursion (λ entry. entry.1.commit ≡ true → IsSome (images_of entry.1.member m)) job.opens

@@ -7,7 +7,7 @@ use Rattle.library_steps.specs.Uses.{changes_in}
 use Rattle.joint_state.specs.Opens.{HasOpens}
 use Rattle.joint_state.specs.Locks.{LockStands}
 use Rattle.joint_state.specs.CurrentRecords.{AllCurrentStand}
-use Rattle.joint_state.specs.Cycles.{ChangesAreLocked, StandAsMade, IsUnderControl, HasBegun}
+use Rattle.joint_state.specs.Cycles.{ChangesAreLocked, StandAsMade, IsUnderControl, HasBegun, AreJournaled}
 use Rattle.joint_state.specs.Told.{AreTold}
 
 -- a job that has ended has nothing open, and is under no commitment control
@@ -20,6 +20,7 @@ pub record JobStands (s : State) (number : ℕ) (job : JobState) : Type 0 where
   pub idle : IsIdle job
   pub control : IsUnderControl job
   pub opens : HasOpens job
+  pub journaled : AreJournaled (memory_of s) job
   pub begun : HasBegun (memory_of s) job
   pub current : AllCurrentStand (memory_of s) number job
   pub locked : ChangesAreLocked (memory_of s) number job

@@ -1,0 +1,451 @@
+-- The members of opens under commitment are journaled after whatever is done to a library.
+use Rattle.std.proofs.Common.{◌≡◌, ◌≢◌, ◌∙◌, ◌⊎◌, inl, inr, ℕ, zero, suc, ◌+◌, ◌-◌, ◌<◌, nat_le, length, ◌==◌, ◌||◌, if◌then◌else◌, Bool, true, false, cond, not, List, [], ◌∷◌, ◌++◌, map, filter, slice_get, Option, Some, None, is_some, IsSome, Ok, subst, refl, sym, ap, arith, rules}
+use Rattle.std.specs.List.{AllByRecursion, list_any}
+use Rattle.std.specs.Option.{is_none, option_and_then}
+use Rattle.std.proofs.lemmas.Bool.Decides.{nat_tests}
+use Rattle.entry_codec.specs.declared.kinds.EntryKind.TheVariants.{MemberCleared, MemberReorganized}
+use Rattle.entry_codec.specs.declared.kinds.Images.{Images}
+use Rattle.member_slots.specs.Member.{cleared, reorganized}
+use Rattle.journal_model.specs.Rollback.{MemberChange}
+use Rattle.file_catalogue.specs.Owners.{has_number, Owns}
+use Rattle.file_catalogue.proofs.StatusLemmas.{has_number-cons}
+use Rattle.library_model.specs.Named.{Named, named, same_name}
+use Rattle.library_model.specs.declared.replies.Reply.{Reply}
+use Rattle.library_model.specs.declared.replies.Reply.TheVariants as replies
+use Rattle.library_model.specs.declared.limits.TheConstants.{MOST_OPENS}
+use Rattle.library_model.specs.declared.replies.LimitKind.TheVariants.{Opens}
+use Rattle.library_model.specs.declared.replies.Missing.TheVariants.{Name}
+use Rattle.library_model.specs.declared.requests.DeleteFile.{DeleteFile}
+use Rattle.library_model.specs.declared.requests.FileMember.{FileMember}
+use Rattle.library_model.specs.declared.requests.OpenFile.{OpenFile}
+use Rattle.library_model.specs.declared.requests.Request.{Request}
+use Rattle.library_model.specs.declared.requests.Request.TheVariants as request
+use Rattle.library_model.specs.declared.sources.NamedSource.{NamedSource}
+use Rattle.library_steps.specs.State.{State, Memory, FileState, MemberStatus, OpenState, CycleState, JobState, memory_of, file_named, job_changed, job_of, open_named, status_changed, with_opens}
+use Rattle.library_steps.specs.Change.{Change}
+use Rattle.library_steps.specs.ChangeRecord.{delete_change, delete_plan, is_current, unlock_change, unlock_plan, update_change, update_plan, without_current, without_record}
+use Rattle.library_steps.specs.Commitment.{at_boundary, changes_of, committed_open, rolled_back_open, with_level, without_cycle}
+use Rattle.library_steps.specs.DeleteFile.{delete_change as file_deleted, delete_file, delete_plan as delete_file_plan, first_dependent}
+use Rattle.library_steps.specs.EndJob.{ended_job}
+use Rattle.library_steps.specs.Journaling.{end_change, end_journaling, end_plan, journaled_from, no_longer_journaled}
+use Rattle.library_steps.specs.MemberCommands.{renumbered, with_member_name}
+use Rattle.library_steps.specs.Opens.{may_commit, open_file, open_plan, with_open, without_open}
+use Rattle.library_steps.specs.Reads.{has_read, open_changed, position_change, positioned, read_change}
+use Rattle.library_steps.specs.Refusals.{FoundMember, found, member_of_file, named_or_refused, refuse_if, refuse_with, sequences_left}
+use Rattle.library_steps.specs.SlotChange.{NewSlot, change_made, cycle_for, slot_changed, status_in, touched}
+use Rattle.library_steps.specs.Step.{change}
+use Rattle.library_steps.specs.Uses.{first_job, has_changed, has_open_over, unused, user_of, user_of_any, uses}
+use Rattle.library_steps.specs.Uses.{has_boundary_lock}
+use Rattle.library_steps.specs.WriteRecord.{write_call, write_change, write_plan}
+use Rattle.library_parts.specs.Lawful.{OpenHolds, OpensHold, OpensMember}
+use Rattle.library_parts.proofs.BackLemmas.{neither}
+use Rattle.library_parts.proofs.FileLemmas.{Owns-below}
+use Rattle.joint_state.specs.Sound.{IsSound}
+use Rattle.cycles_kept.proofs.BoundarySteps.{taken_back-files, taken_back-jobs}
+use Rattle.cycles_kept.proofs.FileSteps.{first_job-none}
+use Rattle.cycles_kept.proofs.HoldLemmas.{Holds, bind-holds, does-holds, each-holds, effect-holds, found-there, if-not, then-holds, wider-holds, with-none}
+use Rattle.cycles_kept.proofs.ImageLemmas.{images_in, among-map, among-without, images-changed, images-more, images-named, status_in-push}
+use Rattle.cycles_kept.proofs.JobLemmas.{WasThere, was_there}
+use Rattle.cycles_kept.proofs.PutLemmas.{put_cycle, jobs-noted, jobs-put}
+use Rattle.cycles_kept.proofs.RecordSteps.{files-put}
+
+abbrev IsJournaledBy : Named FileState → OpenState → Type 0
+IsJournaledBy files opened = opened.commit ≡ true → IsSome (images_in opened.member files)
+
+-- those of a job's opens
+abbrev pub AreJournaledBy : Named FileState → Named OpenState → Type 0
+AreJournaledBy files opens = AllByRecursion (λ entry. IsJournaledBy files entry.1) opens
+
+abbrev pub WereJournaled : State → Type 0
+WereJournaled s = (place : ℕ) (old : JobState) → slice_get s.jobs place ≡ Some old → AreJournaledBy s.files old.opens
+
+pub record StayJournaled (s : State) (c : Change) : Type 0 where
+  pub stay : (place : ℕ) (new : JobState) → slice_get c.memory.jobs place ≡ Some new → AreJournaledBy c.memory.files new.opens
+
+-- ---- opens changed
+
+opens-each : (P Q : OpenState → Type 0) (opens : Named OpenState) → ((opened : OpenState) → P opened → Q opened) → AllByRecursion (λ (e : List ℕ × OpenState). P e.1) opens
+    → AllByRecursion (λ (e : List ℕ × OpenState). Q e.1) opens
+opens-each P Q [] each all = tt
+opens-each P Q (entry ∷ opens) each all = (each entry.1 all.0, opens-each P Q opens each all.1)
+
+opens-map : (P : OpenState → Type 0) (g : OpenState → OpenState) (opens : Named OpenState) → ((opened : OpenState) → P opened → P (g opened)) → AllByRecursion (λ (e : List ℕ × OpenState). P e.1) opens
+    → AllByRecursion (λ (e : List ℕ × OpenState). P e.1) (map (λ e. (e.0, g e.1)) opens)
+opens-map P g [] each all = tt
+opens-map P g (entry ∷ opens) each all = (each entry.1 all.0, opens-map P g opens each all.1)
+
+opens-filter : (P : OpenState → Type 0) (test : List ℕ × OpenState → Bool) (opens : Named OpenState) → AllByRecursion (λ (e : List ℕ × OpenState). P e.1) opens
+    → AllByRecursion (λ (e : List ℕ × OpenState). P e.1) (filter test opens)
+opens-filter P test [] all = tt
+opens-filter P test (entry ∷ opens) all =
+    elim (test entry) as (λ b. AllByRecursion (λ (e : List ℕ × OpenState). P e.1) (cond b (entry ∷ filter test opens) (filter test opens))) [
+      | true ↦ (all.0, opens-filter P test opens all.1)
+      | false ↦ opens-filter P test opens all.1
+    ]
+
+opens-push : (P : OpenState → Type 0) (opens : Named OpenState) (name : List ℕ) (opened : OpenState) → AllByRecursion (λ (e : List ℕ × OpenState). P e.1) opens → P opened
+    → AllByRecursion (λ (e : List ℕ × OpenState). P e.1) (opens ++ (name, opened) ∷ [])
+opens-push P [] name opened all holds = (holds, tt)
+opens-push P (entry ∷ opens) name opened all holds = (all.0, opens-push P opens name opened all.1 holds)
+
+-- one open changed, but for its member and its commitment
+opens-changed : (files : Named FileState) (number : ℕ) (change : OpenState → OpenState) (opens : Named OpenState)
+    → ((opened : OpenState) → IsJournaledBy files opened → IsJournaledBy files (change opened)) → AreJournaledBy files opens
+    → AreJournaledBy files (map (λ e. (e.0, if e.1.number == number then change e.1 else e.1)) opens)
+opens-changed files number change opens each all =
+    opens-map (IsJournaledBy files) (λ opened. if opened.number == number then change opened else opened) opens
+    (λ opened holds. elim (opened.number == number) as (λ b. IsJournaledBy files (if b then change opened else opened)) [ true ↦ each opened holds | false ↦ holds ]) all
+
+-- ---- one job changed
+
+abbrev ImagesStay : State → Change → Type 0
+ImagesStay s c = (number : ℕ) → IsSome (images_in number s.files) → IsSome (images_in number c.memory.files)
+
+one-at : (s : State) (c : Change) (place : ℕ) (f : JobState → JobState) → WereJournaled s → c.memory.jobs ≡ job_changed place f s.jobs → ImagesStay s c
+    → ((j : JobState) → AreJournaledBy c.memory.files j.opens → AreJournaledBy c.memory.files (f j).opens) → (at : ℕ) (new : JobState) → slice_get c.memory.jobs at ≡ Some new
+    → AreJournaledBy c.memory.files new.opens
+one-at s c place f were jobs images each at new here =
+    let was = was_there place f s.jobs at new (subst (λ (js : List JobState). slice_get js at ≡ Some new) jobs here) in
+    by was.old (opens-each (IsJournaledBy s.files) (IsJournaledBy c.memory.files) was.old.opens (λ opened holds commit. images opened.member (holds commit)) (were at was.old was.there)) was.which
+  where
+    by : (old : JobState) → AreJournaledBy c.memory.files old.opens → ((at ≡ place) × (new ≡ f old)) ⊎ ((at ≢ place) × (new ≡ old)) → AreJournaledBy c.memory.files new.opens
+    by old all (inl its) = subst (λ (j : JobState). AreJournaledBy c.memory.files j.opens) (sym its.1) (each old all)
+    by old all (inr other) = subst (λ (j : JobState). AreJournaledBy c.memory.files j.opens) (sym other.1) all
+
+one-job : (s : State) (c : Change) (place : ℕ) (f : JobState → JobState) → WereJournaled s → c.memory.jobs ≡ job_changed place f s.jobs → ImagesStay s c
+    → ((j : JobState) → AreJournaledBy c.memory.files j.opens → AreJournaledBy c.memory.files (f j).opens) → StayJournaled s c
+one-job s c place f were jobs images each = record { stay = one-at s c place f were jobs images each }
+
+-- and no file
+one-open : (s : State) (c : Change) (place : ℕ) (f : JobState → JobState) → WereJournaled s → c.memory.jobs ≡ job_changed place f s.jobs → c.memory.files ≡ s.files
+    → ((j : JobState) → AreJournaledBy s.files j.opens → AreJournaledBy s.files (f j).opens) → StayJournaled s c
+one-open s c place f were jobs files each =
+    one-job s c place f were jobs (λ number some. subst (λ (fs : Named FileState). IsSome (images_in number fs)) (sym files) some)
+    (λ j. subst (λ (fs : Named FileState). AreJournaledBy fs j.opens → AreJournaledBy fs (f j).opens) (sym files) (each j))
+
+-- ---- no job changed
+
+no-job : (s : State) (c : Change) → c.memory.jobs ≡ s.jobs → ((place : ℕ) (old : JobState) → slice_get s.jobs place ≡ Some old → AreJournaledBy c.memory.files old.opens) → StayJournaled s c
+no-job s c jobs each = record { stay = λ at new here. each at new (subst (λ (js : List JobState). slice_get js at ≡ Some new) jobs here) }
+
+images-stay : (s : State) (c : Change) → WereJournaled s → c.memory.jobs ≡ s.jobs → ImagesStay s c → StayJournaled s c
+images-stay s c were jobs images =
+    no-job s c jobs
+    (λ place old there. opens-each (IsJournaledBy s.files) (IsJournaledBy c.memory.files) old.opens (λ opened holds commit. images opened.member (holds commit)) (were place old there))
+
+-- the status of one member changed, and some images left
+status-stays : (s : State) (c : Change) (number : ℕ) (change : MemberStatus → MemberStatus) → WereJournaled s → c.memory.jobs ≡ s.jobs
+    → c.memory.files ≡ map (λ entry. (entry.0, status_changed number change entry.1)) s.files → ((status : MemberStatus) → (change status).number ≡ status.number)
+    → ((status : MemberStatus) → IsSome status.images → IsSome (change status).images) → StayJournaled s c
+status-stays s c number change were jobs files keeps stay =
+    images-stay s c were jobs
+    (λ other some. subst (λ (fs : Named FileState). IsSome (images_in other fs)) (sym files) (images-changed other number change s.files keeps (λ same status h. stay status h) some))
+
+renumbered-number : (sequence : ℕ) (status : MemberStatus) → (renumbered sequence status).number ≡ status.number
+renumbered-number sequence status =
+    elim (is_some status.images) as (λ b. (if b then record status { last_break = sequence } else record status { changed = true }).number ≡ status.number) [ true ↦ refl | false ↦ refl ]
+
+renumbered-images : (sequence : ℕ) (status : MemberStatus) → IsSome status.images → IsSome (renumbered sequence status).images
+renumbered-images sequence status some =
+    elim (is_some status.images) as (λ b. IsSome (if b then record status { last_break = sequence } else record status { changed = true }).images) [ true ↦ some | false ↦ some ]
+
+-- ---- OPNDBF
+
+record FindsMember (file_name member_name : List ℕ) (m : Memory) (it : FoundMember) : Type 0 where
+  file : file_named file_name m ≡ Some it.file
+  member : named member_name it.file.members ≡ Some it.status
+
+member_of_file-finds : (file_name member_name : List ℕ) (m : Memory) → Holds (member_of_file file_name member_name m) (FindsMember file_name member_name m)
+member_of_file-finds file_name member_name m =
+    bind-holds (named_or_refused file_name (file_named file_name m)) (λ file. file_named file_name m ≡ Some file) _ _
+    (found-there (file_named file_name m) (replies.NoSuchName (Name file_name))) (λ file there.
+    bind-holds (named_or_refused member_name (named member_name file.members)) (λ status. named member_name file.members ≡ Some status) _ _
+    (found-there (named member_name file.members) (replies.NoSuchName (Name member_name))) (λ status is. record { holds = record { file = there; member = is } }))
+
+some-left : {A : Type 0} (o : Option A) → is_none o ≡ false → IsSome o
+some-left None lacks = absurd cc
+some-left (Some a) lacks = search rules
+
+commits-journaled : (commit : Bool) (status : MemberStatus) (job : JobState) → Holds (may_commit commit status job) (λ ok. commit ≡ true → IsSome status.images)
+commits-journaled false status job = record { holds = λ e. absurd cc }
+commits-journaled true status job =
+    then-holds (found job.level replies.NoDefinition) _ _ (λ level.
+    wider-holds (refuse_if (is_none status.images) (replies.NotJournaled status.number)) (λ ok. is_none status.images ≡ false) _ (λ ok some e. some-left status.images some)
+    (if-not (is_none status.images) (replies.NotJournaled status.number)))
+
+opens-journaled : (s : State) (job : ℕ) (args : OpenFile) → IsSound s → Holds (open_plan (memory_of s) job args) (λ status. args.commit ≡ true → IsSome (images_in status.number s.files))
+unfolding open_plan
+opens-journaled s job args sound =
+    then-holds (refuse_if (is_some (open_named args.open_id job (memory_of s))) (replies.NameExists args.open_id)) _ _ (λ absent.
+    then-holds (refuse_if (nat_le MOST_OPENS (length (job_of job (memory_of s)).opens)) (replies.LimitReached Opens MOST_OPENS)) _ _ (λ few.
+    bind-holds (member_of_file args.file args.member (memory_of s)) (FindsMember args.file args.member (memory_of s)) _ _ (member_of_file-finds args.file args.member (memory_of s)) (λ it finds.
+    bind-holds (may_commit args.commit it.status (job_of job (memory_of s))) (λ ok. args.commit ≡ true → IsSome it.status.images) _ _
+    (commits-journaled args.commit it.status (job_of job (memory_of s))) (λ ok images.
+    record { holds = λ commit. subst IsSome (sym (images-named args.file args.member it.file it.status s.files sound.names sound.apart finds.file finds.member)) (images commit) }))))
+
+open_file-journaled : (s : State) (job : ℕ) (args : OpenFile) → IsSound s → WereJournaled s → Holds (open_file (memory_of s) job args) (StayJournaled s)
+open_file-journaled s job args sound were =
+    does-holds _ (open_plan (memory_of s) job args) (StayJournaled s)
+    (wider-holds (open_plan (memory_of s) job args) (λ (status : MemberStatus). args.commit ≡ true → IsSome (images_in status.number s.files)) _
+    (λ status journaled. one-open s _ (job - 1) (with_open args status.number) were refl refl (λ j all. opens-push (IsJournaledBy s.files) j.opens args.open_id _ all journaled))
+    (opens-journaled s job args sound))
+
+-- ---- members that no job uses
+
+-- no open of the job is over this member
+over-none : (number : ℕ) (locks : _) (n : ℕ) (job : JobState) → uses number locks n job ≡ false → has_open_over number job ≡ false
+over-none number locks n job free =
+    (neither (has_open_over number job) (has_changed number job) (neither (has_open_over number job || has_changed number job) (has_boundary_lock number n locks) free).0).0
+
+differ-all : (number : ℕ) (opens : Named OpenState) → list_any (λ entry. entry.1.member == number) opens ≡ false → AllByRecursion (λ (e : List ℕ × OpenState). e.1.member ≢ number) opens
+differ-all number [] none = tt
+differ-all number (entry ∷ opens) none =
+    let parts = neither (entry.1.member == number) (list_any (λ (e : List ℕ × OpenState). e.1.member == number) opens) none in
+    let test = parts.0 in
+    (grind (arith, nat_tests, test), differ-all number opens parts.1)
+
+both-each : (P Q R : OpenState → Type 0) (opens : Named OpenState) → ((opened : OpenState) → P opened → Q opened → R opened) → AllByRecursion (λ (e : List ℕ × OpenState). P e.1) opens
+    → AllByRecursion (λ (e : List ℕ × OpenState). Q e.1) opens → AllByRecursion (λ (e : List ℕ × OpenState). R e.1) opens
+both-each P Q R [] each first second = tt
+both-each P Q R (entry ∷ opens) each first second = (each entry.1 first.0 second.0, both-each P Q R opens each first.1 second.1)
+
+end-unused : (m : Memory) (args : FileMember) → Holds (end_plan m args) (λ status. user_of status.number m ≡ None)
+unfolding end_plan
+end-unused m args =
+    then-holds (sequences_left m) _ _ (λ few.
+    then-holds (member_of_file args.file args.member m) _ _ (λ it.
+    bind-holds (unused (user_of it.status.number m)) (λ free. user_of it.status.number m ≡ None) _ _ (with-none replies.InUse (user_of it.status.number m)) (λ free none.
+    then-holds (refuse_if (is_none it.status.images) (replies.NotJournaled it.status.number)) _ _ (λ journaled. record { holds = none }))))
+
+end_journaling-journaled : (s : State) (job timestamp : ℕ) (args : FileMember) → WereJournaled s → Holds (end_journaling (memory_of s) job timestamp args) (StayJournaled s)
+end_journaling-journaled s job timestamp args were =
+    does-holds (end_change (memory_of s) job timestamp) (end_plan (memory_of s) args) (StayJournaled s)
+    (wider-holds (end_plan (memory_of s) args) (λ (status : MemberStatus). user_of status.number (memory_of s) ≡ None) _ with-status (end-unused (memory_of s) args))
+  where
+    with-status : (status : MemberStatus) → user_of status.number (memory_of s) ≡ None → StayJournaled s (end_change (memory_of s) job timestamp status)
+    with-status status none =
+        no-job s (end_change (memory_of s) job timestamp status) refl
+        (λ place old there.
+        let free = first_job-none (uses status.number s.locks) 1 s.jobs place old none there in
+        both-each (λ opened. opened.member ≢ status.number) (IsJournaledBy s.files) (IsJournaledBy (end_change (memory_of s) job timestamp status).memory.files) old.opens
+        (λ opened differ holds commit. images-changed opened.member status.number _ s.files (λ st. refl) (λ same st h. absurd (differ same)) (holds commit))
+        (differ-all status.number old.opens (over-none status.number s.locks free.0 old free.1)) (were place old there))
+
+-- ---- DLTF
+
+record Deletes (m : Memory) (args : DeleteFile) (file : FileState) : Type 0 where
+  there : file_named args.file m ≡ Some file
+  free : user_of_any file.members m ≡ None
+
+deletes : (m : Memory) (args : DeleteFile) → Holds (delete_file_plan m args) (Deletes m args)
+unfolding delete_file_plan
+deletes m args =
+    then-holds (sequences_left m) _ _ (λ few.
+    bind-holds (named_or_refused args.file (file_named args.file m)) (λ file. file_named args.file m ≡ Some file) _ _ (found-there (file_named args.file m) (replies.NoSuchName (Name args.file))) (λ file there.
+    then-holds (refuse_with replies.Dependents (first_dependent args.file m.files)) _ _ (λ alone.
+    bind-holds (unused (user_of_any file.members m)) (λ free. user_of_any file.members m ≡ None) _ _ (with-none replies.InUse (user_of_any file.members m)) (λ free none.
+    record { holds = record { there = there; free = none } }))))
+
+-- no open is over one of the members
+abbrev AreNotOver : Named OpenState → Named MemberStatus → Type 0
+AreNotOver opens members = AllByRecursion (λ (entry : List ℕ × MemberStatus). list_any (λ (e : List ℕ × OpenState). e.1.member == entry.1.number) opens ≡ false) members
+
+none-over : (members : Named MemberStatus) (locks : _) (n : ℕ) (job : JobState) → list_any (λ (entry : List ℕ × MemberStatus). uses entry.1.number locks n job) members ≡ false
+    → AreNotOver job.opens members
+none-over [] locks n job none = tt
+none-over (entry ∷ members) locks n job none =
+    let parts = neither (uses entry.1.number locks n job) (list_any (λ (e : List ℕ × MemberStatus). uses e.1.number locks n job) members) none in
+    (over-none entry.1.number locks n job parts.0, none-over members locks n job parts.1)
+
+first-lacks : (opened : List ℕ × OpenState) (opens : Named OpenState) (members : Named MemberStatus) → AreNotOver (opened ∷ opens) members → has_number opened.1.member members ≡ false
+first-lacks opened opens [] all = refl
+first-lacks opened opens (entry ∷ members) all =
+    let parts = neither (opened.1.member == entry.1.number) (list_any (λ (e : List ℕ × OpenState). e.1.member == entry.1.number) opens) all.0 in
+    let differ = parts.0 in
+    let other : (entry.1.number == opened.1.member) ≡ false = grind (arith, nat_tests, differ) in
+    has_number-cons opened.1.member entry members ∙ rw other (first-lacks opened opens members all.1)
+
+rest-over : (opened : List ℕ × OpenState) (opens : Named OpenState) (members : Named MemberStatus) → AreNotOver (opened ∷ opens) members → AreNotOver opens members
+rest-over opened opens [] all = tt
+rest-over opened opens (entry ∷ members) all =
+    ((neither (opened.1.member == entry.1.number) (list_any (λ (e : List ℕ × OpenState). e.1.member == entry.1.number) opens) all.0).1, rest-over opened opens members all.1)
+
+all-lack : (opens : Named OpenState) (members : Named MemberStatus) → AreNotOver opens members → AllByRecursion (λ (e : List ℕ × OpenState). has_number e.1.member members ≡ false) opens
+all-lack [] members all = tt
+all-lack (opened ∷ opens) members all = (first-lacks opened opens members all, all-lack opens members (rest-over opened opens members all))
+
+delete_file-journaled : (s : State) (job timestamp : ℕ) (args : DeleteFile) → IsSound s → WereJournaled s → Holds (delete_file (memory_of s) job timestamp args) (StayJournaled s)
+delete_file-journaled s job timestamp args sound were =
+    does-holds (file_deleted (memory_of s) job timestamp args) (delete_file_plan (memory_of s) args) (StayJournaled s)
+    (wider-holds (delete_file_plan (memory_of s) args) (Deletes (memory_of s) args) _ with-file (deletes (memory_of s) args))
+  where
+    with-file : (file : FileState) → Deletes (memory_of s) args file → StayJournaled s (file_deleted (memory_of s) job timestamp args file)
+    with-file file its =
+        no-job s (file_deleted (memory_of s) job timestamp args file) refl
+        (λ place old there.
+        let free = first_job-none (λ number j. list_any (λ (entry : List ℕ × MemberStatus). uses entry.1.number s.locks number j) file.members) 1 s.jobs place old its.free there in
+        both-each (λ opened. has_number opened.member file.members ≡ false) (IsJournaledBy s.files) (IsJournaledBy (file_deleted (memory_of s) job timestamp args file).memory.files) old.opens
+        (λ opened lacks holds commit. subst (λ (o : Option MemberStatus). IsSome (option_and_then (λ (st : MemberStatus). st.images) o))
+        (sym (among-without opened.member args.file file s.files sound.names its.there lacks)) (holds commit))
+        (all-lack old.opens file.members (none-over file.members s.locks free.0 old free.1)) (were place old there))
+
+-- ---- ADDPFM
+
+opened-below : (s : State) (opened : OpenState) → IsSound s → OpenHolds s.files opened → opened.member < s.next_member
+opened-below s opened sound holds = by (named opened.file s.files) (λ file is. is) holds
+  where
+    by : (o : Option FileState) → ((file : FileState) → o ≡ Some file → named opened.file s.files ≡ Some file) → OpensMember opened.member o → opened.member < s.next_member
+    by None found h = absurd h
+    by (Some file) found h = Owns-below s opened.file file opened.member sound.library (record { there = found file refl; has = h })
+
+opens-at : (files : Named FileState) (jobs : List JobState) (place : ℕ) (job : JobState) → AllByRecursion (OpensHold files) jobs → slice_get jobs place ≡ Some job → OpensHold files job
+opens-at files [] place job all here = absurd cc
+opens-at files (first ∷ jobs) zero job all here = let same : first ≡ job = cc in subst (OpensHold files) same all.0
+opens-at files (first ∷ jobs) (suc place) job all here = opens-at files jobs place job all.1 here
+
+added-status : (s : State) (args : FileMember) (number : ℕ) → number ≢ s.next_member → (entry : List ℕ × FileState)
+    → status_in number (if same_name args.file entry.0 then with_member_name args.member s.next_member entry.1 else entry.1).members ≡ status_in number entry.1.members
+added-status s args number differ entry =
+    elim (same_name args.file entry.0) as (λ b. status_in number (if b then with_member_name args.member s.next_member entry.1 else entry.1).members ≡ status_in number entry.1.members) [
+      | true ↦ status_in-push number s.next_member args.member entry.1.members differ
+      | false ↦ refl
+    ]
+
+added-stay : (s : State) (c : Change) (args : FileMember) → IsSound s → WereJournaled s → c.memory.jobs ≡ s.jobs
+    → c.memory.files ≡ map (λ entry. (entry.0, if same_name args.file entry.0 then with_member_name args.member s.next_member entry.1 else entry.1)) s.files → StayJournaled s c
+added-stay s c args sound were jobs files =
+    no-job s c jobs
+    (λ place old there. both-each (OpenHolds s.files) (IsJournaledBy s.files) (IsJournaledBy c.memory.files) old.opens (λ opened opens holds commit.
+    let below = opened-below s opened sound opens in
+    subst (λ (fs : Named FileState). IsSome (images_in opened.member fs)) (sym files)
+    (subst (λ (o : Option MemberStatus). IsSome (option_and_then (λ (st : MemberStatus). st.images) o))
+    (sym (among-map opened.member (λ entry. if same_name args.file entry.0 then with_member_name args.member s.next_member entry.1 else entry.1) s.files
+    (added-status s args opened.member (omega (arith, below))))) (holds commit)))
+    (opens-at s.files s.jobs place old sound.library.opens there) (were place old there))
+
+-- ---- changes of a record
+
+module _ (s : State) (job : ℕ) (new : NewSlot) (were : WereJournaled s) where
+  abbrev undo_made : MemberChange
+  undo_made = change_made (memory_of s) (job_of job (memory_of s)) new
+
+  abbrev cycle_then : CycleState
+  cycle_then = cycle_for (memory_of s) (job_of job (memory_of s))
+
+  opens-put : (files : Named FileState) (commit : Bool) (j : JobState) → AreJournaledBy files j.opens → AreJournaledBy files (put_cycle commit undo_made cycle_then j).opens
+  opens-put files true j all = all
+  opens-put files false j all = all
+
+  touched-images : (c : Change) → c.memory.files ≡ map (λ entry. (entry.0, status_changed new.opened.member touched entry.1)) s.files → ImagesStay s c
+  touched-images c files other some =
+      subst (λ (fs : Named FileState). IsSome (images_in other fs)) (sym files) (images-changed other new.opened.member touched s.files (λ st. refl) (λ same st h. h) some)
+
+  record-journaled : (c : Change) (f : JobState → JobState) → c.memory.files ≡ map (λ entry. (entry.0, status_changed new.opened.member touched entry.1)) s.files
+      → c.memory.jobs ≡ job_changed (job - 1) (λ j. f (put_cycle new.opened.commit undo_made cycle_then j)) s.jobs
+      → ((j : JobState) → AreJournaledBy c.memory.files j.opens → AreJournaledBy c.memory.files (f j).opens) → StayJournaled s c
+  record-journaled c f files jobs each =
+      one-job s c (job - 1) (λ j. f (put_cycle new.opened.commit undo_made cycle_then j)) were jobs (touched-images c files)
+      (λ j all. each (put_cycle new.opened.commit undo_made cycle_then j) (opens-put c.memory.files new.opened.commit j all))
+
+-- ---- each request
+
+module _ (s : State) (sources : List NamedSource) (job timestamp : ℕ) (sound : IsSound s) (were : WereJournaled s) where
+  -- a change of one open that keeps its member and its commitment
+  with-open : (c : Change) (number : ℕ) (g : OpenState → OpenState) → c.memory.jobs ≡ job_changed (job - 1) (open_changed number g) s.jobs → c.memory.files ≡ s.files
+      → ((opened : OpenState) → IsJournaledBy s.files opened → IsJournaledBy s.files (g opened)) → StayJournaled s c
+  with-open c number g jobs files each = one-open s c (job - 1) (open_changed number g) were jobs files (λ j all. opens-changed s.files number g j.opens each all)
+
+  nothing : (c : Change) → c.memory.jobs ≡ s.jobs → c.memory.files ≡ s.files → StayJournaled s c
+  nothing c jobs files = images-stay s c were jobs (λ number some. subst (λ (fs : Named FileState). IsSome (images_in number fs)) (sym files) some)
+
+  committed-all : (opened : OpenState) → IsJournaledBy s.files opened → IsJournaledBy s.files (committed_open opened)
+  committed-all opened holds = elim opened.commit as (λ b. IsJournaledBy s.files (if b then at_boundary opened else opened)) [ true ↦ holds | false ↦ holds ]
+
+  rolled-all : (opened : OpenState) → IsJournaledBy s.files opened → IsJournaledBy s.files (rolled_back_open opened)
+  rolled-all opened holds =
+      elim opened.commit as (λ b. IsJournaledBy s.files (if b then record opened { position = opened.boundary; current = None; last_read = None } else record opened { current = None; last_read = None })) [
+        | true ↦ holds
+        | false ↦ holds
+      ]
+
+  without-all : (files : Named FileState) (member rrn : ℕ) (opened : OpenState) → IsJournaledBy files opened → IsJournaledBy files (without_record member rrn opened)
+  without-all files member rrn opened holds =
+      elim (is_current member rrn opened) as (λ b. IsJournaledBy files (if b then without_current opened else opened)) [ true ↦ holds | false ↦ holds ]
+
+  taken-back : (c : Change) (f : JobState → JobState) → c.memory.jobs ≡ job_changed (job - 1) f s.jobs → c.memory.files ≡ s.files
+      → ((j : JobState) → AreJournaledBy s.files j.opens → AreJournaledBy s.files (f j).opens) → StayJournaled s c
+  taken-back c f jobs files each = one-open s c (job - 1) f were jobs files each
+
+  pub change-stays : (r : Request) → Holds (change sources s.entries (memory_of s) job timestamp r) (StayJournaled s)
+  unfolding change
+  change-stays (request.CreatePhysicalFile args) = effect-holds _ _ (StayJournaled s) (λ new. images-stay s _ were refl (λ number some. images-more number s.files _ some))
+  change-stays (request.CreateLogicalFile args) = record { holds = tt }
+  change-stays (request.DeleteFile args) = delete_file-journaled s job timestamp args sound were
+  change-stays (request.AddMember args) = effect-holds _ _ (StayJournaled s) (λ file. added-stay s _ args sound were refl refl)
+  change-stays (request.ClearMember args) =
+      effect-holds _ _ (StayJournaled s) (λ status. status-stays s _ status.number (renumbered (s.gone + length s.entries + 1)) were refl refl (renumbered-number _) (renumbered-images _))
+  change-stays (request.ReorganizeMember args) =
+      effect-holds _ _ (StayJournaled s) (λ status. status-stays s _ status.number (renumbered (s.gone + length s.entries + 1)) were refl refl (renumbered-number _) (renumbered-images _))
+  change-stays (request.StartJournaling args) =
+      effect-holds _ _ (StayJournaled s)
+      (λ status. status-stays s _ status.number (journaled_from (s.gone + length s.entries + 1) args.images) were refl refl (λ st. refl) (λ st some. search rules))
+  change-stays (request.EndJournaling args) = end_journaling-journaled s job timestamp args were
+  change-stays request.ChangeJournal = effect-holds _ _ (StayJournaled s) (λ number. nothing _ refl refl)
+  change-stays (request.DeleteReceiver args) = effect-holds _ _ (StayJournaled s) (λ last. nothing _ refl refl)
+  change-stays request.Checkpoint = effect-holds _ _ (StayJournaled s) (λ sequence. nothing _ refl refl)
+  change-stays (request.DisplayJournal args) = effect-holds _ _ (StayJournaled s) (λ shown. nothing _ refl refl)
+  change-stays (request.ApplyChanges args) = effect-holds _ _ (StayJournaled s) (λ work. nothing _ refl refl)
+  change-stays (request.RemoveChanges args) = effect-holds _ _ (StayJournaled s) (λ work. nothing _ refl refl)
+  change-stays (request.StartCommitment args) = effect-holds _ _ (StayJournaled s) (λ started. one-open s _ (job - 1) (with_level (Some args.level)) were refl refl (λ j all. all))
+  change-stays request.EndCommitment = effect-holds _ _ (StayJournaled s) (λ ended. one-open s _ (job - 1) (with_level None) were refl refl (λ j all. all))
+  change-stays request.Commit =
+      effect-holds _ _ (StayJournaled s)
+      (λ level. one-open s _ (job - 1) (λ j. with_opens committed_open (without_cycle j)) were refl refl (λ j all. opens-map (IsJournaledBy s.files) committed_open j.opens committed-all all))
+  change-stays request.Rollback =
+      let undos = changes_of (job_of job (memory_of s)).cycle in
+      effect-holds _ _ (StayJournaled s)
+      (λ level. taken-back _ (λ j. with_opens rolled_back_open (without_cycle j))
+      (ap (job_changed (job - 1) (λ j. with_opens rolled_back_open (without_cycle j))) (taken_back-jobs undos (memory_of s))) (taken_back-files undos (memory_of s))
+      (λ j all. opens-map (IsJournaledBy s.files) rolled_back_open j.opens rolled-all all))
+  change-stays (request.OpenFile args) = open_file-journaled s job args sound were
+  change-stays (request.CloseFile args) =
+      effect-holds _ _ (StayJournaled s)
+      (λ opened. one-open s _ (job - 1) (without_open args.open_id) were refl refl (λ j all. opens-filter (IsJournaledBy s.files) (λ entry. not (same_name args.open_id entry.0)) j.opens all))
+  change-stays (request.SetLowerLimit args) =
+      effect-holds (position_change (memory_of s) job) _ (StayJournaled s) (λ new. with-open (position_change (memory_of s) job new) new.opened.number (positioned new.position) refl refl (λ o h. h))
+  change-stays (request.SetGreaterThan args) =
+      effect-holds (position_change (memory_of s) job) _ (StayJournaled s) (λ new. with-open (position_change (memory_of s) job new) new.opened.number (positioned new.position) refl refl (λ o h. h))
+  change-stays (request.Read args) =
+      effect-holds (read_change (memory_of s) job) _ (StayJournaled s) (λ it. with-open (read_change (memory_of s) job it) it.its.opened.number (has_read it.call it.entry) refl refl (λ o h. h))
+  change-stays (request.ReadPrior args) =
+      effect-holds (read_change (memory_of s) job) _ (StayJournaled s) (λ it. with-open (read_change (memory_of s) job it) it.its.opened.number (has_read it.call it.entry) refl refl (λ o h. h))
+  change-stays (request.ReadEqual args) =
+      effect-holds (read_change (memory_of s) job) _ (StayJournaled s) (λ it. with-open (read_change (memory_of s) job it) it.its.opened.number (has_read it.call it.entry) refl refl (λ o h. h))
+  change-stays (request.ReadPriorEqual args) =
+      effect-holds (read_change (memory_of s) job) _ (StayJournaled s) (λ it. with-open (read_change (memory_of s) job it) it.its.opened.number (has_read it.call it.entry) refl refl (λ o h. h))
+  change-stays (request.Chain args) =
+      effect-holds (read_change (memory_of s) job) _ (StayJournaled s) (λ it. with-open (read_change (memory_of s) job it) it.its.opened.number (has_read it.call it.entry) refl refl (λ o h. h))
+  change-stays (request.Write args) =
+      effect-holds (write_change (memory_of s) job timestamp (write_call args.record_number)) (write_plan (memory_of s) job args) (StayJournaled s)
+      (λ new. record-journaled s job new were (write_change (memory_of s) job timestamp (write_call args.record_number) new) (λ j. j) (files-put s job timestamp new)
+      (jobs-noted new.opened.commit job (change_made (memory_of s) (job_of job (memory_of s)) new) (cycle_for (memory_of s) (job_of job (memory_of s))) _) (λ j all. all))
+  change-stays (request.Update args) =
+      effect-holds (update_change (memory_of s) job timestamp) (update_plan (memory_of s) job args) (StayJournaled s)
+      (λ new. record-journaled s job new were (update_change (memory_of s) job timestamp new) (open_changed new.opened.number without_current) (files-put s job timestamp new)
+      (jobs-put new.opened.commit job (change_made (memory_of s) (job_of job (memory_of s)) new) (cycle_for (memory_of s) (job_of job (memory_of s))) (open_changed new.opened.number without_current) _)
+      (λ j all. opens-changed (update_change (memory_of s) job timestamp new).memory.files new.opened.number without_current j.opens (λ o h. h) all))
+  change-stays (request.Delete args) =
+      effect-holds (delete_change (memory_of s) job timestamp) (delete_plan (memory_of s) job args) (StayJournaled s)
+      (λ new. record-journaled s job new were (delete_change (memory_of s) job timestamp new) (with_opens (without_record new.opened.member new.rrn)) (files-put s job timestamp new)
+      (jobs-put new.opened.commit job (change_made (memory_of s) (job_of job (memory_of s)) new) (cycle_for (memory_of s) (job_of job (memory_of s)))
+      (with_opens (without_record new.opened.member new.rrn)) _)
+      (λ j all. opens-map (IsJournaledBy (delete_change (memory_of s) job timestamp new).memory.files) (without_record new.opened.member new.rrn) j.opens
+      (without-all (delete_change (memory_of s) job timestamp new).memory.files new.opened.member new.rrn) all))
+  change-stays (request.Unlock args) =
+      effect-holds (unlock_change (memory_of s) job) (unlock_plan (memory_of s) job args) (StayJournaled s)
+      (λ it. with-open (unlock_change (memory_of s) job it) it.opened.number without_current refl refl (λ o h. h))
+  change-stays (request.EndJob args) =
+      let undos = changes_of (job_of job (memory_of s)).cycle in
+      record {
+        holds = taken-back _ ended_job (ap (job_changed (job - 1) ended_job) (taken_back-jobs undos (memory_of s))) (taken_back-files undos (memory_of s)) (λ j all. tt);
+      }

@@ -1,0 +1,17 @@
+pub mod BoundarySteps
+pub mod CycleLemmas
+pub mod FileSteps
+pub mod HoldLemmas
+pub mod ImageLemmas
+pub mod ImageSteps
+pub mod JobLemmas
+pub mod JournalLemmas
+pub mod JournalSteps
+pub mod LockLemmas
+pub mod NameSteps
+pub mod OpenSteps
+pub mod PlaceLemmas
+pub mod PutLemmas
+pub mod RecordSteps
+pub mod StandLemmas
+pub mod StepLemmas
