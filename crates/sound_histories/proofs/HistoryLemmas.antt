@@ -1,0 +1,43 @@
+-- What each answered request keeps, each legal history keeps.
+use Rattle.std.proofs.Common.{◌≡◌, ℕ, ◌⊎◌, inl, inr, IsTrue, List, [], ◌∷◌, Result, Ok, Err, refl, sym, ap, subst, absurd}
+use Rattle.library_model.specs.declared.requests.Request.{Request}
+use Rattle.library_model.specs.declared.replies.Reply.{Reply}
+use Rattle.library_model.specs.declared.calls.Call.{Call}
+use Rattle.library_model.specs.declared.sources.NamedSource.{NamedSource}
+use Rattle.library_steps.specs.State.{State, memory_of, job_at}
+use Rattle.library_steps.specs.Change.{Change, changed}
+use Rattle.library_steps.specs.Step.{change, step, MayAnswer}
+use Rattle.library_steps.specs.History.{is_running, Outcome, Standing, Failed, Comes, Runs}
+use Rattle.joint_state.specs.Sound.{IsSound, Does, after, IsKept}
+
+-- the state after an answer, by whether there was a refusal
+changed-sound : (s t : State) (reply : Reply) (r : Result Change Reply) → IsSound s → ((done : Change) → r ≡ Ok done → IsSound (after s done))
+    → (t, reply) ≡ changed s r → IsSound t
+changed-sound s t reply (Ok done) sound kept is = subst IsSound (sym (ap (λ p. p.0) is)) (kept done refl)
+changed-sound s t reply (Err refused) sound kept is = subst IsSound (sym (ap (λ p. p.0) is)) sound
+
+module _ (kept : IsKept IsSound) (sources : List NamedSource) where
+  answer-sound : (s t : State) (job timestamp : ℕ) (request : Request) (reply : Reply) → IsSound s → IsTrue (is_running (job_at job s.jobs))
+      → MayAnswer sources s job timestamp request reply t → IsSound t
+  answer-sound s t job timestamp request reply sound running (inl is) =
+      changed-sound s t reply (change sources s.entries (memory_of s) job timestamp request) sound
+      (λ done does. kept s done (record { sound = sound; sources = sources; job = job; timestamp = timestamp; request = request; running = running; does = does }))
+      is
+  answer-sound s t job timestamp request reply sound running (inr same) = subst IsSound (sym same.0) sound
+
+  pub runs-sound : (s t : State) (calls : List Call) → IsSound s → Runs sources (Standing s) calls (Standing t) → IsSound t
+  runs-sound s t [] sound runs = subst IsStanding (sym runs) sound
+    where
+      IsStanding : Outcome → Type 0
+      IsStanding (Standing u) = IsSound u
+      IsStanding (Failed entries) = IsSound t
+  runs-sound s t (call ∷ calls) sound runs = on s t call calls sound runs.0 runs.1 runs.2 runs.3
+    where
+      on : (s t : State) (call : Call) (calls : List Call) → IsSound s → IsTrue (is_running (job_at call.job s.jobs)) → (mid : Outcome) → Comes sources s call mid
+          → Runs sources mid calls (Standing t) → IsSound t
+      on s t call calls sound running (Standing u) comes rest = runs-sound u t calls (answer-sound s u call.job call.timestamp call.request call.reply sound running comes) rest
+      on s t call [] sound running (Failed entries) comes rest = absurd (no-failure entries t rest)
+        where
+          no-failure : (entries : _) (t : State) → Standing t ≡ Failed entries → ⊥
+          no-failure entries t is = let standing : Standing t ≡ Failed entries = is in absurd cc
+      on s t call (next ∷ calls) sound running (Failed entries) comes rest = absurd rest
