@@ -1,6 +1,6 @@
 -- Whose turn the next call is: each name of the schedule is one call of that job, or each job in turn has one; when the names are used up, the jobs
 -- run to their ends in order. A job that has ended is passed over. (Our own.)
-use Rattle.std.specs.Prelude.{◌≡◌, ℕ, zero, suc, ◌+◌, ◌-◌, Bool, not, if◌then◌else◌, Option, Some, List, [], ◌∷◌, ◌++◌, drop, find}
+use Rattle.std.specs.Prelude.{◌≡◌, ℕ, zero, suc, ◌+◌, ◌-◌, Bool, not, if◌then◌else◌, Some, List, [], ◌∷◌, ◌++◌, drop, find}
 use Rattle.library_model.specs.declared.calls.Call.{Call}
 use Rattle.input_scripts.specs.declared.Schedule.{Schedule}
 use Rattle.input_scripts.specs.declared.Schedule.TheVariants.{Jobs, RoundRobin}

@@ -1,4 +1,4 @@
-use Rattle.std.proofs.Common.{◌<◌, ◌≤◌, ◌≢◌, ℕ, IsTrue, List, [], ◌∷◌, ◌∙◌, length, arith, refl, sym, ap, subst}
+use Rattle.std.proofs.Common.{◌<◌, ◌≤◌, ◌≢◌, ℕ, IsTrue, List, [], ◌∙◌, length, arith, refl, sym, ap, subst}
 use Rattle.library_model.specs.declared.calls.Call.{Call}
 use Rattle.job_runner.specs.declared.session.Stepped.TheVariants as stepped
 use Rattle.job_runner.specs.Ended.{calls_of, ends_once, has_ended}
