@@ -1,5 +1,5 @@
 -- Which words of a command line run the jobs of an input: RUN or SERIAL, and a folder. (Our own.)
-use Rattle.std.specs.Prelude.{ℕ, Bool, true, false, not, ◌==◌, ◌&&◌, ◌||◌, nat_eq, List, [], ◌∷◌, codes}
+use Rattle.std.specs.Prelude.{ℕ, Bool, false, not, ◌==◌, ◌&&◌, ◌||◌, nat_eq, List, [], ◌∷◌, codes}
 use Rattle.std.specs.Cmp.Lexicographic.{pointwise}
 
 -- a word that isn't empty and doesn't begin with a hyphen

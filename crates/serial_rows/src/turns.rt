@@ -19,7 +19,7 @@ struct Row {
     order: &'static str,
 }
 
-const ROWS: [Row; 18] = [
+const ROWS: [Row; 19] = [
     // Without the card the jobs run to their ends in order.
     Row {
         jobs: &[("J1", "c"), ("J2", "c")],
@@ -147,6 +147,14 @@ const ROWS: [Row; 18] = [
         command: "RUN",
         status: 0,
         order: "J1 J1 J2 J2 ",
+    },
+    // Commands have capital letters.
+    Row {
+        jobs: &[("J1", "c")],
+        schedule: "",
+        command: "serial",
+        status: 1,
+        order: "",
     },
     // A name without its job.
     Row {
