@@ -1,6 +1,6 @@
 -- The schedule of an input without a fault names jobs of that input.
-use Rattle.std.proofs.Common.{◌≡◌, ℕ, ◌+◌, ◌<◌, ◌≤◌, Bool, true, false, not, ◌||◌, Option, Some, None, List, [], ◌∷◌, ◌++◌, length, nat_lt, map, refl, sym, ◌∙◌, ap, subst, arith}
-use Rattle.std.specs.Prelude.{cond, option_map, unwrap_or, position}
+use Rattle.std.proofs.Common.{◌≡◌, ℕ, suc, ◌+◌, ◌<◌, ◌≤◌, Bool, true, false, not, ◌||◌, Option, Some, None, List, [], ◌∷◌, ◌++◌, length, nat_lt, map, refl, sym, ap, subst, arith}
+use Rattle.std.specs.Prelude.{cond, option_map, unwrap_or}
 use Rattle.std.specs.List.{AllByRecursion, list_any, position_or_len}
 use Rattle.std.proofs.lemmas.Bool.Decides.{nat_tests}
 use Rattle.std.proofs.lemmas.List.Elements.{All-from_recursion}
@@ -29,7 +29,7 @@ not-none false is = absurd cc
 place-found : (p : List ℕ → Bool) (names : List (List ℕ)) → list_any p names ≡ true → position_or_len p names < length names
 place-found p [] some = absurd cc
 place-found p (name ∷ names) some =
-    elim (p name) as (λ b. (b || list_any p names) ≡ true → cond (not b) (1 + position_or_len p names) 0 < length names + 1) [
+    elim (p name) as (λ b. (b || list_any p names) ≡ true → cond (not b) (1 + position_or_len p names) 0 < suc (length names)) [
       | true ↦ λ passes. omega arith
       | false ↦ λ later. omega (arith, place-found p names later)
     ] some
