@@ -13,25 +13,52 @@ pub fn words_help(alloc: Global, words: &[String]) -> Result<HelpText, AllocErro
     Ok(help)
 }
 
-fn words_hint(words: &[String]) -> Option<Hint<'_>> {
-    match words {
-        [] => Some(Hint::Plain(b"type RUN and the folder of the library")),
-        [command, others @ ..] => {
-            if command.as_bytes() == b"RUN".as_slice() {
-                folder_hint(others)
-            } else if is_in_small_letters(command.as_bytes(), b"RUN") {
-                Some(Hint::Plain(b"RUN has capital letters"))
-            } else {
-                Some(Hint::Word(b"the first word is RUN, and not ", command.as_bytes(), b""))
-            }
-        }
+/// The commands that are there so far.
+#[derive(Clone, Copy)]
+enum Command {
+    Run,
+    Serial,
+}
+
+/// The command that a word is.
+fn command_of(word: &[u8]) -> Option<Command> {
+    if word == b"RUN".as_slice() {
+        Some(Command::Run)
+    } else if word == b"SERIAL".as_slice() {
+        Some(Command::Serial)
+    } else {
+        None
     }
 }
 
-/// What is wrong with the words after RUN.
-fn folder_hint(words: &[String]) -> Option<Hint<'_>> {
+fn words_hint(words: &[String]) -> Option<Hint<'_>> {
     match words {
-        [] => Some(Hint::Plain(b"type the folder of the library after RUN")),
+        [] => Some(Hint::Plain(b"type RUN or SERIAL, and the folder of the library")),
+        [first, others @ ..] => match command_of(first.as_bytes()) {
+            Some(command) => folder_hint(command, others),
+            None => Some(command_hint(first.as_bytes())),
+        },
+    }
+}
+
+/// What is wrong with a first word that is no command.
+fn command_hint(word: &[u8]) -> Hint<'_> {
+    if is_in_small_letters(word, b"RUN") {
+        Hint::Plain(b"RUN has capital letters")
+    } else if is_in_small_letters(word, b"SERIAL") {
+        Hint::Plain(b"SERIAL has capital letters")
+    } else {
+        Hint::Word(b"the first word is RUN or SERIAL, and not ", word, b"")
+    }
+}
+
+/// What is wrong with the words after the command.
+fn folder_hint(command: Command, words: &[String]) -> Option<Hint<'_>> {
+    match words {
+        [] => Some(match command {
+            Command::Run => Hint::Plain(b"type the folder of the library after RUN"),
+            Command::Serial => Hint::Plain(b"type the folder of the library after SERIAL"),
+        }),
         [folder] => match folder.as_bytes() {
             [] => Some(Hint::Plain(b"the folder's name is empty")),
             [b'-', ..] => Some(Hint::Word(
@@ -42,7 +69,7 @@ fn folder_hint(words: &[String]) -> Option<Hint<'_>> {
             [_, ..] => None,
         },
         [_, word, ..] => Some(Hint::Word(
-            b"one word follows RUN; put apostrophes around a name with blanks, or take out ",
+            b"one word follows the command; put apostrophes around a name with blanks, or take out ",
             word.as_bytes(),
             b"",
         )),
@@ -56,7 +83,7 @@ pub fn terminal_help(alloc: Global) -> Result<HelpText, AllocError> {
         b"the input is read from the terminal: type it, //END as its last line, and then Ctrl-D",
     ))?;
     help.push_hint(&Hint::Plain(
-        b"to run an input that is in a file, type ibmi RUN folder < file",
+        b"to run an input that is in a file, type ibmi RUN folder < file, or SERIAL in place of RUN",
     ))?;
     Ok(help)
 }

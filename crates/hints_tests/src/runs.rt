@@ -58,10 +58,21 @@ fn ended_jobs(rt: HostRuntime) -> Result<(), Fail> {
 
 /// Words, and the help.
 const WORDS: &[(&[&str], &str)] = &[
-    (&[], "hint: type RUN and the folder of the library\n"),
+    (&[], "hint: type RUN or SERIAL, and the folder of the library\n"),
     (&["RUN"], "hint: type the folder of the library after RUN\n"),
+    (
+        &["SERIAL"],
+        "hint: type the folder of the library after SERIAL\n",
+    ),
     (&["run", "lib"], "hint: RUN has capital letters\n"),
-    (&["lib"], "hint: the first word is RUN, and not lib\n"),
+    (
+        &["Serial", "lib"],
+        "hint: SERIAL has capital letters\n",
+    ),
+    (
+        &["lib"],
+        "hint: the first word is RUN or SERIAL, and not lib\n",
+    ),
     (&["RUN", ""], "hint: the folder's name is empty\n"),
     (
         &["RUN", "-v"],
@@ -69,9 +80,10 @@ const WORDS: &[(&[&str], &str)] = &[
     ),
     (
         &["RUN", "my", "lib"],
-        "hint: one word follows RUN; put apostrophes around a name with blanks, or take out lib\n",
+        "hint: one word follows the command; put apostrophes around a name with blanks, or take out lib\n",
     ),
     (&["RUN", "lib"], ""),
+    (&["SERIAL", "lib"], ""),
 ];
 
 fn strings(alloc: Global, words: &[&str]) -> Result<Vec<String>, AllocError> {
@@ -104,7 +116,7 @@ fn words(rt: HostRuntime) -> Result<(), Fail> {
 fn terminal(rt: HostRuntime) -> Result<(), Fail> {
     let help = terminal_help(rt.alloc())?;
     let wanted =
-        "hint: the input is read from the terminal: type it, //END as its last line, and then Ctrl-D\nhint: to run an input that is in a file, type ibmi RUN folder < file\n";
+        "hint: the input is read from the terminal: type it, //END as its last line, and then Ctrl-D\nhint: to run an input that is in a file, type ibmi RUN folder < file, or SERIAL in place of RUN\n";
     assert_eq!(rt; help.as_bytes(), wanted.as_bytes());
     Ok(())
 }

@@ -1,4 +1,4 @@
-//! `ibmi RUN folder`: runs the jobs of an input and prints every call with its reply.
+//! `ibmi RUN folder` and `ibmi SERIAL folder`: run the jobs of an input and print every call with its reply.
 //! The run itself stands in the crate `ibmi_batch`, the real source, sink and clock in the crate `outside`.
 #![tactic(auto)]
 
@@ -7,8 +7,9 @@ mod kept;
 
 use crate::help::{Remains, say_help, say_terminal_help};
 use crate::kept::{KeptSink, KeptSource};
-use ibmi_batch::batch::program;
+use ibmi_batch::batch::{program, program_alone};
 use ibmi_batch::status::Status;
+use ibmi_batch::words::are_run_words;
 use outside::{StandardInput, StandardOutput, SystemClock};
 use std::io::{ErrorKind, IsTerminal};
 use std::process::ExitCode;
@@ -32,16 +33,29 @@ fn main(rt: HostRuntime) -> ExitCode {
     }
     let mut input = KeptSource::new(rt.alloc(), StandardInput::new(reader));
     let mut output = KeptSink::new(rt.alloc(), StandardOutput::new(io::writer(&rt)));
-    let (status, _store, _clock) = program(
-        &rt,
-        rt.alloc(),
-        words.as_slice(),
-        MemoryStore::new(rt.alloc()),
-        &mut input,
-        &mut output,
-        SystemClock::new(clock),
-        &OpenGate,
-    );
+    let store = MemoryStore::new(rt.alloc());
+    let clock = SystemClock::new(clock);
+    let (status, _store, _clock) = if are_run_words(words.as_slice()) {
+        program(
+            &rt,
+            rt.alloc(),
+            words.as_slice(),
+            store,
+            &mut input,
+            &mut output,
+            clock,
+            &OpenGate,
+        )
+    } else {
+        program_alone(
+            rt.alloc(),
+            words.as_slice(),
+            store,
+            &mut input,
+            &mut output,
+            clock,
+        )
+    };
     let code = end(&rt, status);
     let remains = Remains {
         words: words.as_slice(),
@@ -66,7 +80,7 @@ fn end(rt: &impl Eprint, status: Status) -> ExitCode {
     match status {
         Status::Done => {}
         Status::Words => {
-            let _ = eprintln!(rt; "{status}\nusage: ibmi RUN folder < input");
+            let _ = eprintln!(rt; "{status}\nusage: ibmi RUN folder < input, or ibmi SERIAL folder < input");
         }
         _ => {
             let _ = eprintln!(rt; "{status}");

@@ -1,5 +1,5 @@
 -- What a run comes to: from a session that begins, and from words or an input that begin none.
-use Rattle.std.proofs.Common.{◌≡◌, ℕ, ◌≤◌, IsTrue, List, [], ◌++◌, length, map, ◌∙◌, ap, subst, arith}
+use Rattle.std.proofs.Common.{◌≡◌, ℕ, ◌≤◌, true, IsTrue, List, [], ◌++◌, length, map, ◌∙◌, ap, subst, arith}
 use Rattle.library_model.specs.declared.calls.Call.{Call}
 use Rattle.library_steps.specs.State.{State, empty_library, begun, new_job}
 use Rattle.library_steps.specs.History.{Standing}
@@ -11,6 +11,8 @@ use Rattle.job_runner.specs.Ended.{has_ended}
 use Rattle.job_runner.specs.Made.{AreGiven}
 use Rattle.job_runner.specs.Places.{BeginsJobs}
 use Rattle.job_runner.specs.Session.{SessionOver, HasMade}
+use Rattle.job_runner.specs.Turns.{AreInTurn}
+use Rattle.ibmi_batch.specs.Words.{are_serial_words}
 use Rattle.ibmi_batch.specs.declared.status.Status.{Status}
 use Rattle.ibmi_batch.specs.declared.status.Status.TheVariants.{Done, Words, ReadFault, TooLong, Script, NotALibrary, Damaged, StoreFault, WriteFault, NoMemory, JobsEnded, Exists}
 use Rattle.ibmi_batch.specs.Outcome.{Reading, Writing, IsWholeRun, Listed, NothingWritten, HasRun, WasRun, IsOutcome, Starts, Begins, Refuses}
@@ -23,8 +25,8 @@ stands-begun old new names stands begins = record {
 }
 
 -- all the calls of a session that began with none
-pub whole-run : {S C : Type 0} (gives : C → ℕ → C → Type 0) (first later : SessionOver S C) (made : List Call) → Starts first → first.calls ≡ [] → HasMade gives first later made → ((job : ℕ) → 1 ≤ job → job ≤ length later.scripts.scripts → IsTrue (has_ended job later.calls)) → IsWholeRun later.scripts later.calls
-whole-run gives first later made starts none has ended =
+pub whole-run : {S C : Type 0} (words : List (List ℕ)) (gives : C → ℕ → C → Type 0) (first later : SessionOver S C) (made : List Call) → Starts first → first.calls ≡ [] → HasMade gives first later made → ((job : ℕ) → 1 ≤ job → job ≤ length later.scripts.scripts → IsTrue (has_ended job later.calls)) → (are_serial_words words ≡ true → AreInTurn (length first.scripts.scripts) first.scripts.schedule first.calls made) → IsWholeRun words later.scripts later.calls
+whole-run words gives first later made starts none has ended order =
     let all : later.calls ≡ made = has.calls ∙ ap (λ (calls : List Call). calls ++ made) none in
     let led = has.legal (Standing (begun starts.start first.scripts.names)) starts.stands in
     rw (all, has.scripts) (record {
@@ -34,6 +36,7 @@ whole-run gives first later made starts none has ended =
       legal = led.1;
       asked = subst (λ (calls : List Call). AreAsked first.scripts.scripts calls made) none has.asked;
       ended = rw (all, has.scripts) at ended;
+      order = λ serial. subst (λ (calls : List Call). AreInTurn (length first.scripts.scripts) first.scripts.schedule calls made) none (order serial);
     })
 
 -- and their timestamps
@@ -43,30 +46,30 @@ given-all gives first later made none has =
     rw all has.given
 
 -- what is listed with timestamps of one kind is listed with timestamps of a wider kind
-listed-wider : (scripts : Scripts) (given wider : List Call → Type 0) (writing : Writing) (part : List Call → Type 0) → ((calls : List Call) → given calls → wider calls) → Listed scripts given writing part → Listed scripts wider writing part
-listed-wider scripts given wider writing part widens listed =
+listed-wider : (words : List (List ℕ)) (scripts : Scripts) (given wider : List Call → Type 0) (writing : Writing) (part : List Call → Type 0) → ((calls : List Call) → given calls → wider calls) → Listed words scripts given writing part → Listed words scripts wider writing part
+listed-wider words scripts given wider writing part widens listed =
     record { calls = listed.calls; run = listed.run; timestamps = widens listed.calls listed.timestamps; written = listed.written }
 
-pub HasRun-wider : (status : Status) (scripts : Scripts) (given wider : List Call → Type 0) (writing : Writing) → ((calls : List Call) → given calls → wider calls) → HasRun status scripts given writing → HasRun status scripts wider writing
-HasRun-wider Done scripts given wider writing widens ran = listed-wider scripts given wider writing _ widens ran
-HasRun-wider JobsEnded scripts given wider writing widens ran = listed-wider scripts given wider writing _ widens ran
-HasRun-wider WriteFault scripts given wider writing widens ran = (listed-wider scripts given wider writing _ widens ran.0, ran.1)
-HasRun-wider NoMemory scripts given wider writing widens ran = ran
-HasRun-wider Words scripts given wider writing widens ran = ran
-HasRun-wider ReadFault scripts given wider writing widens ran = ran
-HasRun-wider TooLong scripts given wider writing widens ran = ran
-HasRun-wider (Script line) scripts given wider writing widens ran = ran
-HasRun-wider NotALibrary scripts given wider writing widens ran = ran
-HasRun-wider (Damaged area at) scripts given wider writing widens ran = ran
-HasRun-wider StoreFault scripts given wider writing widens ran = ran
-HasRun-wider Exists scripts given wider writing widens ran = ran
+pub HasRun-wider : (status : Status) (words : List (List ℕ)) (scripts : Scripts) (given wider : List Call → Type 0) (writing : Writing) → ((calls : List Call) → given calls → wider calls) → HasRun status words scripts given writing → HasRun status words scripts wider writing
+HasRun-wider Done words scripts given wider writing widens ran = listed-wider words scripts given wider writing _ widens ran
+HasRun-wider JobsEnded words scripts given wider writing widens ran = listed-wider words scripts given wider writing _ widens ran
+HasRun-wider WriteFault words scripts given wider writing widens ran = (listed-wider words scripts given wider writing _ widens ran.0, ran.1)
+HasRun-wider NoMemory words scripts given wider writing widens ran = ran
+HasRun-wider Words words scripts given wider writing widens ran = ran
+HasRun-wider ReadFault words scripts given wider writing widens ran = ran
+HasRun-wider TooLong words scripts given wider writing widens ran = ran
+HasRun-wider (Script line) words scripts given wider writing widens ran = ran
+HasRun-wider NotALibrary words scripts given wider writing widens ran = ran
+HasRun-wider (Damaged area at) words scripts given wider writing widens ran = ran
+HasRun-wider StoreFault words scripts given wider writing widens ran = ran
+HasRun-wider Exists words scripts given wider writing widens ran = ran
 
 module _ {S C : Type 0} (reading : Reading) (store : S) (clock : C) (session : SessionOver S C) (given : List Call → Type 0) (writing : Writing) (begins : Begins reading store clock session) where
-  was-run : (status : Status) → HasRun status session.scripts given writing → WasRun status reading given writing
+  was-run : (status : Status) → HasRun status reading.words session.scripts given writing → WasRun status reading given writing
   was-run status ran = record { words = begins.words; left = begins.left; scripts = session.scripts; read = begins.read; ran = ran }
 
   -- a session that began has run
-  pub outcome-ran : (status : Status) → HasRun status session.scripts given writing → IsOutcome status reading given writing
+  pub outcome-ran : (status : Status) → HasRun status reading.words session.scripts given writing → IsOutcome status reading given writing
   outcome-ran Done ran = record { comes = was-run Done ran; complete = λ tells order. tt }
   outcome-ran JobsEnded ran = record { comes = was-run JobsEnded ran; complete = λ tells order. tt }
   outcome-ran WriteFault ran = record { comes = was-run WriteFault ran; complete = λ tells order. ran.1 }

@@ -1,4 +1,4 @@
--- What an outcome of the command RUN is, status by status: its cause, what was read, what the jobs did, and what was written. (Our own.)
+-- What an outcome of the commands RUN and SERIAL is, status by status: its cause, what was read, what the jobs did, and what was written. (Our own.)
 -- Sources and sinks may tell what they have left and taken; what the jobs did is said whether they tell it or not.
 use Rattle.std.specs.Prelude.{◌≡◌, ℕ, ◌<◌, ◌≤◌, Bool, true, false, IsTrue, Some, List, [], ◌++◌, length, take}
 use Rattle.text_lines.specs.Lines.{lines_of}
@@ -12,11 +12,12 @@ use Rattle.library_core.specs.Stands.{IsAt}
 use Rattle.job_runner.specs.Session.{SessionOver}
 use Rattle.job_runner.specs.Asked.{AreAsked}
 use Rattle.job_runner.specs.Ended.{has_ended, has_early_end}
+use Rattle.job_runner.specs.Turns.{AreInTurn}
 use Rattle.listing.specs.HistoryListing.{listing}
 use Rattle.ibmi_batch.specs.declared.limits.TheConstants.{MOST_INPUT}
 use Rattle.ibmi_batch.specs.declared.status.Status.{Status}
 use Rattle.ibmi_batch.specs.declared.status.Status.TheVariants.{Done, Words, ReadFault, TooLong, Script, NotALibrary, Damaged, StoreFault, WriteFault, NoMemory, JobsEnded, Exists}
-use Rattle.ibmi_batch.specs.Words.{are_run_words}
+use Rattle.ibmi_batch.specs.Words.{are_command_words, are_serial_words}
 
 -- what a command was given to read: the words, what the source had and has left, where it tells it, and whether it found a fault
 pub record Reading : Type 1 where
@@ -45,19 +46,21 @@ pub record IsRead (reading : Reading) (scripts : Scripts) : Type 0 where
   pub sound : faults_of (lines_of bytes) ≡ []
   pub says : scripts ≡ input_of (lines_of bytes)
 
--- from a start on, the calls are a legal history of the jobs of these scripts, in which each job's calls are all that its script asks
-pub record IsWholeRun (scripts : Scripts) (calls : List Call) : Type 0 where
+-- from a start on, the calls are a legal history of the jobs of these scripts, in which each job's calls are all that its script asks;
+-- where the words are those of SERIAL, the calls are made in turn by the schedule
+pub record IsWholeRun (words : List (List ℕ)) (scripts : Scripts) (calls : List Call) : Type 0 where
   pub start : State
   pub begins : IsStart start
   pub outcome : Outcome
   pub legal : Runs scripts.sources (Standing (begun start scripts.names)) calls outcome
   pub asked : AreAsked scripts.scripts [] calls
   pub ended : (job : ℕ) → 1 ≤ job → job ≤ length scripts.scripts → IsTrue (has_ended job calls)
+  pub order : are_serial_words words ≡ true → AreInTurn (length scripts.scripts) scripts.schedule [] calls
 
 -- such a history with timestamps that were given, and what was written of its listing: the whole, or its first part
-pub record Listed (scripts : Scripts) (given : List Call → Type 0) (writing : Writing) (part : List Call → Type 0) : Type 0 where
+pub record Listed (words : List (List ℕ)) (scripts : Scripts) (given : List Call → Type 0) (writing : Writing) (part : List Call → Type 0) : Type 0 where
   pub calls : List Call
-  pub run : IsWholeRun scripts calls
+  pub run : IsWholeRun words scripts calls
   pub timestamps : given calls
   pub written : part calls
 
@@ -74,36 +77,36 @@ abbrev pub NothingWritten : Writing → Type 0
 NothingWritten writing = writing.tells → writing.new ≡ writing.old
 
 -- what a session has done and written at a status that it can come to
-abbrev pub HasRun : Status → Scripts → (List Call → Type 0) → Writing → Type 0
-HasRun Done scripts given writing = Listed scripts given writing (IsListing scripts writing false)
-HasRun JobsEnded scripts given writing = Listed scripts given writing (IsListing scripts writing true)
-HasRun WriteFault scripts given writing = Listed scripts given writing (IsPart scripts writing) × writing.rose
-HasRun NoMemory scripts given writing = NothingWritten writing
-HasRun Words scripts given writing = ⊥
-HasRun ReadFault scripts given writing = ⊥
-HasRun TooLong scripts given writing = ⊥
-HasRun (Script line) scripts given writing = ⊥
-HasRun NotALibrary scripts given writing = ⊥
-HasRun (Damaged area at) scripts given writing = ⊥
-HasRun StoreFault scripts given writing = ⊥
-HasRun Exists scripts given writing = ⊥
+abbrev pub HasRun : Status → List (List ℕ) → Scripts → (List Call → Type 0) → Writing → Type 0
+HasRun Done words scripts given writing = Listed words scripts given writing (IsListing scripts writing false)
+HasRun JobsEnded words scripts given writing = Listed words scripts given writing (IsListing scripts writing true)
+HasRun WriteFault words scripts given writing = Listed words scripts given writing (IsPart scripts writing) × writing.rose
+HasRun NoMemory words scripts given writing = NothingWritten writing
+HasRun Words words scripts given writing = ⊥
+HasRun ReadFault words scripts given writing = ⊥
+HasRun TooLong words scripts given writing = ⊥
+HasRun (Script line) words scripts given writing = ⊥
+HasRun NotALibrary words scripts given writing = ⊥
+HasRun (Damaged area at) words scripts given writing = ⊥
+HasRun StoreFault words scripts given writing = ⊥
+HasRun Exists words scripts given writing = ⊥
 
--- the words were those of a run, the input was read to its end and has no line at fault, and the jobs of its scripts ran
+-- the words were those of a command, the input was read to its end and has no line at fault, and the jobs of its scripts ran
 pub record WasRun (status : Status) (reading : Reading) (given : List Call → Type 0) (writing : Writing) : Type 0 where
-  pub words : are_run_words reading.words ≡ true
+  pub words : are_command_words reading.words ≡ true
   pub left : reading.tells → reading.left ≡ []
   pub scripts : Scripts
   pub read : IsRead reading scripts
-  pub ran : HasRun status scripts given writing
+  pub ran : HasRun status reading.words scripts given writing
 
--- Words comes where the words are not those of a run; nothing is read or written
+-- Words comes where the words are not those of a command; nothing is read or written
 pub record WordsRefused (reading : Reading) (writing : Writing) : Type 0 where
-  pub words : are_run_words reading.words ≡ false
+  pub words : are_command_words reading.words ≡ false
   pub written : NothingWritten writing
 
--- the words were those of a run, and nothing was written; what the input was
+-- the words were those of a command, and nothing was written; what the input was
 pub record InputRefused (reading : Reading) (writing : Writing) (cause : Type 0) : Type 0 where
-  pub words : are_run_words reading.words ≡ true
+  pub words : are_command_words reading.words ≡ true
   pub written : NothingWritten writing
   pub why : cause
 
@@ -130,7 +133,7 @@ Comes Exists reading given writing = ⊥
 
 -- an input without a line at fault that isn't too long
 pub record IsInOrder (reading : Reading) : Type 0 where
-  pub words : are_run_words reading.words ≡ true
+  pub words : are_command_words reading.words ≡ true
   pub input : faults_of (lines_of reading.input) ≡ []
   pub short : length reading.input ≤ MOST_INPUT
 
@@ -149,7 +152,7 @@ IsOrderly (Damaged area at) reading writing = ⊥
 IsOrderly StoreFault reading writing = ⊥
 IsOrderly Exists reading writing = ⊥
 
--- The outcome of RUN: what has come about at the status, and that an input in order is run.
+-- The outcome of RUN and SERIAL: what has come about at the status, and that an input in order is run.
 pub record IsOutcome (status : Status) (reading : Reading) (given : List Call → Type 0) (writing : Writing) : Type 0 where
   pub comes : Comes status reading given writing
   pub complete : reading.tells → IsInOrder reading → IsOrderly status reading writing
@@ -162,7 +165,7 @@ pub record Starts {S C : Type 0} (session : SessionOver S C) : Type 0 where
 
 -- the session that words and an input begin: the jobs of its scripts, in order, over the library of the start
 pub record Begins {S C : Type 0} (reading : Reading) (store : S) (clock : C) (session : SessionOver S C) : Type 0 where
-  pub words : are_run_words reading.words ≡ true
+  pub words : are_command_words reading.words ≡ true
   pub left : reading.tells → reading.left ≡ []
   pub read : IsRead reading session.scripts
   pub starts : Starts session
@@ -172,11 +175,11 @@ pub record Begins {S C : Type 0} (reading : Reading) (store : S) (clock : C) (se
 
 -- why no session begins
 abbrev pub Refuses : Status → Reading → Type 0
-Refuses Words reading = are_run_words reading.words ≡ false
-Refuses ReadFault reading = (are_run_words reading.words ≡ true) × reading.rose
-Refuses TooLong reading = (are_run_words reading.words ≡ true) × (reading.tells → MOST_INPUT < length reading.input)
-Refuses (Script line) reading = (are_run_words reading.words ≡ true) × (reading.tells → ScriptRefused reading line) × (reading.tells → faults_of (lines_of reading.input) ≡ [] → ⊥)
-Refuses NoMemory reading = are_run_words reading.words ≡ true
+Refuses Words reading = are_command_words reading.words ≡ false
+Refuses ReadFault reading = (are_command_words reading.words ≡ true) × reading.rose
+Refuses TooLong reading = (are_command_words reading.words ≡ true) × (reading.tells → MOST_INPUT < length reading.input)
+Refuses (Script line) reading = (are_command_words reading.words ≡ true) × (reading.tells → ScriptRefused reading line) × (reading.tells → faults_of (lines_of reading.input) ≡ [] → ⊥)
+Refuses NoMemory reading = are_command_words reading.words ≡ true
 Refuses Done reading = ⊥
 Refuses JobsEnded reading = ⊥
 Refuses WriteFault reading = ⊥

@@ -6,4 +6,4 @@ pub mod limits;
 pub mod status;
 #[cfg(test)]
 mod tests;
-mod words;
+pub mod words;

@@ -1,4 +1,5 @@
 mod InputLemmas
 mod JobLemmas
 mod LeastLemmas
+mod ScheduleLemmas
 mod UnkeyedLemmas

@@ -7,6 +7,7 @@ ghost use Rattle.input_cards.specs.SectionTexts.{parts_in};
 ghost use Rattle.input_cards.specs.CardFaults.{card_faults, job_name, names_of};
 ghost use Rattle.input_reader.specs.Input.{faults_of, input_of, job_faults_in, scripts_by};
 ghost use Rattle.input_reader.specs.Ready.{AreReady};
+ghost use Rattle.input_scripts.specs.Schedules.{NamesJobs};
 ghost use Rattle.input_reader.specs.declared.input.InputError.TheVariants.{NoMemory};
 
 use crate::jobs::read_jobs;
@@ -45,6 +46,7 @@ pub fn read_input(alloc: Global, bytes: &[u8]) -> Result<Scripts, InputError>
     ensures fault { (line : ℕ) → result ≡ Err (InputError.Script line) → least (faults_of (lines_of bytes.now)) ≡ Some line }
     ensures accepted { faults_of (lines_of bytes.now) ≡ [] → IfErr result (λ e. e ≡ NoMemory) }
     ensures ready { IfOk result (λ scripts. AreReady scripts) }
+    ensures scheduled { IfOk result (λ scripts. NamesJobs (length scripts.scripts) scripts.schedule) }
 {
     let sections = input_cards::sections::sections(alloc, bytes)?;
     let sections = sections.as_slice();

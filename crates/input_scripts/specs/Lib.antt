@@ -1,1 +1,2 @@
 pub mod Askable
+pub mod Schedules

@@ -1,7 +1,7 @@
 //! What was read of an input: its sources, its jobs' names, their scripts, and the order of their calls.
 #![tactic(auto)]
 
-ghost use Rattle.std.specs.Prelude.{IsTrue};
+ghost use Rattle.std.specs.Prelude.{◌≡◌, IfOk, IsTrue};
 ghost use Rattle.job_language.specs.declared.statements.Script.{Script as ScriptValue};
 ghost use Rattle.input_scripts.specs.Askable.{is_askable_script, AsksWhatIsBuilt, EndsByItself};
 
@@ -9,6 +9,7 @@ use field_types::lists::ListOf;
 use field_types::names::Name;
 use job_language::statements::Script;
 use library_model::sources::Sources;
+use std::alloc::{AllocError, Global};
 
 /// The names of the jobs; job n has the n-th.
 pub type Names = ListOf<Name>;
@@ -26,6 +27,21 @@ pub enum Schedule {
     Jobs(JobNumbers),
     /// One call of each job in turn, until all have ended.
     RoundRobin,
+}
+
+impl Schedule {
+    /// The same schedule, in memory of its own.
+    pub fn copied(&self, alloc: Global) -> Result<Schedule, AllocError>
+        ensures { IfOk result (λ schedule. schedule ≡ self.now) }
+    {
+        match self {
+            Schedule::Jobs(turns) => {
+                let turns = Vec::from_slice(alloc, turns.as_slice())?;
+                Ok(Schedule::Jobs(JobNumbers::from_vec(turns)))
+            }
+            Schedule::RoundRobin => Ok(Schedule::RoundRobin),
+        }
+    }
 }
 
 /// What an input says.

@@ -3,3 +3,4 @@ pub mod Ended
 pub mod Session
 pub mod Made
 pub mod Places
+pub mod Turns

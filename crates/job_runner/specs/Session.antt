@@ -1,5 +1,5 @@
 -- What a session is, and what a session has become of one: a library, a clock, the scripts of its jobs, and the calls that they have made.
-use Rattle.std.specs.Prelude.{◌≡◌, ℕ, ◌+◌, ◌-◌, if◌then◌else◌, List, ◌++◌, length}
+use Rattle.std.specs.Prelude.{◌≡◌, ℕ, zero, suc, ◌+◌, ◌-◌, if◌then◌else◌, List, ◌++◌, length}
 use Rattle.library_model.specs.declared.calls.Call.{Call}
 use Rattle.library_steps.specs.History.{Outcome, Runs}
 use Rattle.library_core.specs.Parts.{LibraryOver}
@@ -29,3 +29,8 @@ pub record HasMade {S C : Type 0} (gives : C → ℕ → C → Type 0) (first la
 -- how many calls a job may still make: each of its statements makes one at most, and then it makes its ENDJOB
 abbrev pub remaining : ℕ → List Call → ℕ
 remaining job calls = if has_ended job calls then 0 else MOST_STATEMENTS + 1 - length (calls_of job calls)
+
+-- how many calls all of so many jobs may still make
+abbrev pub all_remaining : (jobs : ℕ) → List Call → ℕ
+all_remaining zero calls = 0
+all_remaining (suc jobs) calls = remaining (suc jobs) calls + all_remaining jobs calls

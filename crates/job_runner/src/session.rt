@@ -1,5 +1,5 @@
 //! A session: a library, the scripts of its jobs, and the history of their calls.
-ghost use Rattle.std.specs.Prelude.{◌≡◌, ◌≢◌, ℕ, List, Option, ◌+◌, ◌<◌, ◌≤◌, ◌↔◌, [], ◌∷◌, length, map, true, false, IsTrue, IfOk, IfErr, OnOk, IsErr, option_copied};
+ghost use Rattle.std.specs.Prelude.{◌≡◌, ◌≢◌, ℕ, List, Option, ◌+◌, ◌<◌, ◌≤◌, ◌↔◌, [], ◌∷◌, ◌++◌, length, map, true, false, IsTrue, IfOk, IfErr, OnOk, IsErr, option_copied};
 ghost use Rattle.std.specs.List.{list_all};
 ghost use Rattle.library_model.specs.declared.limits.TheConstants.{MOST_JOBS};
 ghost use Rattle.library_model.specs.declared.calls.Call.{Call};
@@ -12,14 +12,15 @@ ghost use Rattle.library_model.specs.Ending.{is_end_job};
 ghost use Rattle.job_runner.specs.declared.session.Stepped.TheVariants.{Called, Ended, Stopped};
 ghost use Rattle.job_runner.specs.declared.session.Stepped.TheVariants as stepped;
 ghost use Rattle.job_runner.specs.Ended.{calls_of, replies_of, has_ended};
-ghost use Rattle.job_runner.specs.Made.{AreInOrder, AreOf};
+ghost use Rattle.job_runner.specs.Turns.{AreByTurns, AreInRound, AreInTurn};
 ghost use Rattle.input_scripts.specs.Askable.{is_askable_script};
-ghost use Rattle.job_runner.specs.Session.{HasMade, remaining};
+ghost use Rattle.input_scripts.specs.Schedules.{AreJobs, NamesJobs};
+ghost use Rattle.job_runner.specs.Session.{HasMade, remaining, all_remaining};
 ghost use Rattle.job_runner.specs.Asked.{asked, script_of, LeavesRunning};
 ghost use Rattle.job_runner.specs.Places.{IsWaiting, GoesOn, HasAsked, first_place, BeginsJobs};
 
 use field_types::names::Name;
-use input_scripts::{ScriptList, Scripts};
+use input_scripts::{Schedule, ScriptList, Scripts};
 use job_history::history::History;
 use job_language::progress::Progress;
 use job_language::statements::Script;
@@ -139,12 +140,46 @@ impl<S: Store, C: Clock> Session<S, C> {
         (library.into_store(), clock)
     }
 
-    /// Runs the jobs in order, each to its end.
-    pub fn run_in_order(&mut self) -> Ran
+    /// Runs each job to its end, the calls in the order that a schedule asks for. One without names runs the jobs in order.
+    pub fn run_serial(&mut self, schedule: &Schedule) -> Ran
+        requires scheduled { NamesJobs (length self.old.scripts.scripts) schedule.now }
         ensures done { result ≡ Ran.Done → (job : ℕ) → 1 ≤ job → job ≤ length self.new.scripts.scripts → IsTrue (has_ended job self.new.calls) }
         ensures unfinished { result ≢ Ran.Done → (job : ℕ) × (1 ≤ job) × (job ≤ length self.new.scripts.scripts) × (has_ended job self.new.calls ≡ false) }
         ensures stopped { result ≡ Ran.Stopped → self.new.library.failed ≡ true }
-        ensures made { (made : List Call) × HasMade C.gives self.old self.new made × AreInOrder made }
+        ensures made { (made : List Call) × HasMade C.gives self.old self.new made × AreInTurn (length self.old.scripts.scripts) schedule.now self.old.calls made }
+    {
+        match schedule {
+            Schedule::Jobs(turns) => self.run_by_turns(turns.as_slice()),
+            Schedule::RoundRobin => self.run_in_rounds(),
+        }
+    }
+
+    /// Makes a call of each of these jobs, and runs the jobs to their ends in order after that.
+    fn run_by_turns(&mut self, turns: &[u32]) -> Ran
+        requires scheduled { AreJobs (length self.old.scripts.scripts) turns.now }
+        ensures done { result ≡ Ran.Done → (job : ℕ) → 1 ≤ job → job ≤ length self.new.scripts.scripts → IsTrue (has_ended job self.new.calls) }
+        ensures unfinished { result ≢ Ran.Done → (job : ℕ) × (1 ≤ job) × (job ≤ length self.new.scripts.scripts) × (has_ended job self.new.calls ≡ false) }
+        ensures stopped { result ≡ Ran.Stopped → self.new.library.failed ≡ true }
+        ensures made { (made : List Call) × HasMade C.gives self.old self.new made × AreByTurns (length self.old.scripts.scripts) turns.now self.old.calls made }
+    {
+        for turn in turns {
+            match self.step_job(*turn) {
+                Stepped::Called => {}
+                // The turn of a job that has ended is passed over.
+                Stepped::Ended => {}
+                Stepped::Stopped => return Ran::Stopped,
+                Stepped::NoMemory => return Ran::NoMemory,
+            }
+        }
+        self.run_to_ends()
+    }
+
+    /// Runs the jobs in order, each to its end.
+    fn run_to_ends(&mut self) -> Ran
+        ensures done { result ≡ Ran.Done → (job : ℕ) → 1 ≤ job → job ≤ length self.new.scripts.scripts → IsTrue (has_ended job self.new.calls) }
+        ensures unfinished { result ≢ Ran.Done → (job : ℕ) × (1 ≤ job) × (job ≤ length self.new.scripts.scripts) × (has_ended job self.new.calls ≡ false) }
+        ensures stopped { result ≡ Ran.Stopped → self.new.library.failed ≡ true }
+        ensures made { (made : List Call) × HasMade C.gives self.old self.new made × AreByTurns (length self.old.scripts.scripts) [] self.old.calls made }
     {
         let jobs = self.jobs();
         for job in 0..jobs {
@@ -156,13 +191,14 @@ impl<S: Store, C: Clock> Session<S, C> {
         Ran::Done
     }
 
-    /// Runs a job to its end.
+    /// Runs a job to its end, those before it having ended.
     fn run_job(&mut self, job: u32) -> Ran
-        requires { (1 ≤ job) × (job ≤ length self.old.scripts.scripts) }
+        requires within { (1 ≤ job) × (job ≤ length self.old.scripts.scripts) }
+        requires earlier { (other : ℕ) → 1 ≤ other → other < job → IsTrue (has_ended other self.old.calls) }
         ensures done { result ≡ Ran.Done → IsTrue (has_ended job self.new.calls) }
         ensures unfinished { result ≢ Ran.Done → has_ended job self.new.calls ≡ false }
         ensures stopped { result ≡ Ran.Stopped → self.new.library.failed ≡ true }
-        ensures made { (made : List Call) × HasMade C.gives self.old self.new made × AreOf job made }
+        ensures made { (made : List Call) × HasMade C.gives self.old self.new made × AreByTurns (length self.old.scripts.scripts) [] self.old.calls made }
         ensures others { (other : ℕ) → other ≢ job → calls_of other self.new.calls ≡ calls_of other self.old.calls }
     {
         loop {
@@ -175,11 +211,60 @@ impl<S: Store, C: Clock> Session<S, C> {
         }
     }
 
+    /// Makes rounds until each job has ended.
+    fn run_in_rounds(&mut self) -> Ran
+        ensures done { result ≡ Ran.Done → (job : ℕ) → 1 ≤ job → job ≤ length self.new.scripts.scripts → IsTrue (has_ended job self.new.calls) }
+        ensures unfinished { result ≢ Ran.Done → (job : ℕ) × (1 ≤ job) × (job ≤ length self.new.scripts.scripts) × (has_ended job self.new.calls ≡ false) }
+        ensures stopped { result ≡ Ran.Stopped → self.new.library.failed ≡ true }
+        ensures made { (made : List Call) × HasMade C.gives self.old self.new made × AreInRound (length self.old.scripts.scripts) 0 self.old.calls made }
+    {
+        loop {
+            match self.make_round() {
+                Stepped::Called => {}
+                Stepped::Ended => return Ran::Done,
+                Stepped::Stopped => return Ran::Stopped,
+                Stepped::NoMemory => return Ran::NoMemory,
+            }
+        }
+    }
+
+    /// Makes a call of each job that has still to end, in order. `Ended`: there was none.
+    fn make_round(&mut self) -> Stepped
+        ensures ended { result ≡ Ended → (job : ℕ) → 1 ≤ job → job ≤ length self.new.scripts.scripts → IsTrue (has_ended job self.new.calls) }
+        ensures unfinished { result ≢ Ended → result ≢ Called → (job : ℕ) × (1 ≤ job) × (job ≤ length self.new.scripts.scripts) × (has_ended job self.new.calls ≡ false) }
+        ensures stopped { result ≡ Stopped → self.new.library.failed ≡ true }
+        ensures made { (made : List Call) × HasMade C.gives self.old self.new made × AreInRound (length self.old.scripts.scripts) 0 self.old.calls made × (result ≡ Called → (more : List Call) → AreInRound (length self.old.scripts.scripts) 0 self.new.calls more → AreInRound (length self.old.scripts.scripts) 0 self.old.calls (made ++ more)) }
+        ensures nearer { result ≡ Called → all_remaining (length self.old.scripts.scripts) self.new.calls < all_remaining (length self.old.scripts.scripts) self.old.calls }
+    {
+        let jobs = self.jobs();
+        let mut called = false;
+        for job in 0..jobs {
+            match self.step_job(job + 1) {
+                Stepped::Called => called = true,
+                Stepped::Ended => {}
+                Stepped::Stopped => return Stepped::Stopped,
+                Stepped::NoMemory => return Stepped::NoMemory,
+            }
+        }
+        if called {
+            Stepped::Called
+        } else {
+            Stepped::Ended
+        }
+    }
+
     /// The names of the jobs, in order of their numbers.
     pub fn names(&self) -> &[Name]
         ensures { result.now ≡ self.now.scripts.names }
     {
         self.scripts.names.as_slice()
+    }
+
+    /// The order of the calls that the scripts ask for.
+    pub fn schedule(&self) -> &Schedule
+        ensures { result.now ≡ self.now.scripts.schedule }
+    {
+        &self.scripts.schedule
     }
 
     /// How many jobs there are.

@@ -13,7 +13,7 @@ pub fn run<R: Files + AllocGlobal + Input + Print + Threads + Wait + Sync, C: Cl
     rt: &R,
     clock: C,
 ) -> io::Result<C> {
-    let words = words_of(rt.alloc(), &["RUN", "lib"])?;
+    let words = words_of(rt.alloc(), &["SERIAL", "lib"])?;
     let mut input = StandardInput::new(rt.reader());
     let mut output = StandardOutput::new(fs::create(rt, "listing")?);
     let (status, _store, clock) = program(

@@ -5,13 +5,13 @@ use Rattle.library_steps.specs.State.{empty_library}
 use Rattle.script_builder.specs.Least.{least}
 use Rattle.input_reader.specs.Input.{faults_of, input_of}
 use Rattle.ibmi_batch.specs.declared.limits.TheConstants.{MOST_INPUT}
-use Rattle.ibmi_batch.specs.Words.{are_run_words}
+use Rattle.ibmi_batch.specs.Words.{are_command_words}
 use Rattle.ibmi_batch.proofs.RunLemmas.{stands-begun}
 use Rattle.ibmi_batch.proofs.batch.begin.Goals as goal
 
 pub returns-in-Err-Script-clause-refused : goal.returns-in-Err-Script-clause-refused
 returns-in-Err-Script-clause-refused g c =
-    let words : are_run_words (map string_bytes c.args.words.now) ≡ true = search rules in
+    let words : are_command_words (map string_bytes c.args.words.now) ≡ true = search rules in
     let here = c.in-Err-Script.ensures.fault c.in-Err-Script.line (ap Err c.in-Err-Script.field-0-is) in (
       words,
       λ tells. record {
@@ -27,7 +27,7 @@ returns-in-Err-Script-clause-refused g c =
 
 pub returns-in-Ok-new-clause-begins : goal.returns-in-Ok-new-clause-begins
 returns-in-Ok-new-clause-begins g c =
-    let words : are_run_words (map string_bytes c.args.words.now) ≡ true = search rules in
+    let words : are_command_words (map string_bytes c.args.words.now) ≡ true = search rules in
     let begun = c.in-Ok-new.ensures.begun in
     record {
       words = words;
