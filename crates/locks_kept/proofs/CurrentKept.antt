@@ -1,5 +1,5 @@
 -- The current record of each open stands there and is locked by it, after whatever is done.
-use Rattle.std.proofs.Common.{◌≡◌, ◌≢◌, ◌⊎◌, inl, inr, ℕ, zero, suc, ◌+◌, ◌-◌, ◌≤◌, ◌==◌, ◌&&◌, ◌||◌, not, Bool, true, false, cond, if◌then◌else◌, IsSome, IfSome, filter, map, length, List, [], ◌∷◌, ◌++◌, Option, Some, None, is_some, unwrap_or, slice_get, refl, sym, ◌∙◌, ap, subst, arith}
+use Rattle.std.proofs.Common.{◌≡◌, ◌≢◌, ◌⊎◌, inl, inr, ℕ, ◌+◌, ◌-◌, ◌==◌, ◌&&◌, ◌||◌, not, Bool, true, false, if◌then◌else◌, IsSome, IfSome, map, List, [], ◌∷◌, ◌++◌, Option, Some, None, is_some, unwrap_or, slice_get, refl, sym, ◌∙◌, ap, subst, arith}
 use Rattle.std.specs.List.{AllByRecursion, list_any}
 use Rattle.std.proofs.lemmas.Bool.{cases_eq}
 use Rattle.std.proofs.lemmas.Bool.Decides.{nat_tests}
@@ -23,18 +23,18 @@ use Rattle.lock_table.specs.declared.lock.LockKind.{LockKind}
 use Rattle.lock_table.specs.declared.lock.Holder.{Holder}
 use Rattle.lock_table.specs.declared.lock.Reach.TheVariants.{Open, Boundary}
 use Rattle.lock_table.specs.declared.lock.RecordId.{RecordId}
-use Rattle.lock_table.specs.Lock.{blocks, is_open, is_by, is_on, is_update, is_change_lock, is_of_job, is_of_group, lock_by, update_kind}
+use Rattle.lock_table.specs.Lock.{blocks, is_open, is_by, is_on, is_update, is_change_lock, is_of_job, lock_by, update_kind}
 use Rattle.lock_table.specs.Table.{HoldsChange}
 use Rattle.lock_table.proofs.Rules.{gained-asked}
 use Rattle.lock_table.specs.Levels.{gained, released, locks_after}
 use Rattle.library_model.specs.Named.{Named, same_name}
-use Rattle.library_steps.specs.State.{State, Memory, OpenState, CycleState, JobState, job_of, job_changed, memory_of, with_entries, open_named, with_opens}
+use Rattle.library_steps.specs.State.{State, Memory, OpenState, CycleState, JobState, job_of, job_changed, memory_of, with_entries, with_opens}
 use Rattle.library_steps.specs.Change.{Change}
 use Rattle.library_steps.specs.Locking.{level_of, holder_of, record_of, is_committed, locks_left}
 use Rattle.library_steps.specs.Opens.{with_open, without_open}
 use Rattle.library_steps.specs.Reads.{open_changed}
 use Rattle.library_steps.specs.Records.{record_in, live_record}
-use Rattle.library_steps.specs.SlotChange.{slot_put, with_slot}
+use Rattle.library_steps.specs.SlotChange.{with_slot}
 use Rattle.library_steps.specs.ChangeRecord.{is_current, without_record}
 use Rattle.library_steps.specs.Commitment.{boundary_locks, taken_back, committed_open, at_boundary, rolled_back_open, without_cycle, with_level, changes_of}
 use Rattle.library_steps.specs.EndJob.{ended_job}
@@ -48,9 +48,9 @@ use Rattle.locks_kept.proofs.ChangeEffects.{IsPlace}
 use Rattle.locks_kept.proofs.CompatibleKept.{IsBoundary, boundary-asks, stands-of, current-of}
 use Rattle.locks_kept.proofs.Effects.{IsAround, IsOpening, IsClosing, IsUse, IsChange, IsEnd, IsCommit, IsTakingBack, changing, unread, slots_of, Effect, Around, Opening, Closing, Use, Writing, Updating, Deleting, Start, End, Committing, RollingBack, EndingJob}
 use Rattle.locks_kept.proofs.JobLemmas.{Runs, running-Runs, each-job}
-use Rattle.locks_kept.proofs.JobsKept.{changing-goes, none-committed}
+use Rattle.locks_kept.proofs.JobsKept.{none-committed}
 use Rattle.locks_kept.proofs.LockLists.{is_freed, not_true, each-there, after-any, after-gained}
-use Rattle.locks_kept.proofs.OpenLemmas.{all-weaker, all-both, all-each, all-append, all-filter, all-map, named-holds, same-number, other-number}
+use Rattle.locks_kept.proofs.OpenLemmas.{all-weaker, all-both, all-each, all-append, all-filter, all-map, same-number, other-number}
 use Rattle.locks_kept.proofs.RecordLocks.{Keeps, keeps-is, keeps-from, and-parts, some-each, is_on-same, update-alone, locked-alone, none-keeps}
 use Rattle.locks_kept.proofs.RecordLocks as numbers
 use Rattle.locks_kept.proofs.SlotLemmas.{live-within, put-live, put-here}

@@ -1,5 +1,5 @@
 -- What holds of a job alone stays so: that it is idle once it has ended, and that its opens are apart and under commitment control where it is.
-use Rattle.std.proofs.Common.{◌≡◌, ◌≢◌, ◌⊎◌, ℕ, ◌+◌, ◌-◌, ◌<◌, ◌≤◌, ◌||◌, ◌==◌, not, Bool, true, false, if◌then◌else◌, filter, map, List, [], ◌∷◌, ◌++◌, Option, Some, None, is_some, slice_get, refl, sym, ◌∙◌, ap, subst, arith}
+use Rattle.std.proofs.Common.{◌≡◌, ◌≢◌, ℕ, ◌+◌, ◌-◌, ◌≤◌, ◌||◌, ◌==◌, not, Bool, true, false, if◌then◌else◌, map, List, [], ◌∷◌, Some, None, is_some, slice_get, refl, sym, ◌∙◌, ap, subst, arith}
 use Rattle.std.specs.List.{AllByRecursion, list_any}
 use Rattle.std.proofs.lemmas.Cmp.{nat_list_eq_equiv}
 use Rattle.member_slots.specs.declared.slot.Slot.{Slot}
@@ -20,7 +20,7 @@ use Rattle.joint_state.specs.Cycles.{IsUnderControl}
 use Rattle.joint_state.specs.Joint.{IsIdle}
 use Rattle.joint_state.specs.Sound.{Does, after}
 use Rattle.locks_kept.proofs.AllEffects.{effect-of}
-use Rattle.locks_kept.proofs.Effects.{IsSameOpen, IsChange, in_cycle, changing, unread, Effect, Around, Opening, Closing, Use, Writing, Updating, Deleting, Start, End, Committing, RollingBack, EndingJob}
+use Rattle.locks_kept.proofs.Effects.{IsSameOpen, IsChange, changing, unread, Effect, Around, Opening, Closing, Use, Writing, Updating, Deleting, Start, End, Committing, RollingBack, EndingJob}
 use Rattle.locks_kept.proofs.JobLemmas.{Runs, running-Runs, each-job}
 use Rattle.locks_kept.proofs.OpenLemmas.{all-weaker, all-both, all-append, all-filter, all-map, named-holds, unnamed-differ, apart-map, apart-filter, apart-append}
 

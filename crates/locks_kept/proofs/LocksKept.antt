@@ -1,5 +1,5 @@
 -- Each lock stands on a place of its member, through an open of its job or kept by a job under commitment control, after whatever is done.
-use Rattle.std.proofs.Common.{◌≡◌, ◌≢◌, ◌⊎◌, inl, inr, ℕ, zero, suc, ◌+◌, ◌-◌, ◌≤◌, ◌==◌, ◌&&◌, ◌||◌, not, Bool, true, false, cond, if◌then◌else◌, IsSome, IfSome, filter, map, length, List, [], ◌∷◌, ◌++◌, Option, Some, None, is_some, slice_get, refl, sym, ◌∙◌, ap, subst, arith}
+use Rattle.std.proofs.Common.{◌≡◌, ◌≢◌, inl, inr, ℕ, zero, suc, ◌+◌, ◌-◌, ◌≤◌, ◌==◌, ◌&&◌, ◌||◌, not, Bool, true, false, cond, if◌then◌else◌, IsSome, IfSome, filter, map, length, List, [], ◌∷◌, ◌++◌, Option, Some, None, is_some, slice_get, refl, sym, ◌∙◌, ap, subst, arith}
 use Rattle.std.specs.List.{AllByRecursion, list_any}
 use Rattle.std.proofs.lemmas.Bool.{cases_eq}
 use Rattle.std.proofs.lemmas.Bool.Decides.{nat_tests}
@@ -9,30 +9,25 @@ use Rattle.entry_codec.specs.declared.entries.Entry.{Entry}
 use Rattle.member_slots.specs.declared.slot.Slot.{Slot}
 use Rattle.member_slots.specs.declared.slot.Slot.TheVariants.{Live, Deleted}
 use Rattle.member_slots.specs.Members.{member_at, member_of}
-use Rattle.file_catalogue.specs.Owners.{has_number}
 use Rattle.job_table.specs.Users.{HasBegun}
 use Rattle.lock_table.specs.declared.levels.Call.{Call}
 use Rattle.lock_table.specs.declared.levels.Call.TheVariants.{InputRead, UpdateRead, Update, Delete, Write, WriteAt, Unlock, Position, Close, Commit, Rollback, EndCommitment, EndJob}
 use Rattle.lock_table.specs.declared.levels.Wanted.{Wanted}
-use Rattle.lock_table.specs.declared.levels.OpenLocks.{OpenLocks}
 use Rattle.lock_table.specs.declared.levels.OpenLocks.TheVariants.{OfOpen, OfJob}
 use Rattle.lock_table.specs.declared.lock.Lock.{Lock}
-use Rattle.lock_table.specs.declared.lock.Holder.{Holder}
-use Rattle.lock_table.specs.declared.lock.RecordId.{RecordId}
-use Rattle.lock_table.specs.Lock.{is_open, is_by, is_in, is_boundary_in, is_of_open, is_of_job, is_of_group, lock_by}
+use Rattle.lock_table.specs.Lock.{is_open, is_by, is_of_open, is_of_job, is_of_group, lock_by}
 use Rattle.lock_table.specs.Levels.{asked, gained, released}
 use Rattle.lock_table.proofs.Rules.{gained-asked}
 use Rattle.library_model.specs.Named.{Named, named, same_name}
-use Rattle.library_steps.specs.State.{State, Memory, FileState, fields_of, file_named, OpenState, CycleState, JobState, job_at, job_of, job_changed, memory_of, with_entries, open_named, or_new, with_opens}
+use Rattle.library_steps.specs.State.{State, Memory, FileState, fields_of, file_named, OpenState, JobState, job_at, job_of, job_changed, memory_of, with_entries, open_named, or_new, with_opens}
 use Rattle.library_steps.specs.Change.{Change}
 use Rattle.library_steps.specs.Locking.{level_of, holder_of, record_of, is_committed, locks_left}
-use Rattle.library_steps.specs.Opens.{with_open, without_open, new_open}
+use Rattle.library_steps.specs.Opens.{with_open, without_open}
 use Rattle.library_steps.specs.Reads.{open_changed}
-use Rattle.library_steps.specs.Records.{live_record}
 use Rattle.library_steps.specs.ChangeRecord.{without_record}
 use Rattle.library_steps.specs.Commitment.{boundary_locks, taken_back, committed_open, rolled_back_open, without_cycle, with_level, changes_of}
 use Rattle.library_steps.specs.EndJob.{ended_job}
-use Rattle.library_steps.specs.Uses.{first_job, user_of, uses, has_open_over, has_changed, has_boundary_lock}
+use Rattle.library_steps.specs.Uses.{user_of}
 use Rattle.library_parts.specs.Lawful.{OpensMember, OpenHolds, OpensHold}
 use Rattle.library_parts.proofs.MemberLemmas.{IsThere-is_some}
 use Rattle.joint_state.specs.Locks.{LockStands, HasOpenOf, is_through}
@@ -41,12 +36,12 @@ use Rattle.locks_kept.proofs.AllEffects.{effect-of}
 use Rattle.locks_kept.proofs.ChangeEffects.{IsPlace, same-opens}
 use Rattle.locks_kept.proofs.CompatibleKept.{IsBoundary, boundary-asks, stands-of, current-of}
 use Rattle.locks_kept.proofs.Effects.{IsSameOpen, IsAround, IsClosing, IsChange, IsTakingBack, changing, unread, slots_of, Effect, Around, Opening, Closing, Use, Writing, Updating, Deleting, Start, End, Committing, RollingBack, EndingJob}
-use Rattle.locks_kept.proofs.JobLemmas.{Runs, running-Runs, job_at-place, job_of-own, job_of-other}
+use Rattle.locks_kept.proofs.JobLemmas.{Runs, running-Runs, job_of-own, job_of-other}
 use Rattle.locks_kept.proofs.JobsKept.{Goes, changing-goes, same-if, same-unread, same-without_record, same-committed, same-rolled_back}
-use Rattle.locks_kept.proofs.LockLists.{all-from, is_freed, not_true, or_true, each-there, any-none, after-all}
+use Rattle.locks_kept.proofs.LockLists.{all-from, is_freed, or_true, each-there, after-all}
 use Rattle.locks_kept.proofs.OpenEffects.{asks-nothing}
-use Rattle.locks_kept.proofs.OpenLemmas.{all-weaker, all-both, all-map, named-holds, same-named}
-use Rattle.locks_kept.proofs.RecordLocks.{same-number, and-parts, some-each}
+use Rattle.locks_kept.proofs.OpenLemmas.{all-weaker, all-both, named-holds, same-named}
+use Rattle.locks_kept.proofs.RecordLocks.{some-each}
 use Rattle.locks_kept.proofs.UserLemmas.{used-by}
 use Rattle.locks_kept.proofs.SlotLemmas.{live-within, put-grows, put-behind, taken_back-grows}
 

@@ -1,9 +1,9 @@
 -- What is known of an open that its job has under a name, and what changes of opens leave of how they are told apart.
-use Rattle.std.proofs.Common.{◌≡◌, ◌≢◌, ℕ, ◌+◌, ◌<◌, ◌≤◌, Bool, true, false, not, cond, filter, map, List, [], ◌∷◌, ◌++◌, Option, Some, None, refl, sym, ◌∙◌, ap, subst, arith}
+use Rattle.std.proofs.Common.{◌≡◌, ◌≢◌, ℕ, ◌<◌, Bool, true, false, cond, filter, map, List, [], ◌∷◌, ◌++◌, Some, None, refl, ap, subst, arith}
 use Rattle.std.specs.List.{AllByRecursion}
 use Rattle.std.proofs.lemmas.Cmp.{nat_list_eq_equiv}
 use Rattle.library_model.specs.Named.{Named, named, same_name}
-use Rattle.library_steps.specs.State.{OpenState, JobState}
+use Rattle.library_steps.specs.State.{OpenState}
 use Rattle.joint_state.specs.Opens.{IsBefore, AreApart}
 
 -- ---- what holds of each

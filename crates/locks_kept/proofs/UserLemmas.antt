@@ -1,12 +1,11 @@
 -- A member that no job uses has no open over it and no lock.
-use Rattle.std.proofs.Common.{◌≡◌, ◌⊎◌, inl, inr, ℕ, zero, suc, ◌+◌, ◌-◌, ◌<◌, ◌≤◌, ◌==◌, ◌&&◌, ◌||◌, not, Bool, true, false, if◌then◌else◌, length, List, [], ◌∷◌, Option, Some, None, slice_get, refl, sym, ◌∙◌, ap, subst, arith}
+use Rattle.std.proofs.Common.{◌≡◌, ℕ, zero, suc, ◌+◌, ◌-◌, ◌<◌, ◌==◌, ◌&&◌, ◌||◌, Bool, true, false, if◌then◌else◌, length, List, [], ◌∷◌, Some, None, slice_get, refl, sym, ◌∙◌, ap, subst, arith}
 use Rattle.std.specs.List.{list_any}
 use Rattle.std.proofs.lemmas.Bool.Decides.{nat_tests}
 use Rattle.job_table.specs.Users.{HasBegun}
 use Rattle.lock_table.specs.declared.lock.Lock.{Lock}
 use Rattle.lock_table.specs.Lock.{is_open, is_boundary_in}
-use Rattle.library_model.specs.Named.{Named}
-use Rattle.library_steps.specs.State.{Memory, OpenState, JobState, job_at, job_of, or_new}
+use Rattle.library_steps.specs.State.{Memory, OpenState, JobState, job_of, or_new}
 use Rattle.library_steps.specs.Uses.{first_job, user_of, uses, has_open_over, has_changed, has_boundary_lock}
 use Rattle.joint_state.specs.Locks.{LockStands, is_through}
 use Rattle.locks_kept.proofs.JobLemmas.{job_at-place}
