@@ -169,12 +169,13 @@ or_true false b h = h
 
 members-free : (m : Memory) (members : Named MemberStatus) → user_of_any members m ≡ None → AllByRecursion (λ e. user_of e.1.number m ≡ None) members
 members-free m [] free = tt
-members-free m (entry ∷ members) free =
-    (first_job-narrower (uses entry.1.number m.locks) (λ number job. list_any (λ e. uses e.1.number m.locks number job) (entry ∷ members))
-     (λ number job its. ap (λ b. b || list_any (λ e. uses e.1.number m.locks number job) members) its) 1 m.jobs free,
-     members-free m members (first_job-narrower (λ number job. list_any (λ e. uses e.1.number m.locks number job) members)
-     (λ number job. list_any (λ e. uses e.1.number m.locks number job) (entry ∷ members))
-     (λ number job its. or_true (uses entry.1.number m.locks number job) (list_any (λ e. uses e.1.number m.locks number job) members) its) 1 m.jobs free))
+members-free m (entry ∷ members) free = (
+  first_job-narrower (uses entry.1.number m.locks) (λ number job. list_any (λ e. uses e.1.number m.locks number job) (entry ∷ members))
+      (λ number job its. ap (λ b. b || list_any (λ e. uses e.1.number m.locks number job) members) its) 1 m.jobs free,
+  members-free m members (first_job-narrower (λ number job. list_any (λ e. uses e.1.number m.locks number job) members)
+      (λ number job. list_any (λ e. uses e.1.number m.locks number job) (entry ∷ members))
+      (λ number job its. or_true (uses entry.1.number m.locks number job) (list_any (λ e. uses e.1.number m.locks number job) members) its) 1 m.jobs free),
+)
 
 others-slots : (m : Memory) (entries : Named MemberStatus) (members : NumberedMembers) (number : ℕ) → AllByRecursion (λ e. user_of e.1.number m ≡ None) entries
     → (user_of number m ≡ None) ⊎ ((member_of number (without_members entries members)).slots ≡ (member_of number members).slots)

@@ -35,10 +35,11 @@ stands-behind first rrn slot slots stands =
 records-stand : (first : ℕ) (slots : List Slot) → AllByRecursion (λ pair. StandsFrom first slots pair.0) (records_from first slots)
 records-stand first [] = tt
 records-stand first (Live image ∷ slots) =
-    let here : (first - first) ≡ 0 = omega arith in
-    ((omega arith, subst (λ n. IsSome (record_in (slice_get (Live image ∷ slots) n))) (sym here) refl),
-     all-weaker (λ (pair : ℕ × List ℕ). StandsFrom (first + 1) slots pair.0) (λ pair. StandsFrom first (Live image ∷ slots) pair.0) (records_from (first + 1) slots)
-     (λ pair stands. stands-behind first pair.0 (Live image) slots stands) (records-stand (first + 1) slots))
+    let here : (first - first) ≡ 0 = omega arith in (
+      (omega arith, subst (λ n. IsSome (record_in (slice_get (Live image ∷ slots) n))) (sym here) refl),
+      all-weaker (λ (pair : ℕ × List ℕ). StandsFrom (first + 1) slots pair.0) (λ pair. StandsFrom first (Live image ∷ slots) pair.0) (records_from (first + 1) slots)
+          (λ pair stands. stands-behind first pair.0 (Live image) slots stands) (records-stand (first + 1) slots),
+    )
 records-stand first (Deleted ∷ slots) =
     all-weaker (λ (pair : ℕ × List ℕ). StandsFrom (first + 1) slots pair.0) (λ pair. StandsFrom first (Deleted ∷ slots) pair.0) (records_from (first + 1) slots)
     (λ pair stands. stands-behind first pair.0 Deleted slots stands) (records-stand (first + 1) slots)

@@ -147,8 +147,8 @@ module _ (m new : Memory) (job : ℕ) (runs : Runs m.jobs job (job_of job m)) (a
   change-alone opened call rrn slot change is same =
       each-job m new job (changing opened.commit is.cycle change) is.jobs runs (λ n j. IsSoAlone j)
       (alone-same (job_of job m) (changing opened.commit is.cycle change (job_of job m)) change
-       (changing-goes opened.commit is.cycle change (job_of job m) (λ none. named-holds (λ (o : OpenState). o.commit ≡ false) is.name (job_of job m).opens opened is.named (its.control.opens none)) same)
-       runs.goes_on its) others
+      (changing-goes opened.commit is.cycle change (job_of job m) (λ none. named-holds (λ (o : OpenState). o.commit ≡ false) is.name (job_of job m).opens opened is.named (its.control.opens none)) same)
+      runs.goes_on its) others
 
   pub alone-kept : Effect m job new → (place : ℕ) (j : JobState) → slice_get new.jobs place ≡ Some j → IsSoAlone j
   alone-kept (Around is) = λ place j at. all place j (ap (λ js. slice_get js place) (sym is.jobs) ∙ at)
@@ -158,8 +158,15 @@ module _ (m new : Memory) (job : ℕ) (runs : Runs m.jobs job (job_of job m)) (a
   alone-kept (Closing is) = each-job m new job (without_open is.name) is.jobs runs (λ n j. IsSoAlone j) (closing-alone is.name (job_of job m) runs.goes_on its) others
   alone-kept (Use is) =
       each-job m new job (open_changed is.opened.number is.change) is.jobs runs (λ n j. IsSoAlone j)
-      (alone-same (job_of job m) _ (λ o. if o.number == is.opened.number then is.change o else o) (record { ended = refl; level = refl; cycle = λ none was. was; opens = refl; opened = refl; same = λ o. same-if
-          (o.number == is.opened.number) is.change o (is.same o) }) runs.goes_on its) others
+      (alone-same (job_of job m) _ (λ o. if o.number == is.opened.number then is.change o else o) (record {
+        ended = refl;
+        level = refl;
+        cycle = λ none was. was;
+        opens = refl;
+        opened = refl;
+        same = λ o. same-if
+            (o.number == is.opened.number) is.change o (is.same o);
+      }) runs.goes_on its) others
   alone-kept (Writing is) = change-alone is.opened is.call is.rrn (Live is.image) (λ o. o) is.change (λ o. record { number = refl; member = refl; commit = refl })
   alone-kept (Updating is) = change-alone is.opened Update is.rrn (Live is.image) (unread is.opened.number) is.change (same-unread is.opened.number)
   alone-kept (Deleting is) = change-alone is.opened Delete is.rrn Deleted (without_record is.opened.member is.rrn) is.change (same-without_record is.opened.member is.rrn)

@@ -54,10 +54,11 @@ any-filter test spared (x ∷ xs) each some =
 -- each of a list is found in it by whatever test it passes
 pub each-there : {X : Type 0} (xs : List X) → AllByRecursion (λ x. (test : X → Bool) → test x ≡ true → list_any test xs ≡ true) xs
 each-there [] = tt
-each-there {X = X} (x ∷ xs) =
-    (λ test passes. ap (λ b. b || list_any test xs) passes,
-     all-weaker (λ y. (test : X → Bool) → test y ≡ true → list_any test xs ≡ true) (λ y. (test : X → Bool) → test y ≡ true → list_any test (x ∷ xs) ≡ true) xs
-     (λ y there test passes. or_true (test x) (list_any test xs) (there test passes)) (each-there xs))
+each-there {X = X} (x ∷ xs) = (
+  λ test passes. ap (λ b. b || list_any test xs) passes,
+  all-weaker (λ y. (test : X → Bool) → test y ≡ true → list_any test xs ≡ true) (λ y. (test : X → Bool) → test y ≡ true → list_any test (x ∷ xs) ≡ true) xs
+      (λ y there test passes. or_true (test x) (list_any test xs) (there test passes)) (each-there xs),
+)
 
 pub any-none : {X : Type 0} (test : X → Bool) (xs : List X) → list_any test xs ≡ false → AllByRecursion (λ x. test x ≡ false) xs
 any-none test [] none = tt
@@ -120,7 +121,7 @@ module _ (holder : Holder) (at : RecordId) (is_committed : ℕ → Bool) where
       let gone = released call level in
       with_wanted-all (gained call level) Q (without_open_locks gone.open_locks holder at is_committed (without_boundary_locks gone.boundary_locks holder.job held)) here
       (without_open-all gone.open_locks (λ l. P l × (gone.boundary_locks ≡ true → is_of_group holder.job l ≡ false)) Q (without_boundary_locks gone.boundary_locks holder.job held)
-       (λ l left was. each l left was.1 was.0) (without_boundary-all gone.boundary_locks P held all))
+      (λ l left was. each l left was.1 was.0) (without_boundary-all gone.boundary_locks P held all))
 
   -- ---- a lock that is left
 

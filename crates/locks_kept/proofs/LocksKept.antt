@@ -53,9 +53,9 @@ pub through-map : (lock : Lock) (change : OpenState → OpenState) → ((o : Ope
 through-map lock change same [] some = absurd cc
 through-map lock change same (entry ∷ opens) some =
     let it : is_through lock (change entry.1) ≡ is_through lock entry.1 =
-        λ i. ((same entry.1).number i == lock.opened) && ((same entry.1).member i == lock.at.member) in
+    λ i. ((same entry.1).number i == lock.opened) && ((same entry.1).member i == lock.at.member) in
     elim (is_through lock entry.1) as (λ b. is_through lock entry.1 ≡ b → (b || list_any (λ (e : List ℕ × OpenState). is_through lock e.1) opens) ≡ true
-        → (is_through lock (change entry.1) || list_any (λ (e : List ℕ × OpenState). is_through lock e.1) (map (λ e. (e.0, change e.1)) opens)) ≡ true) [
+    → (is_through lock (change entry.1) || list_any (λ (e : List ℕ × OpenState). is_through lock e.1) (map (λ e. (e.0, change e.1)) opens)) ≡ true) [
       | true ↦ λ e h. ap (λ b. b || list_any (λ (e : List ℕ × OpenState). is_through lock e.1) (map (λ e. (e.0, change e.1)) opens)) (it ∙ e)
       | false ↦ λ e h. or_true (is_through lock (change entry.1)) (list_any (λ (e : List ℕ × OpenState). is_through lock e.1) (map (λ e. (e.0, change e.1)) opens)) (through-map lock change same opens h)
     ] refl some
@@ -84,13 +84,13 @@ through-others : (lock : Lock) (name : List ℕ) (opened : OpenState) (opens : N
 through-others lock name opened [] all differ some = absurd cc
 through-others lock name opened (entry ∷ opens) all differ some =
     elim (same_name name entry.0) as (λ b. same_name name entry.0 ≡ b
-        → list_any (λ (e : List ℕ × OpenState). is_through lock e.1) (cond (not b) (entry ∷ filter (λ e. not (same_name name e.0)) opens) (filter (λ e. not (same_name name e.0)) opens)) ≡ true) [
+    → list_any (λ (e : List ℕ × OpenState). is_through lock e.1) (cond (not b) (entry ∷ filter (λ e. not (same_name name e.0)) opens) (filter (λ e. not (same_name name e.0)) opens)) ≡ true) [
       | true ↦ λ its. through-others lock name opened opens all.1 differ (rest (all.0 its))
       | false ↦ λ its. elim (is_through lock entry.1) as (λ b. (b || list_any (λ (e : List ℕ × OpenState). is_through lock e.1) opens) ≡ true
           → (b || list_any (λ (e : List ℕ × OpenState). is_through lock e.1) (filter (λ e. not (same_name name e.0)) opens)) ≡ true) [
-        | true ↦ λ h. refl
-        | false ↦ λ h. through-others lock name opened opens all.1 differ h
-      ] some
+            | true ↦ λ h. refl
+            | false ↦ λ h. through-others lock name opened opens all.1 differ h
+          ] some
     ] refl
   where
     not_through : entry.1 ≡ opened → is_through lock entry.1 ≡ false
@@ -98,6 +98,7 @@ through-others lock name opened (entry ∷ opens) all differ some =
         let number : entry.1.number ≡ opened.number = ap (λ (o : OpenState). o.number) is in
         let other : (entry.1.number == lock.opened) ≡ false = grind (arith, nat_tests, number, differ) in
         rw other refl
+
     rest : entry.1 ≡ opened → list_any (λ (e : List ℕ × OpenState). is_through lock e.1) opens ≡ true
     rest is = sym (ap (λ b. b || list_any (λ (e : List ℕ × OpenState). is_through lock e.1) opens) (not_through is)) ∙ some
 
@@ -224,6 +225,7 @@ module _ (s : State) (new : Memory) (job : ℕ) (sound : IsSound s) (runs : Runs
     where
       same-job : job_of l.job new ≡ job_of l.job m
       same-job = ap (λ js. or_new (job_at l.job js)) is.jobs
+
       in-use : user_of l.at.member m ≡ None → ⊥
       in-use free = used-by m l stands begun there free
 
@@ -231,7 +233,7 @@ module _ (s : State) (new : Memory) (job : ℕ) (sound : IsSound s) (runs : Runs
   around-stand is = all-both (λ (l : Lock). LockStands m l × HasBegun (length m.jobs) l.job) (λ l. (test : Lock → Bool) → test l ≡ true → list_any test m.locks ≡ true) (LockStands new) m.locks
       (λ l both there. used-stands is l both.0 both.1 there)
       (all-both (LockStands m) (λ l. HasBegun (length m.jobs) l.job) (λ l. LockStands m l × HasBegun (length m.jobs) l.job) m.locks (λ l one other. (one, other)) sound.joint.locks
-       (all-from (λ l. HasBegun (length m.jobs) l.job) m.locks sound.library.keepers))
+      (all-from (λ l. HasBegun (length m.jobs) l.job) m.locks sound.library.keepers))
       (each-there m.locks)
 
   -- ---- calls through an open
@@ -245,12 +247,13 @@ module _ (s : State) (new : Memory) (job : ℕ) (sound : IsSound s) (runs : Runs
       there = within.1;
       opened = λ ends. subst (λ (j : JobState). HasOpenOf j lock) (sym (job_of-own m new job change jobs runs))
           (subst (λ (opens : Named OpenState). list_any (λ (e : List ℕ × OpenState). is_through lock e.1) opens ≡ true) (sym goes.opens)
-           (through-map lock of_open goes.same its.opens (through-named lock name its.opens opened named (rw (same-self opened.number, same-self opened.member) refl))));
+          (through-map lock of_open goes.same its.opens (through-named lock name its.opens opened named (rw (same-self opened.number, same-self opened.member) refl))));
       started = λ kept. subst (λ (j : JobState). IsSome j.level) (sym (job_of-own m new job change jobs runs)) (subst (λ (l : Option Level). IsSome l) (sym goes.level) (level-started its opened (level kept)));
     }
       where
         lock : Lock
         lock = lock_by (holder_of job opened) (record_of opened rrn) wanted.kind wanted.reach
+
         same-self : (n : ℕ) → (n == n) ≡ true
         same-self n = grind (arith, nat_tests)
 
@@ -259,13 +262,13 @@ module _ (s : State) (new : Memory) (job : ℕ) (sound : IsSound s) (runs : Runs
     call-stands locks grows within =
         subst (AllByRecursion (LockStands new)) (sym locks)
         (after-all (holder_of job opened) (record_of opened rrn) (is_committed its) call (level_of its opened) (LockStands m) (LockStands new) m.locks
-         (λ l left spared stands. stands-after change jobs grows l
-          (λ same ends has. subst (λ (opens : Named OpenState). list_any (λ (e : List ℕ × OpenState). is_through l e.1) opens ≡ true) (sym goes.opens) (through-map l of_open goes.same its.opens has))
-          (λ same kept started. subst (λ (o : Option Level). IsSome o) (sym goes.level) started) stands)
-         (some-both (λ w. (1 ≤ rrn) × (rrn ≤ length (slots_of opened.member new))) (λ w. is_open w.reach ≡ false → IsSome (level_of its opened))
-          (λ w. LockStands new (lock_by (holder_of job opened) (record_of opened rrn) w.kind w.reach)) (gained call (level_of its opened)) (λ w bounds level. gains bounds w level)
-          (gained-asked (λ w. (1 ≤ rrn) × (rrn ≤ length (slots_of opened.member new))) call (level_of its opened) within) (kept-started call (level_of its opened)))
-         sound.joint.locks)
+        (λ l left spared stands. stands-after change jobs grows l
+        (λ same ends has. subst (λ (opens : Named OpenState). list_any (λ (e : List ℕ × OpenState). is_through l e.1) opens ≡ true) (sym goes.opens) (through-map l of_open goes.same its.opens has))
+        (λ same kept started. subst (λ (o : Option Level). IsSome o) (sym goes.level) started) stands)
+        (some-both (λ w. (1 ≤ rrn) × (rrn ≤ length (slots_of opened.member new))) (λ w. is_open w.reach ≡ false → IsSome (level_of its opened))
+        (λ w. LockStands new (lock_by (holder_of job opened) (record_of opened rrn) w.kind w.reach)) (gained call (level_of its opened)) (λ w bounds level. gains bounds w level)
+        (gained-asked (λ w. (1 ≤ rrn) × (rrn ≤ length (slots_of opened.member new))) call (level_of its opened) within) (kept-started call (level_of its opened)))
+        sound.joint.locks)
 
   same-slots : new.members ≡ m.members → (number : ℕ) → length (slots_of number m) ≤ length (slots_of number new)
   same-slots members number = let same : length (slots_of number new) ≡ length (slots_of number m) = ap (λ all. length (member_of number all).slots) members in omega (arith, same)
@@ -295,6 +298,7 @@ module _ (s : State) (new : Memory) (job : ℕ) (sound : IsSound s) (runs : Runs
     where
       all-at : (place : ℕ) → slice_get m.jobs place ≡ Some its → AllByRecursion (λ e. OpenHolds m.files e.1) its.opens
       all-at place at = at-place (OpensHold m.files) m.jobs place its at sound.library.opens
+
       by : (file : Option FileState) → file_named opened.file m ≡ file → OpensMember opened.member file → is_some (member_at opened.member m.members) ≡ true
       by None is h = absurd h
       by (Some file) is h = IsThere-is_some (fields_of file) (member_at opened.member m.members) (sound.library.members opened.file file opened.member (record { there = is; has = h }))
@@ -320,10 +324,10 @@ module _ (s : State) (new : Memory) (job : ℕ) (sound : IsSound s) (runs : Runs
   boundary-stands call is change of_open jobs opens same locks grows =
       subst (AllByRecursion (LockStands new)) (sym locks)
       (after-all (record { job = job; opened = 0 }) (record { member = 0; rrn = 0 }) (is_committed its) call its.level (LockStands m) (LockStands new) m.locks
-       (λ l left spared stands. stands-after change jobs grows l
-        (λ own ends has. subst (λ (all : Named OpenState). list_any (λ (e : List ℕ × OpenState). is_through l e.1) all ≡ true) (sym opens) (through-map l of_open same its.opens has))
-        (λ own kept started. absurd (not-left call is l spared own kept)) stands)
-       (boundary-gains call is _) sound.joint.locks)
+      (λ l left spared stands. stands-after change jobs grows l
+      (λ own ends has. subst (λ (all : Named OpenState). list_any (λ (e : List ℕ × OpenState). is_through l e.1) all ≡ true) (sym opens) (through-map l of_open same its.opens has))
+      (λ own kept started. absurd (not-left call is l spared own kept)) stands)
+      (boundary-gains call is _) sound.joint.locks)
 
   taken-longer : new.members ≡ (taken_back (changes_of its.cycle) m).members → (number : ℕ) → length (slots_of number m) ≤ length (slots_of number new)
   taken-longer members number =
@@ -335,10 +339,10 @@ module _ (s : State) (new : Memory) (job : ℕ) (sound : IsSound s) (runs : Runs
   ending-stands is =
       subst (AllByRecursion (LockStands new)) (sym is.locks)
       (after-all (record { job = job; opened = 0 }) (record { member = 0; rrn = 0 }) (is_committed its) EndJob its.level (LockStands m) (LockStands new) m.locks
-       (λ l left spared stands. stands-after ended_job is.jobs (taken-longer is.members) l
-        (λ own ends has. absurd (open-left l left own ends))
-        (λ own kept started. absurd (not-left EndJob tt l spared own kept)) stands)
-       (boundary-gains EndJob tt _) sound.joint.locks)
+      (λ l left spared stands. stands-after ended_job is.jobs (taken-longer is.members) l
+      (λ own ends has. absurd (open-left l left own ends))
+      (λ own kept started. absurd (not-left EndJob tt l spared own kept)) stands)
+      (boundary-gains EndJob tt _) sound.joint.locks)
     where
       open-left : (l : Lock) → is_freed (released EndJob its.level).open_locks (record { job = job; opened = 0 }) (record { member = 0; rrn = 0 }) (is_committed its) l ≡ false → l.job ≡ job → is_open l.reach ≡ true → ⊥
       open-left l left own ends =
@@ -352,18 +356,19 @@ module _ (s : State) (new : Memory) (job : ℕ) (sound : IsSound s) (runs : Runs
   closing-stands is =
       subst (AllByRecursion (LockStands new)) (sym is.locks)
       (after-all (holder_of job is.opened) (record_of is.opened 0) (is_committed its) Close (level_of its is.opened) (LockStands m) (LockStands new) m.locks
-       (λ l left spared stands. stands-after (without_open is.name) is.jobs (same-slots is.members) l
-        (λ own ends has. through-others l is.name is.opened its.opens (same-named is.name its.opens is.opened is.named (stands-of s job sound runs).opens.apart) (other l left own ends) has)
-        (λ own kept started. started) stands)
-       (gained-asked gains-nothing Close (level_of its is.opened) (subst (λ o. IfSome o gains-nothing) (sym (asks-nothing Close (level_of its is.opened) tt)) tt)) sound.joint.locks)
+      (λ l left spared stands. stands-after (without_open is.name) is.jobs (same-slots is.members) l
+      (λ own ends has. through-others l is.name is.opened its.opens (same-named is.name its.opens is.opened is.named (stands-of s job sound runs).opens.apart) (other l left own ends) has)
+      (λ own kept started. started) stands)
+      (gained-asked gains-nothing Close (level_of its is.opened) (subst (λ o. IfSome o gains-nothing) (sym (asks-nothing Close (level_of its is.opened) tt)) tt)) sound.joint.locks)
     where
       gains-nothing : Wanted → Type 0
       gains-nothing w = LockStands new (lock_by (holder_of job is.opened) (record_of is.opened 0) w.kind w.reach)
+
       other : (l : Lock) → is_freed (released Close (level_of its is.opened)).open_locks (holder_of job is.opened) (record_of is.opened 0) (is_committed its) l ≡ false → l.job ≡ job → is_open l.reach ≡ true
           → l.opened ≢ is.opened.number
       other l left own ends = λ same. (
           let none : is_of_open (holder_of job is.opened) l ≡ false =
-              sym (ap (λ which. is_freed which (holder_of job is.opened) (record_of is.opened 0) (is_committed its) l) (frees-open (level_of its is.opened))) ∙ left in
+          sym (ap (λ which. is_freed which (holder_of job is.opened) (record_of is.opened 0) (is_committed its) l) (frees-open (level_of its is.opened))) ∙ left in
           let number : (l.opened == is.opened.number) ≡ true = grind (arith, nat_tests, same) in
           let some : is_of_open (holder_of job is.opened) l ≡ true = rw (ends, by-job l own, number) refl in
           absurd cc)
@@ -398,6 +403,7 @@ module _ (s : State) (new : Memory) (job : ℕ) (sound : IsSound s) (runs : Runs
       write-first : IsPlace m job is.opened is.call is.rrn → 1 ≤ is.rrn
       write-first (inl next) = let at = next.1 in omega (arith, at)
       write-first (inr named) = named.1.first
+
       write-last : IsPlace m job is.opened is.call is.rrn → is.rrn ≤ length (slots_of is.opened.member m) + 1
       write-last (inl next) = let at = next.1 in omega (arith, at)
       write-last (inr named) = named.1.last

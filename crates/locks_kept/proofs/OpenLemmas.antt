@@ -64,14 +64,16 @@ same-number name [] opened is apart = tt
 same-number name (entry ∷ opens) opened is apart =
     elim (same_name name entry.0) as (λ b. cond b (Some entry.1) (named name opens) ≡ Some opened → AllByRecursion (λ e. e.1.number ≡ opened.number → e.1 ≡ opened) (entry ∷ opens)) [
       | true ↦ λ e. (
-          let here : entry.1 ≡ opened = cc in
-          (λ same. here, all-weaker (IsBefore entry) (λ e. e.1.number ≡ opened.number → e.1 ≡ opened) opens (λ later before same. absurd (
-          let numbers = before.numbers in
-          let number : entry.1.number ≡ opened.number = ap (λ (o : OpenState). o.number) here in
-          omega (arith, numbers, number, same))) apart.0))
+          let here : entry.1 ≡ opened = cc in (
+            λ same. here,
+            all-weaker (IsBefore entry) (λ e. e.1.number ≡ opened.number → e.1 ≡ opened) opens (λ later before same. absurd (
+                let numbers = before.numbers in
+                let number : entry.1.number ≡ opened.number = ap (λ (o : OpenState). o.number) here in
+                omega (arith, numbers, number, same))) apart.0,
+          ))
       | false ↦ λ e. (
           let later : entry.1.number < opened.number = named-holds (λ (o : OpenState). entry.1.number < o.number) name opens opened e
-              (all-weaker (IsBefore entry) (λ o. entry.1.number < o.1.number) opens (λ o before. before.numbers) apart.0) in
+          (all-weaker (IsBefore entry) (λ o. entry.1.number < o.1.number) opens (λ o before. before.numbers) apart.0) in
           (λ same. absurd (omega (arith, later, same)), same-number name opens opened e apart.1))
     ] is
 
@@ -82,10 +84,12 @@ same-named name [] opened is apart = tt
 same-named name (entry ∷ opens) opened is apart =
     elim (same_name name entry.0) as (λ b. same_name name entry.0 ≡ b → cond b (Some entry.1) (named name opens) ≡ Some opened → AllByRecursion (λ e. same_name name e.0 ≡ true → e.1 ≡ opened) (entry ∷ opens)) [
       | true ↦ λ its e. (
-          (λ same. (let here : entry.1 ≡ opened = cc in here)), all-weaker (IsBefore entry) (λ e. same_name name e.0 ≡ true → e.1 ≡ opened) opens (λ later before same. absurd (
-          let differ = before.names in
-          let both : same_name name later.0 ≡ same_name entry.0 later.0 = nat_list_eq_equiv.congr name entry.0 later.0 its in
-          cc)) apart.0)
+        (λ same. (let here : entry.1 ≡ opened = cc in here)),
+        all-weaker (IsBefore entry) (λ e. same_name name e.0 ≡ true → e.1 ≡ opened) opens (λ later before same. absurd (
+            let differ = before.names in
+            let both : same_name name later.0 ≡ same_name entry.0 later.0 = nat_list_eq_equiv.congr name entry.0 later.0 its in
+            cc)) apart.0,
+      )
       | false ↦ λ its e. ((λ same. absurd cc), same-named name opens opened e apart.1)
     ] refl is
 
@@ -95,30 +99,33 @@ pub other-number : (name : List ℕ) (opens : Named OpenState) (opened : OpenSta
 other-number name [] opened is apart = tt
 other-number name (entry ∷ opens) opened is apart =
     elim (same_name name entry.0) as (λ b. same_name name entry.0 ≡ b → cond b (Some entry.1) (named name opens) ≡ Some opened
-        → AllByRecursion (λ e. same_name name e.0 ≡ false → e.1.number ≢ opened.number) (entry ∷ opens)) [
+    → AllByRecursion (λ e. same_name name e.0 ≡ false → e.1.number ≢ opened.number) (entry ∷ opens)) [
       | true ↦ λ its e. (
           let here : entry.1 ≡ opened = cc in
-          let number : entry.1.number ≡ opened.number = ap (λ (o : OpenState). o.number) here in
-          (λ differ. absurd cc, all-weaker (IsBefore entry) (λ e. same_name name e.0 ≡ false → e.1.number ≢ opened.number) opens (λ later before differ same. (
-          let numbers = before.numbers in
-          absurd (omega (arith, numbers, number, same)))) apart.0))
+          let number : entry.1.number ≡ opened.number = ap (λ (o : OpenState). o.number) here in (
+            λ differ. absurd cc,
+            all-weaker (IsBefore entry) (λ e. same_name name e.0 ≡ false → e.1.number ≢ opened.number) opens (λ later before differ same. (
+                let numbers = before.numbers in
+                absurd (omega (arith, numbers, number, same)))) apart.0,
+          ))
       | false ↦ λ its e. (
           let later : entry.1.number < opened.number = named-holds (λ (o : OpenState). entry.1.number < o.number) name opens opened e
-              (all-weaker (IsBefore entry) (λ o. entry.1.number < o.1.number) opens (λ o before. before.numbers) apart.0) in
+          (all-weaker (IsBefore entry) (λ o. entry.1.number < o.1.number) opens (λ o before. before.numbers) apart.0) in
           (λ differ same. absurd (omega (arith, later, same)), other-number name opens opened e apart.1))
     ] refl is
 
 pub apart-map : (change : OpenState → OpenState) → ((opened : OpenState) → (change opened).number ≡ opened.number) → (opens : Named OpenState) → AreApart opens
     → AreApart (map (λ entry. (entry.0, change entry.1)) opens)
 apart-map change same [] apart = tt
-apart-map change same (entry ∷ opens) apart =
-    (all-map (IsBefore entry) (IsBefore (entry.0, change entry.1)) (λ e. (e.0, change e.1)) opens
-     (λ later before. (
-     let numbers = before.numbers in
-     let one : (change entry.1).number ≡ entry.1.number = same entry.1 in
-     let other : (change later.1).number ≡ later.1.number = same later.1 in
-     record { names = before.names; numbers = omega (arith, numbers, one, other) })) apart.0,
-     apart-map change same opens apart.1)
+apart-map change same (entry ∷ opens) apart = (
+  all-map (IsBefore entry) (IsBefore (entry.0, change entry.1)) (λ e. (e.0, change e.1)) opens
+      (λ later before. (
+      let numbers = before.numbers in
+      let one : (change entry.1).number ≡ entry.1.number = same entry.1 in
+      let other : (change later.1).number ≡ later.1.number = same later.1 in
+      record { names = before.names; numbers = omega (arith, numbers, one, other) })) apart.0,
+  apart-map change same opens apart.1,
+)
 
 pub apart-filter : (test : List ℕ × OpenState → Bool) (opens : Named OpenState) → AreApart opens → AreApart (filter test opens)
 apart-filter test [] apart = tt

@@ -53,6 +53,7 @@ keeps-is commit holder at l keeps = by (parts (is_on at l) (is_by holder.job l) 
     parts true true false d e h = absurd cc
     parts true false c d e h = absurd cc
     parts false b c d e h = absurd cc
+
     by : (is_on at l ≡ true) × (is_by holder.job l ≡ true) × ((l.opened == holder.opened) ≡ true) × (is_update l.kind ≡ true) × ((commit || is_open l.reach) ≡ true) → Keeps commit holder at l
     by p = record { at = is_on-same at l p.0; job = same-number l.job holder.job p.1; opened = same-number l.opened holder.opened p.2; update = p.3; reach = p.4 }
 
@@ -63,8 +64,10 @@ keeps-from commit holder at l keeps =
   where
     same : (a b : ℕ) → a ≡ b → (a == b) ≡ true
     same a b e = grind (arith, nat_tests, e)
+
     on : (x : RecordId) → ((x.member == x.member) && (x.rrn == x.rrn)) ≡ true
     on x = rw (same x.member x.member refl, same x.rrn x.rrn refl) refl
+
     join : (a b c d e : Bool) → a ≡ true → b ≡ true → c ≡ true → d ≡ true → e ≡ true → (a && b && c && d && e) ≡ true
     join true true true true true p q r s t = refl
     join true true true true false p q r s t = absurd cc
@@ -126,8 +129,10 @@ none-keeps job at held commit holder other alone locked =
   where
     same : (a b : ℕ) → a ≡ b → (a == b) ≡ true
     same a b e = grind (arith, nat_tests, e)
+
     on : (x : RecordId) → ((x.member == x.member) && (x.rrn == x.rrn)) ≡ true
     on x = rw (same x.member x.member refl, same x.rrn x.rrn refl) refl
+
     by : (b : Lock) × (keeps_record commit holder at b ≡ true) × ((kind : LockKind) → blocks job at kind b ≡ true → ⊥) → ⊥
     by w =
         let keeps = keeps-is commit holder at w.0 w.1 in

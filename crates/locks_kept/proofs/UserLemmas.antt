@@ -62,15 +62,20 @@ used-by m l stands begun there free = by (get-there m.jobs (l.job - 1) within)
   where
     within : l.job - 1 < length m.jobs
     within = let first = begun.first in let last = begun.last in omega (arith, first, last)
+
     back : l.job - 1 + 1 ≡ l.job
     back = let first = begun.first in omega (arith, first)
+
     same : (n : ℕ) → (n == n) ≡ true
     same n = grind (arith, nat_tests)
+
     through-over : (o : OpenState) → is_through l o ≡ true → (o.member == l.at.member) ≡ true
     through-over o through = (and-parts (o.number == l.opened) (o.member == l.at.member) through).1
+
     contrary : (a : Bool) → a ≡ true → a ≡ false → ⊥
     contrary true e h = absurd cc
     contrary false e h = absurd cc
+
     by : (job : JobState) × (slice_get m.jobs (l.job - 1) ≡ Some job) → ⊥
     by found =
         let unused = unused-job m l.at.member (l.job - 1) found.0 free found.1 in
@@ -78,7 +83,7 @@ used-by m l stands begun there free = by (get-there m.jobs (l.job - 1) within)
         elim (is_open l.reach) as (λ b. is_open l.reach ≡ b → ⊥) [
           | true ↦ λ ends. contrary (has_open_over l.at.member found.0)
               (any-wider (λ (e : List ℕ × OpenState). is_through l e.1) (λ e. e.1.member == l.at.member) found.0.opens (λ e through. through-over e.1 through)
-               (subst (λ (j : JobState). list_any (λ (e : List ℕ × OpenState). is_through l e.1) j.opens ≡ true) its (stands.opened ends))) unused.opens
+              (subst (λ (j : JobState). list_any (λ (e : List ℕ × OpenState). is_through l e.1) j.opens ≡ true) its (stands.opened ends))) unused.opens
           | false ↦ λ kept. contrary (has_boundary_lock l.at.member l.job m.locks)
               (there (λ lock. (lock.job == l.job) && is_boundary_in l.at.member lock) (rw (same l.job, same l.at.member, kept) refl)) (subst (λ n. has_boundary_lock l.at.member n m.locks ≡ false) back unused.locks)
         ] refl
