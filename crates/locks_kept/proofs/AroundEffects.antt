@@ -41,6 +41,7 @@ use Rattle.library_steps.specs.Ranges.{RangeWork, end_named, range_named, done_o
 use Rattle.library_parts.proofs.MemberLemmas.{item_at-put_item_other, item_at-put_item_same, item_at-with_item_other, item_at-without_item_other}
 use Rattle.locks_kept.proofs.Effects.{IsAround, Effect, Around, slots_of}
 use Rattle.locks_kept.proofs.RefusalLemmas.{Holds, each-holds, refuse_with-holds, then-holds, bind-holds, does-holds, wider-holds}
+use Rattle.locks_kept.proofs.TestLemmas.{or_true}
 
 abbrev pub Leaves : Memory → ℕ → Change → Type 0
 Leaves m job done = Effect m job done.memory
@@ -162,10 +163,6 @@ first_job-narrower one wide narrower number (job ∷ jobs) none =
         | false ↦ λ h. first_job-narrower one wide narrower (number + 1) jobs h
       ] none
     ] refl
-
-or_true : (a b : Bool) → b ≡ true → (a || b) ≡ true
-or_true true b h = refl
-or_true false b h = h
 
 members-free : (m : Memory) (members : Named MemberStatus) → user_of_any members m ≡ None → AllByRecursion (λ e. user_of e.1.number m ≡ None) members
 members-free m [] free = tt

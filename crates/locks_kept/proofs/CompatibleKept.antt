@@ -19,7 +19,8 @@ use Rattle.locks_kept.proofs.Effects.{Effect, Around, Opening, Closing, Use, Wri
 use Rattle.locks_kept.proofs.JobLemmas.{Runs, running-Runs}
 use Rattle.locks_kept.proofs.OpenEffects.{clashes-none}
 use Rattle.locks_kept.proofs.OpenLemmas.{named-holds}
-use Rattle.locks_kept.proofs.RecordLocks.{locked-free, behind-free, some-each, asked-free}
+use Rattle.locks_kept.proofs.RecordLocks.{locked-free, behind-free, asked-free}
+use Rattle.locks_kept.proofs.OptionLemmas.{some-each}
 
 -- what a running job stands on
 pub stands-of : (s : State) (job : ℕ) → IsSound s → Runs s.jobs job (job_of job (memory_of s)) → JobStands s job (job_of job (memory_of s))

@@ -1,5 +1,5 @@
 -- The current record of each open stands there and is locked by it, after whatever is done.
-use Rattle.std.proofs.Common.{◌≡◌, ◌≢◌, ◌⊎◌, inl, inr, ℕ, ◌+◌, ◌-◌, ◌==◌, ◌&&◌, ◌||◌, not, Bool, true, false, if◌then◌else◌, IsSome, IfSome, map, List, [], ◌∷◌, ◌++◌, Option, Some, None, is_some, unwrap_or, slice_get, refl, sym, ◌∙◌, ap, subst, arith}
+use Rattle.std.proofs.Common.{◌≡◌, ◌≢◌, ◌⊎◌, inl, inr, ℕ, ◌+◌, ◌-◌, ◌==◌, ◌&&◌, ◌||◌, not, Bool, true, false, if◌then◌else◌, IsSome, IfSome, map, List, [], ◌∷◌, ◌++◌, Option, Some, None, unwrap_or, slice_get, refl, sym, ◌∙◌, ap, subst, arith}
 use Rattle.std.specs.List.{AllByRecursion, list_any}
 use Rattle.std.proofs.lemmas.Bool.{cases_eq}
 use Rattle.std.proofs.lemmas.Bool.Decides.{nat_tests}
@@ -49,19 +49,14 @@ use Rattle.locks_kept.proofs.CompatibleKept.{IsBoundary, boundary-asks, stands-o
 use Rattle.locks_kept.proofs.Effects.{IsAround, IsOpening, IsClosing, IsUse, IsChange, IsEnd, IsCommit, IsTakingBack, changing, unread, slots_of, Effect, Around, Opening, Closing, Use, Writing, Updating, Deleting, Start, End, Committing, RollingBack, EndingJob}
 use Rattle.locks_kept.proofs.JobLemmas.{Runs, running-Runs, each-job}
 use Rattle.locks_kept.proofs.JobsKept.{none-committed}
-use Rattle.locks_kept.proofs.LockLists.{is_freed, not_true, each-there, after-any, after-gained}
-use Rattle.locks_kept.proofs.OpenLemmas.{all-weaker, all-both, all-each, all-append, all-filter, all-map, same-number, other-number}
-use Rattle.locks_kept.proofs.RecordLocks.{Keeps, keeps-is, keeps-from, and-parts, some-each, is_on-same, update-alone, locked-alone, none-keeps}
-use Rattle.locks_kept.proofs.RecordLocks as numbers
+use Rattle.locks_kept.proofs.LockLists.{is_freed, after-any, after-gained}
+use Rattle.locks_kept.proofs.OpenLemmas.{same-number, other-number}
+use Rattle.locks_kept.proofs.RecordLocks.{keeps-is, keeps-from, is_on-same, update-alone, locked-alone, none-keeps}
 use Rattle.locks_kept.proofs.SlotLemmas.{live-within, put-live, put-here}
 use Rattle.locks_kept.proofs.UserLemmas.{unused-job}
-
-and_false : (a : Bool) → (a && false) ≡ false
-and_false true = refl
-and_false false = refl
-
-differ-false : (a b : ℕ) → a ≢ b → (a == b) ≡ false
-differ-false a b differ = grind (arith, nat_tests, differ)
+use Rattle.locks_kept.proofs.ListLemmas.{all-append, all-both, all-each, all-filter, all-map, all-weaker, each-there, none-any}
+use Rattle.locks_kept.proofs.OptionLemmas.{is-there, some-each}
+use Rattle.locks_kept.proofs.TestLemmas.{and_false, differ-false, not_true, number-is}
 
 on-false : (at : RecordId) (l : Lock) → (l.at ≡ at → ⊥) → is_on at l ≡ false
 on-false at l differ = by (is_on at l) refl
@@ -240,11 +235,6 @@ end-frees (Some levels.Chg) = refl
 end-frees (Some levels.Cs) = refl
 end-frees (Some levels.All) = refl
 
--- an open that isn't under commitment control has no number of one that is
-none-any : {X : Type 0} (test : X → Bool) (xs : List X) → AllByRecursion (λ x. test x ≡ false) xs → list_any test xs ≡ false
-none-any test [] all = refl
-none-any test (x ∷ xs) all = rw all.0 (none-any test xs all.1)
-
 apart-committed : (opens : Named OpenState) → AreApart opens → AllByRecursion (λ e. e.1.commit ≡ false → list_any (λ o. (o.1.number == e.1.number) && o.1.commit) opens ≡ false) opens
 apart-committed [] apart = tt
 apart-committed (entry ∷ opens) apart = (
@@ -277,15 +267,11 @@ change-lock : (job : ℕ) (at : RecordId) (l : Lock) → is_change_lock job at l
 change-lock job at l is = by (is_on at l) (is_open l.reach) (is_by job l) (is_update l.kind) refl refl refl is
   where
     by : (a b c d : Bool) → is_on at l ≡ a → is_by job l ≡ c → is_update l.kind ≡ d → ((a && (not b && c)) && d) ≡ true → (l.job ≡ job) × (l.at ≡ at) × (is_update l.kind ≡ true)
-    by true false true true on own update h = (numbers.same-number l.job job own, is_on-same at l on, update)
+    by true false true true on own update h = (number-is l.job job own, is_on-same at l on, update)
     by true false true false on own update h = absurd cc
     by true false false d on own update h = absurd cc
     by true true c d on own update h = absurd cc
     by false b c d on own update h = absurd cc
-
-is-there : {A : Type 0} (o : Option A) → IsSome o → is_some o ≡ false → ⊥
-is-there None some none = absurd cc
-is-there (Some x) some none = absurd cc
 
 module _ (s : State) (new : Memory) (job : ℕ) (sound : IsSound s) (runs : Runs s.jobs job (job_of job (memory_of s))) where
   abbrev m : Memory
@@ -386,7 +372,7 @@ module _ (s : State) (new : Memory) (job : ℕ) (sound : IsSound s) (runs : Runs
   use-open : (is : IsUse m job new) (o : OpenState) → StandsIn m job o → (o.number ≡ is.opened.number → o ≡ is.opened) → StandsIn new job (if o.number == is.opened.number then is.change o else o)
   use-open is o stands alone =
       elim (o.number == is.opened.number) as (λ b. (o.number == is.opened.number) ≡ b → StandsIn new job (if b then is.change o else o)) [
-        | true ↦ λ e r current. use-read is o r (alone (numbers.same-number o.number is.opened.number e)) current
+        | true ↦ λ e r current. use-read is o r (alone (number-is o.number is.opened.number e)) current
         | false ↦ λ e r current. (
             let differ : o.number ≢ is.opened.number = grind (arith, nat_tests, e) in
             record {

@@ -18,7 +18,7 @@ use Rattle.file_model.specs.Sorting.{put_in_order, in_order}
 use Rattle.file_model.specs.Positions.{Reading, Position, arrival_entry, side_of, next_from, prior_from, next_equal, prior_equal, where_equal, chain_key, chain_number}
 use Rattle.library_steps.specs.State.{Memory, FileState, OpenState, fields_of}
 use Rattle.library_steps.specs.Records.{live_record, record_in, reading_of, reading_by, is_keyed}
-use Rattle.locks_kept.proofs.OpenLemmas.{all-append, all-filter, all-map, all-weaker}
+use Rattle.locks_kept.proofs.ListLemmas.{all-append, all-filter, all-map, all-weaker}
 
 -- ---- the records of a list of slots
 
@@ -49,8 +49,8 @@ records-stand first (Deleted ∷ slots) =
 abbrev pub Stands : ℕ → Memory → ℕ → Type 0
 Stands member m rrn = IsSome (live_record member rrn m)
 
-slot-at : (member : MemberState) (rrn : ℕ) → StandsFrom 1 member.slots rrn → IsSome (record_in (slot_at member rrn))
-slot-at member rrn stands =
+stands-at : (member : MemberState) (rrn : ℕ) → StandsFrom 1 member.slots rrn → IsSome (record_in (slot_at member rrn))
+stands-at member rrn stands =
     let first : 1 ≤ rrn = stands.0 in
     let some : (rrn == 0) ≡ false = grind (arith, nat_tests, first) in
     rw some stands.1
@@ -58,7 +58,7 @@ slot-at member rrn stands =
 records-live : (member : ℕ) (m : Memory) → AllByRecursion (λ pair. Stands member m pair.0) (records_from 1 (member_of member m.members).slots)
 records-live member m =
     all-weaker (λ (pair : ℕ × List ℕ). StandsFrom 1 (member_of member m.members).slots pair.0) (λ pair. Stands member m pair.0) (records_from 1 (member_of member m.members).slots)
-    (λ pair stands. slot-at (member_of member m.members) pair.0 stands) (records-stand 1 (member_of member m.members).slots)
+    (λ pair stands. stands-at (member_of member m.members) pair.0 stands) (records-stand 1 (member_of member m.members).slots)
 
 abbrev pub AreLive : ℕ → Memory → List PathEntry → Type 0
 AreLive member m entries = AllByRecursion (λ entry. Stands member m entry.rrn) entries
@@ -130,7 +130,3 @@ module _ {A : Type 0} (P : A → Type 0) where
 
   pub chain_number-holds : (reading : Reading A) (number : ℕ) → AllByRecursion P reading.items → IfSome (chain_number reading number) P
   chain_number-holds reading number all = find-holds (λ item. (reading.entry item).rrn == number) reading.items all
-
-pub some-holds : {A : Type 0} (P : A → Type 0) (thing : Option A) (x : A) → thing ≡ Some x → IfSome thing P → P x
-some-holds P None x is holds = absurd cc
-some-holds P (Some y) x is holds = let same : y ≡ x = cc in subst P same holds

@@ -22,7 +22,8 @@ use Rattle.joint_state.specs.Sound.{Does, after}
 use Rattle.locks_kept.proofs.AllEffects.{effect-of}
 use Rattle.locks_kept.proofs.Effects.{IsSameOpen, IsChange, changing, unread, Effect, Around, Opening, Closing, Use, Writing, Updating, Deleting, Start, End, Committing, RollingBack, EndingJob}
 use Rattle.locks_kept.proofs.JobLemmas.{Runs, running-Runs, each-job}
-use Rattle.locks_kept.proofs.OpenLemmas.{all-weaker, all-both, all-append, all-filter, all-map, named-holds, unnamed-differ, apart-map, apart-filter, apart-append}
+use Rattle.locks_kept.proofs.OpenLemmas.{named-holds, unnamed-differ, apart-map, apart-filter, apart-append}
+use Rattle.locks_kept.proofs.ListLemmas.{all-append, all-both, all-filter, all-map, all-weaker}
 
 pub record IsSoAlone (job : JobState) : Type 0 where
   pub idle : IsIdle job

@@ -1,5 +1,5 @@
 -- Each lock stands on a place of its member, through an open of its job or kept by a job under commitment control, after whatever is done.
-use Rattle.std.proofs.Common.{◌≡◌, ◌≢◌, inl, inr, ℕ, zero, suc, ◌+◌, ◌-◌, ◌≤◌, ◌==◌, ◌&&◌, ◌||◌, not, Bool, true, false, cond, if◌then◌else◌, IsSome, IfSome, filter, map, length, List, [], ◌∷◌, ◌++◌, Option, Some, None, is_some, slice_get, refl, sym, ◌∙◌, ap, subst, arith}
+use Rattle.std.proofs.Common.{◌≡◌, ◌≢◌, inl, inr, ℕ, ◌+◌, ◌-◌, ◌≤◌, ◌==◌, ◌&&◌, ◌||◌, not, Bool, true, false, cond, if◌then◌else◌, IsSome, IfSome, filter, map, length, List, [], ◌∷◌, ◌++◌, Option, Some, None, is_some, slice_get, refl, sym, ◌∙◌, ap, subst, arith}
 use Rattle.std.specs.List.{AllByRecursion, list_any}
 use Rattle.std.proofs.lemmas.Bool.{cases_eq}
 use Rattle.std.proofs.lemmas.Bool.Decides.{nat_tests}
@@ -38,12 +38,14 @@ use Rattle.locks_kept.proofs.CompatibleKept.{IsBoundary, boundary-asks, stands-o
 use Rattle.locks_kept.proofs.Effects.{IsSameOpen, IsAround, IsClosing, IsChange, IsTakingBack, changing, unread, slots_of, Effect, Around, Opening, Closing, Use, Writing, Updating, Deleting, Start, End, Committing, RollingBack, EndingJob}
 use Rattle.locks_kept.proofs.JobLemmas.{Runs, running-Runs, job_of-own, job_of-other}
 use Rattle.locks_kept.proofs.JobsKept.{Goes, changing-goes, same-if, same-unread, same-without_record, same-committed, same-rolled_back}
-use Rattle.locks_kept.proofs.LockLists.{all-from, is_freed, or_true, each-there, after-all}
+use Rattle.locks_kept.proofs.LockLists.{is_freed, after-all}
 use Rattle.locks_kept.proofs.OpenEffects.{asks-nothing}
-use Rattle.locks_kept.proofs.OpenLemmas.{all-weaker, all-both, named-holds, same-named}
-use Rattle.locks_kept.proofs.RecordLocks.{some-each}
+use Rattle.locks_kept.proofs.OpenLemmas.{named-holds, same-named}
 use Rattle.locks_kept.proofs.UserLemmas.{used-by}
 use Rattle.locks_kept.proofs.SlotLemmas.{live-within, put-grows, put-behind, taken_back-grows}
+use Rattle.locks_kept.proofs.ListLemmas.{all-both, all-from, all-weaker, at-place, each-there}
+use Rattle.locks_kept.proofs.OptionLemmas.{some-both, some-each}
+use Rattle.locks_kept.proofs.TestLemmas.{number-same, or_true}
 
 -- ---- opens through which locks are held
 
@@ -124,10 +126,6 @@ kept-started Rollback None = tt
 kept-started EndCommitment None = tt
 kept-started EndJob None = tt
 
-some-both : {A : Type 0} (P Q R : A → Type 0) (o : Option A) → ((a : A) → P a → Q a → R a) → IfSome o P → IfSome o Q → IfSome o R
-some-both P Q R None joins one other = tt
-some-both P Q R (Some a) joins one other = joins a one other
-
 -- ---- which locks boundaries free
 
 frees-boundary : (call : Call) → IsBoundary call → (level : Option Level) → (released call level).boundary_locks ≡ true
@@ -168,12 +166,6 @@ frees-open None = refl
 frees-open (Some levels.Chg) = refl
 frees-open (Some levels.Cs) = refl
 frees-open (Some levels.All) = refl
-
--- what holds of each holds at a place
-pub at-place : {X : Type 0} (P : X → Type 0) (xs : List X) (place : ℕ) (x : X) → slice_get xs place ≡ Some x → AllByRecursion P xs → P x
-at-place P [] place x at all = absurd cc
-at-place P (y ∷ ys) zero x at all = let same : y ≡ x = cc in subst P same all.0
-at-place P (y ∷ ys) (suc place) x at all = at-place P ys place x at all.1
 
 -- ---- a lock in another memory
 
@@ -247,15 +239,12 @@ module _ (s : State) (new : Memory) (job : ℕ) (sound : IsSound s) (runs : Runs
       there = within.1;
       opened = λ ends. subst (λ (j : JobState). HasOpenOf j lock) (sym (job_of-own m new job change jobs runs))
           (subst (λ (opens : Named OpenState). list_any (λ (e : List ℕ × OpenState). is_through lock e.1) opens ≡ true) (sym goes.opens)
-          (through-map lock of_open goes.same its.opens (through-named lock name its.opens opened named (rw (same-self opened.number, same-self opened.member) refl))));
+          (through-map lock of_open goes.same its.opens (through-named lock name its.opens opened named (rw (number-same opened.number opened.number refl, number-same opened.member opened.member refl) refl))));
       started = λ kept. subst (λ (j : JobState). IsSome j.level) (sym (job_of-own m new job change jobs runs)) (subst (λ (l : Option Level). IsSome l) (sym goes.level) (level-started its opened (level kept)));
     }
       where
         lock : Lock
         lock = lock_by (holder_of job opened) (record_of opened rrn) wanted.kind wanted.reach
-
-        same-self : (n : ℕ) → (n == n) ≡ true
-        same-self n = grind (arith, nat_tests)
 
     call-stands : new.locks ≡ locks_left call job opened rrn m → ((number : ℕ) → length (slots_of number m) ≤ length (slots_of number new))
         → IfSome (asked call (level_of its opened)) (λ w. (1 ≤ rrn) × (rrn ≤ length (slots_of opened.member new))) → AllByRecursion (LockStands new) new.locks
@@ -309,7 +298,7 @@ module _ (s : State) (new : Memory) (job : ℕ) (sound : IsSound s) (runs : Runs
   boundary-gains call is Q = gained-asked Q call its.level (subst (λ o. IfSome o Q) (sym (boundary-asks call is its.level)) tt)
 
   by-job : (l : Lock) → l.job ≡ job → is_by job l ≡ true
-  by-job l same = grind (arith, nat_tests, same)
+  by-job l same = number-same l.job job same
 
   -- a lock that is kept to the boundary isn't left
   not-left : (call : Call) → IsBoundary call → (l : Lock) → ((released call its.level).boundary_locks ≡ true → is_of_group job l ≡ false) → l.job ≡ job → is_open l.reach ≡ false → ⊥

@@ -36,14 +36,11 @@ use Rattle.library_steps.specs.ChangeRecord.{has_open_lock, has_boundary_lock, w
 use Rattle.library_parts.specs.Locks.{IsRead, AsksNone}
 use Rattle.locks_kept.proofs.AroundEffects.{Leaves}
 use Rattle.locks_kept.proofs.Effects.{Opening, Closing, Use}
-use Rattle.locks_kept.proofs.FoundLemmas.{AreLive, Stands, reading-live, some-holds, next_from-holds, prior_from-holds, next_equal-holds, prior_equal-holds, chain_key-holds, chain_number-holds}
+use Rattle.locks_kept.proofs.FoundLemmas.{AreLive, Stands, reading-live, next_from-holds, prior_from-holds, next_equal-holds, prior_equal-holds, chain_key-holds, chain_number-holds}
 use Rattle.locks_kept.proofs.RefusalLemmas.{Holds, each-holds, found-holds, refuse_if-holds, refuse_with-holds, then-holds, bind-holds, does-holds, wider-holds}
+use Rattle.locks_kept.proofs.OptionLemmas.{nothing-there, some-holds}
 
 -- ---- OPNDBF and CLOF
-
-nothing-there : {A : Type 0} (thing : Option A) → is_some thing ≡ false → thing ≡ None
-nothing-there None none = refl
-nothing-there (Some x) none = absurd cc
 
 may_commit-started : (commit : Bool) (status : MemberStatus) (job : JobState) → Holds (may_commit commit status job) (λ passed. commit ≡ true → is_some job.level ≡ true)
 may_commit-started false status job = record { holds = λ e. absurd cc }

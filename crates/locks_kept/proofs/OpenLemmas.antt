@@ -5,36 +5,9 @@ use Rattle.std.proofs.lemmas.Cmp.{nat_list_eq_equiv}
 use Rattle.library_model.specs.Named.{Named, named, same_name}
 use Rattle.library_steps.specs.State.{OpenState}
 use Rattle.joint_state.specs.Opens.{IsBefore, AreApart}
+use Rattle.locks_kept.proofs.ListLemmas.{all-append, all-filter, all-map, all-weaker}
 
 -- ---- what holds of each
-
-pub all-weaker : {X : Type 0} (P Q : X → Type 0) (xs : List X) → ((x : X) → P x → Q x) → AllByRecursion P xs → AllByRecursion Q xs
-all-weaker P Q [] widens all = tt
-all-weaker P Q (x ∷ xs) widens all = (widens x all.0, all-weaker P Q xs widens all.1)
-
-pub all-both : {X : Type 0} (P Q R : X → Type 0) (xs : List X) → ((x : X) → P x → Q x → R x) → AllByRecursion P xs → AllByRecursion Q xs → AllByRecursion R xs
-all-both P Q R [] joins one other = tt
-all-both P Q R (x ∷ xs) joins one other = (joins x one.0 other.0, all-both P Q R xs joins one.1 other.1)
-
-pub all-each : {X : Type 0} (P : X → Type 0) (xs : List X) → ((x : X) → P x) → AllByRecursion P xs
-all-each P [] each = tt
-all-each P (x ∷ xs) each = (each x, all-each P xs each)
-
-pub all-append : {X : Type 0} (P : X → Type 0) (xs ys : List X) → AllByRecursion P xs → AllByRecursion P ys → AllByRecursion P (xs ++ ys)
-all-append P [] ys all more = more
-all-append P (x ∷ xs) ys all more = (all.0, all-append P xs ys all.1 more)
-
-pub all-filter : {X : Type 0} (P Q : X → Type 0) (test : X → Bool) (xs : List X) → ((x : X) → test x ≡ true → P x → Q x) → AllByRecursion P xs → AllByRecursion Q (filter test xs)
-all-filter P Q test [] each all = tt
-all-filter P Q test (x ∷ xs) each all =
-    elim (test x) as (λ b. test x ≡ b → AllByRecursion Q (cond b (x ∷ filter test xs) (filter test xs))) [
-      | true ↦ λ e. (each x e all.0, all-filter P Q test xs each all.1)
-      | false ↦ λ e. all-filter P Q test xs each all.1
-    ] refl
-
-pub all-map : {X Y : Type 0} (P : X → Type 0) (Q : Y → Type 0) (f : X → Y) (xs : List X) → ((x : X) → P x → Q (f x)) → AllByRecursion P xs → AllByRecursion Q (map f xs)
-all-map P Q f [] each all = tt
-all-map P Q f (x ∷ xs) each all = (each x all.0, all-map P Q f xs each all.1)
 
 -- ---- what has a name
 

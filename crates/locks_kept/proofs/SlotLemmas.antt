@@ -14,6 +14,7 @@ use Rattle.library_steps.specs.SlotChange.{slot_put, with_slot}
 use Rattle.library_steps.specs.Commitment.{taken_back}
 use Rattle.library_parts.proofs.MemberLemmas.{item_at-with_item_other, item_at-with_item_same, length-changed, length-push}
 use Rattle.locks_kept.proofs.Effects.{slots_of}
+use Rattle.locks_kept.proofs.OptionLemmas.{nothing-there}
 
 -- ---- lists
 
@@ -115,13 +116,9 @@ member-after number member members =
     → (is_some (member_at number members) ≡ true) × (member_of number (with_member number member members) ≡ member) ⊎ (member_of number (with_member number member members) ≡ member_of number members)) [
       | true ↦ λ there. inl (there, ap (λ (o : Option MemberState). unwrap_or o (empty_member 0)) (item_at-with_item_same number member members there))
       | false ↦ λ absent. (
-          let none : item_at number members ≡ None = nothing (item_at number members) absent in
+          let none : item_at number members ≡ None = nothing-there (item_at number members) absent in
           inr (ap (λ (o : Option MemberState). unwrap_or o (empty_member 0)) (none-with number member members none ∙ sym none)))
     ] refl
-  where
-    nothing : (o : Option MemberState) → is_some o ≡ false → o ≡ None
-    nothing None e = refl
-    nothing (Some x) e = absurd cc
 
 module _ (m new : Memory) (number rrn : ℕ) (slot : Slot) (members : new.members ≡ with_member number (slot_put rrn slot (member_of number m.members)) m.members) where
   after-other : (other : ℕ) → other ≢ number → member_of other new.members ≡ member_of other m.members
