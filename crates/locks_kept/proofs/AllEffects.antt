@@ -1,10 +1,7 @@
 -- Each request that is done is of one of these kinds.
-use Rattle.std.proofs.Common.{◌≡◌, ℕ, ◌+◌, ◌-◌, List, [], ◌∷◌, Option, Some, None, Result, Ok, Err, false, refl, ap}
+use Rattle.std.proofs.Common.{◌≡◌, ℕ, ◌+◌, ◌-◌, List, [], ◌∷◌, None, false, refl, ap}
 use Rattle.std.proofs.lemmas.Result.{IfOk-at_ok}
-use Rattle.commit_level.specs.declared.Level.{Level}
 use Rattle.entry_codec.specs.declared.entries.Entry.{Entry}
-use Rattle.lock_table.specs.declared.levels.Call.TheVariants as calls
-use Rattle.lock_table.specs.declared.lock.Lock.{Lock}
 use Rattle.journal_model.specs.Replay.{before_of}
 use Rattle.journal_model.specs.Rollback.{MemberChange}
 use Rattle.library_model.specs.declared.replies.Reply.TheVariants as replies
@@ -15,16 +12,16 @@ use Rattle.library_model.specs.declared.sources.NamedSource.{NamedSource}
 use Rattle.library_steps.specs.State.{Memory, JobState, job_of, job_changed, memory_of, with_opens, State}
 use Rattle.library_steps.specs.Change.{Change}
 use Rattle.library_steps.specs.Step.{change}
-use Rattle.library_steps.specs.Refusals.{found, refuse_if, refuse_with, sequences_left}
+use Rattle.library_steps.specs.Refusals.{found, refuse_if, refuse_with}
 use Rattle.library_steps.specs.SlotChange.{with_slot}
 use Rattle.library_steps.specs.Commitment.{start_plan, start_commitment, end_plan, end_commitment, commit, rollback, has_committed_open, taken_back, changes_of, rolled_back_open, without_cycle}
-use Rattle.library_steps.specs.EndJob.{ended_job, end_change, end_job}
+use Rattle.library_steps.specs.EndJob.{ended_job, end_job}
 use Rattle.joint_state.specs.Sound.{Does}
 use Rattle.locks_kept.proofs.AroundEffects.{Leaves, AreBelow, start_journaling-effect, end_journaling-effect, change_journal-effect, delete_receiver-effect, save-effect, display_journal-effect, clear_member-effect, reorganize_member-effect, apply_changes-effect, remove_changes-effect, delete_file-effect, create_physical_file-effect, add_member-effect}
 use Rattle.locks_kept.proofs.ChangeEffects.{write_record-effect, update_record-effect, delete_record-effect}
 use Rattle.locks_kept.proofs.Effects.{Effect, Start, End, Committing, RollingBack, EndingJob}
 use Rattle.locks_kept.proofs.OpenEffects.{open_file-effect, close_file-effect, set_lower_limit-effect, set_greater_than-effect, unlock-effect, read-does, read_prior-does, read_equal-does, read_prior_equal-does, chain-does}
-use Rattle.locks_kept.proofs.RefusalLemmas.{Holds, each-holds, found-holds, refuse_if-holds, refuse_with-holds, then-holds, bind-holds, does-holds, wider-holds}
+use Rattle.locks_kept.proofs.RefusalLemmas.{Holds, each-holds, refuse_if-holds, refuse_with-holds, then-holds, bind-holds, does-holds, wider-holds}
 
 -- ---- boundaries
 

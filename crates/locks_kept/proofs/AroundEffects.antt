@@ -1,17 +1,15 @@
 -- The requests that leave jobs and locks alone, and the slots of each member that a job uses: those on files and members, and on the journal.
-use Rattle.std.proofs.Common.{◌≡◌, ◌≢◌, ◌⊎◌, inl, inr, ℕ, ◌+◌, ◌<◌, ◌||◌, ◌==◌, nat_le, nat_lt, Bool, true, false, cond, if◌then◌else◌, List, [], ◌∷◌, length, Option, Some, None, Result, is_some, unwrap_or, refl, sym, ◌∙◌, ap, subst, arith}
+use Rattle.std.proofs.Common.{◌≡◌, ◌≢◌, ◌⊎◌, inl, inr, ℕ, ◌+◌, ◌<◌, ◌||◌, ◌==◌, nat_lt, Bool, true, false, if◌then◌else◌, List, [], ◌∷◌, length, Option, Some, None, unwrap_or, refl, sym, ◌∙◌, ap, subst, arith}
 use Rattle.std.specs.List.{AllByRecursion, list_any}
 use Rattle.std.specs.Option.{is_none}
 use Rattle.std.proofs.lemmas.Bool.{cases_eq}
 use Rattle.std.proofs.lemmas.Bool.Decides.{nat_tests}
 use Rattle.entry_codec.specs.declared.entries.Entry.{Entry}
-use Rattle.entry_codec.specs.declared.entries.Draft.{Draft}
 use Rattle.entry_codec.specs.declared.kinds.EntryKind.{EntryKind}
 use Rattle.entry_codec.specs.declared.kinds.EntryKind.TheVariants.{MemberCleared, MemberReorganized, ChangesApplied, ChangesRemoved}
 use Rattle.member_slots.specs.Member.{MemberState, empty_member, cleared, reorganized}
-use Rattle.member_slots.specs.Members.{Numbered, NumberedMembers, item_at, put_item, with_item, member_of, with_member, put_member, without_member}
+use Rattle.member_slots.specs.Members.{NumberedMembers, item_at, member_of, with_member, put_member, without_member}
 use Rattle.journal_model.specs.Ranges.{apply_range, remove_range}
-use Rattle.lock_table.specs.declared.lock.Lock.{Lock}
 use Rattle.library_model.specs.Named.{Named}
 use Rattle.library_model.specs.declared.replies.Reply.TheVariants as replies
 use Rattle.library_model.specs.declared.replies.LimitKind.TheVariants.{LibraryBytes, BlockBytes}
@@ -29,7 +27,7 @@ use Rattle.library_steps.specs.State.{Memory, MemberStatus, JobState, file_named
 use Rattle.library_steps.specs.Change.{Change, deposited}
 use Rattle.library_steps.specs.Drafts.{author_of}
 use Rattle.library_steps.specs.Refusals.{refuse_if, refuse_with, named_or_refused, sequences_left, member_of_file}
-use Rattle.library_steps.specs.Uses.{first_job, uses, user_of, user_of_any, least_job, unused}
+use Rattle.library_steps.specs.Uses.{first_job, uses, user_of, user_of_any, unused}
 use Rattle.library_steps.specs.CreatePhysicalFile.{create_plan, create_change, create_physical_file}
 use Rattle.library_steps.specs.DeleteFile.{delete_plan, delete_change, delete_file, first_dependent, without_members}
 use Rattle.library_steps.specs.MemberCommands.{add_plan, add_member, empty_plan, renumbering, clear_member, reorganize_member}
@@ -39,10 +37,11 @@ use Rattle.library_steps.specs.Receivers.{change_journal, delete_receiver}
 use Rattle.library_steps.specs.Checkpoint.{save}
 use Rattle.library_steps.specs.UniqueKeys.{unique_paths, all_apart}
 use Rattle.library_steps.specs.EntrySizes.{entry_bytes}
-use Rattle.library_steps.specs.Ranges.{Range, RangeWork, end_named, range_named, done_or_refused, slots_now, work_of, given_forward, given_back, allowed, library_bytes, with_range, range_change, apply_plan, remove_plan, apply_changes, remove_changes}
+use Rattle.library_steps.specs.Ranges.{RangeWork, end_named, range_named, done_or_refused, slots_now, work_of, given_forward, given_back, allowed, library_bytes, with_range, range_change, apply_plan, remove_plan, apply_changes, remove_changes}
 use Rattle.library_parts.proofs.MemberLemmas.{item_at-put_item_other, item_at-put_item_same, item_at-with_item_other, item_at-without_item_other}
 use Rattle.locks_kept.proofs.Effects.{IsAround, Effect, Around, slots_of}
 use Rattle.locks_kept.proofs.RefusalLemmas.{Holds, each-holds, refuse_with-holds, then-holds, bind-holds, does-holds, wider-holds}
+use Rattle.locks_kept.proofs.TestLemmas.{or_true}
 
 abbrev pub Leaves : Memory → ℕ → Change → Type 0
 Leaves m job done = Effect m job done.memory
@@ -165,18 +164,15 @@ first_job-narrower one wide narrower number (job ∷ jobs) none =
       ] none
     ] refl
 
-or_true : (a b : Bool) → b ≡ true → (a || b) ≡ true
-or_true true b h = refl
-or_true false b h = h
-
 members-free : (m : Memory) (members : Named MemberStatus) → user_of_any members m ≡ None → AllByRecursion (λ e. user_of e.1.number m ≡ None) members
 members-free m [] free = tt
-members-free m (entry ∷ members) free =
-    (first_job-narrower (uses entry.1.number m.locks) (λ number job. list_any (λ e. uses e.1.number m.locks number job) (entry ∷ members))
-     (λ number job its. ap (λ b. b || list_any (λ e. uses e.1.number m.locks number job) members) its) 1 m.jobs free,
-     members-free m members (first_job-narrower (λ number job. list_any (λ e. uses e.1.number m.locks number job) members)
-     (λ number job. list_any (λ e. uses e.1.number m.locks number job) (entry ∷ members))
-     (λ number job its. or_true (uses entry.1.number m.locks number job) (list_any (λ e. uses e.1.number m.locks number job) members) its) 1 m.jobs free))
+members-free m (entry ∷ members) free = (
+  first_job-narrower (uses entry.1.number m.locks) (λ number job. list_any (λ e. uses e.1.number m.locks number job) (entry ∷ members))
+      (λ number job its. ap (λ b. b || list_any (λ e. uses e.1.number m.locks number job) members) its) 1 m.jobs free,
+  members-free m members (first_job-narrower (λ number job. list_any (λ e. uses e.1.number m.locks number job) members)
+      (λ number job. list_any (λ e. uses e.1.number m.locks number job) (entry ∷ members))
+      (λ number job its. or_true (uses entry.1.number m.locks number job) (list_any (λ e. uses e.1.number m.locks number job) members) its) 1 m.jobs free),
+)
 
 others-slots : (m : Memory) (entries : Named MemberStatus) (members : NumberedMembers) (number : ℕ) → AllByRecursion (λ e. user_of e.1.number m ≡ None) entries
     → (user_of number m ≡ None) ⊎ ((member_of number (without_members entries members)).slots ≡ (member_of number members).slots)

@@ -1,10 +1,10 @@
 -- The requests that change a record through an open: WRITE, UPDATE and DELETE.
-use Rattle.std.proofs.Common.{◌≡◌, ◌⊎◌, inl, inr, ℕ, ◌+◌, ◌-◌, ◌≤◌, ◌==◌, ◌||◌, nat_lt, Bool, true, false, List, [], ◌∷◌, map, Option, Some, None, Result, is_some, refl, sym, ◌∙◌, ap, arith}
+use Rattle.std.proofs.Common.{◌≡◌, ◌⊎◌, inl, inr, ℕ, ◌-◌, ◌≤◌, ◌==◌, ◌||◌, nat_lt, Bool, true, false, List, [], ◌∷◌, map, Option, Some, None, is_some, refl, sym, ◌∙◌, ap, arith}
 use Rattle.std.proofs.lemmas.Bool.Decides.{nat_tests}
 use Rattle.member_slots.specs.declared.slot.Slot.{Slot}
 use Rattle.member_slots.specs.declared.slot.Slot.TheVariants.{Live, Deleted}
 use Rattle.lock_table.specs.declared.levels.Call.{Call}
-use Rattle.lock_table.specs.declared.levels.Call.TheVariants.{Update, Delete, Write, WriteAt}
+use Rattle.lock_table.specs.declared.levels.Call.TheVariants.{Write, WriteAt}
 use Rattle.journal_model.specs.Rollback.{MemberChange}
 use Rattle.record_fmt.specs.Records.{record_given}
 use Rattle.library_model.specs.Named.{Named}
@@ -12,7 +12,7 @@ use Rattle.library_model.specs.declared.replies.Reply.TheVariants as replies
 use Rattle.library_model.specs.declared.requests.OpenName.{OpenName}
 use Rattle.library_model.specs.declared.requests.UpdateRecord.{UpdateRecord}
 use Rattle.library_model.specs.declared.requests.WriteRecord.{WriteRecord}
-use Rattle.library_steps.specs.State.{Memory, OpenState, CycleState, JobState, job_of, job_changed, open_named, with_opens, with_status, fields_of}
+use Rattle.library_steps.specs.State.{Memory, OpenState, CycleState, job_of, job_changed, open_named, with_opens, with_status, fields_of}
 use Rattle.library_steps.specs.Refusals.{found, refuse_if, sequences_left, opened_file}
 use Rattle.library_steps.specs.Locking.{clashing, few_locks}
 use Rattle.library_steps.specs.Records.{live_record, slot_there}
@@ -21,10 +21,10 @@ use Rattle.library_steps.specs.SlotChange.{NewSlot, not_held, few_changes, is_be
 use Rattle.library_steps.specs.WriteRecord.{format_or_refused, is_input, packed, next_place, place_asked, has_room, write_call, write_plan, write_change, write_record}
 use Rattle.library_steps.specs.ChangeRecord.{update_plan, update_change, update_record, without_record, delete_plan, delete_change, delete_record}
 use Rattle.locks_kept.proofs.AroundEffects.{Leaves}
-use Rattle.locks_kept.proofs.Effects.{IsChange, IsPlaceNamed, changing, unread, Writing, Updating, Deleting}
+use Rattle.locks_kept.proofs.Effects.{IsPlaceNamed, changing, unread, Writing, Updating, Deleting}
 use Rattle.locks_kept.proofs.JobLemmas.{changed-twice, changed-same, changed-alike}
 use Rattle.locks_kept.proofs.OpenEffects.{opened_file-named}
-use Rattle.locks_kept.proofs.RefusalLemmas.{Holds, each-holds, found-holds, refuse_if-holds, refuse_with-holds, then-holds, bind-holds, does-holds, wider-holds}
+use Rattle.locks_kept.proofs.RefusalLemmas.{Holds, found-holds, refuse_if-holds, refuse_with-holds, then-holds, bind-holds, does-holds, wider-holds}
 
 -- ---- what a changed slot makes of jobs and members
 

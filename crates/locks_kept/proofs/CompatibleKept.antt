@@ -1,21 +1,16 @@
 -- No two locks clash after whatever is done.
-use Rattle.std.proofs.Common.{◌≡◌, inl, inr, ℕ, ◌+◌, ◌-◌, ◌≤◌, IfSome, length, List, Option, Some, None, refl, sym, ◌∙◌, ap, subst, arith}
-use Rattle.std.specs.List.{AllByRecursion, list_any}
+use Rattle.std.proofs.Common.{◌≡◌, inl, inr, ℕ, ◌+◌, ◌-◌, ◌≤◌, IfSome, List, Option, Some, None, refl, sym, subst, arith}
 use Rattle.commit_level.specs.declared.Level.{Level}
 use Rattle.lock_table.specs.declared.levels.Call.{Call}
 use Rattle.lock_table.specs.declared.levels.Call.TheVariants.{InputRead, UpdateRead, Update, Delete, Write, WriteAt, Unlock, Position, Close, Commit, Rollback, EndCommitment, EndJob}
 use Rattle.commit_level.specs.declared.Level.TheVariants as levels
-use Rattle.lock_table.specs.declared.lock.Lock.{Lock}
-use Rattle.lock_table.specs.declared.lock.Holder.{Holder}
-use Rattle.lock_table.specs.declared.lock.RecordId.{RecordId}
-use Rattle.lock_table.specs.Levels.{asked, locks_after}
+use Rattle.lock_table.specs.Levels.{asked}
 use Rattle.lock_table.specs.Table.{AreCompatible, blocker}
 use Rattle.lock_table.proofs.LawLemmas.{AreCompatible-call}
-use Rattle.library_steps.specs.State.{State, Memory, OpenState, JobState, job_of, memory_of, open_named}
+use Rattle.library_steps.specs.State.{State, Memory, OpenState, job_of, memory_of, open_named}
 use Rattle.library_steps.specs.Change.{Change}
 use Rattle.library_steps.specs.Locking.{level_of, holder_of, record_of, is_committed, locks_left, clashing}
 use Rattle.library_steps.specs.Commitment.{boundary_locks}
-use Rattle.library_steps.specs.WriteRecord.{next_place}
 use Rattle.joint_state.specs.CurrentRecords.{CurrentStands}
 use Rattle.joint_state.specs.Joint.{JobStands}
 use Rattle.joint_state.specs.Sound.{IsSound, Does, after}
@@ -24,7 +19,8 @@ use Rattle.locks_kept.proofs.Effects.{Effect, Around, Opening, Closing, Use, Wri
 use Rattle.locks_kept.proofs.JobLemmas.{Runs, running-Runs}
 use Rattle.locks_kept.proofs.OpenEffects.{clashes-none}
 use Rattle.locks_kept.proofs.OpenLemmas.{named-holds}
-use Rattle.locks_kept.proofs.RecordLocks.{locked-free, behind-free, some-each, asked-free}
+use Rattle.locks_kept.proofs.RecordLocks.{locked-free, behind-free, asked-free}
+use Rattle.locks_kept.proofs.OptionLemmas.{some-each}
 
 -- what a running job stands on
 pub stands-of : (s : State) (job : ℕ) → IsSound s → Runs s.jobs job (job_of job (memory_of s)) → JobStands s job (job_of job (memory_of s))

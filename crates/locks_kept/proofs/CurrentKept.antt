@@ -1,5 +1,5 @@
 -- The current record of each open stands there and is locked by it, after whatever is done.
-use Rattle.std.proofs.Common.{◌≡◌, ◌≢◌, ◌⊎◌, inl, inr, ℕ, zero, suc, ◌+◌, ◌-◌, ◌≤◌, ◌==◌, ◌&&◌, ◌||◌, not, Bool, true, false, cond, if◌then◌else◌, IsSome, IfSome, filter, map, length, List, [], ◌∷◌, ◌++◌, Option, Some, None, is_some, unwrap_or, slice_get, refl, sym, ◌∙◌, ap, subst, arith}
+use Rattle.std.proofs.Common.{◌≡◌, ◌≢◌, ◌⊎◌, inl, inr, ℕ, ◌+◌, ◌-◌, ◌==◌, ◌&&◌, ◌||◌, not, Bool, true, false, if◌then◌else◌, IsSome, IfSome, map, List, [], ◌∷◌, ◌++◌, Option, Some, None, unwrap_or, slice_get, refl, sym, ◌∙◌, ap, subst, arith}
 use Rattle.std.specs.List.{AllByRecursion, list_any}
 use Rattle.std.proofs.lemmas.Bool.{cases_eq}
 use Rattle.std.proofs.lemmas.Bool.Decides.{nat_tests}
@@ -23,18 +23,18 @@ use Rattle.lock_table.specs.declared.lock.LockKind.{LockKind}
 use Rattle.lock_table.specs.declared.lock.Holder.{Holder}
 use Rattle.lock_table.specs.declared.lock.Reach.TheVariants.{Open, Boundary}
 use Rattle.lock_table.specs.declared.lock.RecordId.{RecordId}
-use Rattle.lock_table.specs.Lock.{blocks, is_open, is_by, is_on, is_update, is_change_lock, is_of_job, is_of_group, lock_by, update_kind}
+use Rattle.lock_table.specs.Lock.{blocks, is_open, is_by, is_on, is_update, is_change_lock, is_of_job, lock_by, update_kind}
 use Rattle.lock_table.specs.Table.{HoldsChange}
 use Rattle.lock_table.proofs.Rules.{gained-asked}
 use Rattle.lock_table.specs.Levels.{gained, released, locks_after}
 use Rattle.library_model.specs.Named.{Named, same_name}
-use Rattle.library_steps.specs.State.{State, Memory, OpenState, CycleState, JobState, job_of, job_changed, memory_of, with_entries, open_named, with_opens}
+use Rattle.library_steps.specs.State.{State, Memory, OpenState, CycleState, JobState, job_of, job_changed, memory_of, with_entries, with_opens}
 use Rattle.library_steps.specs.Change.{Change}
 use Rattle.library_steps.specs.Locking.{level_of, holder_of, record_of, is_committed, locks_left}
 use Rattle.library_steps.specs.Opens.{with_open, without_open}
 use Rattle.library_steps.specs.Reads.{open_changed}
 use Rattle.library_steps.specs.Records.{record_in, live_record}
-use Rattle.library_steps.specs.SlotChange.{slot_put, with_slot}
+use Rattle.library_steps.specs.SlotChange.{with_slot}
 use Rattle.library_steps.specs.ChangeRecord.{is_current, without_record}
 use Rattle.library_steps.specs.Commitment.{boundary_locks, taken_back, committed_open, at_boundary, rolled_back_open, without_cycle, with_level, changes_of}
 use Rattle.library_steps.specs.EndJob.{ended_job}
@@ -48,20 +48,15 @@ use Rattle.locks_kept.proofs.ChangeEffects.{IsPlace}
 use Rattle.locks_kept.proofs.CompatibleKept.{IsBoundary, boundary-asks, stands-of, current-of}
 use Rattle.locks_kept.proofs.Effects.{IsAround, IsOpening, IsClosing, IsUse, IsChange, IsEnd, IsCommit, IsTakingBack, changing, unread, slots_of, Effect, Around, Opening, Closing, Use, Writing, Updating, Deleting, Start, End, Committing, RollingBack, EndingJob}
 use Rattle.locks_kept.proofs.JobLemmas.{Runs, running-Runs, each-job}
-use Rattle.locks_kept.proofs.JobsKept.{changing-goes, none-committed}
-use Rattle.locks_kept.proofs.LockLists.{is_freed, not_true, each-there, after-any, after-gained}
-use Rattle.locks_kept.proofs.OpenLemmas.{all-weaker, all-both, all-each, all-append, all-filter, all-map, named-holds, same-number, other-number}
-use Rattle.locks_kept.proofs.RecordLocks.{Keeps, keeps-is, keeps-from, and-parts, some-each, is_on-same, update-alone, locked-alone, none-keeps}
-use Rattle.locks_kept.proofs.RecordLocks as numbers
+use Rattle.locks_kept.proofs.JobsKept.{none-committed}
+use Rattle.locks_kept.proofs.LockLists.{is_freed, after-any, after-gained}
+use Rattle.locks_kept.proofs.OpenLemmas.{same-number, other-number}
+use Rattle.locks_kept.proofs.RecordLocks.{keeps-is, keeps-from, is_on-same, update-alone, locked-alone, none-keeps}
 use Rattle.locks_kept.proofs.SlotLemmas.{live-within, put-live, put-here}
 use Rattle.locks_kept.proofs.UserLemmas.{unused-job}
-
-and_false : (a : Bool) → (a && false) ≡ false
-and_false true = refl
-and_false false = refl
-
-differ-false : (a b : ℕ) → a ≢ b → (a == b) ≡ false
-differ-false a b differ = grind (arith, nat_tests, differ)
+use Rattle.locks_kept.proofs.ListLemmas.{all-append, all-both, all-each, all-filter, all-map, all-weaker, each-there, none-any}
+use Rattle.locks_kept.proofs.OptionLemmas.{is-there, some-each}
+use Rattle.locks_kept.proofs.TestLemmas.{and_false, differ-false, not_true, number-is}
 
 on-false : (at : RecordId) (l : Lock) → (l.at ≡ at → ⊥) → is_on at l ≡ false
 on-false at l differ = by (is_on at l) refl
@@ -240,24 +235,20 @@ end-frees (Some levels.Chg) = refl
 end-frees (Some levels.Cs) = refl
 end-frees (Some levels.All) = refl
 
--- an open that isn't under commitment control has no number of one that is
-none-any : {X : Type 0} (test : X → Bool) (xs : List X) → AllByRecursion (λ x. test x ≡ false) xs → list_any test xs ≡ false
-none-any test [] all = refl
-none-any test (x ∷ xs) all = rw all.0 (none-any test xs all.1)
-
 apart-committed : (opens : Named OpenState) → AreApart opens → AllByRecursion (λ e. e.1.commit ≡ false → list_any (λ o. (o.1.number == e.1.number) && o.1.commit) opens ≡ false) opens
 apart-committed [] apart = tt
-apart-committed (entry ∷ opens) apart =
-    (λ outside. rw (outside, and_false (entry.1.number == entry.1.number))
-     (none-any (λ (o : List ℕ × OpenState). (o.1.number == entry.1.number) && o.1.commit) opens
+apart-committed (entry ∷ opens) apart = (
+  λ outside. rw (outside, and_false (entry.1.number == entry.1.number))
+      (none-any (λ (o : List ℕ × OpenState). (o.1.number == entry.1.number) && o.1.commit) opens
       (all-weaker (IsBefore entry) (λ o. ((o.1.number == entry.1.number) && o.1.commit) ≡ false) opens (λ o before. (
       let numbers = before.numbers in
       rw (differ-false o.1.number entry.1.number (λ same. absurd (omega (arith, numbers, same)))) refl)) apart.0)),
-     all-both (IsBefore entry) (λ e. e.1.commit ≡ false → list_any (λ o. (o.1.number == e.1.number) && o.1.commit) opens ≡ false)
-     (λ e. e.1.commit ≡ false → list_any (λ o. (o.1.number == e.1.number) && o.1.commit) (entry ∷ opens) ≡ false) opens
-     (λ e before none outside. (
-     let numbers = before.numbers in
-     rw (differ-false entry.1.number e.1.number (λ same. absurd (omega (arith, numbers, same)))) (none outside))) apart.0 (apart-committed opens apart.1))
+  all-both (IsBefore entry) (λ e. e.1.commit ≡ false → list_any (λ o. (o.1.number == e.1.number) && o.1.commit) opens ≡ false)
+      (λ e. e.1.commit ≡ false → list_any (λ o. (o.1.number == e.1.number) && o.1.commit) (entry ∷ opens) ≡ false) opens
+      (λ e before none outside. (
+      let numbers = before.numbers in
+      rw (differ-false entry.1.number e.1.number (λ same. absurd (omega (arith, numbers, same)))) (none outside))) apart.0 (apart-committed opens apart.1),
+)
 
 -- the changes of an open commit cycle
 same-changes : (cycle : Option CycleState) → changes_of cycle ≡ changes_in cycle
@@ -276,15 +267,11 @@ change-lock : (job : ℕ) (at : RecordId) (l : Lock) → is_change_lock job at l
 change-lock job at l is = by (is_on at l) (is_open l.reach) (is_by job l) (is_update l.kind) refl refl refl is
   where
     by : (a b c d : Bool) → is_on at l ≡ a → is_by job l ≡ c → is_update l.kind ≡ d → ((a && (not b && c)) && d) ≡ true → (l.job ≡ job) × (l.at ≡ at) × (is_update l.kind ≡ true)
-    by true false true true on own update h = (numbers.same-number l.job job own, is_on-same at l on, update)
+    by true false true true on own update h = (number-is l.job job own, is_on-same at l on, update)
     by true false true false on own update h = absurd cc
     by true false false d on own update h = absurd cc
     by true true c d on own update h = absurd cc
     by false b c d on own update h = absurd cc
-
-is-there : {A : Type 0} (o : Option A) → IsSome o → is_some o ≡ false → ⊥
-is-there None some none = absurd cc
-is-there (Some x) some none = absurd cc
 
 module _ (s : State) (new : Memory) (job : ℕ) (sound : IsSound s) (runs : Runs s.jobs job (job_of job (memory_of s))) where
   abbrev m : Memory
@@ -353,7 +340,7 @@ module _ (s : State) (new : Memory) (job : ℕ) (sound : IsSound s) (runs : Runs
     other_record-locked frees o r differ stands =
         in-new o.commit (holder_of job o) (record_of o r)
         (record-locked call (level_of its opened) (holder_of job opened) at (is_committed its) m.locks o.commit (holder_of job o) (record_of o r) frees
-         (λ same. differ (ap (λ (x : RecordId). x.member) same) (ap (λ (x : RecordId). x.rrn) same)) stands.locked)
+        (λ same. differ (ap (λ (x : RecordId). x.member) same) (ap (λ (x : RecordId). x.rrn) same)) stands.locked)
 
   -- ---- an open that is used
 
@@ -374,9 +361,9 @@ module _ (s : State) (new : Memory) (job : ℕ) (sound : IsSound s) (runs : Runs
         live = subst (λ n. IsSome (live_record n r new)) (sym member) (subst (λ n. IsSome (live_record is.opened.member n new)) (sym found.0) (same-live is.members is.opened.member is.rrn (read-live found.1)));
         locked = in-new is.call is.opened is.rrn is.locks (is.change o).commit (holder_of job (is.change o)) (record_of (is.change o) r)
             (after-gained (holder_of job is.opened) (record_of is.opened is.rrn) (is_committed its) is.call (level_of its is.opened) gain.0
-             (keeps_record (is.change o).commit (holder_of job (is.change o)) (record_of (is.change o) r)) m.locks gains
-             (keeps-from (is.change o).commit (holder_of job (is.change o)) (record_of (is.change o) r) (lock_by (holder_of job is.opened) (record_of is.opened is.rrn) gain.0.kind gain.0.reach)
-              (record { at = there; job = refl; opened = sym number; update = ap is_update gain.2.update; reach = ap (λ b. b || is_open gain.0.reach) commit ∙ gain.2.reach })));
+            (keeps_record (is.change o).commit (holder_of job (is.change o)) (record_of (is.change o) r)) m.locks gains
+            (keeps-from (is.change o).commit (holder_of job (is.change o)) (record_of (is.change o) r) (lock_by (holder_of job is.opened) (record_of is.opened is.rrn) gain.0.kind gain.0.reach)
+            (record { at = there; job = refl; opened = sym number; update = ap is_update gain.2.update; reach = ap (λ b. b || is_open gain.0.reach) commit ∙ gain.2.reach })));
       }
     where
       read-live : is.call ≡ UpdateRead → IsSome (live_record is.opened.member is.rrn m)
@@ -385,7 +372,7 @@ module _ (s : State) (new : Memory) (job : ℕ) (sound : IsSound s) (runs : Runs
   use-open : (is : IsUse m job new) (o : OpenState) → StandsIn m job o → (o.number ≡ is.opened.number → o ≡ is.opened) → StandsIn new job (if o.number == is.opened.number then is.change o else o)
   use-open is o stands alone =
       elim (o.number == is.opened.number) as (λ b. (o.number == is.opened.number) ≡ b → StandsIn new job (if b then is.change o else o)) [
-        | true ↦ λ e r current. use-read is o r (alone (numbers.same-number o.number is.opened.number e)) current
+        | true ↦ λ e r current. use-read is o r (alone (number-is o.number is.opened.number e)) current
         | false ↦ λ e r current. (
             let differ : o.number ≢ is.opened.number = grind (arith, nat_tests, e) in
             record {
@@ -399,7 +386,7 @@ module _ (s : State) (new : Memory) (job : ℕ) (sound : IsSound s) (runs : Runs
       all-jobs (open_changed is.opened.number is.change) is.jobs
       (λ number o r differ stands. record { live = same-live is.members o.member r stands.live; locked = others-locked is.call is.opened is.rrn is.locks number o r differ stands })
       (own-mapped _ (λ o. if o.number == is.opened.number then is.change o else o) (λ e. e.1.number ≡ is.opened.number → e.1 ≡ is.opened) refl
-       (same-number is.name its.opens is.opened is.named (stands-of s job sound runs).opens.apart) (λ e stands alone. use-open is e.1 stands alone))
+      (same-number is.name its.opens is.opened is.named (stands-of s job sound runs).opens.apart) (λ e stands alone. use-open is e.1 stands alone))
 
   -- ---- a record that is changed
 
@@ -489,19 +476,20 @@ module _ (s : State) (new : Memory) (job : ℕ) (sound : IsSound s) (runs : Runs
   delete-stands opened rrn is current =
       change-stands Delete opened rrn Deleted (without_record opened.member rrn) is
       (λ number o r differ stands. other-live Delete opened rrn Deleted (without_record opened.member rrn) is number o r stands (λ member same. none-keeps job (record_of opened rrn) m.locks o.commit (holder_of number o) differ alone
-        (subst (λ at. list_any (keeps_record o.commit (holder_of number o) at) m.locks ≡ true) (λ i. record { member = member i; rrn = same i }) stands.locked)))
+      (subst (λ at. list_any (keeps_record o.commit (holder_of number o) at) m.locks ≡ true) (λ i. record { member = member i; rrn = same i }) stands.locked)))
       own
     where
       alone : AllByRecursion (λ b. (kind : LockKind) → blocks job (record_of opened rrn) kind b ≡ true → ⊥) m.locks
       alone = locked-alone opened.commit (holder_of job opened) (record_of opened rrn) m.locks sound.joint.compatible (current-of s job sound runs is.name opened rrn is.named current).locked
+
       own : (o : OpenState) → StandsIn m job o → StandsIn new job (without_record opened.member rrn o)
       own o stands =
           elim (is_current opened.member rrn o) as (λ b. is_current opened.member rrn o ≡ b → StandsIn new job (if b then record o { current = None } else o)) [
             | true ↦ λ e r now. absurd cc
             | false ↦ λ e r now. record {
-                live = other-live Delete opened rrn Deleted (without_record opened.member rrn) is job o r (stands r now) (not-current opened.member rrn o r e now);
-                locked = other_record-locked Delete opened rrn is.locks (delete-frees (level_of its opened)) o r (not-current opened.member rrn o r e now) (stands r now);
-              }
+              live = other-live Delete opened rrn Deleted (without_record opened.member rrn) is job o r (stands r now) (not-current opened.member rrn o r e now);
+              locked = other_record-locked Delete opened rrn is.locks (delete-frees (level_of its opened)) o r (not-current opened.member rrn o r e now) (stands r now);
+            }
           ] refl
 
   -- ---- boundaries
@@ -528,9 +516,9 @@ module _ (s : State) (new : Memory) (job : ℕ) (sound : IsSound s) (runs : Runs
   boundary-own call is spared locks o r outside apart stands =
       subst (λ ls. list_any (keeps_record o.commit (holder_of job o) (record_of o r)) ls ≡ true) (sym locks)
       (after-any boundary_holder no_record (is_committed its) call its.level (keeps_record o.commit (holder_of job o) (record_of o r)) m.locks
-       (λ l keeps. spared l o r keeps apart)
-       (λ l keeps frees. rw (to-next o r l outside keeps) refl)
-       (gained-asked others-lock call its.level (subst (λ a. IfSome a others-lock) (sym (boundary-asks call is its.level)) tt)) stands.locked)
+      (λ l keeps. spared l o r keeps apart)
+      (λ l keeps frees. rw (to-next o r l outside keeps) refl)
+      (gained-asked others-lock call its.level (subst (λ a. IfSome a others-lock) (sym (boundary-asks call is its.level)) tt)) stands.locked)
     where
       others-lock : Wanted → Type 0
       others-lock w = (l : Lock) → keeps_record o.commit (holder_of job o) (record_of o r) l ≡ true → l ≡ lock_by boundary_holder no_record w.kind Open → ⊥
@@ -558,6 +546,7 @@ module _ (s : State) (new : Memory) (job : ℕ) (sound : IsSound s) (runs : Runs
       spared l o r keeps apart =
           let through = (keeps-is o.commit (holder_of job o) (record_of o r) l keeps).opened in
           ap (λ which. is_freed which boundary_holder no_record (is_committed its) l) (commit-frees its.level) ∙ ap (λ b. is_of_job job l && b) (ap (is_committed its) through ∙ apart) ∙ and_false (is_of_job job l)
+
       own : (o : OpenState) → StandsIn m job o → (o.commit ≡ false → is_committed its o.number ≡ false) → StandsIn new job (committed_open o)
       own o stands apart =
           elim o.commit as (λ b. o.commit ≡ b → StandsIn new job (if b then at_boundary o else o)) [
@@ -585,6 +574,7 @@ module _ (s : State) (new : Memory) (job : ℕ) (sound : IsSound s) (runs : Runs
     where
       changes-locked : AllByRecursion (λ undo. HoldsChange job (record { member = undo.member; rrn = undo.change.place + 1 }) m.locks) (changes_of its.cycle)
       changes-locked = subst (AllByRecursion (λ undo. HoldsChange job (record { member = undo.member; rrn = undo.change.place + 1 }) m.locks)) (sym (same-changes its.cycle)) (stands-of s job sound runs).locked
+
       apart : (number : ℕ) (o : OpenState) (r : ℕ) → number ≢ job → CurrentStands m number o r → AllByRecursion (λ undo. o.member ≡ undo.member → r ≡ undo.change.place + 1 → ⊥) (changes_of its.cycle)
       apart number o r differ stands =
           all-weaker (λ (undo : MemberChange). HoldsChange job (record { member = undo.member; rrn = undo.change.place + 1 }) m.locks) (λ undo. o.member ≡ undo.member → r ≡ undo.change.place + 1 → ⊥) (changes_of its.cycle)
@@ -608,21 +598,21 @@ module _ (s : State) (new : Memory) (job : ℕ) (sound : IsSound s) (runs : Runs
   opening-stands is =
       all-jobs (with_open is.args is.member) is.jobs (λ number o r differ stands. nothing-changed is.members is.locks number o r stands)
       (all-append (λ (e : List ℕ × OpenState). StandsIn new job e.1) its.opens _
-       (own-same (all-each (λ (e : List ℕ × OpenState). StandsIn m job e.1 → StandsIn new job e.1) its.opens (λ e stands r current. nothing-changed is.members is.locks job e.1 r (stands r current))))
-       (λ r current. absurd cc, tt))
+      (own-same (all-each (λ (e : List ℕ × OpenState). StandsIn m job e.1 → StandsIn new job e.1) its.opens (λ e stands r current. nothing-changed is.members is.locks job e.1 r (stands r current))))
+      (λ r current. absurd cc, tt))
 
   closing-stands : IsClosing m job new → (place : ℕ) (j : JobState) → slice_get new.jobs place ≡ Some j → AllCurrentStand new (place + 1) j
   closing-stands is =
       all-jobs (without_open is.name) is.jobs
       (λ number o r differ stands. record { live = same-live is.members o.member r stands.live; locked = others-locked Close is.opened 0 is.locks number o r differ stands })
       (all-filter (λ (e : List ℕ × OpenState). StandsIn m job e.1 × (same_name is.name e.0 ≡ false → e.1.number ≢ is.opened.number)) (λ e. StandsIn new job e.1) (λ e. not (same_name is.name e.0)) its.opens
-       (λ e left both r current. record {
-         live = same-live is.members e.1.member r (both.0 r current).live;
-         locked = other_open-locked Close is.opened 0 is.locks (none-free Close (level_of its is.opened) tt) e.1 r (both.1 (not_true (same_name is.name e.0) left)) (both.0 r current);
-       })
-       (all-both (λ (e : List ℕ × OpenState). StandsIn m job e.1) (λ e. same_name is.name e.0 ≡ false → e.1.number ≢ is.opened.number)
-        (λ e. StandsIn m job e.1 × (same_name is.name e.0 ≡ false → e.1.number ≢ is.opened.number)) its.opens (λ e one other. (one, other)) its-current
-        (other-number is.name its.opens is.opened is.named (stands-of s job sound runs).opens.apart)))
+      (λ e left both r current. record {
+        live = same-live is.members e.1.member r (both.0 r current).live;
+        locked = other_open-locked Close is.opened 0 is.locks (none-free Close (level_of its is.opened) tt) e.1 r (both.1 (not_true (same_name is.name e.0) left)) (both.0 r current);
+      })
+      (all-both (λ (e : List ℕ × OpenState). StandsIn m job e.1) (λ e. same_name is.name e.0 ≡ false → e.1.number ≢ is.opened.number)
+      (λ e. StandsIn m job e.1 × (same_name is.name e.0 ≡ false → e.1.number ≢ is.opened.number)) its.opens (λ e one other. (one, other)) its-current
+      (other-number is.name its.opens is.opened is.named (stands-of s job sound runs).opens.apart)))
 
   -- ---- members that no job uses
 
@@ -641,6 +631,7 @@ module _ (s : State) (new : Memory) (job : ℕ) (sound : IsSound s) (runs : Runs
           let some : (r == 0) ≡ false = differ-false r 0 (λ zero. (let first = bounds.0 in absurd (omega (arith, first, zero)))) in
           let before : IsSome (record_in (slice_get (slots_of member m) (r - 1))) = subst (λ b. IsSome (record_in (if b then None else slice_get (slots_of member m) (r - 1)))) some live in
           subst (λ b. IsSome (record_in (if b then None else slice_get (slots_of member new) (r - 1)))) (sym some) (subst (λ slots. IsSome (record_in (slice_get slots (r - 1)))) (sym same) before)
+
       used : slice_get m.jobs place ≡ Some j → (o : OpenState) (r : ℕ) → ((o.member == o.member) ≡ true → has_open_over o.member j ≡ true) → IsSome (live_record o.member r m) → IsSome (live_record o.member r new)
       used before o r over live = elim (is.slots o.member) [
         | inl free ↦ absurd (

@@ -1,5 +1,5 @@
 -- What a read finds is a record that stands in its member.
-use Rattle.std.proofs.Common.{◌≡◌, ℕ, zero, suc, ◌+◌, ◌-◌, ◌≤◌, ◌==◌, Bool, true, false, cond, if◌then◌else◌, List, [], ◌∷◌, ◌++◌, map, filter, reverse, Option, Some, None, IsSome, IfSome, slice_get, refl, sym, ◌∙◌, ap, subst, arith}
+use Rattle.std.proofs.Common.{◌≡◌, ℕ, suc, ◌+◌, ◌-◌, ◌≤◌, ◌==◌, Bool, true, false, cond, if◌then◌else◌, List, [], ◌∷◌, reverse, Option, Some, None, IsSome, IfSome, slice_get, refl, sym, subst, arith}
 use Rattle.std.specs.List.{AllByRecursion, find}
 use Rattle.std.specs.Ordering.{is_gt, is_lt}
 use Rattle.std.specs.declared.cmp.Ordering.{Ordering}
@@ -8,7 +8,7 @@ use Rattle.std.proofs.lemmas.List.{reverse-append}
 use Rattle.member_slots.specs.declared.slot.Slot.{Slot}
 use Rattle.member_slots.specs.declared.slot.Slot.TheVariants.{Live, Deleted}
 use Rattle.member_slots.specs.Member.{MemberState, records_from, slot_at}
-use Rattle.member_slots.specs.Members.{NumberedMembers, member_of}
+use Rattle.member_slots.specs.Members.{member_of}
 use Rattle.file_model.specs.declared.paths.PathFormat.{PathFormat}
 use Rattle.file_model.specs.KeyOrder.{KeyValue, begins_with}
 use Rattle.file_model.specs.Paths.{PathEntry, compare_entries, entry_of, entries_of, selected_of}
@@ -18,7 +18,7 @@ use Rattle.file_model.specs.Sorting.{put_in_order, in_order}
 use Rattle.file_model.specs.Positions.{Reading, Position, arrival_entry, side_of, next_from, prior_from, next_equal, prior_equal, where_equal, chain_key, chain_number}
 use Rattle.library_steps.specs.State.{Memory, FileState, OpenState, fields_of}
 use Rattle.library_steps.specs.Records.{live_record, record_in, reading_of, reading_by, is_keyed}
-use Rattle.locks_kept.proofs.OpenLemmas.{all-append, all-filter, all-map, all-weaker}
+use Rattle.locks_kept.proofs.ListLemmas.{all-append, all-filter, all-map, all-weaker}
 
 -- ---- the records of a list of slots
 
@@ -35,10 +35,11 @@ stands-behind first rrn slot slots stands =
 records-stand : (first : ℕ) (slots : List Slot) → AllByRecursion (λ pair. StandsFrom first slots pair.0) (records_from first slots)
 records-stand first [] = tt
 records-stand first (Live image ∷ slots) =
-    let here : (first - first) ≡ 0 = omega arith in
-    ((omega arith, subst (λ n. IsSome (record_in (slice_get (Live image ∷ slots) n))) (sym here) refl),
-     all-weaker (λ (pair : ℕ × List ℕ). StandsFrom (first + 1) slots pair.0) (λ pair. StandsFrom first (Live image ∷ slots) pair.0) (records_from (first + 1) slots)
-     (λ pair stands. stands-behind first pair.0 (Live image) slots stands) (records-stand (first + 1) slots))
+    let here : (first - first) ≡ 0 = omega arith in (
+      (omega arith, subst (λ n. IsSome (record_in (slice_get (Live image ∷ slots) n))) (sym here) refl),
+      all-weaker (λ (pair : ℕ × List ℕ). StandsFrom (first + 1) slots pair.0) (λ pair. StandsFrom first (Live image ∷ slots) pair.0) (records_from (first + 1) slots)
+          (λ pair stands. stands-behind first pair.0 (Live image) slots stands) (records-stand (first + 1) slots),
+    )
 records-stand first (Deleted ∷ slots) =
     all-weaker (λ (pair : ℕ × List ℕ). StandsFrom (first + 1) slots pair.0) (λ pair. StandsFrom first (Deleted ∷ slots) pair.0) (records_from (first + 1) slots)
     (λ pair stands. stands-behind first pair.0 Deleted slots stands) (records-stand (first + 1) slots)
@@ -48,8 +49,8 @@ records-stand first (Deleted ∷ slots) =
 abbrev pub Stands : ℕ → Memory → ℕ → Type 0
 Stands member m rrn = IsSome (live_record member rrn m)
 
-slot-at : (member : MemberState) (rrn : ℕ) → StandsFrom 1 member.slots rrn → IsSome (record_in (slot_at member rrn))
-slot-at member rrn stands =
+stands-at : (member : MemberState) (rrn : ℕ) → StandsFrom 1 member.slots rrn → IsSome (record_in (slot_at member rrn))
+stands-at member rrn stands =
     let first : 1 ≤ rrn = stands.0 in
     let some : (rrn == 0) ≡ false = grind (arith, nat_tests, first) in
     rw some stands.1
@@ -57,7 +58,7 @@ slot-at member rrn stands =
 records-live : (member : ℕ) (m : Memory) → AllByRecursion (λ pair. Stands member m pair.0) (records_from 1 (member_of member m.members).slots)
 records-live member m =
     all-weaker (λ (pair : ℕ × List ℕ). StandsFrom 1 (member_of member m.members).slots pair.0) (λ pair. Stands member m pair.0) (records_from 1 (member_of member m.members).slots)
-    (λ pair stands. slot-at (member_of member m.members) pair.0 stands) (records-stand 1 (member_of member m.members).slots)
+    (λ pair stands. stands-at (member_of member m.members) pair.0 stands) (records-stand 1 (member_of member m.members).slots)
 
 abbrev pub AreLive : ℕ → Memory → List PathEntry → Type 0
 AreLive member m entries = AllByRecursion (λ entry. Stands member m entry.rrn) entries
@@ -129,7 +130,3 @@ module _ {A : Type 0} (P : A → Type 0) where
 
   pub chain_number-holds : (reading : Reading A) (number : ℕ) → AllByRecursion P reading.items → IfSome (chain_number reading number) P
   chain_number-holds reading number all = find-holds (λ item. (reading.entry item).rrn == number) reading.items all
-
-pub some-holds : {A : Type 0} (P : A → Type 0) (thing : Option A) (x : A) → thing ≡ Some x → IfSome thing P → P x
-some-holds P None x is holds = absurd cc
-some-holds P (Some y) x is holds = let same : y ≡ x = cc in subst P same holds

@@ -1,5 +1,5 @@
 -- What a change of one job leaves of the others, and what it makes of it.
-use Rattle.std.proofs.Common.{◌≡◌, ◌≢◌, ◌⊎◌, inl, inr, ℕ, zero, suc, ◌+◌, ◌-◌, ◌≤◌, ◌==◌, if◌then◌else◌, Bool, true, false, not, IsTrue, List, [], ◌∷◌, Option, Some, None, slice_get, subst, refl, sym, ◌∙◌, ap, arith}
+use Rattle.std.proofs.Common.{◌≡◌, ◌≢◌, inl, inr, ℕ, zero, suc, ◌+◌, ◌-◌, ◌≤◌, ◌==◌, if◌then◌else◌, Bool, true, false, not, IsTrue, List, [], ◌∷◌, Option, Some, None, slice_get, subst, refl, sym, ◌∙◌, ap, arith}
 use Rattle.std.proofs.lemmas.Bool.{cases_eq}
 use Rattle.std.proofs.lemmas.Bool.Decides.{nat_tests}
 use Rattle.library_steps.specs.State.{Memory, JobState, job_at, job_of, job_changed, or_new}
@@ -53,7 +53,7 @@ pub record Runs (jobs : List JobState) (number : ℕ) (job : JobState) : Type 0 
 pub running-Runs : (jobs : List JobState) (number : ℕ) → IsTrue (is_running (job_at number jobs)) → Runs jobs number (or_new (job_at number jobs))
 running-Runs jobs number running =
     elim (number == 0) as (λ b. (number == 0) ≡ b → IsTrue (is_running (if b then None else slice_get jobs (number - 1)))
-        → Runs jobs number (or_new (if b then None else slice_get jobs (number - 1)))) [
+    → Runs jobs number (or_new (if b then None else slice_get jobs (number - 1)))) [
       | true ↦ λ e h. absurd cc
       | false ↦ λ e h. by (slice_get jobs (number - 1)) refl (grind (arith, nat_tests, e)) h
     ] refl running
@@ -61,6 +61,7 @@ running-Runs jobs number running =
     not_ended : (b : Bool) → not b ≡ true → b ≡ false
     not_ended true h = absurd cc
     not_ended false h = refl
+
     by : (found : Option JobState) → slice_get jobs (number - 1) ≡ found → 1 ≤ number → IsTrue (is_running found) → Runs jobs number (or_new found)
     by None is first h = absurd cc
     by (Some job) is first h = record { first = first; at = is; goes_on = not_ended job.ended h }
@@ -69,7 +70,7 @@ module _ (m new : Memory) (number : ℕ) (change : JobState → JobState) (jobs 
   pub job_of-own : job_of number new ≡ change (job_of number m)
   job_of-own =
       let at : job_at number new.jobs ≡ Some (change (job_of number m)) =
-          job_at-place number new.jobs runs.first ∙ ap (λ js. slice_get js (number - 1)) jobs ∙ changed-own (number - 1) change m.jobs (job_of number m) runs.at in
+      job_at-place number new.jobs runs.first ∙ ap (λ js. slice_get js (number - 1)) jobs ∙ changed-own (number - 1) change m.jobs (job_of number m) runs.at in
       ap or_new at
 
   pub job_of-other : (other : ℕ) → other ≢ number → job_of other new ≡ job_of other m

@@ -1,5 +1,5 @@
 -- What holds of a job alone stays so: that it is idle once it has ended, and that its opens are apart and under commitment control where it is.
-use Rattle.std.proofs.Common.{◌≡◌, ◌≢◌, ◌⊎◌, ℕ, ◌+◌, ◌-◌, ◌<◌, ◌≤◌, ◌||◌, ◌==◌, not, Bool, true, false, if◌then◌else◌, filter, map, List, [], ◌∷◌, ◌++◌, Option, Some, None, is_some, slice_get, refl, sym, ◌∙◌, ap, subst, arith}
+use Rattle.std.proofs.Common.{◌≡◌, ◌≢◌, ℕ, ◌+◌, ◌-◌, ◌≤◌, ◌||◌, ◌==◌, not, Bool, true, false, if◌then◌else◌, map, List, [], ◌∷◌, Some, None, is_some, slice_get, refl, sym, ◌∙◌, ap, subst, arith}
 use Rattle.std.specs.List.{AllByRecursion, list_any}
 use Rattle.std.proofs.lemmas.Cmp.{nat_list_eq_equiv}
 use Rattle.member_slots.specs.declared.slot.Slot.{Slot}
@@ -20,9 +20,10 @@ use Rattle.joint_state.specs.Cycles.{IsUnderControl}
 use Rattle.joint_state.specs.Joint.{IsIdle}
 use Rattle.joint_state.specs.Sound.{Does, after}
 use Rattle.locks_kept.proofs.AllEffects.{effect-of}
-use Rattle.locks_kept.proofs.Effects.{IsSameOpen, IsChange, in_cycle, changing, unread, Effect, Around, Opening, Closing, Use, Writing, Updating, Deleting, Start, End, Committing, RollingBack, EndingJob}
+use Rattle.locks_kept.proofs.Effects.{IsSameOpen, IsChange, changing, unread, Effect, Around, Opening, Closing, Use, Writing, Updating, Deleting, Start, End, Committing, RollingBack, EndingJob}
 use Rattle.locks_kept.proofs.JobLemmas.{Runs, running-Runs, each-job}
-use Rattle.locks_kept.proofs.OpenLemmas.{all-weaker, all-both, all-append, all-filter, all-map, named-holds, unnamed-differ, apart-map, apart-filter, apart-append}
+use Rattle.locks_kept.proofs.OpenLemmas.{named-holds, unnamed-differ, apart-map, apart-filter, apart-append}
+use Rattle.locks_kept.proofs.ListLemmas.{all-append, all-both, all-filter, all-map, all-weaker}
 
 pub record IsSoAlone (job : JobState) : Type 0 where
   pub idle : IsIdle job
@@ -147,8 +148,8 @@ module _ (m new : Memory) (job : ℕ) (runs : Runs m.jobs job (job_of job m)) (a
   change-alone opened call rrn slot change is same =
       each-job m new job (changing opened.commit is.cycle change) is.jobs runs (λ n j. IsSoAlone j)
       (alone-same (job_of job m) (changing opened.commit is.cycle change (job_of job m)) change
-       (changing-goes opened.commit is.cycle change (job_of job m) (λ none. named-holds (λ (o : OpenState). o.commit ≡ false) is.name (job_of job m).opens opened is.named (its.control.opens none)) same)
-       runs.goes_on its) others
+      (changing-goes opened.commit is.cycle change (job_of job m) (λ none. named-holds (λ (o : OpenState). o.commit ≡ false) is.name (job_of job m).opens opened is.named (its.control.opens none)) same)
+      runs.goes_on its) others
 
   pub alone-kept : Effect m job new → (place : ℕ) (j : JobState) → slice_get new.jobs place ≡ Some j → IsSoAlone j
   alone-kept (Around is) = λ place j at. all place j (ap (λ js. slice_get js place) (sym is.jobs) ∙ at)
@@ -158,8 +159,15 @@ module _ (m new : Memory) (job : ℕ) (runs : Runs m.jobs job (job_of job m)) (a
   alone-kept (Closing is) = each-job m new job (without_open is.name) is.jobs runs (λ n j. IsSoAlone j) (closing-alone is.name (job_of job m) runs.goes_on its) others
   alone-kept (Use is) =
       each-job m new job (open_changed is.opened.number is.change) is.jobs runs (λ n j. IsSoAlone j)
-      (alone-same (job_of job m) _ (λ o. if o.number == is.opened.number then is.change o else o) (record { ended = refl; level = refl; cycle = λ none was. was; opens = refl; opened = refl; same = λ o. same-if
-          (o.number == is.opened.number) is.change o (is.same o) }) runs.goes_on its) others
+      (alone-same (job_of job m) _ (λ o. if o.number == is.opened.number then is.change o else o) (record {
+        ended = refl;
+        level = refl;
+        cycle = λ none was. was;
+        opens = refl;
+        opened = refl;
+        same = λ o. same-if
+            (o.number == is.opened.number) is.change o (is.same o);
+      }) runs.goes_on its) others
   alone-kept (Writing is) = change-alone is.opened is.call is.rrn (Live is.image) (λ o. o) is.change (λ o. record { number = refl; member = refl; commit = refl })
   alone-kept (Updating is) = change-alone is.opened Update is.rrn (Live is.image) (unread is.opened.number) is.change (same-unread is.opened.number)
   alone-kept (Deleting is) = change-alone is.opened Delete is.rrn Deleted (without_record is.opened.member is.rrn) is.change (same-without_record is.opened.member is.rrn)

@@ -1,3 +1,6 @@
+pub mod TestLemmas
+pub mod OptionLemmas
+pub mod ListLemmas
 pub mod RefusalLemmas
 pub mod JobLemmas
 pub mod OpenLemmas

@@ -1,10 +1,9 @@
 -- What holds of the locks that a call leaves: each of them was held and isn't freed, or is the one that it gains.
-use Rattle.std.proofs.Common.{◌≡◌, ℕ, ◌||◌, not, cond, Bool, true, false, IfSome, filter, List, [], ◌∷◌, Option, Some, None, refl, sym, ◌∙◌, ap}
-use Rattle.std.specs.List.{All, AllByRecursion, list_any}
+use Rattle.std.proofs.Common.{◌≡◌, ℕ, ◌||◌, not, Bool, true, false, IfSome, List, [], ◌∷◌, Option, Some, None, refl, ◌∙◌, ap}
+use Rattle.std.specs.List.{AllByRecursion, list_any}
 use Rattle.std.specs.Ordering.{is_eq, match_ordering}
 use Rattle.std.specs.declared.cmp.Ordering.{Ordering}
 use Rattle.std.specs.declared.cmp.Ordering.TheVariants.{Less, Equal, Greater}
-use Rattle.std.proofs.lemmas.List.Elements.{All-head, All-tail}
 use Rattle.commit_level.specs.declared.Level.{Level}
 use Rattle.lock_table.specs.declared.lock.Lock.{Lock}
 use Rattle.lock_table.specs.declared.lock.LockKind.{LockKind}
@@ -21,51 +20,8 @@ use Rattle.lock_table.specs.Table.{with_item, without_lock, with_lock_by, freed}
 use Rattle.lock_table.specs.Levels.{gained, released, without_open_locks, without_boundary_locks, with_wanted, locks_after}
 use Rattle.lock_table.proofs.Kept.{list_any-with_item}
 use Rattle.lock_table.proofs.Locks.{lock_cmp-same}
-use Rattle.locks_kept.proofs.OpenLemmas.{all-weaker, all-filter}
-
--- ---- lists
-
-pub not_true : (b : Bool) → not b ≡ true → b ≡ false
-not_true true h = absurd cc
-not_true false h = refl
-
-pub or_true : (a b : Bool) → b ≡ true → (a || b) ≡ true
-or_true true b h = refl
-or_true false b h = h
-
-pub all-from : {X : Type 0} (P : X → Type 0) (xs : List X) → All P xs → AllByRecursion P xs
-all-from P [] all = tt
-all-from P (x ∷ xs) all = (All-head P x xs all, all-from P xs (All-tail P x xs all))
-
-pub all-freed : {X : Type 0} (P Q : X → Type 0) (gone : X → Bool) (xs : List X) → ((x : X) → gone x ≡ false → P x → Q x) → AllByRecursion P xs → AllByRecursion Q (filter (λ x. not (gone x)) xs)
-all-freed P Q gone xs each all = all-filter P Q (λ x. not (gone x)) xs (λ x left holds. each x (not_true (gone x) left) holds) all
-
-pub any-filter : {X : Type 0} (test spared : X → Bool) (xs : List X) → ((x : X) → test x ≡ true → spared x ≡ true) → list_any test xs ≡ true → list_any test (filter spared xs) ≡ true
-any-filter test spared [] each some = absurd cc
-any-filter test spared (x ∷ xs) each some =
-    elim (test x) as (λ b. test x ≡ b → (b || list_any test xs) ≡ true → list_any test (cond (spared x) (x ∷ filter spared xs) (filter spared xs)) ≡ true) [
-      | true ↦ λ e h. rw (each x e, e) refl
-      | false ↦ λ e h. elim (spared x) as (λ c. list_any test (cond c (x ∷ filter spared xs) (filter spared xs)) ≡ true) [
-        | true ↦ or_true (test x) (list_any test (filter spared xs)) (any-filter test spared xs each h)
-        | false ↦ any-filter test spared xs each h
-      ]
-    ] refl some
-
--- each of a list is found in it by whatever test it passes
-pub each-there : {X : Type 0} (xs : List X) → AllByRecursion (λ x. (test : X → Bool) → test x ≡ true → list_any test xs ≡ true) xs
-each-there [] = tt
-each-there {X = X} (x ∷ xs) =
-    (λ test passes. ap (λ b. b || list_any test xs) passes,
-     all-weaker (λ y. (test : X → Bool) → test y ≡ true → list_any test xs ≡ true) (λ y. (test : X → Bool) → test y ≡ true → list_any test (x ∷ xs) ≡ true) xs
-     (λ y there test passes. or_true (test x) (list_any test xs) (there test passes)) (each-there xs))
-
-pub any-none : {X : Type 0} (test : X → Bool) (xs : List X) → list_any test xs ≡ false → AllByRecursion (λ x. test x ≡ false) xs
-any-none test [] none = tt
-any-none test (x ∷ xs) none =
-    elim (test x) as (λ b. test x ≡ b → (b || list_any test xs) ≡ false → AllByRecursion (λ y. test y ≡ false) (x ∷ xs)) [
-      | true ↦ λ e h. absurd cc
-      | false ↦ λ e h. (e, any-none test xs h)
-    ] refl none
+use Rattle.locks_kept.proofs.ListLemmas.{all-filter, all-freed, all-weaker, any-filter}
+use Rattle.locks_kept.proofs.TestLemmas.{or_true}
 
 -- ---- a lock more
 
@@ -120,7 +76,7 @@ module _ (holder : Holder) (at : RecordId) (is_committed : ℕ → Bool) where
       let gone = released call level in
       with_wanted-all (gained call level) Q (without_open_locks gone.open_locks holder at is_committed (without_boundary_locks gone.boundary_locks holder.job held)) here
       (without_open-all gone.open_locks (λ l. P l × (gone.boundary_locks ≡ true → is_of_group holder.job l ≡ false)) Q (without_boundary_locks gone.boundary_locks holder.job held)
-       (λ l left was. each l left was.1 was.0) (without_boundary-all gone.boundary_locks P held all))
+      (λ l left was. each l left was.1 was.0) (without_boundary-all gone.boundary_locks P held all))
 
   -- ---- a lock that is left
 

@@ -1,5 +1,5 @@
 -- Each lock stands on a place of its member, through an open of its job or kept by a job under commitment control, after whatever is done.
-use Rattle.std.proofs.Common.{◌≡◌, ◌≢◌, ◌⊎◌, inl, inr, ℕ, zero, suc, ◌+◌, ◌-◌, ◌≤◌, ◌==◌, ◌&&◌, ◌||◌, not, Bool, true, false, cond, if◌then◌else◌, IsSome, IfSome, filter, map, length, List, [], ◌∷◌, ◌++◌, Option, Some, None, is_some, slice_get, refl, sym, ◌∙◌, ap, subst, arith}
+use Rattle.std.proofs.Common.{◌≡◌, ◌≢◌, inl, inr, ℕ, ◌+◌, ◌-◌, ◌≤◌, ◌==◌, ◌&&◌, ◌||◌, not, Bool, true, false, cond, if◌then◌else◌, IsSome, IfSome, filter, map, length, List, [], ◌∷◌, ◌++◌, Option, Some, None, is_some, slice_get, refl, sym, ◌∙◌, ap, subst, arith}
 use Rattle.std.specs.List.{AllByRecursion, list_any}
 use Rattle.std.proofs.lemmas.Bool.{cases_eq}
 use Rattle.std.proofs.lemmas.Bool.Decides.{nat_tests}
@@ -9,30 +9,25 @@ use Rattle.entry_codec.specs.declared.entries.Entry.{Entry}
 use Rattle.member_slots.specs.declared.slot.Slot.{Slot}
 use Rattle.member_slots.specs.declared.slot.Slot.TheVariants.{Live, Deleted}
 use Rattle.member_slots.specs.Members.{member_at, member_of}
-use Rattle.file_catalogue.specs.Owners.{has_number}
 use Rattle.job_table.specs.Users.{HasBegun}
 use Rattle.lock_table.specs.declared.levels.Call.{Call}
 use Rattle.lock_table.specs.declared.levels.Call.TheVariants.{InputRead, UpdateRead, Update, Delete, Write, WriteAt, Unlock, Position, Close, Commit, Rollback, EndCommitment, EndJob}
 use Rattle.lock_table.specs.declared.levels.Wanted.{Wanted}
-use Rattle.lock_table.specs.declared.levels.OpenLocks.{OpenLocks}
 use Rattle.lock_table.specs.declared.levels.OpenLocks.TheVariants.{OfOpen, OfJob}
 use Rattle.lock_table.specs.declared.lock.Lock.{Lock}
-use Rattle.lock_table.specs.declared.lock.Holder.{Holder}
-use Rattle.lock_table.specs.declared.lock.RecordId.{RecordId}
-use Rattle.lock_table.specs.Lock.{is_open, is_by, is_in, is_boundary_in, is_of_open, is_of_job, is_of_group, lock_by}
+use Rattle.lock_table.specs.Lock.{is_open, is_by, is_of_open, is_of_job, is_of_group, lock_by}
 use Rattle.lock_table.specs.Levels.{asked, gained, released}
 use Rattle.lock_table.proofs.Rules.{gained-asked}
 use Rattle.library_model.specs.Named.{Named, named, same_name}
-use Rattle.library_steps.specs.State.{State, Memory, FileState, fields_of, file_named, OpenState, CycleState, JobState, job_at, job_of, job_changed, memory_of, with_entries, open_named, or_new, with_opens}
+use Rattle.library_steps.specs.State.{State, Memory, FileState, fields_of, file_named, OpenState, JobState, job_at, job_of, job_changed, memory_of, with_entries, open_named, or_new, with_opens}
 use Rattle.library_steps.specs.Change.{Change}
 use Rattle.library_steps.specs.Locking.{level_of, holder_of, record_of, is_committed, locks_left}
-use Rattle.library_steps.specs.Opens.{with_open, without_open, new_open}
+use Rattle.library_steps.specs.Opens.{with_open, without_open}
 use Rattle.library_steps.specs.Reads.{open_changed}
-use Rattle.library_steps.specs.Records.{live_record}
 use Rattle.library_steps.specs.ChangeRecord.{without_record}
 use Rattle.library_steps.specs.Commitment.{boundary_locks, taken_back, committed_open, rolled_back_open, without_cycle, with_level, changes_of}
 use Rattle.library_steps.specs.EndJob.{ended_job}
-use Rattle.library_steps.specs.Uses.{first_job, user_of, uses, has_open_over, has_changed, has_boundary_lock}
+use Rattle.library_steps.specs.Uses.{user_of}
 use Rattle.library_parts.specs.Lawful.{OpensMember, OpenHolds, OpensHold}
 use Rattle.library_parts.proofs.MemberLemmas.{IsThere-is_some}
 use Rattle.joint_state.specs.Locks.{LockStands, HasOpenOf, is_through}
@@ -41,14 +36,16 @@ use Rattle.locks_kept.proofs.AllEffects.{effect-of}
 use Rattle.locks_kept.proofs.ChangeEffects.{IsPlace, same-opens}
 use Rattle.locks_kept.proofs.CompatibleKept.{IsBoundary, boundary-asks, stands-of, current-of}
 use Rattle.locks_kept.proofs.Effects.{IsSameOpen, IsAround, IsClosing, IsChange, IsTakingBack, changing, unread, slots_of, Effect, Around, Opening, Closing, Use, Writing, Updating, Deleting, Start, End, Committing, RollingBack, EndingJob}
-use Rattle.locks_kept.proofs.JobLemmas.{Runs, running-Runs, job_at-place, job_of-own, job_of-other}
+use Rattle.locks_kept.proofs.JobLemmas.{Runs, running-Runs, job_of-own, job_of-other}
 use Rattle.locks_kept.proofs.JobsKept.{Goes, changing-goes, same-if, same-unread, same-without_record, same-committed, same-rolled_back}
-use Rattle.locks_kept.proofs.LockLists.{all-from, is_freed, not_true, or_true, each-there, any-none, after-all}
+use Rattle.locks_kept.proofs.LockLists.{is_freed, after-all}
 use Rattle.locks_kept.proofs.OpenEffects.{asks-nothing}
-use Rattle.locks_kept.proofs.OpenLemmas.{all-weaker, all-both, all-map, named-holds, same-named}
-use Rattle.locks_kept.proofs.RecordLocks.{same-number, and-parts, some-each}
+use Rattle.locks_kept.proofs.OpenLemmas.{named-holds, same-named}
 use Rattle.locks_kept.proofs.UserLemmas.{used-by}
 use Rattle.locks_kept.proofs.SlotLemmas.{live-within, put-grows, put-behind, taken_back-grows}
+use Rattle.locks_kept.proofs.ListLemmas.{all-both, all-from, all-weaker, at-place, each-there}
+use Rattle.locks_kept.proofs.OptionLemmas.{some-both, some-each}
+use Rattle.locks_kept.proofs.TestLemmas.{number-same, or_true}
 
 -- ---- opens through which locks are held
 
@@ -58,9 +55,9 @@ pub through-map : (lock : Lock) (change : OpenState → OpenState) → ((o : Ope
 through-map lock change same [] some = absurd cc
 through-map lock change same (entry ∷ opens) some =
     let it : is_through lock (change entry.1) ≡ is_through lock entry.1 =
-        λ i. ((same entry.1).number i == lock.opened) && ((same entry.1).member i == lock.at.member) in
+    λ i. ((same entry.1).number i == lock.opened) && ((same entry.1).member i == lock.at.member) in
     elim (is_through lock entry.1) as (λ b. is_through lock entry.1 ≡ b → (b || list_any (λ (e : List ℕ × OpenState). is_through lock e.1) opens) ≡ true
-        → (is_through lock (change entry.1) || list_any (λ (e : List ℕ × OpenState). is_through lock e.1) (map (λ e. (e.0, change e.1)) opens)) ≡ true) [
+    → (is_through lock (change entry.1) || list_any (λ (e : List ℕ × OpenState). is_through lock e.1) (map (λ e. (e.0, change e.1)) opens)) ≡ true) [
       | true ↦ λ e h. ap (λ b. b || list_any (λ (e : List ℕ × OpenState). is_through lock e.1) (map (λ e. (e.0, change e.1)) opens)) (it ∙ e)
       | false ↦ λ e h. or_true (is_through lock (change entry.1)) (list_any (λ (e : List ℕ × OpenState). is_through lock e.1) (map (λ e. (e.0, change e.1)) opens)) (through-map lock change same opens h)
     ] refl some
@@ -89,13 +86,13 @@ through-others : (lock : Lock) (name : List ℕ) (opened : OpenState) (opens : N
 through-others lock name opened [] all differ some = absurd cc
 through-others lock name opened (entry ∷ opens) all differ some =
     elim (same_name name entry.0) as (λ b. same_name name entry.0 ≡ b
-        → list_any (λ (e : List ℕ × OpenState). is_through lock e.1) (cond (not b) (entry ∷ filter (λ e. not (same_name name e.0)) opens) (filter (λ e. not (same_name name e.0)) opens)) ≡ true) [
+    → list_any (λ (e : List ℕ × OpenState). is_through lock e.1) (cond (not b) (entry ∷ filter (λ e. not (same_name name e.0)) opens) (filter (λ e. not (same_name name e.0)) opens)) ≡ true) [
       | true ↦ λ its. through-others lock name opened opens all.1 differ (rest (all.0 its))
       | false ↦ λ its. elim (is_through lock entry.1) as (λ b. (b || list_any (λ (e : List ℕ × OpenState). is_through lock e.1) opens) ≡ true
           → (b || list_any (λ (e : List ℕ × OpenState). is_through lock e.1) (filter (λ e. not (same_name name e.0)) opens)) ≡ true) [
-        | true ↦ λ h. refl
-        | false ↦ λ h. through-others lock name opened opens all.1 differ h
-      ] some
+            | true ↦ λ h. refl
+            | false ↦ λ h. through-others lock name opened opens all.1 differ h
+          ] some
     ] refl
   where
     not_through : entry.1 ≡ opened → is_through lock entry.1 ≡ false
@@ -103,6 +100,7 @@ through-others lock name opened (entry ∷ opens) all differ some =
         let number : entry.1.number ≡ opened.number = ap (λ (o : OpenState). o.number) is in
         let other : (entry.1.number == lock.opened) ≡ false = grind (arith, nat_tests, number, differ) in
         rw other refl
+
     rest : entry.1 ≡ opened → list_any (λ (e : List ℕ × OpenState). is_through lock e.1) opens ≡ true
     rest is = sym (ap (λ b. b || list_any (λ (e : List ℕ × OpenState). is_through lock e.1) opens) (not_through is)) ∙ some
 
@@ -127,10 +125,6 @@ kept-started Commit None = tt
 kept-started Rollback None = tt
 kept-started EndCommitment None = tt
 kept-started EndJob None = tt
-
-some-both : {A : Type 0} (P Q R : A → Type 0) (o : Option A) → ((a : A) → P a → Q a → R a) → IfSome o P → IfSome o Q → IfSome o R
-some-both P Q R None joins one other = tt
-some-both P Q R (Some a) joins one other = joins a one other
 
 -- ---- which locks boundaries free
 
@@ -172,12 +166,6 @@ frees-open None = refl
 frees-open (Some levels.Chg) = refl
 frees-open (Some levels.Cs) = refl
 frees-open (Some levels.All) = refl
-
--- what holds of each holds at a place
-pub at-place : {X : Type 0} (P : X → Type 0) (xs : List X) (place : ℕ) (x : X) → slice_get xs place ≡ Some x → AllByRecursion P xs → P x
-at-place P [] place x at all = absurd cc
-at-place P (y ∷ ys) zero x at all = let same : y ≡ x = cc in subst P same all.0
-at-place P (y ∷ ys) (suc place) x at all = at-place P ys place x at all.1
 
 -- ---- a lock in another memory
 
@@ -229,6 +217,7 @@ module _ (s : State) (new : Memory) (job : ℕ) (sound : IsSound s) (runs : Runs
     where
       same-job : job_of l.job new ≡ job_of l.job m
       same-job = ap (λ js. or_new (job_at l.job js)) is.jobs
+
       in-use : user_of l.at.member m ≡ None → ⊥
       in-use free = used-by m l stands begun there free
 
@@ -236,7 +225,7 @@ module _ (s : State) (new : Memory) (job : ℕ) (sound : IsSound s) (runs : Runs
   around-stand is = all-both (λ (l : Lock). LockStands m l × HasBegun (length m.jobs) l.job) (λ l. (test : Lock → Bool) → test l ≡ true → list_any test m.locks ≡ true) (LockStands new) m.locks
       (λ l both there. used-stands is l both.0 both.1 there)
       (all-both (LockStands m) (λ l. HasBegun (length m.jobs) l.job) (λ l. LockStands m l × HasBegun (length m.jobs) l.job) m.locks (λ l one other. (one, other)) sound.joint.locks
-       (all-from (λ l. HasBegun (length m.jobs) l.job) m.locks sound.library.keepers))
+      (all-from (λ l. HasBegun (length m.jobs) l.job) m.locks sound.library.keepers))
       (each-there m.locks)
 
   -- ---- calls through an open
@@ -250,27 +239,25 @@ module _ (s : State) (new : Memory) (job : ℕ) (sound : IsSound s) (runs : Runs
       there = within.1;
       opened = λ ends. subst (λ (j : JobState). HasOpenOf j lock) (sym (job_of-own m new job change jobs runs))
           (subst (λ (opens : Named OpenState). list_any (λ (e : List ℕ × OpenState). is_through lock e.1) opens ≡ true) (sym goes.opens)
-           (through-map lock of_open goes.same its.opens (through-named lock name its.opens opened named (rw (same-self opened.number, same-self opened.member) refl))));
+          (through-map lock of_open goes.same its.opens (through-named lock name its.opens opened named (rw (number-same opened.number opened.number refl, number-same opened.member opened.member refl) refl))));
       started = λ kept. subst (λ (j : JobState). IsSome j.level) (sym (job_of-own m new job change jobs runs)) (subst (λ (l : Option Level). IsSome l) (sym goes.level) (level-started its opened (level kept)));
     }
       where
         lock : Lock
         lock = lock_by (holder_of job opened) (record_of opened rrn) wanted.kind wanted.reach
-        same-self : (n : ℕ) → (n == n) ≡ true
-        same-self n = grind (arith, nat_tests)
 
     call-stands : new.locks ≡ locks_left call job opened rrn m → ((number : ℕ) → length (slots_of number m) ≤ length (slots_of number new))
         → IfSome (asked call (level_of its opened)) (λ w. (1 ≤ rrn) × (rrn ≤ length (slots_of opened.member new))) → AllByRecursion (LockStands new) new.locks
     call-stands locks grows within =
         subst (AllByRecursion (LockStands new)) (sym locks)
         (after-all (holder_of job opened) (record_of opened rrn) (is_committed its) call (level_of its opened) (LockStands m) (LockStands new) m.locks
-         (λ l left spared stands. stands-after change jobs grows l
-          (λ same ends has. subst (λ (opens : Named OpenState). list_any (λ (e : List ℕ × OpenState). is_through l e.1) opens ≡ true) (sym goes.opens) (through-map l of_open goes.same its.opens has))
-          (λ same kept started. subst (λ (o : Option Level). IsSome o) (sym goes.level) started) stands)
-         (some-both (λ w. (1 ≤ rrn) × (rrn ≤ length (slots_of opened.member new))) (λ w. is_open w.reach ≡ false → IsSome (level_of its opened))
-          (λ w. LockStands new (lock_by (holder_of job opened) (record_of opened rrn) w.kind w.reach)) (gained call (level_of its opened)) (λ w bounds level. gains bounds w level)
-          (gained-asked (λ w. (1 ≤ rrn) × (rrn ≤ length (slots_of opened.member new))) call (level_of its opened) within) (kept-started call (level_of its opened)))
-         sound.joint.locks)
+        (λ l left spared stands. stands-after change jobs grows l
+        (λ same ends has. subst (λ (opens : Named OpenState). list_any (λ (e : List ℕ × OpenState). is_through l e.1) opens ≡ true) (sym goes.opens) (through-map l of_open goes.same its.opens has))
+        (λ same kept started. subst (λ (o : Option Level). IsSome o) (sym goes.level) started) stands)
+        (some-both (λ w. (1 ≤ rrn) × (rrn ≤ length (slots_of opened.member new))) (λ w. is_open w.reach ≡ false → IsSome (level_of its opened))
+        (λ w. LockStands new (lock_by (holder_of job opened) (record_of opened rrn) w.kind w.reach)) (gained call (level_of its opened)) (λ w bounds level. gains bounds w level)
+        (gained-asked (λ w. (1 ≤ rrn) × (rrn ≤ length (slots_of opened.member new))) call (level_of its opened) within) (kept-started call (level_of its opened)))
+        sound.joint.locks)
 
   same-slots : new.members ≡ m.members → (number : ℕ) → length (slots_of number m) ≤ length (slots_of number new)
   same-slots members number = let same : length (slots_of number new) ≡ length (slots_of number m) = ap (λ all. length (member_of number all).slots) members in omega (arith, same)
@@ -300,6 +287,7 @@ module _ (s : State) (new : Memory) (job : ℕ) (sound : IsSound s) (runs : Runs
     where
       all-at : (place : ℕ) → slice_get m.jobs place ≡ Some its → AllByRecursion (λ e. OpenHolds m.files e.1) its.opens
       all-at place at = at-place (OpensHold m.files) m.jobs place its at sound.library.opens
+
       by : (file : Option FileState) → file_named opened.file m ≡ file → OpensMember opened.member file → is_some (member_at opened.member m.members) ≡ true
       by None is h = absurd h
       by (Some file) is h = IsThere-is_some (fields_of file) (member_at opened.member m.members) (sound.library.members opened.file file opened.member (record { there = is; has = h }))
@@ -310,7 +298,7 @@ module _ (s : State) (new : Memory) (job : ℕ) (sound : IsSound s) (runs : Runs
   boundary-gains call is Q = gained-asked Q call its.level (subst (λ o. IfSome o Q) (sym (boundary-asks call is its.level)) tt)
 
   by-job : (l : Lock) → l.job ≡ job → is_by job l ≡ true
-  by-job l same = grind (arith, nat_tests, same)
+  by-job l same = number-same l.job job same
 
   -- a lock that is kept to the boundary isn't left
   not-left : (call : Call) → IsBoundary call → (l : Lock) → ((released call its.level).boundary_locks ≡ true → is_of_group job l ≡ false) → l.job ≡ job → is_open l.reach ≡ false → ⊥
@@ -325,10 +313,10 @@ module _ (s : State) (new : Memory) (job : ℕ) (sound : IsSound s) (runs : Runs
   boundary-stands call is change of_open jobs opens same locks grows =
       subst (AllByRecursion (LockStands new)) (sym locks)
       (after-all (record { job = job; opened = 0 }) (record { member = 0; rrn = 0 }) (is_committed its) call its.level (LockStands m) (LockStands new) m.locks
-       (λ l left spared stands. stands-after change jobs grows l
-        (λ own ends has. subst (λ (all : Named OpenState). list_any (λ (e : List ℕ × OpenState). is_through l e.1) all ≡ true) (sym opens) (through-map l of_open same its.opens has))
-        (λ own kept started. absurd (not-left call is l spared own kept)) stands)
-       (boundary-gains call is _) sound.joint.locks)
+      (λ l left spared stands. stands-after change jobs grows l
+      (λ own ends has. subst (λ (all : Named OpenState). list_any (λ (e : List ℕ × OpenState). is_through l e.1) all ≡ true) (sym opens) (through-map l of_open same its.opens has))
+      (λ own kept started. absurd (not-left call is l spared own kept)) stands)
+      (boundary-gains call is _) sound.joint.locks)
 
   taken-longer : new.members ≡ (taken_back (changes_of its.cycle) m).members → (number : ℕ) → length (slots_of number m) ≤ length (slots_of number new)
   taken-longer members number =
@@ -340,10 +328,10 @@ module _ (s : State) (new : Memory) (job : ℕ) (sound : IsSound s) (runs : Runs
   ending-stands is =
       subst (AllByRecursion (LockStands new)) (sym is.locks)
       (after-all (record { job = job; opened = 0 }) (record { member = 0; rrn = 0 }) (is_committed its) EndJob its.level (LockStands m) (LockStands new) m.locks
-       (λ l left spared stands. stands-after ended_job is.jobs (taken-longer is.members) l
-        (λ own ends has. absurd (open-left l left own ends))
-        (λ own kept started. absurd (not-left EndJob tt l spared own kept)) stands)
-       (boundary-gains EndJob tt _) sound.joint.locks)
+      (λ l left spared stands. stands-after ended_job is.jobs (taken-longer is.members) l
+      (λ own ends has. absurd (open-left l left own ends))
+      (λ own kept started. absurd (not-left EndJob tt l spared own kept)) stands)
+      (boundary-gains EndJob tt _) sound.joint.locks)
     where
       open-left : (l : Lock) → is_freed (released EndJob its.level).open_locks (record { job = job; opened = 0 }) (record { member = 0; rrn = 0 }) (is_committed its) l ≡ false → l.job ≡ job → is_open l.reach ≡ true → ⊥
       open-left l left own ends =
@@ -357,18 +345,19 @@ module _ (s : State) (new : Memory) (job : ℕ) (sound : IsSound s) (runs : Runs
   closing-stands is =
       subst (AllByRecursion (LockStands new)) (sym is.locks)
       (after-all (holder_of job is.opened) (record_of is.opened 0) (is_committed its) Close (level_of its is.opened) (LockStands m) (LockStands new) m.locks
-       (λ l left spared stands. stands-after (without_open is.name) is.jobs (same-slots is.members) l
-        (λ own ends has. through-others l is.name is.opened its.opens (same-named is.name its.opens is.opened is.named (stands-of s job sound runs).opens.apart) (other l left own ends) has)
-        (λ own kept started. started) stands)
-       (gained-asked gains-nothing Close (level_of its is.opened) (subst (λ o. IfSome o gains-nothing) (sym (asks-nothing Close (level_of its is.opened) tt)) tt)) sound.joint.locks)
+      (λ l left spared stands. stands-after (without_open is.name) is.jobs (same-slots is.members) l
+      (λ own ends has. through-others l is.name is.opened its.opens (same-named is.name its.opens is.opened is.named (stands-of s job sound runs).opens.apart) (other l left own ends) has)
+      (λ own kept started. started) stands)
+      (gained-asked gains-nothing Close (level_of its is.opened) (subst (λ o. IfSome o gains-nothing) (sym (asks-nothing Close (level_of its is.opened) tt)) tt)) sound.joint.locks)
     where
       gains-nothing : Wanted → Type 0
       gains-nothing w = LockStands new (lock_by (holder_of job is.opened) (record_of is.opened 0) w.kind w.reach)
+
       other : (l : Lock) → is_freed (released Close (level_of its is.opened)).open_locks (holder_of job is.opened) (record_of is.opened 0) (is_committed its) l ≡ false → l.job ≡ job → is_open l.reach ≡ true
           → l.opened ≢ is.opened.number
       other l left own ends = λ same. (
           let none : is_of_open (holder_of job is.opened) l ≡ false =
-              sym (ap (λ which. is_freed which (holder_of job is.opened) (record_of is.opened 0) (is_committed its) l) (frees-open (level_of its is.opened))) ∙ left in
+          sym (ap (λ which. is_freed which (holder_of job is.opened) (record_of is.opened 0) (is_committed its) l) (frees-open (level_of its is.opened))) ∙ left in
           let number : (l.opened == is.opened.number) ≡ true = grind (arith, nat_tests, same) in
           let some : is_of_open (holder_of job is.opened) l ≡ true = rw (ends, by-job l own, number) refl in
           absurd cc)
@@ -403,6 +392,7 @@ module _ (s : State) (new : Memory) (job : ℕ) (sound : IsSound s) (runs : Runs
       write-first : IsPlace m job is.opened is.call is.rrn → 1 ≤ is.rrn
       write-first (inl next) = let at = next.1 in omega (arith, at)
       write-first (inr named) = named.1.first
+
       write-last : IsPlace m job is.opened is.call is.rrn → is.rrn ≤ length (slots_of is.opened.member m) + 1
       write-last (inl next) = let at = next.1 in omega (arith, at)
       write-last (inr named) = named.1.last

@@ -1,5 +1,5 @@
 -- The requests that open, close and use an open, and change no record: OPNDBF, CLOF, SETLL, SETGT, the reads, and UNLOCK.
-use Rattle.std.proofs.Common.{◌≡◌, ◌⊎◌, inl, inr, ℕ, ◌+◌, ◌-◌, ◌||◌, not, nat_le, Bool, true, false, List, length, Option, Some, None, Result, Ok, Err, IsSome, IfSome, is_some, refl, ap}
+use Rattle.std.proofs.Common.{◌≡◌, inl, inr, ℕ, ◌||◌, not, nat_le, Bool, true, false, List, length, Option, Some, None, Result, IsSome, IfSome, is_some, refl, ap}
 use Rattle.std.specs.Option.{is_none, option_and_then}
 use Rattle.commit_level.specs.declared.Level.{Level}
 use Rattle.commit_level.specs.declared.Level.TheVariants as levels
@@ -9,11 +9,10 @@ use Rattle.lock_table.specs.Levels.{asked}
 use Rattle.lock_table.specs.Table.{blocker}
 use Rattle.file_model.specs.KeyOrder.{KeyValue}
 use Rattle.file_model.specs.Paths.{PathEntry}
-use Rattle.file_model.specs.Positions.{Bound, Position, Reading, Before, Past, next_from, prior_from, next_equal, prior_equal, chain_key, chain_number}
+use Rattle.file_model.specs.Positions.{Bound, Position, Reading, Before, Past, next_from, prior_from, next_equal, prior_equal}
 use Rattle.library_model.specs.declared.limits.TheConstants.{MOST_OPENS}
 use Rattle.library_model.specs.declared.replies.Reply.{Reply}
 use Rattle.library_model.specs.declared.replies.Reply.TheVariants as replies
-use Rattle.library_model.specs.declared.replies.Missing.TheVariants as missing
 use Rattle.library_model.specs.declared.replies.LimitKind.TheVariants as limits
 use Rattle.library_model.specs.declared.requests.ChainRecord.{ChainRecord}
 use Rattle.library_model.specs.declared.requests.ChainTo.{ChainTo}
@@ -32,19 +31,16 @@ use Rattle.library_steps.specs.Refusals.{found, refuse_if, named_or_refused, mem
 use Rattle.library_steps.specs.Locking.{level_of, record_of, clashing, few_locks}
 use Rattle.library_steps.specs.Records.{live_record, reading_of, key_asked, number_asked}
 use Rattle.library_steps.specs.Opens.{may_commit, open_plan, open_file, close_file}
-use Rattle.library_steps.specs.Reads.{bound_asked, NewPosition, position_plan, position_change, positioned, set_lower_limit, set_greater_than, default_read, read_call, FoundEntry, if_lockable, current_after, has_read, read_change, read_plan, read, read_prior, read_equal_plan, read_equal, read_prior_equal, chained, chain_plan, chain}
-use Rattle.library_steps.specs.ChangeRecord.{has_open_lock, has_boundary_lock, without_current, LastRead, unlock_plan, unlock_change, unlock}
+use Rattle.library_steps.specs.Reads.{bound_asked, position_plan, position_change, positioned, set_lower_limit, set_greater_than, default_read, read_call, FoundEntry, if_lockable, current_after, has_read, read_change, read_plan, read, read_prior, read_equal_plan, read_equal, read_prior_equal, chained, chain_plan, chain}
+use Rattle.library_steps.specs.ChangeRecord.{has_open_lock, has_boundary_lock, without_current, unlock_plan, unlock_change, unlock}
 use Rattle.library_parts.specs.Locks.{IsRead, AsksNone}
 use Rattle.locks_kept.proofs.AroundEffects.{Leaves}
-use Rattle.locks_kept.proofs.Effects.{IsOpening, IsClosing, IsUse, Opening, Closing, Use}
-use Rattle.locks_kept.proofs.FoundLemmas.{AreLive, Stands, reading-live, some-holds, next_from-holds, prior_from-holds, next_equal-holds, prior_equal-holds, chain_key-holds, chain_number-holds}
+use Rattle.locks_kept.proofs.Effects.{Opening, Closing, Use}
+use Rattle.locks_kept.proofs.FoundLemmas.{AreLive, Stands, reading-live, next_from-holds, prior_from-holds, next_equal-holds, prior_equal-holds, chain_key-holds, chain_number-holds}
 use Rattle.locks_kept.proofs.RefusalLemmas.{Holds, each-holds, found-holds, refuse_if-holds, refuse_with-holds, then-holds, bind-holds, does-holds, wider-holds}
+use Rattle.locks_kept.proofs.OptionLemmas.{nothing-there, some-holds}
 
 -- ---- OPNDBF and CLOF
-
-nothing-there : {A : Type 0} (thing : Option A) → is_some thing ≡ false → thing ≡ None
-nothing-there None none = refl
-nothing-there (Some x) none = absurd cc
 
 may_commit-started : (commit : Bool) (status : MemberStatus) (job : JobState) → Holds (may_commit commit status job) (λ passed. commit ≡ true → is_some job.level ≡ true)
 may_commit-started false status job = record { holds = λ e. absurd cc }

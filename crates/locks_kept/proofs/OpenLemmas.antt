@@ -1,40 +1,13 @@
 -- What is known of an open that its job has under a name, and what changes of opens leave of how they are told apart.
-use Rattle.std.proofs.Common.{◌≡◌, ◌≢◌, ℕ, ◌+◌, ◌<◌, ◌≤◌, Bool, true, false, not, cond, filter, map, List, [], ◌∷◌, ◌++◌, Option, Some, None, refl, sym, ◌∙◌, ap, subst, arith}
+use Rattle.std.proofs.Common.{◌≡◌, ◌≢◌, ℕ, ◌<◌, Bool, true, false, cond, filter, map, List, [], ◌∷◌, ◌++◌, Some, None, refl, ap, subst, arith}
 use Rattle.std.specs.List.{AllByRecursion}
 use Rattle.std.proofs.lemmas.Cmp.{nat_list_eq_equiv}
 use Rattle.library_model.specs.Named.{Named, named, same_name}
-use Rattle.library_steps.specs.State.{OpenState, JobState}
+use Rattle.library_steps.specs.State.{OpenState}
 use Rattle.joint_state.specs.Opens.{IsBefore, AreApart}
+use Rattle.locks_kept.proofs.ListLemmas.{all-append, all-filter, all-map, all-weaker}
 
 -- ---- what holds of each
-
-pub all-weaker : {X : Type 0} (P Q : X → Type 0) (xs : List X) → ((x : X) → P x → Q x) → AllByRecursion P xs → AllByRecursion Q xs
-all-weaker P Q [] widens all = tt
-all-weaker P Q (x ∷ xs) widens all = (widens x all.0, all-weaker P Q xs widens all.1)
-
-pub all-both : {X : Type 0} (P Q R : X → Type 0) (xs : List X) → ((x : X) → P x → Q x → R x) → AllByRecursion P xs → AllByRecursion Q xs → AllByRecursion R xs
-all-both P Q R [] joins one other = tt
-all-both P Q R (x ∷ xs) joins one other = (joins x one.0 other.0, all-both P Q R xs joins one.1 other.1)
-
-pub all-each : {X : Type 0} (P : X → Type 0) (xs : List X) → ((x : X) → P x) → AllByRecursion P xs
-all-each P [] each = tt
-all-each P (x ∷ xs) each = (each x, all-each P xs each)
-
-pub all-append : {X : Type 0} (P : X → Type 0) (xs ys : List X) → AllByRecursion P xs → AllByRecursion P ys → AllByRecursion P (xs ++ ys)
-all-append P [] ys all more = more
-all-append P (x ∷ xs) ys all more = (all.0, all-append P xs ys all.1 more)
-
-pub all-filter : {X : Type 0} (P Q : X → Type 0) (test : X → Bool) (xs : List X) → ((x : X) → test x ≡ true → P x → Q x) → AllByRecursion P xs → AllByRecursion Q (filter test xs)
-all-filter P Q test [] each all = tt
-all-filter P Q test (x ∷ xs) each all =
-    elim (test x) as (λ b. test x ≡ b → AllByRecursion Q (cond b (x ∷ filter test xs) (filter test xs))) [
-      | true ↦ λ e. (each x e all.0, all-filter P Q test xs each all.1)
-      | false ↦ λ e. all-filter P Q test xs each all.1
-    ] refl
-
-pub all-map : {X Y : Type 0} (P : X → Type 0) (Q : Y → Type 0) (f : X → Y) (xs : List X) → ((x : X) → P x → Q (f x)) → AllByRecursion P xs → AllByRecursion Q (map f xs)
-all-map P Q f [] each all = tt
-all-map P Q f (x ∷ xs) each all = (each x all.0, all-map P Q f xs each all.1)
 
 -- ---- what has a name
 
@@ -64,14 +37,16 @@ same-number name [] opened is apart = tt
 same-number name (entry ∷ opens) opened is apart =
     elim (same_name name entry.0) as (λ b. cond b (Some entry.1) (named name opens) ≡ Some opened → AllByRecursion (λ e. e.1.number ≡ opened.number → e.1 ≡ opened) (entry ∷ opens)) [
       | true ↦ λ e. (
-          let here : entry.1 ≡ opened = cc in
-          (λ same. here, all-weaker (IsBefore entry) (λ e. e.1.number ≡ opened.number → e.1 ≡ opened) opens (λ later before same. absurd (
-          let numbers = before.numbers in
-          let number : entry.1.number ≡ opened.number = ap (λ (o : OpenState). o.number) here in
-          omega (arith, numbers, number, same))) apart.0))
+          let here : entry.1 ≡ opened = cc in (
+            λ same. here,
+            all-weaker (IsBefore entry) (λ e. e.1.number ≡ opened.number → e.1 ≡ opened) opens (λ later before same. absurd (
+                let numbers = before.numbers in
+                let number : entry.1.number ≡ opened.number = ap (λ (o : OpenState). o.number) here in
+                omega (arith, numbers, number, same))) apart.0,
+          ))
       | false ↦ λ e. (
           let later : entry.1.number < opened.number = named-holds (λ (o : OpenState). entry.1.number < o.number) name opens opened e
-              (all-weaker (IsBefore entry) (λ o. entry.1.number < o.1.number) opens (λ o before. before.numbers) apart.0) in
+          (all-weaker (IsBefore entry) (λ o. entry.1.number < o.1.number) opens (λ o before. before.numbers) apart.0) in
           (λ same. absurd (omega (arith, later, same)), same-number name opens opened e apart.1))
     ] is
 
@@ -82,10 +57,12 @@ same-named name [] opened is apart = tt
 same-named name (entry ∷ opens) opened is apart =
     elim (same_name name entry.0) as (λ b. same_name name entry.0 ≡ b → cond b (Some entry.1) (named name opens) ≡ Some opened → AllByRecursion (λ e. same_name name e.0 ≡ true → e.1 ≡ opened) (entry ∷ opens)) [
       | true ↦ λ its e. (
-          (λ same. (let here : entry.1 ≡ opened = cc in here)), all-weaker (IsBefore entry) (λ e. same_name name e.0 ≡ true → e.1 ≡ opened) opens (λ later before same. absurd (
-          let differ = before.names in
-          let both : same_name name later.0 ≡ same_name entry.0 later.0 = nat_list_eq_equiv.congr name entry.0 later.0 its in
-          cc)) apart.0)
+        (λ same. (let here : entry.1 ≡ opened = cc in here)),
+        all-weaker (IsBefore entry) (λ e. same_name name e.0 ≡ true → e.1 ≡ opened) opens (λ later before same. absurd (
+            let differ = before.names in
+            let both : same_name name later.0 ≡ same_name entry.0 later.0 = nat_list_eq_equiv.congr name entry.0 later.0 its in
+            cc)) apart.0,
+      )
       | false ↦ λ its e. ((λ same. absurd cc), same-named name opens opened e apart.1)
     ] refl is
 
@@ -95,30 +72,33 @@ pub other-number : (name : List ℕ) (opens : Named OpenState) (opened : OpenSta
 other-number name [] opened is apart = tt
 other-number name (entry ∷ opens) opened is apart =
     elim (same_name name entry.0) as (λ b. same_name name entry.0 ≡ b → cond b (Some entry.1) (named name opens) ≡ Some opened
-        → AllByRecursion (λ e. same_name name e.0 ≡ false → e.1.number ≢ opened.number) (entry ∷ opens)) [
+    → AllByRecursion (λ e. same_name name e.0 ≡ false → e.1.number ≢ opened.number) (entry ∷ opens)) [
       | true ↦ λ its e. (
           let here : entry.1 ≡ opened = cc in
-          let number : entry.1.number ≡ opened.number = ap (λ (o : OpenState). o.number) here in
-          (λ differ. absurd cc, all-weaker (IsBefore entry) (λ e. same_name name e.0 ≡ false → e.1.number ≢ opened.number) opens (λ later before differ same. (
-          let numbers = before.numbers in
-          absurd (omega (arith, numbers, number, same)))) apart.0))
+          let number : entry.1.number ≡ opened.number = ap (λ (o : OpenState). o.number) here in (
+            λ differ. absurd cc,
+            all-weaker (IsBefore entry) (λ e. same_name name e.0 ≡ false → e.1.number ≢ opened.number) opens (λ later before differ same. (
+                let numbers = before.numbers in
+                absurd (omega (arith, numbers, number, same)))) apart.0,
+          ))
       | false ↦ λ its e. (
           let later : entry.1.number < opened.number = named-holds (λ (o : OpenState). entry.1.number < o.number) name opens opened e
-              (all-weaker (IsBefore entry) (λ o. entry.1.number < o.1.number) opens (λ o before. before.numbers) apart.0) in
+          (all-weaker (IsBefore entry) (λ o. entry.1.number < o.1.number) opens (λ o before. before.numbers) apart.0) in
           (λ differ same. absurd (omega (arith, later, same)), other-number name opens opened e apart.1))
     ] refl is
 
 pub apart-map : (change : OpenState → OpenState) → ((opened : OpenState) → (change opened).number ≡ opened.number) → (opens : Named OpenState) → AreApart opens
     → AreApart (map (λ entry. (entry.0, change entry.1)) opens)
 apart-map change same [] apart = tt
-apart-map change same (entry ∷ opens) apart =
-    (all-map (IsBefore entry) (IsBefore (entry.0, change entry.1)) (λ e. (e.0, change e.1)) opens
-     (λ later before. (
-     let numbers = before.numbers in
-     let one : (change entry.1).number ≡ entry.1.number = same entry.1 in
-     let other : (change later.1).number ≡ later.1.number = same later.1 in
-     record { names = before.names; numbers = omega (arith, numbers, one, other) })) apart.0,
-     apart-map change same opens apart.1)
+apart-map change same (entry ∷ opens) apart = (
+  all-map (IsBefore entry) (IsBefore (entry.0, change entry.1)) (λ e. (e.0, change e.1)) opens
+      (λ later before. (
+      let numbers = before.numbers in
+      let one : (change entry.1).number ≡ entry.1.number = same entry.1 in
+      let other : (change later.1).number ≡ later.1.number = same later.1 in
+      record { names = before.names; numbers = omega (arith, numbers, one, other) })) apart.0,
+  apart-map change same opens apart.1,
+)
 
 pub apart-filter : (test : List ℕ × OpenState → Bool) (opens : Named OpenState) → AreApart opens → AreApart (filter test opens)
 apart-filter test [] apart = tt

@@ -1,5 +1,5 @@
 -- Where a record is locked for a change, no other job's lock is in the way; and none is at the place behind the last.
-use Rattle.std.proofs.Common.{◌≡◌, ◌≢◌, ℕ, ◌+◌, ◌≤◌, ◌==◌, ◌&&◌, ◌||◌, not, Bool, true, false, cond, IsTrue, IfSome, filter, length, List, [], ◌∷◌, Option, Some, None, refl, sym, ◌∙◌, ap, subst, arith}
+use Rattle.std.proofs.Common.{◌≡◌, ◌≢◌, ℕ, ◌+◌, ◌≤◌, ◌==◌, ◌&&◌, ◌||◌, not, Bool, true, false, IfSome, length, List, Option, Some, None, refl, sym, ◌∙◌, ap, subst, arith}
 use Rattle.std.specs.List.{All, AllByRecursion, list_any}
 use Rattle.std.specs.Option.{option_and_then}
 use Rattle.std.proofs.lemmas.Bool.Decides.{nat_tests}
@@ -13,28 +13,18 @@ use Rattle.lock_table.specs.Table.{AreCompatible, blocker, least_job}
 use Rattle.library_steps.specs.State.{Memory}
 use Rattle.joint_state.specs.CurrentRecords.{keeps_record}
 use Rattle.joint_state.specs.Locks.{LockStands}
-use Rattle.locks_kept.proofs.LockLists.{all-from, or_true}
-use Rattle.locks_kept.proofs.OpenLemmas.{all-weaker}
-
-pub same-number : (a b : ℕ) → (a == b) ≡ true → a ≡ b
-same-number a b e = grind (arith, nat_tests, e)
-
-pub and-parts : (a b : Bool) → (a && b) ≡ true → (a ≡ true) × (b ≡ true)
-and-parts true b h = (refl, h)
-and-parts false b h = absurd cc
-
-and-all : (a b c : Bool) → a ≡ true → b ≡ true → c ≡ true → (a && (b && c)) ≡ true
-and-all true true true p q r = refl
-and-all true true false p q r = absurd cc
-and-all true false c p q r = absurd cc
-and-all false b c p q r = absurd cc
+use Rattle.locks_kept.proofs.ListLemmas.{all-from, all-weaker, none-filter, witness}
+use Rattle.locks_kept.proofs.TestLemmas.{and-all, and-parts, number-is, number-same, or_true}
 
 pub is_on-same : (at : RecordId) (l : Lock) → is_on at l ≡ true → l.at ≡ at
 is_on-same at l on =
     let parts = and-parts (l.at.member == at.member) (l.at.rrn == at.rrn) on in
-    let member : l.at.member ≡ at.member = same-number l.at.member at.member parts.0 in
-    let rrn : l.at.rrn ≡ at.rrn = same-number l.at.rrn at.rrn parts.1 in
+    let member : l.at.member ≡ at.member = number-is l.at.member at.member parts.0 in
+    let rrn : l.at.rrn ≡ at.rrn = number-is l.at.rrn at.rrn parts.1 in
     λ i. record { member = member i; rrn = rrn i }
+
+pub on-same : (at : RecordId) (l : Lock) → l.at ≡ at → is_on at l ≡ true
+on-same at l same = ap (λ x. is_on x l) (sym same) ∙ rw (number-same l.at.member l.at.member refl, number-same l.at.rrn l.at.rrn refl) refl
 
 -- what a lock is by which an open keeps its current record
 pub record Keeps (commit : Bool) (holder : Holder) (record_at : RecordId) (l : Lock) : Type 0 where
@@ -53,18 +43,15 @@ keeps-is commit holder at l keeps = by (parts (is_on at l) (is_by holder.job l) 
     parts true true false d e h = absurd cc
     parts true false c d e h = absurd cc
     parts false b c d e h = absurd cc
+
     by : (is_on at l ≡ true) × (is_by holder.job l ≡ true) × ((l.opened == holder.opened) ≡ true) × (is_update l.kind ≡ true) × ((commit || is_open l.reach) ≡ true) → Keeps commit holder at l
-    by p = record { at = is_on-same at l p.0; job = same-number l.job holder.job p.1; opened = same-number l.opened holder.opened p.2; update = p.3; reach = p.4 }
+    by p = record { at = is_on-same at l p.0; job = number-is l.job holder.job p.1; opened = number-is l.opened holder.opened p.2; update = p.3; reach = p.4 }
 
 pub keeps-from : (commit : Bool) (holder : Holder) (at : RecordId) (l : Lock) → Keeps commit holder at l → keeps_record commit holder at l ≡ true
 keeps-from commit holder at l keeps =
     join (is_on at l) (is_by holder.job l) (l.opened == holder.opened) (is_update l.kind) (commit || is_open l.reach)
-    (ap (λ x. is_on x l) (sym keeps.at) ∙ on l.at) (same l.job holder.job keeps.job) (same l.opened holder.opened keeps.opened) keeps.update keeps.reach
+    (on-same at l keeps.at) (number-same l.job holder.job keeps.job) (number-same l.opened holder.opened keeps.opened) keeps.update keeps.reach
   where
-    same : (a b : ℕ) → a ≡ b → (a == b) ≡ true
-    same a b e = grind (arith, nat_tests, e)
-    on : (x : RecordId) → ((x.member == x.member) && (x.rrn == x.rrn)) ≡ true
-    on x = rw (same x.member x.member refl, same x.rrn x.rrn refl) refl
     join : (a b c d e : Bool) → a ≡ true → b ≡ true → c ≡ true → d ≡ true → e ≡ true → (a && b && c && d && e) ≡ true
     join true true true true true p q r s t = refl
     join true true true true false p q r s t = absurd cc
@@ -72,19 +59,6 @@ keeps-from commit holder at l keeps =
     join true true false d e p q r s t = absurd cc
     join true false c d e p q r s t = absurd cc
     join false b c d e p q r s t = absurd cc
-
--- one that passes, with what holds of each
-pub witness : {X : Type 0} (test : X → Bool) (P : X → Type 0) (xs : List X) → list_any test xs ≡ true → AllByRecursion P xs → (x : X) × (test x ≡ true) × P x
-witness test P [] some all = absurd cc
-witness test P (x ∷ xs) some all =
-    elim (test x) as (λ b. test x ≡ b → (b || list_any test xs) ≡ true → (y : _) × (test y ≡ true) × P y) [
-      | true ↦ λ e h. (x, e, all.0)
-      | false ↦ λ e h. witness test P xs h all.1
-    ] refl some
-
-none-filter : {X : Type 0} (test : X → Bool) (xs : List X) → AllByRecursion (λ x. test x ≡ false) xs → filter test xs ≡ []
-none-filter test [] all = refl
-none-filter test (x ∷ xs) all = rw all.0 (none-filter test xs all.1)
 
 pub none-blocks : (job : ℕ) (at : RecordId) (kind : LockKind) (held : List Lock) → AllByRecursion (λ b. blocks job at kind b ≡ true → ⊥) held → blocker job at kind held ≡ None
 none-blocks job at kind held none =
@@ -124,17 +98,13 @@ pub none-keeps : (job : ℕ) (at : RecordId) (held : List Lock) (commit : Bool) 
 none-keeps job at held commit holder other alone locked =
     by (witness (keeps_record commit holder at) (λ b. (kind : LockKind) → blocks job at kind b ≡ true → ⊥) held locked alone)
   where
-    same : (a b : ℕ) → a ≡ b → (a == b) ≡ true
-    same a b e = grind (arith, nat_tests, e)
-    on : (x : RecordId) → ((x.member == x.member) && (x.rrn == x.rrn)) ≡ true
-    on x = rw (same x.member x.member refl, same x.rrn x.rrn refl) refl
     by : (b : Lock) × (keeps_record commit holder at b ≡ true) × ((kind : LockKind) → blocks job at kind b ≡ true → ⊥) → ⊥
     by w =
         let keeps = keeps-is commit holder at w.0 w.1 in
         let its = keeps.job in
         let not_by : (w.0.job == job) ≡ false = grind (arith, nat_tests, its, other) in
         w.2 update_kind (and-all (is_on at w.0) (not (is_by job w.0)) (are_apart w.0.kind update_kind)
-        (ap (λ x. is_on x w.0) (sym keeps.at) ∙ on w.0.at) (ap not not_by) (or_true (is_update w.0.kind) (is_update update_kind) refl))
+        (on-same at w.0 keeps.at) (ap not not_by) (or_true (is_update w.0.kind) (is_update update_kind) refl))
 
 pub locked-free : (commit : Bool) (holder : Holder) (at : RecordId) (held : List Lock) (kind : LockKind) → AreCompatible held → list_any (keeps_record commit holder at) held ≡ true
     → blocker holder.job at kind held ≡ None
@@ -153,10 +123,6 @@ behind-free m job at kind behind stand =
     omega (arith, rrn, few, behind))) stand)
 
 -- ---- what is asked for
-
-pub some-each : {A : Type 0} (P : A → Type 0) (o : Option A) → ((a : A) → P a) → IfSome o P
-some-each P None each = tt
-some-each P (Some a) each = each a
 
 pub asked-free : {A B : Type 0} (f : A → Option B) (o : Option A) → option_and_then f o ≡ None → IfSome o (λ a. f a ≡ None)
 asked-free f None none = tt

@@ -1,5 +1,5 @@
 -- What a changed slot leaves of the other records, and of how many places members have.
-use Rattle.std.proofs.Common.{◌≡◌, ◌≢◌, ◌⊎◌, inl, inr, ℕ, zero, suc, ◌+◌, ◌-◌, ◌≤◌, ◌<◌, ◌==◌, cond, if◌then◌else◌, Bool, true, false, IsSome, List, [], ◌∷◌, ◌++◌, length, slice_get, slice_set, Option, Some, None, is_some, unwrap_or, refl, sym, ◌∙◌, ap, subst, arith}
+use Rattle.std.proofs.Common.{◌≡◌, ◌≢◌, ◌⊎◌, inl, inr, ℕ, zero, suc, ◌+◌, ◌-◌, ◌≤◌, ◌<◌, ◌==◌, if◌then◌else◌, true, false, IsSome, List, [], ◌∷◌, ◌++◌, length, slice_get, slice_set, Option, Some, None, is_some, unwrap_or, refl, sym, ◌∙◌, ap, subst, arith}
 use Rattle.std.proofs.lemmas.Bool.{cases_eq}
 use Rattle.std.proofs.lemmas.Bool.Decides.{nat_tests}
 use Rattle.member_slots.specs.declared.slot.Slot.{Slot}
@@ -14,6 +14,7 @@ use Rattle.library_steps.specs.SlotChange.{slot_put, with_slot}
 use Rattle.library_steps.specs.Commitment.{taken_back}
 use Rattle.library_parts.proofs.MemberLemmas.{item_at-with_item_other, item_at-with_item_same, length-changed, length-push}
 use Rattle.locks_kept.proofs.Effects.{slots_of}
+use Rattle.locks_kept.proofs.OptionLemmas.{nothing-there}
 
 -- ---- lists
 
@@ -103,7 +104,7 @@ none-with : {A : Type 0} (number : ℕ) (x : A) (xs : List (Numbered A)) → ite
 none-with number x [] none = refl
 none-with number x (entry ∷ xs) none =
     elim (entry.number == number) as (λ b. (entry.number == number) ≡ b → (if b then Some entry.item else item_at number xs) ≡ None
-        → item_at number (if b then record { number = number; item = x } ∷ xs else entry ∷ with_item number x xs) ≡ None) [
+    → item_at number (if b then record { number = number; item = x } ∷ xs else entry ∷ with_item number x xs) ≡ None) [
       | true ↦ λ e h. absurd cc
       | false ↦ λ e h. rw e (none-with number x xs h)
     ] refl none
@@ -112,16 +113,12 @@ member-after : (number : ℕ) (member : MemberState) (members : NumberedMembers)
     → (is_some (member_at number members) ≡ true) × (member_of number (with_member number member members) ≡ member) ⊎ (member_of number (with_member number member members) ≡ member_of number members)
 member-after number member members =
     elim (is_some (member_at number members)) as (λ b. is_some (member_at number members) ≡ b
-        → (is_some (member_at number members) ≡ true) × (member_of number (with_member number member members) ≡ member) ⊎ (member_of number (with_member number member members) ≡ member_of number members)) [
+    → (is_some (member_at number members) ≡ true) × (member_of number (with_member number member members) ≡ member) ⊎ (member_of number (with_member number member members) ≡ member_of number members)) [
       | true ↦ λ there. inl (there, ap (λ (o : Option MemberState). unwrap_or o (empty_member 0)) (item_at-with_item_same number member members there))
       | false ↦ λ absent. (
-          let none : item_at number members ≡ None = nothing (item_at number members) absent in
+          let none : item_at number members ≡ None = nothing-there (item_at number members) absent in
           inr (ap (λ (o : Option MemberState). unwrap_or o (empty_member 0)) (none-with number member members none ∙ sym none)))
     ] refl
-  where
-    nothing : (o : Option MemberState) → is_some o ≡ false → o ≡ None
-    nothing None e = refl
-    nothing (Some x) e = absurd cc
 
 module _ (m new : Memory) (number rrn : ℕ) (slot : Slot) (members : new.members ≡ with_member number (slot_put rrn slot (member_of number m.members)) m.members) where
   after-other : (other : ℕ) → other ≢ number → member_of other new.members ≡ member_of other m.members
@@ -179,7 +176,7 @@ pub put-behind : (m new : Memory) (number rrn : ℕ) (image : List ℕ) → new.
     → is_some (member_at number m.members) ≡ true → rrn ≤ length (slots_of number m) + 1 → rrn ≤ length (slots_of number new)
 put-behind m new number rrn image members there last =
     let is : member_of number new.members ≡ slot_put rrn (Live image) (member_of number m.members) =
-        ap (member_of number) members ∙ ap (λ (o : Option MemberState). unwrap_or o (empty_member 0)) (item_at-with_item_same number (slot_put rrn (Live image) (member_of number m.members)) m.members there) in
+    ap (member_of number) members ∙ ap (λ (o : Option MemberState). unwrap_or o (empty_member 0)) (item_at-with_item_same number (slot_put rrn (Live image) (member_of number m.members)) m.members there) in
     let one : length (slots_of number new) ≡ length (slot_put rrn (Live image) (member_of number m.members)).slots = ap (λ (x : MemberState). length x.slots) is in
     let two : rrn ≤ length (slot_put rrn (Live image) (member_of number m.members)).slots = longer (member_of number m.members) last in
     omega (arith, one, two)

@@ -1,17 +1,15 @@
 -- A member that no job uses has no open over it and no lock.
-use Rattle.std.proofs.Common.{◌≡◌, ◌⊎◌, inl, inr, ℕ, zero, suc, ◌+◌, ◌-◌, ◌<◌, ◌≤◌, ◌==◌, ◌&&◌, ◌||◌, not, Bool, true, false, if◌then◌else◌, length, List, [], ◌∷◌, Option, Some, None, slice_get, refl, sym, ◌∙◌, ap, subst, arith}
+use Rattle.std.proofs.Common.{◌≡◌, ℕ, zero, suc, ◌+◌, ◌-◌, ◌<◌, ◌==◌, ◌&&◌, ◌||◌, Bool, true, false, if◌then◌else◌, length, List, [], ◌∷◌, Some, None, slice_get, refl, sym, ◌∙◌, ap, subst, arith}
 use Rattle.std.specs.List.{list_any}
-use Rattle.std.proofs.lemmas.Bool.Decides.{nat_tests}
 use Rattle.job_table.specs.Users.{HasBegun}
 use Rattle.lock_table.specs.declared.lock.Lock.{Lock}
 use Rattle.lock_table.specs.Lock.{is_open, is_boundary_in}
-use Rattle.library_model.specs.Named.{Named}
-use Rattle.library_steps.specs.State.{Memory, OpenState, JobState, job_at, job_of, or_new}
+use Rattle.library_steps.specs.State.{Memory, OpenState, JobState, job_of, or_new}
 use Rattle.library_steps.specs.Uses.{first_job, user_of, uses, has_open_over, has_changed, has_boundary_lock}
 use Rattle.joint_state.specs.Locks.{LockStands, is_through}
 use Rattle.locks_kept.proofs.JobLemmas.{job_at-place}
-use Rattle.locks_kept.proofs.LockLists.{or_true}
-use Rattle.locks_kept.proofs.RecordLocks.{and-parts}
+use Rattle.locks_kept.proofs.ListLemmas.{any-wider}
+use Rattle.locks_kept.proofs.TestLemmas.{and-parts, number-same}
 
 first_job-none : (test : ℕ → JobState → Bool) (number : ℕ) (jobs : List JobState) → first_job test number jobs ≡ None → (place : ℕ) (job : JobState) → slice_get jobs place ≡ Some job
     → test (number + place) job ≡ false
@@ -26,14 +24,6 @@ first_job-none test number (first ∷ jobs) none place job at =
         → test (number + k) job ≡ false
     by zero is e rest = let same : first ≡ job = cc in let here : number + zero ≡ number = omega arith in ap (λ n. test n job) here ∙ ap (test number) (sym same) ∙ e
     by (suc k) is e rest = let one : number + suc k ≡ number + 1 + k = omega arith in ap (λ n. test n job) one ∙ rest k is
-
-pub any-wider : {X : Type 0} (test wider : X → Bool) (xs : List X) → ((x : X) → test x ≡ true → wider x ≡ true) → list_any test xs ≡ true → list_any wider xs ≡ true
-any-wider test wider [] widens some = absurd cc
-any-wider test wider (x ∷ xs) widens some =
-    elim (test x) as (λ b. test x ≡ b → (b || list_any test xs) ≡ true → (wider x || list_any wider xs) ≡ true) [
-      | true ↦ λ e h. ap (λ b. b || list_any wider xs) (widens x e)
-      | false ↦ λ e h. or_true (wider x) (list_any wider xs) (any-wider test wider xs widens h)
-    ] refl some
 
 neither : (a b : Bool) → (a || b) ≡ false → (a ≡ false) × (b ≡ false)
 neither true b none = absurd cc
@@ -63,15 +53,17 @@ used-by m l stands begun there free = by (get-there m.jobs (l.job - 1) within)
   where
     within : l.job - 1 < length m.jobs
     within = let first = begun.first in let last = begun.last in omega (arith, first, last)
+
     back : l.job - 1 + 1 ≡ l.job
     back = let first = begun.first in omega (arith, first)
-    same : (n : ℕ) → (n == n) ≡ true
-    same n = grind (arith, nat_tests)
+
     through-over : (o : OpenState) → is_through l o ≡ true → (o.member == l.at.member) ≡ true
     through-over o through = (and-parts (o.number == l.opened) (o.member == l.at.member) through).1
+
     contrary : (a : Bool) → a ≡ true → a ≡ false → ⊥
     contrary true e h = absurd cc
     contrary false e h = absurd cc
+
     by : (job : JobState) × (slice_get m.jobs (l.job - 1) ≡ Some job) → ⊥
     by found =
         let unused = unused-job m l.at.member (l.job - 1) found.0 free found.1 in
@@ -79,7 +71,7 @@ used-by m l stands begun there free = by (get-there m.jobs (l.job - 1) within)
         elim (is_open l.reach) as (λ b. is_open l.reach ≡ b → ⊥) [
           | true ↦ λ ends. contrary (has_open_over l.at.member found.0)
               (any-wider (λ (e : List ℕ × OpenState). is_through l e.1) (λ e. e.1.member == l.at.member) found.0.opens (λ e through. through-over e.1 through)
-               (subst (λ (j : JobState). list_any (λ (e : List ℕ × OpenState). is_through l e.1) j.opens ≡ true) its (stands.opened ends))) unused.opens
+              (subst (λ (j : JobState). list_any (λ (e : List ℕ × OpenState). is_through l e.1) j.opens ≡ true) its (stands.opened ends))) unused.opens
           | false ↦ λ kept. contrary (has_boundary_lock l.at.member l.job m.locks)
-              (there (λ lock. (lock.job == l.job) && is_boundary_in l.at.member lock) (rw (same l.job, same l.at.member, kept) refl)) (subst (λ n. has_boundary_lock l.at.member n m.locks ≡ false) back unused.locks)
+              (there (λ lock. (lock.job == l.job) && is_boundary_in l.at.member lock) (rw (number-same l.job l.job refl, number-same l.at.member l.at.member refl, kept) refl)) (subst (λ n. has_boundary_lock l.at.member n m.locks ≡ false) back unused.locks)
         ] refl
