@@ -1,5 +1,5 @@
 -- What the requests of commitment control leave of the open commit cycles: that of their job ends, and those of others stand.
-use Rattle.std.proofs.Common.{◌≡◌, ◌≢◌, ◌∙◌, ℕ, ◌+◌, ◌-◌, List, [], ◌∷◌, length, slice_get, Option, Some, None, Ok, subst, refl, sym, ap, arith}
+use Rattle.std.proofs.Common.{◌≡◌, ◌≢◌, ◌∙◌, ℕ, ◌+◌, ◌-◌, List, [], ◌∷◌, Option, Some, None, subst, refl, sym, ap}
 use Rattle.std.specs.List.{AllByRecursion}
 use Rattle.lock_table.specs.declared.lock.RecordId.{RecordId}
 use Rattle.lock_table.specs.declared.levels.Call.{Call}
@@ -8,12 +8,9 @@ use Rattle.lock_table.specs.Table.{HoldsChange}
 use Rattle.lock_table.proofs.LawLemmas.{HoldsChange-others}
 use Rattle.journal_model.specs.Replay.{before_of}
 use Rattle.journal_model.specs.Rollback.{MemberChange}
-use Rattle.library_model.specs.declared.replies.Reply.{Reply}
 use Rattle.library_model.specs.declared.replies.Reply.TheVariants.{NoDefinition, PendingChanges, InUse}
-use Rattle.library_model.specs.declared.requests.EndJob.{EndJob as EndJobArgs}
 use Rattle.library_model.specs.declared.requests.StartCommitment.{StartCommitment}
 use Rattle.library_steps.specs.State.{State, Memory, CycleState, JobState, memory_of, job_changed, job_of, with_opens}
-use Rattle.library_steps.specs.Change.{Change}
 use Rattle.library_steps.specs.Commitment.{boundary_locks, changes_of, commit, commit_change, committed_open, end_commitment, end_plan, has_committed_open, rollback, rollback_change, rolled_back_open, start_commitment, taken_back, with_level, without_cycle}
 use Rattle.library_steps.specs.EndJob.{end_change, end_job, ended_job}
 use Rattle.library_steps.specs.Locking.{is_committed}

@@ -1,5 +1,5 @@
 -- The jobs of a library by their places, after one of them has changed.
-use Rattle.std.proofs.Common.{◌≡◌, ◌≢◌, ◌⊎◌, inl, inr, ℕ, zero, suc, ◌+◌, ◌-◌, ◌≤◌, ◌==◌, IsTrue, if◌then◌else◌, Bool, true, false, cond, List, [], ◌∷◌, slice_get, Option, Some, None, subst, refl, sym, ◌∙◌, ap, arith}
+use Rattle.std.proofs.Common.{◌≡◌, ◌≢◌, ◌⊎◌, inl, inr, ℕ, zero, suc, ◌+◌, ◌-◌, ◌≤◌, ◌==◌, IsTrue, if◌then◌else◌, true, false, cond, List, [], ◌∷◌, slice_get, Option, Some, None, subst, refl, sym, ap, arith}
 use Rattle.std.specs.List.{AllByRecursion}
 use Rattle.std.proofs.lemmas.Bool.Decides.{nat_tests}
 use Rattle.library_model.specs.Named.{Named, named, same_name}
