@@ -8,6 +8,7 @@ use Rattle.lock_table.specs.Table.{HoldsChange}
 use Rattle.lock_table.proofs.LawLemmas.{HoldsChange-others}
 use Rattle.journal_model.specs.Replay.{before_of}
 use Rattle.journal_model.specs.Rollback.{MemberChange}
+use Rattle.file_catalogue.proofs.NameLemmas.{some-equal}
 use Rattle.library_model.specs.declared.replies.Reply.TheVariants.{NoDefinition, PendingChanges, InUse}
 use Rattle.library_model.specs.declared.requests.StartCommitment.{StartCommitment}
 use Rattle.library_steps.specs.State.{State, Memory, CycleState, JobState, memory_of, job_changed, job_of, with_opens}
@@ -18,15 +19,12 @@ use Rattle.library_steps.specs.Refusals.{found, refuse_if, refuse_with}
 use Rattle.library_steps.specs.SlotChange.{with_slot}
 use Rattle.library_steps.specs.Uses.{changes_in}
 use Rattle.joint_state.specs.Sound.{IsSound}
-use Rattle.cycles_kept.proofs.CycleLemmas.{changed_record, HaveCycles, besides, ends}
+use Rattle.cycles_kept.proofs.CycleLemmas.{changed_record, id_of, HaveCycles, besides, ends}
 use Rattle.cycles_kept.proofs.HoldLemmas.{Holds, bind-holds, does-holds, each-holds, effect-holds, then-holds, wider-holds, with-none}
 use Rattle.cycles_kept.proofs.JobLemmas.{IsAsking}
 use Rattle.cycles_kept.proofs.LockLemmas.{two_holders}
 use Rattle.cycles_kept.proofs.PlaceLemmas.{record_at, record-put_other}
 use Rattle.cycles_kept.proofs.StandLemmas.{Alike, alike-same}
-
-some-equal : {A : Type 0} {a b : A} → Some a ≡ Some b → a ≡ b
-some-equal e = cc
 
 -- ---- changes taken back
 
@@ -60,9 +58,6 @@ taken_back-record (undo ∷ undos) m other all =
 changes-alike : (o : Option CycleState) → changes_of o ≡ changes_in o
 changes-alike None = refl
 changes-alike (Some cycle) = refl
-
-abbrev id_of : ℕ → ℕ → RecordId
-id_of member rrn = record { member = member; rrn = rrn }
 
 module _ (s : State) (job : ℕ) (sound : IsSound s) (asks : IsAsking s job) where
   abbrev mine : JobState

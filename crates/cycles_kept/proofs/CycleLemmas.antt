@@ -17,9 +17,13 @@ use Rattle.cycles_kept.proofs.JobLemmas.{was_there}
 use Rattle.cycles_kept.proofs.JournalLemmas.{IsJournaled, last-after}
 use Rattle.cycles_kept.proofs.StandLemmas.{Alike, alike-same, back, stand-alike}
 
--- the record that a change is of, as a lock names it
+-- a record as a lock names it
+abbrev pub id_of : (member rrn : ℕ) → RecordId
+id_of member rrn = record { member = member; rrn = rrn }
+
+-- that of a change
 abbrev pub changed_record : MemberChange → RecordId
-changed_record undo = record { member = undo.member; rrn = undo.change.place + 1 }
+changed_record undo = id_of undo.member (undo.change.place + 1)
 
 -- the change locks of a job are still held
 abbrev pub LocksStay : State → Change → ℕ → Type 0

@@ -12,6 +12,7 @@ use Rattle.member_slots.specs.declared.slot.Slot.{Slot}
 use Rattle.member_slots.specs.declared.slot.Slot.TheVariants.{Deleted}
 use Rattle.member_slots.specs.Members.{member_at, member_of}
 use Rattle.journal_model.specs.Rollback.{MemberChange, numbered_from}
+use Rattle.file_catalogue.proofs.NameLemmas.{some-equal}
 use Rattle.library_steps.specs.State.{State, Memory, OpenState, CycleState, JobState, memory_of, job_changed, job_of, open_named}
 use Rattle.library_steps.specs.Change.{Change}
 use Rattle.library_steps.specs.Drafts.{Author}
@@ -20,15 +21,12 @@ use Rattle.library_steps.specs.Records.{slot_there}
 use Rattle.library_steps.specs.SlotChange.{NewSlot, change_made, cycle_for, drafts_of, images_of, noted, with_cycle, with_slot, with_undo}
 use Rattle.library_steps.specs.Uses.{changes_in}
 use Rattle.joint_state.specs.Sound.{IsSound, after}
-use Rattle.cycles_kept.proofs.CycleLemmas.{changed_record, LocksStay, CycleAfter, HasCycle, HaveCycles}
+use Rattle.cycles_kept.proofs.CycleLemmas.{changed_record, id_of, LocksStay, CycleAfter, HasCycle, HaveCycles}
 use Rattle.cycles_kept.proofs.JobLemmas.{IsAsking, was_there, named-each, job_changed-twice, job_changed-none}
 use Rattle.cycles_kept.proofs.JournalLemmas.{IsJournaled, last-after}
 use Rattle.cycles_kept.proofs.LockLemmas.{IsChange, change-locks, change-open, held_place, open-keeps}
 use Rattle.cycles_kept.proofs.PlaceLemmas.{record_at, IsPlaceFor, get-within, slot_of-get, record-put_other, record-put_same}
 use Rattle.cycles_kept.proofs.StandLemmas.{Alike, IsOfOne, one_or_two, back, back-other, back-same}
-
-some-equal : {A : Type 0} {a b : A} → Some a ≡ Some b → a ≡ b
-some-equal e = cc
 
 -- the change isn't of this record
 abbrev pub IsNotOf : (member rrn : ℕ) → MemberChange → Type 0
@@ -114,9 +112,6 @@ begun-for None last later more begun new = new refl
 begun-for (Some cycle) last later more begun new = omega (arith, more, begun)
 
 -- ---- what is left of the commit cycles
-
-abbrev id_of : ℕ → ℕ → RecordId
-id_of member rrn = record { member = member; rrn = rrn }
 
 module _ (s : State) (c : Change) (job : ℕ) (call : Call) (new : NewSlot) (sound : IsSound s) (asks : IsAsking s job) (may : MayPut s job new) (journal : IsJournaled s c)
     (puts : Puts s c job call new) where
