@@ -1,5 +1,5 @@
 -- What the requests of commitment control leave of the open commit cycles: that of their job ends, and those of others stand.
-use Rattle.std.proofs.Common.{◌≡◌, ◌≢◌, ◌∙◌, ℕ, ◌+◌, ◌-◌, List, [], ◌∷◌, length, slice_get, Option, Some, None, Ok, subst, refl, sym, ap, arith}
+use Rattle.std.proofs.Common.{◌≡◌, ◌≢◌, ◌∙◌, ℕ, ◌+◌, ◌-◌, List, [], ◌∷◌, Option, Some, None, subst, refl, sym, ap}
 use Rattle.std.specs.List.{AllByRecursion}
 use Rattle.lock_table.specs.declared.lock.RecordId.{RecordId}
 use Rattle.lock_table.specs.declared.levels.Call.{Call}
@@ -8,12 +8,10 @@ use Rattle.lock_table.specs.Table.{HoldsChange}
 use Rattle.lock_table.proofs.LawLemmas.{HoldsChange-others}
 use Rattle.journal_model.specs.Replay.{before_of}
 use Rattle.journal_model.specs.Rollback.{MemberChange}
-use Rattle.library_model.specs.declared.replies.Reply.{Reply}
+use Rattle.file_catalogue.proofs.NameLemmas.{some-equal}
 use Rattle.library_model.specs.declared.replies.Reply.TheVariants.{NoDefinition, PendingChanges, InUse}
-use Rattle.library_model.specs.declared.requests.EndJob.{EndJob as EndJobArgs}
 use Rattle.library_model.specs.declared.requests.StartCommitment.{StartCommitment}
 use Rattle.library_steps.specs.State.{State, Memory, CycleState, JobState, memory_of, job_changed, job_of, with_opens}
-use Rattle.library_steps.specs.Change.{Change}
 use Rattle.library_steps.specs.Commitment.{boundary_locks, changes_of, commit, commit_change, committed_open, end_commitment, end_plan, has_committed_open, rollback, rollback_change, rolled_back_open, start_commitment, taken_back, with_level, without_cycle}
 use Rattle.library_steps.specs.EndJob.{end_change, end_job, ended_job}
 use Rattle.library_steps.specs.Locking.{is_committed}
@@ -21,15 +19,12 @@ use Rattle.library_steps.specs.Refusals.{found, refuse_if, refuse_with}
 use Rattle.library_steps.specs.SlotChange.{with_slot}
 use Rattle.library_steps.specs.Uses.{changes_in}
 use Rattle.joint_state.specs.Sound.{IsSound}
-use Rattle.cycles_kept.proofs.CycleLemmas.{changed_record, HaveCycles, besides, ends}
+use Rattle.cycles_kept.proofs.CycleLemmas.{changed_record, id_of, HaveCycles, besides, ends}
 use Rattle.cycles_kept.proofs.HoldLemmas.{Holds, bind-holds, does-holds, each-holds, effect-holds, then-holds, wider-holds, with-none}
 use Rattle.cycles_kept.proofs.JobLemmas.{IsAsking}
 use Rattle.cycles_kept.proofs.LockLemmas.{two_holders}
 use Rattle.cycles_kept.proofs.PlaceLemmas.{record_at, record-put_other}
 use Rattle.cycles_kept.proofs.StandLemmas.{Alike, alike-same}
-
-some-equal : {A : Type 0} {a b : A} → Some a ≡ Some b → a ≡ b
-some-equal e = cc
 
 -- ---- changes taken back
 
@@ -63,9 +58,6 @@ taken_back-record (undo ∷ undos) m other all =
 changes-alike : (o : Option CycleState) → changes_of o ≡ changes_in o
 changes-alike None = refl
 changes-alike (Some cycle) = refl
-
-abbrev id_of : ℕ → ℕ → RecordId
-id_of member rrn = record { member = member; rrn = rrn }
 
 module _ (s : State) (job : ℕ) (sound : IsSound s) (asks : IsAsking s job) where
   abbrev mine : JobState

@@ -13,13 +13,17 @@ use Rattle.library_steps.specs.Uses.{changes_in}
 use Rattle.joint_state.specs.Cycles.{ChangesAreLocked, StandAsMade, HasBegun}
 use Rattle.joint_state.specs.Joint.{IsJoint}
 use Rattle.joint_state.specs.Sound.{after}
-use Rattle.cycles_kept.proofs.JobLemmas.{WasThere, was_there}
+use Rattle.cycles_kept.proofs.JobLemmas.{was_there}
 use Rattle.cycles_kept.proofs.JournalLemmas.{IsJournaled, last-after}
 use Rattle.cycles_kept.proofs.StandLemmas.{Alike, alike-same, back, stand-alike}
 
--- the record that a change is of, as a lock names it
+-- a record as a lock names it
+abbrev pub id_of : (member rrn : ℕ) → RecordId
+id_of member rrn = record { member = member; rrn = rrn }
+
+-- that of a change
 abbrev pub changed_record : MemberChange → RecordId
-changed_record undo = record { member = undo.member; rrn = undo.change.place + 1 }
+changed_record undo = id_of undo.member (undo.change.place + 1)
 
 -- the change locks of a job are still held
 abbrev pub LocksStay : State → Change → ℕ → Type 0
@@ -81,7 +85,8 @@ module _ (s : State) (c : Change) (journal : IsJournaled s c) (joint : IsJoint s
   pub locked-after : (place : ℕ) (job : JobState) → slice_get (after s c).jobs place ≡ Some job → ChangesAreLocked (memory_of (after s c)) (place + 1) job
   locked-after place job here = let had = cycles place job here in by had.old had.there had.cycle
     where
-      by : (old : JobState) → slice_get s.jobs place ≡ Some old → CycleAfter s c (place + 1) old job → AllByRecursion (λ undo. HoldsChange (place + 1) (changed_record undo) c.memory.locks) (changes_in job.cycle)
+      by : (old : JobState) → slice_get s.jobs place ≡ Some old → CycleAfter s c (place + 1) old job
+          → AllByRecursion (λ undo. HoldsChange (place + 1) (changed_record undo) c.memory.locks) (changes_in job.cycle)
       by old there (inl ended) = subst (λ (o : Option CycleState). AllByRecursion (λ undo. HoldsChange (place + 1) (changed_record undo) c.memory.locks) (changes_in o)) (sym ended) tt
       by old there (inr (inl spared)) =
           subst (λ (o : Option CycleState). AllByRecursion (λ undo. HoldsChange (place + 1) (changed_record undo) c.memory.locks) (changes_in o)) (sym spared.same)

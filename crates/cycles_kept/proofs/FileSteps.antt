@@ -1,5 +1,5 @@
 -- What the requests on files, members and receivers leave of the open commit cycles: they change no member that one has changed.
-use Rattle.std.proofs.Common.{◌≡◌, ◌≢◌, ◌∙◌, ℕ, zero, suc, ◌+◌, ◌<◌, ◌==◌, nat_lt, if◌then◌else◌, Bool, true, false, List, [], ◌∷◌, length, slice_get, Option, Some, None, is_some, unwrap_or, Result, Ok, subst, refl, sym, ap, arith}
+use Rattle.std.proofs.Common.{◌≡◌, ◌≢◌, ◌∙◌, ℕ, zero, suc, ◌+◌, ◌==◌, nat_lt, if◌then◌else◌, Bool, true, false, List, [], ◌∷◌, length, slice_get, Option, Some, None, is_some, unwrap_or, subst, refl, sym, ap, arith}
 use Rattle.std.specs.List.{AllByRecursion, list_any}
 use Rattle.std.specs.Option.{is_none}
 use Rattle.std.proofs.lemmas.Bool.Decides.{nat_tests}
@@ -8,10 +8,9 @@ use Rattle.entry_codec.specs.declared.kinds.EntryKind.{EntryKind}
 use Rattle.entry_codec.specs.declared.kinds.EntryKind.TheVariants.{MemberCleared, MemberReorganized, ChangesApplied, ChangesRemoved}
 use Rattle.member_slots.specs.Member.{MemberState, empty_member, cleared, reorganized}
 use Rattle.member_slots.specs.Members.{NumberedMembers, member_at, member_of, put_member, with_member, without_member}
-use Rattle.journal_model.specs.Ranges.{RangeDone, apply_range, remove_range}
+use Rattle.journal_model.specs.Ranges.{apply_range, remove_range}
 use Rattle.journal_model.specs.Rollback.{MemberChange}
 use Rattle.library_model.specs.Named.{Named}
-use Rattle.library_model.specs.declared.replies.Reply.{Reply}
 use Rattle.library_model.specs.declared.replies.Reply.TheVariants as replies
 use Rattle.library_model.specs.declared.replies.LimitKind.TheVariants.{LibraryBytes, BlockBytes}
 use Rattle.library_model.specs.declared.requests.CreatePhysicalFile.{CreatePhysicalFile}
@@ -38,7 +37,7 @@ use Rattle.library_steps.specs.Ranges.{Range, RangeWork, allowed, apply_changes,
 use Rattle.library_steps.specs.Receivers.{change_journal, delete_receiver}
 use Rattle.library_steps.specs.Refusals.{member_of_file, named_or_refused, refuse_if, refuse_with, sequences_left}
 use Rattle.library_steps.specs.UniqueKeys.{all_apart, unique_paths}
-use Rattle.library_steps.specs.Uses.{changes_in, first_job, has_changed, unused, user_of, user_of_any, uses}
+use Rattle.library_steps.specs.Uses.{changes_in, first_job, unused, user_of, user_of_any, uses}
 use Rattle.library_parts.specs.Lawful.{CycleGoesBack, AllGoBack, GoesBack}
 use Rattle.library_parts.proofs.BackLemmas.{neither, unused-unchanged}
 use Rattle.library_parts.proofs.FileLemmas.{number-below}
@@ -108,13 +107,15 @@ new-alike s (undo ∷ undos) member sound all =
     )
 
 -- one member more
-with-new : (s : State) (c : Change) (member : MemberState) → IsSound s → c.memory.jobs ≡ s.jobs → c.memory.locks ≡ s.locks → c.memory.members ≡ put_member s.next_member member s.members → HaveCycles s c
+with-new : (s : State) (c : Change) (member : MemberState) → IsSound s → c.memory.jobs ≡ s.jobs → c.memory.locks ≡ s.locks
+    → c.memory.members ≡ put_member s.next_member member s.members → HaveCycles s c
 with-new s c member sound jobs locks members =
     elsewhere s c jobs locks
     (λ place old there. subst (λ (ms : NumberedMembers). AllByRecursion (Alike s.members ms) (changes_in old.cycle)) (sym members)
     (new-alike s (changes_in old.cycle) member sound (cycle-there s old.cycle (goes-back s s.jobs place old sound.library.changes there))))
 
-pub create-cycles : (s : State) (sources : List NamedSource) (job timestamp : ℕ) (args : CreatePhysicalFile) → IsSound s → Holds (create_physical_file sources (memory_of s) job timestamp args) (HaveCycles s)
+pub create-cycles : (s : State) (sources : List NamedSource) (job timestamp : ℕ) (args : CreatePhysicalFile) → IsSound s
+    → Holds (create_physical_file sources (memory_of s) job timestamp args) (HaveCycles s)
 create-cycles s sources job timestamp args sound =
     effect-holds (create_change (memory_of s) job timestamp args) (create_plan sources (memory_of s) args) (HaveCycles s)
     (λ new. with-new s (create_change (memory_of s) job timestamp args new) _ sound refl refl refl)
@@ -122,7 +123,8 @@ create-cycles s sources job timestamp args sound =
 pub add_member-cycles : (s : State) (job timestamp : ℕ) (args : FileMember) → IsSound s → Holds (add_member (memory_of s) job timestamp args) (HaveCycles s)
 add_member-cycles s job timestamp args sound = effect-holds _ _ (HaveCycles s) (λ file. with-new s _ _ sound refl refl refl)
 
-other-alike : (members : NumberedMembers) (number : ℕ) (member : MemberState) (undos : List MemberChange) → AreNotOf number undos → AllByRecursion (Alike members (with_member number member members)) undos
+other-alike : (members : NumberedMembers) (number : ℕ) (member : MemberState) (undos : List MemberChange) → AreNotOf number undos
+    → AllByRecursion (Alike members (with_member number member members)) undos
 other-alike members number member [] all = tt
 other-alike members number member (undo ∷ undos) all = (record-with_other undo.member number undo.change.place member members all.0, other-alike members number member undos all.1)
 
@@ -143,7 +145,8 @@ empty-unused m args =
     record { holds = none })))
 
 module _ (s : State) (job timestamp : ℕ) (args : FileMember) where
-  renumbering-cycles : (kind : EntryKind) (change : MemberState → MemberState) → Holds (empty_plan (memory_of s) args) (λ status. HaveCycles s (renumbering (memory_of s) job timestamp kind change status))
+  renumbering-cycles : (kind : EntryKind) (change : MemberState → MemberState)
+      → Holds (empty_plan (memory_of s) args) (λ status. HaveCycles s (renumbering (memory_of s) job timestamp kind change status))
   renumbering-cycles kind change =
       wider-holds (empty_plan (memory_of s) args) (λ (status : MemberStatus). user_of status.number (memory_of s) ≡ None) _
       (λ status none. unused-member s (renumbering (memory_of s) job timestamp kind change status) status.number (change (member_of status.number s.members)) none refl refl refl)
@@ -153,7 +156,8 @@ module _ (s : State) (job timestamp : ℕ) (args : FileMember) where
   clear_member-cycles = does-holds (renumbering (memory_of s) job timestamp MemberCleared cleared) (empty_plan (memory_of s) args) (HaveCycles s) (renumbering-cycles MemberCleared cleared)
 
   pub reorganize_member-cycles : Holds (reorganize_member (memory_of s) job timestamp args) (HaveCycles s)
-  reorganize_member-cycles = does-holds (renumbering (memory_of s) job timestamp MemberReorganized reorganized) (empty_plan (memory_of s) args) (HaveCycles s) (renumbering-cycles MemberReorganized reorganized)
+  reorganize_member-cycles =
+      does-holds (renumbering (memory_of s) job timestamp MemberReorganized reorganized) (empty_plan (memory_of s) args) (HaveCycles s) (renumbering-cycles MemberReorganized reorganized)
 
 -- ---- DLTF
 
@@ -227,14 +231,16 @@ allowed-same work m none =
     then-holds (refuse_if (nat_lt MOST_BLOCK_BYTES (entry_bytes (deposited m work.drafts))) (replies.LimitReached BlockBytes MOST_BLOCK_BYTES)) _ _ (λ block.
     then-holds (all_apart (unique_paths work.range.status.number m) (with_range work.range work.done m)) _ _ (λ keys. record { holds = none })))
 
-apply-unused : (entries : List Entry) (m : Memory) (job timestamp : ℕ) (args : JournaledChanges) → Holds (apply_plan entries m job timestamp args) (λ work. user_of work.range.status.number m ≡ None)
+apply-unused : (entries : List Entry) (m : Memory) (job timestamp : ℕ) (args : JournaledChanges)
+    → Holds (apply_plan entries m job timestamp args) (λ work. user_of work.range.status.number m ≡ None)
 unfolding apply_plan
 apply-unused entries m job timestamp args =
     bind-holds (range_named args args.from args.to entries m) (λ (range : Range). user_of range.status.number m ≡ None) _ _ (named-unused args args.from args.to entries m) (λ range none.
     then-holds (done_or_refused (apply_range range.first range.acts (member_of range.status.number m.members).slots)) _ _ (λ done.
     allowed-same (work_of (author_of m job timestamp) (λ d. ChangesApplied d.first d.last (length d.changes)) (λ d. given_forward d.changes) range m done) m none))
 
-remove-unused : (entries : List Entry) (m : Memory) (job timestamp : ℕ) (args : JournaledChanges) → Holds (remove_plan entries m job timestamp args) (λ work. user_of work.range.status.number m ≡ None)
+remove-unused : (entries : List Entry) (m : Memory) (job timestamp : ℕ) (args : JournaledChanges)
+    → Holds (remove_plan entries m job timestamp args) (λ work. user_of work.range.status.number m ≡ None)
 unfolding remove_plan
 remove-unused entries m job timestamp args =
     bind-holds (range_named args args.to args.from entries m) (λ (range : Range). user_of range.status.number m ≡ None) _ _ (named-unused args args.to args.from entries m) (λ range none.

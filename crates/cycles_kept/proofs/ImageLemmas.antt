@@ -1,5 +1,5 @@
 -- Which images the journal keeps of a member, after files and their members' statuses have changed.
-use Rattle.std.proofs.Common.{◌≡◌, ◌≢◌, ◌∙◌, ℕ, ◌+◌, ◌<◌, ◌==◌, ◌||◌, if◌then◌else◌, nat_eq, Bool, true, false, cond, not, List, [], ◌∷◌, ◌++◌, map, slice_get, Option, Some, None, is_some, IsSome, subst, refl, sym, ap, arith, rules}
+use Rattle.std.proofs.Common.{◌≡◌, ◌≢◌, ◌∙◌, ℕ, ◌==◌, ◌||◌, if◌then◌else◌, nat_eq, true, false, cond, not, List, [], ◌∷◌, ◌++◌, map, Option, Some, None, is_some, IsSome, subst, refl, sym, ap, arith, rules}
 use Rattle.std.specs.List.{AllByRecursion, IsDistinct, find}
 use Rattle.std.specs.Map.{keys_of}
 use Rattle.std.specs.Option.{option_map, option_and_then}
@@ -128,7 +128,8 @@ without-absent : (gone : List ℕ) (files : Named FileState) → AllByRecursion 
 without-absent gone [] all = refl
 without-absent gone (first ∷ files) all = rw all.0 (ap (λ (rest : Named FileState). first ∷ rest) (without-absent gone files all.1))
 
-pub among-without : (other : ℕ) (gone : List ℕ) (file : FileState) (files : Named FileState) → IsDistinct same_name (keys_of files) → named gone files ≡ Some file → has_number other file.members ≡ false
+pub among-without : (other : ℕ) (gone : List ℕ) (file : FileState) (files : Named FileState) → IsDistinct same_name (keys_of files) → named gone files ≡ Some file
+    → has_number other file.members ≡ false
     → status_among other (without_file gone files) ≡ status_among other files
 unfolding IsDistinct
 among-without other gone file [] distinct found lacks = refl
@@ -144,12 +145,13 @@ among-without other gone file (entry ∷ files) distinct found lacks =
     here same e =
         let absent : has_number other entry.1.members ≡ false = ap (λ (f : FileState). has_number other f.members) (some-equal e) ∙ lacks in
         let rest : without_file gone files ≡ files = without-absent gone files
-            (subst (λ (n : List ℕ). AllByRecursion (λ name. same_name n name ≡ false) (keys_of files)) (sym (same_name-equal gone entry.0 same)) distinct.0) in
+        (subst (λ (n : List ℕ). AllByRecursion (λ name. same_name n name ≡ false) (keys_of files)) (sym (same_name-equal gone entry.0 same)) distinct.0) in
         ap (status_among other) rest ∙ sym (ap (λ b. if b then status_in other entry.1.members else status_among other files) absent)
 
 -- ---- a member that is found by its name
 
-differs : (first number : ℕ) (members : Named MemberStatus) → AllByRecursion (λ other. nat_eq first other ≡ false) (numbers_of members) → has_number number members ≡ true → (first == number) ≡ false
+differs : (first number : ℕ) (members : Named MemberStatus) → AllByRecursion (λ other. nat_eq first other ≡ false) (numbers_of members) → has_number number members ≡ true
+    → (first == number) ≡ false
 differs first number [] all has = absurd cc
 differs first number (entry ∷ members) all has =
     elim (entry.1.number == number) as (λ b. (entry.1.number == number) ≡ b → (b || has_number number members) ≡ true → (first == number) ≡ false) [

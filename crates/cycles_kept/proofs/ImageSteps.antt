@@ -1,16 +1,12 @@
 -- The members of opens under commitment are journaled after whatever is done to a library.
-use Rattle.std.proofs.Common.{◌≡◌, ◌≢◌, ◌∙◌, ◌⊎◌, inl, inr, ℕ, zero, suc, ◌+◌, ◌-◌, ◌<◌, nat_le, length, ◌==◌, ◌||◌, if◌then◌else◌, Bool, true, false, cond, not, List, [], ◌∷◌, ◌++◌, map, filter, slice_get, Option, Some, None, is_some, IsSome, Ok, subst, refl, sym, ap, arith, rules}
+use Rattle.std.proofs.Common.{◌≡◌, ◌≢◌, ◌∙◌, ◌⊎◌, inl, inr, ℕ, zero, suc, ◌+◌, ◌-◌, ◌<◌, nat_le, length, ◌==◌, ◌||◌, if◌then◌else◌, Bool, true, false, cond, not, List, [], ◌∷◌, ◌++◌, map, filter, slice_get, Option, Some, None, is_some, IsSome, subst, refl, sym, ap, arith, rules}
 use Rattle.std.specs.List.{AllByRecursion, list_any}
 use Rattle.std.specs.Option.{is_none, option_and_then}
 use Rattle.std.proofs.lemmas.Bool.Decides.{nat_tests}
-use Rattle.entry_codec.specs.declared.kinds.EntryKind.TheVariants.{MemberCleared, MemberReorganized}
-use Rattle.entry_codec.specs.declared.kinds.Images.{Images}
-use Rattle.member_slots.specs.Member.{cleared, reorganized}
 use Rattle.journal_model.specs.Rollback.{MemberChange}
-use Rattle.file_catalogue.specs.Owners.{has_number, Owns}
+use Rattle.file_catalogue.specs.Owners.{has_number}
 use Rattle.file_catalogue.proofs.StatusLemmas.{has_number-cons}
 use Rattle.library_model.specs.Named.{Named, named, same_name}
-use Rattle.library_model.specs.declared.replies.Reply.{Reply}
 use Rattle.library_model.specs.declared.replies.Reply.TheVariants as replies
 use Rattle.library_model.specs.declared.limits.TheConstants.{MOST_OPENS}
 use Rattle.library_model.specs.declared.replies.LimitKind.TheVariants.{Opens}
@@ -27,14 +23,14 @@ use Rattle.library_steps.specs.ChangeRecord.{delete_change, delete_plan, is_curr
 use Rattle.library_steps.specs.Commitment.{at_boundary, changes_of, committed_open, rolled_back_open, with_level, without_cycle}
 use Rattle.library_steps.specs.DeleteFile.{delete_change as file_deleted, delete_file, delete_plan as delete_file_plan, first_dependent}
 use Rattle.library_steps.specs.EndJob.{ended_job}
-use Rattle.library_steps.specs.Journaling.{end_change, end_journaling, end_plan, journaled_from, no_longer_journaled}
+use Rattle.library_steps.specs.Journaling.{end_change, end_journaling, end_plan, journaled_from}
 use Rattle.library_steps.specs.MemberCommands.{renumbered, with_member_name}
 use Rattle.library_steps.specs.Opens.{may_commit, open_file, open_plan, with_open, without_open}
 use Rattle.library_steps.specs.Reads.{has_read, open_changed, position_change, positioned, read_change}
 use Rattle.library_steps.specs.Refusals.{FoundMember, found, member_of_file, named_or_refused, refuse_if, refuse_with, sequences_left}
-use Rattle.library_steps.specs.SlotChange.{NewSlot, change_made, cycle_for, slot_changed, status_in, touched}
+use Rattle.library_steps.specs.SlotChange.{NewSlot, change_made, cycle_for, status_in, touched}
 use Rattle.library_steps.specs.Step.{change}
-use Rattle.library_steps.specs.Uses.{first_job, has_changed, has_open_over, unused, user_of, user_of_any, uses}
+use Rattle.library_steps.specs.Uses.{has_changed, has_open_over, unused, user_of, user_of_any, uses}
 use Rattle.library_steps.specs.Uses.{has_boundary_lock}
 use Rattle.library_steps.specs.WriteRecord.{write_call, write_change, write_plan}
 use Rattle.library_parts.specs.Lawful.{OpenHolds, OpensHold, OpensMember}
@@ -43,9 +39,9 @@ use Rattle.library_parts.proofs.FileLemmas.{Owns-below}
 use Rattle.joint_state.specs.Sound.{IsSound}
 use Rattle.cycles_kept.proofs.BoundarySteps.{taken_back-files, taken_back-jobs}
 use Rattle.cycles_kept.proofs.FileSteps.{first_job-none}
-use Rattle.cycles_kept.proofs.HoldLemmas.{Holds, bind-holds, does-holds, each-holds, effect-holds, found-there, if-not, then-holds, wider-holds, with-none}
+use Rattle.cycles_kept.proofs.HoldLemmas.{Holds, bind-holds, does-holds, effect-holds, found-there, if-not, then-holds, wider-holds, with-none}
 use Rattle.cycles_kept.proofs.ImageLemmas.{images_in, among-map, among-without, images-changed, images-more, images-named, status_in-push}
-use Rattle.cycles_kept.proofs.JobLemmas.{WasThere, was_there}
+use Rattle.cycles_kept.proofs.JobLemmas.{was_there}
 use Rattle.cycles_kept.proofs.PutLemmas.{put_cycle, jobs-noted, jobs-put}
 use Rattle.cycles_kept.proofs.RecordSteps.{files-put}
 
@@ -69,7 +65,8 @@ opens-each : (P Q : OpenState → Type 0) (opens : Named OpenState) → ((opened
 opens-each P Q [] each all = tt
 opens-each P Q (entry ∷ opens) each all = (each entry.1 all.0, opens-each P Q opens each all.1)
 
-opens-map : (P : OpenState → Type 0) (g : OpenState → OpenState) (opens : Named OpenState) → ((opened : OpenState) → P opened → P (g opened)) → AllByRecursion (λ (e : List ℕ × OpenState). P e.1) opens
+opens-map : (P : OpenState → Type 0) (g : OpenState → OpenState) (opens : Named OpenState) → ((opened : OpenState) → P opened → P (g opened))
+    → AllByRecursion (λ (e : List ℕ × OpenState). P e.1) opens
     → AllByRecursion (λ (e : List ℕ × OpenState). P e.1) (map (λ e. (e.0, g e.1)) opens)
 opens-map P g [] each all = tt
 opens-map P g (entry ∷ opens) each all = (each entry.1 all.0, opens-map P g opens each all.1)
@@ -241,7 +238,8 @@ deletes : (m : Memory) (args : DeleteFile) → Holds (delete_file_plan m args) (
 unfolding delete_file_plan
 deletes m args =
     then-holds (sequences_left m) _ _ (λ few.
-    bind-holds (named_or_refused args.file (file_named args.file m)) (λ file. file_named args.file m ≡ Some file) _ _ (found-there (file_named args.file m) (replies.NoSuchName (Name args.file))) (λ file there.
+    bind-holds (named_or_refused args.file (file_named args.file m)) (λ file. file_named args.file m ≡ Some file) _ _
+    (found-there (file_named args.file m) (replies.NoSuchName (Name args.file))) (λ file there.
     then-holds (refuse_with replies.Dependents (first_dependent args.file m.files)) _ _ (λ alone.
     bind-holds (unused (user_of_any file.members m)) (λ free. user_of_any file.members m ≡ None) _ _ (with-none replies.InUse (user_of_any file.members m)) (λ free none.
     record { holds = record { there = there; free = none } }))))
@@ -363,7 +361,8 @@ module _ (s : State) (sources : List NamedSource) (job timestamp : ℕ) (sound :
 
   rolled-all : (opened : OpenState) → IsJournaledBy s.files opened → IsJournaledBy s.files (rolled_back_open opened)
   rolled-all opened holds =
-      elim opened.commit as (λ b. IsJournaledBy s.files (if b then record opened { position = opened.boundary; current = None; last_read = None } else record opened { current = None; last_read = None })) [
+      elim opened.commit as (λ b. IsJournaledBy s.files
+      (if b then record opened { position = opened.boundary; current = None; last_read = None } else record opened { current = None; last_read = None })) [
         | true ↦ holds
         | false ↦ holds
       ]
@@ -412,9 +411,11 @@ module _ (s : State) (sources : List NamedSource) (job timestamp : ℕ) (sound :
       effect-holds _ _ (StayJournaled s)
       (λ opened. one-open s _ (job - 1) (without_open args.open_id) were refl refl (λ j all. opens-filter (IsJournaledBy s.files) (λ entry. not (same_name args.open_id entry.0)) j.opens all))
   change-stays (request.SetLowerLimit args) =
-      effect-holds (position_change (memory_of s) job) _ (StayJournaled s) (λ new. with-open (position_change (memory_of s) job new) new.opened.number (positioned new.position) refl refl (λ o h. h))
+      effect-holds (position_change (memory_of s) job) _ (StayJournaled s)
+      (λ new. with-open (position_change (memory_of s) job new) new.opened.number (positioned new.position) refl refl (λ o h. h))
   change-stays (request.SetGreaterThan args) =
-      effect-holds (position_change (memory_of s) job) _ (StayJournaled s) (λ new. with-open (position_change (memory_of s) job new) new.opened.number (positioned new.position) refl refl (λ o h. h))
+      effect-holds (position_change (memory_of s) job) _ (StayJournaled s)
+      (λ new. with-open (position_change (memory_of s) job new) new.opened.number (positioned new.position) refl refl (λ o h. h))
   change-stays (request.Read args) =
       effect-holds (read_change (memory_of s) job) _ (StayJournaled s) (λ it. with-open (read_change (memory_of s) job it) it.its.opened.number (has_read it.call it.entry) refl refl (λ o h. h))
   change-stays (request.ReadPrior args) =
@@ -432,7 +433,8 @@ module _ (s : State) (sources : List NamedSource) (job timestamp : ℕ) (sound :
   change-stays (request.Update args) =
       effect-holds (update_change (memory_of s) job timestamp) (update_plan (memory_of s) job args) (StayJournaled s)
       (λ new. record-journaled s job new were (update_change (memory_of s) job timestamp new) (open_changed new.opened.number without_current) (files-put s job timestamp new)
-      (jobs-put new.opened.commit job (change_made (memory_of s) (job_of job (memory_of s)) new) (cycle_for (memory_of s) (job_of job (memory_of s))) (open_changed new.opened.number without_current) _)
+      (jobs-put new.opened.commit job (change_made (memory_of s) (job_of job (memory_of s)) new) (cycle_for (memory_of s) (job_of job (memory_of s)))
+      (open_changed new.opened.number without_current) _)
       (λ j all. opens-changed (update_change (memory_of s) job timestamp new).memory.files new.opened.number without_current j.opens (λ o h. h) all))
   change-stays (request.Delete args) =
       effect-holds (delete_change (memory_of s) job timestamp) (delete_plan (memory_of s) job args) (StayJournaled s)

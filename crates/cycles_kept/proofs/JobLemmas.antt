@@ -1,14 +1,12 @@
 -- The jobs of a library by their places, after one of them has changed.
-use Rattle.std.proofs.Common.{◌≡◌, ◌≢◌, ◌⊎◌, inl, inr, ℕ, zero, suc, ◌+◌, ◌-◌, ◌≤◌, ◌==◌, IsTrue, if◌then◌else◌, Bool, true, false, cond, List, [], ◌∷◌, slice_get, Option, Some, None, subst, refl, sym, ◌∙◌, ap, arith}
+use Rattle.std.proofs.Common.{◌≡◌, ◌≢◌, ◌⊎◌, inl, inr, ℕ, zero, suc, ◌+◌, ◌-◌, ◌≤◌, ◌==◌, IsTrue, if◌then◌else◌, true, false, cond, List, [], ◌∷◌, slice_get, Option, Some, None, subst, refl, sym, ap, arith}
 use Rattle.std.specs.List.{AllByRecursion}
 use Rattle.std.proofs.lemmas.Bool.Decides.{nat_tests}
+use Rattle.file_catalogue.proofs.NameLemmas.{some-equal}
 use Rattle.library_model.specs.Named.{Named, named, same_name}
 use Rattle.library_steps.specs.State.{State, JobState, memory_of, job_at, job_of, job_changed, or_new}
 use Rattle.library_steps.specs.History.{is_running}
 use Rattle.joint_state.specs.Joint.{IsJoint, JobStands}
-
-some-equal : {A : Type 0} {a b : A} → Some a ≡ Some b → a ≡ b
-some-equal e = cc
 
 -- the job that was at the place, which is the changed one or not
 pub record WasThere (place : ℕ) (change : JobState → JobState) (jobs : List JobState) (at : ℕ) (new : JobState) : Type 0 where

@@ -1,12 +1,12 @@
 -- The journal after a change: its entries are numbered from the first that is kept, and none that was there counts for less.
-use Rattle.std.proofs.Common.{◌≡◌, ◌∙◌, ℕ, zero, suc, ◌+◌, ◌-◌, ◌≤◌, Bool, List, [], ◌∷◌, ◌++◌, length, drop, subst, refl, sym, ap, arith, length-append}
+use Rattle.std.proofs.Common.{◌≡◌, ℕ, ◌+◌, ◌-◌, ◌≤◌, List, [], ◌∷◌, ◌++◌, length, drop, subst, refl, sym, arith, length-append}
 use Rattle.std.proofs.lemmas.List.{length-drop}
 use Rattle.entry_codec.specs.declared.entries.Entry.{Entry}
 use Rattle.entry_codec.specs.declared.entries.Draft.{Draft}
 use Rattle.journal_model.specs.Journal.{AreNumbered}
 use Rattle.journal_model.specs.Rollback.{numbered_from}
 use Rattle.memory_journal.proofs.NumberLemmas.{numbered-fewer}
-use Rattle.library_steps.specs.State.{State, Memory, memory_of}
+use Rattle.library_steps.specs.State.{State, memory_of}
 use Rattle.library_steps.specs.Change.{Change}
 use Rattle.joint_state.specs.Sound.{after}
 

@@ -1,10 +1,8 @@
 -- What each request deposits in the journal, and what it gives up.
-use Rattle.std.proofs.Common.{◌≡◌, ℕ, ◌+◌, ◌≤◌, not, is_some, length, List, Ok, refl, arith}
-use Rattle.entry_codec.specs.declared.entries.Entry.{Entry}
+use Rattle.std.proofs.Common.{ℕ, ◌+◌, ◌≤◌, not, is_some, length, List, refl, arith}
 use Rattle.entry_codec.specs.declared.kinds.EntryKind.TheVariants.{MemberCleared, MemberReorganized}
 use Rattle.member_slots.specs.Members.{member_of}
 use Rattle.memory_journal.proofs.NumberLemmas.{given-within}
-use Rattle.library_model.specs.declared.replies.Reply.{Reply}
 use Rattle.library_model.specs.declared.replies.Reply.TheVariants.{NoSuchName, StillNeeded}
 use Rattle.library_model.specs.declared.replies.Missing.TheVariants.{Receiver}
 use Rattle.library_model.specs.declared.requests.DeleteReceiver.{DeleteReceiver}
@@ -12,13 +10,12 @@ use Rattle.library_model.specs.declared.requests.Request.{Request}
 use Rattle.library_model.specs.declared.requests.Request.TheVariants as request
 use Rattle.library_model.specs.declared.sources.NamedSource.{NamedSource}
 use Rattle.library_steps.specs.State.{State, memory_of, job_of}
-use Rattle.library_steps.specs.Change.{Change}
 use Rattle.library_steps.specs.ChangeRecord.{delete_change, delete_plan, unlock_change, unlock_plan, update_change, update_plan}
 use Rattle.library_steps.specs.Commitment.{changes_of, end_drafts, undo_entries}
 use Rattle.library_steps.specs.Drafts.{author_of, initial_drafts, member_draft}
 use Rattle.library_steps.specs.EndJob.{end_drafts as job_drafts}
 use Rattle.library_steps.specs.MemberCommands.{if_journaled}
-use Rattle.library_steps.specs.Receivers.{delete_receiver, give_up_plan, given_up, is_kept, is_needed}
+use Rattle.library_steps.specs.Receivers.{delete_receiver, give_up_plan, is_kept, is_needed}
 use Rattle.library_steps.specs.Refusals.{refuse_if}
 use Rattle.library_steps.specs.Reads.{position_change, read_change}
 use Rattle.library_steps.specs.Step.{change}
@@ -40,7 +37,8 @@ kept-before s args sound =
 delete_receiver-journaled : (s : State) (args : DeleteReceiver) → IsSound s → Holds (delete_receiver s.entries (memory_of s) args) (IsJournaled s)
 delete_receiver-journaled s args sound =
     does-holds _ (give_up_plan s.entries (memory_of s) args) (IsJournaled s)
-    (wider-holds (give_up_plan s.entries (memory_of s) args) (λ last. (s.gone ≤ last) × (last ≤ s.gone + length s.entries)) _ (λ last within. gives-up s _ refl within.0 within.1) (kept-before s args sound))
+    (wider-holds (give_up_plan s.entries (memory_of s) args) (λ last. (s.gone ≤ last) × (last ≤ s.gone + length s.entries)) _ (λ last within. gives-up s _ refl within.0 within.1)
+    (kept-before s args sound))
 
 module _ (s : State) (sources : List NamedSource) (job timestamp : ℕ) (sound : IsSound s) where
   pub change-journaled : (r : Request) → Holds (change sources s.entries (memory_of s) job timestamp r) (IsJournaled s)
@@ -50,9 +48,11 @@ module _ (s : State) (sources : List NamedSource) (job timestamp : ℕ) (sound :
   change-journaled (request.DeleteFile args) = effect-holds _ _ (IsJournaled s) (λ file. deposits s _ refl (refl, tt))
   change-journaled (request.AddMember args) = effect-holds _ _ (IsJournaled s) (λ file. deposits s _ refl (refl, tt))
   change-journaled (request.ClearMember args) = effect-holds _ _ (IsJournaled s)
-      (λ status. deposits s _ refl (numbered-drafts (s.gone + length s.entries + 1) (if_journaled (is_some status.images) (member_draft (author_of (memory_of s) job timestamp) status.number MemberCleared))))
+      (λ status. deposits s _ refl (numbered-drafts (s.gone + length s.entries + 1)
+      (if_journaled (is_some status.images) (member_draft (author_of (memory_of s) job timestamp) status.number MemberCleared))))
   change-journaled (request.ReorganizeMember args) = effect-holds _ _ (IsJournaled s)
-      (λ status. deposits s _ refl (numbered-drafts (s.gone + length s.entries + 1) (if_journaled (is_some status.images) (member_draft (author_of (memory_of s) job timestamp) status.number MemberReorganized))))
+      (λ status. deposits s _ refl (numbered-drafts (s.gone + length s.entries + 1)
+      (if_journaled (is_some status.images) (member_draft (author_of (memory_of s) job timestamp) status.number MemberReorganized))))
   change-journaled (request.StartJournaling args) = effect-holds _ _ (IsJournaled s)
       (λ status. deposits s _ refl
       (refl, numbered-drafts (s.gone + length s.entries + 1 + 1) (initial_drafts (author_of (memory_of s) job timestamp) status.number 1 (member_of status.number s.members).slots)))
@@ -83,8 +83,10 @@ module _ (s : State) (sources : List NamedSource) (job timestamp : ℕ) (sound :
   change-journaled (request.Write args) =
       effect-holds (write_change (memory_of s) job timestamp (write_call args.record_number)) (write_plan (memory_of s) job args) (IsJournaled s)
       (λ new. write-journaled s job timestamp new (write_call args.record_number))
-  change-journaled (request.Update args) = effect-holds (update_change (memory_of s) job timestamp) (update_plan (memory_of s) job args) (IsJournaled s) (λ new. update-journaled s job timestamp new)
-  change-journaled (request.Delete args) = effect-holds (delete_change (memory_of s) job timestamp) (delete_plan (memory_of s) job args) (IsJournaled s) (λ new. delete-journaled s job timestamp new)
+  change-journaled (request.Update args) =
+      effect-holds (update_change (memory_of s) job timestamp) (update_plan (memory_of s) job args) (IsJournaled s) (λ new. update-journaled s job timestamp new)
+  change-journaled (request.Delete args) =
+      effect-holds (delete_change (memory_of s) job timestamp) (delete_plan (memory_of s) job args) (IsJournaled s) (λ new. delete-journaled s job timestamp new)
   change-journaled (request.Unlock args) = effect-holds (unlock_change (memory_of s) job) (unlock_plan (memory_of s) job args) (IsJournaled s) (λ it. deposits-none s _ refl refl)
   change-journaled (request.EndJob args) =
       let undos = changes_of (job_of job (memory_of s)).cycle in

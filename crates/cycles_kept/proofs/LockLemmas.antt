@@ -1,5 +1,5 @@
 -- Whose lock on a record excludes those of others, and which change locks a call leaves.
-use Rattle.std.proofs.Common.{◌≡◌, ◌≢◌, ◌∙◌, ℕ, ◌+◌, ◌≤◌, ◌==◌, ◌&&◌, ◌||◌, Bool, true, false, not, List, [], ◌∷◌, length, Option, Some, None, refl, sym, ap, subst, arith}
+use Rattle.std.proofs.Common.{◌≡◌, ◌≢◌, ◌∙◌, ℕ, ◌≤◌, ◌==◌, ◌&&◌, ◌||◌, Bool, true, false, not, List, [], ◌∷◌, length, Option, Some, None, refl, sym, subst, arith}
 use Rattle.std.specs.List.{All, AllByRecursion, list_any}
 use Rattle.std.specs.Option.{option_and_then}
 use Rattle.std.proofs.lemmas.Bool.{and_parts, eqb-true}
@@ -15,7 +15,6 @@ use Rattle.lock_table.specs.declared.lock.RecordId.{RecordId}
 use Rattle.lock_table.specs.declared.lock.Reach.TheVariants.{Boundary}
 use Rattle.lock_table.specs.declared.levels.Call.{Call}
 use Rattle.lock_table.specs.declared.levels.Call.TheVariants.{InputRead, UpdateRead, Update, Delete, Write, WriteAt, Unlock, Position, Close, Commit, Rollback, EndCommitment, EndJob}
-use Rattle.lock_table.specs.declared.levels.Wanted.{Wanted}
 use Rattle.lock_table.specs.Lock.{Clashes, is_by, is_change_lock, is_of_group, is_of_group_on, is_on, is_open, is_update, update_kind}
 use Rattle.lock_table.specs.Table.{AreCompatible, HoldsChange, blocker}
 use Rattle.lock_table.specs.Levels.{asked, gained, locks_after, released}

@@ -1,5 +1,5 @@
 -- No two files of a library have one name after whatever is done to it.
-use Rattle.std.proofs.Common.{◌≡◌, ◌∙◌, ℕ, ◌-◌, nat_le, nat_lt, length, Bool, true, false, cond, ◌||◌, List, [], ◌∷◌, ◌++◌, map, not, Some, None, is_some, refl, sym, ap, subst}
+use Rattle.std.proofs.Common.{◌≡◌, ◌∙◌, ℕ, nat_le, nat_lt, length, true, false, cond, ◌||◌, List, [], ◌∷◌, ◌++◌, map, not, Some, is_some, refl, sym, ap, subst}
 use Rattle.std.specs.List.{IsDistinct, list_any}
 use Rattle.std.specs.Map.{keys_of}
 use Rattle.std.proofs.lemmas.Cmp.{nat_list_eq_equiv}
@@ -14,18 +14,17 @@ use Rattle.library_model.specs.declared.requests.CreatePhysicalFile.{CreatePhysi
 use Rattle.library_model.specs.declared.requests.Request.{Request}
 use Rattle.library_model.specs.declared.requests.Request.TheVariants as request
 use Rattle.library_model.specs.declared.sources.NamedSource.{NamedSource}
-use Rattle.library_steps.specs.State.{State, Memory, FileState, memory_of, file_named, job_of, status_changed, with_status}
+use Rattle.library_steps.specs.State.{State, FileState, memory_of, file_named, job_of}
 use Rattle.library_steps.specs.Change.{Change}
 use Rattle.library_steps.specs.ChangeRecord.{delete_change, delete_plan, unlock_change, unlock_plan, update_change, update_plan}
 use Rattle.library_steps.specs.Commitment.{changes_of}
 use Rattle.library_steps.specs.CreatePhysicalFile.{create_change, create_physical_file, create_plan, described, formats_of, new_file, spec_or_refused}
-use Rattle.library_steps.specs.DeleteFile.{delete_file}
 use Rattle.library_steps.specs.Reads.{position_change, read_change}
 use Rattle.library_steps.specs.Refusals.{named_or_refused, refuse_if, sequences_left}
 use Rattle.library_steps.specs.Step.{change}
 use Rattle.library_steps.specs.WriteRecord.{write_call, write_change, write_plan}
 use Rattle.cycles_kept.proofs.BoundarySteps.{taken_back-files}
-use Rattle.cycles_kept.proofs.HoldLemmas.{Holds, bind-holds, does-holds, each-holds, effect-holds, if-not, then-holds, wider-holds}
+use Rattle.cycles_kept.proofs.HoldLemmas.{Holds, bind-holds, does-holds, effect-holds, if-not, then-holds, wider-holds}
 use Rattle.cycles_kept.proofs.RecordSteps.{files-put}
 
 -- the names stay apart where they were
@@ -85,7 +84,8 @@ module _ (s : State) (sources : List NamedSource) (job timestamp : ℕ) where
   unfolding change
   change-names (request.CreatePhysicalFile args) = create-names s sources job timestamp args
   change-names (request.CreateLogicalFile args) = record { holds = tt }
-  change-names (request.DeleteFile args) = effect-holds _ _ (NamesStay s) (λ file. record { names = λ distinct. IsDistinct-keys_filter same_name (λ entry. not (same_name args.file entry.0)) s.files distinct })
+  change-names (request.DeleteFile args) =
+      effect-holds _ _ (NamesStay s) (λ file. record { names = λ distinct. IsDistinct-keys_filter same_name (λ entry. not (same_name args.file entry.0)) s.files distinct })
   change-names (request.AddMember args) = effect-holds _ _ (NamesStay s) (λ file. mapped-names s _ _ refl)
   change-names (request.ClearMember args) = effect-holds _ _ (NamesStay s) (λ status. mapped-names s _ _ refl)
   change-names (request.ReorganizeMember args) = effect-holds _ _ (NamesStay s) (λ status. mapped-names s _ _ refl)
@@ -111,8 +111,11 @@ module _ (s : State) (sources : List NamedSource) (job timestamp : ℕ) where
   change-names (request.ReadPriorEqual args) = effect-holds (read_change (memory_of s) job) _ (NamesStay s) (λ it. same-names s _ refl)
   change-names (request.Chain args) = effect-holds (read_change (memory_of s) job) _ (NamesStay s) (λ it. same-names s _ refl)
   change-names (request.Write args) =
-      effect-holds (write_change (memory_of s) job timestamp (write_call args.record_number)) (write_plan (memory_of s) job args) (NamesStay s) (λ new. mapped-names s _ _ (files-put s job timestamp new))
-  change-names (request.Update args) = effect-holds (update_change (memory_of s) job timestamp) (update_plan (memory_of s) job args) (NamesStay s) (λ new. mapped-names s _ _ (files-put s job timestamp new))
-  change-names (request.Delete args) = effect-holds (delete_change (memory_of s) job timestamp) (delete_plan (memory_of s) job args) (NamesStay s) (λ new. mapped-names s _ _ (files-put s job timestamp new))
+      effect-holds (write_change (memory_of s) job timestamp (write_call args.record_number)) (write_plan (memory_of s) job args) (NamesStay s)
+      (λ new. mapped-names s _ _ (files-put s job timestamp new))
+  change-names (request.Update args) =
+      effect-holds (update_change (memory_of s) job timestamp) (update_plan (memory_of s) job args) (NamesStay s) (λ new. mapped-names s _ _ (files-put s job timestamp new))
+  change-names (request.Delete args) =
+      effect-holds (delete_change (memory_of s) job timestamp) (delete_plan (memory_of s) job args) (NamesStay s) (λ new. mapped-names s _ _ (files-put s job timestamp new))
   change-names (request.Unlock args) = effect-holds (unlock_change (memory_of s) job) (unlock_plan (memory_of s) job args) (NamesStay s) (λ it. same-names s _ refl)
   change-names (request.EndJob args) = record { holds = same-names s _ (taken_back-files (changes_of (job_of job (memory_of s)).cycle) (memory_of s)) }

@@ -1,8 +1,8 @@
 -- What the requests through an open leave of the open commit cycles that change no record: OPNDBF and CLOF, UNLOCK, positions and reads.
-use Rattle.std.proofs.Common.{◌≡◌, ℕ, ◌-◌, Option, List, Result, Ok, refl}
+use Rattle.std.proofs.Common.{ℕ, ◌-◌, Option, List, Result, refl}
 use Rattle.file_model.specs.KeyOrder.{KeyValue}
 use Rattle.file_model.specs.Paths.{PathEntry}
-use Rattle.file_model.specs.Positions.{Position, Reading, next_from, prior_from, next_equal, prior_equal, Before, Past, Bound}
+use Rattle.file_model.specs.Positions.{Position, Reading, next_from, prior_from, next_equal, prior_equal}
 use Rattle.lock_table.specs.declared.levels.Call.{Call}
 use Rattle.lock_table.specs.declared.levels.Call.TheVariants.{Close, Position as PositionCall, Unlock}
 use Rattle.lock_table.specs.Table.{HoldsChange}
@@ -18,8 +18,7 @@ use Rattle.library_model.specs.declared.requests.OpenOption.TheVariants.{Input, 
 use Rattle.library_model.specs.declared.requests.ReadEqual.{ReadEqual}
 use Rattle.library_model.specs.declared.requests.ReadRecord.{ReadRecord}
 use Rattle.library_model.specs.declared.requests.SetPosition.{SetPosition}
-use Rattle.library_steps.specs.State.{State, Memory, OpenState, JobState, memory_of, job_of, job_changed}
-use Rattle.library_steps.specs.Change.{Change}
+use Rattle.library_steps.specs.State.{State, Memory, OpenState, memory_of, job_of}
 use Rattle.library_steps.specs.ChangeRecord.{unlock, unlock_change, unlock_plan, without_current}
 use Rattle.library_steps.specs.Locking.{few_locks, holder_of, is_committed, level_of, locks_left, not_locked, record_of}
 use Rattle.library_steps.specs.Opens.{close_file, open_file, open_plan, with_open, without_open}
@@ -27,8 +26,8 @@ use Rattle.library_steps.specs.Reads.{FoundEntry, NewPosition, chain, chain_plan
 use Rattle.library_steps.specs.Records.{key_asked, reading_of}
 use Rattle.library_steps.specs.Refusals.{OpenedFile, found, opened_file}
 use Rattle.library_parts.specs.Locks.{IsOfOpen}
-use Rattle.cycles_kept.proofs.CycleLemmas.{HaveCycles, LocksStay, besides}
-use Rattle.cycles_kept.proofs.HoldLemmas.{Holds, does-holds, each-holds, effect-holds, then-holds, wider-holds}
+use Rattle.cycles_kept.proofs.CycleLemmas.{HaveCycles, besides}
+use Rattle.cycles_kept.proofs.HoldLemmas.{Holds, does-holds, effect-holds, then-holds, wider-holds}
 use Rattle.cycles_kept.proofs.LockLemmas.{open-keeps}
 
 -- a call through an open spares the change locks of all jobs
@@ -50,13 +49,15 @@ close_file-cycles s job args =
 pub unlock-cycles : (s : State) (job : ℕ) (args : OpenName) → Holds (unlock (memory_of s) job args) (HaveCycles s)
 unlock-cycles s job args =
     effect-holds (unlock_change (memory_of s) job) (unlock_plan (memory_of s) job args) (HaveCycles s)
-    (λ it. besides s (unlock_change (memory_of s) job it) (job - 1) (open_changed it.opened.number without_current) refl (λ j. refl) refl (λ number. left-keeps s Unlock job it.opened it.rrn number tt))
+    (λ it. besides s (unlock_change (memory_of s) job it) (job - 1) (open_changed it.opened.number without_current) refl (λ j. refl) refl
+    (λ number. left-keeps s Unlock job it.opened it.rrn number tt))
 
 -- ---- positions
 
 position-cycles : (s : State) (job : ℕ) (new : NewPosition) → HaveCycles s (position_change (memory_of s) job new)
 position-cycles s job new =
-    besides s (position_change (memory_of s) job new) (job - 1) (open_changed new.opened.number (positioned new.position)) refl (λ j. refl) refl (λ number. left-keeps s PositionCall job new.opened 0 number tt)
+    besides s (position_change (memory_of s) job new) (job - 1) (open_changed new.opened.number (positioned new.position)) refl (λ j. refl) refl
+    (λ number. left-keeps s PositionCall job new.opened 0 number tt)
 
 pub set_lower_limit-cycles : (s : State) (job : ℕ) (args : SetPosition) → Holds (set_lower_limit (memory_of s) job args) (HaveCycles s)
 set_lower_limit-cycles s job args = effect-holds (position_change (memory_of s) job) _ (HaveCycles s) (position-cycles s job)
@@ -83,7 +84,8 @@ lockable-reads job m its lock entry =
     then-holds (few_locks (read_call lock its.opened) job its.opened entry.rrn m) _ _ (λ few.
     record { holds = reads lock its.opened }))
 
-plan-reads : (find_from : Reading PathEntry → Position PathEntry → Option PathEntry) (nothing : Reply) (m : Memory) (job : ℕ) (args : ReadRecord) → Holds (read_plan find_from nothing m job args) IsRead
+plan-reads : (find_from : Reading PathEntry → Position PathEntry → Option PathEntry) (nothing : Reply) (m : Memory) (job : ℕ) (args : ReadRecord)
+    → Holds (read_plan find_from nothing m job args) IsRead
 unfolding read_plan
 plan-reads find_from nothing m job args =
     then-holds (opened_file args.open_id job m) _ _ (λ its.
@@ -113,19 +115,23 @@ reading-cycles s job plan is =
 module _ (s : State) (job : ℕ) where
   pub read-cycles : (args : ReadRecord) → Holds (read (memory_of s) job args) (HaveCycles s)
   read-cycles args =
-      does-holds (read_change (memory_of s) job) _ (HaveCycles s) (reading-cycles s job (read_plan next_from EndOfFile (memory_of s) job args) (plan-reads next_from EndOfFile (memory_of s) job args))
+      does-holds (read_change (memory_of s) job) _ (HaveCycles s)
+      (reading-cycles s job (read_plan next_from EndOfFile (memory_of s) job args) (plan-reads next_from EndOfFile (memory_of s) job args))
 
   pub read_prior-cycles : (args : ReadRecord) → Holds (read_prior (memory_of s) job args) (HaveCycles s)
   read_prior-cycles args =
-      does-holds (read_change (memory_of s) job) _ (HaveCycles s) (reading-cycles s job (read_plan prior_from BeginOfFile (memory_of s) job args) (plan-reads prior_from BeginOfFile (memory_of s) job args))
+      does-holds (read_change (memory_of s) job) _ (HaveCycles s)
+      (reading-cycles s job (read_plan prior_from BeginOfFile (memory_of s) job args) (plan-reads prior_from BeginOfFile (memory_of s) job args))
 
   pub read_equal-cycles : (args : ReadEqual) → Holds (read_equal (memory_of s) job args) (HaveCycles s)
   read_equal-cycles args =
-      does-holds (read_change (memory_of s) job) _ (HaveCycles s) (reading-cycles s job (read_equal_plan next_equal EndOfFile (memory_of s) job args) (equal-reads next_equal EndOfFile (memory_of s) job args))
+      does-holds (read_change (memory_of s) job) _ (HaveCycles s)
+      (reading-cycles s job (read_equal_plan next_equal EndOfFile (memory_of s) job args) (equal-reads next_equal EndOfFile (memory_of s) job args))
 
   pub read_prior_equal-cycles : (args : ReadEqual) → Holds (read_prior_equal (memory_of s) job args) (HaveCycles s)
   read_prior_equal-cycles args =
-      does-holds (read_change (memory_of s) job) _ (HaveCycles s) (reading-cycles s job (read_equal_plan prior_equal BeginOfFile (memory_of s) job args) (equal-reads prior_equal BeginOfFile (memory_of s) job args))
+      does-holds (read_change (memory_of s) job) _ (HaveCycles s)
+      (reading-cycles s job (read_equal_plan prior_equal BeginOfFile (memory_of s) job args) (equal-reads prior_equal BeginOfFile (memory_of s) job args))
 
   pub chain-cycles : (args : ChainRecord) → Holds (chain (memory_of s) job args) (HaveCycles s)
   chain-cycles args = does-holds (read_change (memory_of s) job) _ (HaveCycles s) (reading-cycles s job (chain_plan (memory_of s) job args) (chain-reads (memory_of s) job args))

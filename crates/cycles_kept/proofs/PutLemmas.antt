@@ -1,9 +1,8 @@
 -- What a changed slot leaves of the open commit cycles: the one of its job has it as its last change, where it is under commitment.
-use Rattle.std.proofs.Common.{◌≡◌, ◌≢◌, ◌⊎◌, inl, inr, ◌∙◌, ℕ, suc, ◌+◌, ◌-◌, ◌≤◌, ◌<◌, ◌==◌, if◌then◌else◌, Bool, true, false, List, [], ◌∷◌, ◌++◌, length, slice_get, Option, Some, None, is_some, IsSome, IfSome, unwrap_or, subst, refl, sym, ap, arith, rules}
+use Rattle.std.proofs.Common.{◌≡◌, ◌≢◌, ◌⊎◌, inl, inr, ◌∙◌, ℕ, suc, ◌+◌, ◌-◌, ◌≤◌, ◌==◌, if◌then◌else◌, Bool, true, false, List, [], ◌∷◌, length, slice_get, Option, Some, None, is_some, IsSome, IfSome, unwrap_or, subst, refl, sym, ap, arith, rules}
 use Rattle.std.specs.List.{AllByRecursion}
 use Rattle.std.specs.Option.{option_map}
 use Rattle.std.proofs.lemmas.Bool.Decides.{nat_tests}
-use Rattle.commit_level.specs.declared.Level.{Level}
 use Rattle.entry_codec.specs.declared.entries.Draft.{Draft}
 use Rattle.entry_codec.specs.declared.kinds.Images.{Images}
 use Rattle.lock_table.specs.declared.lock.RecordId.{RecordId}
@@ -11,9 +10,9 @@ use Rattle.lock_table.specs.declared.levels.Call.{Call}
 use Rattle.lock_table.specs.Table.{HoldsChange}
 use Rattle.member_slots.specs.declared.slot.Slot.{Slot}
 use Rattle.member_slots.specs.declared.slot.Slot.TheVariants.{Deleted}
-use Rattle.member_slots.specs.Members.{NumberedMembers, member_at, member_of}
-use Rattle.journal_model.specs.Places.{slot_of}
+use Rattle.member_slots.specs.Members.{member_at, member_of}
 use Rattle.journal_model.specs.Rollback.{MemberChange, numbered_from}
+use Rattle.file_catalogue.proofs.NameLemmas.{some-equal}
 use Rattle.library_steps.specs.State.{State, Memory, OpenState, CycleState, JobState, memory_of, job_changed, job_of, open_named}
 use Rattle.library_steps.specs.Change.{Change}
 use Rattle.library_steps.specs.Drafts.{Author}
@@ -22,15 +21,12 @@ use Rattle.library_steps.specs.Records.{slot_there}
 use Rattle.library_steps.specs.SlotChange.{NewSlot, change_made, cycle_for, drafts_of, images_of, noted, with_cycle, with_slot, with_undo}
 use Rattle.library_steps.specs.Uses.{changes_in}
 use Rattle.joint_state.specs.Sound.{IsSound, after}
-use Rattle.cycles_kept.proofs.CycleLemmas.{changed_record, LocksStay, IsSpared, IsNoted, CycleAfter, HasCycle, HaveCycles}
-use Rattle.cycles_kept.proofs.JobLemmas.{IsAsking, WasThere, was_there, named-each, job_changed-twice, job_changed-none}
+use Rattle.cycles_kept.proofs.CycleLemmas.{changed_record, id_of, LocksStay, CycleAfter, HasCycle, HaveCycles}
+use Rattle.cycles_kept.proofs.JobLemmas.{IsAsking, was_there, named-each, job_changed-twice, job_changed-none}
 use Rattle.cycles_kept.proofs.JournalLemmas.{IsJournaled, last-after}
-use Rattle.cycles_kept.proofs.LockLemmas.{IsChange, HasPlace, change-locks, change-open, held_place, open-keeps}
+use Rattle.cycles_kept.proofs.LockLemmas.{IsChange, change-locks, change-open, held_place, open-keeps}
 use Rattle.cycles_kept.proofs.PlaceLemmas.{record_at, IsPlaceFor, get-within, slot_of-get, record-put_other, record-put_same}
-use Rattle.cycles_kept.proofs.StandLemmas.{Alike, IsOfOne, AreOfTwo, one_or_two, back, back-other, back-same}
-
-some-equal : {A : Type 0} {a b : A} → Some a ≡ Some b → a ≡ b
-some-equal e = cc
+use Rattle.cycles_kept.proofs.StandLemmas.{Alike, IsOfOne, one_or_two, back, back-other, back-same}
 
 -- the change isn't of this record
 abbrev pub IsNotOf : (member rrn : ℕ) → MemberChange → Type 0
@@ -116,9 +112,6 @@ begun-for None last later more begun new = new refl
 begun-for (Some cycle) last later more begun new = omega (arith, more, begun)
 
 -- ---- what is left of the commit cycles
-
-abbrev id_of : ℕ → ℕ → RecordId
-id_of member rrn = record { member = member; rrn = rrn }
 
 module _ (s : State) (c : Change) (job : ℕ) (call : Call) (new : NewSlot) (sound : IsSound s) (asks : IsAsking s job) (may : MayPut s job new) (journal : IsJournaled s c)
     (puts : Puts s c job call new) where

@@ -1,11 +1,11 @@
 -- What WRITE, UPDATE and DELETE leave of the open commit cycles, from what their plans refuse.
-use Rattle.std.proofs.Common.{◌≡◌, ◌≢◌, ◌⊎◌, inl, inr, ◌∙◌, ℕ, ◌+◌, ◌-◌, ◌≤◌, ◌<◌, ◌==◌, ◌&&◌, ◌||◌, nat_lt, not, map, if◌then◌else◌, Bool, true, false, List, [], ◌∷◌, length, slice_get, Option, Some, None, is_some, IsSome, Result, Ok, subst, refl, sym, ap, arith, rules}
+use Rattle.std.proofs.Common.{◌≡◌, ◌≢◌, inl, inr, ℕ, ◌+◌, ◌-◌, ◌≤◌, ◌==◌, ◌&&◌, ◌||◌, nat_lt, not, map, if◌then◌else◌, Bool, true, false, List, [], ◌∷◌, length, slice_get, Option, Some, None, is_some, IsSome, refl, ap, arith, rules}
 use Rattle.std.specs.List.{AllByRecursion, list_any}
 use Rattle.std.proofs.lemmas.Bool.{cases_eq}
 use Rattle.std.proofs.lemmas.Bool.Decides.{nat_tests}
 use Rattle.std.proofs.lemmas.Option.{slice_get_within}
 use Rattle.lock_table.specs.declared.levels.Call.{Call}
-use Rattle.lock_table.specs.declared.levels.Call.TheVariants.{Update, Delete, Write, WriteAt}
+use Rattle.lock_table.specs.declared.levels.Call.TheVariants.{Update, Delete, WriteAt}
 use Rattle.lock_table.specs.Table.{HoldsChange, blocker}
 use Rattle.member_slots.specs.declared.slot.Slot.{Slot}
 use Rattle.member_slots.specs.declared.slot.Slot.TheVariants.{Live, Deleted}
@@ -14,18 +14,16 @@ use Rattle.member_slots.specs.Members.{member_at, member_of}
 use Rattle.journal_model.specs.Journal.{AreNumbered}
 use Rattle.journal_model.specs.Rollback.{MemberChange, numbered_from}
 use Rattle.record_fmt.specs.Records.{record_given}
-use Rattle.library_model.specs.declared.replies.Reply.{Reply}
 use Rattle.library_model.specs.declared.replies.Reply.TheVariants.{NoSuchName, WrongOpen, NoCurrentRecord, NotFound, PlaceInUse, HeldByGroup, RecordInUse}
 use Rattle.library_model.specs.declared.replies.Missing.TheVariants.{Name}
 use Rattle.library_model.specs.declared.requests.OpenName.{OpenName}
 use Rattle.library_model.specs.declared.requests.UpdateRecord.{UpdateRecord}
 use Rattle.library_model.specs.declared.requests.WriteRecord.{WriteRecord}
-use Rattle.library_steps.specs.State.{State, Memory, FileState, OpenState, memory_of, fields_of, file_named, job_of, open_named, status_changed, with_opens, with_status}
-use Rattle.library_steps.specs.Change.{Change}
+use Rattle.library_steps.specs.State.{State, Memory, OpenState, memory_of, fields_of, file_named, job_of, open_named, status_changed, with_opens, with_status}
 use Rattle.library_steps.specs.ChangeRecord.{update_plan, update_change, update_record, without_current, without_record, delete_plan, delete_change, delete_record}
 use Rattle.library_steps.specs.Drafts.{author_of}
-use Rattle.library_steps.specs.Locking.{clashing, few_locks, level_of, locks_left, not_locked, record_of, with_locks}
-use Rattle.library_steps.specs.Reads.{open_changed, with_opened}
+use Rattle.library_steps.specs.Locking.{clashing, few_locks, level_of, not_locked, record_of}
+use Rattle.library_steps.specs.Reads.{open_changed}
 use Rattle.library_steps.specs.Records.{live_record, record_in, slot_there}
 use Rattle.library_steps.specs.Refusals.{OpenedFile, found, named_or_refused, opened_file, refuse_if, sequences_left}
 use Rattle.library_steps.specs.SlotChange.{NewSlot, change_made, cycle_for, drafts_of, few_changes, has_changed_record, images_of, is_behind_last, not_held, slot_changed, touched, with_slot}
@@ -102,7 +100,8 @@ current-may : (s : State) (job : ℕ) (name : List ℕ) (its : OpenedFile) (rrn 
     → (not its.opened.commit && has_changed_record its.opened.member rrn (job_of job (memory_of s))) ≡ false → MayPut s job (record { opened = its.opened; rrn = rrn; slot = slot })
 current-may s job name its rrn slot sound asks finds current free =
     let stands : CurrentStands (memory_of s) job its.opened rrn =
-    named-each (λ (opened : OpenState). (r : ℕ) → opened.current ≡ Some r → CurrentStands (memory_of s) job opened r) name (job_of job (memory_of s)).opens its.opened asks.stands.current finds.opened rrn current in
+    named-each (λ (opened : OpenState). (r : ℕ) → opened.current ≡ Some r → CurrentStands (memory_of s) job opened r) name
+    (job_of job (memory_of s)).opens its.opened asks.stands.current finds.opened rrn current in
     let place = live-place (member_of its.opened.member s.members) rrn stands.live in
     record {
       name = name;
@@ -122,7 +121,8 @@ update-may s job args sound asks =
     then-holds (refuse_if (is_input its.opened.option) WrongOpen) _ _ (λ writes.
     bind-holds (found its.opened.current NoCurrentRecord) (λ rrn. its.opened.current ≡ Some rrn) _ _ (found-there its.opened.current NoCurrentRecord) (λ rrn current.
     then-holds (packed (record_given (fields_of its.file) args.values (live_record its.opened.member rrn (memory_of s)))) _ _ (λ image.
-    bind-holds (not_held job its.opened rrn (memory_of s)) (λ ok. (not its.opened.commit && has_changed_record its.opened.member rrn (job_of job (memory_of s))) ≡ false) _ _ (if-not _ (HeldByGroup rrn)) (λ ok free.
+    bind-holds (not_held job its.opened rrn (memory_of s)) (λ ok. (not its.opened.commit && has_changed_record its.opened.member rrn (job_of job (memory_of s))) ≡ false) _ _
+    (if-not _ (HeldByGroup rrn)) (λ ok free.
     then-holds (keys_free job its.opened.commit its.opened.member rrn (slot_there its.opened.member rrn (memory_of s)) image (memory_of s)) _ _ (λ keys.
     then-holds (few_changes its.opened.commit (slot_there its.opened.member rrn (memory_of s)) (Live image) (memory_of s)) _ _ (λ count.
     record { holds = current-may s job args.open_id its rrn (Live image) sound asks finds current free }))))))))
@@ -134,7 +134,8 @@ delete-may s job args sound asks =
     bind-holds (opened_file args.open_id job (memory_of s)) (Finds args.open_id job (memory_of s)) _ _ (opened_file-finds args.open_id job (memory_of s)) (λ its finds.
     then-holds (refuse_if (is_input its.opened.option) WrongOpen) _ _ (λ writes.
     bind-holds (found its.opened.current NoCurrentRecord) (λ rrn. its.opened.current ≡ Some rrn) _ _ (found-there its.opened.current NoCurrentRecord) (λ rrn current.
-    bind-holds (not_held job its.opened rrn (memory_of s)) (λ ok. (not its.opened.commit && has_changed_record its.opened.member rrn (job_of job (memory_of s))) ≡ false) _ _ (if-not _ (HeldByGroup rrn)) (λ ok free.
+    bind-holds (not_held job its.opened rrn (memory_of s)) (λ ok. (not its.opened.commit && has_changed_record its.opened.member rrn (job_of job (memory_of s))) ≡ false) _ _
+    (if-not _ (HeldByGroup rrn)) (λ ok free.
     then-holds (few_changes its.opened.commit (slot_there its.opened.member rrn (memory_of s)) Deleted (memory_of s)) _ _ (λ count.
     record { holds = current-may s job args.open_id its rrn Deleted sound asks finds current free }))))))
 
@@ -176,10 +177,13 @@ place-free s job opened None sound asks = record {
   };
 }
 place-free s job opened (Some rrn) sound asks =
-    bind-holds (refuse_if ((rrn == 0) || nat_lt (next_place opened.member (memory_of s)) rrn) NotFound) (λ ok. ((rrn == 0) || nat_lt (next_place opened.member (memory_of s)) rrn) ≡ false) _ _ (if-not _ NotFound) (λ ok bounds.
+    bind-holds (refuse_if ((rrn == 0) || nat_lt (next_place opened.member (memory_of s)) rrn) NotFound)
+    (λ ok. ((rrn == 0) || nat_lt (next_place opened.member (memory_of s)) rrn) ≡ false) _ _ (if-not _ NotFound) (λ ok bounds.
     then-holds (refuse_if (is_some (live_record opened.member rrn (memory_of s))) (PlaceInUse rrn)) _ _ (λ dead.
-    bind-holds (not_locked WriteAt job opened rrn (memory_of s)) (λ free. clashing WriteAt job opened rrn (memory_of s) ≡ None) _ _ (with-none (λ other. RecordInUse other opened.member rrn) (clashing WriteAt job opened rrn (memory_of s))) (λ free unlocked.
-    bind-holds (not_held job opened rrn (memory_of s)) (λ held. (not opened.commit && has_changed_record opened.member rrn (job_of job (memory_of s))) ≡ false) _ _ (if-not _ (HeldByGroup rrn)) (λ held out.
+    bind-holds (not_locked WriteAt job opened rrn (memory_of s)) (λ free. clashing WriteAt job opened rrn (memory_of s) ≡ None) _ _
+    (with-none (λ other. RecordInUse other opened.member rrn) (clashing WriteAt job opened rrn (memory_of s))) (λ free unlocked.
+    bind-holds (not_held job opened rrn (memory_of s)) (λ held. (not opened.commit && has_changed_record opened.member rrn (job_of job (memory_of s))) ≡ false) _ _
+    (if-not _ (HeldByGroup rrn)) (λ held out.
     record { holds = here bounds unlocked out }))))
   where
     here : ((rrn == 0) || nat_lt (next_place opened.member (memory_of s)) rrn) ≡ false → clashing WriteAt job opened rrn (memory_of s) ≡ None
@@ -270,7 +274,8 @@ module _ (s : State) (job timestamp : ℕ) (new : NewSlot) where
     members = members;
     besides = open_changed new.opened.number without_current;
     keeps = λ j. refl;
-    jobs = jobs-put new.opened.commit job (change_made (memory_of s) (job_of job (memory_of s)) new) (cycle_for (memory_of s) (job_of job (memory_of s))) (open_changed new.opened.number without_current) put;
+    jobs = jobs-put new.opened.commit job (change_made (memory_of s) (job_of job (memory_of s)) new) (cycle_for (memory_of s) (job_of job (memory_of s)))
+        (open_changed new.opened.number without_current) put;
     locks = refl;
     author = author_of (memory_of s) job timestamp;
     entries = length-numbered _ _;
@@ -282,7 +287,8 @@ module _ (s : State) (job timestamp : ℕ) (new : NewSlot) where
     members = members;
     besides = with_opens (without_record new.opened.member new.rrn);
     keeps = λ j. refl;
-    jobs = jobs-put new.opened.commit job (change_made (memory_of s) (job_of job (memory_of s)) new) (cycle_for (memory_of s) (job_of job (memory_of s))) (with_opens (without_record new.opened.member new.rrn)) put;
+    jobs = jobs-put new.opened.commit job (change_made (memory_of s) (job_of job (memory_of s)) new) (cycle_for (memory_of s) (job_of job (memory_of s)))
+        (with_opens (without_record new.opened.member new.rrn)) put;
     locks = refl;
     author = author_of (memory_of s) job timestamp;
     entries = length-numbered _ _;

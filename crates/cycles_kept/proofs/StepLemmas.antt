@@ -94,5 +94,5 @@ names-kept s done d = (names-of s done d).names d.sound.names
 pub journaled-kept : IsKept (λ s. (place : ℕ) (job : JobState) → slice_get s.jobs place ≡ Some job → AreJournaled (memory_of s) job)
 journaled-kept s done d =
     let stays = holds-done (change d.sources s.entries (memory_of s) d.job d.timestamp d.request) (StayJournaled s) done d.does
-        (change-stays s d.sources d.job d.timestamp d.sound (λ place old there. (d.sound.joint.jobs place old there).journaled) d.request) in
+    (change-stays s d.sources d.job d.timestamp d.sound (λ place old there. (d.sound.joint.jobs place old there).journaled) d.request) in
     stays.stay

@@ -2,12 +2,12 @@
 //! `specs` of `joint_state`.
 #![tactic(auto)]
 
-ghost use Rattle.std.specs.Prelude.{◌≡◌, ℕ, ◌+◌, Some, slice_get};
+ghost use Rattle.std.specs.Prelude.{◌≡◌, ℕ, ◌+◌, List, Some, slice_get};
 ghost use Rattle.std.specs.List.{IsDistinct};
 ghost use Rattle.std.specs.Map.{keys_of};
 ghost use Rattle.journal_model.specs.Journal.{AreNumbered};
 ghost use Rattle.library_model.specs.Named.{same_name};
-ghost use Rattle.library_steps.specs.State.{JobState, memory_of};
+ghost use Rattle.library_steps.specs.State.{Memory, JobState, empty_library, memory_of, new_job};
 ghost use Rattle.library_steps.specs.Uses.{changes_in};
 ghost use Rattle.joint_state.specs.Cycles.{AreJournaled, ChangesAreLocked, StandAsMade, HasBegun};
 ghost use Rattle.joint_state.specs.Sound.{IsKept};
@@ -20,17 +20,20 @@ pub fn cycles_are_kept()
     ensures made { IsKept (λ s. (place : ℕ) (job : JobState) → slice_get s.jobs place ≡ Some job → StandAsMade (changes_in job.cycle) s.members) }
 {}
 
-/// The entries of the journal that are kept have the sequences behind those that are gone, and none is left out.
+/// The entries of the journal that are kept have the sequences behind those that are gone, and none is left out; so it is from the beginning.
 pub fn entries_stay_numbered()
-    ensures { IsKept (λ s. AreNumbered (s.gone + 1) s.entries) }
+    ensures empty { AreNumbered (empty_library.gone + 1) empty_library.entries }
+    ensures kept { IsKept (λ s. AreNumbered (s.gone + 1) s.entries) }
 {}
 
-/// The member of each open under commitment is journaled.
+/// The member of each open under commitment is journaled. A job that begins has none.
 pub fn opens_stay_journaled()
-    ensures { IsKept (λ s. (place : ℕ) (job : JobState) → slice_get s.jobs place ≡ Some job → AreJournaled (memory_of s) job) }
+    ensures new { (m : Memory) (name : List ℕ) → AreJournaled m (new_job name) }
+    ensures kept { IsKept (λ s. (place : ℕ) (job : JobState) → slice_get s.jobs place ≡ Some job → AreJournaled (memory_of s) job) }
 {}
 
-/// No two files of a library have one name.
+/// No two files of a library have one name, from the beginning on.
 pub fn names_stay_apart()
-    ensures { IsKept (λ s. IsDistinct same_name (keys_of s.files)) }
+    ensures empty { IsDistinct same_name (keys_of empty_library.files) }
+    ensures kept { IsKept (λ s. IsDistinct same_name (keys_of s.files)) }
 {}

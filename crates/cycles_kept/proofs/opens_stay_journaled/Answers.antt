@@ -1,5 +1,5 @@
 use Rattle.cycles_kept.proofs.StepLemmas.{journaled-kept}
 use Rattle.cycles_kept.proofs.opens_stay_journaled.Goals as goal
 
-pub returns : goal.returns
-returns c = journaled-kept
+pub returns-clause-kept : goal.returns-clause-kept
+returns-clause-kept c = journaled-kept
