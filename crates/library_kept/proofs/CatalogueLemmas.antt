@@ -1,10 +1,7 @@
 -- Files and members made, taken away and emptied leave a library.
-use Rattle.std.proofs.Common.{◌≡◌, ℕ, ◌+◌, ◌-◌, ◌*◌, ◌≤◌, ◌==◌, not, cond, if◌then◌else◌, nat_lt, Bool, true, false, List, [], ◌∷◌, ◌++◌, filter, length, Option, Some, None, is_some, Result, Ok, refl, sym, ◌∙◌, ap, subst, arith}
+use Rattle.std.proofs.Common.{◌≡◌, ℕ, ◌+◌, ◌*◌, ◌≤◌, ◌==◌, not, cond, if◌then◌else◌, nat_lt, Bool, true, false, List, [], ◌∷◌, filter, Some, None, is_some, refl, arith}
 use Rattle.std.specs.List.{AllByRecursion}
-use Rattle.file_catalogue.specs.declared.changes.StatusChange.TheVariants.{Renumbered, Journaled, Unjournaled}
-use Rattle.entry_codec.specs.declared.kinds.EntryKind.{EntryKind}
-use Rattle.entry_codec.specs.declared.kinds.Images.{Images}
-use Rattle.member_slots.specs.declared.member.TheConstants.{MOST_SLOTS, MOST_BYTES}
+use Rattle.file_catalogue.specs.declared.changes.StatusChange.TheVariants.{Renumbered}
 use Rattle.member_slots.specs.Member.{MemberState, empty_member, cleared, reorganized, is_live}
 use Rattle.member_slots.specs.Members.{Numbered, NumberedMembers, member_at, member_of, put_member, with_member, without_member}
 use Rattle.record_fmt.specs.declared.formats.Field.{Field}
@@ -13,7 +10,7 @@ use Rattle.library_model.specs.declared.requests.FileMember.{FileMember}
 use Rattle.library_model.specs.Named.{Named, named}
 use Rattle.library_steps.specs.CreatePhysicalFile.{NewFile, new_file, with_file}
 use Rattle.library_steps.specs.DeleteFile.{without_file, without_members}
-use Rattle.library_steps.specs.MemberCommands.{file_changed, member_added, renumbered, with_member_name, with_slots}
+use Rattle.library_steps.specs.MemberCommands.{member_added, renumbered, with_slots}
 use Rattle.library_steps.specs.Ranges.{library_bytes}
 use Rattle.library_steps.specs.State.{State, Memory, FileState, MemberStatus, memory_of, with_status, fields_of}
 use Rattle.library_steps.specs.Uses.{user_of, user_of_any}

@@ -1,8 +1,7 @@
 -- WRITE, UPDATE and DELETE leave a library.
-use Rattle.std.proofs.Common.{◌≡◌, ℕ, zero, suc, ◌+◌, ◌-◌, ◌*◌, ◌<◌, ◌≤◌, ◌==◌, ◌||◌, if◌then◌else◌, nat_lt, IsTrue, Bool, true, false, Option, Some, None, is_some, IsSome, IfSome, Result, Ok, Err, List, [], ◌∷◌, length, refl, sym, ◌∙◌, ap, subst, arith}
-use Rattle.std.proofs.lemmas.Bool.{or_parts, ltb-false, eqb-false}
+use Rattle.std.proofs.Common.{◌≡◌, ℕ, zero, suc, ◌+◌, ◌-◌, ◌*◌, ◌≤◌, ◌==◌, ◌||◌, nat_lt, IsTrue, Bool, true, false, Option, Some, None, is_some, IsSome, IfSome, Ok, List, [], ◌∷◌, length, refl, ap, subst, arith}
+use Rattle.std.proofs.lemmas.Bool.{or_parts, ltb-false}
 use Rattle.std.proofs.lemmas.Bool.Decides.{nat_tests}
-use Rattle.commit_level.specs.declared.Level.{Level}
 use Rattle.file_catalogue.specs.Owners.{Owns}
 use Rattle.job_table.specs.Users.{AreOfJobs}
 use Rattle.lock_table.specs.declared.lock.Lock.{Lock}
@@ -10,14 +9,11 @@ use Rattle.lock_table.specs.declared.levels.Call.{Call}
 use Rattle.lock_table.specs.declared.levels.Call.TheVariants.{WriteAt, Update, Delete}
 use Rattle.member_slots.specs.declared.slot.Slot.{Slot}
 use Rattle.member_slots.specs.declared.slot.Slot.TheVariants.{Live, Deleted}
-use Rattle.member_slots.specs.Member.{MemberState, is_full, slot_at}
+use Rattle.member_slots.specs.Member.{is_full, slot_at}
 use Rattle.member_slots.specs.Members.{member_at, member_of}
-use Rattle.record_fmt.specs.declared.formats.Field.{Field}
 use Rattle.record_fmt.specs.Records.{record_given, record_held}
 use Rattle.journal_model.specs.Rollback.{MemberChange}
-use Rattle.library_model.specs.declared.replies.Reply.{Reply}
-use Rattle.library_model.specs.declared.replies.Reply.TheVariants.{NotFound, PlaceInUse, MemberFull, LimitReached, WrongOpen, NoCurrentRecord, Done}
-use Rattle.library_model.specs.declared.replies.LimitKind.TheVariants.{LibraryBytes}
+use Rattle.library_model.specs.declared.replies.Reply.TheVariants.{NotFound, PlaceInUse, MemberFull, WrongOpen, NoCurrentRecord}
 use Rattle.library_model.specs.declared.requests.OpenName.{OpenName}
 use Rattle.library_model.specs.declared.requests.UpdateRecord.{UpdateRecord}
 use Rattle.library_model.specs.declared.requests.WriteRecord.{WriteRecord}
@@ -26,15 +22,14 @@ use Rattle.library_steps.specs.ChangeRecord.{update_plan, update_change, delete_
 use Rattle.library_steps.specs.History.{is_running}
 use Rattle.library_steps.specs.Locking.{locks_left, with_locks, not_locked, few_locks}
 use Rattle.library_steps.specs.Ranges.{library_bytes}
-use Rattle.library_steps.specs.Reads.{with_opened}
 use Rattle.library_steps.specs.Records.{live_record, record_in, slot_there}
-use Rattle.library_steps.specs.Refusals.{◌>>=◌, found, refuse_if, sequences_left, OpenedFile, opened_file}
+use Rattle.library_steps.specs.Refusals.{found, refuse_if, sequences_left, OpenedFile, opened_file}
 use Rattle.library_steps.specs.SlotChange.{NewSlot, change_made, cycle_for, few_changes, is_behind_last, not_held, noted, slot_changed, touched, with_cycle, with_slot, with_undo}
 use Rattle.library_steps.specs.State.{State, Memory, FileState, CycleState, OpenState, JobState, memory_of, job_at, job_changed, job_of, open_named, with_job, with_opens, with_status, fields_of}
 use Rattle.library_steps.specs.UniqueKeys.{keys_free}
 use Rattle.library_steps.specs.WriteRecord.{write_plan, write_change, write_call, format_or_refused, is_input, packed, next_place, place_asked, has_room}
 use Rattle.library_parts.specs.Finds.{HasMember}
-use Rattle.library_parts.specs.Lawful.{HoldsValues, HasRecords}
+use Rattle.library_parts.specs.Lawful.{HasRecords}
 use Rattle.library_parts.specs.Slots.{MayStand}
 use Rattle.library_parts.proofs.FindLemmas.{found-is}
 use Rattle.library_parts.proofs.LawfulLemmas.{AreOfJobs-more, AreOne-without_record}
@@ -121,8 +116,8 @@ module _ (s : State) (its : OpenedFile) (has : HasMember s its.opened.file its.f
 current-stands : (s : State) (job : ℕ) (name : List ℕ) (opened : OpenState) (rrn : ℕ) → IsSound s → IsTrue (is_running (job_at job s.jobs)) → open_named name job (memory_of s) ≡ Some opened
     → opened.current ≡ Some rrn → IsSome (live_record opened.member rrn (memory_of s))
 current-stands s job name opened rrn sound running found current =
-    (named-each (λ (o : OpenState). (n : ℕ) → o.current ≡ Some n → CurrentStands (memory_of s) job o n) name (job_of job (memory_of s)).opens opened (running-job s job running sound.joint).current found
-    rrn current).live
+    (named-each (λ (o : OpenState). (n : ℕ) → o.current ≡ Some n → CurrentStands (memory_of s) job o n) name (job_of job (memory_of s)).opens opened
+    (running-job s job running sound.joint).current found rrn current).live
 
 pub write-may : (s : State) (job : ℕ) (args : WriteRecord) (new : NewSlot) → IsSound s → write_plan (memory_of s) job args ≡ Ok new → MayChange s new
 unfolding write_plan

@@ -1,9 +1,9 @@
 -- The drafts of a slot that becomes another tell of records of the member's fields.
-use Rattle.std.proofs.Common.{◌≡◌, ℕ, ◌+◌, ◌==◌, Bool, true, false, Option, Some, None, is_some, List, [], ◌∷◌, ◌++◌, length, map, refl, sym, ◌∙◌, ap, subst}
+use Rattle.std.proofs.Common.{◌≡◌, ℕ, Bool, true, false, Option, Some, None, is_some, List, [], ◌∷◌, map, sym}
 use Rattle.std.specs.List.{AllByRecursion}
 use Rattle.entry_codec.specs.declared.entries.Draft.{Draft}
 use Rattle.entry_codec.specs.declared.kinds.EntryKind.{EntryKind}
-use Rattle.entry_codec.specs.declared.kinds.EntryKind.TheVariants.{RecordAdded, RecordAddedAtNumber, BeforeImage, AfterImage, RecordDeleted, InitialSlot}
+use Rattle.entry_codec.specs.declared.kinds.EntryKind.TheVariants.{RecordDeleted, InitialSlot}
 use Rattle.entry_codec.specs.Placing.{place}
 use Rattle.member_slots.specs.declared.slot.Slot.{Slot}
 use Rattle.member_slots.specs.declared.slot.Slot.TheVariants.{Live, Deleted}

@@ -1,12 +1,11 @@
 -- A library with nothing in it, and with jobs that have begun and done nothing.
-use Rattle.std.proofs.Common.{◌≡◌, ℕ, zero, suc, ◌+◌, List, [], ◌∷◌, map, Option, Some, None, slice_get, refl, sym, subst, arith}
+use Rattle.std.proofs.Common.{◌≡◌, ℕ, zero, suc, ◌+◌, List, [], ◌∷◌, map, Some, slice_get, refl, subst, arith}
 use Rattle.std.specs.List.{AllByRecursion}
 use Rattle.member_slots.specs.Members.{NumberedMembers}
 use Rattle.library_model.specs.Named.{Named}
 use Rattle.library_steps.specs.State.{State, FileState, JobState, begun, empty_library, new_job}
-use Rattle.library_parts.specs.Lawful.{OpensHold, AllGoBack, IsLibrary}
-use Rattle.joint_state.specs.Joint.{IsJoint, JobStands}
-use Rattle.joint_state.specs.Agreed.{Agrees}
+use Rattle.library_parts.specs.Lawful.{OpensHold, AllGoBack}
+use Rattle.joint_state.specs.Joint.{JobStands}
 use Rattle.joint_state.specs.Sound.{IsSound}
 
 opens-new : (files : Named FileState) (names : List (List ℕ)) → AllByRecursion (OpensHold files) (map new_job names)
@@ -51,7 +50,8 @@ begun-sound names = record {
   joint = record {
     compatible = λ k d lt. absurd (omega arith);
     locks = tt;
-    jobs = λ place job there. let new = job-new names place job there in subst (λ (j : JobState). JobStands (begun empty_library names) (place + 1) j) new.1 (stands-new (begun empty_library names) (place + 1) new.0);
+    jobs = λ place job there. let new = job-new names place job there in
+        subst (λ (j : JobState). JobStands (begun empty_library names) (place + 1) j) new.1 (stands-new (begun empty_library names) (place + 1) new.0);
     told = record { records = tt; members = tt };
   };
   agreed = record {

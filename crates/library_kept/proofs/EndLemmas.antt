@@ -1,10 +1,8 @@
 -- COMMIT, ROLLBACK, the beginning and the end of commitment control, and the end of a job leave a library.
-use Rattle.std.proofs.Common.{◌≡◌, ℕ, ◌+◌, ◌-◌, ◌==◌, IsTrue, Bool, true, false, if◌then◌else◌, List, [], ◌∷◌, length, map, Option, Some, None, Result, Ok, refl, sym, ◌∙◌, ap, subst, arith}
+use Rattle.std.proofs.Common.{◌≡◌, ℕ, ◌+◌, ◌-◌, IsTrue, true, false, if◌then◌else◌, List, [], ◌∷◌, Option, None, sym, subst}
 use Rattle.commit_level.specs.declared.Level.{Level}
-use Rattle.lock_table.specs.declared.lock.Lock.{Lock}
 use Rattle.lock_table.specs.declared.levels.Call.{Call}
 use Rattle.lock_table.specs.declared.levels.Call.TheVariants.{Commit, Rollback, EndCommitment, EndJob, Close}
-use Rattle.job_table.specs.Users.{AreOfJobs}
 use Rattle.journal_model.specs.Rollback.{MemberChange}
 use Rattle.member_slots.specs.Members.{NumberedMembers, member_of}
 use Rattle.member_slots.specs.Member.{changed}
@@ -15,7 +13,7 @@ use Rattle.library_steps.specs.History.{is_running}
 use Rattle.library_steps.specs.Locking.{locks_left, with_locks}
 use Rattle.library_steps.specs.Opens.{with_open, without_open}
 use Rattle.library_steps.specs.Ranges.{library_bytes}
-use Rattle.library_steps.specs.State.{State, Memory, FileState, OpenState, JobState, memory_of, job_at, job_of, with_job, with_opens}
+use Rattle.library_steps.specs.State.{Memory, FileState, OpenState, JobState, job_at, job_of, with_job, with_opens}
 use Rattle.library_steps.specs.Uses.{changes_in}
 use Rattle.library_model.specs.declared.requests.OpenFile.{OpenFile}
 use Rattle.library_model.specs.Named.{Named, named}
@@ -24,8 +22,7 @@ use Rattle.library_parts.specs.Lawful.{OpensMember, OpenHolds, OpensHold, CycleG
 use Rattle.library_parts.proofs.BackLemmas.{CycleGoesBack-of}
 use Rattle.library_parts.proofs.BoundaryLemmas.{cycle_back-is, AreOne-cycle_back}
 use Rattle.library_parts.proofs.LawfulLemmas.{AreOne-with_open, AreOne-without_open, opens-map}
-use Rattle.library_parts.proofs.MemberLemmas.{length-changed, record_length-changed, weight-changed}
-use Rattle.joint_state.specs.Limits.{IsWithin, AreWithin}
+use Rattle.joint_state.specs.Limits.{AreWithin}
 use Rattle.library_kept.proofs.SlotLemmas.{within-changed}
 use Rattle.library_kept.proofs.StandLemmas.{bare, Stands, one-of, Stands-job, Stands-locks, begun-left, begun-boundary, within-of, within-with}
 
@@ -39,8 +36,8 @@ rolled-holds : (files : Named FileState) (job : JobState) → OpensHold files jo
 rolled-holds files job all =
     opens-map files rolled_back_open
     (λ opened holds. elim opened.commit as
-    (λ b. OpenHolds files (if b then record opened { position = opened.boundary; current = None; last_read = None } else record opened { current = None; last_read = None })) [ true ↦ holds | false ↦ holds ])
-    job.opens all
+    (λ b. OpenHolds files (if b then record opened { position = opened.boundary; current = None; last_read = None } else record opened { current = None; last_read = None }))
+    [ true ↦ holds | false ↦ holds ]) job.opens all
 
 -- ---- changes taken back
 
@@ -73,7 +70,8 @@ module _ (m : Memory) (job : ℕ) (running : IsTrue (is_running (job_at job m.jo
   pub rolled-stands : Stands (rolled_back job m)
   rolled-stands =
       subst (λ (x : Memory). Stands (with_job job (λ j. with_opens rolled_back_open (without_cycle j)) (with_locks (boundary_locks Rollback job m) x))) undone-is
-      (Stands-job (with_locks (boundary_locks Rollback job m) undone) job (λ j. with_opens rolled_back_open (without_cycle j)) (left-stands Rollback) (λ j all. rolled-holds m.files j all) (λ j kept. tt))
+      (Stands-job (with_locks (boundary_locks Rollback job m) undone) job (λ j. with_opens rolled_back_open (without_cycle j)) (left-stands Rollback)
+      (λ j all. rolled-holds m.files j all) (λ j kept. tt))
 
   pub ended-stands : Stands (job_ended job m)
   ended-stands =

@@ -1,10 +1,8 @@
 -- A record that was packed has a value in each field, and the bytes of its fields; a source describes fields that lie one behind the other.
-use Rattle.std.proofs.Common.{◌≡◌, ℕ, zero, suc, ◌+◌, ◌≤◌, ◌<◌, ◌==◌, ◌&&◌, ◌||◌, nat_lt, not, cond, if◌then◌else◌, Bool, true, false, Option, Some, None, is_some, IfSome, Result, Ok, Err, List, [], ◌∷◌, ◌++◌, length, take, drop, length-append, refl, sym, ◌∙◌, ap, subst, arith}
+use Rattle.std.proofs.Common.{◌≡◌, ℕ, ◌+◌, ◌≤◌, ◌<◌, ◌&&◌, nat_lt, not, cond, if◌then◌else◌, Bool, true, false, Option, Some, None, is_some, IfSome, Result, Ok, Err, List, [], ◌∷◌, ◌++◌, length, take, drop, length-append, refl, sym, ◌∙◌, ap, subst, arith}
 use Rattle.std.proofs.lemmas.Bool.{ltb-true, ltb-false, or_parts, not-false}
 use Rattle.std.proofs.lemmas.List.{take-append-drop}
-use Rattle.std.proofs.lemmas.Bool.Decides.{nat_tests}
 use Rattle.field_types.specs.declared.values.Value.{Value}
-use Rattle.field_types.specs.declared.faults.RecordFault.{RecordFault}
 use Rattle.field_types.specs.declared.kinds.Kind.{Kind}
 use Rattle.field_types.specs.declared.kinds.FieldType.{FieldType}
 use Rattle.field_values.specs.FieldTypes.{IsFieldType, is_allowed, is_numeric, width}
@@ -14,7 +12,7 @@ use Rattle.member_slots.specs.declared.slot.Slot.TheVariants.{Live, Deleted}
 use Rattle.member_slots.specs.Member.{FitsSlot}
 use Rattle.record_fmt.specs.declared.formats.Field.{Field}
 use Rattle.record_fmt.specs.declared.formats.Format.{Format}
-use Rattle.record_fmt.specs.Layout.{record_length, lies_from, IsLaidOut}
+use Rattle.record_fmt.specs.Layout.{record_length, IsLaidOut}
 use Rattle.record_fmt.specs.Records.{both, fields_held, record_held, record_given}
 use Rattle.record_fmt.proofs.HeldLemmas.{held-length}
 use Rattle.record_laws.proofs.HeldLemmas.{new-record, changed-record}
@@ -33,7 +31,7 @@ use Rattle.dds_physical.specs.Described.{IsDescribed}
 use Rattle.dds_physical.specs.Lines.{with_field, with_named_field, with_key, described, described_of, lines_described, unless_faulty, line_faults}
 use Rattle.dds_physical.specs.Physical.{physical_of, faults_of, draft_of, finished, specification, specification_unless}
 use Rattle.dds_physical.proofs.DescribedLemmas.{IsDescribed-more}
-use Rattle.dds_physical.proofs.FaultLemmas.{nothing_noted, first_after_append, clear_before, not_wrong}
+use Rattle.dds_physical.proofs.FaultLemmas.{nothing_noted, first_after_append, clear_before}
 use Rattle.dds_physical.specs.Draft.{nothing}
 use Rattle.dds_physical.specs.WholeFile.{whole_faults, file_faults}
 use Rattle.dds_physical.specs.Lines.{lines_faults}
@@ -115,7 +113,8 @@ typed-allowed formats file own s t h =
 
 -- ---- the fields that lines describe
 
-named-field : (d : _) (name : Option (List ℕ)) (r : Result FieldType DdsFault) (ks : List Keyword) → length (finished d []).format.fields < 1000 → ((t : FieldType) → r ≡ Ok t → IsFieldType t) → IsDescribed (finished d []).format.fields
+named-field : (d : _) (name : Option (List ℕ)) (r : Result FieldType DdsFault) (ks : List Keyword) → length (finished d []).format.fields < 1000
+    → ((t : FieldType) → r ≡ Ok t → IsFieldType t) → IsDescribed (finished d []).format.fields
     → IsDescribed (finished (with_named_field d name r ks) []).format.fields
 named-field d None r ks few allowed is = is
 named-field d (Some name) (Err fault) ks few allowed is = is
@@ -133,7 +132,8 @@ one-key : (d : _) (name : Option (List ℕ)) (ks : List Keyword) → IsDescribed
 one-key d None ks is = is
 one-key d (Some name) ks is = is
 
-line-of : (formats : List ℕ → Option Format) (file : Option (List ℕ)) (d : _) (s : Specification) (kind : SpecificationKind) → IsDescribed (finished d []).format.fields → IsDescribed (finished (described_of formats file d s kind) []).format.fields
+line-of : (formats : List ℕ → Option Format) (file : Option (List ℕ)) (d : _) (s : Specification) (kind : SpecificationKind) → IsDescribed (finished d []).format.fields
+    → IsDescribed (finished (described_of formats file d s kind) []).format.fields
 line-of formats file d s kinds.Record is = is
 line-of formats file d s kinds.Field is = one-field d (name_of s.name) (typed formats file d.fields s) s.keywords (λ t e. typed-allowed formats file d.fields s t e) is
 line-of formats file d s kinds.Key is = one-key d (name_of s.name) s.keywords is
@@ -142,11 +142,13 @@ line-of formats file d s kinds.Omit is = is
 line-of formats file d s kinds.And is = is
 line-of formats file d s kinds.Join is = is
 
-one-line : (formats : List ℕ → Option Format) (file : Option (List ℕ)) (d : _) (s : Specification) → IsDescribed (finished d []).format.fields → IsDescribed (finished (described formats file d s) []).format.fields
+one-line : (formats : List ℕ → Option Format) (file : Option (List ℕ)) (d : _) (s : Specification) → IsDescribed (finished d []).format.fields
+    → IsDescribed (finished (described formats file d s) []).format.fields
 unfolding described
 one-line formats file d s is = line-of formats file d s s.kind is
 
-all-lines : (formats : List ℕ → Option Format) (file : Option (List ℕ)) (d : _) (ss : List Specification) → IsDescribed (finished d []).format.fields → IsDescribed (finished (lines_described formats file d ss) []).format.fields
+all-lines : (formats : List ℕ → Option Format) (file : Option (List ℕ)) (d : _) (ss : List Specification) → IsDescribed (finished d []).format.fields
+    → IsDescribed (finished (lines_described formats file d ss) []).format.fields
 all-lines formats file d [] is = is
 all-lines formats file d (s ∷ ss) is =
     let here = one-line formats file d s is in

@@ -1,5 +1,5 @@
 -- Whatever request is done, no two members have one number, each file has a record format, and a member keeps its fields.
-use Rattle.std.proofs.Common.{◌≡◌, ◌≢◌, ◌⊎◌, inl, inr, ℕ, length, nat_le, nat_lt, ◌+◌, ◌-◌, ◌<◌, ◌≤◌, ◌==◌, ◌||◌, nat_eq, cond, if◌then◌else◌, map, IsTrue, Bool, true, false, Option, Some, None, is_some, Result, Ok, Err, List, [], ◌∷◌, ◌++◌, refl, sym, ◌∙◌, ap, subst, arith}
+use Rattle.std.proofs.Common.{◌≡◌, ◌⊎◌, inl, inr, ℕ, length, nat_le, nat_lt, ◌<◌, ◌==◌, ◌||◌, nat_eq, cond, map, Bool, true, false, Option, Some, is_some, Result, Ok, Err, List, [], ◌∷◌, ◌++◌, refl, sym, ◌∙◌, ap, subst, arith}
 use Rattle.std.proofs.lemmas.Bool.{eqb-true, cases_lt}
 use Rattle.std.proofs.lemmas.Bool.Decides.{nat_tests}
 use Rattle.std.specs.List.{IsDistinct}
@@ -16,7 +16,6 @@ use Rattle.file_catalogue.proofs.NameLemmas.{named-append, named-without, same_n
 use Rattle.file_catalogue.proofs.StatusLemmas.{after-number, changed_in-numbers, distinct-push, has_number-changed_in, has_number-push}
 use Rattle.record_fmt.specs.Layout.{IsLaidOut}
 use Rattle.record_fmt.specs.declared.formats.Format.{Format}
-use Rattle.library_model.specs.declared.replies.Reply.{Reply}
 use Rattle.library_model.specs.declared.replies.Reply.TheVariants.{NameExists, LimitReached}
 use Rattle.library_model.specs.declared.replies.LimitKind.TheVariants.{Files, MemberNumbers}
 use Rattle.library_model.specs.declared.limits.TheConstants.{MOST_FILES, LAST_MEMBER}
@@ -27,9 +26,8 @@ use Rattle.library_model.specs.Named.{Named, named, same_name}
 use Rattle.library_steps.specs.CreatePhysicalFile.{NewFile, create_plan, described, described_by, formats_of, new_file, new_status, spec_or_refused}
 use Rattle.library_steps.specs.DeleteFile.{without_file}
 use Rattle.library_steps.specs.MemberCommands.{file_changed, with_member_name}
-use Rattle.library_steps.specs.Refusals.{◌>>=◌, named_or_refused, refuse_if, sequences_left}
-use Rattle.library_steps.specs.State.{State, Memory, FileState, MemberStatus, memory_of, file_named, status_changed, fields_of}
-use Rattle.library_parts.specs.Lawful.{IsLibrary}
+use Rattle.library_steps.specs.Refusals.{named_or_refused, refuse_if, sequences_left}
+use Rattle.library_steps.specs.State.{State, Memory, FileState, file_named, status_changed, fields_of}
 use Rattle.library_parts.proofs.FileLemmas.{Owns-below, distinct-one}
 use Rattle.joint_state.specs.Limits.{AreFormats}
 use Rattle.joint_state.specs.Sound.{IsSound}
@@ -132,7 +130,8 @@ module _ (s : State) (sound : IsSound s) (new : List ℕ) (plan : NewFile) (laid
   below : (name : List ℕ) (file : FileState) (number : ℕ) → named name s.files ≡ Some file → has_number number file.members ≡ true → number < s.next_member
   below name file number there has = Owns-below s name file number sound.library (record { there = there; has = has })
 
-  apart-by : (name other : List ℕ) (file another : FileState) (number : ℕ) → Either name file → Either other another → has_number number file.members ≡ true → has_number number another.members ≡ true → name ≡ other
+  apart-by : (name other : List ℕ) (file another : FileState) (number : ℕ) → Either name file → Either other another
+      → has_number number file.members ≡ true → has_number number another.members ≡ true → name ≡ other
   apart-by name other file another number (inl a) (inl b) has also = sound.apart.apart name other file another number (record { there = a; has = has }) (record { there = b; has = also })
   apart-by name other file another number (inl a) (inr b) has also = let low = below name file number a has in let next = its-number another number b.1 also in absurd (omega (arith, low, next))
   apart-by name other file another number (inr a) (inl b) has also = let low = below other another number b also in let next = its-number file number a.1 has in absurd (omega (arith, low, next))
@@ -206,7 +205,8 @@ module _ (s : State) (sound : IsSound s) (its : List ℕ) (member : List ℕ) wh
   next-of name file number (inl a) has none = absurd (none (low name file number a has))
   next-of name file number (inr a) has none = a.0
 
-  apart-of : (name other : List ℕ) (file another : FileState) (number : ℕ) → Other name file → Other other another → has_number number file.members ≡ true → has_number number another.members ≡ true → name ≡ other
+  apart-of : (name other : List ℕ) (file another : FileState) (number : ℕ) → Other name file → Other other another
+      → has_number number file.members ≡ true → has_number number another.members ≡ true → name ≡ other
   apart-of name other file another number one two has also =
       elim (cases_lt number s.next_member) [
         | inl less ↦ (

@@ -1,17 +1,15 @@
 -- What each request leaves of the files.
-use Rattle.std.proofs.Common.{◌≡◌, ℕ, ◌+◌, ◌-◌, length, Bool, true, false, Option, Some, None, Result, Ok, List, [], ◌∷◌, ◌++◌, refl, sym, ◌∙◌, ap, subst}
+use Rattle.std.proofs.Common.{◌≡◌, ℕ, ◌+◌, length, Bool, true, false, Ok, List, [], ◌∷◌, refl, sym, subst}
 use Rattle.file_catalogue.specs.declared.changes.StatusChange.TheVariants.{Touched, Renumbered, Journaled, Unjournaled}
 use Rattle.file_model.specs.Positions.{Before, Past, next_from, prior_from, next_equal, prior_equal}
 use Rattle.journal_model.specs.Replay.{before_of}
 use Rattle.journal_model.specs.Rollback.{MemberChange}
 use Rattle.member_slots.specs.Member.{records}
 use Rattle.member_slots.specs.Members.{member_of}
-use Rattle.library_model.specs.declared.replies.Reply.{Reply}
 use Rattle.library_model.specs.declared.replies.Reply.TheVariants.{EndOfFile, BeginOfFile}
 use Rattle.library_model.specs.declared.requests.Request.{Request}
 use Rattle.library_model.specs.declared.requests.Request.TheVariants as requests
 use Rattle.library_model.specs.declared.sources.NamedSource.{NamedSource}
-use Rattle.library_model.specs.Named.{Named}
 use Rattle.library_steps.specs.Change.{Change}
 use Rattle.library_steps.specs.ChangeRecord.{unlock_plan, unlock_change, update_plan, update_change, delete_plan, delete_change}
 use Rattle.library_steps.specs.Checkpoint.{save_plan, save_change}
@@ -28,7 +26,7 @@ use Rattle.library_steps.specs.Reads.{position_plan, position_change, read_plan,
 use Rattle.library_steps.specs.Receivers.{attach_plan, attach_change, give_up_plan}
 use Rattle.library_steps.specs.Refusals.{found, named_or_refused}
 use Rattle.library_steps.specs.SlotChange.{NewSlot, change_made, cycle_for, slot_changed, touched, with_slot, with_undo}
-use Rattle.library_steps.specs.State.{State, Memory, FileState, CycleState, memory_of, job_of, open_named, with_status}
+use Rattle.library_steps.specs.State.{State, Memory, CycleState, memory_of, job_of, open_named, with_status}
 use Rattle.library_steps.specs.Step.{change}
 use Rattle.library_steps.specs.WriteRecord.{write_plan, write_change, write_call}
 use Rattle.joint_state.specs.Sound.{IsSound}

@@ -1,5 +1,5 @@
 -- What holds of each thing of a list holds of each of its parts, and of what is made of it.
-use Rattle.std.proofs.Common.{◌≡◌, ℕ, zero, suc, List, [], ◌∷◌, ◌++◌, map, reverse, take, drop}
+use Rattle.std.proofs.Common.{ℕ, zero, suc, List, [], ◌∷◌, ◌++◌, map, reverse, take, drop}
 use Rattle.std.specs.List.{AllByRecursion}
 use mathlib.Core.List.{reverse_aux}
 

@@ -1,25 +1,23 @@
 -- What the plans of requests have looked up.
-use Rattle.std.proofs.Common.{◌≡◌, ◌⊎◌, inl, inr, ℕ, zero, suc, ◌+◌, ◌-◌, ◌*◌, ◌<◌, ◌≤◌, ◌==◌, ◌||◌, if◌then◌else◌, nat_lt, IsTrue, Bool, true, false, Option, Some, None, is_some, IsSome, slice_get, Result, Ok, Err, List, [], ◌∷◌, length, refl, sym, ◌∙◌, ap, subst, arith}
+use Rattle.std.proofs.Common.{◌≡◌, ℕ, zero, suc, ◌+◌, ◌-◌, ◌<◌, ◌≤◌, ◌==◌, if◌then◌else◌, IsTrue, Bool, true, false, Option, Some, None, is_some, slice_get, Result, Ok, Err, List, [], ◌∷◌, length, refl, sym, ◌∙◌, ap, subst, arith}
 use Rattle.std.specs.List.{AllByRecursion}
-use Rattle.std.proofs.lemmas.Bool.{or_parts, ltb-false, eqb-false}
+use Rattle.std.proofs.lemmas.Bool.{eqb-false}
 use Rattle.std.proofs.lemmas.Bool.Decides.{nat_tests}
 use Rattle.field_types.specs.declared.faults.RecordFault.{RecordFault}
 use Rattle.member_slots.specs.declared.slot.Slot.{Slot}
-use Rattle.member_slots.specs.declared.slot.Slot.TheVariants.{Live, Deleted}
 use Rattle.member_slots.specs.Member.{MemberState, slot_at}
 use Rattle.file_catalogue.specs.Owners.{Owns, AreApart}
-use Rattle.library_model.specs.declared.replies.Reply.{Reply}
 use Rattle.library_model.specs.Named.{Named, named, same_name}
 use Rattle.library_steps.specs.History.{is_running}
 use Rattle.library_steps.specs.Records.{record_in}
-use Rattle.library_steps.specs.Refusals.{◌>>=◌, found, named_or_refused, refuse_if, FoundMember, member_of_file, OpenedFile, opened_file}
-use Rattle.library_steps.specs.State.{State, Memory, FileState, MemberStatus, OpenState, JobState, memory_of, file_named, open_named, job_at, job_of, or_new, fields_of}
+use Rattle.library_steps.specs.Refusals.{found, named_or_refused, FoundMember, member_of_file, OpenedFile, opened_file}
+use Rattle.library_steps.specs.State.{State, Memory, FileState, JobState, memory_of, file_named, open_named, job_at, job_of, or_new}
 use Rattle.library_steps.specs.WriteRecord.{packed}
 use Rattle.library_parts.specs.Finds.{HasMember}
 use Rattle.library_parts.proofs.FindLemmas.{found-is, member-there, opened-there}
 use Rattle.joint_state.specs.Joint.{IsJoint, JobStands}
 use Rattle.joint_state.specs.Sound.{IsSound}
-use Rattle.library_kept.proofs.ResultLemmas.{ok-equal, bind-ok, not-refused}
+use Rattle.library_kept.proofs.ResultLemmas.{ok-equal, bind-ok}
 
 -- ---- names
 
@@ -47,7 +45,8 @@ pub named-member : (s : State) (file member : List ℕ) (it : FoundMember) → I
 named-member s file member it sound h = let is = member-is file member (memory_of s) it h in member-there s file member it.file it.status sound.library is.0 is.1
 
 -- two files that have one member are the same
-pub same-file : (files : Named FileState) (name other : List ℕ) (file another : FileState) (number : ℕ) → AreApart files → Owns files name file number → Owns files other another number → file ≡ another
+pub same-file : (files : Named FileState) (name other : List ℕ) (file another : FileState) (number : ℕ) → AreApart files → Owns files name file number
+    → Owns files other another number → file ≡ another
 same-file files name other file another number apart one two =
     let same : name ≡ other = apart.apart name other file another number one two in
     let both : Some file ≡ Some another = sym one.there ∙ ap (λ (n : List ℕ). named n files) same ∙ two.there in

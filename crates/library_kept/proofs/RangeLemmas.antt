@@ -1,5 +1,5 @@
 -- What the journal tells of a member fits it: the slots that a range of it gives are slots that the member may have.
-use Rattle.std.proofs.Common.{◌≡◌, ℕ, zero, suc, ◌+◌, ◌-◌, ◌*◌, ◌<◌, ◌≤◌, ◌==◌, ◌&&◌, max, nat_le, nat_lt, cond, Bool, true, false, Option, Some, None, is_some, IfSome, unwrap_or, Result, Ok, Err, List, [], ◌∷◌, ◌++◌, length, take, drop, reverse, refl, sym, ◌∙◌, ap, subst, arith, inl, inr}
+use Rattle.std.proofs.Common.{◌≡◌, ℕ, zero, suc, ◌+◌, ◌-◌, ◌*◌, ◌≤◌, ◌&&◌, nat_le, nat_lt, cond, Bool, true, false, Option, Some, None, IfSome, unwrap_or, Result, Ok, Err, List, [], ◌∷◌, length, reverse, refl, sym, ◌∙◌, ap, subst, arith, inl, inr}
 use Rattle.std.proofs.lemmas.Bool.{and_parts, eqb-true, cases_lt}
 use Rattle.std.specs.List.{AllByRecursion}
 use Rattle.entry_codec.specs.declared.entries.Entry.{Entry}
@@ -8,7 +8,7 @@ use Rattle.entry_codec.specs.declared.kinds.EntryKind.TheVariants.{RecordAdded, 
 use Rattle.entry_codec.specs.Placing.{place}
 use Rattle.member_slots.specs.declared.member.TheConstants.{MOST_SLOTS, MOST_BYTES}
 use Rattle.member_slots.specs.declared.slot.Slot.{Slot}
-use Rattle.member_slots.specs.declared.slot.Slot.TheVariants.{Live, Deleted}
+use Rattle.member_slots.specs.declared.slot.Slot.TheVariants.{Deleted}
 use Rattle.record_fmt.specs.declared.formats.Field.{Field}
 use Rattle.record_fmt.specs.Layout.{record_length}
 use Rattle.journal_model.specs.Acts.{Act, Change, act, acts, act_there, act_elsewhere, change_of, entry_before, is_number, is_same_number, is_same_record, held_before, updated_from, undone_from, place_of}
@@ -45,7 +45,8 @@ values-put fields [] (suc place) slot all holds = (tt, values-put fields [] plac
 values-put fields (other ∷ slots) zero slot all holds = (holds, all.1)
 values-put fields (other ∷ slots) (suc place) slot all holds = (all.0, values-put fields slots place slot all.1 holds)
 
-pub Fits-put : (fields : List Field) (slots : List Slot) (place : ℕ) (slot : Slot) → Fits fields slots → HoldsValues fields slot → MayHavePlace fields (place + 1) → Fits fields (put_slot slots place slot)
+pub Fits-put : (fields : List Field) (slots : List Slot) (place : ℕ) (slot : Slot) → Fits fields slots → HoldsValues fields slot → MayHavePlace fields (place + 1)
+    → Fits fields (put_slot slots place slot)
 Fits-put fields slots place slot fits holds may =
     let long = length-put_slot slots place slot in
     let values = values-put fields slots place slot fits.values holds in
@@ -170,7 +171,8 @@ cond-slots false slots after fault h = absurd cc
 
 redone-fits : (fields : List Field) (n : Numbered) (slots after : List Slot) → NumberedFits fields n → Fits fields slots → redo n slots ≡ Ok after → Fits fields after
 redone-fits fields n slots after change fits went =
-    subst (Fits fields) (cond-slots (nat_le n.change.place (length slots) && is_met n.change.before (slot_of slots n.change.place)) (put_slot slots n.change.place n.change.after) after (misfit n) went)
+    subst (Fits fields) (cond-slots (nat_le n.change.place (length slots) && is_met n.change.before (slot_of slots n.change.place))
+    (put_slot slots n.change.place n.change.after) after (misfit n) went)
     (Fits-put fields slots n.change.place n.change.after fits change.after change.place)
 
 undone-fits : (fields : List Field) (n : Numbered) (slots after : List Slot) → NumberedFits fields n → Fits fields slots → undo n slots ≡ Ok after → Fits fields after
@@ -179,7 +181,8 @@ undone-fits fields n slots after change fits went = by n.change.before change.be
     by : (o : Option Slot) → HoldsValues fields (unwrap_or o Deleted) → undo_to o n slots ≡ Ok after → Fits fields after
     by None holds h = absurd cc
     by (Some side) holds h =
-        subst (Fits fields) (cond-slots (nat_lt n.change.place (length slots) && is_same_slot n.change.after (slot_of slots n.change.place)) (put_slot slots n.change.place side) after (misfit n) h)
+        subst (Fits fields) (cond-slots (nat_lt n.change.place (length slots) && is_same_slot n.change.after (slot_of slots n.change.place))
+        (put_slot slots n.change.place side) after (misfit n) h)
         (Fits-put fields slots n.change.place side fits holds change.place)
 
 applied-fit : (fields : List Field) (changes : List Numbered) (slots after : List Slot) → AllByRecursion (NumberedFits fields) changes → Fits fields slots → apply changes slots ≡ Ok after

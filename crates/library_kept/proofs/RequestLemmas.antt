@@ -1,14 +1,10 @@
 -- Whatever request is done leaves a library, with members within their limits.
-use Rattle.std.proofs.Common.{◌≡◌, ℕ, ◌+◌, nat_le, nat_lt, length, IsTrue, true, Option, Some, None, Result, Ok, List, refl, sym, ap, subst}
+use Rattle.std.proofs.Common.{◌≡◌, ℕ, ◌+◌, nat_le, nat_lt, length, IsTrue, true, Option, Some, None, Result, Ok, List, sym, subst}
 use Rattle.std.specs.Option.{is_some, is_none}
-use Rattle.entry_codec.specs.declared.entries.Entry.{Entry}
 use Rattle.file_catalogue.specs.declared.changes.StatusChange.TheVariants.{Journaled, Unjournaled}
-use Rattle.file_catalogue.specs.Owners.{has_number}
-use Rattle.file_model.specs.KeyOrder.{KeyValue}
-use Rattle.file_model.specs.Paths.{PathEntry}
-use Rattle.file_model.specs.Positions.{Bound, Position, Reading, Before, Past, next_from, prior_from, next_equal, prior_equal}
+use Rattle.file_model.specs.Positions.{Before, Past, next_from, prior_from, next_equal, prior_equal}
 use Rattle.lock_table.specs.declared.levels.Call.TheVariants.{Position as PositionCall, Unlock}
-use Rattle.member_slots.specs.Member.{cleared, reorganized, records}
+use Rattle.member_slots.specs.Member.{records}
 use Rattle.member_slots.specs.Members.{member_at, member_of}
 use Rattle.library_model.specs.declared.replies.Reply.{Reply}
 use Rattle.library_model.specs.declared.replies.Reply.TheVariants.{AlreadyStarted, NotJournaled, Dependents, NameExists, EndOfFile, BeginOfFile, LimitReached}
@@ -24,27 +20,26 @@ use Rattle.library_model.specs.declared.requests.StartJournaling.{StartJournalin
 use Rattle.library_model.specs.declared.sources.NamedSource.{NamedSource}
 use Rattle.library_model.specs.Named.{named}
 use Rattle.library_steps.specs.Change.{Change}
-use Rattle.library_steps.specs.ChangeRecord.{unlock_plan, unlock_change, without_current, update_plan, update_change, delete_plan, delete_change, LastRead}
+use Rattle.library_steps.specs.ChangeRecord.{unlock_plan, unlock_change, without_current, update_plan, update_change, delete_plan, delete_change}
 use Rattle.library_steps.specs.Checkpoint.{save_plan, save_change}
-use Rattle.library_steps.specs.Commitment.{start_plan, with_level, end_plan, commit_change, rollback_change}
+use Rattle.library_steps.specs.Commitment.{start_plan, end_plan}
 use Rattle.library_steps.specs.CreatePhysicalFile.{create_plan, create_change}
 use Rattle.library_steps.specs.DeleteFile.{delete_plan as delete_file_plan, delete_change as delete_file_change, first_dependent}
 use Rattle.library_steps.specs.EndJob.{end_change}
 use Rattle.library_steps.specs.History.{is_running}
 use Rattle.library_steps.specs.JournalReads.{display_plan}
 use Rattle.library_steps.specs.Journaling.{start_plan as start_journaling_plan, start_change, end_plan as end_journaling_plan, end_change as end_journaling_change}
-use Rattle.library_steps.specs.Locking.{locks_left, with_locks}
-use Rattle.library_steps.specs.MemberCommands.{add_plan, empty_plan, renumbering}
-use Rattle.library_steps.specs.Opens.{open_plan, may_commit, closed, with_open}
-use Rattle.library_steps.specs.Ranges.{RangeWork, apply_plan, remove_plan, range_change, with_range}
+use Rattle.library_steps.specs.MemberCommands.{add_plan, empty_plan}
+use Rattle.library_steps.specs.Opens.{open_plan, may_commit}
+use Rattle.library_steps.specs.Ranges.{apply_plan, remove_plan, range_change}
 use Rattle.library_steps.specs.Reads.{position_plan, position_change, positioned, read_plan, read_equal_plan, chain_plan, read_change, has_read, FoundEntry, NewPosition}
-use Rattle.library_steps.specs.Receivers.{attach_plan, attach_change, give_up_plan, given_up}
+use Rattle.library_steps.specs.Receivers.{attach_plan, attach_change, give_up_plan}
 use Rattle.library_steps.specs.Refusals.{◌>>=◌, found, named_or_refused, refuse_if, refuse_with, sequences_left, member_of_file}
-use Rattle.library_steps.specs.State.{State, Memory, FileState, MemberStatus, OpenState, memory_of, file_named, job_at, job_of, open_named}
+use Rattle.library_steps.specs.State.{State, Memory, FileState, MemberStatus, memory_of, file_named, job_at, job_of, open_named}
 use Rattle.library_steps.specs.Step.{change}
 use Rattle.library_steps.specs.Uses.{user_of, user_of_any, unused}
 use Rattle.library_steps.specs.WriteRecord.{write_plan, write_change, write_call}
-use Rattle.library_parts.specs.Lawful.{OpensMember, OpenHolds}
+use Rattle.library_parts.specs.Lawful.{OpensMember}
 use Rattle.library_parts.proofs.FindLemmas.{found-is}
 use Rattle.library_parts.proofs.MemberLemmas.{IsThere-is_some}
 use Rattle.library_parts.specs.Finds.{HasMember}

@@ -1,6 +1,5 @@
 -- What is known of a plan that wasn't refused, followed from one refusal to the next.
 use Rattle.std.proofs.Common.{◌≡◌, Bool, true, false, Option, Some, None, Result, Ok, Err, refl, subst}
-use Rattle.field_types.specs.declared.faults.RecordFault.{RecordFault}
 use Rattle.library_model.specs.declared.replies.Reply.{Reply}
 use Rattle.library_steps.specs.Change.{Change, does}
 use Rattle.library_steps.specs.Refusals.{◌>>=◌, refuse_if, refuse_with}

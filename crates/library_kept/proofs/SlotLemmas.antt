@@ -1,31 +1,28 @@
 -- A library stays one where a slot of a member is another, and the change is kept in a commit cycle.
-use Rattle.std.proofs.Common.{◌≡◌, ℕ, zero, suc, ◌+◌, ◌-◌, ◌*◌, ◌<◌, ◌≤◌, ◌==◌, if◌then◌else◌, Bool, true, false, Option, Some, None, is_some, IsSome, unwrap_or, List, [], ◌∷◌, ◌++◌, length, refl, sym, ◌∙◌, ap, subst, arith}
+use Rattle.std.proofs.Common.{◌≡◌, ℕ, ◌+◌, ◌-◌, ◌*◌, ◌<◌, ◌≤◌, ◌==◌, if◌then◌else◌, Bool, true, false, Option, Some, None, is_some, unwrap_or, List, [], ◌∷◌, ◌++◌, length, refl, sym, ap, subst, arith}
 use Rattle.std.proofs.lemmas.Bool.{eqb-true, eqb-false}
 use Rattle.std.proofs.lemmas.Bool.Decides.{nat_tests}
-use Rattle.std.specs.List.{AllByRecursion}
 use Rattle.file_catalogue.specs.Owners.{Owns}
 use Rattle.file_catalogue.specs.declared.changes.StatusChange.TheVariants.{Touched}
 use Rattle.member_slots.specs.declared.member.TheConstants.{MOST_SLOTS, MOST_BYTES}
 use Rattle.member_slots.specs.declared.slot.Slot.{Slot}
 use Rattle.member_slots.specs.declared.slot.Slot.TheVariants.{Live, Deleted}
 use Rattle.member_slots.specs.Member.{MemberState, FitsSlot, appended, changed, empty_member, is_live, slot_at}
-use Rattle.member_slots.specs.Members.{NumberedMembers, member_at, member_of, with_member}
+use Rattle.member_slots.specs.Members.{member_at, member_of, with_member}
 use Rattle.record_fmt.specs.declared.formats.Field.{Field}
 use Rattle.record_fmt.specs.Layout.{record_length}
-use Rattle.journal_model.specs.Rollback.{MemberChange}
 use Rattle.library_steps.specs.declared.limits.TheConstants.{MOST_LIBRARY_BYTES}
 use Rattle.library_steps.specs.Ranges.{library_bytes}
 use Rattle.library_steps.specs.Records.{slot_there}
 use Rattle.library_steps.specs.SlotChange.{NewSlot, change_made, cycle_for, noted, slot_changed, slot_put, touched, with_cycle, with_slot, with_undo}
-use Rattle.library_steps.specs.State.{State, Memory, FileState, CycleState, JobState, memory_of, job_of, with_job, with_status, fields_of}
-use Rattle.library_parts.specs.Finds.{HasMember}
-use Rattle.library_parts.specs.Lawful.{HoldsValues, HasRecords, FitsPlace, GoesBack, CycleGoesBack, IsLibrary}
-use Rattle.library_parts.specs.Slots.{MayStand, weight}
+use Rattle.library_steps.specs.State.{Memory, FileState, job_of, with_job, with_status, fields_of}
+use Rattle.library_parts.specs.Lawful.{HoldsValues, HasRecords, FitsPlace, GoesBack}
+use Rattle.library_parts.specs.Slots.{MayStand}
 use Rattle.library_parts.proofs.BackLemmas.{CycleGoesBack-of, CycleGoesBack-noted}
 use Rattle.library_parts.proofs.BoundaryLemmas.{is_some-there}
 use Rattle.library_parts.proofs.LawfulLemmas.{AreOne-appended, AreOne-changed}
-use Rattle.library_parts.proofs.MemberLemmas.{HasRecords-member_of, HoldsValues-at, IsThere-is_some, item_at-with_item_same, length-changed, length-push, record_length-changed, weight-changed}
-use Rattle.joint_state.specs.Limits.{IsWithin, AreWithin}
+use Rattle.library_parts.proofs.MemberLemmas.{HasRecords-member_of, HoldsValues-at, item_at-with_item_same, length-changed, length-push, record_length-changed, weight-changed}
+use Rattle.joint_state.specs.Limits.{IsWithin}
 use Rattle.library_kept.proofs.FieldLemmas.{FitsSlot-held}
 use Rattle.library_kept.proofs.StandLemmas.{bare, Stands, one-of, Stands-job, Stands-status, within-with, within-of}
 
@@ -132,7 +129,9 @@ module _ (m : Memory) (name : List ℕ) (file : FileState) (member rrn : ℕ) (s
 
   -- and the member's record length
   there-fits : FitsSlot (member_of member m.members).record_length (slot_there member rrn m)
-  there-fits = subst (λ (n : ℕ). FitsSlot n (slot_there member rrn m)) (sym its-records.long) (FitsSlot-held (fields_of file) (slot_there member rrn m) (there-stands m member rrn stands name file owns))
+  there-fits =
+      subst (λ (n : ℕ). FitsSlot n (slot_there member rrn m)) (sym its-records.long)
+      (FitsSlot-held (fields_of file) (slot_there member rrn m) (there-stands m member rrn stands name file owns))
 
 -- ---- the change is kept
 

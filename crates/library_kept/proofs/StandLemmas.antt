@@ -1,8 +1,7 @@
 -- A library stays one where only its journal, its locks, a job or the status of a member is another.
-use Rattle.std.proofs.Common.{◌≡◌, ℕ, ◌+◌, ◌-◌, ◌*◌, ◌≤◌, ◌==◌, ◌++◌, if◌then◌else◌, IsTrue, true, false, Bool, List, [], ◌∷◌, length, drop, Option, Some, None, is_some, unwrap_or, refl, sym, ap, subst, arith}
-use Rattle.std.specs.List.{AllByRecursion}
+use Rattle.std.proofs.Common.{ℕ, ◌-◌, ◌==◌, ◌++◌, if◌then◌else◌, IsTrue, true, false, List, [], ◌∷◌, length, drop, Some, unwrap_or, refl, arith}
 use Rattle.member_slots.specs.Member.{MemberState, empty_member}
-use Rattle.member_slots.specs.Members.{Numbered, NumberedMembers, item_at, member_of, with_member, member_at}
+use Rattle.member_slots.specs.Members.{NumberedMembers, item_at, member_of, with_member}
 use Rattle.file_catalogue.specs.Statuses.{after as status_after}
 use Rattle.file_catalogue.specs.declared.changes.StatusChange.{StatusChange}
 use Rattle.lock_table.specs.declared.lock.Lock.{Lock}
@@ -90,11 +89,13 @@ module _ (m : Memory) (job : ℕ) (running : IsTrue (is_running (job_at job m.jo
   -- the locks that a call leaves are of jobs that have begun
   pub begun-left : (call : Call) (opened : OpenState) (rrn : ℕ) → AreOfJobs m.jobs m.locks → AreOfJobs m.jobs (locks_left call job opened rrn m)
   begun-left call opened rrn all =
-      All-locks_after (length m.jobs) (holder_of job opened) (record_of opened rrn) (is_committed (job_of job m)) (running-HasBegun m.jobs job running) call (level_of (job_of job m) opened) m.locks all
+      All-locks_after (length m.jobs) (holder_of job opened) (record_of opened rrn) (is_committed (job_of job m)) (running-HasBegun m.jobs job running) call
+      (level_of (job_of job m) opened) m.locks all
 
   pub begun-boundary : (call : Call) → AreOfJobs m.jobs m.locks → AreOfJobs m.jobs (boundary_locks call job m)
   begun-boundary call all =
-      All-locks_after (length m.jobs) (record { job = job; opened = 0 }) (record { member = 0; rrn = 0 }) (is_committed (job_of job m)) (running-HasBegun m.jobs job running) call (job_of job m).level m.locks all
+      All-locks_after (length m.jobs) (record { job = job; opened = 0 }) (record { member = 0; rrn = 0 }) (is_committed (job_of job m)) (running-HasBegun m.jobs job running) call
+      (job_of job m).level m.locks all
 
   -- a call through an open, which changes no more than it and the locks
   pub Stands-opened : (call : Call) (opened : OpenState) (rrn : ℕ) (change : OpenState → OpenState) → Stands m → ((o : OpenState) → OpenHolds m.files o → OpenHolds m.files (change o))

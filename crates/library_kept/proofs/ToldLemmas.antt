@@ -1,21 +1,20 @@
 -- What the journal told of records holds of the files after a request, and so does what the request's drafts tell.
-use Rattle.std.proofs.Common.{◌≡◌, ℕ, suc, ◌+◌, ◌-◌, ◌*◌, ◌<◌, ◌≤◌, ◌==◌, ◌||◌, cond, not, if◌then◌else◌, Bool, true, false, Option, Some, None, is_some, IfSome, List, [], ◌∷◌, ◌++◌, length, drop, filter, refl, sym, ◌∙◌, ap, subst, arith, inl, inr}
+use Rattle.std.proofs.Common.{◌≡◌, ℕ, ◌+◌, ◌-◌, ◌*◌, ◌<◌, ◌≤◌, ◌||◌, cond, if◌then◌else◌, Bool, true, false, Option, Some, None, is_some, IfSome, List, [], ◌∷◌, ◌++◌, length, filter, refl, sym, ◌∙◌, ap, subst, arith, inl, inr}
 use Rattle.std.proofs.lemmas.Bool.{cases_lt}
 use Rattle.std.proofs.Math.Nat.{mul-le-mul_right}
 use Rattle.std.specs.List.{AllByRecursion}
 use Rattle.entry_codec.specs.declared.entries.Draft.{Draft}
 use Rattle.entry_codec.specs.declared.entries.Entry.{Entry}
 use Rattle.entry_codec.specs.declared.kinds.EntryKind.{EntryKind}
-use Rattle.entry_codec.specs.declared.kinds.EntryKind.TheVariants.{CommitCycleStarted, CommitCycleRolledBack, CommitCycleCommitted, CommitmentEnded, JournalingStarted, UndoBeforeImage, UndoAfterImage, UndoDelete}
+use Rattle.entry_codec.specs.declared.kinds.EntryKind.TheVariants.{CommitCycleStarted, CommitCycleRolledBack, CommitmentEnded, JournalingStarted}
 use Rattle.entry_codec.specs.declared.kinds.Images.{Images}
 use Rattle.entry_codec.specs.Drafts.{numbered}
 use Rattle.entry_codec.specs.Placing.{place}
 use Rattle.commit_level.specs.declared.Level.{Level}
 use Rattle.file_catalogue.specs.Owners.{Owns}
 use Rattle.journal_model.specs.Images.{images_of}
-use Rattle.journal_model.specs.Places.{slot_of}
 use Rattle.journal_model.specs.Replay.{before_of, is_in}
-use Rattle.journal_model.specs.Rollback.{MemberChange, change_drafts, undo_drafts, undo_kinds, numbered_from, rollback_drafts}
+use Rattle.journal_model.specs.Rollback.{MemberChange, change_drafts, undo_drafts, undo_kinds, numbered_from}
 use Rattle.member_slots.specs.declared.member.TheConstants.{MOST_SLOTS, MOST_BYTES}
 use Rattle.member_slots.specs.declared.slot.Slot.{Slot}
 use Rattle.member_slots.specs.declared.slot.Slot.TheVariants.{Live, Deleted}
@@ -26,28 +25,27 @@ use Rattle.record_fmt.specs.Layout.{record_length}
 use Rattle.library_model.specs.Named.{Named}
 use Rattle.library_steps.specs.Change.{Change}
 use Rattle.library_steps.specs.Commitment.{end_drafts, undo_entries}
-use Rattle.library_steps.specs.Drafts.{Author, author_of, cycle_draft, initial_drafts, library_draft, member_draft, slot_drafts}
+use Rattle.library_steps.specs.Drafts.{Author, cycle_draft, initial_drafts, library_draft, member_draft, slot_drafts}
 use Rattle.library_steps.specs.EndJob.{definition_entries}
 use Rattle.library_steps.specs.MemberCommands.{if_journaled}
 use Rattle.library_steps.specs.Records.{slot_there}
-use Rattle.library_steps.specs.SlotChange.{NewSlot, are_both, begins_cycle, cycle_number, drafts_of, images_of as images_kept, is_behind_last}
-use Rattle.library_steps.specs.State.{State, Memory, FileState, CycleState, JobState, memory_of, job_of, fields_of}
+use Rattle.library_steps.specs.SlotChange.{NewSlot, are_both, begins_cycle, cycle_number, drafts_of, is_behind_last}
+use Rattle.library_steps.specs.State.{State, Memory, FileState, CycleState, JobState, memory_of, fields_of}
 use Rattle.library_steps.specs.Uses.{changes_in}
 use Rattle.library_parts.specs.Boundaries.{member_back}
 use Rattle.library_parts.specs.Lawful.{HoldsValues, IsThere, GoesBack, CycleGoesBack}
-use Rattle.library_parts.proofs.BackLemmas.{CycleGoesBack-of}
 use Rattle.library_parts.proofs.FileLemmas.{Owns-below, number-below}
 use Rattle.library_parts.proofs.MemberLemmas.{HasRecords-changed, HasRecords-member_of, IsThere-with_member}
 use Rattle.joint_state.specs.Cycles.{StandAsMade}
-use Rattle.joint_state.specs.Told.{AreTold, IsRecordOf, IsTold, MayHavePlace, NamesPlace, TellsRecord, is_of_record}
+use Rattle.joint_state.specs.Told.{AreTold, IsRecordOf, IsTold, MayHavePlace, TellsRecord, is_of_record}
 use Rattle.joint_state.specs.Sound.{IsSound, after}
 use Rattle.library_kept.proofs.ChangeLemmas.{MayChange}
 use Rattle.library_kept.proofs.DraftLemmas.{DraftTold, KindTold, record-of, initial-told, slot_drafts-told}
-use Rattle.library_kept.proofs.FileKeepLemmas.{Had, KeepsFiles}
+use Rattle.library_kept.proofs.FileKeepLemmas.{KeepsFiles}
 use Rattle.library_kept.proofs.ListLemmas.{each-append, each-drop, each-weaker}
 use Rattle.library_kept.proofs.PlanLemmas.{same-file}
 use Rattle.library_kept.proofs.RangeLemmas.{HoldsValues-slot_of}
-use Rattle.library_kept.proofs.SlotLemmas.{HasRoom, MayTake, its-records, there-stands}
+use Rattle.library_kept.proofs.SlotLemmas.{its-records, there-stands}
 use Rattle.library_kept.proofs.StandLemmas.{Stands-memory_of, within-of}
 use Rattle.library_kept.proofs.WorkLemmas.{member-told, cycle-told}
 
@@ -88,7 +86,8 @@ told-after s done sound keeps new =
           (each-append (IsTold done.memory.files) s.entries done.entries (both-told s done.memory.files s.entries keeps was.members was.records) new.records);
       members = each-drop (IsBelow done.memory.next_member) (done.memory.gone - s.gone) (s.entries ++ done.entries)
           (each-append (IsBelow done.memory.next_member) s.entries done.entries
-          (each-weaker (IsBelow s.next_member) (IsBelow done.memory.next_member) s.entries (λ e below. below-more s.next_member done.memory.next_member e.member new.further below) was.members) new.members);
+          (each-weaker (IsBelow s.next_member) (IsBelow done.memory.next_member) s.entries
+          (λ e below. below-more s.next_member done.memory.next_member e.member new.further below) was.members) new.members);
     }
 
 -- ---- drafts that tell of no record
@@ -246,7 +245,8 @@ start-told s author images name file number sound owns =
     let records = its-records (memory_of s) name file number 0 (Stands-memory_of s sound) owns in
     let within = within-of number s.members sound.within in (
       member-told (fields_of file) author number (JournalingStarted images (length member.slots)) refl refl,
-      initial-all (fields_of file) author number 1 (length member.slots) member.slots (omega arith) (omega arith) within.few (subst (λ n. length member.slots * n ≤ MOST_BYTES) records.long within.small) records.values,
+      initial-all (fields_of file) author number 1 (length member.slots) member.slots (omega arith) (omega arith) within.few
+          (subst (λ n. length member.slots * n ≤ MOST_BYTES) records.long within.small) records.values,
     )
 
 -- ---- the drafts of changes taken back
@@ -280,7 +280,8 @@ made-holds : (files : Named FileState) (members : NumberedMembers) (undos : List
 made-holds files members [] there before made = tt
 made-holds files members (undo ∷ undos) there before made = (
   λ name file owns. subst (HoldsValues (fields_of file)) made.0
-      (HoldsValues-slot_of (fields_of file) (member_of undo.member members).slots undo.change.place (HasRecords-member_of (fields_of file) undo.member members (there name file undo.member owns)).values),
+      (HoldsValues-slot_of (fields_of file) (member_of undo.member members).slots undo.change.place
+      (HasRecords-member_of (fields_of file) undo.member members (there name file undo.member owns)).values),
   made-holds files (member_back undo members) undos (there-back files members undo there before.0) before.1 made.1,
 )
 

@@ -1,11 +1,11 @@
 -- What the entries of each request tell.
-use Rattle.std.proofs.Common.{◌≡◌, ℕ, ◌+◌, ◌<◌, ◌≤◌, length, IsTrue, Bool, true, false, Option, Some, None, is_some, Result, Ok, List, [], ◌∷◌, ◌++◌, refl, sym, ◌∙◌, ap, subst, arith}
+use Rattle.std.proofs.Common.{◌≡◌, ℕ, ◌+◌, ◌<◌, length, IsTrue, is_some, Ok, List, [], ◌∷◌, ◌++◌, refl, sym, ◌∙◌, subst, arith}
 use Rattle.std.specs.List.{AllByRecursion}
 use Rattle.entry_codec.specs.declared.entries.Draft.{Draft}
 use Rattle.entry_codec.specs.declared.kinds.EntryKind.TheVariants.{FileCreated, FileDeleted, MemberAdded, MemberCleared, MemberReorganized, JournalingStarted, JournalingEnded, NextReceiver, PreviousReceiver, CommitmentStarted, CommitmentEnded}
 use Rattle.entry_codec.specs.declared.kinds.FileKind.TheVariants.{Physical}
 use Rattle.file_model.specs.Positions.{Before, Past, next_from, prior_from, next_equal, prior_equal}
-use Rattle.library_model.specs.declared.replies.Reply.TheVariants.{EndOfFile, BeginOfFile, AlreadyStarted}
+use Rattle.library_model.specs.declared.replies.Reply.TheVariants.{EndOfFile, BeginOfFile}
 use Rattle.library_model.specs.declared.requests.Request.{Request}
 use Rattle.library_model.specs.declared.requests.Request.TheVariants as requests
 use Rattle.library_model.specs.declared.sources.NamedSource.{NamedSource}
@@ -26,8 +26,8 @@ use Rattle.library_steps.specs.Ranges.{apply_plan, remove_plan, range_change}
 use Rattle.library_steps.specs.Reads.{position_plan, position_change, read_plan, read_equal_plan, chain_plan, read_change}
 use Rattle.library_steps.specs.Receivers.{attach_plan, attach_change, give_up_plan}
 use Rattle.library_steps.specs.Refusals.{found, named_or_refused}
-use Rattle.library_steps.specs.SlotChange.{NewSlot, change_made, cycle_for, drafts_of, images_of, slot_changed, touched, with_slot, with_undo}
-use Rattle.library_steps.specs.State.{State, Memory, FileState, MemberStatus, memory_of, job_at, job_of, open_named, with_status}
+use Rattle.library_steps.specs.SlotChange.{NewSlot, change_made, cycle_for, drafts_of, images_of, slot_changed, touched, with_slot}
+use Rattle.library_steps.specs.State.{State, Memory, MemberStatus, memory_of, job_at, job_of, open_named, with_status}
 use Rattle.library_steps.specs.Step.{change}
 use Rattle.library_steps.specs.WriteRecord.{write_plan, write_change, write_call}
 use Rattle.library_parts.specs.Lawful.{CycleGoesBack}
@@ -38,13 +38,13 @@ use Rattle.member_slots.specs.Members.{member_of}
 use Rattle.joint_state.specs.Sound.{IsSound}
 use Rattle.joint_state.specs.Told.{IsTold}
 use Rattle.library_kept.proofs.ChangeLemmas.{MayChange, write-may, update-may, delete-may}
-use Rattle.library_kept.proofs.FileKeepLemmas.{KeepsFiles, keeps-same, keeps-status}
-use Rattle.library_kept.proofs.FileRequestLemmas.{files-kept, undo-next, back-files, back-next}
+use Rattle.library_kept.proofs.FileKeepLemmas.{KeepsFiles}
+use Rattle.library_kept.proofs.FileRequestLemmas.{undo-next, back-files, back-next}
 use Rattle.library_kept.proofs.PlanLemmas.{running-job}
 use Rattle.library_kept.proofs.RequestLemmas.{IsFree, changes-equal, empty-free, start-free, end-free}
 use Rattle.library_kept.proofs.ResultLemmas.{does-each}
 use Rattle.library_kept.proofs.ToldLemmas.{TellsNew, IsBelow, IsPlain, library-plain, end-plain, if_journaled-plain, plain-new, member-new, change-told, start-told, undo_entries-told, end_entries-told}
-use Rattle.library_kept.proofs.WorkLemmas.{MayGo, apply-may, remove-may}
+use Rattle.library_kept.proofs.WorkLemmas.{apply-may, remove-may}
 
 module _ (s : State) (job timestamp : ℕ) (sound : IsSound s) (running : IsTrue (is_running (job_at job s.jobs))) where
   abbrev m : Memory
@@ -60,7 +60,8 @@ module _ (s : State) (job timestamp : ℕ) (sound : IsSound s) (running : IsTrue
   silent : (done : Change) → done.memory.next_member ≡ s.next_member → done.entries ≡ [] → TellsNew s done
   silent done next none = plain-new s done 0 [] (omega (arith, next)) none tt
 
-  plain : (done : Change) (drafts : List Draft) → done.memory.next_member ≡ s.next_member → done.entries ≡ numbered_from (m.last_entry + 1) drafts → AllByRecursion (IsPlain done.memory.next_member) drafts
+  plain : (done : Change) (drafts : List Draft) → done.memory.next_member ≡ s.next_member → done.entries ≡ numbered_from (m.last_entry + 1) drafts
+      → AllByRecursion (IsPlain done.memory.next_member) drafts
       → TellsNew s done
   plain done drafts next is all = plain-new s done (m.last_entry + 1) drafts (omega (arith, next)) is all
 
@@ -69,7 +70,8 @@ module _ (s : State) (job timestamp : ℕ) (sound : IsSound s) (running : IsTrue
 
   -- the drafts of a changed slot lie behind the last entry, also where the memory is one with the slot
   slot-told : (done : Change) (new : NewSlot) (change : MayChange s new) → done.memory.next_member ≡ (slot_changed job new m).next_member
-      → done.entries ≡ numbered_from ((slot_changed job new m).last_entry + 1) (drafts_of author (job_of job m) new (images_of new.opened.member m) m) → KeepsFiles s done.memory.files → TellsNew s done
+      → done.entries ≡ numbered_from ((slot_changed job new m).last_entry + 1) (drafts_of author (job_of job m) new (images_of new.opened.member m) m)
+      → KeepsFiles s done.memory.files → TellsNew s done
   slot-told done new change next is keeps =
       member-new s done ((slot_changed job new m).last_entry + 1) (drafts_of author (job_of job m) new (images_of new.opened.member m) m) change.name change.file new.opened.member sound keeps
       (next ∙ undo-next new.opened.commit job (change_made m (job_of job m) new) (cycle_for m (job_of job m)) (with_status new.opened.member touched (with_slot new.opened.member new.rrn new.slot m)))
@@ -116,7 +118,8 @@ module _ (s : State) (job timestamp : ℕ) (sound : IsSound s) (running : IsTrue
       does-each (start_change m job timestamp args) (start_journaling_plan m args) done Told h
       (λ status is keeps. let free = start-free s args status sound is in
       member-new s _ (m.last_entry + 1)
-      (member_draft author status.number (JournalingStarted args.images (length (member_of status.number s.members).slots)) ∷ initial_drafts author status.number 1 (member_of status.number s.members).slots)
+      (member_draft author status.number (JournalingStarted args.images (length (member_of status.number s.members).slots))
+      ∷ initial_drafts author status.number 1 (member_of status.number s.members).slots)
       free.name free.file status.number sound keeps refl refl free.has.owns (start-told s author args.images free.name free.file status.number sound free.has.owns))
   request-told sources done (requests.EndJournaling args) h =
       does-each (end_journaling_change m job timestamp) (end_journaling_plan m args) done Told h

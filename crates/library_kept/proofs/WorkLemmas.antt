@@ -1,10 +1,8 @@
 -- APYJRNCHG and RMVJRNCHG leave a library, and deposit entries with records of the member's fields.
-use Rattle.std.proofs.Common.{◌≡◌, ◌≢◌, ℕ, ◌+◌, ◌-◌, ◌*◌, ◌≤◌, ◌==◌, nat_lt, cond, Bool, true, false, Option, Some, None, is_some, IfSome, unwrap_or, Result, Ok, Err, List, [], ◌∷◌, ◌++◌, length, map, reverse, take, drop, refl, sym, ◌∙◌, ap, subst, arith}
+use Rattle.std.proofs.Common.{◌≡◌, ℕ, ◌+◌, ◌-◌, ◌*◌, ◌≤◌, ◌==◌, nat_lt, true, false, Option, Some, None, unwrap_or, Result, Ok, Err, List, [], ◌∷◌, length, map, reverse, take, drop, refl, sym, ap, subst}
 use Rattle.std.proofs.lemmas.Bool.{ltb-false}
 use Rattle.std.specs.Option.{is_none}
 use Rattle.std.specs.List.{AllByRecursion}
-use Rattle.entry_codec.specs.declared.entries.Draft.{Draft}
-use Rattle.entry_codec.specs.declared.entries.Entry.{Entry}
 use Rattle.entry_codec.specs.declared.kinds.EntryKind.{EntryKind}
 use Rattle.entry_codec.specs.declared.kinds.EntryKind.TheVariants.{ChangesApplied, ChangesRemoved, CommitCycleStarted, CommitCycleCommitted}
 use Rattle.entry_codec.specs.Placing.{place}
@@ -13,41 +11,36 @@ use Rattle.journal_model.specs.Acts.{acts, entry_before}
 use Rattle.journal_model.specs.Images.{images_of}
 use Rattle.journal_model.specs.Places.{slot_of, put_slot}
 use Rattle.journal_model.specs.Ranges.{RangeDone, apply_range, remove_range}
-use Rattle.journal_model.specs.Replay.{before_of}
 use Rattle.journal_model.specs.Walks.{RangeFault, Numbered}
-use Rattle.member_slots.specs.declared.member.TheConstants.{MOST_SLOTS, MOST_BYTES}
+use Rattle.member_slots.specs.declared.member.TheConstants.{MOST_BYTES}
 use Rattle.member_slots.specs.declared.slot.Slot.{Slot}
 use Rattle.member_slots.specs.declared.slot.Slot.TheVariants.{Deleted}
 use Rattle.member_slots.specs.Member.{MemberState}
-use Rattle.member_slots.specs.Members.{member_at, member_of, with_member}
+use Rattle.member_slots.specs.Members.{member_of, with_member}
 use Rattle.record_fmt.specs.declared.formats.Field.{Field}
-use Rattle.record_fmt.specs.Layout.{record_length}
 use Rattle.library_model.specs.declared.requests.JournaledChanges.{JournaledChanges}
 use Rattle.library_model.specs.declared.requests.RangeEnd.{RangeEnd}
-use Rattle.library_model.specs.declared.replies.Reply.{Reply}
 use Rattle.library_model.specs.declared.replies.Reply.TheVariants as replies
 use Rattle.library_model.specs.declared.replies.LimitKind.TheVariants.{LibraryBytes, BlockBytes}
 use Rattle.library_steps.specs.declared.limits.TheConstants.{MOST_LIBRARY_BYTES, MOST_BLOCK_BYTES}
 use Rattle.library_steps.specs.Change.{deposited}
 use Rattle.library_steps.specs.Drafts.{Author, author_of, cycle_draft, member_draft, slot_drafts}
 use Rattle.library_steps.specs.EntrySizes.{entry_bytes}
-use Rattle.library_steps.specs.JournalReads.{are_there, are_kept, first_kept, entries_between, prior_to}
-use Rattle.library_steps.specs.Ranges.{Range, RangeWork, Given, end_named, range_between, range_named, done_or_refused, fault_reply, library_bytes, with_range, before_or_deleted, given_forward, given_back, given_drafts, told, allowed, slots_now, work_of, apply_plan, remove_plan}
-use Rattle.library_steps.specs.Refusals.{◌>>=◌, refuse_if, sequences_left, FoundMember, member_of_file}
-use Rattle.library_steps.specs.State.{State, Memory, FileState, MemberStatus, memory_of, fields_of}
+use Rattle.library_steps.specs.JournalReads.{are_there, are_kept, first_kept, entries_between}
+use Rattle.library_steps.specs.Ranges.{Range, RangeWork, Given, end_named, range_named, done_or_refused, library_bytes, with_range, before_or_deleted, given_forward, given_back, given_drafts, told, allowed, slots_now, work_of, apply_plan, remove_plan}
+use Rattle.library_steps.specs.Refusals.{refuse_if, sequences_left, member_of_file}
+use Rattle.library_steps.specs.State.{State, Memory, FileState, memory_of, fields_of}
 use Rattle.library_steps.specs.UniqueKeys.{unique_paths, all_apart}
 use Rattle.library_steps.specs.Uses.{user_of, unused}
-use Rattle.library_parts.specs.Finds.{HasMember}
 use Rattle.library_parts.specs.Lawful.{HoldsValues, HasRecords}
 use Rattle.library_parts.proofs.BackLemmas.{AllGoBack-unused}
 use Rattle.library_parts.proofs.LawfulLemmas.{AreOne-with_member}
-use Rattle.joint_state.specs.Limits.{IsWithin}
-use Rattle.joint_state.specs.Told.{MayHavePlace, NamesPlace, IsRecordOf, IsTold, is_of_record}
+use Rattle.joint_state.specs.Told.{MayHavePlace, IsRecordOf, IsTold, is_of_record}
 use Rattle.joint_state.specs.Sound.{IsSound}
 use Rattle.library_kept.proofs.DraftLemmas.{DraftTold, slot_drafts-told}
-use Rattle.library_kept.proofs.ListLemmas.{each-append, each-drop, each-map, each-reverse, each-take, each-weaker}
+use Rattle.library_kept.proofs.ListLemmas.{each-append, each-drop, each-reverse, each-take, each-weaker}
 use Rattle.library_kept.proofs.PlanLemmas.{named-member, same-file}
-use Rattle.library_kept.proofs.RangeLemmas.{Fits, ChangeFits, NumberedFits, DoneFits, ActFits, TellsOf, Fits-put, HoldsValues-slot_of, acts-fit, entry_before-tells, apply_range-fits, remove_range-fits}
+use Rattle.library_kept.proofs.RangeLemmas.{Fits, NumberedFits, DoneFits, ActFits, TellsOf, Fits-put, HoldsValues-slot_of, acts-fit, entry_before-tells, apply_range-fits, remove_range-fits}
 use Rattle.library_kept.proofs.ResultLemmas.{ok-equal, bind-ok, none-refused, not-refused}
 use Rattle.library_kept.proofs.SlotLemmas.{its-records}
 use Rattle.library_kept.proofs.StandLemmas.{bare, Stands, one-of, Stands-memory_of, within-of, within-with}
@@ -82,7 +75,8 @@ module _ (fields : List Field) where
   given-told author cycle member slots (g ∷ given) fits all =
       each-append (DraftTold fields member)
       (slot_drafts author (Some cycle) true (g.place == length slots) member (g.place + 1) (slot_of slots g.place) g.slot) (given_drafts author cycle member (put_slot slots g.place g.slot) given)
-      (slot_drafts-told fields author (Some cycle) true (g.place == length slots) member (g.place + 1) (slot_of slots g.place) g.slot all.0.place (HoldsValues-slot_of fields slots g.place fits.values) all.0.slot)
+      (slot_drafts-told fields author (Some cycle) true (g.place == length slots) member (g.place + 1) (slot_of slots g.place) g.slot all.0.place
+      (HoldsValues-slot_of fields slots g.place fits.values) all.0.slot)
       (given-told author cycle member (put_slot slots g.place g.slot) given (Fits-put fields slots g.place g.slot fits all.0.slot all.0.place) all.1)
 
   -- an entry of a member that has no record, or of a commit cycle
@@ -211,7 +205,8 @@ apply-may s job timestamp args work sound h =
     let range = bind-ok (range_named args args.from args.to s.entries m) _ work h in
     let did = bind-ok (done_or_refused (apply_range range.0.first range.0.acts (slots_now range.0 m))) _ work range.2 in
     let is = range-is s args args.from args.to range.0 sound range.1 in
-    let fits = apply_range-fits (fields_of is.file) range.0.first range.0.acts (slots_now range.0 m) did.0 is.acts (slots-fit s is.name is.file range.0.status.number sound is.owns) (done-is _ did.0 did.1) in
+    let fits = apply_range-fits (fields_of is.file) range.0.first range.0.acts (slots_now range.0 m) did.0 is.acts
+        (slots-fit s is.name is.file range.0.status.number sound is.owns) (done-is _ did.0 did.1) in
     may-go s sound range.0 is (author_of m job timestamp) (λ d. ChangesApplied d.first d.last (length d.changes)) (λ d. given_forward d.changes) (λ d. refl) (λ d. refl)
     (λ d all. forward-fits (fields_of is.file) d.changes all) did.0 work fits did.2
 
@@ -222,7 +217,8 @@ remove-may s job timestamp args work sound h =
     let range = bind-ok (range_named args args.to args.from s.entries m) _ work h in
     let did = bind-ok (done_or_refused (remove_range range.0.first range.0.acts (slots_now range.0 m))) _ work range.2 in
     let is = range-is s args args.to args.from range.0 sound range.1 in
-    let fits = remove_range-fits (fields_of is.file) range.0.first range.0.acts (slots_now range.0 m) did.0 is.acts (slots-fit s is.name is.file range.0.status.number sound is.owns) (done-is _ did.0 did.1) in
+    let fits = remove_range-fits (fields_of is.file) range.0.first range.0.acts (slots_now range.0 m) did.0 is.acts
+        (slots-fit s is.name is.file range.0.status.number sound is.owns) (done-is _ did.0 did.1) in
     may-go s sound range.0 is (author_of m job timestamp) (λ d. ChangesRemoved d.first d.last (length d.changes)) (λ d. given_back d.changes) (λ d. refl) (λ d. refl)
     (λ d all. back-fits (fields_of is.file) d.changes all) did.0 work fits did.2
 
