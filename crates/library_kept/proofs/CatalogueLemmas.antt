@@ -41,9 +41,9 @@ within-put (entry ∷ members) number long all =
       | true ↦ (all.0, within-put members number long all.1)
       | false ↦ elim (entry.number == number) as (λ b. AreWithin
           (if b then record { number = number; item = empty_member long } ∷ members else record { number = number; item = empty_member long } ∷ entry ∷ members)) [
-        | true ↦ (within-empty long, all.1)
-        | false ↦ (within-empty long, (all.0, all.1))
-      ]
+            | true ↦ (within-empty long, all.1)
+            | false ↦ (within-empty long, (all.0, all.1))
+          ]
     ]
 
 pub with_file-stands : (m : Memory) (name : List ℕ) (plan : NewFile) → Stands m → Stands (with_file name (new_file name m.next_member plan) m)

@@ -136,7 +136,8 @@ write-may s job args new sound h =
     let has = opened-member s job args.open_id its.0 sound its.1 in
     let near = asked-near job its.0.opened m args.record_number rrn.0 rrn.1 in
     let held = given-held (fields_of its.0.file) args.values None image.0 (sound.formats its.0.opened.file its.0.file has.owns.there) tt (packed-is _ image.0 image.1) in
-    subst (MayChange s) (ok-equal _ new few.2) (record {
+    let planned : NewSlot = record { opened = its.0.opened; rrn = rrn.0; slot = Live image.0 } in
+    subst (MayChange s) (ok-equal planned new few.2) (record {
       name = its.0.opened.file;
       file = its.0.file;
       owns = has.owns;
@@ -165,8 +166,9 @@ update-may s job args new sound running h =
     let current = found-is its.0.opened.current _ rrn.0 rrn.1 in
     let live = current-stands s job args.open_id its.0.opened rrn.0 sound running (opened-is args.open_id job m its.0 its.1).0 current in
     let values = given-held (fields_of its.0.file) args.values (live_record its.0.opened.member rrn.0 m) image.0 (sound.formats its.0.opened.file its.0.file has.owns.there)
-        (live-values s its.0 has sound rrn.0) (packed-is _ image.0 image.1) in
-    subst (MayChange s) (ok-equal _ new few.2) (may-replace s its.0 has sound rrn.0 (Live image.0) (may-stand s its.0 has sound image.0 values) live)
+    (live-values s its.0 has sound rrn.0) (packed-is _ image.0 image.1) in
+    let planned : NewSlot = record { opened = its.0.opened; rrn = rrn.0; slot = Live image.0 } in
+    subst (MayChange s) (ok-equal planned new few.2) (may-replace s its.0 has sound rrn.0 (Live image.0) (may-stand s its.0 has sound image.0 values) live)
 
 pub delete-may : (s : State) (job : ℕ) (args : OpenName) (new : NewSlot) → IsSound s → IsTrue (is_running (job_at job s.jobs)) → delete_plan (memory_of s) job args ≡ Ok new → MayChange s new
 unfolding delete_plan
@@ -181,7 +183,8 @@ delete-may s job args new sound running h =
     let has = opened-member s job args.open_id its.0 sound its.1 in
     let current = found-is its.0.opened.current _ rrn.0 rrn.1 in
     let live = current-stands s job args.open_id its.0.opened rrn.0 sound running (opened-is args.open_id job m its.0 its.1).0 current in
-    subst (MayChange s) (ok-equal _ new few.2) (may-replace s its.0 has sound rrn.0 Deleted (λ name file owns. tt) live)
+    let planned : NewSlot = record { opened = its.0.opened; rrn = rrn.0; slot = Deleted } in
+    subst (MayChange s) (ok-equal planned new few.2) (may-replace s its.0 has sound rrn.0 Deleted (λ name file owns. tt) live)
 
 -- ---- what they leave
 

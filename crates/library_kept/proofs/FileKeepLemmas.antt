@@ -261,5 +261,6 @@ plan-laid sources m args plan h =
     let numbers = bind-ok (refuse_if (nat_lt LAST_MEMBER m.next_member) (LimitReached MemberNumbers LAST_MEMBER)) _ plan few.2 in
     let text = bind-ok (named_or_refused args.source (text_of sources args.source)) _ plan numbers.2 in
     let spec = bind-ok (spec_or_refused (described (formats_of m) text.0)) _ plan text.2 in
-    subst (λ (p : NewFile). IsLaidOut p.spec.format.fields) (ok-equal _ plan spec.2)
+    let made : NewFile = record { source = text.0; spec = spec.0 } in
+    subst (λ (p : NewFile). IsLaidOut p.spec.format.fields) (ok-equal made plan spec.2)
     (described-laid (formats_of m) (source_of text.0) spec.0 (spec-is (described (formats_of m) text.0) spec.0 spec.1))

@@ -14,7 +14,7 @@ use Rattle.record_fmt.specs.Layout.{record_length}
 use Rattle.journal_model.specs.Acts.{Act, Change, act, acts, act_there, act_elsewhere, change_of, entry_before, is_number, is_same_number, is_same_record, held_before, updated_from, undone_from, place_of}
 use Rattle.journal_model.specs.Images.{images_of}
 use Rattle.journal_model.specs.Parts.{applied_part, removed_part, removed_from}
-use Rattle.journal_model.specs.Closed.{closed_prefix, closed_suffix, last}
+use Rattle.journal_model.specs.Closed.{closed_prefix, closed_suffix}
 use Rattle.journal_model.specs.Places.{slot_of, put_slot, is_same_slot}
 use Rattle.journal_model.specs.Ranges.{RangeDone, apply_range, remove_range, first_fault, done, straddled, first_gap, first_renumbering, first_lacking, placed}
 use Rattle.journal_model.specs.Replay.{before_of}

@@ -10,7 +10,6 @@ use Rattle.member_slots.specs.declared.slot.Slot.TheVariants.{Live, Deleted}
 use Rattle.member_slots.specs.Member.{MemberState, FitsSlot, appended, changed, empty_member, is_live, slot_at}
 use Rattle.member_slots.specs.Members.{member_at, member_of, with_member}
 use Rattle.record_fmt.specs.declared.formats.Field.{Field}
-use Rattle.record_fmt.specs.Layout.{record_length}
 use Rattle.library_steps.specs.declared.limits.TheConstants.{MOST_LIBRARY_BYTES}
 use Rattle.library_steps.specs.Ranges.{library_bytes}
 use Rattle.library_steps.specs.Records.{slot_there}
@@ -166,7 +165,7 @@ module _ (m : Memory) (job : ℕ) (new : NewSlot) (stands : Stands m) (name : Li
   undone-stands false = Stands-status put new.opened.member Touched put-stands
   undone-stands true =
       let kept = CycleGoesBack-noted m.files put.members (m.last_entry + 1) (job_of job m).cycle (change_made m (job_of job m) new)
-          (CycleGoesBack-of m.files put.members job m.jobs put-stands.library.changes) undo-back in
+      (CycleGoesBack-of m.files put.members job m.jobs put-stands.library.changes) undo-back in
       Stands-status (with_job job (with_cycle (noted (change_made m (job_of job m) new) (cycle_for m (job_of job m)))) put) new.opened.member Touched
       (Stands-job put job (with_cycle (noted (change_made m (job_of job m) new) (cycle_for m (job_of job m)))) put-stands (λ j holds. holds) (λ j back. kept))
 

@@ -7,7 +7,7 @@ use Rattle.entry_codec.specs.declared.kinds.EntryKind.{EntryKind}
 use Rattle.entry_codec.specs.declared.kinds.EntryKind.TheVariants.{ChangesApplied, ChangesRemoved, CommitCycleStarted, CommitCycleCommitted}
 use Rattle.entry_codec.specs.Placing.{place}
 use Rattle.file_catalogue.specs.Owners.{Owns}
-use Rattle.journal_model.specs.Acts.{acts, entry_before}
+use Rattle.journal_model.specs.Acts.{entry_before}
 use Rattle.journal_model.specs.Images.{images_of}
 use Rattle.journal_model.specs.Places.{slot_of, put_slot}
 use Rattle.journal_model.specs.Ranges.{RangeDone, apply_range, remove_range}
@@ -27,7 +27,7 @@ use Rattle.library_steps.specs.Change.{deposited}
 use Rattle.library_steps.specs.Drafts.{Author, author_of, cycle_draft, member_draft, slot_drafts}
 use Rattle.library_steps.specs.EntrySizes.{entry_bytes}
 use Rattle.library_steps.specs.JournalReads.{are_there, are_kept, first_kept, entries_between}
-use Rattle.library_steps.specs.Ranges.{Range, RangeWork, Given, end_named, range_named, done_or_refused, library_bytes, with_range, before_or_deleted, given_forward, given_back, given_drafts, told, allowed, slots_now, work_of, apply_plan, remove_plan}
+use Rattle.library_steps.specs.Ranges.{range_between, Range, RangeWork, Given, end_named, range_named, done_or_refused, library_bytes, with_range, before_or_deleted, given_forward, given_back, given_drafts, told, allowed, slots_now, work_of, apply_plan, remove_plan}
 use Rattle.library_steps.specs.Refusals.{refuse_if, sequences_left, member_of_file}
 use Rattle.library_steps.specs.State.{State, Memory, FileState, memory_of, fields_of}
 use Rattle.library_steps.specs.UniqueKeys.{unique_paths, all_apart}
@@ -141,7 +141,7 @@ range-is s args first last range sound h =
     let tells = each-weaker (IsTold s.files) (TellsOf (fields_of it.0.file) number) s.entries (λ e told named. told args.file it.0.file number has.owns named) sound.joint.told.records in
     let before = take (from - first_kept m) s.entries in
     let between = entries_between from to m s.entries in
-    subst (IsRange s) (ok-equal _ range kept.2) (record {
+    subst (IsRange s) (ok-equal (range_between it.0.status from to s.entries m) range kept.2) (record {
       name = args.file;
       file = it.0.file;
       owns = has.owns;
@@ -206,7 +206,7 @@ apply-may s job timestamp args work sound h =
     let did = bind-ok (done_or_refused (apply_range range.0.first range.0.acts (slots_now range.0 m))) _ work range.2 in
     let is = range-is s args args.from args.to range.0 sound range.1 in
     let fits = apply_range-fits (fields_of is.file) range.0.first range.0.acts (slots_now range.0 m) did.0 is.acts
-        (slots-fit s is.name is.file range.0.status.number sound is.owns) (done-is _ did.0 did.1) in
+    (slots-fit s is.name is.file range.0.status.number sound is.owns) (done-is _ did.0 did.1) in
     may-go s sound range.0 is (author_of m job timestamp) (λ d. ChangesApplied d.first d.last (length d.changes)) (λ d. given_forward d.changes) (λ d. refl) (λ d. refl)
     (λ d all. forward-fits (fields_of is.file) d.changes all) did.0 work fits did.2
 
@@ -218,7 +218,7 @@ remove-may s job timestamp args work sound h =
     let did = bind-ok (done_or_refused (remove_range range.0.first range.0.acts (slots_now range.0 m))) _ work range.2 in
     let is = range-is s args args.to args.from range.0 sound range.1 in
     let fits = remove_range-fits (fields_of is.file) range.0.first range.0.acts (slots_now range.0 m) did.0 is.acts
-        (slots-fit s is.name is.file range.0.status.number sound is.owns) (done-is _ did.0 did.1) in
+    (slots-fit s is.name is.file range.0.status.number sound is.owns) (done-is _ did.0 did.1) in
     may-go s sound range.0 is (author_of m job timestamp) (λ d. ChangesRemoved d.first d.last (length d.changes)) (λ d. given_back d.changes) (λ d. refl) (λ d. refl)
     (λ d all. back-fits (fields_of is.file) d.changes all) did.0 work fits did.2
 
