@@ -12,6 +12,7 @@ use Rattle.library_steps.specs.Change.{Change}
 use Rattle.library_steps.specs.Step.{change}
 use Rattle.library_steps.specs.History.{is_running}
 use Rattle.library_parts.specs.Lawful.{IsLibrary}
+use Rattle.joint_state.specs.Limits.{AreFormats, AreWithin}
 use Rattle.joint_state.specs.Joint.{IsJoint}
 use Rattle.joint_state.specs.Agreed.{Agrees}
 
@@ -22,6 +23,8 @@ pub record IsSound (s : State) : Type 0 where
   pub names : IsDistinct same_name (keys_of s.files)
   -- no sequence of the journal is left out
   pub numbered : AreNumbered (s.gone + 1) s.entries
+  pub formats : AreFormats s.files
+  pub within : AreWithin s.members
   pub joint : IsJoint s
   pub agreed : Agrees s
 
