@@ -1,8 +1,8 @@
 -- A library with nothing in it, and with jobs that have begun and done nothing.
 use Rattle.std.proofs.Common.{◌≡◌, ℕ, zero, suc, ◌+◌, List, [], ◌∷◌, map, Some, slice_get, refl, subst, arith}
-use Rattle.std.specs.List.{AllByRecursion}
+use Rattle.std.specs.List.{AllByRecursion, IsDistinct}
+use Rattle.library_model.specs.Named.{Named, same_name}
 use Rattle.member_slots.specs.Members.{NumberedMembers}
-use Rattle.library_model.specs.Named.{Named}
 use Rattle.library_steps.specs.State.{State, FileState, JobState, begun, empty_library, new_job}
 use Rattle.library_parts.specs.Lawful.{OpensHold, AllGoBack}
 use Rattle.joint_state.specs.Joint.{JobStands}
@@ -25,11 +25,17 @@ stands-new : (s : State) (number : ℕ) (name : List ℕ) → JobStands s number
 stands-new s number name = record {
   idle = record { opens = λ ended. refl; level = λ ended. refl };
   control = record { cycle = λ none. refl; opens = λ none. tt };
+  opens = record { apart = tt; counted = tt };
+  journaled = tt;
   begun = tt;
   current = tt;
   locked = tt;
   made = tt;
 }
+
+distinct-none : IsDistinct same_name []
+unfolding IsDistinct
+distinct-none = tt
 
 pub begun-sound : (names : List (List ℕ)) → IsSound (begun empty_library names)
 begun-sound names = record {
@@ -45,6 +51,8 @@ begun-sound names = record {
     apart = λ name other file another number one two. absurd (let there = one.there in cc);
     within = λ name file there. absurd cc;
   };
+  names = distinct-none;
+  numbered = tt;
   formats = λ name file there. absurd cc;
   within = tt;
   joint = record {
