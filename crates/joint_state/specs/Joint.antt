@@ -18,11 +18,11 @@ pub record IsIdle (job : JobState) : Type 0 where
 pub record JobStands (s : State) (number : ℕ) (job : JobState) : Type 0 where
   pub idle : IsIdle job
   pub control : IsUnderControl job
-  pub journaled : AreJournaled (memory_of s) job
   pub begun : HasBegun (memory_of s) job
   pub current : AllCurrentStand (memory_of s) number job
   pub locked : ChangesAreLocked (memory_of s) number job
   pub made : StandAsMade (changes_in job.cycle) s.members
+  pub journaled : AreJournaled (memory_of s) job
 
 pub record IsJoint (s : State) : Type 0 where
   pub compatible : AreCompatible s.locks

@@ -18,12 +18,12 @@ use Rattle.joint_state.specs.Agreed.{Agrees}
 pub record IsSound (s : State) : Type 0 where
   pub library : IsLibrary s
   pub apart : AreApart s.files
+  pub joint : IsJoint s
+  pub agreed : Agrees s
   -- no two files have one name
   pub names : IsDistinct same_name (keys_of s.files)
   -- no sequence of the journal is left out
   pub numbered : AreNumbered (s.gone + 1) s.entries
-  pub joint : IsJoint s
-  pub agreed : Agrees s
 
 -- the library that a change leaves
 abbrev pub after : State → Change → State
