@@ -1,6 +1,9 @@
 -- All that holds of a library between calls, and what it is that each answered request keeps it. (Our own.)
 use Rattle.std.specs.Prelude.{◌≡◌, ℕ, ◌++◌, IsTrue, Ok, List}
+use Rattle.std.specs.List.{IsDistinct}
+use Rattle.std.specs.Map.{keys_of}
 use Rattle.file_catalogue.specs.Owners.{AreApart}
+use Rattle.library_model.specs.Named.{same_name}
 use Rattle.library_model.specs.declared.requests.Request.{Request}
 use Rattle.library_model.specs.declared.sources.NamedSource.{NamedSource}
 use Rattle.library_steps.specs.State.{State, memory_of, with_entries, job_at}
@@ -14,6 +17,8 @@ use Rattle.joint_state.specs.Agreed.{Agrees}
 pub record IsSound (s : State) : Type 0 where
   pub library : IsLibrary s
   pub apart : AreApart s.files
+  -- no two files have one name
+  pub names : IsDistinct same_name (keys_of s.files)
   pub joint : IsJoint s
   pub agreed : Agrees s
 

@@ -1,0 +1,5 @@
+pub mod ResultLemmas
+pub mod CutLemmas
+pub mod NamedLemmas
+pub mod WorkLemmas
+pub mod HistoryLemmas
