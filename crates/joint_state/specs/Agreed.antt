@@ -23,11 +23,11 @@ abbrev pub is_journaled : ℕ → Named FileState → Bool
 is_journaled number files = is_some (option_and_then (λ status. status.images) (status_among number files))
 
 -- so it is of each member that a job has open under commitment control or that its open commit cycle changed
-pub record AreJournaled (files : Named FileState) (job : JobState) : Type 0 where
+pub record StaysJournaled (files : Named FileState) (job : JobState) : Type 0 where
   pub opens : AllByRecursion (λ entry. entry.1.commit ≡ true → is_journaled entry.1.member files ≡ true) job.opens
   pub changes : AllByRecursion (λ undo. is_journaled undo.member files ≡ true) (changes_in job.cycle)
 
 pub record Agrees (s : State) : Type 0 where
   pub chained : (member place : ℕ) → IsChained place None (acts member None s.entries)
   pub told : (member place : ℕ) → is_some (member_at member s.members) ≡ true → IsAsTold s member place
-  pub committed : AllByRecursion (AreJournaled s.files) s.jobs
+  pub committed : AllByRecursion (StaysJournaled s.files) s.jobs

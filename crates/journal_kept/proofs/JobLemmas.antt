@@ -7,7 +7,7 @@ use Rattle.library_steps.specs.State.{FileState, OpenState, CycleState, JobState
 use Rattle.library_steps.specs.Uses.{changes_in}
 use Rattle.library_steps.specs.SlotChange.{cycle_for, noted, with_cycle}
 use Rattle.library_steps.specs.Opens.{without_open}
-use Rattle.joint_state.specs.Agreed.{AreJournaled, is_journaled}
+use Rattle.joint_state.specs.Agreed.{StaysJournaled, is_journaled}
 
 -- an open under commitment is of a journaled member
 abbrev pub IsOpenJournaled : Named FileState → OpenState → Type 0
@@ -58,7 +58,7 @@ all-named P Q name (entry ∷ things) x each all h =
 -- ---- changes of a job
 
 module _ (files : Named FileState) where
-  pub none-open : AreJournaled files (new_job [])
+  pub none-open : StaysJournaled files (new_job [])
   none-open = record { opens = tt; changes = tt }
 
   pub opens-changed : (change : OpenState → OpenState) → ((opened : OpenState) → IsOpenJournaled files opened → IsOpenJournaled files (change opened)) → (opens : Named OpenState)
@@ -66,25 +66,25 @@ module _ (files : Named FileState) where
   opens-changed change each [] all = tt
   opens-changed change each (entry ∷ opens) all = (each entry.1 all.0, opens-changed change each opens all.1)
 
-  pub job-opens : (change : OpenState → OpenState) → ((opened : OpenState) → IsOpenJournaled files opened → IsOpenJournaled files (change opened)) → (job : JobState) → AreJournaled files job
-      → AreJournaled files (with_opens change job)
+  pub job-opens : (change : OpenState → OpenState) → ((opened : OpenState) → IsOpenJournaled files opened → IsOpenJournaled files (change opened)) → (job : JobState) → StaysJournaled files job
+      → StaysJournaled files (with_opens change job)
   job-opens change each job are = record { opens = opens-changed change each job.opens are.opens; changes = are.changes }
 
   -- the open of one number
-  pub job-opened : (number : ℕ) (change : OpenState → OpenState) → ((opened : OpenState) → IsOpenJournaled files opened → IsOpenJournaled files (change opened)) → (job : JobState) → AreJournaled files job
-      → AreJournaled files (with_opens (λ opened. if opened.number == number then change opened else opened) job)
+  pub job-opened : (number : ℕ) (change : OpenState → OpenState) → ((opened : OpenState) → IsOpenJournaled files opened → IsOpenJournaled files (change opened)) → (job : JobState) → StaysJournaled files job
+      → StaysJournaled files (with_opens (λ opened. if opened.number == number then change opened else opened) job)
   job-opened number change each job are =
       job-opens (λ opened. if opened.number == number then change opened else opened)
       (λ opened holds. elim (opened.number == number) as (λ b. IsOpenJournaled files (if b then change opened else opened)) [ true ↦ each opened holds | false ↦ holds ]) job are
 
-  pub job-without_open : (name : List ℕ) (job : JobState) → AreJournaled files job → AreJournaled files (without_open name job)
+  pub job-without_open : (name : List ℕ) (job : JobState) → StaysJournaled files job → StaysJournaled files (without_open name job)
   job-without_open name job are = record {
     opens = all-filter (λ (entry : List ℕ × OpenState). entry.1.commit ≡ true → is_journaled entry.1.member files ≡ true) (λ (entry : List ℕ × OpenState). not (same_name name entry.0)) job.opens are.opens;
     changes = are.changes;
   }
 
   -- one change more in the commit cycle
-  pub changes-noted : (m : Memory) (job : JobState) (undo : MemberChange) → AreJournaled files job → is_journaled undo.member files ≡ true → AreChangesJournaled files (noted undo (cycle_for m job)).undos
+  pub changes-noted : (m : Memory) (job : JobState) (undo : MemberChange) → StaysJournaled files job → is_journaled undo.member files ≡ true → AreChangesJournaled files (noted undo (cycle_for m job)).undos
   changes-noted m job undo are on = (on, by job.cycle are.changes) where
     by : (cycle : Option CycleState) → AreChangesJournaled files (changes_in cycle) → AreChangesJournaled files (cycle_for m (record job { cycle = cycle })).undos
     by None all = tt

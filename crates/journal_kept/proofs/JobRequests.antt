@@ -4,8 +4,9 @@ use Rattle.std.specs.List.{AllByRecursion}
 use Rattle.std.specs.Option.{is_none, is_some}
 use Rattle.entry_codec.specs.declared.entries.Entry.{Entry}
 use Rattle.entry_codec.specs.declared.entries.Draft.{Draft}
+use Rattle.entry_codec.specs.declared.kinds.EntryKind.TheVariants.{CommitmentEnded, CommitmentStarted, NextReceiver, PreviousReceiver}
 use Rattle.lock_table.specs.declared.lock.Lock.{Lock}
-use Rattle.lock_table.specs.declared.levels.Call.TheVariants.{EndCommitment, PositionCall, Unlock}
+use Rattle.lock_table.specs.declared.levels.Call.TheVariants.{EndCommitment, Unlock}
 use Rattle.lock_table.specs.declared.levels.Call.TheVariants as calls
 use Rattle.file_model.specs.Paths.{PathEntry}
 use Rattle.file_model.specs.Positions.{Bound, Position, Reading}
@@ -23,17 +24,17 @@ use Rattle.library_model.specs.declared.requests.DisplayJournal.{DisplayJournal}
 use Rattle.library_steps.specs.State.{State, Memory, FileState, MemberStatus, OpenState, CycleState, JobState, job_of, memory_of, open_named, with_job, with_opens}
 use Rattle.library_steps.specs.Change.{Change, does, journaled, unjournaled}
 use Rattle.library_steps.specs.Refusals.{◌>>=◌, found, member_of_file, refuse_if, named_or_refused}
-use Rattle.library_steps.specs.Drafts.{Author, author_of}
+use Rattle.library_steps.specs.Drafts.{Author, author_of, library_draft}
 use Rattle.library_model.specs.declared.limits.TheConstants.{MOST_OPENS}
 use Rattle.library_steps.specs.Locking.{locks_left, with_locks}
 use Rattle.library_steps.specs.Opens.{close_file, closed, may_commit, new_open, open_file, open_plan, with_open, without_open}
 use Rattle.library_steps.specs.Reads.{FoundEntry, NewPosition, has_read, open_changed, position_change, positioned, read_change}
 use Rattle.library_steps.specs.ChangeRecord.{LastRead, unlock, unlock_change, unlock_plan, without_current}
 use Rattle.library_steps.specs.Commitment.{boundary_locks, commit, commit_change, committed_open, end_commitment, end_drafts, end_plan, start_commitment, start_plan, with_level, without_cycle, at_boundary}
-use Rattle.library_steps.specs.Receivers.{attach_change, attach_plan, change_journal}
+use Rattle.library_steps.specs.Receivers.{attached, attach_change, attach_plan, change_journal}
 use Rattle.library_steps.specs.Checkpoint.{save, save_change, save_plan}
 use Rattle.library_steps.specs.JournalReads.{display_journal, display_plan}
-use Rattle.joint_state.specs.Agreed.{Agrees, AreJournaled, is_journaled}
+use Rattle.joint_state.specs.Agreed.{Agrees, StaysJournaled, is_journaled}
 use Rattle.joint_state.specs.Sound.{IsSound, after}
 use Rattle.range_histories.proofs.ResultLemmas.{bind-ok, found-ok, refuse_if-ok, member_of_file-ok}
 use Rattle.journal_kept.proofs.KnownLemmas.{quiet-nothing, quiet-committed}
@@ -50,24 +51,24 @@ does-each effect (Err reply) done P h each = absurd cc
 module _ (s : State) (sound : IsSound s) where
   -- drafts that tell nothing, and jobs that have no more under commitment control
   pub quiet-kept : (drafts : List Draft) (forced : Bool) (reply : Reply) (m : Memory) → m.gone ≡ s.gone → m.members ≡ s.members → m.files ≡ s.files → ((member : ℕ) → AllByRecursion (IsSilent member) drafts)
-      → AllByRecursion (AreJournaled s.files) m.jobs → Agrees (after s (journaled drafts forced reply m))
+      → AllByRecursion (StaysJournaled s.files) m.jobs → Agrees (after s (journaled drafts forced reply m))
   quiet-kept drafts forced reply m gone members files quiet jobs =
       kept-journaled s drafts forced reply m sound.agreed gone
       (λ member place. subst (λ (ms : NumberedMembers). IsFollowed s drafts ms m.files member place) (sym members)
       (subst (λ (fs : Named FileState). IsFollowed s drafts s.members fs member place) (sym files) (all-stay s drafts sound.agreed quiet member place)))
-      (subst (λ (fs : Named FileState). AllByRecursion (AreJournaled fs) m.jobs) (sym files) jobs)
+      (subst (λ (fs : Named FileState). AllByRecursion (StaysJournaled fs) m.jobs) (sym files) jobs)
 
   -- a job and the locks
   pub job-kept : (drafts : List Draft) (forced : Bool) (reply : Reply) (locks : List Lock) (number : ℕ) (change : JobState → JobState) → ((member : ℕ) → AllByRecursion (IsSilent member) drafts)
-      → ((job : JobState) → AreJournaled s.files job → AreJournaled s.files (change job)) → Agrees (after s (journaled drafts forced reply (with_job number change (with_locks locks (memory_of s)))))
+      → ((job : JobState) → StaysJournaled s.files job → StaysJournaled s.files (change job)) → Agrees (after s (journaled drafts forced reply (with_job number change (with_locks locks (memory_of s)))))
   job-kept drafts forced reply locks number change quiet each =
       quiet-kept drafts forced reply (with_job number change (with_locks locks (memory_of s))) refl refl refl quiet
-      (all-job_changed (AreJournaled s.files) _ change s.jobs each sound.agreed.committed)
+      (all-job_changed (StaysJournaled s.files) _ change s.jobs each sound.agreed.committed)
 
   nothing : (member : ℕ) → AllByRecursion (IsSilent member) []
   nothing member = tt
 
-  same-opens : (level : Option Level) (job : JobState) → AreJournaled s.files job → AreJournaled s.files (with_level level job)
+  same-opens : (level : Option Level) (job : JobState) → StaysJournaled s.files job → StaysJournaled s.files (with_level level job)
   same-opens level job are = record { opens = are.opens; changes = are.changes }
 
   -- ---- commitment control
@@ -75,18 +76,18 @@ module _ (s : State) (sound : IsSound s) where
   pub start_commitment-kept : (job timestamp : ℕ) (args : StartCommitment) (done : Change) → start_commitment (memory_of s) job timestamp args ≡ Ok done → Agrees (after s done)
   start_commitment-kept job timestamp args done h =
       does-each _ (start_plan (memory_of s) job) done (λ c. Agrees (after s c)) h
-      (λ started is. job-kept _ false Done s.locks job (with_level (Some args.level)) (λ member. (inr (λ prior e. quiet-nothing), tt)) (same-opens (Some args.level)))
+      (λ started is. job-kept (library_draft (author_of (memory_of s) job timestamp) (CommitmentStarted args.level) ∷ []) false Done s.locks job (with_level (Some args.level)) (λ member. (inr (λ prior e. quiet-nothing), tt)) (same-opens (Some args.level)))
 
   pub end_commitment-kept : (job timestamp : ℕ) (done : Change) → end_commitment (memory_of s) job timestamp ≡ Ok done → Agrees (after s done)
   end_commitment-kept job timestamp done h =
       does-each _ (end_plan (memory_of s) job) done (λ c. Agrees (after s c)) h
-      (λ ended is. job-kept _ false Done (boundary_locks EndCommitment job (memory_of s)) job (with_level None) (λ member. (inr (λ prior e. quiet-nothing), tt)) (same-opens None))
+      (λ ended is. job-kept (library_draft (author_of (memory_of s) job timestamp) CommitmentEnded ∷ []) false Done (boundary_locks EndCommitment job (memory_of s)) job (with_level None) (λ member. (inr (λ prior e. quiet-nothing), tt)) (same-opens None))
 
   end_silent : (author : Author) (cycle : Option CycleState) (member : ℕ) → AllByRecursion (IsSilent member) (end_drafts author cycle)
   end_silent author None member = tt
   end_silent author (Some cycle) member = (inr (λ prior e. quiet-committed (cycle_of e.group)), tt)
 
-  at_commit : (job : JobState) → AreJournaled s.files job → AreJournaled s.files (with_opens committed_open (without_cycle job))
+  at_commit : (job : JobState) → StaysJournaled s.files job → StaysJournaled s.files (with_opens committed_open (without_cycle job))
   at_commit job are =
       job-opens s.files committed_open
       (λ opened holds. elim opened.commit as (λ b. IsOpenJournaled s.files (cond b (at_boundary opened) opened)) [ true ↦ holds | false ↦ holds ])
@@ -95,7 +96,7 @@ module _ (s : State) (sound : IsSound s) where
   pub commit-kept : (job timestamp : ℕ) (done : Change) → commit (memory_of s) job timestamp ≡ Ok done → Agrees (after s done)
   commit-kept job timestamp done h =
       does-each (λ level. commit_change (memory_of s) job timestamp) (found (job_of job (memory_of s)).level NoDefinition) done (λ c. Agrees (after s c)) h
-      (λ level is. job-kept (end_drafts (author_of (memory_of s) job timestamp) (job_of job (memory_of s)).cycle) _ Done (boundary_locks calls.Commit job (memory_of s)) job
+      (λ level is. job-kept (end_drafts (author_of (memory_of s) job timestamp) (job_of job (memory_of s)).cycle) true Done (boundary_locks calls.Commit job (memory_of s)) job
       (λ j. with_opens committed_open (without_cycle j)) (end_silent (author_of (memory_of s) job timestamp) (job_of job (memory_of s)).cycle) at_commit)
 
   -- ---- opens
@@ -148,12 +149,12 @@ module _ (s : State) (sound : IsSound s) where
   pub position-kept : (plan : Result NewPosition Reply) (job : ℕ) (done : Change) → does (position_change (memory_of s) job) plan ≡ Ok done → Agrees (after s done)
   position-kept plan job done h =
       does-each (position_change (memory_of s) job) plan done (λ c. Agrees (after s c)) h
-      (λ new is. opened-kept Done (locks_left PositionCall job new.opened 0 (memory_of s)) job new.opened.number (positioned new.position) (λ opened holds. holds))
+      (λ new is. opened-kept Done (locks_left calls.Position job new.opened 0 (memory_of s)) job new.opened.number (positioned new.position) (λ opened holds. holds))
 
   pub read-kept : (plan : Result FoundEntry Reply) (job : ℕ) (done : Change) → does (read_change (memory_of s) job) plan ≡ Ok done → Agrees (after s done)
   read-kept plan job done h =
       does-each (read_change (memory_of s) job) plan done (λ c. Agrees (after s c)) h
-      (λ it is. opened-kept _ (locks_left it.call job it.its.opened it.entry.rrn (memory_of s)) job it.its.opened.number (has_read it.call it.entry) (λ opened holds. holds))
+      (λ it is. opened-kept Done (locks_left it.call job it.its.opened it.entry.rrn (memory_of s)) job it.its.opened.number (has_read it.call it.entry) (λ opened holds. holds))
 
   pub unlock-kept : (job : ℕ) (args : OpenName) (done : Change) → unlock (memory_of s) job args ≡ Ok done → Agrees (after s done)
   unlock-kept job args done h =
@@ -165,7 +166,9 @@ module _ (s : State) (sound : IsSound s) where
   pub change_journal-kept : (job timestamp : ℕ) (done : Change) → change_journal (memory_of s) job timestamp ≡ Ok done → Agrees (after s done)
   change_journal-kept job timestamp done h =
       does-each (attach_change (memory_of s) job timestamp) (attach_plan (memory_of s)) done (λ c. Agrees (after s c)) h
-      (λ number is. quiet-kept _ true _ _ refl refl refl (λ member. (inr (λ prior e. quiet-nothing), inr (λ prior e. quiet-nothing), tt)) sound.agreed.committed)
+      (λ number is. quiet-kept
+      (library_draft (author_of (memory_of s) job timestamp) (NextReceiver number) ∷ library_draft (author_of (memory_of s) job timestamp) (PreviousReceiver s.receivers.attached) ∷ [])
+      true Done (attached number (memory_of s)) refl refl refl (λ member. (inr (λ prior e. quiet-nothing), (inr (λ prior e. quiet-nothing), tt))) sound.agreed.committed)
 
   pub save-kept : (done : Change) → save (memory_of s) ≡ Ok done → Agrees (after s done)
   save-kept done h =

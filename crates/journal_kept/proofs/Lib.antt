@@ -6,3 +6,8 @@ pub mod JobLemmas
 pub mod JobRequests
 pub mod ReceiverRequests
 pub mod PutLemmas
+pub mod SlotRequests
+pub mod BackRequests
+pub mod MemberRequests
+pub mod FileRequests
+pub mod KeptLemmas

@@ -1,5 +1,5 @@
 -- The slots of a member after one was put, as a change that takes it back finds them and as the journal tells them.
-use Rattle.std.proofs.Common.{◌≡◌, ◌⊎◌, ℕ, zero, suc, ◌+◌, ◌-◌, ◌<◌, ◌≤◌, ◌==◌, Bool, true, false, cond, List, [], ◌∷◌, ◌++◌, length, slice_get, slice_set, Option, Some, None, IsSome, unwrap_or, refl, sym, ap, ◌∙◌, subst, arith, inl, inr, rules}
+use Rattle.std.proofs.Common.{◌≡◌, ◌⊎◌, ℕ, zero, suc, ◌+◌, ◌-◌, ◌<◌, ◌≤◌, ◌==◌, Bool, true, false, cond, List, [], ◌∷◌, ◌++◌, length, slice_get, slice_set, Option, Some, None, IsSome, is_some, unwrap_or, refl, sym, ap, ◌∙◌, subst, arith, inl, inr, rules}
 use Rattle.std.proofs.lemmas.Bool.{cases_eq, eq-eqb, ne_eqb}
 use Rattle.std.proofs.lemmas.Bool.Decides.{nat_tests}
 use Rattle.member_slots.specs.declared.slot.Slot.{Slot}
@@ -10,7 +10,7 @@ use Rattle.journal_model.specs.Places.{slot_of}
 use Rattle.library_steps.specs.State.{Memory}
 use Rattle.library_steps.specs.Records.{live_record, record_in, slot_there}
 use Rattle.library_steps.specs.SlotChange.{slot_put}
-use Rattle.library_parts.proofs.MemberLemmas.{slot_put-appended, slot_put-changed}
+use Rattle.library_parts.proofs.MemberLemmas.{is_some-IsSome, slot_put-appended, slot_put-changed}
 
 shift : (a b : ℕ) → (suc a == suc b) ≡ (a == b)
 shift a b = grind (arith, nat_tests)
@@ -63,8 +63,8 @@ slot_there-is member rrn m counted =
     ap (λ (b : Bool). unwrap_or (cond b None (slice_get slots (rrn - 1))) Deleted) (ne_eqb rrn 0 (λ e. absurd (omega arith)))
     ∙ get-slot slots (rrn - 1)
 
-get-within : (slots : List Slot) (place : ℕ) → IsSome (record_in (slice_get slots place)) → place < length slots
-get-within [] place live = absurd live
+get-within : (slots : List Slot) (place : ℕ) → is_some (record_in (slice_get slots place)) ≡ true → place < length slots
+get-within [] place live = absurd cc
 get-within (slot ∷ slots) zero live = omega arith
 get-within (slot ∷ slots) (suc place) live = let rest = get-within slots place live in omega arith
 
@@ -72,10 +72,11 @@ get-within (slot ∷ slots) (suc place) live = let rest = get-within slots place
 pub live-within : (member rrn : ℕ) (m : Memory) → IsSome (live_record member rrn m) → (1 ≤ rrn) × (rrn ≤ length (member_of member m.members).slots)
 live-within member rrn m live =
     let slots = (member_of member m.members).slots in
+    let stands : is_some (live_record member rrn m) ≡ true = is_some-IsSome (live_record member rrn m) live in
     elim (cases_eq rrn 0) [
-      | inl none ↦ absurd (subst (λ (b : Bool). IsSome (record_in (cond b None (slice_get slots (rrn - 1))))) (eq-eqb rrn 0 none) live)
+      | inl none ↦ (let bad : false ≡ true = subst (λ (b : Bool). is_some (record_in (cond b None (slice_get slots (rrn - 1)))) ≡ true) (eq-eqb rrn 0 none) stands in absurd cc)
       | inr some ↦ (
           let counted : 1 ≤ rrn = omega (arith, some) in
-          let within = get-within slots (rrn - 1) (subst (λ (b : Bool). IsSome (record_in (cond b None (slice_get slots (rrn - 1))))) (ne_eqb rrn 0 some) live) in
+          let within = get-within slots (rrn - 1) (subst (λ (b : Bool). is_some (record_in (cond b None (slice_get slots (rrn - 1)))) ≡ true) (ne_eqb rrn 0 some) stands) in
           (counted, omega (arith, counted, within)))
     ]

@@ -7,7 +7,7 @@ use Rattle.entry_codec.specs.declared.kinds.EntryKind.TheVariants.{FileCreated, 
 use Rattle.member_slots.specs.declared.slot.Slot.{Slot}
 use Rattle.member_slots.specs.declared.slot.Slot.TheVariants.{Live}
 use Rattle.member_slots.specs.Members.{member_at, member_of}
-use Rattle.journal_model.specs.Acts.{Act, Changed, Began, Committed, RolledBack, Journaled, Stood, Cleared, Reorganized, Ended, Nothing, Change, act, act_there, act_elsewhere, acts, entry_before, held_before, is_number, place_of, undone_from, updated_from}
+use Rattle.journal_model.specs.Acts.{Act, Changed, Began, Committed, RolledBack, Journaled, Stood, Cleared, Reorganized, Ended, Nothing, Change as SlotChange, act, act_there, act_elsewhere, acts, entry_before, held_before, is_number, place_of, undone_from, updated_from}
 use Rattle.journal_model.specs.AtSequence.{known_by, known_after, FollowsKnown, IsChained, IsSo}
 use Rattle.journal_model.specs.Places.{slot_of}
 use Rattle.journal_model.proofs.MemberLemmas.{acts-append}
@@ -24,7 +24,7 @@ use Rattle.journal_kept.proofs.JobRequests.{does-each}
 
 -- the same act, or the same change without the side before it
 abbrev pub IsWeaker : Act → Act → Type 0
-IsWeaker a b = (a ≡ b) ⊎ ((c : Change) × (a ≡ Changed (record c { before = None })) × (b ≡ Changed c))
+IsWeaker a b = (a ≡ b) ⊎ ((c : SlotChange) × (a ≡ Changed (record c { before = None })) × (b ≡ Changed c))
 
 there-weaker : (kind : EntryKind) (prior : Option Entry) (e : Entry) → IsWeaker (act_there kind None e) (act_there kind prior e)
 there-weaker (FileCreated kind name source) prior e = inl refl

@@ -16,6 +16,7 @@ use Rattle.journal_model.specs.Places.{slot_of}
 use Rattle.journal_model.specs.Rollback.{MemberChange}
 use Rattle.record_fmt.specs.Records.{record_given}
 use Rattle.lock_table.specs.declared.levels.Call.TheVariants.{WriteAt}
+use Rattle.lock_table.specs.declared.levels.Call.TheVariants as calls
 use Rattle.library_model.specs.Named.{Named, named}
 use Rattle.library_model.specs.declared.replies.Reply.{Reply}
 use Rattle.library_model.specs.declared.replies.Reply.TheVariants.{Added, Done, NoCurrentRecord, NotFound, PlaceInUse, WrongOpen}
@@ -28,19 +29,19 @@ use Rattle.library_steps.specs.Change.{Change, does, journaled}
 use Rattle.library_steps.specs.Refusals.{◌>>=◌, OpenedFile, found, opened_file, named_or_refused, refuse_if, sequences_left}
 use Rattle.library_steps.specs.Drafts.{Author, author_of, slot_drafts}
 use Rattle.library_steps.specs.Records.{live_record, slot_there}
-use Rattle.library_steps.specs.Reads.{open_changed}
+use Rattle.library_steps.specs.Reads.{open_changed, with_opened}
 use Rattle.library_steps.specs.SlotChange.{NewSlot, are_both, begins_cycle, change_made, cycle_for, cycle_number, drafts_of, few_changes, images_of, is_behind_last, not_held, noted, slot_change, slot_changed, slot_put, status_among, touched, with_cycle, with_slot, with_undo}
 use Rattle.library_steps.specs.UniqueKeys.{keys_free}
-use Rattle.library_steps.specs.Locking.{few_locks, not_locked}
+use Rattle.library_steps.specs.Locking.{few_locks, locks_left, not_locked, with_locks}
 use Rattle.library_steps.specs.WriteRecord.{format_or_refused, has_room, is_input, next_place, packed, place_asked, write_call, write_change, write_plan, write_record}
 use Rattle.library_steps.specs.ChangeRecord.{delete_change, delete_plan, delete_record, is_current, update_change, update_plan, update_record, without_current, without_record}
 use Rattle.library_parts.specs.Lawful.{OpenHolds, OpensHold, OpensMember}
 use Rattle.library_parts.proofs.MemberLemmas.{IsThere-is_some, item_at-with_item_other, item_at-with_item_same, member_of-with}
-use Rattle.joint_state.specs.Agreed.{Agrees, AreJournaled, is_journaled}
+use Rattle.joint_state.specs.Agreed.{Agrees, StaysJournaled, is_journaled}
 use Rattle.joint_state.specs.CurrentRecords.{AllCurrentStand, CurrentStands}
 use Rattle.joint_state.specs.Joint.{JobStands}
 use Rattle.joint_state.specs.Sound.{IsSound, after}
-use Rattle.range_histories.proofs.ResultLemmas.{bind-ok, found-ok, refuse_if-ok}
+use Rattle.range_histories.proofs.ResultLemmas.{bind-ok, found-ok, ok-same, refuse_if-ok}
 use Rattle.journal_kept.proofs.KnownLemmas.{quiet-began}
 use Rattle.journal_kept.proofs.DraftLemmas.{IsSilent, SlotLeads, all-append, drafts-none, of-others, slot_drafts-lead, slot_drafts-of, slots-append, slots-silent}
 use Rattle.journal_kept.proofs.StatusLemmas.{all_changed, journaled-same}
@@ -67,8 +68,8 @@ module _ (s : State) (sound : IsSound s) (job timestamp : ℕ) (new : NewSlot) (
   members_after : NumberedMembers
   members_after = with_member new.opened.member (slot_put new.rrn new.slot (member_of new.opened.member s.members)) s.members
 
-  unfolding members_after
   slots_after : (place : ℕ) → cond (new.rrn - 1 == place) new.slot (slot_of (member_of new.opened.member s.members).slots place) ≡ slot_of (member_of new.opened.member members_after).slots place
+  unfolding members_after
   slots_after place =
       slot_of-put (member_of new.opened.member s.members) new.rrn place new.slot counted may
       ∙ ap (λ (m : MemberState). slot_of m.slots place) (sym (member_of-with new.opened.member (slot_put new.rrn new.slot (member_of new.opened.member s.members)) s.members there))
@@ -110,10 +111,10 @@ module _ (s : State) (sound : IsSound s) (job timestamp : ℕ) (new : NewSlot) (
       (slot_drafts-of (author_of (memory_of s) job timestamp) (cycle_number new.opened.commit (memory_of s) (job_of job (memory_of s))) (new.opened.commit || are_both images)
       (is_behind_last new.opened.member new.rrn (memory_of s)) new.opened.member new.rrn (slot_there new.opened.member new.rrn (memory_of s)) new.slot))
 
-  unfolding members_after
   followed : (member place : ℕ)
       → IsFollowed s (drafts_of (author_of (memory_of s) job timestamp) (job_of job (memory_of s)) new (images_of new.opened.member (memory_of s)) (memory_of s)) members_after
       (all_changed new.opened.member touched s.files) member place
+  unfolding members_after
   followed member place = elim (cases_eq member new.opened.member) [
     | inl same ↦ subst (λ (n : ℕ). IsFollowed s (drafts_of (author_of (memory_of s) job timestamp) (job_of job (memory_of s)) new (images_of new.opened.member (memory_of s)) (memory_of s)) members_after
         (all_changed new.opened.member touched s.files) n place) (sym same) (here (images_of new.opened.member (memory_of s)) place refl)
@@ -124,16 +125,16 @@ module _ (s : State) (sound : IsSound s) (job timestamp : ℕ) (new : NewSlot) (
   ]
 
   -- whatever else is done to jobs and locks
-  unfolding members_after
   pub slot-kept : (forced : Bool) (reply : Reply) (m : Memory) → m.gone ≡ s.gone → m.members ≡ with_member new.opened.member (slot_put new.rrn new.slot (member_of new.opened.member s.members)) s.members
-      → m.files ≡ all_changed new.opened.member touched s.files → AllByRecursion (AreJournaled s.files) m.jobs
+      → m.files ≡ all_changed new.opened.member touched s.files → AllByRecursion (StaysJournaled s.files) m.jobs
       → Agrees (after s (journaled (drafts_of (author_of (memory_of s) job timestamp) (job_of job (memory_of s)) new (images_of new.opened.member (memory_of s)) (memory_of s)) forced reply m))
+  unfolding members_after
   slot-kept forced reply m gone members files jobs =
       let drafts = drafts_of (author_of (memory_of s) job timestamp) (job_of job (memory_of s)) new (images_of new.opened.member (memory_of s)) (memory_of s) in
       kept-journaled s drafts forced reply m sound.agreed gone
       (λ member place. subst (λ (ms : NumberedMembers). IsFollowed s drafts ms m.files member place) (sym members)
       (subst (λ (fs : Named FileState). IsFollowed s drafts members_after fs member place) (sym files) (followed member place)))
-      (subst (λ (fs : Named FileState). AllByRecursion (AreJournaled fs) m.jobs) (sym files)
+      (subst (λ (fs : Named FileState). AllByRecursion (StaysJournaled fs) m.jobs) (sym files)
       (wider-jobs s.files (all_changed new.opened.member touched s.files) m.jobs (λ number on. journaled-same new.opened.member touched (λ status. refl) (λ status. refl) number s.files ∙ on) jobs))
 
 -- ---- what with_undo leaves
@@ -163,7 +164,7 @@ pub record IsOpen (s : State) (job : ℕ) (opened : OpenState) : Type 0 where
   pub journaled : opened.commit ≡ true → is_journaled opened.member s.files ≡ true
   pub current : (rrn : ℕ) → opened.current ≡ Some rrn → IsSome (live_record opened.member rrn (memory_of s))
 
-all-indexed : (P : JobState → Type 0) (jobs : List JobState) → ((place : ℕ) (job : JobState) → slice_get jobs place ≡ Some job → P job) → AllByRecursion P jobs
+pub all-indexed : (P : JobState → Type 0) (jobs : List JobState) → ((place : ℕ) (job : JobState) → slice_get jobs place ≡ Some job → P job) → AllByRecursion P jobs
 all-indexed P [] each = tt
 all-indexed P (job ∷ jobs) each = (each 0 job refl, all-indexed P jobs (λ place j at. each (suc place) j at))
 
@@ -181,7 +182,7 @@ open-named s sound job name opened h = record {
   there = opens (named opened.file s.files) refl (all-named (λ (entry : List ℕ × OpenState). OpenHolds s.files entry.1) (OpenHolds s.files) name (job_of job (memory_of s)).opens opened (λ entry p. p)
       (job-of (OpensHold s.files) s job sound.library.opens tt) h);
   journaled = all-named (λ (entry : List ℕ × OpenState). entry.1.commit ≡ true → is_journaled entry.1.member s.files ≡ true) (IsOpenJournaled s.files) name (job_of job (memory_of s)).opens opened (λ entry p. p)
-      (job-of (AreJournaled s.files) s job sound.agreed.committed (none-open s.files)).opens h;
+      (job-of (StaysJournaled s.files) s job sound.agreed.committed (none-open s.files)).opens h;
   current = all-named (λ (entry : List ℕ × OpenState). (rrn : ℕ) → entry.1.current ≡ Some rrn → IsSome (live_record entry.1.member rrn (memory_of s)))
       (λ (o : OpenState). (rrn : ℕ) → o.current ≡ Some rrn → IsSome (live_record o.member rrn (memory_of s))) name (job_of job (memory_of s)).opens opened (λ entry p. p)
       (job-of (LiveOpens s) s job (all-indexed (LiveOpens s) s.jobs (λ place j at. all-live s (place + 1) j.opens (sound.joint.jobs place j at).current)) tt) h;
@@ -251,8 +252,7 @@ module _ (s : State) (sound : IsSound s) (job : ℕ) where
       let i = bind-ok (keys_free job b.0.opened.commit b.0.opened.member f.0 Deleted e.0 m) _ new g.2 in
       let k = bind-ok (few_locks (write_call args.record_number) job b.0.opened f.0 m) _ new i.2 in
       let l = bind-ok (few_changes b.0.opened.commit Deleted (Live e.0) m) _ new k.2 in
-      let last = l.2 in
-      let made : record { opened = b.0.opened; rrn = f.0; slot = Live e.0 } ≡ new = cc in
+      let made : record { opened = b.0.opened; rrn = f.0; slot = Live e.0 } ≡ new = ok-same (Ok (record { opened = b.0.opened; rrn = f.0; slot = Live e.0 })) _ new refl l.2 in
       let place = place_asked-ok job b.0.opened args.record_number m f.0 f.1 in
       subst (IsPlaced s job) made (record {
         open_is = open-named s sound job args.open_id b.0.opened (opened_file-ok args.open_id job m b.0 b.1);
@@ -272,8 +272,7 @@ module _ (s : State) (sound : IsSound s) (job : ℕ) where
       let f = bind-ok (not_held job b.0.opened d.0 m) _ new e.2 in
       let g = bind-ok (keys_free job b.0.opened.commit b.0.opened.member d.0 (slot_there b.0.opened.member d.0 m) e.0 m) _ new f.2 in
       let i = bind-ok (few_changes b.0.opened.commit (slot_there b.0.opened.member d.0 m) (Live e.0) m) _ new g.2 in
-      let last = i.2 in
-      let made : record { opened = b.0.opened; rrn = d.0; slot = Live e.0 } ≡ new = cc in
+      let made : record { opened = b.0.opened; rrn = d.0; slot = Live e.0 } ≡ new = ok-same (Ok (record { opened = b.0.opened; rrn = d.0; slot = Live e.0 })) _ new refl i.2 in
       let it = open-named s sound job args.open_id b.0.opened (opened_file-ok args.open_id job m b.0 b.1) in
       let place = live-within b.0.opened.member d.0 m (it.current d.0 (found-ok b.0.opened.current NoCurrentRecord d.0 d.1)) in
       subst (IsPlaced s job) made (record { open_is = it; counted = place.0; may = inl place.1 })
@@ -288,8 +287,7 @@ module _ (s : State) (sound : IsSound s) (job : ℕ) where
       let d = bind-ok (found b.0.opened.current NoCurrentRecord) _ new c.2 in
       let f = bind-ok (not_held job b.0.opened d.0 m) _ new d.2 in
       let i = bind-ok (few_changes b.0.opened.commit (slot_there b.0.opened.member d.0 m) Deleted m) _ new f.2 in
-      let last = i.2 in
-      let made : record { opened = b.0.opened; rrn = d.0; slot = Deleted } ≡ new = cc in
+      let made : record { opened = b.0.opened; rrn = d.0; slot = Deleted } ≡ new = ok-same (Ok (record { opened = b.0.opened; rrn = d.0; slot = Deleted })) _ new refl i.2 in
       let it = open-named s sound job args.open_id b.0.opened (opened_file-ok args.open_id job m b.0 b.1) in
       let place = live-within b.0.opened.member d.0 m (it.current d.0 (found-ok b.0.opened.current NoCurrentRecord d.0 d.1)) in
       subst (IsPlaced s job) made (record { open_is = it; counted = place.0; may = inl place.1 })
@@ -297,21 +295,21 @@ module _ (s : State) (sound : IsSound s) (job : ℕ) where
   -- ---- the three requests
 
   -- the jobs after the slot, before what else is done to them
-  jobs_noted : (new : NewSlot) → IsPlaced s job new → AllByRecursion (AreJournaled s.files) (slot_changed job new (memory_of s)).jobs
+  jobs_noted : (new : NewSlot) → IsPlaced s job new → AllByRecursion (StaysJournaled s.files) (slot_changed job new (memory_of s)).jobs
   jobs_noted new placed =
-      undo-jobs job (change_made (memory_of s) (job_of job (memory_of s)) new) (cycle_for (memory_of s) (job_of job (memory_of s))) _ (AreJournaled s.files) new.opened.commit sound.agreed.committed
+      undo-jobs job (change_made (memory_of s) (job_of job (memory_of s)) new) (cycle_for (memory_of s) (job_of job (memory_of s))) _ (StaysJournaled s.files) new.opened.commit sound.agreed.committed
       (λ on j are. record {
         opens = are.opens;
         changes = changes-noted s.files (memory_of s) (job_of job (memory_of s)) (change_made (memory_of s) (job_of job (memory_of s)) new)
-            (job-of (AreJournaled s.files) s job sound.agreed.committed (none-open s.files)) (placed.open_is.journaled on);
+            (job-of (StaysJournaled s.files) s job sound.agreed.committed (none-open s.files)) (placed.open_is.journaled on);
       })
 
   placed-kept : (timestamp : ℕ) (new : NewSlot) (reply : Reply) (besides : Memory → Memory) → IsPlaced s job new → ((m : Memory) → (besides m).gone ≡ m.gone) → ((m : Memory) → (besides m).members ≡ m.members)
-      → ((m : Memory) → (besides m).files ≡ m.files) → ((m : Memory) → AllByRecursion (AreJournaled s.files) m.jobs → AllByRecursion (AreJournaled s.files) (besides m).jobs)
+      → ((m : Memory) → (besides m).files ≡ m.files) → ((m : Memory) → AllByRecursion (StaysJournaled s.files) m.jobs → AllByRecursion (StaysJournaled s.files) (besides m).jobs)
       → Agrees (after s (slot_change job timestamp new reply besides (memory_of s)))
   placed-kept timestamp new reply besides placed gone members files jobs =
       let now = slot_changed job new (memory_of s) in
-      slot-kept s sound job timestamp new placed.counted placed.may placed.open_is.there _ reply (besides now)
+      slot-kept s sound job timestamp new placed.counted placed.may placed.open_is.there true reply (besides now)
       (gone now ∙ undo-gone job _ _ _ new.opened.commit)
       (members now ∙ undo-members job _ _ _ new.opened.commit)
       (files now ∙ undo-files job _ _ _ new.opened.commit)
@@ -320,18 +318,18 @@ module _ (s : State) (sound : IsSound s) (job : ℕ) where
   pub write_record-kept : (timestamp : ℕ) (args : WriteRecord) (done : Change) → write_record (memory_of s) job timestamp args ≡ Ok done → Agrees (after s done)
   write_record-kept timestamp args done h =
       does-each (write_change (memory_of s) job timestamp (write_call args.record_number)) (write_plan (memory_of s) job args) done (λ c. Agrees (after s c)) h
-      (λ new is. placed-kept timestamp new (Added new.rrn) _ (write_plan-ok args new is) (λ m. refl) (λ m. refl) (λ m. refl) (λ m all. all))
+      (λ new is. placed-kept timestamp new (Added new.rrn) (with_locks (locks_left (write_call args.record_number) job new.opened new.rrn (memory_of s))) (write_plan-ok args new is) (λ m. refl) (λ m. refl) (λ m. refl) (λ m all. all))
 
   pub update_record-kept : (timestamp : ℕ) (args : UpdateRecord) (done : Change) → update_record (memory_of s) job timestamp args ≡ Ok done → Agrees (after s done)
   update_record-kept timestamp args done h =
       does-each (update_change (memory_of s) job timestamp) (update_plan (memory_of s) job args) done (λ c. Agrees (after s c)) h
-      (λ new is. placed-kept timestamp new Done _ (update_plan-ok args new is) (λ m. refl) (λ m. refl) (λ m. refl)
-      (λ m all. all-job_changed (AreJournaled s.files) _ (open_changed new.opened.number without_current) m.jobs (job-opened s.files new.opened.number without_current (λ opened holds. holds)) all))
+      (λ new is. placed-kept timestamp new Done (λ m. with_opened job new.opened without_current (with_locks (locks_left calls.Update job new.opened new.rrn (memory_of s)) m)) (update_plan-ok args new is) (λ m. refl) (λ m. refl) (λ m. refl)
+      (λ m all. all-job_changed (StaysJournaled s.files) (job - 1) (open_changed new.opened.number without_current) m.jobs (job-opened s.files new.opened.number without_current (λ opened holds. holds)) all))
 
   pub delete_record-kept : (timestamp : ℕ) (args : OpenName) (done : Change) → delete_record (memory_of s) job timestamp args ≡ Ok done → Agrees (after s done)
   delete_record-kept timestamp args done h =
       does-each (delete_change (memory_of s) job timestamp) (delete_plan (memory_of s) job args) done (λ c. Agrees (after s c)) h
-      (λ new is. placed-kept timestamp new Done _ (delete_plan-ok args new is) (λ m. refl) (λ m. refl) (λ m. refl)
-      (λ m all. all-job_changed (AreJournaled s.files) _ (with_opens (without_record new.opened.member new.rrn)) m.jobs
+      (λ new is. placed-kept timestamp new Done (λ m. with_job job (with_opens (without_record new.opened.member new.rrn)) (with_locks (locks_left calls.Delete job new.opened new.rrn (memory_of s)) m)) (delete_plan-ok args new is) (λ m. refl) (λ m. refl) (λ m. refl)
+      (λ m all. all-job_changed (StaysJournaled s.files) (job - 1) (with_opens (without_record new.opened.member new.rrn)) m.jobs
       (job-opens s.files (without_record new.opened.member new.rrn)
       (λ opened holds. elim (is_current new.opened.member new.rrn opened) as (λ b. IsOpenJournaled s.files (cond b (without_current opened) opened)) [ true ↦ holds | false ↦ holds ])) all))

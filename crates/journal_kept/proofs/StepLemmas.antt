@@ -1,5 +1,5 @@
 -- That the journal still agrees after a change: what a change owes of each member and place, and what it owes of the jobs.
-use Rattle.std.proofs.Common.{◌≡◌, ◌≢◌, ℕ, suc, ◌+◌, ◌-◌, Bool, true, false, List, [], ◌∷◌, ◌++◌, drop, Option, Some, None, refl, sym, ap, ◌∙◌, subst, arith}
+use Rattle.std.proofs.Common.{◌≡◌, ◌≢◌, ℕ, suc, ◌+◌, ◌-◌, Bool, true, false, List, [], ◌∷◌, ◌++◌, drop, Option, Some, None, unwrap_or, refl, sym, ap, ◌∙◌, subst, arith}
 use Rattle.std.specs.List.{AllByRecursion}
 use Rattle.std.specs.Option.{is_some, option_and_then}
 use Rattle.entry_codec.specs.declared.entries.Entry.{Entry}
@@ -18,7 +18,7 @@ use Rattle.library_steps.specs.State.{State, Memory, FileState, MemberStatus, Op
 use Rattle.library_steps.specs.Uses.{changes_in}
 use Rattle.library_steps.specs.Change.{Change, journaled, unjournaled}
 use Rattle.library_steps.specs.SlotChange.{images_of, status_among}
-use Rattle.joint_state.specs.Agreed.{Agrees, AreJournaled, IsAsTold, is_journaled}
+use Rattle.joint_state.specs.Agreed.{Agrees, StaysJournaled, IsAsTold, is_journaled}
 use Rattle.joint_state.specs.Sound.{after}
 use Rattle.journal_kept.proofs.KnownLemmas.{Leads, leads-append, leads-quiet, known_after-append, IsChained-append}
 use Rattle.journal_kept.proofs.DraftLemmas.{DraftsLead, IsSilent, SlotLeads, drafts-silent}
@@ -30,7 +30,7 @@ known_of s member place = known_after place None (acts member None s.entries)
 abbrev pub last_of : State → Option Entry
 last_of s = entry_before None s.entries
 
-nothing-there : {A : Type 0} (o : Option A) → is_some o ≡ false → o ≡ None
+pub nothing-there : {A : Type 0} (o : Option A) → is_some o ≡ false → o ≡ None
 nothing-there None h = refl
 nothing-there (Some a) h = absurd cc
 
@@ -50,7 +50,7 @@ pub record IsFollowed (s : State) (drafts : List Draft) (members : NumberedMembe
 
 -- the journal agrees after drafts that owe nothing more
 pub kept-journaled : (s : State) (drafts : List Draft) (forced : Bool) (reply : Reply) (m : Memory) → Agrees s → m.gone ≡ s.gone
-    → ((member place : ℕ) → IsFollowed s drafts m.members m.files member place) → AllByRecursion (AreJournaled m.files) m.jobs → Agrees (after s (journaled drafts forced reply m))
+    → ((member place : ℕ) → IsFollowed s drafts m.members m.files member place) → AllByRecursion (StaysJournaled m.files) m.jobs → Agrees (after s (journaled drafts forced reply m))
 kept-journaled s drafts forced reply m agrees gone follows committed = record {
   chained = λ member place.
       let f = follows member place in
@@ -87,14 +87,11 @@ stays-followed s drafts members files member place agrees quiet same off = recor
   lead = drafts-silent member place (known_of s member place) drafts quiet;
   so = λ there.
       let was = ap is_some (same there) ∙ there in
-      subst (λ (o : Option MemberState). IsSo (known_of s member place) (slot_of (of o).slots place)) (same there) (agrees.told member place was).so;
+      subst (λ (o : Option MemberState). IsSo (known_of s member place) (slot_of (unwrap_or o (empty_member 0)).slots place)) (same there) (agrees.told member place was).so;
   silent = λ there none.
       let was = ap is_some (same there) ∙ there in
       (agrees.told member place was).silent (nothing-there (images_of member (memory_of s)) (off there none));
-} where
-  of : Option MemberState → MemberState
-  of None = empty_member 0
-  of (Some it) = it
+}
 
 -- nothing changes but jobs and locks
 pub all-stay : (s : State) (drafts : List Draft) → Agrees s → ((member : ℕ) → AllByRecursion (IsSilent member) drafts) → (member place : ℕ) → IsFollowed s drafts s.members s.files member place
@@ -119,8 +116,8 @@ broken-followed s drafts members files member place lead = record { to = None; l
 
 -- ---- the jobs
 
-pub wider-jobs : (files later : Named FileState) (jobs : List JobState) → ((number : ℕ) → is_journaled number files ≡ true → is_journaled number later ≡ true) → AllByRecursion (AreJournaled files) jobs
-    → AllByRecursion (AreJournaled later) jobs
+pub wider-jobs : (files later : Named FileState) (jobs : List JobState) → ((number : ℕ) → is_journaled number files ≡ true → is_journaled number later ≡ true) → AllByRecursion (StaysJournaled files) jobs
+    → AllByRecursion (StaysJournaled later) jobs
 wider-jobs files later [] wider all = tt
 wider-jobs files later (job ∷ jobs) wider all =
     (record { opens = opens job.opens all.0.opens; changes = changes (changes_in job.cycle) all.0.changes }, wider-jobs files later jobs wider all.1)

@@ -3,3 +3,4 @@ pub mod CutLemmas
 pub mod NamedLemmas
 pub mod WorkLemmas
 pub mod HistoryLemmas
+pub mod StopLemmas
