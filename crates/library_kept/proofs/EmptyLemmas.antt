@@ -6,6 +6,7 @@ use Rattle.member_slots.specs.Members.{NumberedMembers}
 use Rattle.library_steps.specs.State.{State, FileState, JobState, begun, empty_library, new_job}
 use Rattle.library_parts.specs.Lawful.{OpensHold, AllGoBack}
 use Rattle.joint_state.specs.Joint.{JobStands}
+use Rattle.joint_state.specs.Agreed.{StaysJournaled}
 use Rattle.joint_state.specs.Sound.{IsSound}
 
 opens-new : (files : Named FileState) (names : List (List ℕ)) → AllByRecursion (OpensHold files) (map new_job names)
@@ -32,6 +33,10 @@ stands-new s number name = record {
   locked = tt;
   made = tt;
 }
+
+journaled-new : (files : Named FileState) (names : List (List ℕ)) → AllByRecursion (StaysJournaled files) (map new_job names)
+journaled-new files [] = tt
+journaled-new files (name ∷ names) = (record { opens = tt; changes = tt }, journaled-new files names)
 
 distinct-none : IsDistinct same_name []
 unfolding IsDistinct
@@ -65,5 +70,6 @@ begun-sound names = record {
   agreed = record {
     chained = λ member place. tt;
     told = λ member place there. absurd cc;
+    committed = journaled-new [] names;
   };
 }

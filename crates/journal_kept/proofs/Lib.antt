@@ -1,0 +1,13 @@
+pub mod KnownLemmas
+pub mod DraftLemmas
+pub mod StatusLemmas
+pub mod StepLemmas
+pub mod JobLemmas
+pub mod JobRequests
+pub mod ReceiverRequests
+pub mod PutLemmas
+pub mod SlotRequests
+pub mod BackRequests
+pub mod MemberRequests
+pub mod FileRequests
+pub mod KeptLemmas

@@ -1,0 +1,6 @@
+pub mod ResultLemmas
+pub mod CutLemmas
+pub mod NamedLemmas
+pub mod WorkLemmas
+pub mod HistoryLemmas
+pub mod StopLemmas
