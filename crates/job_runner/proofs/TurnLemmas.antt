@@ -78,9 +78,10 @@ AreInRound-call jobs last before call more within same goes rest =
     let on = goes_on-yes (last + 1) before goes in
     let many : jobs - last ≡ suc (jobs - (last + 1)) = omega (arith, within) in
     let others = numbers_from (last + 1 + 1) (jobs - (last + 1)) ++ numbers_from 1 last in
-    let found : find (goes_on before) ((last + 1) ∷ others) ≡ Some (last + 1) = ap (λ b. cond b (Some (last + 1)) (find (goes_on before) others)) on in
-    (ap (λ n. find (goes_on before) (numbers_from (last + 1) n ++ numbers_from 1 last)) many ∙ found ∙ ap (λ n. Some n) (sym same),
-     subst (λ (n : ℕ). AreInRound jobs n (before ++ call ∷ []) more) (sym same) rest)
+    let found : find (goes_on before) ((last + 1) ∷ others) ≡ Some (last + 1) = ap (λ b. cond b (Some (last + 1)) (find (goes_on before) others)) on in (
+      ap (λ n. find (goes_on before) (numbers_from (last + 1) n ++ numbers_from 1 last)) many ∙ found ∙ ap (λ n. Some n) (sym same),
+      subst (λ (n : ℕ). AreInRound jobs n (before ++ call ∷ []) more) (sym same) rest,
+    )
 
 -- the job after the last is passed over
 pub AreInRound-past : (jobs last : ℕ) (before more : List Call) → last < jobs → has_ended (last + 1) before ≡ true → AreInRound jobs (last + 1) before more → AreInRound jobs last before more

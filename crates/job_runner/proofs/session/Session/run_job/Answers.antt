@@ -14,8 +14,8 @@ loop-preserved g c =
     let jobs = length c.args.self.now.scripts.scripts in
     let whole = AreByTurns jobs [] c.args.self.now.calls in
     let earlier : (other : ℕ) → 1 ≤ other → other < c.args.job → IsTrue (has_ended other c.loop.self.calls) = λ other from until.
-        let far : other ≢ c.args.job = λ e. absurd (omega (arith, e, until)) in
-        subst (λ (own : List Call). IsTrue (ends_once own)) (sym (c.loop.invariant.others other far)) (c.requires.earlier other from until) in
+    let far : other ≢ c.args.job = λ e. absurd (omega (arith, e, until)) in
+    subst (λ (own : List Call). IsTrue (ends_once own)) (sym (c.loop.invariant.others other far)) (c.requires.earlier other from until) in
     let goes = still-open stepped.Called (has_ended c.args.job c.loop.self.calls) (λ e. cc) c.in-Called.ensures.ended in
     record {
       others = λ other differs. ap (calls_of other) called.2.calls ∙ calls_of-append_other other c.loop.self.calls called.0 (λ same. differs (sym same ∙ called.1)) ∙ c.loop.invariant.others other differs;
