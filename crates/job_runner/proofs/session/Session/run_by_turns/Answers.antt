@@ -12,12 +12,16 @@ use Rattle.job_runner.proofs.session.Session.run_by_turns.Goals as goal
 pub returns-in-Stopped-clause-made : goal.returns-in-Stopped-clause-made
 returns-in-Stopped-clause-made g c =
     let jobs = length c.args.self.now.scripts.scripts in
-    HasBegun-end g.C.Clock.gives c.args.self.now c.loop-turn.self c.step_job.new.self (AreByTurns jobs c.args.turns.now c.args.self.now.calls) (AreByTurns jobs (drop c.loop-turn.turn-index c.args.turns.now) c.loop-turn.self.calls) c.loop-turn.invariant (c.in-Stopped.ensures.unchanged (λ e. cc)) tt
+    let whole = AreByTurns jobs c.args.turns.now c.args.self.now.calls in
+    let rest = AreByTurns jobs (drop c.loop-turn.turn-index c.args.turns.now) c.loop-turn.self.calls in
+    HasBegun-end g.C.Clock.gives c.args.self.now c.loop-turn.self c.step_job.new.self whole rest c.loop-turn.invariant (c.in-Stopped.ensures.unchanged (λ e. cc)) tt
 
 pub returns-in-NoMemory-clause-made : goal.returns-in-NoMemory-clause-made
 returns-in-NoMemory-clause-made g c =
     let jobs = length c.args.self.now.scripts.scripts in
-    HasBegun-end g.C.Clock.gives c.args.self.now c.loop-turn.self c.step_job.new.self (AreByTurns jobs c.args.turns.now c.args.self.now.calls) (AreByTurns jobs (drop c.loop-turn.turn-index c.args.turns.now) c.loop-turn.self.calls) c.loop-turn.invariant (c.in-NoMemory.ensures.unchanged (λ e. cc)) tt
+    let whole = AreByTurns jobs c.args.turns.now c.args.self.now.calls in
+    let rest = AreByTurns jobs (drop c.loop-turn.turn-index c.args.turns.now) c.loop-turn.self.calls in
+    HasBegun-end g.C.Clock.gives c.args.self.now c.loop-turn.self c.step_job.new.self whole rest c.loop-turn.invariant (c.in-NoMemory.ensures.unchanged (λ e. cc)) tt
 
 pub loop-turn-preserved : goal.loop-turn-preserved
 loop-turn-preserved g c =
