@@ -58,17 +58,17 @@ fn ended_jobs(rt: HostRuntime) -> Result<(), Fail> {
 
 /// Words, and the help.
 const WORDS: &[(&[&str], &str)] = &[
-    (&[], "hint: type RUN or SERIAL, and the folder of the library\n"),
+    (
+        &[],
+        "hint: type RUN or SERIAL, and the folder of the library\n",
+    ),
     (&["RUN"], "hint: type the folder of the library after RUN\n"),
     (
         &["SERIAL"],
         "hint: type the folder of the library after SERIAL\n",
     ),
     (&["run", "lib"], "hint: RUN has capital letters\n"),
-    (
-        &["Serial", "lib"],
-        "hint: SERIAL has capital letters\n",
-    ),
+    (&["Serial", "lib"], "hint: SERIAL has capital letters\n"),
     (
         &["lib"],
         "hint: the first word is RUN or SERIAL, and not lib\n",

@@ -80,7 +80,9 @@ fn end(rt: &impl Eprint, status: Status) -> ExitCode {
     match status {
         Status::Done => {}
         Status::Words => {
-            let _ = eprintln!(rt; "{status}\nusage: ibmi RUN folder < input, or ibmi SERIAL folder < input");
+            let _ = eprintln!(rt;
+                "{status}\nusage: ibmi RUN folder < input, or ibmi SERIAL folder < input"
+            );
         }
         _ => {
             let _ = eprintln!(rt; "{status}");

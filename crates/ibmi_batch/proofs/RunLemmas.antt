@@ -25,7 +25,9 @@ stands-begun old new names stands begins = record {
 }
 
 -- all the calls of a session that began with none
-pub whole-run : {S C : Type 0} (words : List (List ℕ)) (gives : C → ℕ → C → Type 0) (first later : SessionOver S C) (made : List Call) → Starts first → first.calls ≡ [] → HasMade gives first later made → ((job : ℕ) → 1 ≤ job → job ≤ length later.scripts.scripts → IsTrue (has_ended job later.calls)) → (are_serial_words words ≡ true → AreInTurn (length first.scripts.scripts) first.scripts.schedule first.calls made) → IsWholeRun words later.scripts later.calls
+pub whole-run : {S C : Type 0} (words : List (List ℕ)) (gives : C → ℕ → C → Type 0) (first later : SessionOver S C) (made : List Call) → Starts first → first.calls ≡ []
+    → HasMade gives first later made → ((job : ℕ) → 1 ≤ job → job ≤ length later.scripts.scripts → IsTrue (has_ended job later.calls))
+    → (are_serial_words words ≡ true → AreInTurn (length first.scripts.scripts) first.scripts.schedule first.calls made) → IsWholeRun words later.scripts later.calls
 whole-run words gives first later made starts none has ended order =
     let all : later.calls ≡ made = has.calls ∙ ap (λ (calls : List Call). calls ++ made) none in
     let led = has.legal (Standing (begun starts.start first.scripts.names)) starts.stands in
@@ -46,11 +48,13 @@ given-all gives first later made none has =
     rw all has.given
 
 -- what is listed with timestamps of one kind is listed with timestamps of a wider kind
-listed-wider : (words : List (List ℕ)) (scripts : Scripts) (given wider : List Call → Type 0) (writing : Writing) (part : List Call → Type 0) → ((calls : List Call) → given calls → wider calls) → Listed words scripts given writing part → Listed words scripts wider writing part
+listed-wider : (words : List (List ℕ)) (scripts : Scripts) (given wider : List Call → Type 0) (writing : Writing) (part : List Call → Type 0)
+    → ((calls : List Call) → given calls → wider calls) → Listed words scripts given writing part → Listed words scripts wider writing part
 listed-wider words scripts given wider writing part widens listed =
     record { calls = listed.calls; run = listed.run; timestamps = widens listed.calls listed.timestamps; written = listed.written }
 
-pub HasRun-wider : (status : Status) (words : List (List ℕ)) (scripts : Scripts) (given wider : List Call → Type 0) (writing : Writing) → ((calls : List Call) → given calls → wider calls) → HasRun status words scripts given writing → HasRun status words scripts wider writing
+pub HasRun-wider : (status : Status) (words : List (List ℕ)) (scripts : Scripts) (given wider : List Call → Type 0) (writing : Writing)
+    → ((calls : List Call) → given calls → wider calls) → HasRun status words scripts given writing → HasRun status words scripts wider writing
 HasRun-wider Done words scripts given wider writing widens ran = listed-wider words scripts given wider writing _ widens ran
 HasRun-wider JobsEnded words scripts given wider writing widens ran = listed-wider words scripts given wider writing _ widens ran
 HasRun-wider WriteFault words scripts given wider writing widens ran = (listed-wider words scripts given wider writing _ widens ran.0, ran.1)

@@ -145,11 +145,7 @@ fn run_session<S: Store, O: Sink, C: Clock>(
 }
 
 /// Runs the jobs of a session, in the order that the words ask for.
-fn run_jobs<S: Store, C: Clock>(
-    alloc: Global,
-    words: &[String],
-    session: &mut Session<S, C>,
-) -> Ran
+fn run_jobs<S: Store, C: Clock>(alloc: Global, words: &[String], session: &mut Session<S, C>) -> Ran
     requires scheduled { NamesJobs (length session.old.scripts.scripts) session.old.scripts.schedule }
     ensures done { result ≡ Ran.Done → (job : ℕ) → 1 ≤ job → job ≤ length session.new.scripts.scripts → IsTrue (has_ended job session.new.calls) }
     ensures made { (made : List Call) × HasMade C.gives session.old session.new made × (are_serial_words (map string_bytes words.now) ≡ true → AreInTurn (length session.old.scripts.scripts) session.old.scripts.schedule session.old.calls made) }

@@ -43,7 +43,8 @@ number-within jobs name known =
     let is : job_number jobs name ≡ place + 1 = ap (λ b. unwrap_or (option_map (λ n. n + 1) (cond b (Some place) None)) 0) tested in
     (omega (arith, is), omega (arith, is, below))
 
-numbers-within : (jobs names : List (List ℕ)) → list_any (λ name. not (list_any (same_name name) jobs)) names ≡ false → AllByRecursion (λ n. (1 ≤ n) × (n ≤ length jobs)) (map (job_number jobs) names)
+numbers-within : (jobs names : List (List ℕ)) → list_any (λ name. not (list_any (same_name name) jobs)) names ≡ false
+    → AllByRecursion (λ n. (1 ≤ n) × (n ≤ length jobs)) (map (job_number jobs) names)
 numbers-within jobs [] known = tt
 numbers-within jobs (name ∷ names) known =
     let both = or-none (not (list_any (same_name name) jobs)) (list_any (λ n. not (list_any (same_name n) jobs)) names) known in
@@ -65,7 +66,8 @@ turns-known jobs (part ∷ parts) sound =
     known-first jobs (turns_in part.card) (turns_among parts) both.0 (turns-known jobs parts both.1)
 
 -- an input without a fault
-pub schedule-known : (lines : List (List ℕ)) (parts : List Part) → parts ≡ parts_of lines → faults_of lines ≡ [] → NamesJobs (length (names_of job_name parts)) (schedule_by (names_of job_name parts) (turns_among parts))
+pub schedule-known : (lines : List (List ℕ)) (parts : List Part) → parts ≡ parts_of lines → faults_of lines ≡ []
+    → NamesJobs (length (names_of job_name parts)) (schedule_by (names_of job_name parts) (turns_among parts))
 schedule-known lines parts same sound =
     let all = parts_of lines in
     let plain = both-empty (card_faults lines ++ job_faults_in all) (keyed_sources all) sound in

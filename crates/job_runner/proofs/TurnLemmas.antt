@@ -1,5 +1,6 @@
 -- Whose turn it is, at a job that goes on and at one that is passed over.
-use Rattle.std.proofs.Common.{◌≡◌, ℕ, zero, suc, ◌+◌, ◌-◌, ◌<◌, ◌≤◌, Bool, true, false, not, IsTrue, Some, None, List, [], ◌∷◌, ◌++◌, drop, refl, sym, ◌∙◌, ap, subst, arith, append_assoc, append-nil}
+use Rattle.std.proofs.Common.{◌≡◌, ℕ, zero, suc, ◌+◌, ◌-◌, ◌<◌, ◌≤◌, Bool, true, false, not, IsTrue, Some, None, List, [], ◌∷◌, ◌++◌, drop, refl, sym, ◌∙◌, ap, subst}
+use Rattle.std.proofs.Common.{arith, append_assoc, append-nil}
 use Rattle.std.specs.Prelude.{cond, find, nat_lt}
 use Rattle.std.proofs.lemmas.Bool.Decides.{nat_tests}
 use Rattle.library_model.specs.declared.calls.Call.{Call}
@@ -19,7 +20,8 @@ find-push_no p [] x fails = ap (λ b. cond b (Some x) None) fails
 find-push_no p (y ∷ xs) x fails = ap (cond (p y) (Some y)) (find-push_no p xs x fails)
 
 -- the first of the numbers that passes
-find-first : (p : ℕ → Bool) (first count job : ℕ) → first ≤ job → job < first + count → ((other : ℕ) → first ≤ other → other < job → p other ≡ false) → p job ≡ true → find p (numbers_from first count) ≡ Some job
+find-first : (p : ℕ → Bool) (first count job : ℕ) → first ≤ job → job < first + count → ((other : ℕ) → first ≤ other → other < job → p other ≡ false) → p job ≡ true
+    → find p (numbers_from first count) ≡ Some job
 find-first p first zero job low high none here = absurd (omega (arith, low, high))
 find-first p first (suc count) job low high none here =
     elim (nat_lt first job) as (λ b. nat_lt first job ≡ b → cond (p first) (Some first) (find p (numbers_from (first + 1) count)) ≡ Some job) [
@@ -43,7 +45,8 @@ goes_on-no job calls ended = ap not ended
 -- ---- turns
 
 -- the call of a turn
-pub AreByTurns-call : (jobs turn : ℕ) (turns : List ℕ) (before : List Call) (call : Call) (more : List Call) → call.job ≡ turn → has_ended turn before ≡ false → AreByTurns jobs turns (before ++ call ∷ []) more → AreByTurns jobs (turn ∷ turns) before (call ∷ more)
+pub AreByTurns-call : (jobs turn : ℕ) (turns : List ℕ) (before : List Call) (call : Call) (more : List Call) → call.job ≡ turn → has_ended turn before ≡ false
+    → AreByTurns jobs turns (before ++ call ∷ []) more → AreByTurns jobs (turn ∷ turns) before (call ∷ more)
 AreByTurns-call jobs turn turns before call more same goes rest =
     let on = goes_on-yes turn before goes in
     let found : find (goes_on before) (turn ∷ turns ++ numbers_from 1 jobs) ≡ Some turn = ap (λ b. cond b (Some turn) (find (goes_on before) (turns ++ numbers_from 1 jobs))) on in
@@ -55,12 +58,15 @@ pub AreByTurns-past : (jobs turn : ℕ) (turns : List ℕ) (before more : List C
 AreByTurns-past jobs turn turns before [] ended are = tt
 AreByTurns-past jobs turn turns before (call ∷ more) ended are =
     let off = goes_on-no turn before ended in
-    let found : find (goes_on before) (turn ∷ turns ++ numbers_from 1 jobs) ≡ find (goes_on before) (turns ++ numbers_from 1 jobs) = ap (λ b. cond b (Some turn) (find (goes_on before) (turns ++ numbers_from 1 jobs))) off in
+    let others = find (goes_on before) (turns ++ numbers_from 1 jobs) in
+    let found : find (goes_on before) (turn ∷ turns ++ numbers_from 1 jobs) ≡ others = ap (λ b. cond b (Some turn) others) off in
     let left : drop 1 (from_running before (turn ∷ turns)) ≡ drop 1 (from_running before turns) = ap (λ b. drop 1 (cond b (turn ∷ turns) (from_running before turns))) off in
     (found ∙ are.0, subst (λ (ts : List ℕ). AreByTurns jobs ts (before ++ call ∷ []) more) (sym left) are.1)
 
 -- when the turns are used up: the call of a job before which all have ended
-pub AreByTurns-first : (jobs job : ℕ) (before : List Call) (call : Call) (more : List Call) → call.job ≡ job → (1 ≤ job) × (job ≤ jobs) → ((other : ℕ) → 1 ≤ other → other < job → IsTrue (has_ended other before)) → has_ended job before ≡ false → AreByTurns jobs [] (before ++ call ∷ []) more → AreByTurns jobs [] before (call ∷ more)
+pub AreByTurns-first : (jobs job : ℕ) (before : List Call) (call : Call) (more : List Call) → call.job ≡ job → (1 ≤ job) × (job ≤ jobs)
+    → ((other : ℕ) → 1 ≤ other → other < job → IsTrue (has_ended other before)) → has_ended job before ≡ false → AreByTurns jobs [] (before ++ call ∷ []) more
+    → AreByTurns jobs [] before (call ∷ more)
 AreByTurns-first jobs job before call more same within earlier goes rest =
     let found = find-first (goes_on before) 1 jobs job within.0 (omega (arith, within)) (λ other from until. goes_on-no other before (earlier other from until)) (goes_on-yes job before goes) in
     (found ∙ ap (λ n. Some n) (sym same), rest)
@@ -73,14 +79,16 @@ AreByTurns-append jobs before (call ∷ made) more front back =
 -- ---- rounds
 
 -- the job after the last makes its call
-pub AreInRound-call : (jobs last : ℕ) (before : List Call) (call : Call) (more : List Call) → last < jobs → call.job ≡ last + 1 → has_ended (last + 1) before ≡ false → AreInRound jobs (last + 1) (before ++ call ∷ []) more → AreInRound jobs last before (call ∷ more)
+pub AreInRound-call : (jobs last : ℕ) (before : List Call) (call : Call) (more : List Call) → last < jobs → call.job ≡ last + 1 → has_ended (last + 1) before ≡ false
+    → AreInRound jobs (last + 1) (before ++ call ∷ []) more → AreInRound jobs last before (call ∷ more)
 AreInRound-call jobs last before call more within same goes rest =
     let on = goes_on-yes (last + 1) before goes in
     let many : jobs - last ≡ suc (jobs - (last + 1)) = omega (arith, within) in
     let others = numbers_from (last + 1 + 1) (jobs - (last + 1)) ++ numbers_from 1 last in
-    let found : find (goes_on before) ((last + 1) ∷ others) ≡ Some (last + 1) = ap (λ b. cond b (Some (last + 1)) (find (goes_on before) others)) on in
-    (ap (λ n. find (goes_on before) (numbers_from (last + 1) n ++ numbers_from 1 last)) many ∙ found ∙ ap (λ n. Some n) (sym same),
-     subst (λ (n : ℕ). AreInRound jobs n (before ++ call ∷ []) more) (sym same) rest)
+    let found : find (goes_on before) ((last + 1) ∷ others) ≡ Some (last + 1) = ap (λ b. cond b (Some (last + 1)) (find (goes_on before) others)) on in (
+      ap (λ n. find (goes_on before) (numbers_from (last + 1) n ++ numbers_from 1 last)) many ∙ found ∙ ap (λ n. Some n) (sym same),
+      subst (λ (n : ℕ). AreInRound jobs n (before ++ call ∷ []) more) (sym same) rest,
+    )
 
 -- the job after the last is passed over
 pub AreInRound-past : (jobs last : ℕ) (before more : List Call) → last < jobs → has_ended (last + 1) before ≡ true → AreInRound jobs (last + 1) before more → AreInRound jobs last before more
@@ -106,6 +114,7 @@ AreInRound-again jobs before [] are = tt
 AreInRound-again jobs before (call ∷ more) are =
     let none : jobs - jobs ≡ 0 = omega arith in
     let all : jobs - 0 ≡ jobs = omega arith in
-    let last : find (goes_on before) (numbers_from (jobs + 1) (jobs - jobs) ++ numbers_from 1 jobs) ≡ find (goes_on before) (numbers_from 1 jobs) = ap (λ n. find (goes_on before) (numbers_from (jobs + 1) n ++ numbers_from 1 jobs)) none in
-    let first : find (goes_on before) (numbers_from 1 (jobs - 0) ++ []) ≡ find (goes_on before) (numbers_from 1 jobs) = ap (find (goes_on before)) (append-nil (numbers_from 1 (jobs - 0)) ∙ ap (numbers_from 1) all) in
+    let each = numbers_from 1 jobs in
+    let last : find (goes_on before) (numbers_from (jobs + 1) (jobs - jobs) ++ each) ≡ find (goes_on before) each = ap (λ n. find (goes_on before) (numbers_from (jobs + 1) n ++ each)) none in
+    let first : find (goes_on before) (numbers_from 1 (jobs - 0) ++ []) ≡ find (goes_on before) each = ap (find (goes_on before)) (append-nil (numbers_from 1 (jobs - 0)) ∙ ap (numbers_from 1) all) in
     (last ∙ sym first ∙ are.0, are.1)

@@ -69,7 +69,8 @@ returns-clause-scheduled c =
     let lines = lines_of c.args.bytes.now in
     let parts = parts_in c.args.bytes.now c.as_slice-sections.result.now in
     let same = ap (parts_in c.args.bytes.now) c.as_slice-sections.ensures ∙ c.in_ok-sections.ensures in
-    let found = least-of_all lines parts c.in_ok-cards.cards c.in_ok-jobs.jobs.fault c.lesser.result c.in_ok-keyed.keyed None same c.in_ok-cards.ensures c.in_ok-jobs.ensures.fault c.in_ok-keyed.ensures c.lesser.ensures c.in-None.ensures in
+    let found = least-of_all lines parts c.in_ok-cards.cards c.in_ok-jobs.jobs.fault c.lesser.result c.in_ok-keyed.keyed None same c.in_ok-cards.ensures
+    c.in_ok-jobs.ensures.fault c.in_ok-keyed.ensures c.lesser.ensures c.in-None.ensures in
     let plain = lesser-none c.lesser.result c.in_ok-keyed.keyed (sym c.in-None.ensures) in
     let none = lesser-none c.in_ok-cards.cards c.in_ok-jobs.jobs.fault (sym c.lesser.ensures ∙ plain.0) in
     let many = as_many parts ∙ ap length (sym (c.in_ok-jobs.ensures.scripts none.1)) in

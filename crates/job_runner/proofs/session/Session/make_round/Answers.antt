@@ -10,11 +10,15 @@ use Rattle.job_runner.proofs.session.Session.make_round.Goals as goal
 
 pub returns-in-Stopped-clause-made : goal.returns-in-Stopped-clause-made
 returns-in-Stopped-clause-made g c =
-    round-cut g.C.Clock.gives c.args.self.now c.loop-job.self c.step_job.new.self (length c.args.self.now.scripts.scripts) c.loop-job.job stepped.Stopped (λ e. cc) (c.in-Stopped.ensures.unchanged (λ e. cc)) c.loop-job.invariant.made
+    let jobs = length c.args.self.now.scripts.scripts in
+    let same = c.in-Stopped.ensures.unchanged (λ e. cc) in
+    round-cut g.C.Clock.gives c.args.self.now c.loop-job.self c.step_job.new.self jobs c.loop-job.job stepped.Stopped (λ e. cc) same c.loop-job.invariant.made
 
 pub returns-in-NoMemory-clause-made : goal.returns-in-NoMemory-clause-made
 returns-in-NoMemory-clause-made g c =
-    round-cut g.C.Clock.gives c.args.self.now c.loop-job.self c.step_job.new.self (length c.args.self.now.scripts.scripts) c.loop-job.job stepped.NoMemory (λ e. cc) (c.in-NoMemory.ensures.unchanged (λ e. cc)) c.loop-job.invariant.made
+    let jobs = length c.args.self.now.scripts.scripts in
+    let same = c.in-NoMemory.ensures.unchanged (λ e. cc) in
+    round-cut g.C.Clock.gives c.args.self.now c.loop-job.self c.step_job.new.self jobs c.loop-job.job stepped.NoMemory (λ e. cc) same c.loop-job.invariant.made
 
 pub loop-job-preserved : goal.loop-job-preserved
 loop-job-preserved g c =

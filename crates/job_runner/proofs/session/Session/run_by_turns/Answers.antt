@@ -12,12 +12,16 @@ use Rattle.job_runner.proofs.session.Session.run_by_turns.Goals as goal
 pub returns-in-Stopped-clause-made : goal.returns-in-Stopped-clause-made
 returns-in-Stopped-clause-made g c =
     let jobs = length c.args.self.now.scripts.scripts in
-    HasBegun-end g.C.Clock.gives c.args.self.now c.loop-turn.self c.step_job.new.self (AreByTurns jobs c.args.turns.now c.args.self.now.calls) (AreByTurns jobs (drop c.loop-turn.turn-index c.args.turns.now) c.loop-turn.self.calls) c.loop-turn.invariant (c.in-Stopped.ensures.unchanged (λ e. cc)) tt
+    let whole = AreByTurns jobs c.args.turns.now c.args.self.now.calls in
+    let rest = AreByTurns jobs (drop c.loop-turn.turn-index c.args.turns.now) c.loop-turn.self.calls in
+    HasBegun-end g.C.Clock.gives c.args.self.now c.loop-turn.self c.step_job.new.self whole rest c.loop-turn.invariant (c.in-Stopped.ensures.unchanged (λ e. cc)) tt
 
 pub returns-in-NoMemory-clause-made : goal.returns-in-NoMemory-clause-made
 returns-in-NoMemory-clause-made g c =
     let jobs = length c.args.self.now.scripts.scripts in
-    HasBegun-end g.C.Clock.gives c.args.self.now c.loop-turn.self c.step_job.new.self (AreByTurns jobs c.args.turns.now c.args.self.now.calls) (AreByTurns jobs (drop c.loop-turn.turn-index c.args.turns.now) c.loop-turn.self.calls) c.loop-turn.invariant (c.in-NoMemory.ensures.unchanged (λ e. cc)) tt
+    let whole = AreByTurns jobs c.args.turns.now c.args.self.now.calls in
+    let rest = AreByTurns jobs (drop c.loop-turn.turn-index c.args.turns.now) c.loop-turn.self.calls in
+    HasBegun-end g.C.Clock.gives c.args.self.now c.loop-turn.self c.step_job.new.self whole rest c.loop-turn.invariant (c.in-NoMemory.ensures.unchanged (λ e. cc)) tt
 
 pub loop-turn-preserved : goal.loop-turn-preserved
 loop-turn-preserved g c =
@@ -36,13 +40,13 @@ loop-turn-preserved g c =
           let goes = still-open stepped.Called (has_ended turn calls) (λ e. cc) w.in-Called.ensures.ended in
           HasBegun-call g.C.Clock.gives c.args.self.now c.loop-turn.self c.step_job.new.self whole rest next called.0 c.loop-turn.invariant called.2
           (λ more is. subst (λ (ts : List ℕ). AreByTurns jobs ts calls (called.0 ∷ more)) (sym split)
-            (AreByTurns-call jobs turn left calls called.0 more called.1 goes (subst (λ (cs : List Call). AreByTurns jobs left cs more) called.2.calls is)))
+          (AreByTurns-call jobs turn left calls called.0 more called.1 goes (subst (λ (cs : List Call). AreByTurns jobs left cs more) called.2.calls is)))
       | in-Ended w ↦
           let same = w.in-Ended.ensures.unchanged (λ e. cc) in
           let stays : c.step_job.new.self.calls ≡ calls = ap (λ s. s.calls) same in
           HasBegun-same g.C.Clock.gives c.args.self.now c.loop-turn.self c.step_job.new.self whole rest next c.loop-turn.invariant same
           (λ more is. subst (λ (ts : List ℕ). AreByTurns jobs ts calls more) (sym split)
-            (AreByTurns-past jobs turn left calls more (w.in-Ended.ensures.ended.0 refl) (subst (λ (cs : List Call). AreByTurns jobs left cs more) stays is)))
+          (AreByTurns-past jobs turn left calls more (w.in-Ended.ensures.ended.0 refl) (subst (λ (cs : List Call). AreByTurns jobs left cs more) stays is)))
     ]
 
 pub returns-clause-made : goal.returns-clause-made
