@@ -120,9 +120,9 @@ without-there n (entry ∷ statuses) members h =
           let none : is_some (member_at n (without_members statuses (without_member entry.1.number members))) ≡ false = ap is_some (rest.1 ∙ gone) in
           absurd cc)
       | inr differs ↦ (
-          has_number-cons n entry statuses ∙ (λ i. ne_eqb entry.1.number n differs i || rest.0 i),
-          rest.1 ∙ item_at-without_item_other n entry.1.number members (λ e. differs (sym e)),
-        )
+        has_number-cons n entry statuses ∙ (λ i. ne_eqb entry.1.number n differs i || rest.0 i),
+        rest.1 ∙ item_at-without_item_other n entry.1.number members (λ e. differs (sym e)),
+      )
     ]
 
 lacks : (n : ℕ) (name : List ℕ) (file : FileState) (files : Named FileState) → IsDistinct same_name (keys_of files) → named name files ≡ Some file → has_number n file.members ≡ false
@@ -177,16 +177,18 @@ module _ (files later : Named FileState) (statuses : Named MemberStatus) (wider 
   opens-left : (entries : Named OpenState) → ((n : ℕ) → has_number n statuses ≡ true → list_any (λ (entry : List ℕ × OpenState). entry.1.member == n) entries ≡ false) → AreOpensJournaled files entries
       → AreOpensJournaled later entries
   opens-left [] none each = tt
-  opens-left (entry ∷ entries) none each =
-      ((λ c. wider entry.1.member (used entry.1.member (list_any (λ (e : List ℕ × OpenState). e.1.member == entry.1.member) entries) (none entry.1.member)) (each.0 c)),
-      opens-left entries (λ n has. (or_parts (entry.1.member == n) (list_any (λ (e : List ℕ × OpenState). e.1.member == n) entries) (none n has)).1) each.1)
+  opens-left (entry ∷ entries) none each = (
+    (λ c. wider entry.1.member (used entry.1.member (list_any (λ (e : List ℕ × OpenState). e.1.member == entry.1.member) entries) (none entry.1.member)) (each.0 c)),
+    opens-left entries (λ n has. (or_parts (entry.1.member == n) (list_any (λ (e : List ℕ × OpenState). e.1.member == n) entries) (none n has)).1) each.1,
+  )
 
   changes-left : (undos : List MemberChange) → ((n : ℕ) → has_number n statuses ≡ true → list_any (λ (undo : MemberChange). undo.member == n) undos ≡ false) → AreChangesJournaled files undos
       → AreChangesJournaled later undos
   changes-left [] none each = tt
-  changes-left (undo ∷ undos) none each =
-      (wider undo.member (used undo.member (list_any (λ (u : MemberChange). u.member == undo.member) undos) (none undo.member)) each.0,
-      changes-left undos (λ n has. (or_parts (undo.member == n) (list_any (λ (u : MemberChange). u.member == n) undos) (none n has)).1) each.1)
+  changes-left (undo ∷ undos) none each = (
+    wider undo.member (used undo.member (list_any (λ (u : MemberChange). u.member == undo.member) undos) (none undo.member)) each.0,
+    changes-left undos (λ n has. (or_parts (undo.member == n) (list_any (λ (u : MemberChange). u.member == n) undos) (none n has)).1) each.1,
+  )
 
   jobs-left : (jobs : List JobState) → AllByRecursion (LeavesAll statuses) jobs → AllByRecursion (StaysJournaled files) jobs → AllByRecursion (StaysJournaled later) jobs
   jobs-left [] alone all = tt

@@ -1,11 +1,11 @@
 //! Statements of each command, and what is none.
-use statement_reader::reading::{Said, read_statement};
-use statement_reader::variables::Variables;
 use field_types::names::Name;
 use field_types::values::{Dec, Value};
 use job_language::forms::RequestForm;
 use job_language::operands::NumberOperand;
 use library_model::requests::{AccessPath, OpenFile, OpenOption, Request};
+use statement_reader::reading::{Said, read_statement};
+use statement_reader::variables::Variables;
 use statement_syntax::Phrase;
 use std::alloc::{AllocError, Global};
 use std::process::Abort;
