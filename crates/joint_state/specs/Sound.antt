@@ -8,12 +8,15 @@ use Rattle.library_steps.specs.Change.{Change}
 use Rattle.library_steps.specs.Step.{change}
 use Rattle.library_steps.specs.History.{is_running}
 use Rattle.library_parts.specs.Lawful.{IsLibrary}
+use Rattle.joint_state.specs.Limits.{AreFormats, AreWithin}
 use Rattle.joint_state.specs.Joint.{IsJoint}
 use Rattle.joint_state.specs.Agreed.{Agrees}
 
 pub record IsSound (s : State) : Type 0 where
   pub library : IsLibrary s
   pub apart : AreApart s.files
+  pub formats : AreFormats s.files
+  pub within : AreWithin s.members
   pub joint : IsJoint s
   pub agreed : Agrees s
 
