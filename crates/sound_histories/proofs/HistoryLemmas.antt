@@ -1,5 +1,5 @@
 -- What each answered request keeps, each legal history keeps.
-use Rattle.std.proofs.Common.{◌≡◌, ℕ, ◌⊎◌, inl, inr, IsTrue, List, [], ◌∷◌, Result, Ok, Err, refl, sym, ap, subst, absurd}
+use Rattle.std.proofs.Common.{◌≡◌, ℕ, ◌⊎◌, inl, inr, IsTrue, List, [], ◌∷◌, Result, Ok, Err, refl, sym, ap, subst}
 use Rattle.library_model.specs.declared.requests.Request.{Request}
 use Rattle.library_model.specs.declared.replies.Reply.{Reply}
 use Rattle.library_model.specs.declared.calls.Call.{Call}
@@ -16,6 +16,11 @@ changed-sound : (s t : State) (reply : Reply) (r : Result Change Reply) → IsSo
 changed-sound s t reply (Ok done) sound kept is = subst IsSound (sym (ap (λ p. p.0) is)) (kept done refl)
 changed-sound s t reply (Err refused) sound kept is = subst IsSound (sym (ap (λ p. p.0) is)) sound
 
+-- a library that stands is sound
+abbrev IsSoundAt : Outcome → Type 0
+IsSoundAt (Standing s) = IsSound s
+IsSoundAt (Failed entries) = Unit {0}
+
 module _ (kept : IsKept IsSound) (sources : List NamedSource) where
   answer-sound : (s t : State) (job timestamp : ℕ) (request : Request) (reply : Reply) → IsSound s → IsTrue (is_running (job_at job s.jobs))
       → MayAnswer sources s job timestamp request reply t → IsSound t
@@ -25,19 +30,15 @@ module _ (kept : IsKept IsSound) (sources : List NamedSource) where
       is
   answer-sound s t job timestamp request reply sound running (inr same) = subst IsSound (sym same.0) sound
 
+  comes-sound : (s : State) (mid : Outcome) (call : Call) → IsSound s → IsTrue (is_running (job_at call.job s.jobs)) → Comes sources s call mid → IsSoundAt mid
+  comes-sound s (Standing u) call sound running comes = answer-sound s u call.job call.timestamp call.request call.reply sound running comes
+  comes-sound s (Failed entries) call sound running comes = tt
+
+  -- from wherever the calls begin
+  outcomes-sound : (from : Outcome) (t : State) (calls : List Call) → IsSoundAt from → Runs sources from calls (Standing t) → IsSound t
+  outcomes-sound from t [] sound runs = subst IsSoundAt (sym runs) sound
+  outcomes-sound (Standing s) t (call ∷ calls) sound runs = outcomes-sound runs.1 t calls (comes-sound s runs.1 call sound runs.0 runs.2) runs.3
+  outcomes-sound (Failed entries) t (call ∷ calls) sound runs = absurd runs
+
   pub runs-sound : (s t : State) (calls : List Call) → IsSound s → Runs sources (Standing s) calls (Standing t) → IsSound t
-  runs-sound s t [] sound runs = subst IsStanding (sym runs) sound
-    where
-      IsStanding : Outcome → Type 0
-      IsStanding (Standing u) = IsSound u
-      IsStanding (Failed entries) = IsSound t
-  runs-sound s t (call ∷ calls) sound runs = on s t call calls sound runs.0 runs.1 runs.2 runs.3
-    where
-      on : (s t : State) (call : Call) (calls : List Call) → IsSound s → IsTrue (is_running (job_at call.job s.jobs)) → (mid : Outcome) → Comes sources s call mid
-          → Runs sources mid calls (Standing t) → IsSound t
-      on s t call calls sound running (Standing u) comes rest = runs-sound u t calls (answer-sound s u call.job call.timestamp call.request call.reply sound running comes) rest
-      on s t call [] sound running (Failed entries) comes rest = absurd (no-failure entries t rest)
-        where
-          no-failure : (entries : _) (t : State) → Standing t ≡ Failed entries → ⊥
-          no-failure entries t is = let standing : Standing t ≡ Failed entries = is in absurd cc
-      on s t call (next ∷ calls) sound running (Failed entries) comes rest = absurd rest
+  runs-sound s t calls sound runs = outcomes-sound (Standing s) t calls sound runs
