@@ -91,7 +91,8 @@ opening-alone name args member job running fresh control alone = record {
   idle = goes-on (with_open args member job) running;
   control = record {
     cycle = alone.control.cycle;
-    opens = λ none. all-append (λ (e : List ℕ × OpenState). e.1.commit ≡ false) job.opens ((args.open_id, new_open args (job.opened + 1) member) ∷ []) (alone.control.opens none) (outside none args.commit control, tt);
+    opens = λ none. all-append (λ (e : List ℕ × OpenState). e.1.commit ≡ false) job.opens ((args.open_id, new_open args (job.opened + 1) member) ∷ []) (alone.control.opens none)
+        (outside none args.commit control, tt);
   };
   opens = record {
     apart = apart-append job.opens (args.open_id, new_open args (job.opened + 1) member) alone.opens.apart
@@ -111,7 +112,8 @@ closing-alone name job running alone = record {
   idle = goes-on (without_open name job) running;
   control = record {
     cycle = alone.control.cycle;
-    opens = λ none. all-filter (λ (e : List ℕ × OpenState). e.1.commit ≡ false) (λ e. e.1.commit ≡ false) (λ e. not (same_name name e.0)) job.opens (λ e left outside. outside) (alone.control.opens none);
+    opens = λ none. all-filter (λ (e : List ℕ × OpenState). e.1.commit ≡ false) (λ e. e.1.commit ≡ false) (λ e. not (same_name name e.0)) job.opens (λ e left outside. outside)
+        (alone.control.opens none);
   };
   opens = record {
     apart = apart-filter (λ e. not (same_name name e.0)) job.opens alone.opens.apart;
@@ -148,7 +150,8 @@ module _ (m new : Memory) (job : ℕ) (runs : Runs m.jobs job (job_of job m)) (a
   change-alone opened call rrn slot change is same =
       each-job m new job (changing opened.commit is.cycle change) is.jobs runs (λ n j. IsSoAlone j)
       (alone-same (job_of job m) (changing opened.commit is.cycle change (job_of job m)) change
-      (changing-goes opened.commit is.cycle change (job_of job m) (λ none. named-holds (λ (o : OpenState). o.commit ≡ false) is.name (job_of job m).opens opened is.named (its.control.opens none)) same)
+      (changing-goes opened.commit is.cycle change (job_of job m) (λ none. named-holds (λ (o : OpenState). o.commit ≡ false) is.name (job_of job m).opens opened is.named
+      (its.control.opens none)) same)
       runs.goes_on its) others
 
   pub alone-kept : Effect m job new → (place : ℕ) (j : JobState) → slice_get new.jobs place ≡ Some j → IsSoAlone j
@@ -173,10 +176,21 @@ module _ (m new : Memory) (job : ℕ) (runs : Runs m.jobs job (job_of job m)) (a
   alone-kept (Deleting is) = change-alone is.opened Delete is.rrn Deleted (without_record is.opened.member is.rrn) is.change (same-without_record is.opened.member is.rrn)
   alone-kept (Start is) =
       each-job m new job (with_level (Some is.level)) is.jobs runs (λ n j. IsSoAlone j)
-      (record { idle = goes-on _ runs.goes_on; control = record { cycle = λ none. absurd cc; opens = λ none. absurd cc }; opens = record { apart = its.opens.apart; counted = its.opens.counted } }) others
+      (record {
+        idle = goes-on _ runs.goes_on;
+        control = record { cycle = λ none. absurd cc; opens = λ none. absurd cc };
+        opens = record { apart = its.opens.apart; counted = its.opens.counted };
+      }) others
   alone-kept (End is) =
       each-job m new job (with_level None) is.jobs runs (λ n j. IsSoAlone j)
-      (record { idle = goes-on _ runs.goes_on; control = record { cycle = λ none. is.cycle; opens = λ none. none-committed (job_of job m).opens is.opens }; opens = record { apart = its.opens.apart; counted = its.opens.counted } }) others
+      (record {
+        idle = goes-on _ runs.goes_on;
+        control = record {
+          cycle = λ none. is.cycle;
+          opens = λ none. none-committed (job_of job m).opens is.opens;
+        };
+        opens = record { apart = its.opens.apart; counted = its.opens.counted };
+      }) others
   alone-kept (Committing is) =
       each-job m new job (λ j. with_opens committed_open (without_cycle j)) is.jobs runs (λ n j. IsSoAlone j)
       (alone-same (job_of job m) _ committed_open (record { ended = refl; level = refl; cycle = λ none was. refl; opens = refl; opened = refl; same = same-committed }) runs.goes_on its) others

@@ -55,7 +55,8 @@ pub same-named : (name : List ℕ) (opens : Named OpenState) (opened : OpenState
     → AllByRecursion (λ e. same_name name e.0 ≡ true → e.1 ≡ opened) opens
 same-named name [] opened is apart = tt
 same-named name (entry ∷ opens) opened is apart =
-    elim (same_name name entry.0) as (λ b. same_name name entry.0 ≡ b → cond b (Some entry.1) (named name opens) ≡ Some opened → AllByRecursion (λ e. same_name name e.0 ≡ true → e.1 ≡ opened) (entry ∷ opens)) [
+    elim (same_name name entry.0) as (λ b. same_name name entry.0 ≡ b → cond b (Some entry.1) (named name opens) ≡ Some opened
+    → AllByRecursion (λ e. same_name name e.0 ≡ true → e.1 ≡ opened) (entry ∷ opens)) [
       | true ↦ λ its e. (
         (λ same. (let here : entry.1 ≡ opened = cc in here)),
         all-weaker (IsBefore entry) (λ e. same_name name e.0 ≡ true → e.1 ≡ opened) opens (λ later before same. absurd (

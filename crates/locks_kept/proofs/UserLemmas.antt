@@ -73,5 +73,6 @@ used-by m l stands begun there free = by (get-there m.jobs (l.job - 1) within)
               (any-wider (λ (e : List ℕ × OpenState). is_through l e.1) (λ e. e.1.member == l.at.member) found.0.opens (λ e through. through-over e.1 through)
               (subst (λ (j : JobState). list_any (λ (e : List ℕ × OpenState). is_through l e.1) j.opens ≡ true) its (stands.opened ends))) unused.opens
           | false ↦ λ kept. contrary (has_boundary_lock l.at.member l.job m.locks)
-              (there (λ lock. (lock.job == l.job) && is_boundary_in l.at.member lock) (rw (number-same l.job l.job refl, number-same l.at.member l.at.member refl, kept) refl)) (subst (λ n. has_boundary_lock l.at.member n m.locks ≡ false) back unused.locks)
+              (there (λ lock. (lock.job == l.job) && is_boundary_in l.at.member lock) (rw (number-same l.job l.job refl, number-same l.at.member l.at.member refl, kept) refl))
+              (subst (λ n. has_boundary_lock l.at.member n m.locks ≡ false) back unused.locks)
         ] refl
