@@ -40,7 +40,7 @@ use Rattle.library_steps.specs.Commitment.{boundary_locks, taken_back, committed
 use Rattle.library_steps.specs.EndJob.{ended_job}
 use Rattle.library_steps.specs.Uses.{has_open_over, changes_in}
 use Rattle.library_parts.specs.Locks.{IsRead, AsksNone}
-use Rattle.joint_state.specs.Opens.{IsBefore, AreApart}
+use Rattle.joint_state.specs.Opens.{IsBefore, AreToldApart}
 use Rattle.joint_state.specs.CurrentRecords.{keeps_record, CurrentStands, AllCurrentStand}
 use Rattle.joint_state.specs.Sound.{IsSound, Does, after}
 use Rattle.locks_kept.proofs.AllEffects.{effect-of}
@@ -237,7 +237,7 @@ end-frees (Some levels.Chg) = refl
 end-frees (Some levels.Cs) = refl
 end-frees (Some levels.All) = refl
 
-apart-committed : (opens : Named OpenState) → AreApart opens → AllByRecursion (λ e. e.1.commit ≡ false → list_any (λ o. (o.1.number == e.1.number) && o.1.commit) opens ≡ false) opens
+apart-committed : (opens : Named OpenState) → AreToldApart opens → AllByRecursion (λ e. e.1.commit ≡ false → list_any (λ o. (o.1.number == e.1.number) && o.1.commit) opens ≡ false) opens
 apart-committed [] apart = tt
 apart-committed (entry ∷ opens) apart = (
   λ outside. rw (outside, and_false (entry.1.number == entry.1.number))

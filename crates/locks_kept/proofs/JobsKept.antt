@@ -15,7 +15,7 @@ use Rattle.library_steps.specs.Reads.{open_changed}
 use Rattle.library_steps.specs.ChangeRecord.{is_current, without_record, without_current}
 use Rattle.library_steps.specs.Commitment.{with_level, without_cycle, committed_open, rolled_back_open}
 use Rattle.library_steps.specs.EndJob.{ended_job}
-use Rattle.joint_state.specs.Opens.{IsBefore, AreApart, HasOpens}
+use Rattle.joint_state.specs.Opens.{IsBefore, AreToldApart, HasOpens}
 use Rattle.joint_state.specs.Cycles.{IsUnderControl}
 use Rattle.joint_state.specs.Joint.{IsIdle}
 use Rattle.joint_state.specs.Sound.{Does, after}
@@ -77,7 +77,7 @@ alone-same old new change goes running alone = record {
         (alone.control.opens (sym goes.level ∙ none)));
   };
   opens = record {
-    apart = subst AreApart (sym goes.opens) (apart-map change (λ o. (goes.same o).number) old.opens alone.opens.apart);
+    apart = subst AreToldApart (sym goes.opens) (apart-map change (λ o. (goes.same o).number) old.opens alone.opens.apart);
     counted = subst (AllByRecursion (λ e. e.1.number ≤ new.opened)) (sym goes.opens)
         (all-map (λ (e : List ℕ × OpenState). e.1.number ≤ old.opened) (λ e. e.1.number ≤ new.opened) (λ e. (e.0, change e.1)) old.opens
         (λ e few. (let number : (change e.1).number ≡ e.1.number = (goes.same e.1).number in let opened = goes.opened in omega (arith, few, number, opened))) alone.opens.counted);
