@@ -9,11 +9,12 @@ pub record IsBefore (former later : List ℕ × OpenState) : Type 0 where
   pub names : same_name former.0 later.0 ≡ false
   pub numbers : former.1.number < later.1.number
 
-abbrev pub AreApart : Named OpenState → Type 0
-AreApart [] = Unit {0}
-AreApart (former ∷ others) = AllByRecursion (IsBefore former) others × AreApart others
+-- each open of a list has another name, and a lesser number, than those after it
+abbrev pub AreToldApart : Named OpenState → Type 0
+AreToldApart [] = Unit {0}
+AreToldApart (former ∷ others) = AllByRecursion (IsBefore former) others × AreToldApart others
 
--- and none has a number that the job hasn't given yet
+-- the opens of a job; none has a number that the job hasn't given yet
 pub record HasOpens (job : JobState) : Type 0 where
-  pub apart : AreApart job.opens
+  pub apart : AreToldApart job.opens
   pub counted : AllByRecursion (λ entry. entry.1.number ≤ job.opened) job.opens

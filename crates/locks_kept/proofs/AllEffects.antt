@@ -37,8 +37,10 @@ end_plan-known : (m : Memory) (job : ℕ) → Holds (end_plan m job) (λ ended. 
 unfolding end_plan
 end_plan-known m job =
     then-holds (found (job_of job m).level replies.NoDefinition) _ _ (λ level.
-    bind-holds (refuse_with (λ cycle. replies.PendingChanges cycle.sequence) (job_of job m).cycle) (λ passed. (job_of job m).cycle ≡ None) _ _ (refuse_with-holds _ (job_of job m).cycle) (λ passed cycle.
-    wider-holds (refuse_if (has_committed_open (job_of job m)) (replies.InUse job)) _ _ (λ passed none. record { cycle = cycle; opens = none }) (refuse_if-holds (has_committed_open (job_of job m)) (replies.InUse job))))
+    bind-holds (refuse_with (λ cycle. replies.PendingChanges cycle.sequence) (job_of job m).cycle) (λ passed. (job_of job m).cycle ≡ None) _ _ (refuse_with-holds _ (job_of job m).cycle)
+    (λ passed cycle.
+    wider-holds (refuse_if (has_committed_open (job_of job m)) (replies.InUse job)) _ _ (λ passed none. record { cycle = cycle; opens = none })
+    (refuse_if-holds (has_committed_open (job_of job m)) (replies.InUse job))))
 
 end_commitment-effect : (m : Memory) (job timestamp : ℕ) → Holds (end_commitment m job timestamp) (Leaves m job)
 end_commitment-effect m job timestamp =

@@ -72,7 +72,8 @@ display_journal-effect entries m job args = does-holds _ _ (Leaves m job) (each-
 
 -- ---- one member changed that no job uses
 
-one-changed : (m new : Memory) (number : ℕ) (member : MemberState) → user_of number m ≡ None → new.jobs ≡ m.jobs → new.locks ≡ m.locks → new.members ≡ with_member number member m.members → IsAround m new
+one-changed : (m new : Memory) (number : ℕ) (member : MemberState) → user_of number m ≡ None → new.jobs ≡ m.jobs → new.locks ≡ m.locks → new.members ≡ with_member number member m.members
+    → IsAround m new
 one-changed m new number member free jobs locks members = record { jobs = jobs; locks = locks; slots = λ other. of other (cases_eq other number) }
   where
     of : (other : ℕ) → (other ≡ number) ⊎ (other ≢ number) → (user_of other m ≡ None) ⊎ (slots_of other new ≡ slots_of other m)
@@ -122,14 +123,16 @@ range-effect : (m : Memory) (job : ℕ) (work : RangeWork) → user_of work.rang
 range-effect m job work free =
     Around (one-changed m _ work.range.status.number (record (member_of work.range.status.number m.members) { slots = work.done.slots }) free refl refl refl)
 
-apply_plan-free : (entries : List Entry) (m : Memory) (job timestamp : ℕ) (args : JournaledChanges) → Holds (apply_plan entries m job timestamp args) (λ work. user_of work.range.status.number m ≡ None)
+apply_plan-free : (entries : List Entry) (m : Memory) (job timestamp : ℕ) (args : JournaledChanges) → Holds (apply_plan entries m job timestamp args)
+    (λ work. user_of work.range.status.number m ≡ None)
 unfolding apply_plan
 apply_plan-free entries m job timestamp args =
     bind-holds (range_named args args.from args.to entries m) (λ range. user_of range.status.number m ≡ None) _ _ (range-free args args.from args.to entries m) (λ range free.
     then-holds (done_or_refused (apply_range range.first range.acts (slots_now range m))) _ _ (λ done. allowed-free
     (work_of (author_of m job timestamp) (λ d. ChangesApplied d.first d.last (length d.changes)) (λ d. given_forward d.changes) range m done) m free))
 
-remove_plan-free : (entries : List Entry) (m : Memory) (job timestamp : ℕ) (args : JournaledChanges) → Holds (remove_plan entries m job timestamp args) (λ work. user_of work.range.status.number m ≡ None)
+remove_plan-free : (entries : List Entry) (m : Memory) (job timestamp : ℕ) (args : JournaledChanges) → Holds (remove_plan entries m job timestamp args)
+    (λ work. user_of work.range.status.number m ≡ None)
 unfolding remove_plan
 remove_plan-free entries m job timestamp args =
     bind-holds (range_named args args.to args.from entries m) (λ range. user_of range.status.number m ≡ None) _ _ (range-free args args.to args.from entries m) (λ range free.
@@ -225,7 +228,8 @@ one-more m new length below jobs locks members = record { jobs = jobs; locks = l
         ap (λ (all : NumberedMembers). (member_of other all).slots) members
         ∙ ap (λ (o : Option MemberState). (unwrap_or o (empty_member 0)).slots) (item_at-put_item_other other m.next_member (empty_member length) m.members differ)
 
-pub create_physical_file-effect : (sources : List NamedSource) (m : Memory) (job timestamp : ℕ) (args : CreatePhysicalFile) → AreBelow m → Holds (create_physical_file sources m job timestamp args) (Leaves m job)
+pub create_physical_file-effect : (sources : List NamedSource) (m : Memory) (job timestamp : ℕ) (args : CreatePhysicalFile) → AreBelow m
+    → Holds (create_physical_file sources m job timestamp args) (Leaves m job)
 create_physical_file-effect sources m job timestamp args below =
     does-holds (create_change m job timestamp args) (create_plan sources m args) (Leaves m job) (each-holds (create_plan sources m args) _ (λ plan. Around (one-more m _ _ below refl refl refl)))
 

@@ -13,7 +13,7 @@ use Rattle.library_model.specs.declared.requests.OpenName.{OpenName}
 use Rattle.library_model.specs.declared.requests.UpdateRecord.{UpdateRecord}
 use Rattle.library_model.specs.declared.requests.WriteRecord.{WriteRecord}
 use Rattle.library_steps.specs.State.{Memory, OpenState, CycleState, job_of, job_changed, open_named, with_opens, with_status, fields_of}
-use Rattle.library_steps.specs.Refusals.{found, refuse_if, sequences_left, opened_file}
+use Rattle.library_steps.specs.Refusals.{found, refuse_if, sequences_left}
 use Rattle.library_steps.specs.Locking.{clashing, few_locks}
 use Rattle.library_steps.specs.Records.{live_record, slot_there}
 use Rattle.library_steps.specs.UniqueKeys.{keys_free}
@@ -23,7 +23,7 @@ use Rattle.library_steps.specs.ChangeRecord.{update_plan, update_change, update_
 use Rattle.locks_kept.proofs.AroundEffects.{Leaves}
 use Rattle.locks_kept.proofs.Effects.{IsPlaceNamed, changing, unread, Writing, Updating, Deleting}
 use Rattle.locks_kept.proofs.JobLemmas.{changed-twice, changed-same, changed-alike}
-use Rattle.locks_kept.proofs.OpenEffects.{opened_file-named}
+use Rattle.locks_kept.proofs.OpenEffects.{opened-then}
 use Rattle.locks_kept.proofs.RefusalLemmas.{Holds, found-holds, refuse_if-holds, refuse_with-holds, then-holds, bind-holds, does-holds, wider-holds}
 
 -- ---- what a changed slot makes of jobs and members
@@ -78,7 +78,7 @@ write_plan-is : (m : Memory) (job : ℕ) (args : WriteRecord) → Holds (write_p
 unfolding write_plan
 write_plan-is m job args =
     then-holds (sequences_left m) _ _ (λ few.
-    bind-holds (opened_file args.open_id job m) (λ its. open_named args.open_id job m ≡ Some its.opened) _ _ (opened_file-named args.open_id job m) (λ its is.
+    opened-then args.open_id job m _ _ (λ its is.
     then-holds (format_or_refused args.format its.file.spec.format.name) _ _ (λ format.
     then-holds (refuse_if (is_input its.opened.option) replies.WrongOpen) _ _ (λ all.
     then-holds (packed (record_given (fields_of its.file) args.values None)) _ _ (λ image.
@@ -131,7 +131,7 @@ update_plan-is : (m : Memory) (job : ℕ) (args : UpdateRecord) → Holds (updat
 unfolding update_plan
 update_plan-is m job args =
     then-holds (sequences_left m) _ _ (λ few.
-    bind-holds (opened_file args.open_id job m) (λ its. open_named args.open_id job m ≡ Some its.opened) _ _ (opened_file-named args.open_id job m) (λ its is.
+    opened-then args.open_id job m _ _ (λ its is.
     then-holds (refuse_if (is_input its.opened.option) replies.WrongOpen) _ _ (λ all.
     bind-holds (found its.opened.current replies.NoCurrentRecord) (λ rrn. its.opened.current ≡ Some rrn) _ _ (found-holds its.opened.current replies.NoCurrentRecord) (λ rrn current.
     then-holds (packed (record_given (fields_of its.file) args.values (live_record its.opened.member rrn m))) _ _ (λ image.
@@ -142,7 +142,8 @@ update_plan-is m job args =
 
 -- the jobs and members after a change of the current record
 pub changed-jobs : (m : Memory) (job : ℕ) (new : NewSlot) (change : OpenState → OpenState)
-    → job_changed (job - 1) (with_opens change) (slot_changed job new m).jobs ≡ job_changed (job - 1) (changing new.opened.commit (noted (change_made m (job_of job m) new) (cycle_for m (job_of job m))) change) m.jobs
+    → job_changed (job - 1) (with_opens change) (slot_changed job new m).jobs ≡ job_changed (job - 1)
+    (changing new.opened.commit (noted (change_made m (job_of job m) new) (cycle_for m (job_of job m))) change) m.jobs
 changed-jobs m job new change =
     undo-jobs new.opened.commit job (change_made m (job_of job m) new) (cycle_for m (job_of job m)) (with_status new.opened.member touched (with_slot new.opened.member new.rrn new.slot m)) change
 
@@ -177,7 +178,7 @@ delete_plan-is : (m : Memory) (job : ℕ) (args : OpenName) → Holds (delete_pl
 unfolding delete_plan
 delete_plan-is m job args =
     then-holds (sequences_left m) _ _ (λ few.
-    bind-holds (opened_file args.open_id job m) (λ its. open_named args.open_id job m ≡ Some its.opened) _ _ (opened_file-named args.open_id job m) (λ its is.
+    opened-then args.open_id job m _ _ (λ its is.
     then-holds (refuse_if (is_input its.opened.option) replies.WrongOpen) _ _ (λ all.
     bind-holds (found its.opened.current replies.NoCurrentRecord) (λ rrn. its.opened.current ≡ Some rrn) _ _ (found-holds its.opened.current replies.NoCurrentRecord) (λ rrn current.
     then-holds (not_held job its.opened rrn m) _ _ (λ held.

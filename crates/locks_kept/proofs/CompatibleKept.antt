@@ -4,6 +4,8 @@ use Rattle.commit_level.specs.declared.Level.{Level}
 use Rattle.lock_table.specs.declared.levels.Call.{Call}
 use Rattle.lock_table.specs.declared.levels.Call.TheVariants.{InputRead, UpdateRead, Update, Delete, Write, WriteAt, Unlock, Position, Close, Commit, Rollback, EndCommitment, EndJob}
 use Rattle.commit_level.specs.declared.Level.TheVariants as levels
+use Rattle.lock_table.specs.declared.lock.Holder.{Holder}
+use Rattle.lock_table.specs.declared.lock.RecordId.{RecordId}
 use Rattle.lock_table.specs.Levels.{asked}
 use Rattle.lock_table.specs.Table.{AreCompatible, blocker}
 use Rattle.lock_table.proofs.LawLemmas.{AreCompatible-call}
@@ -32,7 +34,8 @@ stands-of s job sound runs =
 pub current-of : (s : State) (job : ℕ) → IsSound s → Runs s.jobs job (job_of job (memory_of s)) → (name : List ℕ) (opened : OpenState) (rrn : ℕ) → open_named name job (memory_of s) ≡ Some opened
     → opened.current ≡ Some rrn → CurrentStands (memory_of s) job opened rrn
 current-of s job sound runs name opened rrn named current =
-    named-holds (λ (o : OpenState). (r : ℕ) → o.current ≡ Some r → CurrentStands (memory_of s) job o r) name (job_of job (memory_of s)).opens opened named (stands-of s job sound runs).current rrn current
+    named-holds (λ (o : OpenState). (r : ℕ) → o.current ≡ Some r → CurrentStands (memory_of s) job o r) name (job_of job (memory_of s)).opens opened named
+    (stands-of s job sound runs).current rrn current
 
 abbrev pub IsBoundary : Call → Type 0
 IsBoundary InputRead = ⊥
@@ -48,6 +51,13 @@ IsBoundary Commit = Unit {0}
 IsBoundary Rollback = Unit {0}
 IsBoundary EndCommitment = Unit {0}
 IsBoundary EndJob = Unit {0}
+
+-- whose locks a boundary frees: the job's, through no open and on no record
+abbrev pub of_job : ℕ → Holder
+of_job job = record { job = job; opened = 0 }
+
+abbrev pub no_record : RecordId
+no_record = record { member = 0; rrn = 0 }
 
 -- a boundary asks for no lock
 pub boundary-asks : (call : Call) → IsBoundary call → (level : Option Level) → asked call level ≡ None
@@ -100,7 +110,7 @@ module _ (s : State) (new : Memory) (job : ℕ) (sound : IsSound s) (runs : Runs
   -- what a boundary frees
   boundary-compatible : (call : Call) → IsBoundary call → AreCompatible (boundary_locks call job m)
   boundary-compatible call is =
-      AreCompatible-call (record { job = job; opened = 0 }) (record { member = 0; rrn = 0 }) (is_committed (job_of job m)) call (job_of job m).level m.locks
+      AreCompatible-call (of_job job) no_record (is_committed (job_of job m)) call (job_of job m).level m.locks
       (rw (boundary-asks call is (job_of job m).level) tt) sound.joint.compatible
 
   pub compatible-left : Effect m job new → AreCompatible new.locks
@@ -109,7 +119,8 @@ module _ (s : State) (new : Memory) (job : ℕ) (sound : IsSound s) (runs : Runs
   compatible-left (Closing is) = subst AreCompatible (sym is.locks) (clear-compatible Close is.opened 0 (clashes-none Close job is.opened 0 m tt))
   compatible-left (Use is) = subst AreCompatible (sym is.locks) (clear-compatible is.call is.opened is.rrn is.free)
   compatible-left (Writing is) = subst AreCompatible (sym is.change.locks) (elim is.place [
-    | inl next ↦ left-compatible is.call is.opened is.rrn (some-each _ (asked is.call (level_of (job_of job m) is.opened)) (λ wanted. behind-free m job (record_of is.opened is.rrn) wanted.kind next.1 sound.joint.locks))
+    | inl next ↦ left-compatible is.call is.opened is.rrn (some-each _ (asked is.call (level_of (job_of job m) is.opened))
+        (λ wanted. behind-free m job (record_of is.opened is.rrn) wanted.kind next.1 sound.joint.locks))
     | inr named ↦ clear-compatible is.call is.opened is.rrn (subst (λ call. clashing call job is.opened is.rrn m ≡ None) (sym named.0) named.1.free)
   ])
   compatible-left (Updating is) = subst AreCompatible (sym is.change.locks) (current-compatible Update is.change.name is.opened is.rrn is.change.named is.current)

@@ -40,12 +40,12 @@ use Rattle.library_steps.specs.Commitment.{boundary_locks, taken_back, committed
 use Rattle.library_steps.specs.EndJob.{ended_job}
 use Rattle.library_steps.specs.Uses.{has_open_over, changes_in}
 use Rattle.library_parts.specs.Locks.{IsRead, AsksNone}
-use Rattle.joint_state.specs.Opens.{IsBefore, AreApart}
+use Rattle.joint_state.specs.Opens.{IsBefore, AreToldApart}
 use Rattle.joint_state.specs.CurrentRecords.{keeps_record, CurrentStands, AllCurrentStand}
 use Rattle.joint_state.specs.Sound.{IsSound, Does, after}
 use Rattle.locks_kept.proofs.AllEffects.{effect-of}
 use Rattle.locks_kept.proofs.ChangeEffects.{IsPlace}
-use Rattle.locks_kept.proofs.CompatibleKept.{IsBoundary, boundary-asks, stands-of, current-of}
+use Rattle.locks_kept.proofs.CompatibleKept.{of_job, no_record, IsBoundary, boundary-asks, stands-of, current-of}
 use Rattle.locks_kept.proofs.Effects.{IsAround, IsOpening, IsClosing, IsUse, IsChange, IsEnd, IsCommit, IsTakingBack, changing, unread, slots_of, Effect, Around, Opening, Closing, Use, Writing, Updating, Deleting, Start, End, Committing, RollingBack, EndingJob}
 use Rattle.locks_kept.proofs.JobLemmas.{Runs, running-Runs, each-job}
 use Rattle.locks_kept.proofs.JobsKept.{none-committed}
@@ -76,7 +76,8 @@ freed-other OfCommitted holder at is_committed l other = rw (other, and_false (i
 freed-other OfJob holder at is_committed l other = rw other (and_false (is_open l.reach))
 
 other-locked : (call : Call) (level : Option Level) (holder : Holder) (at : RecordId) (is_committed : ℕ → Bool) (held : List Lock) (commit : Bool) (others : Holder) (record_at : RecordId)
-    → others.job ≢ holder.job → list_any (keeps_record commit others record_at) held ≡ true → list_any (keeps_record commit others record_at) (locks_after call level holder at is_committed held) ≡ true
+    → others.job ≢ holder.job → list_any (keeps_record commit others record_at) held ≡ true → list_any (keeps_record commit others record_at)
+    (locks_after call level holder at is_committed held) ≡ true
 other-locked call level holder at is_committed held commit others record_at differ locked =
     after-any holder at is_committed call level (keeps_record commit others record_at) held
     (λ l keeps. freed-other (released call level).open_locks holder at is_committed l (not_by l keeps))
@@ -212,7 +213,8 @@ gained-update true (Some levels.All) = (record { kind = update_kind; reach = Bou
 
 -- ---- in another memory
 
-current-seen : (gone : ℕ) (entries : List Entry) (m : Memory) (number : ℕ) (opened : OpenState) (rrn : ℕ) → CurrentStands m number opened rrn → CurrentStands (memory_of (with_entries gone entries m)) number opened rrn
+current-seen : (gone : ℕ) (entries : List Entry) (m : Memory) (number : ℕ) (opened : OpenState) (rrn : ℕ) → CurrentStands m number opened rrn
+    → CurrentStands (memory_of (with_entries gone entries m)) number opened rrn
 current-seen gone entries m number opened rrn stands = record { live = stands.live; locked = stands.locked }
 
 abbrev StandsIn : Memory → ℕ → OpenState → Type 0
@@ -235,7 +237,7 @@ end-frees (Some levels.Chg) = refl
 end-frees (Some levels.Cs) = refl
 end-frees (Some levels.All) = refl
 
-apart-committed : (opens : Named OpenState) → AreApart opens → AllByRecursion (λ e. e.1.commit ≡ false → list_any (λ o. (o.1.number == e.1.number) && o.1.commit) opens ≡ false) opens
+apart-committed : (opens : Named OpenState) → AreToldApart opens → AllByRecursion (λ e. e.1.commit ≡ false → list_any (λ o. (o.1.number == e.1.number) && o.1.commit) opens ≡ false) opens
 apart-committed [] apart = tt
 apart-committed (entry ∷ opens) apart = (
   λ outside. rw (outside, and_false (entry.1.number == entry.1.number))
@@ -286,7 +288,8 @@ module _ (s : State) (new : Memory) (job : ℕ) (sound : IsSound s) (runs : Runs
   abbrev OthersStay : Type 0
   OthersStay = (number : ℕ) (o : OpenState) (r : ℕ) → number ≢ job → CurrentStands m number o r → CurrentStands new number o r
 
-  all-jobs : (change : JobState → JobState) → new.jobs ≡ job_changed (job - 1) change m.jobs → OthersStay → AllCurrentStand new job (change its) → (place : ℕ) (j : JobState) → slice_get new.jobs place ≡ Some j
+  all-jobs : (change : JobState → JobState) → new.jobs ≡ job_changed (job - 1) change m.jobs → OthersStay → AllCurrentStand new job (change its) → (place : ℕ) (j : JobState)
+      → slice_get new.jobs place ≡ Some j
       → AllCurrentStand new (place + 1) j
   all-jobs change jobs stay own =
       each-job m new job change jobs runs (λ n j. AllCurrentStand new n j) own
@@ -302,7 +305,8 @@ module _ (s : State) (new : Memory) (job : ℕ) (sound : IsSound s) (runs : Runs
       (all-both (λ (e : List ℕ × OpenState). StandsIn m job e.1) Q (λ e. StandsIn new job (change e.1)) its.opens each its-current all))
 
   own-same : AllByRecursion (λ e. StandsIn m job e.1 → StandsIn new job e.1) its.opens → AllByRecursion (λ e. StandsIn new job e.1) its.opens
-  own-same each = all-both (λ (e : List ℕ × OpenState). StandsIn m job e.1) (λ e. StandsIn m job e.1 → StandsIn new job e.1) (λ e. StandsIn new job e.1) its.opens (λ e stands stay. stay stands) its-current each
+  own-same each = all-both (λ (e : List ℕ × OpenState). StandsIn m job e.1) (λ e. StandsIn m job e.1 → StandsIn new job e.1) (λ e. StandsIn new job e.1) its.opens
+      (λ e stands stay. stay stands) its-current each
 
   -- ---- what stays where no record is changed
 
@@ -321,7 +325,8 @@ module _ (s : State) (new : Memory) (job : ℕ) (sound : IsSound s) (runs : Runs
     abbrev at : RecordId
     at = record_of opened rrn
 
-    in-new : (commit : Bool) (holder : Holder) (record_at : RecordId) → list_any (keeps_record commit holder record_at) (locks_left call job opened rrn m) ≡ true → list_any (keeps_record commit holder record_at) new.locks ≡ true
+    in-new : (commit : Bool) (holder : Holder) (record_at : RecordId) → list_any (keeps_record commit holder record_at) (locks_left call job opened rrn m) ≡ true
+        → list_any (keeps_record commit holder record_at) new.locks ≡ true
     in-new commit holder record_at there = subst (λ ls. list_any (keeps_record commit holder record_at) ls ≡ true) (sym locks) there
 
     others-locked : (number : ℕ) (o : OpenState) (r : ℕ) → number ≢ job → CurrentStands m number o r → list_any (keeps_record o.commit (holder_of number o) (record_of o r)) new.locks ≡ true
@@ -358,7 +363,8 @@ module _ (s : State) (new : Memory) (job : ℕ) (sound : IsSound s) (runs : Runs
       let gains : gained is.call (level_of its is.opened) ≡ Some gain.0 = ap (λ c. gained c (level_of its is.opened)) found.1 ∙ gain.1 in
       let there : record_of is.opened is.rrn ≡ record_of (is.change o) r = λ i. record { member = sym member i; rrn = sym found.0 i } in
       record {
-        live = subst (λ n. IsSome (live_record n r new)) (sym member) (subst (λ n. IsSome (live_record is.opened.member n new)) (sym found.0) (same-live is.members is.opened.member is.rrn (read-live found.1)));
+        live = subst (λ n. IsSome (live_record n r new)) (sym member) (subst (λ n. IsSome (live_record is.opened.member n new)) (sym found.0)
+            (same-live is.members is.opened.member is.rrn (read-live found.1)));
         locked = in-new is.call is.opened is.rrn is.locks (is.change o).commit (holder_of job (is.change o)) (record_of (is.change o) r)
             (after-gained (holder_of job is.opened) (record_of is.opened is.rrn) (is_committed its) is.call (level_of its is.opened) gain.0
             (keeps_record (is.change o).commit (holder_of job (is.change o)) (record_of (is.change o) r)) m.locks gains
@@ -408,7 +414,8 @@ module _ (s : State) (new : Memory) (job : ℕ) (sound : IsSound s) (runs : Runs
 
   -- ---- WRITE: no record stands at its place
 
-  empty-place : (opened : OpenState) (call : Call) (rrn : ℕ) → IsPlace m job opened call rrn → (number : ℕ) (o : OpenState) (r : ℕ) → CurrentStands m number o r → o.member ≡ opened.member → r ≡ rrn → ⊥
+  empty-place : (opened : OpenState) (call : Call) (rrn : ℕ) → IsPlace m job opened call rrn → (number : ℕ) (o : OpenState) (r : ℕ) → CurrentStands m number o r → o.member ≡ opened.member
+      → r ≡ rrn → ⊥
   empty-place opened call rrn place number o r stands member same =
       let live : IsSome (live_record opened.member rrn m) = subst (λ n. IsSome (live_record n rrn m)) member (subst (λ n. IsSome (live_record o.member n m)) same stands.live) in
       elim place [
@@ -432,7 +439,8 @@ module _ (s : State) (new : Memory) (job : ℕ) (sound : IsSound s) (runs : Runs
 
   -- ---- UPDATE: a record stands at its place before and after
 
-  updated-live : (opened : OpenState) (rrn : ℕ) (image : List ℕ) → IsChange m job new opened Update rrn (Live image) (unread opened.number) → (number : ℕ) (o : OpenState) (r : ℕ) → CurrentStands m number o r
+  updated-live : (opened : OpenState) (rrn : ℕ) (image : List ℕ) → IsChange m job new opened Update rrn (Live image) (unread opened.number) → (number : ℕ) (o : OpenState) (r : ℕ)
+      → CurrentStands m number o r
       → IsSome (live_record o.member r new)
   updated-live opened rrn image is number o r stands =
       elim (cases_eq o.member opened.member) [
@@ -475,7 +483,8 @@ module _ (s : State) (new : Memory) (job : ℕ) (sound : IsSound s) (runs : Runs
       → (place : ℕ) (j : JobState) → slice_get new.jobs place ≡ Some j → AllCurrentStand new (place + 1) j
   delete-stands opened rrn is current =
       change-stands Delete opened rrn Deleted (without_record opened.member rrn) is
-      (λ number o r differ stands. other-live Delete opened rrn Deleted (without_record opened.member rrn) is number o r stands (λ member same. none-keeps job (record_of opened rrn) m.locks o.commit (holder_of number o) differ alone
+      (λ number o r differ stands. other-live Delete opened rrn Deleted (without_record opened.member rrn) is number o r stands
+      (λ member same. none-keeps job (record_of opened rrn) m.locks o.commit (holder_of number o) differ alone
       (subst (λ at. list_any (keeps_record o.commit (holder_of number o) at) m.locks ≡ true) (λ i. record { member = member i; rrn = same i }) stands.locked)))
       own
     where
@@ -494,38 +503,32 @@ module _ (s : State) (new : Memory) (job : ℕ) (sound : IsSound s) (runs : Runs
 
   -- ---- boundaries
 
-  abbrev boundary_holder : Holder
-  boundary_holder = record { job = job; opened = 0 }
-
-  abbrev no_record : RecordId
-  no_record = record { member = 0; rrn = 0 }
-
   boundary-others : (call : Call) → new.locks ≡ boundary_locks call job m → (number : ℕ) (o : OpenState) (r : ℕ) → number ≢ job → CurrentStands m number o r
       → list_any (keeps_record o.commit (holder_of number o) (record_of o r)) new.locks ≡ true
   boundary-others call locks number o r differ stands =
       subst (λ ls. list_any (keeps_record o.commit (holder_of number o) (record_of o r)) ls ≡ true) (sym locks)
-      (other-locked call its.level boundary_holder no_record (is_committed its) m.locks o.commit (holder_of number o) (record_of o r) differ stands.locked)
+      (other-locked call its.level (of_job job) no_record (is_committed its) m.locks o.commit (holder_of number o) (record_of o r) differ stands.locked)
 
   -- a lock to the next read of an open that isn't under commitment control
   to-next : (o : OpenState) (r : ℕ) (l : Lock) → o.commit ≡ false → keeps_record o.commit (holder_of job o) (record_of o r) l ≡ true → is_open l.reach ≡ true
   to-next o r l outside keeps = sym (ap (λ b. b || is_open l.reach) outside) ∙ (keeps-is o.commit (holder_of job o) (record_of o r) l keeps).reach
 
   boundary-own : (call : Call) → IsBoundary call → ((l : Lock) (o : OpenState) (r : ℕ) → keeps_record o.commit (holder_of job o) (record_of o r) l ≡ true → is_committed its o.number ≡ false
-      → is_freed (released call its.level).open_locks boundary_holder no_record (is_committed its) l ≡ false) → new.locks ≡ boundary_locks call job m
+      → is_freed (released call its.level).open_locks (of_job job) no_record (is_committed its) l ≡ false) → new.locks ≡ boundary_locks call job m
       → (o : OpenState) (r : ℕ) → o.commit ≡ false → is_committed its o.number ≡ false → CurrentStands m job o r → list_any (keeps_record o.commit (holder_of job o) (record_of o r)) new.locks ≡ true
   boundary-own call is spared locks o r outside apart stands =
       subst (λ ls. list_any (keeps_record o.commit (holder_of job o) (record_of o r)) ls ≡ true) (sym locks)
-      (after-any boundary_holder no_record (is_committed its) call its.level (keeps_record o.commit (holder_of job o) (record_of o r)) m.locks
+      (after-any (of_job job) no_record (is_committed its) call its.level (keeps_record o.commit (holder_of job o) (record_of o r)) m.locks
       (λ l keeps. spared l o r keeps apart)
       (λ l keeps frees. rw (to-next o r l outside keeps) refl)
       (gained-asked others-lock call its.level (subst (λ a. IfSome a others-lock) (sym (boundary-asks call is its.level)) tt)) stands.locked)
     where
       others-lock : Wanted → Type 0
-      others-lock w = (l : Lock) → keeps_record o.commit (holder_of job o) (record_of o r) l ≡ true → l ≡ lock_by boundary_holder no_record w.kind Open → ⊥
+      others-lock w = (l : Lock) → keeps_record o.commit (holder_of job o) (record_of o r) l ≡ true → l ≡ lock_by (of_job job) no_record w.kind Open → ⊥
 
   -- the opens that aren't under commitment control keep theirs at COMMIT and at the end of it
   outside-stays : (call : Call) → IsBoundary call → ((l : Lock) (o : OpenState) (r : ℕ) → keeps_record o.commit (holder_of job o) (record_of o r) l ≡ true → is_committed its o.number ≡ false
-      → is_freed (released call its.level).open_locks boundary_holder no_record (is_committed its) l ≡ false) → new.locks ≡ boundary_locks call job m → new.members ≡ m.members
+      → is_freed (released call its.level).open_locks (of_job job) no_record (is_committed its) l ≡ false) → new.locks ≡ boundary_locks call job m → new.members ≡ m.members
       → (o : OpenState) → StandsIn m job o → (o.commit ≡ false → is_committed its o.number ≡ false) → o.commit ≡ false → StandsIn new job o
   outside-stays call is spared locks members o stands apart outside r current =
       record { live = same-live members o.member r (stands r current).live; locked = boundary-own call is spared locks o r outside (apart outside) (stands r current) }
@@ -542,10 +545,11 @@ module _ (s : State) (new : Memory) (job : ℕ) (sound : IsSound s) (runs : Runs
       (own-mapped _ committed_open (λ e. e.1.commit ≡ false → is_committed its e.1.number ≡ false) refl its-committed (λ e stands apart. own e.1 stands apart))
     where
       spared : (l : Lock) (o : OpenState) (r : ℕ) → keeps_record o.commit (holder_of job o) (record_of o r) l ≡ true → is_committed its o.number ≡ false
-          → is_freed (released Commit its.level).open_locks boundary_holder no_record (is_committed its) l ≡ false
+          → is_freed (released Commit its.level).open_locks (of_job job) no_record (is_committed its) l ≡ false
       spared l o r keeps apart =
           let through = (keeps-is o.commit (holder_of job o) (record_of o r) l keeps).opened in
-          ap (λ which. is_freed which boundary_holder no_record (is_committed its) l) (commit-frees its.level) ∙ ap (λ b. is_of_job job l && b) (ap (is_committed its) through ∙ apart) ∙ and_false (is_of_job job l)
+          ap (λ which. is_freed which (of_job job) no_record (is_committed its) l) (commit-frees its.level) ∙ ap (λ b. is_of_job job l && b) (ap (is_committed its) through ∙ apart)
+          ∙ and_false (is_of_job job l)
 
       own : (o : OpenState) → StandsIn m job o → (o.commit ≡ false → is_committed its o.number ≡ false) → StandsIn new job (committed_open o)
       own o stands apart =
@@ -561,8 +565,8 @@ module _ (s : State) (new : Memory) (job : ℕ) (sound : IsSound s) (runs : Runs
       (λ e outside apart stands. outside-stays EndCommitment tt spared is.locks is.members e.1 stands apart outside) (none-committed its.opens is.opens) its-committed))
     where
       spared : (l : Lock) (o : OpenState) (r : ℕ) → keeps_record o.commit (holder_of job o) (record_of o r) l ≡ true → is_committed its o.number ≡ false
-          → is_freed (released EndCommitment its.level).open_locks boundary_holder no_record (is_committed its) l ≡ false
-      spared l o r keeps apart = ap (λ which. is_freed which boundary_holder no_record (is_committed its) l) (end-frees its.level)
+          → is_freed (released EndCommitment its.level).open_locks (of_job job) no_record (is_committed its) l ≡ false
+      spared l o r keeps apart = ap (λ which. is_freed which (of_job job) no_record (is_committed its) l) (end-frees its.level)
 
   -- ---- what the job has changed is taken back: no other open has it as its current record
 
@@ -573,11 +577,13 @@ module _ (s : State) (new : Memory) (job : ℕ) (sound : IsSound s) (runs : Runs
   }
     where
       changes-locked : AllByRecursion (λ undo. HoldsChange job (record { member = undo.member; rrn = undo.change.place + 1 }) m.locks) (changes_of its.cycle)
-      changes-locked = subst (AllByRecursion (λ undo. HoldsChange job (record { member = undo.member; rrn = undo.change.place + 1 }) m.locks)) (sym (same-changes its.cycle)) (stands-of s job sound runs).locked
+      changes-locked = subst (AllByRecursion (λ undo. HoldsChange job (record { member = undo.member; rrn = undo.change.place + 1 }) m.locks)) (sym (same-changes its.cycle))
+          (stands-of s job sound runs).locked
 
       apart : (number : ℕ) (o : OpenState) (r : ℕ) → number ≢ job → CurrentStands m number o r → AllByRecursion (λ undo. o.member ≡ undo.member → r ≡ undo.change.place + 1 → ⊥) (changes_of its.cycle)
       apart number o r differ stands =
-          all-weaker (λ (undo : MemberChange). HoldsChange job (record { member = undo.member; rrn = undo.change.place + 1 }) m.locks) (λ undo. o.member ≡ undo.member → r ≡ undo.change.place + 1 → ⊥) (changes_of its.cycle)
+          all-weaker (λ (undo : MemberChange). HoldsChange job (record { member = undo.member; rrn = undo.change.place + 1 }) m.locks)
+          (λ undo. o.member ≡ undo.member → r ≡ undo.change.place + 1 → ⊥) (changes_of its.cycle)
           (λ undo holds member same. (
           let at : RecordId = record { member = undo.member; rrn = undo.change.place + 1 } in
           none-keeps job at m.locks o.commit (holder_of number o) differ
@@ -585,9 +591,14 @@ module _ (s : State) (new : Memory) (job : ℕ) (sound : IsSound s) (runs : Runs
           (subst (λ x. list_any (keeps_record o.commit (holder_of number o) x) m.locks ≡ true) (λ i. record { member = member i; rrn = same i }) stands.locked))) changes-locked
 
   rolled-unread : (o : OpenState) → (rolled_back_open o).current ≡ None
-  rolled-unread o = elim o.commit as (λ b. (if b then record o { position = o.boundary; current = None; last_read = None } else record o { current = None; last_read = None }).current ≡ None) [ true ↦ refl | false ↦ refl ]
+  rolled-unread o =
+      elim o.commit as (λ b. (if b then record o { position = o.boundary; current = None; last_read = None } else record o { current = None; last_read = None }).current ≡ None) [
+        | true ↦ refl
+        | false ↦ refl
+      ]
 
-  rollback-stands : IsTakingBack m job new Rollback (λ j. with_opens rolled_back_open (without_cycle j)) → (place : ℕ) (j : JobState) → slice_get new.jobs place ≡ Some j → AllCurrentStand new (place + 1) j
+  rollback-stands : IsTakingBack m job new Rollback (λ j. with_opens rolled_back_open (without_cycle j)) → (place : ℕ) (j : JobState) → slice_get new.jobs place ≡ Some j
+      → AllCurrentStand new (place + 1) j
   rollback-stands is =
       all-jobs (λ j. with_opens rolled_back_open (without_cycle j)) is.jobs (back-stays Rollback is.locks is.members)
       (own-mapped _ rolled_back_open (λ e. Unit {0}) refl (all-each (λ (e : List ℕ × OpenState). Unit {0}) its.opens (λ e. tt)) (λ e stands any r current. absurd (let none = rolled-unread e.1 in cc)))
@@ -605,7 +616,8 @@ module _ (s : State) (new : Memory) (job : ℕ) (sound : IsSound s) (runs : Runs
   closing-stands is =
       all-jobs (without_open is.name) is.jobs
       (λ number o r differ stands. record { live = same-live is.members o.member r stands.live; locked = others-locked Close is.opened 0 is.locks number o r differ stands })
-      (all-filter (λ (e : List ℕ × OpenState). StandsIn m job e.1 × (same_name is.name e.0 ≡ false → e.1.number ≢ is.opened.number)) (λ e. StandsIn new job e.1) (λ e. not (same_name is.name e.0)) its.opens
+      (all-filter (λ (e : List ℕ × OpenState). StandsIn m job e.1 × (same_name is.name e.0 ≡ false → e.1.number ≢ is.opened.number)) (λ e. StandsIn new job e.1)
+      (λ e. not (same_name is.name e.0)) its.opens
       (λ e left both r current. record {
         live = same-live is.members e.1.member r (both.0 r current).live;
         locked = other_open-locked Close is.opened 0 is.locks (none-free Close (level_of its is.opened) tt) e.1 r (both.1 (not_true (same_name is.name e.0) left)) (both.0 r current);
@@ -619,7 +631,8 @@ module _ (s : State) (new : Memory) (job : ℕ) (sound : IsSound s) (runs : Runs
   around-stands : IsAround m new → (place : ℕ) (j : JobState) → slice_get new.jobs place ≡ Some j → AllCurrentStand new (place + 1) j
   around-stands is place j there =
       let before : slice_get m.jobs place ≡ Some j = ap (λ js. slice_get js place) (sym is.jobs) ∙ there in
-      all-both (λ (e : List ℕ × OpenState). StandsIn m (place + 1) e.1) (λ e. (test : List ℕ × OpenState → Bool) → test e ≡ true → list_any test j.opens ≡ true) (λ e. StandsIn new (place + 1) e.1) j.opens
+      all-both (λ (e : List ℕ × OpenState). StandsIn m (place + 1) e.1) (λ e. (test : List ℕ × OpenState → Bool) → test e ≡ true → list_any test j.opens ≡ true)
+      (λ e. StandsIn new (place + 1) e.1) j.opens
       (λ e stands found r current. record {
         live = used before e.1 r (found (λ o. o.1.member == e.1.member)) (stands r current).live;
         locked = subst (λ ls. list_any (keeps_record e.1.commit (holder_of (place + 1) e.1) (record_of e.1 r)) ls ≡ true) (sym is.locks) (stands r current).locked;
@@ -632,7 +645,8 @@ module _ (s : State) (new : Memory) (job : ℕ) (sound : IsSound s) (runs : Runs
           let before : IsSome (record_in (slice_get (slots_of member m) (r - 1))) = subst (λ b. IsSome (record_in (if b then None else slice_get (slots_of member m) (r - 1)))) some live in
           subst (λ b. IsSome (record_in (if b then None else slice_get (slots_of member new) (r - 1)))) (sym some) (subst (λ slots. IsSome (record_in (slice_get slots (r - 1)))) (sym same) before)
 
-      used : slice_get m.jobs place ≡ Some j → (o : OpenState) (r : ℕ) → ((o.member == o.member) ≡ true → has_open_over o.member j ≡ true) → IsSome (live_record o.member r m) → IsSome (live_record o.member r new)
+      used : slice_get m.jobs place ≡ Some j → (o : OpenState) (r : ℕ) → ((o.member == o.member) ≡ true → has_open_over o.member j ≡ true) → IsSome (live_record o.member r m)
+          → IsSome (live_record o.member r new)
       used before o r over live = elim (is.slots o.member) [
         | inl free ↦ absurd (
             let none = (unused-job m o.member place j free before).opens in

@@ -77,9 +77,11 @@ all-in_order P compare (x ∷ xs) all = all-put P compare x (in_order compare xs
 
 format-live : (number : ℕ) (format : PathFormat) (m : Memory) → AreLive format.member m (entries_of number format m.members)
 format-live number format m =
-    all-map (λ (pair : ℕ × List ℕ). Stands format.member m pair.0) (λ (entry : PathEntry). Stands format.member m entry.rrn) (entry_of number format) (selected_of format (member_of format.member m.members).slots)
+    all-map (λ (pair : ℕ × List ℕ). Stands format.member m pair.0) (λ (entry : PathEntry). Stands format.member m entry.rrn) (entry_of number format)
+    (selected_of format (member_of format.member m.members).slots)
     (λ pair stands. stands)
-    (all-filter (λ (pair : ℕ × List ℕ). Stands format.member m pair.0) (λ pair. Stands format.member m pair.0) (λ pair. selects format.rules pair.1) (records_from 1 (member_of format.member m.members).slots)
+    (all-filter (λ (pair : ℕ × List ℕ). Stands format.member m pair.0) (λ pair. Stands format.member m pair.0) (λ pair. selects format.rules pair.1)
+    (records_from 1 (member_of format.member m.members).slots)
     (λ pair passed stands. stands) (records-live format.member m))
 
 items-live : (keyed : Bool) (file : FileState) (opened : OpenState) (m : Memory) → AreLive opened.member m (reading_by keyed file opened m).items

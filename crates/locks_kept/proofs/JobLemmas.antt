@@ -81,7 +81,8 @@ module _ (m new : Memory) (number : ℕ) (change : JobState → JobState) (jobs 
             let first : 1 ≤ other = omega (arith, some) in
             let begun : 1 ≤ number = runs.first in
             let apart : (other - 1) ≢ (number - 1) = λ same. differ (omega (arith, same, first, begun)) in
-            ap or_new (job_at-place other new.jobs first ∙ ap (λ js. slice_get js (other - 1)) jobs ∙ changed-other (number - 1) (other - 1) change m.jobs apart ∙ sym (job_at-place other m.jobs first)))
+            ap or_new (job_at-place other new.jobs first ∙ ap (λ js. slice_get js (other - 1)) jobs ∙ changed-other (number - 1) (other - 1) change m.jobs apart
+            ∙ sym (job_at-place other m.jobs first)))
       ]
 
   -- what holds of the changed job, and of each other as it was
@@ -93,7 +94,8 @@ module _ (m new : Memory) (number : ℕ) (change : JobState → JobState) (jobs 
       elim (cases_eq (place + 1) number) [
         | inl same ↦ (
             let back : (number - 1) ≡ place = omega (arith, same) in
-            let is : Some (change (job_of number m)) ≡ Some job = sym (changed-own (number - 1) change m.jobs (job_of number m) runs.at) ∙ ap (slice_get (job_changed (number - 1) change m.jobs)) back ∙ there in
+            let is : Some (change (job_of number m)) ≡ Some job = sym (changed-own (number - 1) change m.jobs (job_of number m) runs.at)
+            ∙ ap (slice_get (job_changed (number - 1) change m.jobs)) back ∙ there in
             let job_is : change (job_of number m) ≡ job = cc in
             subst (Q (place + 1)) job_is (subst (λ n. Q n (change (job_of number m))) (sym same) own))
         | inr differ ↦ others place job (sym (changed-other (number - 1) place change m.jobs (λ same. differ (omega (arith, same, begun)))) ∙ there) differ

@@ -15,7 +15,7 @@ use Rattle.library_steps.specs.Reads.{open_changed}
 use Rattle.library_steps.specs.ChangeRecord.{is_current, without_record, without_current}
 use Rattle.library_steps.specs.Commitment.{with_level, without_cycle, committed_open, rolled_back_open}
 use Rattle.library_steps.specs.EndJob.{ended_job}
-use Rattle.joint_state.specs.Opens.{IsBefore, AreApart, HasOpens}
+use Rattle.joint_state.specs.Opens.{IsBefore, AreToldApart, HasOpens}
 use Rattle.joint_state.specs.Cycles.{IsUnderControl}
 use Rattle.joint_state.specs.Joint.{IsIdle}
 use Rattle.joint_state.specs.Sound.{Does, after}
@@ -25,7 +25,8 @@ use Rattle.locks_kept.proofs.JobLemmas.{Runs, running-Runs, each-job}
 use Rattle.locks_kept.proofs.OpenLemmas.{named-holds, unnamed-differ, apart-map, apart-filter, apart-append}
 use Rattle.locks_kept.proofs.ListLemmas.{all-append, all-both, all-filter, all-map, all-weaker}
 
-pub record IsSoAlone (job : JobState) : Type 0 where
+-- what holds of a job, whatever locks and records there are
+pub record StandsAlone (job : JobState) : Type 0 where
   pub idle : IsIdle job
   pub control : IsUnderControl job
   pub opens : HasOpens job
@@ -66,7 +67,7 @@ pub record Goes (old new : JobState) (change : OpenState → OpenState) : Type 0
   pub opened : new.opened ≡ old.opened
   pub same : (o : OpenState) → IsSameOpen (change o) o
 
-alone-same : (old new : JobState) (change : OpenState → OpenState) → Goes old new change → old.ended ≡ false → IsSoAlone old → IsSoAlone new
+alone-same : (old new : JobState) (change : OpenState → OpenState) → Goes old new change → old.ended ≡ false → StandsAlone old → StandsAlone new
 alone-same old new change goes running alone = record {
   idle = goes-on new (goes.ended ∙ running);
   control = record {
@@ -76,7 +77,7 @@ alone-same old new change goes running alone = record {
         (alone.control.opens (sym goes.level ∙ none)));
   };
   opens = record {
-    apart = subst AreApart (sym goes.opens) (apart-map change (λ o. (goes.same o).number) old.opens alone.opens.apart);
+    apart = subst AreToldApart (sym goes.opens) (apart-map change (λ o. (goes.same o).number) old.opens alone.opens.apart);
     counted = subst (AllByRecursion (λ e. e.1.number ≤ new.opened)) (sym goes.opens)
         (all-map (λ (e : List ℕ × OpenState). e.1.number ≤ old.opened) (λ e. e.1.number ≤ new.opened) (λ e. (e.0, change e.1)) old.opens
         (λ e few. (let number : (change e.1).number ≡ e.1.number = (goes.same e.1).number in let opened = goes.opened in omega (arith, few, number, opened))) alone.opens.counted);
@@ -86,12 +87,13 @@ alone-same old new change goes running alone = record {
 -- ---- each kind of request
 
 opening-alone : (name : List ℕ) (args : OpenFile) (member : ℕ) (job : JobState) → job.ended ≡ false → AllByRecursion (λ e. same_name args.open_id e.0 ≡ false) job.opens
-    → (args.commit ≡ true → is_some job.level ≡ true) → IsSoAlone job → IsSoAlone (with_open args member job)
+    → (args.commit ≡ true → is_some job.level ≡ true) → StandsAlone job → StandsAlone (with_open args member job)
 opening-alone name args member job running fresh control alone = record {
   idle = goes-on (with_open args member job) running;
   control = record {
     cycle = alone.control.cycle;
-    opens = λ none. all-append (λ (e : List ℕ × OpenState). e.1.commit ≡ false) job.opens ((args.open_id, new_open args (job.opened + 1) member) ∷ []) (alone.control.opens none) (outside none args.commit control, tt);
+    opens = λ none. all-append (λ (e : List ℕ × OpenState). e.1.commit ≡ false) job.opens ((args.open_id, new_open args (job.opened + 1) member) ∷ []) (alone.control.opens none)
+        (outside none args.commit control, tt);
   };
   opens = record {
     apart = apart-append job.opens (args.open_id, new_open args (job.opened + 1) member) alone.opens.apart
@@ -106,12 +108,13 @@ opening-alone name args member job running fresh control alone = record {
     outside none true may = absurd (let started : is_some job.level ≡ true = may refl in let absent : is_some job.level ≡ false = ap is_some none in cc)
     outside none false may = refl
 
-closing-alone : (name : List ℕ) (job : JobState) → job.ended ≡ false → IsSoAlone job → IsSoAlone (without_open name job)
+closing-alone : (name : List ℕ) (job : JobState) → job.ended ≡ false → StandsAlone job → StandsAlone (without_open name job)
 closing-alone name job running alone = record {
   idle = goes-on (without_open name job) running;
   control = record {
     cycle = alone.control.cycle;
-    opens = λ none. all-filter (λ (e : List ℕ × OpenState). e.1.commit ≡ false) (λ e. e.1.commit ≡ false) (λ e. not (same_name name e.0)) job.opens (λ e left outside. outside) (alone.control.opens none);
+    opens = λ none. all-filter (λ (e : List ℕ × OpenState). e.1.commit ≡ false) (λ e. e.1.commit ≡ false) (λ e. not (same_name name e.0)) job.opens (λ e left outside. outside)
+        (alone.control.opens none);
   };
   opens = record {
     apart = apart-filter (λ e. not (same_name name e.0)) job.opens alone.opens.apart;
@@ -136,29 +139,30 @@ none-committed (entry ∷ opens) none =
 
 -- ---- all of them
 
-module _ (m new : Memory) (job : ℕ) (runs : Runs m.jobs job (job_of job m)) (all : (place : ℕ) (j : JobState) → slice_get m.jobs place ≡ Some j → IsSoAlone j) where
-  its : IsSoAlone (job_of job m)
+module _ (m new : Memory) (job : ℕ) (runs : Runs m.jobs job (job_of job m)) (all : (place : ℕ) (j : JobState) → slice_get m.jobs place ≡ Some j → StandsAlone j) where
+  its : StandsAlone (job_of job m)
   its = all (job - 1) (job_of job m) runs.at
 
-  others : (place : ℕ) (j : JobState) → slice_get m.jobs place ≡ Some j → place + 1 ≢ job → IsSoAlone j
+  others : (place : ℕ) (j : JobState) → slice_get m.jobs place ≡ Some j → place + 1 ≢ job → StandsAlone j
   others place j at differ = all place j at
 
   change-alone : (opened : OpenState) (call : Call) (rrn : ℕ) (slot : Slot) (change : OpenState → OpenState) → IsChange m job new opened call rrn slot change
-      → ((o : OpenState) → IsSameOpen (change o) o) → (place : ℕ) (j : JobState) → slice_get new.jobs place ≡ Some j → IsSoAlone j
+      → ((o : OpenState) → IsSameOpen (change o) o) → (place : ℕ) (j : JobState) → slice_get new.jobs place ≡ Some j → StandsAlone j
   change-alone opened call rrn slot change is same =
-      each-job m new job (changing opened.commit is.cycle change) is.jobs runs (λ n j. IsSoAlone j)
+      each-job m new job (changing opened.commit is.cycle change) is.jobs runs (λ n j. StandsAlone j)
       (alone-same (job_of job m) (changing opened.commit is.cycle change (job_of job m)) change
-      (changing-goes opened.commit is.cycle change (job_of job m) (λ none. named-holds (λ (o : OpenState). o.commit ≡ false) is.name (job_of job m).opens opened is.named (its.control.opens none)) same)
+      (changing-goes opened.commit is.cycle change (job_of job m) (λ none. named-holds (λ (o : OpenState). o.commit ≡ false) is.name (job_of job m).opens opened is.named
+      (its.control.opens none)) same)
       runs.goes_on its) others
 
-  pub alone-kept : Effect m job new → (place : ℕ) (j : JobState) → slice_get new.jobs place ≡ Some j → IsSoAlone j
+  pub alone-kept : Effect m job new → (place : ℕ) (j : JobState) → slice_get new.jobs place ≡ Some j → StandsAlone j
   alone-kept (Around is) = λ place j at. all place j (ap (λ js. slice_get js place) (sym is.jobs) ∙ at)
   alone-kept (Opening is) =
-      each-job m new job (with_open is.args is.member) is.jobs runs (λ n j. IsSoAlone j)
+      each-job m new job (with_open is.args is.member) is.jobs runs (λ n j. StandsAlone j)
       (opening-alone is.args.open_id is.args is.member (job_of job m) runs.goes_on (unnamed-differ is.args.open_id (job_of job m).opens is.fresh) is.control its) others
-  alone-kept (Closing is) = each-job m new job (without_open is.name) is.jobs runs (λ n j. IsSoAlone j) (closing-alone is.name (job_of job m) runs.goes_on its) others
+  alone-kept (Closing is) = each-job m new job (without_open is.name) is.jobs runs (λ n j. StandsAlone j) (closing-alone is.name (job_of job m) runs.goes_on its) others
   alone-kept (Use is) =
-      each-job m new job (open_changed is.opened.number is.change) is.jobs runs (λ n j. IsSoAlone j)
+      each-job m new job (open_changed is.opened.number is.change) is.jobs runs (λ n j. StandsAlone j)
       (alone-same (job_of job m) _ (λ o. if o.number == is.opened.number then is.change o else o) (record {
         ended = refl;
         level = refl;
@@ -172,22 +176,33 @@ module _ (m new : Memory) (job : ℕ) (runs : Runs m.jobs job (job_of job m)) (a
   alone-kept (Updating is) = change-alone is.opened Update is.rrn (Live is.image) (unread is.opened.number) is.change (same-unread is.opened.number)
   alone-kept (Deleting is) = change-alone is.opened Delete is.rrn Deleted (without_record is.opened.member is.rrn) is.change (same-without_record is.opened.member is.rrn)
   alone-kept (Start is) =
-      each-job m new job (with_level (Some is.level)) is.jobs runs (λ n j. IsSoAlone j)
-      (record { idle = goes-on _ runs.goes_on; control = record { cycle = λ none. absurd cc; opens = λ none. absurd cc }; opens = record { apart = its.opens.apart; counted = its.opens.counted } }) others
+      each-job m new job (with_level (Some is.level)) is.jobs runs (λ n j. StandsAlone j)
+      (record {
+        idle = goes-on _ runs.goes_on;
+        control = record { cycle = λ none. absurd cc; opens = λ none. absurd cc };
+        opens = record { apart = its.opens.apart; counted = its.opens.counted };
+      }) others
   alone-kept (End is) =
-      each-job m new job (with_level None) is.jobs runs (λ n j. IsSoAlone j)
-      (record { idle = goes-on _ runs.goes_on; control = record { cycle = λ none. is.cycle; opens = λ none. none-committed (job_of job m).opens is.opens }; opens = record { apart = its.opens.apart; counted = its.opens.counted } }) others
+      each-job m new job (with_level None) is.jobs runs (λ n j. StandsAlone j)
+      (record {
+        idle = goes-on _ runs.goes_on;
+        control = record {
+          cycle = λ none. is.cycle;
+          opens = λ none. none-committed (job_of job m).opens is.opens;
+        };
+        opens = record { apart = its.opens.apart; counted = its.opens.counted };
+      }) others
   alone-kept (Committing is) =
-      each-job m new job (λ j. with_opens committed_open (without_cycle j)) is.jobs runs (λ n j. IsSoAlone j)
+      each-job m new job (λ j. with_opens committed_open (without_cycle j)) is.jobs runs (λ n j. StandsAlone j)
       (alone-same (job_of job m) _ committed_open (record { ended = refl; level = refl; cycle = λ none was. refl; opens = refl; opened = refl; same = same-committed }) runs.goes_on its) others
   alone-kept (RollingBack is) =
-      each-job m new job (λ j. with_opens rolled_back_open (without_cycle j)) is.jobs runs (λ n j. IsSoAlone j)
+      each-job m new job (λ j. with_opens rolled_back_open (without_cycle j)) is.jobs runs (λ n j. StandsAlone j)
       (alone-same (job_of job m) _ rolled_back_open (record { ended = refl; level = refl; cycle = λ none was. refl; opens = refl; opened = refl; same = same-rolled_back }) runs.goes_on its) others
   alone-kept (EndingJob is) =
-      each-job m new job ended_job is.jobs runs (λ n j. IsSoAlone j)
+      each-job m new job ended_job is.jobs runs (λ n j. StandsAlone j)
       (record { idle = record { opens = λ e. refl; level = λ e. refl }; control = record { cycle = λ none. refl; opens = λ none. tt }; opens = record { apart = tt; counted = tt } }) others
 
-pub jobs-kept : (s : State) (done : Change) → Does s done → (place : ℕ) (j : JobState) → slice_get (after s done).jobs place ≡ Some j → IsSoAlone j
+pub jobs-kept : (s : State) (done : Change) → Does s done → (place : ℕ) (j : JobState) → slice_get (after s done).jobs place ≡ Some j → StandsAlone j
 jobs-kept s done does =
     alone-kept (memory_of s) done.memory does.job (running-Runs s.jobs does.job does.running)
     (λ place j at. (let stands = does.sound.joint.jobs place j at in record { idle = stands.idle; control = stands.control; opens = stands.opens })) (effect-of s done does)

@@ -58,7 +58,8 @@ module _ (holder : Holder) (at : RecordId) (is_committed : ℕ → Bool) where
   without_boundary-all false P held all = all-weaker P (λ l. P l × (false ≡ true → is_of_group holder.job l ≡ false)) held (λ l holds. (holds, λ e. absurd cc)) all
   without_boundary-all true P held all = all-freed P (λ l. P l × (true ≡ true → is_of_group holder.job l ≡ false)) (is_of_group holder.job) held (λ l left holds. (holds, λ e. left)) all
 
-  with_lock_by-all : (Q : Lock → Type 0) (kind : LockKind) (reach : Reach) (held : List Lock) → Q (lock_by holder at kind reach) → AllByRecursion Q held → AllByRecursion Q (with_lock_by holder at kind reach held)
+  with_lock_by-all : (Q : Lock → Type 0) (kind : LockKind) (reach : Reach) (held : List Lock) → Q (lock_by holder at kind reach) → AllByRecursion Q held
+      → AllByRecursion Q (with_lock_by holder at kind reach held)
   with_lock_by-all Q kind Open held here all = all-with_item lock_cmp Q (lock_by holder at kind Open) held here all
   with_lock_by-all Q kind Boundary held here all =
       all-with_item lock_cmp Q (lock_by holder at kind Boundary) (without_lock (lock_by holder at kind Open) held) here
@@ -113,7 +114,8 @@ module _ (holder : Holder) (at : RecordId) (is_committed : ℕ → Bool) where
       ∙ or_true (test (lock_by holder at kind Boundary)) (list_any test (without_lock (lock_by holder at kind Open) held))
       (any-filter test (λ l. not (is_eq (lock_cmp l (lock_by holder at kind Open)))) held (λ l passes. other-lock l (lock_by holder at kind Open) (differ l passes)) some)
 
-  with_wanted-any : (wanted : Option Wanted) (test : Lock → Bool) (held : List Lock) → IfSome wanted (λ w. (l : Lock) → test l ≡ true → l ≡ lock_by holder at w.kind Open → ⊥) → list_any test held ≡ true
+  with_wanted-any : (wanted : Option Wanted) (test : Lock → Bool) (held : List Lock) → IfSome wanted (λ w. (l : Lock) → test l ≡ true → l ≡ lock_by holder at w.kind Open → ⊥)
+      → list_any test held ≡ true
       → list_any test (with_wanted wanted holder at held) ≡ true
   with_wanted-any None test held differ some = some
   with_wanted-any (Some wanted) test held differ some = with_lock_by-any wanted.kind wanted.reach test held differ some
@@ -130,13 +132,15 @@ module _ (holder : Holder) (at : RecordId) (is_committed : ℕ → Bool) where
 
   -- ---- the lock that is gained
 
-  with_lock_by-gained : (kind : LockKind) (reach : Reach) (test : Lock → Bool) (held : List Lock) → test (lock_by holder at kind reach) ≡ true → list_any test (with_lock_by holder at kind reach held) ≡ true
+  with_lock_by-gained : (kind : LockKind) (reach : Reach) (test : Lock → Bool) (held : List Lock) → test (lock_by holder at kind reach) ≡ true
+      → list_any test (with_lock_by holder at kind reach held) ≡ true
   with_lock_by-gained kind Open test held passes = list_any-with_item lock_cmp lock_cmp-same test (lock_by holder at kind Open) held ∙ ap (λ b. b || list_any test held) passes
   with_lock_by-gained kind Boundary test held passes =
       list_any-with_item lock_cmp lock_cmp-same test (lock_by holder at kind Boundary) (without_lock (lock_by holder at kind Open) held)
       ∙ ap (λ b. b || list_any test (without_lock (lock_by holder at kind Open) held)) passes
 
-  pub after-gained : (call : Call) (level : Option Level) (wanted : Wanted) (test : Lock → Bool) (held : List Lock) → gained call level ≡ Some wanted → test (lock_by holder at wanted.kind wanted.reach) ≡ true
+  pub after-gained : (call : Call) (level : Option Level) (wanted : Wanted) (test : Lock → Bool) (held : List Lock) → gained call level ≡ Some wanted
+      → test (lock_by holder at wanted.kind wanted.reach) ≡ true
       → list_any test (locks_after call level holder at is_committed held) ≡ true
   after-gained call level wanted test held is passes =
       let left = without_open_locks (released call level).open_locks holder at is_committed (without_boundary_locks (released call level).boundary_locks holder.job held) in

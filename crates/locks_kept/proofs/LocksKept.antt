@@ -34,7 +34,7 @@ use Rattle.joint_state.specs.Locks.{LockStands, HasOpenOf, is_through}
 use Rattle.joint_state.specs.Sound.{IsSound, Does, after}
 use Rattle.locks_kept.proofs.AllEffects.{effect-of}
 use Rattle.locks_kept.proofs.ChangeEffects.{IsPlace, same-opens}
-use Rattle.locks_kept.proofs.CompatibleKept.{IsBoundary, boundary-asks, stands-of, current-of}
+use Rattle.locks_kept.proofs.CompatibleKept.{of_job, no_record, IsBoundary, boundary-asks, stands-of, current-of}
 use Rattle.locks_kept.proofs.Effects.{IsSameOpen, IsAround, IsClosing, IsChange, IsTakingBack, changing, unread, slots_of, Effect, Around, Opening, Closing, Use, Writing, Updating, Deleting, Start, End, Committing, RollingBack, EndingJob}
 use Rattle.locks_kept.proofs.JobLemmas.{Runs, running-Runs, job_of-own, job_of-other}
 use Rattle.locks_kept.proofs.JobsKept.{Goes, changing-goes, same-if, same-unread, same-without_record, same-committed, same-rolled_back}
@@ -49,47 +49,51 @@ use Rattle.locks_kept.proofs.TestLemmas.{number-same, or_true}
 
 -- ---- opens through which locks are held
 
+-- the lock is held through one of these opens
+abbrev pub through : Lock → Named OpenState → Bool
+through lock opens = list_any (λ entry. is_through lock entry.1) opens
+
 -- changes of what an open has read don't matter to it
-pub through-map : (lock : Lock) (change : OpenState → OpenState) → ((o : OpenState) → IsSameOpen (change o) o) → (opens : Named OpenState) → list_any (λ (e : List ℕ × OpenState). is_through lock e.1) opens ≡ true
-    → list_any (λ (e : List ℕ × OpenState). is_through lock e.1) (map (λ e. (e.0, change e.1)) opens) ≡ true
+pub through-map : (lock : Lock) (change : OpenState → OpenState) → ((o : OpenState) → IsSameOpen (change o) o) → (opens : Named OpenState) → through lock opens ≡ true
+    → through lock (map (λ e. (e.0, change e.1)) opens) ≡ true
 through-map lock change same [] some = absurd cc
 through-map lock change same (entry ∷ opens) some =
     let it : is_through lock (change entry.1) ≡ is_through lock entry.1 =
     λ i. ((same entry.1).number i == lock.opened) && ((same entry.1).member i == lock.at.member) in
-    elim (is_through lock entry.1) as (λ b. is_through lock entry.1 ≡ b → (b || list_any (λ (e : List ℕ × OpenState). is_through lock e.1) opens) ≡ true
-    → (is_through lock (change entry.1) || list_any (λ (e : List ℕ × OpenState). is_through lock e.1) (map (λ e. (e.0, change e.1)) opens)) ≡ true) [
-      | true ↦ λ e h. ap (λ b. b || list_any (λ (e : List ℕ × OpenState). is_through lock e.1) (map (λ e. (e.0, change e.1)) opens)) (it ∙ e)
-      | false ↦ λ e h. or_true (is_through lock (change entry.1)) (list_any (λ (e : List ℕ × OpenState). is_through lock e.1) (map (λ e. (e.0, change e.1)) opens)) (through-map lock change same opens h)
+    elim (is_through lock entry.1) as (λ b. is_through lock entry.1 ≡ b → (b || through lock opens) ≡ true
+    → (is_through lock (change entry.1) || through lock (map (λ e. (e.0, change e.1)) opens)) ≡ true) [
+      | true ↦ λ e h. ap (λ b. b || through lock (map (λ e. (e.0, change e.1)) opens)) (it ∙ e)
+      | false ↦ λ e h. or_true (is_through lock (change entry.1)) (through lock (map (λ e. (e.0, change e.1)) opens)) (through-map lock change same opens h)
     ] refl some
 
-through-more : (lock : Lock) (opens more : Named OpenState) → list_any (λ (e : List ℕ × OpenState). is_through lock e.1) opens ≡ true → list_any (λ (e : List ℕ × OpenState). is_through lock e.1) (opens ++ more) ≡ true
+through-more : (lock : Lock) (opens more : Named OpenState) → through lock opens ≡ true → through lock (opens ++ more) ≡ true
 through-more lock [] more some = absurd cc
 through-more lock (entry ∷ opens) more some =
-    elim (is_through lock entry.1) as (λ b. (b || list_any (λ (e : List ℕ × OpenState). is_through lock e.1) opens) ≡ true → (b || list_any (λ (e : List ℕ × OpenState). is_through lock e.1) (opens ++ more)) ≡ true) [
+    elim (is_through lock entry.1) as (λ b. (b || through lock opens) ≡ true → (b || through lock (opens ++ more)) ≡ true) [
       | true ↦ λ h. refl
       | false ↦ λ h. through-more lock opens more h
     ] some
 
 -- an open that is named is one of them
 pub through-named : (lock : Lock) (name : List ℕ) (opens : Named OpenState) (opened : OpenState) → named name opens ≡ Some opened → is_through lock opened ≡ true
-    → list_any (λ (e : List ℕ × OpenState). is_through lock e.1) opens ≡ true
-through-named lock name [] opened is through = absurd cc
-through-named lock name (entry ∷ opens) opened is through =
-    elim (same_name name entry.0) as (λ b. cond b (Some entry.1) (named name opens) ≡ Some opened → list_any (λ (e : List ℕ × OpenState). is_through lock e.1) (entry ∷ opens) ≡ true) [
-      | true ↦ λ e. (let same : opened ≡ entry.1 = cc in ap (λ b. b || list_any (λ (e : List ℕ × OpenState). is_through lock e.1) opens) (ap (is_through lock) (sym same) ∙ through))
-      | false ↦ λ e. or_true (is_through lock entry.1) (list_any (λ (e : List ℕ × OpenState). is_through lock e.1) opens) (through-named lock name opens opened e through)
+    → through lock opens ≡ true
+through-named lock name [] opened is its = absurd cc
+through-named lock name (entry ∷ opens) opened is its =
+    elim (same_name name entry.0) as (λ b. cond b (Some entry.1) (named name opens) ≡ Some opened → through lock (entry ∷ opens) ≡ true) [
+      | true ↦ λ e. (let same : opened ≡ entry.1 = cc in ap (λ b. b || through lock opens) (ap (is_through lock) (sym same) ∙ its))
+      | false ↦ λ e. or_true (is_through lock entry.1) (through lock opens) (through-named lock name opens opened e its)
     ] is
 
 -- one of another number stays where an open of this name goes
 through-others : (lock : Lock) (name : List ℕ) (opened : OpenState) (opens : Named OpenState) → AllByRecursion (λ e. same_name name e.0 ≡ true → e.1 ≡ opened) opens
-    → lock.opened ≢ opened.number → list_any (λ (e : List ℕ × OpenState). is_through lock e.1) opens ≡ true → list_any (λ (e : List ℕ × OpenState). is_through lock e.1) (filter (λ e. not (same_name name e.0)) opens) ≡ true
+    → lock.opened ≢ opened.number → through lock opens ≡ true → through lock (filter (λ e. not (same_name name e.0)) opens) ≡ true
 through-others lock name opened [] all differ some = absurd cc
 through-others lock name opened (entry ∷ opens) all differ some =
     elim (same_name name entry.0) as (λ b. same_name name entry.0 ≡ b
-    → list_any (λ (e : List ℕ × OpenState). is_through lock e.1) (cond (not b) (entry ∷ filter (λ e. not (same_name name e.0)) opens) (filter (λ e. not (same_name name e.0)) opens)) ≡ true) [
+    → through lock (cond (not b) (entry ∷ filter (λ e. not (same_name name e.0)) opens) (filter (λ e. not (same_name name e.0)) opens)) ≡ true) [
       | true ↦ λ its. through-others lock name opened opens all.1 differ (rest (all.0 its))
-      | false ↦ λ its. elim (is_through lock entry.1) as (λ b. (b || list_any (λ (e : List ℕ × OpenState). is_through lock e.1) opens) ≡ true
-          → (b || list_any (λ (e : List ℕ × OpenState). is_through lock e.1) (filter (λ e. not (same_name name e.0)) opens)) ≡ true) [
+      | false ↦ λ its. elim (is_through lock entry.1) as (λ b. (b || through lock opens) ≡ true
+          → (b || through lock (filter (λ e. not (same_name name e.0)) opens)) ≡ true) [
             | true ↦ λ h. refl
             | false ↦ λ h. through-others lock name opened opens all.1 differ h
           ] some
@@ -101,8 +105,8 @@ through-others lock name opened (entry ∷ opens) all differ some =
         let other : (entry.1.number == lock.opened) ≡ false = grind (arith, nat_tests, number, differ) in
         rw other refl
 
-    rest : entry.1 ≡ opened → list_any (λ (e : List ℕ × OpenState). is_through lock e.1) opens ≡ true
-    rest is = sym (ap (λ b. b || list_any (λ (e : List ℕ × OpenState). is_through lock e.1) opens) (not_through is)) ∙ some
+    rest : entry.1 ≡ opened → through lock opens ≡ true
+    rest is = sym (ap (λ b. b || through lock opens) (not_through is)) ∙ some
 
 -- ---- the level of a lock that is kept to the boundary
 
@@ -238,9 +242,11 @@ module _ (s : State) (new : Memory) (job : ℕ) (sound : IsSound s) (runs : Runs
       counted = within.0;
       there = within.1;
       opened = λ ends. subst (λ (j : JobState). HasOpenOf j lock) (sym (job_of-own m new job change jobs runs))
-          (subst (λ (opens : Named OpenState). list_any (λ (e : List ℕ × OpenState). is_through lock e.1) opens ≡ true) (sym goes.opens)
-          (through-map lock of_open goes.same its.opens (through-named lock name its.opens opened named (rw (number-same opened.number opened.number refl, number-same opened.member opened.member refl) refl))));
-      started = λ kept. subst (λ (j : JobState). IsSome j.level) (sym (job_of-own m new job change jobs runs)) (subst (λ (l : Option Level). IsSome l) (sym goes.level) (level-started its opened (level kept)));
+          (subst (λ (opens : Named OpenState). through lock opens ≡ true) (sym goes.opens)
+          (through-map lock of_open goes.same its.opens (through-named lock name its.opens opened named
+          (rw (number-same opened.number opened.number refl, number-same opened.member opened.member refl) refl))));
+      started = λ kept. subst (λ (j : JobState). IsSome j.level) (sym (job_of-own m new job change jobs runs))
+          (subst (λ (l : Option Level). IsSome l) (sym goes.level) (level-started its opened (level kept)));
     }
       where
         lock : Lock
@@ -252,7 +258,7 @@ module _ (s : State) (new : Memory) (job : ℕ) (sound : IsSound s) (runs : Runs
         subst (AllByRecursion (LockStands new)) (sym locks)
         (after-all (holder_of job opened) (record_of opened rrn) (is_committed its) call (level_of its opened) (LockStands m) (LockStands new) m.locks
         (λ l left spared stands. stands-after change jobs grows l
-        (λ same ends has. subst (λ (opens : Named OpenState). list_any (λ (e : List ℕ × OpenState). is_through l e.1) opens ≡ true) (sym goes.opens) (through-map l of_open goes.same its.opens has))
+        (λ same ends has. subst (λ (opens : Named OpenState). through l opens ≡ true) (sym goes.opens) (through-map l of_open goes.same its.opens has))
         (λ same kept started. subst (λ (o : Option Level). IsSome o) (sym goes.level) started) stands)
         (some-both (λ w. (1 ≤ rrn) × (rrn ≤ length (slots_of opened.member new))) (λ w. is_open w.reach ≡ false → IsSome (level_of its opened))
         (λ w. LockStands new (lock_by (holder_of job opened) (record_of opened rrn) w.kind w.reach)) (gained call (level_of its opened)) (λ w bounds level. gains bounds w level)
@@ -263,11 +269,13 @@ module _ (s : State) (new : Memory) (job : ℕ) (sound : IsSound s) (runs : Runs
   same-slots members number = let same : length (slots_of number new) ≡ length (slots_of number m) = ap (λ all. length (member_of number all).slots) members in omega (arith, same)
 
   -- a change of a record that its place has, or that makes one
-  change-stands : (opened : OpenState) (call : Call) (rrn : ℕ) (slot : Slot) (of_open : OpenState → OpenState) → IsChange m job new opened call rrn slot of_open → ((o : OpenState) → IsSameOpen (of_open o) o)
+  change-stands : (opened : OpenState) (call : Call) (rrn : ℕ) (slot : Slot) (of_open : OpenState → OpenState) → IsChange m job new opened call rrn slot of_open
+      → ((o : OpenState) → IsSameOpen (of_open o) o)
       → (1 ≤ rrn) × (rrn ≤ length (slots_of opened.member new)) → AllByRecursion (LockStands new) new.locks
   change-stands opened call rrn slot of_open is same within =
       call-stands call is.name opened rrn (changing opened.commit is.cycle of_open) of_open is.named is.jobs
-      (changing-goes opened.commit is.cycle of_open its (λ none. named-holds (λ (o : OpenState). o.commit ≡ false) is.name its.opens opened is.named ((stands-of s job sound runs).control.opens none)) same)
+      (changing-goes opened.commit is.cycle of_open its (λ none. named-holds (λ (o : OpenState). o.commit ≡ false) is.name its.opens opened is.named
+      ((stands-of s job sound runs).control.opens none)) same)
       is.locks (put-grows m new opened.member rrn slot is.members) (some-each _ (asked call (level_of its opened)) (λ w. within))
 
   -- the place of a current record
@@ -312,9 +320,9 @@ module _ (s : State) (new : Memory) (job : ℕ) (sound : IsSound s) (runs : Runs
       → ((number : ℕ) → length (slots_of number m) ≤ length (slots_of number new)) → AllByRecursion (LockStands new) new.locks
   boundary-stands call is change of_open jobs opens same locks grows =
       subst (AllByRecursion (LockStands new)) (sym locks)
-      (after-all (record { job = job; opened = 0 }) (record { member = 0; rrn = 0 }) (is_committed its) call its.level (LockStands m) (LockStands new) m.locks
+      (after-all (of_job job) no_record (is_committed its) call its.level (LockStands m) (LockStands new) m.locks
       (λ l left spared stands. stands-after change jobs grows l
-      (λ own ends has. subst (λ (all : Named OpenState). list_any (λ (e : List ℕ × OpenState). is_through l e.1) all ≡ true) (sym opens) (through-map l of_open same its.opens has))
+      (λ own ends has. subst (λ (all : Named OpenState). through l all ≡ true) (sym opens) (through-map l of_open same its.opens has))
       (λ own kept started. absurd (not-left call is l spared own kept)) stands)
       (boundary-gains call is _) sound.joint.locks)
 
@@ -327,15 +335,15 @@ module _ (s : State) (new : Memory) (job : ℕ) (sound : IsSound s) (runs : Runs
   ending-stands : IsTakingBack m job new EndJob ended_job → AllByRecursion (LockStands new) new.locks
   ending-stands is =
       subst (AllByRecursion (LockStands new)) (sym is.locks)
-      (after-all (record { job = job; opened = 0 }) (record { member = 0; rrn = 0 }) (is_committed its) EndJob its.level (LockStands m) (LockStands new) m.locks
+      (after-all (of_job job) no_record (is_committed its) EndJob its.level (LockStands m) (LockStands new) m.locks
       (λ l left spared stands. stands-after ended_job is.jobs (taken-longer is.members) l
       (λ own ends has. absurd (open-left l left own ends))
       (λ own kept started. absurd (not-left EndJob tt l spared own kept)) stands)
       (boundary-gains EndJob tt _) sound.joint.locks)
     where
-      open-left : (l : Lock) → is_freed (released EndJob its.level).open_locks (record { job = job; opened = 0 }) (record { member = 0; rrn = 0 }) (is_committed its) l ≡ false → l.job ≡ job → is_open l.reach ≡ true → ⊥
+      open-left : (l : Lock) → is_freed (released EndJob its.level).open_locks (of_job job) no_record (is_committed its) l ≡ false → l.job ≡ job → is_open l.reach ≡ true → ⊥
       open-left l left own ends =
-          let none : is_of_job job l ≡ false = sym (ap (λ which. is_freed which (record { job = job; opened = 0 }) (record { member = 0; rrn = 0 }) (is_committed its) l) (frees-job its.level)) ∙ left in
+          let none : is_of_job job l ≡ false = sym (ap (λ which. is_freed which (of_job job) no_record (is_committed its) l) (frees-job its.level)) ∙ left in
           let some : is_of_job job l ≡ true = rw (ends, by-job l own) refl in
           absurd cc
 
@@ -353,7 +361,8 @@ module _ (s : State) (new : Memory) (job : ℕ) (sound : IsSound s) (runs : Runs
       gains-nothing : Wanted → Type 0
       gains-nothing w = LockStands new (lock_by (holder_of job is.opened) (record_of is.opened 0) w.kind w.reach)
 
-      other : (l : Lock) → is_freed (released Close (level_of its is.opened)).open_locks (holder_of job is.opened) (record_of is.opened 0) (is_committed its) l ≡ false → l.job ≡ job → is_open l.reach ≡ true
+      other : (l : Lock) → is_freed (released Close (level_of its is.opened)).open_locks (holder_of job is.opened) (record_of is.opened 0) (is_committed its) l ≡ false → l.job ≡ job
+          → is_open l.reach ≡ true
           → l.opened ≢ is.opened.number
       other l left own ends = λ same. (
           let none : is_of_open (holder_of job is.opened) l ≡ false =
@@ -397,12 +406,14 @@ module _ (s : State) (new : Memory) (job : ℕ) (sound : IsSound s) (runs : Runs
       write-last (inl next) = let at = next.1 in omega (arith, at)
       write-last (inr named) = named.1.last
   locks-left (Updating is) =
-      change-stands is.opened Update is.rrn (Live is.image) (unread is.opened.number) is.change (same-unread is.opened.number) (current-within is.opened Update is.rrn (Live is.image) (unread is.opened.number) is.change is.current)
+      change-stands is.opened Update is.rrn (Live is.image) (unread is.opened.number) is.change (same-unread is.opened.number)
+      (current-within is.opened Update is.rrn (Live is.image) (unread is.opened.number) is.change is.current)
   locks-left (Deleting is) =
       change-stands is.opened Delete is.rrn Deleted (without_record is.opened.member is.rrn) is.change (same-without_record is.opened.member is.rrn)
       (current-within is.opened Delete is.rrn Deleted (without_record is.opened.member is.rrn) is.change is.current)
   locks-left (Start is) = jobs-stand (with_level (Some is.level)) is.jobs is.members is.locks (λ l has. has) (λ level. refl)
-  locks-left (End is) = boundary-stands EndCommitment tt (with_level None) (λ o. o) is.jobs (sym (same-opens its.opens)) (λ o. record { number = refl; member = refl; commit = refl }) is.locks (same-slots is.members)
+  locks-left (End is) = boundary-stands EndCommitment tt (with_level None) (λ o. o) is.jobs (sym (same-opens its.opens)) (λ o. record { number = refl; member = refl; commit = refl }) is.locks
+      (same-slots is.members)
   locks-left (Committing is) = boundary-stands Commit tt (λ j. with_opens committed_open (without_cycle j)) committed_open is.jobs refl same-committed is.locks (same-slots is.members)
   locks-left (RollingBack is) = boundary-stands Rollback tt (λ j. with_opens rolled_back_open (without_cycle j)) rolled_back_open is.jobs refl same-rolled_back is.locks (taken-longer is.members)
   locks-left (EndingJob is) = ending-stands is

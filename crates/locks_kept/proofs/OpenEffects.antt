@@ -27,7 +27,7 @@ use Rattle.library_model.specs.declared.requests.ReadEqual.{ReadEqual}
 use Rattle.library_model.specs.declared.requests.ReadRecord.{ReadRecord}
 use Rattle.library_model.specs.declared.requests.SetPosition.{SetPosition}
 use Rattle.library_steps.specs.State.{Memory, MemberStatus, OpenState, JobState, job_of, open_named, file_named}
-use Rattle.library_steps.specs.Refusals.{found, refuse_if, named_or_refused, member_of_file, OpenedFile, opened_file}
+use Rattle.library_steps.specs.Refusals.{◌>>=◌, found, refuse_if, named_or_refused, member_of_file, OpenedFile, opened_file}
 use Rattle.library_steps.specs.Locking.{level_of, record_of, clashing, few_locks}
 use Rattle.library_steps.specs.Records.{live_record, reading_of, key_asked, number_asked}
 use Rattle.library_steps.specs.Opens.{may_commit, open_plan, open_file, close_file}
@@ -73,10 +73,14 @@ close_file-effect m job args =
 
 -- ---- an open that is named
 
-pub opened_file-named : (name : List ℕ) (job : ℕ) (m : Memory) → Holds (opened_file name job m) (λ its. open_named name job m ≡ Some its.opened)
+opened_file-named : (name : List ℕ) (job : ℕ) (m : Memory) → Holds (opened_file name job m) (λ its. open_named name job m ≡ Some its.opened)
 opened_file-named name job m =
     bind-holds (named_or_refused name (open_named name job m)) (λ opened. open_named name job m ≡ Some opened) _ _ (found-holds _ _) (λ opened is.
     then-holds (named_or_refused opened.file (file_named opened.file m)) _ _ (λ file. record { holds = is }))
+
+pub opened-then : {B : Type 0} (name : List ℕ) (job : ℕ) (m : Memory) (next : OpenedFile → Result B Reply) (P : B → Type 0)
+    → ((its : OpenedFile) → open_named name job m ≡ Some its.opened → Holds (next its) P) → Holds (opened_file name job m >>= next) P
+opened-then name job m next P rest = bind-holds (opened_file name job m) (λ its. open_named name job m ≡ Some its.opened) next P (opened_file-named name job m) rest
 
 -- a call that asks for no lock meets none
 pub asks-nothing : (call : Call) (level : Option Level) → AsksNone call → asked call level ≡ None
@@ -112,7 +116,7 @@ clashes-none call job opened rrn m none =
 position_plan-named : (side : Bound → Position PathEntry) (m : Memory) (job : ℕ) (args : SetPosition) → Holds (position_plan side m job args) (λ new. open_named args.open_id job m ≡ Some new.opened)
 unfolding position_plan
 position_plan-named side m job args =
-    bind-holds (opened_file args.open_id job m) (λ its. open_named args.open_id job m ≡ Some its.opened) _ _ (opened_file-named args.open_id job m) (λ its is.
+    opened-then args.open_id job m _ _ (λ its is.
     then-holds (bound_asked its side args.to) _ _ (λ position. record { holds = is }))
 
 position-effect : (side : Bound → Position PathEntry) (m : Memory) (job : ℕ) (args : SetPosition) → Holds (position_plan side m job args) (λ new. Leaves m job (position_change m job new))
@@ -144,7 +148,7 @@ set_greater_than-effect m job args = does-holds (position_change m job) (positio
 unlock_plan-named : (m : Memory) (job : ℕ) (args : OpenName) → Holds (unlock_plan m job args) (λ it. open_named args.open_id job m ≡ Some it.opened)
 unfolding unlock_plan
 unlock_plan-named m job args =
-    bind-holds (opened_file args.open_id job m) (λ its. open_named args.open_id job m ≡ Some its.opened) _ _ (opened_file-named args.open_id job m) (λ its is.
+    opened-then args.open_id job m _ _ (λ its is.
     then-holds (found its.opened.last_read replies.NoCurrentRecord) _ _ (λ rrn.
     then-holds (refuse_if (not (has_open_lock job its.opened rrn m || has_boundary_lock job its.opened rrn m)) replies.NoCurrentRecord) _ _ (λ locked.
     then-holds (refuse_if (has_boundary_lock job its.opened rrn m) replies.HeldToBoundary) _ _ (λ ends. record { holds = is }))))
@@ -187,7 +191,8 @@ read_call-reads No opened = tt
 lockable-found : (job : ℕ) (m : Memory) (name : List ℕ) (its : OpenedFile) (lock : LockOption) (entry : PathEntry) → open_named name job m ≡ Some its.opened
     → IsSome (live_record its.opened.member entry.rrn m) → Holds (if_lockable job m its lock entry) (IsFound m job name)
 lockable-found job m name its lock entry is live =
-    bind-holds _ (λ passed. clashing (read_call lock its.opened) job its.opened entry.rrn m ≡ None) _ _ (refuse_with-holds _ (clashing (read_call lock its.opened) job its.opened entry.rrn m)) (λ passed free.
+    bind-holds _ (λ passed. clashing (read_call lock its.opened) job its.opened entry.rrn m ≡ None) _ _ (refuse_with-holds _ (clashing (read_call lock its.opened) job its.opened entry.rrn m))
+    (λ passed free.
     then-holds (few_locks (read_call lock its.opened) job its.opened entry.rrn m) _ _ (λ few.
     record { holds = record { named = is; reads = read_call-reads lock its.opened; live = live; free = free } }))
 
@@ -237,7 +242,7 @@ read_plan-found : (find_from : Reading PathEntry → Position PathEntry → Opti
     → ((position : Position PathEntry) → Finds m (λ reading. find_from reading position)) → Holds (read_plan find_from nothing m job args) (IsFound m job args.open_id)
 unfolding read_plan
 read_plan-found find_from nothing m job args finds =
-    bind-holds (opened_file args.open_id job m) (λ its. open_named args.open_id job m ≡ Some its.opened) _ _ (opened_file-named args.open_id job m) (λ its is.
+    opened-then args.open_id job m _ _ (λ its is.
     bind-holds _ (λ entry. IsSome (live_record its.opened.member entry.rrn m)) _ _
     (entry-found job m args.open_id its args.lock (find_from (reading_of its.file its.opened m) its.opened.position) nothing is
     (finds its.opened.position its.opened.member (reading_of its.file its.opened m) (reading-live its.file its.opened m))) (λ entry live.
@@ -257,7 +262,7 @@ read_equal_plan-found : (find_from : Reading PathEntry → List KeyValue → Pos
     → ((key : List KeyValue) (position : Position PathEntry) → Finds m (λ reading. find_from reading key position)) → Holds (read_equal_plan find_from nothing m job args) (IsFound m job args.open_id)
 unfolding read_equal_plan
 read_equal_plan-found find_from nothing m job args finds =
-    bind-holds (opened_file args.open_id job m) (λ its. open_named args.open_id job m ≡ Some its.opened) _ _ (opened_file-named args.open_id job m) (λ its is.
+    opened-then args.open_id job m _ _ (λ its is.
     then-holds (key_asked its.file its.opened args.key) _ _ (λ key.
     bind-holds _ (λ entry. IsSome (live_record its.opened.member entry.rrn m)) _ _
     (entry-found job m args.open_id its args.lock (find_from (reading_of its.file its.opened m) key its.opened.position) nothing is
@@ -285,9 +290,10 @@ chained-live m its (RecordNumber rrn) =
 chain_plan-found : (m : Memory) (job : ℕ) (args : ChainRecord) → Holds (chain_plan m job args) (IsFound m job args.open_id)
 unfolding chain_plan
 chain_plan-found m job args =
-    bind-holds (opened_file args.open_id job m) (λ its. open_named args.open_id job m ≡ Some its.opened) _ _ (opened_file-named args.open_id job m) (λ its is.
+    opened-then args.open_id job m _ _ (λ its is.
     bind-holds (chained its m args.to) (λ item. IfSome item (λ entry. Stands its.opened.member m entry.rrn)) _ _ (chained-live m its args.to) (λ item lives.
-    bind-holds (found item replies.NotFound) (λ entry. IsSome (live_record its.opened.member entry.rrn m)) _ _ (entry-found job m args.open_id its args.lock item replies.NotFound is lives) (λ entry live.
+    bind-holds (found item replies.NotFound) (λ entry. IsSome (live_record its.opened.member entry.rrn m)) _ _ (entry-found job m args.open_id its args.lock item replies.NotFound is lives)
+    (λ entry live.
     lockable-found job m args.open_id its args.lock entry is live)))
 
 pub chain-does : (m : Memory) (job : ℕ) (args : ChainRecord) → Holds (chain m job args) (Leaves m job)

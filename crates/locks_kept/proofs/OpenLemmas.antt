@@ -4,7 +4,7 @@ use Rattle.std.specs.List.{AllByRecursion}
 use Rattle.std.proofs.lemmas.Cmp.{nat_list_eq_equiv}
 use Rattle.library_model.specs.Named.{Named, named, same_name}
 use Rattle.library_steps.specs.State.{OpenState}
-use Rattle.joint_state.specs.Opens.{IsBefore, AreApart}
+use Rattle.joint_state.specs.Opens.{IsBefore, AreToldApart}
 use Rattle.locks_kept.proofs.ListLemmas.{all-append, all-filter, all-map, all-weaker}
 
 -- ---- what holds of each
@@ -31,7 +31,7 @@ unnamed-differ name (entry ∷ things) none =
 -- ---- opens that are apart
 
 -- an open with the number of one that is named is that one
-pub same-number : (name : List ℕ) (opens : Named OpenState) (opened : OpenState) → named name opens ≡ Some opened → AreApart opens
+pub same-number : (name : List ℕ) (opens : Named OpenState) (opened : OpenState) → named name opens ≡ Some opened → AreToldApart opens
     → AllByRecursion (λ e. e.1.number ≡ opened.number → e.1 ≡ opened) opens
 same-number name [] opened is apart = tt
 same-number name (entry ∷ opens) opened is apart =
@@ -51,11 +51,12 @@ same-number name (entry ∷ opens) opened is apart =
     ] is
 
 -- so is an open of its name
-pub same-named : (name : List ℕ) (opens : Named OpenState) (opened : OpenState) → named name opens ≡ Some opened → AreApart opens
+pub same-named : (name : List ℕ) (opens : Named OpenState) (opened : OpenState) → named name opens ≡ Some opened → AreToldApart opens
     → AllByRecursion (λ e. same_name name e.0 ≡ true → e.1 ≡ opened) opens
 same-named name [] opened is apart = tt
 same-named name (entry ∷ opens) opened is apart =
-    elim (same_name name entry.0) as (λ b. same_name name entry.0 ≡ b → cond b (Some entry.1) (named name opens) ≡ Some opened → AllByRecursion (λ e. same_name name e.0 ≡ true → e.1 ≡ opened) (entry ∷ opens)) [
+    elim (same_name name entry.0) as (λ b. same_name name entry.0 ≡ b → cond b (Some entry.1) (named name opens) ≡ Some opened
+    → AllByRecursion (λ e. same_name name e.0 ≡ true → e.1 ≡ opened) (entry ∷ opens)) [
       | true ↦ λ its e. (
         (λ same. (let here : entry.1 ≡ opened = cc in here)),
         all-weaker (IsBefore entry) (λ e. same_name name e.0 ≡ true → e.1 ≡ opened) opens (λ later before same. absurd (
@@ -67,7 +68,7 @@ same-named name (entry ∷ opens) opened is apart =
     ] refl is
 
 -- an open of another name has another number
-pub other-number : (name : List ℕ) (opens : Named OpenState) (opened : OpenState) → named name opens ≡ Some opened → AreApart opens
+pub other-number : (name : List ℕ) (opens : Named OpenState) (opened : OpenState) → named name opens ≡ Some opened → AreToldApart opens
     → AllByRecursion (λ e. same_name name e.0 ≡ false → e.1.number ≢ opened.number) opens
 other-number name [] opened is apart = tt
 other-number name (entry ∷ opens) opened is apart =
@@ -87,8 +88,8 @@ other-number name (entry ∷ opens) opened is apart =
           (λ differ same. absurd (omega (arith, later, same)), other-number name opens opened e apart.1))
     ] refl is
 
-pub apart-map : (change : OpenState → OpenState) → ((opened : OpenState) → (change opened).number ≡ opened.number) → (opens : Named OpenState) → AreApart opens
-    → AreApart (map (λ entry. (entry.0, change entry.1)) opens)
+pub apart-map : (change : OpenState → OpenState) → ((opened : OpenState) → (change opened).number ≡ opened.number) → (opens : Named OpenState) → AreToldApart opens
+    → AreToldApart (map (λ entry. (entry.0, change entry.1)) opens)
 apart-map change same [] apart = tt
 apart-map change same (entry ∷ opens) apart = (
   all-map (IsBefore entry) (IsBefore (entry.0, change entry.1)) (λ e. (e.0, change e.1)) opens
@@ -100,14 +101,14 @@ apart-map change same (entry ∷ opens) apart = (
   apart-map change same opens apart.1,
 )
 
-pub apart-filter : (test : List ℕ × OpenState → Bool) (opens : Named OpenState) → AreApart opens → AreApart (filter test opens)
+pub apart-filter : (test : List ℕ × OpenState → Bool) (opens : Named OpenState) → AreToldApart opens → AreToldApart (filter test opens)
 apart-filter test [] apart = tt
 apart-filter test (entry ∷ opens) apart =
-    elim (test entry) as (λ b. AreApart (cond b (entry ∷ filter test opens) (filter test opens))) [
+    elim (test entry) as (λ b. AreToldApart (cond b (entry ∷ filter test opens) (filter test opens))) [
       | true ↦ (all-filter (IsBefore entry) (IsBefore entry) test opens (λ e passed before. before) apart.0, apart-filter test opens apart.1)
       | false ↦ apart-filter test opens apart.1
     ]
 
-pub apart-append : (opens : Named OpenState) (last : List ℕ × OpenState) → AreApart opens → AllByRecursion (λ e. IsBefore e last) opens → AreApart (opens ++ last ∷ [])
+pub apart-append : (opens : Named OpenState) (last : List ℕ × OpenState) → AreToldApart opens → AllByRecursion (λ e. IsBefore e last) opens → AreToldApart (opens ++ last ∷ [])
 apart-append [] last apart before = (tt, tt)
 apart-append (entry ∷ opens) last apart before = (all-append (IsBefore entry) opens (last ∷ []) apart.0 (before.0, tt), apart-append opens last apart.1 before.1)

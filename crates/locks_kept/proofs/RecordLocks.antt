@@ -62,7 +62,8 @@ keeps-from commit holder at l keeps =
 
 pub none-blocks : (job : ℕ) (at : RecordId) (kind : LockKind) (held : List Lock) → AllByRecursion (λ b. blocks job at kind b ≡ true → ⊥) held → blocker job at kind held ≡ None
 none-blocks job at kind held none =
-    ap least_job (none-filter (blocks job at kind) held (all-weaker (λ (b : Lock). blocks job at kind b ≡ true → ⊥) (λ b. blocks job at kind b ≡ false) held (λ b never. false-from (blocks job at kind b) never) none))
+    ap least_job (none-filter (blocks job at kind) held (all-weaker (λ (b : Lock). blocks job at kind b ≡ true → ⊥) (λ b. blocks job at kind b ≡ false) held
+    (λ b never. false-from (blocks job at kind b) never) none))
   where
     false-from : (b : Bool) → (b ≡ true → ⊥) → b ≡ false
     false-from true never = absurd (never refl)

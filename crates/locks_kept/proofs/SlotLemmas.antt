@@ -113,7 +113,8 @@ member-after : (number : ℕ) (member : MemberState) (members : NumberedMembers)
     → (is_some (member_at number members) ≡ true) × (member_of number (with_member number member members) ≡ member) ⊎ (member_of number (with_member number member members) ≡ member_of number members)
 member-after number member members =
     elim (is_some (member_at number members)) as (λ b. is_some (member_at number members) ≡ b
-    → (is_some (member_at number members) ≡ true) × (member_of number (with_member number member members) ≡ member) ⊎ (member_of number (with_member number member members) ≡ member_of number members)) [
+    → (is_some (member_at number members) ≡ true) × (member_of number (with_member number member members) ≡ member) ⊎
+    (member_of number (with_member number member members) ≡ member_of number members)) [
       | true ↦ λ there. inl (there, ap (λ (o : Option MemberState). unwrap_or o (empty_member 0)) (item_at-with_item_same number member members there))
       | false ↦ λ absent. (
           let none : item_at number members ≡ None = nothing-there (item_at number members) absent in
@@ -123,7 +124,8 @@ member-after number member members =
 module _ (m new : Memory) (number rrn : ℕ) (slot : Slot) (members : new.members ≡ with_member number (slot_put rrn slot (member_of number m.members)) m.members) where
   after-other : (other : ℕ) → other ≢ number → member_of other new.members ≡ member_of other m.members
   after-other other differ =
-      ap (member_of other) members ∙ ap (λ (o : Option MemberState). unwrap_or o (empty_member 0)) (item_at-with_item_other other number (slot_put rrn slot (member_of number m.members)) m.members differ)
+      ap (member_of other) members ∙ ap (λ (o : Option MemberState). unwrap_or o (empty_member 0)) (item_at-with_item_other other number
+      (slot_put rrn slot (member_of number m.members)) m.members differ)
 
   pub put-grows : (other : ℕ) → length (slots_of other m) ≤ length (slots_of other new)
   put-grows other =
@@ -137,7 +139,8 @@ module _ (m new : Memory) (number rrn : ℕ) (slot : Slot) (members : new.member
                   let two : length (slots_of other m) ≡ length (slots_of number m) = ap (λ n. length (slots_of n m)) same in
                   omega (arith, longer, one, two))
               | inr kept ↦ (
-                  let is : member_of other new.members ≡ member_of other m.members = ap (λ n. member_of n new.members) same ∙ ap (member_of number) members ∙ kept ∙ sym (ap (λ n. member_of n m.members) same) in
+                  let is : member_of other new.members ≡ member_of other m.members = ap (λ n. member_of n new.members) same ∙ ap (member_of number) members ∙ kept
+                  ∙ sym (ap (λ n. member_of n m.members) same) in
                   let one : length (slots_of other new) ≡ length (slots_of other m) = ap (λ (x : MemberState). length x.slots) is in
                   omega (arith, one))
             ])
@@ -155,7 +158,8 @@ module _ (m new : Memory) (number rrn : ℕ) (slot : Slot) (members : new.member
                   subst (λ (x : MemberState). IsSome (record_in (slot_at x r))) (sym is)
                   (put-other rrn r slot (member_of number m.members) (apart same) (subst (λ n. IsSome (record_in (slot_at (member_of n m.members) r))) same live)))
               | inr kept ↦ (
-                  let is : member_of other new.members ≡ member_of other m.members = ap (λ n. member_of n new.members) same ∙ ap (member_of number) members ∙ kept ∙ sym (ap (λ n. member_of n m.members) same) in
+                  let is : member_of other new.members ≡ member_of other m.members = ap (λ n. member_of n new.members) same ∙ ap (member_of number) members ∙ kept
+                  ∙ sym (ap (λ n. member_of n m.members) same) in
                   subst (λ (x : MemberState). IsSome (record_in (slot_at x r))) (sym is) live)
             ])
         | inr differ ↦ subst (λ (x : MemberState). IsSome (record_in (slot_at x r))) (sym (after-other other differ)) live
@@ -176,7 +180,8 @@ pub put-behind : (m new : Memory) (number rrn : ℕ) (image : List ℕ) → new.
     → is_some (member_at number m.members) ≡ true → rrn ≤ length (slots_of number m) + 1 → rrn ≤ length (slots_of number new)
 put-behind m new number rrn image members there last =
     let is : member_of number new.members ≡ slot_put rrn (Live image) (member_of number m.members) =
-    ap (member_of number) members ∙ ap (λ (o : Option MemberState). unwrap_or o (empty_member 0)) (item_at-with_item_same number (slot_put rrn (Live image) (member_of number m.members)) m.members there) in
+    ap (member_of number) members ∙ ap (λ (o : Option MemberState). unwrap_or o (empty_member 0)) (item_at-with_item_same number
+    (slot_put rrn (Live image) (member_of number m.members)) m.members there) in
     let one : length (slots_of number new) ≡ length (slot_put rrn (Live image) (member_of number m.members)).slots = ap (λ (x : MemberState). length x.slots) is in
     let two : rrn ≤ length (slot_put rrn (Live image) (member_of number m.members)).slots = longer (member_of number m.members) last in
     omega (arith, one, two)

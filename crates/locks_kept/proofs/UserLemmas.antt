@@ -6,6 +6,7 @@ use Rattle.lock_table.specs.declared.lock.Lock.{Lock}
 use Rattle.lock_table.specs.Lock.{is_open, is_boundary_in}
 use Rattle.library_steps.specs.State.{Memory, OpenState, JobState, job_of, or_new}
 use Rattle.library_steps.specs.Uses.{first_job, user_of, uses, has_open_over, has_changed, has_boundary_lock}
+use Rattle.library_parts.proofs.BackLemmas.{neither}
 use Rattle.joint_state.specs.Locks.{LockStands, is_through}
 use Rattle.locks_kept.proofs.JobLemmas.{job_at-place}
 use Rattle.locks_kept.proofs.ListLemmas.{any-wider}
@@ -24,10 +25,6 @@ first_job-none test number (first ∷ jobs) none place job at =
         → test (number + k) job ≡ false
     by zero is e rest = let same : first ≡ job = cc in let here : number + zero ≡ number = omega arith in ap (λ n. test n job) here ∙ ap (test number) (sym same) ∙ e
     by (suc k) is e rest = let one : number + suc k ≡ number + 1 + k = omega arith in ap (λ n. test n job) one ∙ rest k is
-
-neither : (a b : Bool) → (a || b) ≡ false → (a ≡ false) × (b ≡ false)
-neither true b none = absurd cc
-neither false b none = (refl, none)
 
 -- no job has an open over the member, or a lock there that is kept to its boundary
 pub record IsUnused (member : ℕ) (m : Memory) (number : ℕ) (job : JobState) : Type 0 where
@@ -73,5 +70,6 @@ used-by m l stands begun there free = by (get-there m.jobs (l.job - 1) within)
               (any-wider (λ (e : List ℕ × OpenState). is_through l e.1) (λ e. e.1.member == l.at.member) found.0.opens (λ e through. through-over e.1 through)
               (subst (λ (j : JobState). list_any (λ (e : List ℕ × OpenState). is_through l e.1) j.opens ≡ true) its (stands.opened ends))) unused.opens
           | false ↦ λ kept. contrary (has_boundary_lock l.at.member l.job m.locks)
-              (there (λ lock. (lock.job == l.job) && is_boundary_in l.at.member lock) (rw (number-same l.job l.job refl, number-same l.at.member l.at.member refl, kept) refl)) (subst (λ n. has_boundary_lock l.at.member n m.locks ≡ false) back unused.locks)
+              (there (λ lock. (lock.job == l.job) && is_boundary_in l.at.member lock) (rw (number-same l.job l.job refl, number-same l.at.member l.at.member refl, kept) refl))
+              (subst (λ n. has_boundary_lock l.at.member n m.locks ≡ false) back unused.locks)
         ] refl
