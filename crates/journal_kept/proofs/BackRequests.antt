@@ -1,5 +1,5 @@
 -- ROLLBACK and ENDJOB: each change of an open commit cycle is taken back, the last one first, and the journal tells of each.
-use Rattle.std.proofs.Common.{◌≡◌, ◌≢◌, ℕ, ◌+◌, ◌-◌, ◌<◌, ◌≤◌, ◌==◌, Bool, true, false, cond, filter, List, [], ◌∷◌, ◌++◌, length, Option, Some, None, unwrap_or, Result, Ok, Err, refl, sym, ap, ◌∙◌, subst, arith, inl, inr}
+use Rattle.std.proofs.Common.{◌≡◌, ◌≢◌, ℕ, ◌+◌, ◌-◌, ◌==◌, Bool, true, false, cond, filter, List, [], ◌∷◌, ◌++◌, Option, Some, None, unwrap_or, Ok, refl, sym, ap, ◌∙◌, subst, arith, inl, inr}
 use Rattle.std.specs.List.{AllByRecursion}
 use Rattle.std.specs.Option.{is_some}
 use Rattle.std.proofs.lemmas.Bool.{cases_eq, eq-eqb}
@@ -9,34 +9,33 @@ use Rattle.lock_table.specs.declared.lock.Lock.{Lock}
 use Rattle.lock_table.specs.declared.levels.Call.TheVariants as calls
 use Rattle.member_slots.specs.declared.slot.Slot.{Slot}
 use Rattle.member_slots.specs.Member.{MemberState, changed, empty_member}
-use Rattle.member_slots.specs.Members.{NumberedMembers, member_at, member_of, with_member}
+use Rattle.member_slots.specs.Members.{NumberedMembers, member_at, member_of}
 use Rattle.journal_model.specs.Acts.{cycle_of, is_number}
 use Rattle.journal_model.specs.AtSequence.{IsSo}
 use Rattle.journal_model.specs.Places.{slot_of}
 use Rattle.journal_model.specs.Replay.{before_of, is_in}
 use Rattle.entry_codec.specs.declared.kinds.EntryKind.TheVariants.{CommitCycleRolledBack}
-use Rattle.journal_model.specs.Rollback.{MemberChange, change_drafts, cycle_draft, rollback_drafts, undo_drafts, undo_kinds}
+use Rattle.journal_model.specs.Rollback.{MemberChange, change_drafts, cycle_draft, undo_drafts, undo_kinds}
 use Rattle.library_model.specs.Named.{Named}
 use Rattle.library_model.specs.declared.replies.Reply.{Reply}
 use Rattle.library_model.specs.declared.replies.Reply.TheVariants.{Done, NoDefinition}
-use Rattle.library_steps.specs.State.{State, Memory, FileState, OpenState, CycleState, JobState, job_at, job_changed, job_of, memory_of, new_job, with_job, with_opens}
-use Rattle.library_steps.specs.Change.{Change, does, journaled}
+use Rattle.library_steps.specs.State.{State, Memory, FileState, CycleState, JobState, job_of, memory_of, with_job, with_opens}
+use Rattle.library_steps.specs.Change.{Change, journaled}
 use Rattle.library_steps.specs.Refusals.{found}
 use Rattle.library_steps.specs.Uses.{changes_in}
 use Rattle.library_steps.specs.Drafts.{Author, author_of}
 use Rattle.library_steps.specs.Locking.{with_locks}
-use Rattle.library_steps.specs.Commitment.{boundary_locks, changes_of, rollback, rollback_change, rolled_back, rolled_back_open, taken_back, undo_entries, without_cycle}
-use Rattle.library_steps.specs.EndJob.{definition_entries, end_change, end_drafts, end_job, ended_job, job_ended}
+use Rattle.library_steps.specs.Commitment.{boundary_locks, changes_of, rollback, rollback_change, rolled_back_open, taken_back, undo_entries, without_cycle}
+use Rattle.library_steps.specs.EndJob.{definition_entries, end_change, end_drafts, end_job, ended_job}
 use Rattle.library_parts.specs.Boundaries.{member_back, members_back}
 use Rattle.library_parts.specs.Lawful.{CycleGoesBack, FitsPlace, GoesBack}
 use Rattle.library_parts.proofs.BoundaryLemmas.{cycle_back-is, cycle-places, places-back}
 use Rattle.library_parts.proofs.MemberLemmas.{item_at-with_item_other, member_of-with}
 use Rattle.joint_state.specs.Agreed.{Agrees, StaysJournaled, is_journaled}
 use Rattle.joint_state.specs.Cycles.{StandAsMade}
-use Rattle.joint_state.specs.Joint.{JobStands}
 use Rattle.joint_state.specs.Sound.{IsSound, after}
 use Rattle.journal_kept.proofs.KnownLemmas.{quiet-nothing, quiet-rolled_back}
-use Rattle.journal_kept.proofs.DraftLemmas.{AreOf, IsSilent, SlotLeads, all-append, change_drafts-lead, change_drafts-of, drafts-silent, of-others, slots-append, slots-silent}
+use Rattle.journal_kept.proofs.DraftLemmas.{IsSilent, SlotLeads, all-append, change_drafts-lead, change_drafts-of, of-others, slots-append, slots-silent}
 use Rattle.journal_kept.proofs.StepLemmas.{IsFollowed, given-followed, kept-journaled, known_of, stays-followed}
 use Rattle.journal_kept.proofs.PutLemmas.{slot_of-changed}
 use Rattle.journal_kept.proofs.JobLemmas.{AreChangesJournaled, IsOpenJournaled, all-job_changed, job-of, job-opens, none-open}
@@ -51,7 +50,8 @@ module _ (job : Option (List ℕ)) (moment member place : ℕ) where
       → cond (undo.change.place + 1 - 1 == place) (before_of undo.change) (slot_of (member_of member members).slots place) ≡ slot_of (member_of member (member_back undo members)).slots place
   undone-slot members undo fits own =
       let old = member_of undo.member members in
-      subst (λ (n : ℕ). cond (undo.change.place + 1 - 1 == place) (before_of undo.change) (slot_of (member_of n members).slots place) ≡ slot_of (member_of n (member_back undo members)).slots place) own
+      subst (λ (n : ℕ). cond (undo.change.place + 1 - 1 == place) (before_of undo.change) (slot_of (member_of n members).slots place) ≡ slot_of
+      (member_of n (member_back undo members)).slots place) own
       (slot_of-changed old (undo.change.place + 1) place (before_of undo.change) (omega arith) (let there = fits.place in omega (arith, there))
       ∙ ap (λ (m : MemberState). slot_of m.slots place) (sym (member_of-with undo.member (changed old (undo.change.place + 1) (before_of undo.change)) members fits.there)))
 
@@ -65,13 +65,15 @@ module _ (job : Option (List ℕ)) (moment member place : ℕ) where
         sym stands ∙ (λ i. slot_of (member_of (own i) members).slots (at i))))
     | inr differs ↦
         let same : member_of member (member_back undo members) ≡ member_of member members =
-        ap (λ (o : Option MemberState). unwrap_or o (empty_member 0)) (item_at-with_item_other member undo.member (changed (member_of undo.member members) (undo.change.place + 1) (before_of undo.change)) members (λ e. differs (sym e))) in
+        ap (λ (o : Option MemberState). unwrap_or o (empty_member 0))
+        (item_at-with_item_other member undo.member (changed (member_of undo.member members) (undo.change.place + 1) (before_of undo.change)) members (λ e. differs (sym e))) in
         slots-silent member place known (slot_of (member_of member (member_back undo members)).slots place) _
         (subst (λ (m : MemberState). IsSo known (slot_of m.slots place)) (sym same) so)
         (of-others undo.member member _ (λ e. differs (sym e)) (change_drafts-of job moment undo (undo_kinds (before_of undo.change) undo.change.after)))
   ]
 
-  all-back : (undos : List MemberChange) (members : NumberedMembers) (known : Option Slot) → AllByRecursion (FitsPlace members) undos → StandAsMade undos members → IsSo known (slot_of (member_of member members).slots place)
+  all-back : (undos : List MemberChange) (members : NumberedMembers) (known : Option Slot) → AllByRecursion (FitsPlace members) undos → StandAsMade undos members
+      → IsSo known (slot_of (member_of member members).slots place)
       → SlotLeads member place known (undo_drafts job moment undos) (slot_of (member_of member (members_back undos members)).slots place)
   all-back [] members known fits stand so = slots-silent member place known (slot_of (member_of member members).slots place) [] so tt
   all-back (undo ∷ undos) members known fits stand so =
@@ -88,7 +90,8 @@ module _ (job : Option (List ℕ)) (moment member place : ℕ) where
       (of-others undo.member member _ (λ e. differ.0 (sym e)) (change_drafts-of job moment undo (undo_kinds (before_of undo.change) undo.change.after))) (away-back undos differ.1)
 
 -- the changes of one commit cycle are all of it
-filter-own : (files : Named FileState) (members : NumberedMembers) (n : ℕ) (undos : List MemberChange) → AllByRecursion (GoesBack files members n) undos → filter (λ (c : MemberChange). is_in n c.change) undos ≡ undos
+filter-own : (files : Named FileState) (members : NumberedMembers) (n : ℕ) (undos : List MemberChange) → AllByRecursion (GoesBack files members n) undos
+    → filter (λ (c : MemberChange). is_in n c.change) undos ≡ undos
 filter-own files members n [] back = refl
 filter-own files members n (undo ∷ undos) back =
     let own : is_in n undo.change ≡ true = ap (λ (o : Option ℕ). is_number o n) back.0.cycle ∙ eq-eqb n n refl in
@@ -103,7 +106,8 @@ away-members member (undo ∷ undos) members differ =
     ∙ item_at-with_item_other member undo.member (changed (member_of undo.member members) (undo.change.place + 1) (before_of undo.change)) members (λ e. differ.0 (sym e))
 
 -- where a test of the member fails that each change passes, none is of it
-none-of : (P : MemberChange → Type 0) (member : ℕ) (undos : List MemberChange) → AllByRecursion P undos → ((undo : MemberChange) → P undo → undo.member ≢ member) → AllByRecursion (λ (undo : MemberChange). undo.member ≢ member) undos
+none-of : (P : MemberChange → Type 0) (member : ℕ) (undos : List MemberChange) → AllByRecursion P undos → ((undo : MemberChange) → P undo → undo.member ≢ member)
+    → AllByRecursion (λ (undo : MemberChange). undo.member ≢ member) undos
 none-of P member [] all differ = tt
 none-of P member (undo ∷ undos) all differ = (differ undo all.0, none-of P member undos all.1 differ)
 
@@ -118,7 +122,8 @@ module _ (s : State) (sound : IsSound s) (job : ℕ) where
   fits = cycle-places s.files s.members (job_of job (memory_of s)).cycle back
 
   made : StandAsMade (changes_in (job_of job (memory_of s)).cycle) s.members
-  made = job-of (λ (j : JobState). StandAsMade (changes_in j.cycle) s.members) s job (all-indexed (λ (j : JobState). StandAsMade (changes_in j.cycle) s.members) s.jobs (λ place j at. (sound.joint.jobs place j at).made)) tt
+  made = job-of (λ (j : JobState). StandAsMade (changes_in j.cycle) s.members) s job
+      (all-indexed (λ (j : JobState). StandAsMade (changes_in j.cycle) s.members) s.jobs (λ place j at. (sound.joint.jobs place j at).made)) tt
 
   on : AreChangesJournaled s.files (changes_in (job_of job (memory_of s)).cycle)
   on = (job-of (StaysJournaled s.files) s job sound.agreed.committed (none-open s.files)).changes
@@ -129,18 +134,21 @@ module _ (s : State) (sound : IsSound s) (job : ℕ) where
   entries-lead author None goes stands member place known so = slots-silent member place known (slot_of (member_of member s.members).slots place) [] so tt
   entries-lead author (Some cycle) goes stands member place known so =
       let ending = cycle_draft (Some author.job) author.moment cycle.sequence CommitCycleRolledBack ∷ [] in
-      subst (λ (undos : List MemberChange). SlotLeads member place known (undo_drafts (Some author.job) author.moment undos ++ ending) (slot_of (member_of member (members_back cycle.undos s.members)).slots place))
+      subst (λ (undos : List MemberChange). SlotLeads member place known (undo_drafts (Some author.job) author.moment undos ++ ending)
+      (slot_of (member_of member (members_back cycle.undos s.members)).slots place))
       (sym (filter-own s.files s.members cycle.sequence cycle.undos goes))
       (slots-append member place known (slot_of (member_of member (members_back cycle.undos s.members)).slots place) _ (undo_drafts (Some author.job) author.moment cycle.undos) ending
       (all-back (Some author.job) author.moment member place cycle.undos s.members known (cycle-places s.files s.members (Some cycle) goes) stands so)
       (λ next now. slots-silent member place next _ ending now (inr (λ prior e. quiet-rolled_back (cycle_of e.group)), tt)))
 
-  entries-quiet : (author : Author) (cycle : Option CycleState) → CycleGoesBack s.files s.members cycle → (member : ℕ) → AllByRecursion (λ (undo : MemberChange). undo.member ≢ member) (changes_in cycle)
+  entries-quiet : (author : Author) (cycle : Option CycleState) → CycleGoesBack s.files s.members cycle → (member : ℕ)
+      → AllByRecursion (λ (undo : MemberChange). undo.member ≢ member) (changes_in cycle)
       → AllByRecursion (IsSilent member) (undo_entries author cycle)
   entries-quiet author None goes member differ = tt
   entries-quiet author (Some cycle) goes member differ =
       let ending = cycle_draft (Some author.job) author.moment cycle.sequence CommitCycleRolledBack ∷ [] in
-      subst (λ (undos : List MemberChange). AllByRecursion (IsSilent member) (undo_drafts (Some author.job) author.moment undos ++ ending)) (sym (filter-own s.files s.members cycle.sequence cycle.undos goes))
+      subst (λ (undos : List MemberChange). AllByRecursion (IsSilent member) (undo_drafts (Some author.job) author.moment undos ++ ending))
+      (sym (filter-own s.files s.members cycle.sequence cycle.undos goes))
       (all-append (IsSilent member) (undo_drafts (Some author.job) author.moment cycle.undos) ending (away-back (Some author.job) author.moment member 0 cycle.undos differ)
       (inr (λ prior e. quiet-rolled_back (cycle_of e.group)), tt))
 
@@ -169,7 +177,8 @@ module _ (s : State) (sound : IsSound s) (job : ℕ) where
         let own : is_journaled member s.files ≡ true = subst (λ (n : ℕ). is_journaled n s.files ≡ true) e f in
         absurd cc))
     by true there true own =
-        given-followed s drafts (members_back (changes_in (job_of job (memory_of s)).cycle) s.members) s.files member place _ (leads member place (known_of s member place) (sound.agreed.told member place there).so) refl own
+        given-followed s drafts (members_back (changes_in (job_of job (memory_of s)).cycle) s.members) s.files member place _
+        (leads member place (known_of s member place) (sound.agreed.told member place there).so) refl own
 
   taken : taken_back (changes_of (job_of job (memory_of s)).cycle) (memory_of s) ≡ record (memory_of s) { members = members_back (changes_in (job_of job (memory_of s)).cycle) s.members }
   taken = cycle_back-is s.files (memory_of s) (job_of job (memory_of s)).cycle back
@@ -182,13 +191,15 @@ module _ (s : State) (sound : IsSound s) (job : ℕ) where
       → Agrees (after s (journaled drafts forced reply (with_job job change (with_locks locks (taken_back (changes_of (job_of job (memory_of s)).cycle) (memory_of s))))))
   back-kept drafts forced reply locks change leads quiet each =
       subst (λ (m : Memory). Agrees (after s (journaled drafts forced reply (with_job job change (with_locks locks m))))) (sym taken)
-      (kept-journaled s drafts forced reply (with_job job change (with_locks locks (record (memory_of s) { members = members_back (changes_in (job_of job (memory_of s)).cycle) s.members }))) sound.agreed refl
+      (kept-journaled s drafts forced reply (with_job job change
+      (with_locks locks (record (memory_of s) { members = members_back (changes_in (job_of job (memory_of s)).cycle) s.members }))) sound.agreed refl
       (back-followed drafts leads quiet) (all-job_changed (StaysJournaled s.files) _ change s.jobs each sound.agreed.committed))
 
   at_rollback : (j : JobState) → StaysJournaled s.files j → StaysJournaled s.files (with_opens rolled_back_open (without_cycle j))
   at_rollback j are =
       job-opens s.files rolled_back_open
-      (λ opened holds. elim opened.commit as (λ b. IsOpenJournaled s.files (cond b (record opened { position = opened.boundary; current = None; last_read = None }) (record opened { current = None; last_read = None }))) [
+      (λ opened holds. elim opened.commit as (λ b. IsOpenJournaled s.files
+      (cond b (record opened { position = opened.boundary; current = None; last_read = None }) (record opened { current = None; last_read = None }))) [
         | true ↦ holds
         | false ↦ holds
       ])
@@ -215,5 +226,6 @@ module _ (s : State) (sound : IsSound s) (job : ℕ) where
       (back-kept (end_drafts author j) true Done (boundary_locks calls.EndJob job (memory_of s)) ended_job
       (λ member place known so. slots-append member place known _ _ (undo_entries author j.cycle) (definition_entries author j.level) (entries-lead author j.cycle back made member place known so)
       (λ next now. slots-silent member place next _ (definition_entries author j.level) now (definition-quiet author j.level member)))
-      (λ member differ. all-append (IsSilent member) (undo_entries author j.cycle) (definition_entries author j.level) (entries-quiet author j.cycle back member differ) (definition-quiet author j.level member))
+      (λ member differ. all-append (IsSilent member) (undo_entries author j.cycle) (definition_entries author j.level) (entries-quiet author j.cycle back member differ)
+      (definition-quiet author j.level member))
       (λ k are. record { opens = tt; changes = tt }))

@@ -4,20 +4,19 @@ use Rattle.std.specs.List.{AllByRecursion}
 use Rattle.std.proofs.lemmas.Bool.{cases_eq, eq-eqb, ne_eqb, eqb-true}
 use Rattle.entry_codec.specs.declared.entries.Entry.{Entry}
 use Rattle.entry_codec.specs.declared.entries.Draft.{Draft}
-use Rattle.entry_codec.specs.declared.kinds.Images.{Images}
 use Rattle.entry_codec.specs.declared.kinds.EntryKind.{EntryKind}
 use Rattle.entry_codec.specs.declared.kinds.EntryKind.TheVariants.{FileCreated, FileDeleted, MemberAdded, JournalingStarted, InitialSlot, JournalingEnded, MemberCleared, MemberReorganized, ChangesApplied, ChangesRemoved, RecordAdded, RecordAddedAtNumber, BeforeImage, AfterImage, RecordDeleted, UndoBeforeImage, UndoAfterImage, UndoDelete, CommitmentStarted, CommitCycleStarted, CommitCycleCommitted, CommitCycleRolledBack, CommitmentEnded, AbnormalEnd, NextReceiver, PreviousReceiver}
 use Rattle.entry_codec.specs.Drafts.{numbered}
 use Rattle.member_slots.specs.declared.slot.Slot.{Slot}
 use Rattle.member_slots.specs.declared.slot.Slot.TheVariants.{Live, Deleted}
-use Rattle.journal_model.specs.Acts.{Act, Changed, Journaled, Stood, Nothing, Change, act, act_there, act_elsewhere, acts, cycle_of, entry_before, is_number, place_of}
-use Rattle.journal_model.specs.AtSequence.{known_by, known_after, FollowsKnown, IsChained, IsSo}
+use Rattle.journal_model.specs.Acts.{Act, Changed, Stood, Nothing, Change, act, act_there, act_elsewhere, acts, cycle_of, entry_before, is_number}
+use Rattle.journal_model.specs.AtSequence.{IsSo}
 use Rattle.journal_model.specs.Places.{slot_of, put_slot}
 use Rattle.journal_model.specs.Replay.{before_of}
 use Rattle.journal_model.specs.Rollback.{MemberChange, change_drafts, numbered_from, undo_kinds}
 use Rattle.journal_model.proofs.MemberLemmas.{acts-append}
 use Rattle.journal_model.proofs.PlaceLemmas.{slot_of-put_same, slot_of-put_other}
-use Rattle.library_steps.specs.Drafts.{Author, added, if_both, initial_drafts, member_draft, record_draft, slot_drafts, slot_kinds, updated}
+use Rattle.library_steps.specs.Drafts.{Author, initial_drafts, record_draft, slot_drafts, slot_kinds}
 use Rattle.library_steps.specs.Ranges.{Given, given_drafts}
 use Rattle.journal_kept.proofs.KnownLemmas.{IsQuiet, quiet-nothing, quiet-began, quiet-committed, quiet-rolled_back, Leads, leads-append, leads-quiet, leads-changed, so-changed}
 
@@ -196,7 +195,8 @@ module _ (member place : ℕ) (known : Option Slot) (slot : Slot) (so : IsSo kno
   slot_drafts-lead author cycle both false rrn Deleted (Live image) was =
       one-change (record_draft author cycle member rrn (RecordAddedAtNumber image)) (record { place = rrn - 1; cycle = cycle; before = Some Deleted; after = Live image }) refl (λ prior n. refl) was
   slot_drafts-lead author cycle true behind rrn (Live before) Deleted was =
-      one-change (record_draft author cycle member rrn (RecordDeleted (Some before))) (record { place = rrn - 1; cycle = cycle; before = Some (Live before); after = Deleted }) refl (λ prior n. refl) was
+      one-change (record_draft author cycle member rrn (RecordDeleted (Some before))) (record { place = rrn - 1; cycle = cycle; before = Some (Live before); after = Deleted }) refl
+      (λ prior n. refl) was
   slot_drafts-lead author cycle false behind rrn (Live before) Deleted was =
       one-change (record_draft author cycle member rrn (RecordDeleted None)) (record { place = rrn - 1; cycle = cycle; before = None; after = Deleted }) refl (λ prior n. refl) (λ e. tt)
   slot_drafts-lead author cycle false behind rrn (Live before) (Live image) was =
@@ -223,7 +223,8 @@ module _ (member place : ℕ) (known : Option Slot) (slot : Slot) (so : IsSo kno
       two-images (record { job = job; moment = moment; group = c.change.cycle; member = Some c.member; rrn = Some (c.change.place + 1); kind = UndoBeforeImage after })
       (record { job = job; moment = moment; group = c.change.cycle; member = Some c.member; rrn = Some (c.change.place + 1); kind = UndoAfterImage true before })
       (record { place = c.change.place + 1 - 1; cycle = c.change.cycle; before = Some (Live after); after = Live before }) (ap Some own) (ap Some own) (λ prior n. refl)
-      (λ n k. ap (λ (b : Bool). Changed (record { place = c.change.place + 1 - 1; cycle = c.change.cycle; before = cond b (Some (Live after)) None; after = Live before })) (own-record c.member (c.change.place + 1))) was
+      (λ n k. ap (λ (b : Bool). Changed (record { place = c.change.place + 1 - 1; cycle = c.change.cycle; before = cond b (Some (Live after)) None; after = Live before }))
+      (own-record c.member (c.change.place + 1))) was
     where
       own-record : (member rrn : ℕ) → ((member == member) && (rrn == rrn)) ≡ true
       own-record member rrn = (λ i. eq-eqb member member refl i && eq-eqb rrn rrn refl i)
@@ -291,7 +292,8 @@ given_drafts-lead author cycle member place (g ∷ given) slots known so =
     (λ next so. given_drafts-lead author cycle member place given (put_slot slots g.place g.slot) next so)
 
 -- the records that stand when journaling begins; the slot is that of the list, where it reaches the place
-pub initial_drafts-lead : (author : Author) (member place : ℕ) (slots : List Slot) (base : ℕ) (known : Option Slot) (slot : Slot) → ((k : ℕ) → place ≡ base + k → slot_of slots k ≡ slot) → IsSo known slot
+pub initial_drafts-lead : (author : Author) (member place : ℕ) (slots : List Slot) (base : ℕ) (known : Option Slot) (slot : Slot) → ((k : ℕ) → place ≡ base + k → slot_of slots k ≡ slot)
+    → IsSo known slot
     → SlotLeads member place known (initial_drafts author member (base + 1) slots) slot
 initial_drafts-lead author member place [] base known slot at so = slots-silent member place known slot [] so tt
 initial_drafts-lead author member place (Deleted ∷ slots) base known slot at so = initial_drafts-lead author member place slots (base + 1) known slot (λ k e. at (suc k) (omega (arith, e))) so
@@ -299,7 +301,8 @@ initial_drafts-lead author member place (Live image ∷ slots) base known slot a
     slots-append member place known slot slot (record_draft author None member (base + 1) (InitialSlot image) ∷ []) (initial_drafts author member (base + 1 + 1) slots)
     (record {
       to = cond (base + 1 - 1 == place) (Some (Live image)) known;
-      lead = single member place known (cond (base + 1 - 1 == place) (Some (Live image)) known) (record_draft author None member (base + 1) (InitialSlot image)) (Stood (base + 1 - 1) image) refl (λ prior n. refl)
+      lead = single member place known (cond (base + 1 - 1 == place) (Some (Live image)) known) (record_draft author None member (base + 1) (InitialSlot image))
+          (Stood (base + 1 - 1) image) refl (λ prior n. refl)
           (record { chained = (tt, tt); after = refl });
       so = here (base + 1 - 1 == place) refl;
     })

@@ -1,40 +1,37 @@
 -- CRTPF, ADDPFM and DLTF: members that are new, of which the journal tells nothing yet, and members that go.
-use Rattle.std.proofs.Common.{◌≡◌, ◌≢◌, ℕ, ◌+◌, ◌<◌, ◌≤◌, ◌==◌, ◌||◌, Bool, true, false, cond, List, [], ◌∷◌, ◌++◌, Option, Some, None, IfSome, Result, Ok, Err, refl, sym, ap, ◌∙◌, subst, arith, inl, inr}
+use Rattle.std.proofs.Common.{◌≡◌, ◌≢◌, ℕ, ◌+◌, ◌<◌, ◌==◌, ◌||◌, Bool, true, false, cond, List, [], ◌∷◌, ◌++◌, Option, Some, None, IfSome, Ok, refl, sym, ap, ◌∙◌, subst, arith, inl, inr}
 use Rattle.std.specs.List.{AllByRecursion, IsDistinct, list_any}
 use Rattle.std.specs.Option.{is_some}
 use Rattle.std.specs.Map.{keys_of}
-use Rattle.std.proofs.lemmas.Bool.{cases_eq, eq-eqb, ne_eqb, eqb-false, or_parts}
+use Rattle.std.proofs.lemmas.Bool.{cases_eq, eq-eqb, ne_eqb, or_parts}
 use Rattle.std.proofs.lemmas.Bool.Decides.{nat_tests}
 use Rattle.entry_codec.specs.declared.entries.Entry.{Entry}
 use Rattle.entry_codec.specs.declared.entries.Draft.{Draft}
 use Rattle.entry_codec.specs.declared.kinds.FileKind.TheVariants.{Physical}
 use Rattle.entry_codec.specs.declared.kinds.EntryKind.TheVariants.{FileCreated, FileDeleted, MemberAdded}
-use Rattle.member_slots.specs.declared.slot.Slot.{Slot}
 use Rattle.member_slots.specs.Member.{MemberState, empty_member}
-use Rattle.member_slots.specs.Members.{Numbered, NumberedMembers, item_at, member_at, member_of, put_member, without_item, without_member}
+use Rattle.member_slots.specs.Members.{Numbered, NumberedMembers, item_at, member_at, put_member, without_item, without_member}
 use Rattle.record_fmt.specs.Layout.{record_length}
 use Rattle.journal_model.specs.Acts.{acts, is_number}
 use Rattle.journal_model.specs.Rollback.{MemberChange}
 use Rattle.library_model.specs.Named.{Named, named, same_name}
-use Rattle.library_model.specs.declared.replies.Reply.{Reply}
-use Rattle.library_model.specs.declared.replies.Reply.TheVariants.{Dependents, Done, NameExists, LimitReached}
+use Rattle.library_model.specs.declared.replies.Reply.TheVariants.{Dependents, Done}
 use Rattle.library_model.specs.declared.requests.CreatePhysicalFile.{CreatePhysicalFile}
 use Rattle.library_model.specs.declared.requests.DeleteFile.{DeleteFile}
 use Rattle.library_model.specs.declared.requests.FileMember.{FileMember}
 use Rattle.library_model.specs.declared.sources.NamedSource.{NamedSource}
-use Rattle.file_catalogue.specs.Owners.{Owns, has_number}
+use Rattle.file_catalogue.specs.Owners.{has_number}
 use Rattle.file_catalogue.proofs.NameLemmas.{same_name-equal}
 use Rattle.file_catalogue.proofs.StatusLemmas.{has_number-cons}
 use Rattle.lock_table.specs.declared.lock.Lock.{Lock}
 use Rattle.library_steps.specs.State.{State, Memory, FileState, MemberStatus, OpenState, JobState, fields_of, file_named, memory_of}
-use Rattle.library_steps.specs.Change.{Change, does, journaled}
-use Rattle.library_steps.specs.Refusals.{◌>>=◌, named_or_refused, refuse_if, refuse_with, sequences_left}
+use Rattle.library_steps.specs.Change.{Change, journaled}
+use Rattle.library_steps.specs.Refusals.{named_or_refused, refuse_with, sequences_left}
 use Rattle.library_steps.specs.Uses.{changes_in, has_boundary_lock, has_changed, has_open_over, unused, user_of_any, uses}
-use Rattle.library_steps.specs.Drafts.{Author, author_of, library_draft, member_draft}
-use Rattle.library_steps.specs.CreatePhysicalFile.{NewFile, create_change, create_physical_file, create_plan, new_file, with_file}
-use Rattle.library_steps.specs.MemberCommands.{add_member, add_plan, file_changed, member_added, with_member_name}
+use Rattle.library_steps.specs.Drafts.{author_of, library_draft, member_draft}
+use Rattle.library_steps.specs.CreatePhysicalFile.{create_change, create_physical_file, create_plan, new_file}
+use Rattle.library_steps.specs.MemberCommands.{add_member, add_plan, file_changed, with_member_name}
 use Rattle.library_steps.specs.DeleteFile.{delete_change, delete_file, delete_plan, deleted, first_dependent, without_file, without_members}
-use Rattle.library_parts.specs.Lawful.{IsThere}
 use Rattle.library_parts.proofs.MemberLemmas.{IsThere-is_some, item_at-put_item_other, item_at-without_item_other}
 use Rattle.joint_state.specs.Agreed.{Agrees, StaysJournaled, is_journaled}
 use Rattle.joint_state.specs.Sound.{IsSound, after}
@@ -53,7 +50,8 @@ below-other : (o : Option ℕ) (next : ℕ) → IfSome o (λ number. number < ne
 below-other None next below = refl
 below-other (Some number) next below = ne_eqb number next (λ e. absurd (omega (arith, e, below)))
 
-fresh-acts : (next : ℕ) (prior : Option Entry) (entries : List Entry) → AllByRecursion (λ (e : Entry). IfSome e.member (λ number. number < next)) entries → AllByRecursion IsQuiet (acts next prior entries)
+fresh-acts : (next : ℕ) (prior : Option Entry) (entries : List Entry) → AllByRecursion (λ (e : Entry). IfSome e.member (λ number. number < next)) entries
+    → AllByRecursion IsQuiet (acts next prior entries)
 fresh-acts next prior [] below = tt
 fresh-acts next prior (e ∷ entries) below = (act-elsewhere next prior e (below-other e.member next below.0), fresh-acts next (Some e) entries below.1)
 
@@ -80,7 +78,8 @@ module _ (s : State) (sound : IsSound s) (job timestamp : ℕ) where
       (λ member place. elim (cases_eq member s.next_member) [
         | inl own ↦ subst (λ (n : ℕ). IsFollowed s drafts members files n place) (sym own)
             (broken-followed s drafts members files s.next_member place
-            (subst (DraftsLead s.next_member place (known_of s s.next_member place) drafts) (leads-quiet place None (acts s.next_member None s.entries) (fresh-acts s.next_member None s.entries sound.joint.told.members)).after
+            (subst (DraftsLead s.next_member place (known_of s s.next_member place) drafts)
+            (leads-quiet place None (acts s.next_member None s.entries) (fresh-acts s.next_member None s.entries sound.joint.told.members)).after
             (drafts-silent s.next_member place (known_of s s.next_member place) drafts (quiet s.next_member))))
         | inr differs ↦ stays-followed s drafts members files member place sound.agreed (quiet member)
             (λ at. sym (item_at-put_item_other member s.next_member fresh s.members differs))
@@ -88,19 +87,22 @@ module _ (s : State) (sound : IsSound s) (job timestamp : ℕ) where
       ])
       (wider-jobs s.files files s.jobs (λ n on. same n (λ e. let below = journaled-below n on in absurd (omega (arith, e, below))) ∙ on) sound.agreed.committed)
 
-  pub create_physical_file-kept : (sources : List NamedSource) (args : CreatePhysicalFile) (done : Change) → create_physical_file sources (memory_of s) job timestamp args ≡ Ok done → Agrees (after s done)
+  pub create_physical_file-kept : (sources : List NamedSource) (args : CreatePhysicalFile) (done : Change) → create_physical_file sources (memory_of s) job timestamp args ≡ Ok done
+      → Agrees (after s done)
   create_physical_file-kept sources args done h =
       does-each (create_change (memory_of s) job timestamp args) (create_plan sources (memory_of s) args) done (λ c. Agrees (after s c)) h
       (λ plan is.
       let file = new_file args.file s.next_member plan in
-      new-kept (member_draft (author_of (memory_of s) job timestamp) s.next_member (FileCreated Physical args.file plan.source) ∷ []) (λ member. (inr (λ prior e. quiet-nothing), tt)) (s.files ++ (args.file, file) ∷ []) (empty_member (record_length (fields_of file)))
+      new-kept (member_draft (author_of (memory_of s) job timestamp) s.next_member (FileCreated Physical args.file plan.source) ∷ []) (λ member. (inr (λ prior e. quiet-nothing), tt))
+      (s.files ++ (args.file, file) ∷ []) (empty_member (record_length (fields_of file)))
       (λ n differs. journaled-added n s.next_member args.file args.file file s.files refl))
 
   pub add_member-kept : (args : FileMember) (done : Change) → add_member (memory_of s) job timestamp args ≡ Ok done → Agrees (after s done)
   add_member-kept args done h =
       does-each _ (add_plan (memory_of s) args) done (λ c. Agrees (after s c)) h
       (λ file is.
-      new-kept (member_draft (author_of (memory_of s) job timestamp) s.next_member (MemberAdded args.file args.member) ∷ []) (λ member. (inr (λ prior e. quiet-nothing), tt)) (file_changed args.file (with_member_name args.member s.next_member) s.files) (empty_member (record_length (fields_of file)))
+      new-kept (member_draft (author_of (memory_of s) job timestamp) s.next_member (MemberAdded args.file args.member) ∷ []) (λ member. (inr (λ prior e. quiet-nothing), tt))
+      (file_changed args.file (with_member_name args.member s.next_member) s.files) (empty_member (record_length (fields_of file)))
       (λ n differs. journaled-member_added n s.next_member args.file args.member s.files differs))
 
 -- ---- members that go
@@ -162,8 +164,10 @@ no-use locks number job (entry ∷ statuses) none n has =
 leave-all : (statuses : Named MemberStatus) (m : Memory) → user_of_any statuses m ≡ None → AllByRecursion (LeavesAll statuses) m.jobs
 leave-all statuses m free =
     no-first (λ number job. list_any (λ (entry : List ℕ × MemberStatus). uses entry.1.number m.locks number job) statuses) 1 m.jobs (LeavesAll statuses) (λ number job e. record {
-      opens = λ n has. (or_parts (has_open_over n job) (has_changed n job) (or_parts (has_open_over n job || has_changed n job) (has_boundary_lock n number m.locks) (no-use m.locks number job statuses e n has)).0).0;
-      changes = λ n has. (or_parts (has_open_over n job) (has_changed n job) (or_parts (has_open_over n job || has_changed n job) (has_boundary_lock n number m.locks) (no-use m.locks number job statuses e n has)).0).1;
+      opens = λ n has. (or_parts (has_open_over n job) (has_changed n job)
+          (or_parts (has_open_over n job || has_changed n job) (has_boundary_lock n number m.locks) (no-use m.locks number job statuses e n has)).0).0;
+      changes = λ n has. (or_parts (has_open_over n job) (has_changed n job)
+          (or_parts (has_open_over n job || has_changed n job) (has_boundary_lock n number m.locks) (no-use m.locks number job statuses e n has)).0).1;
     }) free
 
 module _ (files later : Named FileState) (statuses : Named MemberStatus) (wider : (n : ℕ) → has_number n statuses ≡ false → is_journaled n files ≡ true → is_journaled n later ≡ true) where

@@ -1,11 +1,11 @@
 -- Jobs whose opens and commit cycle change: what they have under commitment control stays journaled.
-use Rattle.std.proofs.Common.{◌≡◌, ℕ, zero, suc, ◌+◌, ◌-◌, ◌==◌, Bool, true, false, cond, if◌then◌else◌, not, filter, map, List, [], ◌∷◌, ◌++◌, Option, Some, None, slice_get, refl, sym, ap, ◌∙◌, subst}
+use Rattle.std.proofs.Common.{◌≡◌, ℕ, zero, suc, ◌-◌, ◌==◌, Bool, true, false, cond, if◌then◌else◌, not, filter, map, List, [], ◌∷◌, Option, Some, None, slice_get, refl, subst}
 use Rattle.std.specs.List.{AllByRecursion}
 use Rattle.journal_model.specs.Rollback.{MemberChange}
 use Rattle.library_model.specs.Named.{Named, named, same_name}
-use Rattle.library_steps.specs.State.{FileState, OpenState, CycleState, JobState, Memory, State, job_at, job_changed, job_of, memory_of, new_job, open_named, or_new, with_opens}
+use Rattle.library_steps.specs.State.{FileState, OpenState, CycleState, JobState, Memory, State, job_changed, job_of, memory_of, new_job, or_new, with_opens}
 use Rattle.library_steps.specs.Uses.{changes_in}
-use Rattle.library_steps.specs.SlotChange.{cycle_for, noted, with_cycle}
+use Rattle.library_steps.specs.SlotChange.{cycle_for, noted}
 use Rattle.library_steps.specs.Opens.{without_open}
 use Rattle.joint_state.specs.Agreed.{StaysJournaled, is_journaled}
 
@@ -47,7 +47,8 @@ job-of P s number all none =
     by None each = none
     by (Some job) each = each job refl
 
-pub all-named : {A : Type 0} (P : List ℕ × A → Type 0) (Q : A → Type 0) (name : List ℕ) (things : Named A) (x : A) → ((entry : List ℕ × A) → P entry → Q entry.1) → AllByRecursion P things → named name things ≡ Some x → Q x
+pub all-named : {A : Type 0} (P : List ℕ × A → Type 0) (Q : A → Type 0) (name : List ℕ) (things : Named A) (x : A) → ((entry : List ℕ × A) → P entry → Q entry.1) → AllByRecursion P things
+    → named name things ≡ Some x → Q x
 all-named P Q name [] x each all h = absurd cc
 all-named P Q name (entry ∷ things) x each all h =
     elim (same_name name entry.0) as (λ b. cond b (Some entry.1) (named name things) ≡ Some x → Q x) [
@@ -71,7 +72,8 @@ module _ (files : Named FileState) where
   job-opens change each job are = record { opens = opens-changed change each job.opens are.opens; changes = are.changes }
 
   -- the open of one number
-  pub job-opened : (number : ℕ) (change : OpenState → OpenState) → ((opened : OpenState) → IsOpenJournaled files opened → IsOpenJournaled files (change opened)) → (job : JobState) → StaysJournaled files job
+  pub job-opened : (number : ℕ) (change : OpenState → OpenState) → ((opened : OpenState) → IsOpenJournaled files opened → IsOpenJournaled files (change opened)) → (job : JobState)
+      → StaysJournaled files job
       → StaysJournaled files (with_opens (λ opened. if opened.number == number then change opened else opened) job)
   job-opened number change each job are =
       job-opens (λ opened. if opened.number == number then change opened else opened)
@@ -79,12 +81,14 @@ module _ (files : Named FileState) where
 
   pub job-without_open : (name : List ℕ) (job : JobState) → StaysJournaled files job → StaysJournaled files (without_open name job)
   job-without_open name job are = record {
-    opens = all-filter (λ (entry : List ℕ × OpenState). entry.1.commit ≡ true → is_journaled entry.1.member files ≡ true) (λ (entry : List ℕ × OpenState). not (same_name name entry.0)) job.opens are.opens;
+    opens = all-filter (λ (entry : List ℕ × OpenState). entry.1.commit ≡ true → is_journaled entry.1.member files ≡ true)
+        (λ (entry : List ℕ × OpenState). not (same_name name entry.0)) job.opens are.opens;
     changes = are.changes;
   }
 
   -- one change more in the commit cycle
-  pub changes-noted : (m : Memory) (job : JobState) (undo : MemberChange) → StaysJournaled files job → is_journaled undo.member files ≡ true → AreChangesJournaled files (noted undo (cycle_for m job)).undos
+  pub changes-noted : (m : Memory) (job : JobState) (undo : MemberChange) → StaysJournaled files job → is_journaled undo.member files ≡ true
+      → AreChangesJournaled files (noted undo (cycle_for m job)).undos
   changes-noted m job undo are on = (on, by job.cycle are.changes) where
     by : (cycle : Option CycleState) → AreChangesJournaled files (changes_in cycle) → AreChangesJournaled files (cycle_for m (record job { cycle = cycle })).undos
     by None all = tt

@@ -1,19 +1,16 @@
 -- Requests that leave files, members and the entries of members alone: reads, opens, locks, commitment control, receivers that are attached.
-use Rattle.std.proofs.Common.{◌≡◌, ℕ, ◌+◌, ◌==◌, nat_le, length, Bool, true, false, cond, List, [], ◌∷◌, ◌++◌, Option, Some, None, Result, Ok, Err, refl, sym, ap, ◌∙◌, subst, inr}
+use Rattle.std.proofs.Common.{◌≡◌, ℕ, ◌+◌, nat_le, length, Bool, true, false, cond, List, [], ◌∷◌, Option, Some, None, Result, Ok, Err, refl, sym, ◌∙◌, subst, inr}
 use Rattle.std.specs.List.{AllByRecursion}
 use Rattle.std.specs.Option.{is_none, is_some}
-use Rattle.entry_codec.specs.declared.entries.Entry.{Entry}
 use Rattle.entry_codec.specs.declared.entries.Draft.{Draft}
 use Rattle.entry_codec.specs.declared.kinds.EntryKind.TheVariants.{CommitmentEnded, CommitmentStarted, NextReceiver, PreviousReceiver}
 use Rattle.lock_table.specs.declared.lock.Lock.{Lock}
 use Rattle.lock_table.specs.declared.levels.Call.TheVariants.{EndCommitment, Unlock}
 use Rattle.lock_table.specs.declared.levels.Call.TheVariants as calls
-use Rattle.file_model.specs.Paths.{PathEntry}
-use Rattle.file_model.specs.Positions.{Bound, Position, Reading}
 use Rattle.member_slots.specs.Members.{NumberedMembers}
 use Rattle.commit_level.specs.declared.Level.{Level}
 use Rattle.journal_model.specs.Acts.{cycle_of}
-use Rattle.library_model.specs.Named.{Named, named}
+use Rattle.library_model.specs.Named.{Named}
 use Rattle.library_model.specs.declared.replies.Reply.{Reply}
 use Rattle.library_model.specs.declared.replies.Reply.TheVariants.{NoDefinition, NotJournaled, Done, NameExists, LimitReached}
 use Rattle.library_model.specs.declared.replies.LimitKind.TheVariants.{Opens}
@@ -23,20 +20,20 @@ use Rattle.library_model.specs.declared.requests.StartCommitment.{StartCommitmen
 use Rattle.library_model.specs.declared.requests.DisplayJournal.{DisplayJournal}
 use Rattle.library_steps.specs.State.{State, Memory, FileState, MemberStatus, OpenState, CycleState, JobState, job_of, memory_of, open_named, with_job, with_opens}
 use Rattle.library_steps.specs.Change.{Change, does, journaled, unjournaled}
-use Rattle.library_steps.specs.Refusals.{◌>>=◌, found, member_of_file, refuse_if, named_or_refused}
+use Rattle.library_steps.specs.Refusals.{found, member_of_file, refuse_if, named_or_refused}
 use Rattle.library_steps.specs.Drafts.{Author, author_of, library_draft}
 use Rattle.library_model.specs.declared.limits.TheConstants.{MOST_OPENS}
 use Rattle.library_steps.specs.Locking.{locks_left, with_locks}
-use Rattle.library_steps.specs.Opens.{close_file, closed, may_commit, new_open, open_file, open_plan, with_open, without_open}
+use Rattle.library_steps.specs.Opens.{close_file, may_commit, new_open, open_file, open_plan, with_open, without_open}
 use Rattle.library_steps.specs.Reads.{FoundEntry, NewPosition, has_read, open_changed, position_change, positioned, read_change}
-use Rattle.library_steps.specs.ChangeRecord.{LastRead, unlock, unlock_change, unlock_plan, without_current}
+use Rattle.library_steps.specs.ChangeRecord.{unlock, unlock_change, unlock_plan, without_current}
 use Rattle.library_steps.specs.Commitment.{boundary_locks, commit, commit_change, committed_open, end_commitment, end_drafts, end_plan, start_commitment, start_plan, with_level, without_cycle, at_boundary}
 use Rattle.library_steps.specs.Receivers.{attached, attach_change, attach_plan, change_journal}
 use Rattle.library_steps.specs.Checkpoint.{save, save_change, save_plan}
 use Rattle.library_steps.specs.JournalReads.{display_journal, display_plan}
 use Rattle.joint_state.specs.Agreed.{Agrees, StaysJournaled, is_journaled}
 use Rattle.joint_state.specs.Sound.{IsSound, after}
-use Rattle.range_histories.proofs.ResultLemmas.{bind-ok, found-ok, refuse_if-ok, member_of_file-ok}
+use Rattle.range_histories.proofs.ResultLemmas.{bind-ok, refuse_if-ok, member_of_file-ok}
 use Rattle.journal_kept.proofs.KnownLemmas.{quiet-nothing, quiet-committed}
 use Rattle.journal_kept.proofs.DraftLemmas.{IsSilent, all-append}
 use Rattle.journal_kept.proofs.StatusLemmas.{journaled-found}
@@ -50,7 +47,8 @@ does-each effect (Err reply) done P h each = absurd cc
 
 module _ (s : State) (sound : IsSound s) where
   -- drafts that tell nothing, and jobs that have no more under commitment control
-  pub quiet-kept : (drafts : List Draft) (forced : Bool) (reply : Reply) (m : Memory) → m.gone ≡ s.gone → m.members ≡ s.members → m.files ≡ s.files → ((member : ℕ) → AllByRecursion (IsSilent member) drafts)
+  pub quiet-kept : (drafts : List Draft) (forced : Bool) (reply : Reply) (m : Memory) → m.gone ≡ s.gone → m.members ≡ s.members → m.files ≡ s.files
+      → ((member : ℕ) → AllByRecursion (IsSilent member) drafts)
       → AllByRecursion (StaysJournaled s.files) m.jobs → Agrees (after s (journaled drafts forced reply m))
   quiet-kept drafts forced reply m gone members files quiet jobs =
       kept-journaled s drafts forced reply m sound.agreed gone
@@ -60,7 +58,8 @@ module _ (s : State) (sound : IsSound s) where
 
   -- a job and the locks
   pub job-kept : (drafts : List Draft) (forced : Bool) (reply : Reply) (locks : List Lock) (number : ℕ) (change : JobState → JobState) → ((member : ℕ) → AllByRecursion (IsSilent member) drafts)
-      → ((job : JobState) → StaysJournaled s.files job → StaysJournaled s.files (change job)) → Agrees (after s (journaled drafts forced reply (with_job number change (with_locks locks (memory_of s)))))
+      → ((job : JobState) → StaysJournaled s.files job → StaysJournaled s.files (change job))
+      → Agrees (after s (journaled drafts forced reply (with_job number change (with_locks locks (memory_of s)))))
   job-kept drafts forced reply locks number change quiet each =
       quiet-kept drafts forced reply (with_job number change (with_locks locks (memory_of s))) refl refl refl quiet
       (all-job_changed (StaysJournaled s.files) _ change s.jobs each sound.agreed.committed)
@@ -76,12 +75,14 @@ module _ (s : State) (sound : IsSound s) where
   pub start_commitment-kept : (job timestamp : ℕ) (args : StartCommitment) (done : Change) → start_commitment (memory_of s) job timestamp args ≡ Ok done → Agrees (after s done)
   start_commitment-kept job timestamp args done h =
       does-each _ (start_plan (memory_of s) job) done (λ c. Agrees (after s c)) h
-      (λ started is. job-kept (library_draft (author_of (memory_of s) job timestamp) (CommitmentStarted args.level) ∷ []) false Done s.locks job (with_level (Some args.level)) (λ member. (inr (λ prior e. quiet-nothing), tt)) (same-opens (Some args.level)))
+      (λ started is. job-kept (library_draft (author_of (memory_of s) job timestamp) (CommitmentStarted args.level) ∷ []) false Done s.locks job (with_level (Some args.level))
+      (λ member. (inr (λ prior e. quiet-nothing), tt)) (same-opens (Some args.level)))
 
   pub end_commitment-kept : (job timestamp : ℕ) (done : Change) → end_commitment (memory_of s) job timestamp ≡ Ok done → Agrees (after s done)
   end_commitment-kept job timestamp done h =
       does-each _ (end_plan (memory_of s) job) done (λ c. Agrees (after s c)) h
-      (λ ended is. job-kept (library_draft (author_of (memory_of s) job timestamp) CommitmentEnded ∷ []) false Done (boundary_locks EndCommitment job (memory_of s)) job (with_level None) (λ member. (inr (λ prior e. quiet-nothing), tt)) (same-opens None))
+      (λ ended is. job-kept (library_draft (author_of (memory_of s) job timestamp) CommitmentEnded ∷ []) false Done (boundary_locks EndCommitment job (memory_of s)) job (with_level None)
+      (λ member. (inr (λ prior e. quiet-nothing), tt)) (same-opens None))
 
   end_silent : (author : Author) (cycle : Option CycleState) (member : ℕ) → AllByRecursion (IsSilent member) (end_drafts author cycle)
   end_silent author None member = tt
@@ -130,7 +131,8 @@ module _ (s : State) (sound : IsSound s) where
       does-each _ (open_plan (memory_of s) job args) done (λ c. Agrees (after s c)) h
       (λ status is. job-kept [] false Done s.locks job (with_open args status.number) nothing
       (λ j are. record {
-        opens = all-append (λ (entry : List ℕ × OpenState). entry.1.commit ≡ true → is_journaled entry.1.member s.files ≡ true) j.opens ((args.open_id, new_open args (j.opened + 1) status.number) ∷ []) are.opens
+        opens = all-append (λ (entry : List ℕ × OpenState). entry.1.commit ≡ true → is_journaled entry.1.member s.files ≡ true) j.opens
+            ((args.open_id, new_open args (j.opened + 1) status.number) ∷ []) are.opens
             ((λ on. opened-journaled job args status is on), tt);
         changes = are.changes;
       }))
@@ -142,7 +144,8 @@ module _ (s : State) (sound : IsSound s) where
 
   -- ---- positions and reads
 
-  opened-kept : (reply : Reply) (locks : List Lock) (job number : ℕ) (change : OpenState → OpenState) → ((opened : OpenState) → IsOpenJournaled s.files opened → IsOpenJournaled s.files (change opened))
+  opened-kept : (reply : Reply) (locks : List Lock) (job number : ℕ) (change : OpenState → OpenState)
+      → ((opened : OpenState) → IsOpenJournaled s.files opened → IsOpenJournaled s.files (change opened))
       → Agrees (after s (unjournaled reply (with_job job (open_changed number change) (with_locks locks (memory_of s)))))
   opened-kept reply locks job number change each = job-kept [] false reply locks job (open_changed number change) nothing (job-opened s.files number change each)
 

@@ -1,5 +1,5 @@
 -- The journal agrees after whatever is done, request by request.
-use Rattle.std.proofs.Common.{◌≡◌, ℕ, List, Result, Ok, Err}
+use Rattle.std.proofs.Common.{◌≡◌, ℕ, List, Ok}
 use Rattle.library_model.specs.declared.requests.Request.{Request}
 use Rattle.library_model.specs.declared.requests.Request.TheVariants.{CreatePhysicalFile, CreateLogicalFile, DeleteFile, AddMember, ClearMember, ReorganizeMember, StartJournaling, EndJournaling, ChangeJournal, DeleteReceiver, Checkpoint, DisplayJournal, ApplyChanges, RemoveChanges, StartCommitment, EndCommitment, Commit, Rollback, OpenFile, CloseFile, SetLowerLimit, SetGreaterThan, Read, ReadPrior, ReadEqual, ReadPriorEqual, Chain, Write, Update, Delete, Unlock, EndJob}
 use Rattle.library_model.specs.declared.sources.NamedSource.{NamedSource}
@@ -15,7 +15,8 @@ use Rattle.journal_kept.proofs.BackRequests.{end_job-kept, rollback-kept}
 use Rattle.journal_kept.proofs.MemberRequests.{apply_changes-kept, clear_member-kept, end_journaling-kept, remove_changes-kept, reorganize_member-kept, start_journaling-kept}
 use Rattle.journal_kept.proofs.FileRequests.{add_member-kept, create_physical_file-kept, delete_file-kept}
 
-by_request : (s : State) → IsSound s → (sources : List NamedSource) (job timestamp : ℕ) (request : Request) (done : Change) → change sources s.entries (memory_of s) job timestamp request ≡ Ok done → Agrees (after s done)
+by_request : (s : State) → IsSound s → (sources : List NamedSource) (job timestamp : ℕ) (request : Request) (done : Change)
+    → change sources s.entries (memory_of s) job timestamp request ≡ Ok done → Agrees (after s done)
 unfolding change
 by_request s sound sources job timestamp (CreatePhysicalFile args) done h = create_physical_file-kept s sound job timestamp sources args done h
 by_request s sound sources job timestamp (CreateLogicalFile args) done h = absurd cc

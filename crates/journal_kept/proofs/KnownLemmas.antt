@@ -1,9 +1,8 @@
 -- What acts tell of one record: which tell nothing, and what is known after a slot change that agrees with what was known.
-use Rattle.std.proofs.Common.{◌≡◌, ◌⊎◌, ℕ, Bool, true, false, ◌==◌, cond, List, [], ◌∷◌, ◌++◌, drop, Option, Some, None, refl, sym, ap, ◌∙◌, subst, inl, inr}
+use Rattle.std.proofs.Common.{◌≡◌, ◌⊎◌, ℕ, true, false, ◌==◌, cond, List, [], ◌∷◌, ◌++◌, Option, Some, None, refl, sym, ap, ◌∙◌, subst, inl, inr}
 use Rattle.std.specs.List.{AllByRecursion}
-use Rattle.std.proofs.lemmas.Bool.{eqb-true}
 use Rattle.member_slots.specs.declared.slot.Slot.{Slot}
-use Rattle.journal_model.specs.Acts.{Act, Changed, Began, Committed, RolledBack, Journaled, Stood, Cleared, Reorganized, Ended, Nothing, Change}
+use Rattle.journal_model.specs.Acts.{Act, Changed, Began, Committed, RolledBack, Nothing, Change}
 use Rattle.journal_model.specs.AtSequence.{known_by, known_after, Agrees, FollowsKnown, IsChained, IsSo}
 
 -- ---- acts that tell nothing

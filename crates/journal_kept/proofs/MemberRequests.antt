@@ -1,54 +1,49 @@
 -- CLRPFM, RGZPFM, STRJRNPF, ENDJRNPF, APYJRNCHG and RMVJRNCHG: requests of one member that no job uses.
-use Rattle.std.proofs.Common.{◌≡◌, ◌≢◌, ℕ, ◌+◌, ◌-◌, ◌==◌, ◌||◌, Bool, true, false, cond, map, reverse, List, [], ◌∷◌, ◌++◌, length, Option, Some, None, Result, Ok, Err, refl, sym, ap, ◌∙◌, subst, arith, inl, inr}
+use Rattle.std.proofs.Common.{◌≡◌, ◌≢◌, ℕ, ◌+◌, ◌==◌, ◌||◌, Bool, true, false, cond, map, reverse, List, [], ◌∷◌, ◌++◌, length, Option, Some, None, Ok, refl, sym, ap, ◌∙◌, subst, arith, inl, inr}
 use Rattle.std.specs.List.{AllByRecursion, list_any}
 use Rattle.std.specs.Option.{is_none, is_some}
 use Rattle.std.proofs.lemmas.Bool.{cases_eq, eqb-false, or_parts}
 use Rattle.std.proofs.lemmas.List.{reverse-append, map-append}
 use Rattle.entry_codec.specs.declared.entries.Entry.{Entry}
-use Rattle.entry_codec.specs.declared.entries.Draft.{Draft}
 use Rattle.entry_codec.specs.declared.kinds.EntryKind.{EntryKind}
 use Rattle.entry_codec.specs.declared.kinds.EntryKind.TheVariants.{ChangesApplied, ChangesRemoved, CommitCycleCommitted, CommitCycleStarted, JournalingEnded, JournalingStarted, MemberCleared, MemberReorganized}
-use Rattle.entry_codec.specs.declared.kinds.Images.{Images}
 use Rattle.entry_codec.specs.Drafts.{numbered}
 use Rattle.member_slots.specs.declared.slot.Slot.{Slot}
 use Rattle.member_slots.specs.Member.{MemberState, cleared, records, reorganized}
 use Rattle.member_slots.specs.Members.{NumberedMembers, member_at, member_of, with_member}
 use Rattle.journal_model.specs.Acts.{Act, Cleared, Ended, Journaled, Reorganized, act_there, cycle_of}
-use Rattle.journal_model.specs.AtSequence.{IsChained, IsSo}
+use Rattle.journal_model.specs.AtSequence.{IsSo}
 use Rattle.journal_model.specs.Places.{slot_of, put_slot}
 use Rattle.journal_model.specs.Parts.{applied_part, removed_from, removed_part}
 use Rattle.journal_model.specs.Walks as walks
-use Rattle.journal_model.specs.Ranges.{RangeDone}
 use Rattle.journal_model.specs.Rollback.{MemberChange}
 use Rattle.journal_model.proofs.RangeLemmas.{apply_range-went, remove_range-went}
 use Rattle.journal_model.proofs.WalkLemmas.{ok_from_then, redone, undone}
-use Rattle.library_model.specs.Named.{Named, named}
+use Rattle.library_model.specs.Named.{Named}
 use Rattle.library_model.specs.declared.replies.Reply.{Reply}
 use Rattle.library_model.specs.declared.replies.Reply.TheVariants.{AlreadyStarted, Done, NotJournaled, Range}
 use Rattle.library_model.specs.declared.requests.FileMember.{FileMember}
 use Rattle.library_model.specs.declared.requests.StartJournaling.{StartJournaling}
 use Rattle.library_model.specs.declared.requests.JournaledChanges.{JournaledChanges}
 use Rattle.library_model.specs.declared.requests.Request.TheVariants.{ApplyChanges, RemoveChanges}
-use Rattle.file_catalogue.specs.Owners.{has_number}
-use Rattle.lock_table.specs.declared.lock.Lock.{Lock}
 use Rattle.library_steps.specs.State.{State, Memory, FileState, MemberStatus, OpenState, JobState, memory_of, with_status}
-use Rattle.library_steps.specs.Change.{Change, does, journaled}
-use Rattle.library_steps.specs.Refusals.{◌>>=◌, FoundMember, member_of_file, refuse_if, sequences_left}
+use Rattle.library_steps.specs.Change.{Change, journaled}
+use Rattle.library_steps.specs.Refusals.{FoundMember, member_of_file, refuse_if, sequences_left}
 use Rattle.library_steps.specs.Uses.{changes_in, first_job, has_boundary_lock, has_changed, has_open_over, unused, user_of, uses}
 use Rattle.library_steps.specs.SlotChange.{images_of, status_among}
 use Rattle.library_steps.specs.Drafts.{Author, author_of, cycle_draft, initial_drafts, member_draft}
 use Rattle.library_steps.specs.MemberCommands.{clear_member, empty_plan, if_journaled, renumbered, renumbering, reorganize_member, with_slots}
 use Rattle.library_steps.specs.Journaling.{end_change, end_journaling, end_plan, journaled_from, no_longer_journaled, start_change, start_journaling, start_plan}
-use Rattle.library_steps.specs.Ranges.{Given, RangeWork, apply_changes, before_or_deleted, given_back, given_drafts, given_forward, range_change, remove_changes, slots_now, told, with_range}
+use Rattle.library_steps.specs.Ranges.{Given, RangeWork, before_or_deleted, given_back, given_drafts, given_forward, range_change, slots_now, told}
 use Rattle.library_parts.proofs.MemberLemmas.{item_at-with_item_other, member_of-with}
 use Rattle.joint_state.specs.Agreed.{Agrees, StaysJournaled, is_journaled}
 use Rattle.joint_state.specs.Sound.{IsSound, after}
 use Rattle.range_histories.specs.Ranges.{IsDone}
-use Rattle.range_histories.proofs.ResultLemmas.{bind-ok, member_of_file-ok, refuse_if-ok, unused-ok}
-use Rattle.range_histories.proofs.WorkLemmas.{IsApplied, IsRemoved, is_applied, is_removed}
+use Rattle.range_histories.proofs.ResultLemmas.{bind-ok, member_of_file-ok, unused-ok}
+use Rattle.range_histories.proofs.WorkLemmas.{is_applied, is_removed}
 use Rattle.range_histories.proofs.HistoryLemmas.{named-is_there}
 use Rattle.journal_kept.proofs.KnownLemmas.{Leads, quiet-began, quiet-committed, quiet-nothing}
-use Rattle.journal_kept.proofs.DraftLemmas.{AreOf, DraftsLead, IsQuietKind, IsSilent, SlotLeads, all-append, drafts-append, drafts-none, given_drafts-lead, given_drafts-of, initial_drafts-lead, initial_drafts-of, of-others, put_all, single, slots-append, slots-silent}
+use Rattle.journal_kept.proofs.DraftLemmas.{DraftsLead, IsQuietKind, IsSilent, SlotLeads, all-append, drafts-none, given_drafts-lead, given_drafts-of, initial_drafts-lead, initial_drafts-of, of-others, put_all, single, slots-append, slots-silent}
 use Rattle.journal_kept.proofs.StatusLemmas.{all_changed, journaled-found, journaled-here, journaled-others, journaled-same, status-found}
 use Rattle.journal_kept.proofs.StepLemmas.{IsFollowed, broken-followed, given-followed, kept-journaled, known_of, nothing-there, stays-followed, wider-jobs}
 use Rattle.journal_kept.proofs.JobLemmas.{AreChangesJournaled, AreOpensJournaled}
@@ -62,7 +57,8 @@ pub record IsFound (s : State) (status : MemberStatus) : Type 0 where
   pub among : status_among status.number s.files ≡ Some status
   pub unused : user_of status.number (memory_of s) ≡ None
 
-found-named : (s : State) → IsSound s → (file_name member_name : List ℕ) (it : FoundMember) → member_of_file file_name member_name (memory_of s) ≡ Ok it → user_of it.status.number (memory_of s) ≡ None → IsFound s it.status
+found-named : (s : State) → IsSound s → (file_name member_name : List ℕ) (it : FoundMember) → member_of_file file_name member_name (memory_of s) ≡ Ok it
+    → user_of it.status.number (memory_of s) ≡ None → IsFound s it.status
 found-named s sound file_name member_name it h free =
     let both = member_of_file-ok file_name member_name (memory_of s) it h in
     record {
@@ -110,10 +106,12 @@ module _ (s : State) (sound : IsSound s) where
 
 -- ---- jobs that don't use a member
 
-pub no-first : (test : ℕ → JobState → Bool) (number : ℕ) (jobs : List JobState) (P : JobState → Type 0) → ((n : ℕ) (job : JobState) → test n job ≡ false → P job) → first_job test number jobs ≡ None → AllByRecursion P jobs
+pub no-first : (test : ℕ → JobState → Bool) (number : ℕ) (jobs : List JobState) (P : JobState → Type 0) → ((n : ℕ) (job : JobState) → test n job ≡ false → P job)
+    → first_job test number jobs ≡ None → AllByRecursion P jobs
 no-first test number [] P each h = tt
 no-first test number (job ∷ jobs) P each h = by (test number job) refl h (λ g. no-first test (number + 1) jobs P each g) where
-  by : (b : Bool) → test number job ≡ b → cond b (Some number) (first_job test (number + 1) jobs) ≡ None → (first_job test (number + 1) jobs ≡ None → AllByRecursion P jobs) → AllByRecursion P (job ∷ jobs)
+  by : (b : Bool) → test number job ≡ b → cond b (Some number) (first_job test (number + 1) jobs) ≡ None → (first_job test (number + 1) jobs ≡ None → AllByRecursion P jobs)
+      → AllByRecursion P (job ∷ jobs)
   by true e g more = absurd cc
   by false e g more = (each number job e, more g)
 
@@ -164,13 +162,16 @@ module _ (s : State) (sound : IsSound s) (job timestamp : ℕ) where
   -- ---- CLRPFM and RGZPFM
 
   renumbered-number : (sequence : ℕ) (status : MemberStatus) → (renumbered sequence status).number ≡ status.number
-  renumbered-number sequence status = elim (is_some status.images) as (λ b. (cond b (record status { last_break = sequence }) (record status { changed = true })).number ≡ status.number) [ true ↦ refl | false ↦ refl ]
+  renumbered-number sequence status = elim (is_some status.images) as
+      (λ b. (cond b (record status { last_break = sequence }) (record status { changed = true })).number ≡ status.number) [ true ↦ refl | false ↦ refl ]
 
   renumbered-images : (sequence : ℕ) (status : MemberStatus) → (renumbered sequence status).images ≡ status.images
-  renumbered-images sequence status = elim (is_some status.images) as (λ b. (cond b (record status { last_break = sequence }) (record status { changed = true })).images ≡ status.images) [ true ↦ refl | false ↦ refl ]
+  renumbered-images sequence status = elim (is_some status.images) as
+      (λ b. (cond b (record status { last_break = sequence }) (record status { changed = true })).images ≡ status.images) [ true ↦ refl | false ↦ refl ]
 
   renumbering-kept : (kind : EntryKind) (change : MemberState → MemberState) (a : Act) → ((member place : ℕ) (known : Option Slot) → Leads place known (a ∷ []) None)
-      → ((number : ℕ) (prior : Option Entry) (n : ℕ) → act_there kind prior (numbered (member_draft (author_of (memory_of s) job timestamp) number kind) n) ≡ a) → (status : MemberStatus) → IsFound s status
+      → ((number : ℕ) (prior : Option Entry) (n : ℕ) → act_there kind prior (numbered (member_draft (author_of (memory_of s) job timestamp) number kind) n) ≡ a) → (status : MemberStatus)
+      → IsFound s status
       → Agrees (after s (renumbering (memory_of s) job timestamp kind change status))
   renumbering-kept kind change a leads reads status found =
       let sequence = (memory_of s).last_entry + 1 in
@@ -199,17 +200,20 @@ module _ (s : State) (sound : IsSound s) (job timestamp : ℕ) where
       by members files false off place =
           let none = (sound.agreed.told status.number place found.there).silent (nothing-there (images_of status.number (memory_of s)) (found.found ∙ off)) in
           subst (λ (b : Bool). IsFollowed s (if_journaled b (member_draft (author_of (memory_of s) job timestamp) status.number kind)) members files status.number place) (sym off)
-          (broken-followed s [] members files status.number place (subst (DraftsLead status.number place (known_of s status.number place) []) none (drafts-none status.number place (known_of s status.number place))))
+          (broken-followed s [] members files status.number place
+          (subst (DraftsLead status.number place (known_of s status.number place) []) none (drafts-none status.number place (known_of s status.number place))))
 
   pub clear_member-kept : (args : FileMember) (done : Change) → clear_member (memory_of s) job timestamp args ≡ Ok done → Agrees (after s done)
   clear_member-kept args done h =
       does-each (renumbering (memory_of s) job timestamp MemberCleared cleared) (empty_plan (memory_of s) args) done (λ c. Agrees (after s c)) h
-      (λ status is. renumbering-kept MemberCleared cleared Cleared (λ member place known. record { chained = (tt, tt); after = refl }) (λ number prior n. refl) status (empty_plan-ok s sound args status is))
+      (λ status is. renumbering-kept MemberCleared cleared Cleared (λ member place known. record { chained = (tt, tt); after = refl }) (λ number prior n. refl) status
+      (empty_plan-ok s sound args status is))
 
   pub reorganize_member-kept : (args : FileMember) (done : Change) → reorganize_member (memory_of s) job timestamp args ≡ Ok done → Agrees (after s done)
   reorganize_member-kept args done h =
       does-each (renumbering (memory_of s) job timestamp MemberReorganized reorganized) (empty_plan (memory_of s) args) done (λ c. Agrees (after s c)) h
-      (λ status is. renumbering-kept MemberReorganized reorganized Reorganized (λ member place known. record { chained = (tt, tt); after = refl }) (λ number prior n. refl) status (empty_plan-ok s sound args status is))
+      (λ status is. renumbering-kept MemberReorganized reorganized Reorganized (λ member place known. record { chained = (tt, tt); after = refl }) (λ number prior n. refl) status
+      (empty_plan-ok s sound args status is))
 
   -- ---- STRJRNPF
 
@@ -265,7 +269,8 @@ module _ (s : State) (sound : IsSound s) (job timestamp : ℕ) where
         | inr differs ↦ stays-followed s drafts s.members later member place sound.agreed (of-others number member drafts differs (refl, tt))
             (λ at. refl) (λ at off. sym (journaled-others number turn (λ st. refl) member s.files differs) ∙ off)
       ])
-      (unused-jobs s.files later number s.jobs (leave-alone number (memory_of s) found.unused) (λ n differs on. journaled-others number turn (λ st. refl) n s.files differs ∙ on) sound.agreed.committed)
+      (unused-jobs s.files later number s.jobs (leave-alone number (memory_of s) found.unused)
+      (λ n differs on. journaled-others number turn (λ st. refl) n s.files differs ∙ on) sound.agreed.committed)
 
   pub end_journaling-kept : (args : FileMember) (done : Change) → end_journaling (memory_of s) job timestamp args ≡ Ok done → Agrees (after s done)
   end_journaling-kept args done h =
@@ -316,8 +321,15 @@ module _ (author : Author) (cycle number : ℕ) (kind : EntryKind) (quiet : IsQu
   told-silent : (slots : List Slot) (given : List Given) (other : ℕ) → other ≢ number → AllByRecursion (IsSilent other) (told author cycle number kind slots given)
   told-silent slots [] other differs = (inr quiet, tt)
   told-silent slots (g ∷ given) other differs =
-      all-append (IsSilent other) (member_draft author number kind ∷ cycle_draft author cycle CommitCycleStarted ∷ given_drafts author cycle number slots (g ∷ given)) (cycle_draft author cycle CommitCycleCommitted ∷ [])
-      (inr quiet, (inr (λ prior e. quiet-began (cycle_of e.group)), of-others number other (given_drafts author cycle number slots (g ∷ given)) differs (given_drafts-of author cycle number slots (g ∷ given))))
+      all-append (IsSilent other) (member_draft author number kind ∷ cycle_draft author cycle CommitCycleStarted ∷ given_drafts author cycle number slots (g ∷ given))
+      (cycle_draft author cycle CommitCycleCommitted ∷ []) (
+        inr quiet,
+        (
+          inr (λ prior e. quiet-began (cycle_of e.group)),
+          of-others number other (given_drafts author cycle number slots (g ∷ given)) differs
+              (given_drafts-of author cycle number slots (g ∷ given)),
+        ),
+      )
       (inr (λ prior e. quiet-committed (cycle_of e.group)), tt)
 
 module _ (s : State) (sound : IsSound s) where
@@ -354,7 +366,8 @@ module _ (s : State) (sound : IsSound s) where
       = journaled-found s.files args.file args.member r.named.file r.range.status sound.names sound.apart r.named.there r.named.has ∙ some-images r.range.status.images r.named.journaled in
       let there = named-is_there s args.file args.member r.named.file r.range.status sound.library r.named.there r.named.has in
       let given : put_all (slots_now r.range (memory_of s)) (given_forward r.walk.changes) ≡ r.walk.slots
-      = ap (λ (ns : List walks.Numbered). put_all (slots_now r.range (memory_of s)) (given_forward ns)) went.changes ∙ forward-is (walks.numbered r.range.first (applied_part r.range.acts)) (slots_now r.range (memory_of s)) r.walk.slots went.walked in
+      = ap (λ (ns : List walks.Numbered). put_all (slots_now r.range (memory_of s)) (given_forward ns)) went.changes ∙ forward-is (walks.numbered r.range.first (applied_part r.range.acts))
+      (slots_now r.range (memory_of s)) r.walk.slots went.walked in
       subst (λ (c : Change). Agrees (after s c)) r.is (subst (λ (w : RangeWork). Agrees (after s (range_change (memory_of s) w))) r.makes
       (range-kept (author_of (memory_of s) r.job r.timestamp) ((memory_of s).last_entry + 2) (ChangesApplied r.walk.first r.walk.last (length r.walk.changes)) (λ prior e. quiet-nothing)
       (Range r.walk.first r.walk.last (length r.walk.changes)) r.range.status.number (given_forward r.walk.changes) r.walk.slots given there own))
@@ -367,7 +380,8 @@ module _ (s : State) (sound : IsSound s) where
       = journaled-found s.files args.file args.member r.named.file r.range.status sound.names sound.apart r.named.there r.named.has ∙ some-images r.range.status.images r.named.journaled in
       let there = named-is_there s args.file args.member r.named.file r.range.status sound.library r.named.there r.named.has in
       let given : put_all (slots_now r.range (memory_of s)) (given_back r.walk.changes) ≡ r.walk.slots
-      = ap (λ (ns : List walks.Numbered). put_all (slots_now r.range (memory_of s)) (given_back ns)) went.changes ∙ back-is (walks.numbered (removed_from r.range.first r.range.acts) (removed_part r.range.acts)) (slots_now r.range (memory_of s)) r.walk.slots went.walked in
+      = ap (λ (ns : List walks.Numbered). put_all (slots_now r.range (memory_of s)) (given_back ns)) went.changes ∙ back-is
+      (walks.numbered (removed_from r.range.first r.range.acts) (removed_part r.range.acts)) (slots_now r.range (memory_of s)) r.walk.slots went.walked in
       subst (λ (c : Change). Agrees (after s c)) r.is (subst (λ (w : RangeWork). Agrees (after s (range_change (memory_of s) w))) r.makes
       (range-kept (author_of (memory_of s) r.job r.timestamp) ((memory_of s).last_entry + 2) (ChangesRemoved r.walk.first r.walk.last (length r.walk.changes)) (λ prior e. quiet-nothing)
       (Range r.walk.first r.walk.last (length r.walk.changes)) r.range.status.number (given_back r.walk.changes) r.walk.slots given there own))

@@ -1,10 +1,10 @@
 -- The slots of a member after one was put, as a change that takes it back finds them and as the journal tells them.
-use Rattle.std.proofs.Common.{◌≡◌, ◌⊎◌, ℕ, zero, suc, ◌+◌, ◌-◌, ◌<◌, ◌≤◌, ◌==◌, Bool, true, false, cond, List, [], ◌∷◌, ◌++◌, length, slice_get, slice_set, Option, Some, None, IsSome, is_some, unwrap_or, refl, sym, ap, ◌∙◌, subst, arith, inl, inr, rules}
+use Rattle.std.proofs.Common.{◌≡◌, ◌⊎◌, ℕ, zero, suc, ◌+◌, ◌-◌, ◌<◌, ◌≤◌, ◌==◌, Bool, true, false, cond, List, [], ◌∷◌, ◌++◌, length, slice_get, slice_set, None, IsSome, is_some, unwrap_or, refl, sym, ap, ◌∙◌, subst, arith, inl, inr}
 use Rattle.std.proofs.lemmas.Bool.{cases_eq, eq-eqb, ne_eqb}
 use Rattle.std.proofs.lemmas.Bool.Decides.{nat_tests}
 use Rattle.member_slots.specs.declared.slot.Slot.{Slot}
 use Rattle.member_slots.specs.declared.slot.Slot.TheVariants.{Live, Deleted}
-use Rattle.member_slots.specs.Member.{MemberState, appended, changed, is_live, slot_at}
+use Rattle.member_slots.specs.Member.{MemberState, changed, is_live}
 use Rattle.member_slots.specs.Members.{member_of}
 use Rattle.journal_model.specs.Places.{slot_of}
 use Rattle.library_steps.specs.State.{Memory}

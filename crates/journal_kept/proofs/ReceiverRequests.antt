@@ -1,12 +1,12 @@
 -- DLTJRNRCV: without a front of the entries the others tell less, and nothing else.
-use Rattle.std.proofs.Common.{◌≡◌, ◌⊎◌, ℕ, ◌+◌, ◌-◌, Bool, true, false, ◌==◌, cond, List, [], ◌∷◌, ◌++◌, take, drop, Option, Some, None, is_some, Result, Ok, Err, refl, sym, ap, ◌∙◌, subst, inl, inr}
+use Rattle.std.proofs.Common.{◌≡◌, ◌⊎◌, ℕ, ◌-◌, Bool, true, false, ◌==◌, cond, List, [], ◌∷◌, ◌++◌, take, drop, Option, Some, None, Ok, refl, sym, ap, ◌∙◌, subst, inl, inr}
 use Rattle.std.proofs.lemmas.List.{take-append-drop, append-nil}
 use Rattle.entry_codec.specs.declared.entries.Entry.{Entry}
 use Rattle.entry_codec.specs.declared.kinds.EntryKind.{EntryKind}
 use Rattle.entry_codec.specs.declared.kinds.EntryKind.TheVariants.{FileCreated, FileDeleted, MemberAdded, JournalingStarted, InitialSlot, JournalingEnded, MemberCleared, MemberReorganized, ChangesApplied, ChangesRemoved, RecordAdded, RecordAddedAtNumber, BeforeImage, RecordDeleted, UndoBeforeImage, UndoDelete, CommitmentStarted, CommitCycleStarted, CommitCycleCommitted, CommitCycleRolledBack, CommitmentEnded, AbnormalEnd, NextReceiver, PreviousReceiver, AfterImage, UndoAfterImage}
 use Rattle.member_slots.specs.declared.slot.Slot.{Slot}
 use Rattle.member_slots.specs.declared.slot.Slot.TheVariants.{Live}
-use Rattle.member_slots.specs.Members.{member_at, member_of}
+use Rattle.member_slots.specs.Members.{member_of}
 use Rattle.journal_model.specs.Acts.{Act, Changed, Began, Committed, RolledBack, Journaled, Stood, Cleared, Reorganized, Ended, Nothing, Change as SlotChange, act, act_there, act_elsewhere, acts, entry_before, held_before, is_number, place_of, undone_from, updated_from}
 use Rattle.journal_model.specs.AtSequence.{known_by, known_after, FollowsKnown, IsChained, IsSo}
 use Rattle.journal_model.specs.Places.{slot_of}
@@ -15,7 +15,6 @@ use Rattle.journal_model.proofs.SequenceLemmas.{IsChained-rest}
 use Rattle.library_model.specs.declared.requests.DeleteReceiver.{DeleteReceiver}
 use Rattle.library_steps.specs.State.{State, memory_of}
 use Rattle.library_steps.specs.Change.{Change}
-use Rattle.library_steps.specs.SlotChange.{images_of}
 use Rattle.library_steps.specs.Receivers.{delete_receiver, give_up_plan}
 use Rattle.joint_state.specs.Agreed.{Agrees}
 use Rattle.joint_state.specs.Sound.{IsSound, after}
@@ -117,7 +116,8 @@ drop-less member place n entries h =
     let parts : acts member None entries ≡ acts member None (take n entries) ++ acts member prior (drop n entries)
     = ap (acts member None) (sym (take-append-drop n entries)) ∙ acts-append member None (take n entries) (drop n entries) in
     let known = known_after place None (acts member None (take n entries)) in
-    let rest = rest-less member place prior known (drop n entries) (IsChained-rest place None (acts member None (take n entries)) (acts member prior (drop n entries)) (subst (IsChained place None) parts h)) in
+    let rest = rest-less member place prior known (drop n entries)
+    (IsChained-rest place None (acts member None (take n entries)) (acts member prior (drop n entries)) (subst (IsChained place None) parts h)) in
     let all : known_after place None (acts member None entries) ≡ known_after place known (acts member prior (drop n entries))
     = ap (known_after place None) parts ∙ known_after-append place None (acts member None (take n entries)) (acts member prior (drop n entries)) in
     (rest.0, subst (IsLess (known_after place None (acts member None (drop n entries)))) (sym all) rest.1)
@@ -129,7 +129,8 @@ delete_receiver-kept s sound args done h =
       told = λ member place there. record {
         so = subst (λ (es : List Entry). IsSo (known_after place None (acts member None es)) (slot_of (member_of member s.members).slots place)) (sym (left last))
             (less-so _ _ _ (less last member place).1 (sound.agreed.told member place there).so);
-        silent = λ none. ap (λ (es : List Entry). known_after place None (acts member None es)) (left last) ∙ less-none _ _ (less last member place).1 ((sound.agreed.told member place there).silent none);
+        silent = λ none. ap (λ (es : List Entry). known_after place None (acts member None es)) (left last) ∙ less-none _ _ (less last member place).1
+            ((sound.agreed.told member place there).silent none);
       };
       committed = sound.agreed.committed;
     })

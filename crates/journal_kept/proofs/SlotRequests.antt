@@ -1,10 +1,9 @@
 -- WRITE, UPDATE and DELETE: one slot of a member becomes another, and the journal tells of it where it keeps the member's images.
-use Rattle.std.proofs.Common.{◌≡◌, ◌≢◌, ◌⊎◌, ℕ, ◌+◌, ◌-◌, ◌<◌, ◌≤◌, nat_lt, ◌==◌, ◌||◌, ◌&&◌, Bool, true, false, cond, not, suc, slice_get, List, [], ◌∷◌, ◌++◌, length, Option, Some, None, IsSome, Result, Ok, Err, refl, sym, ap, ◌∙◌, subst, arith, inl, inr}
+use Rattle.std.proofs.Common.{◌≡◌, ◌≢◌, ◌⊎◌, ℕ, ◌+◌, ◌-◌, ◌≤◌, nat_lt, ◌==◌, ◌||◌, Bool, true, false, cond, suc, slice_get, List, [], ◌∷◌, length, Option, Some, None, IsSome, Ok, refl, sym, ap, ◌∙◌, subst, arith, inl, inr}
 use Rattle.std.specs.List.{AllByRecursion}
-use Rattle.std.specs.Option.{is_some, option_and_then}
+use Rattle.std.specs.Option.{is_some}
 use Rattle.std.proofs.lemmas.Bool.{cases_eq, or_parts}
 use Rattle.std.proofs.lemmas.Bool.Decides.{nat_tests}
-use Rattle.entry_codec.specs.declared.entries.Draft.{Draft}
 use Rattle.entry_codec.specs.declared.kinds.Images.{Images}
 use Rattle.member_slots.specs.declared.slot.Slot.{Slot}
 use Rattle.member_slots.specs.declared.slot.Slot.TheVariants.{Live, Deleted}
@@ -23,36 +22,30 @@ use Rattle.library_model.specs.declared.replies.Reply.TheVariants.{Added, Done, 
 use Rattle.library_model.specs.declared.requests.OpenName.{OpenName}
 use Rattle.library_model.specs.declared.requests.UpdateRecord.{UpdateRecord}
 use Rattle.library_model.specs.declared.requests.WriteRecord.{WriteRecord}
-use Rattle.file_catalogue.specs.Owners.{Owns, has_number}
-use Rattle.library_steps.specs.State.{State, Memory, FileState, MemberStatus, OpenState, CycleState, JobState, fields_of, job_of, memory_of, new_job, open_named, with_job, with_opens}
-use Rattle.library_steps.specs.Change.{Change, does, journaled}
-use Rattle.library_steps.specs.Refusals.{◌>>=◌, OpenedFile, found, opened_file, named_or_refused, refuse_if, sequences_left}
+use Rattle.library_steps.specs.State.{State, Memory, FileState, OpenState, CycleState, JobState, fields_of, job_of, memory_of, open_named, with_job, with_opens}
+use Rattle.library_steps.specs.Change.{Change, journaled}
+use Rattle.library_steps.specs.Refusals.{OpenedFile, found, opened_file, named_or_refused, refuse_if, sequences_left}
 use Rattle.library_steps.specs.Drafts.{Author, author_of, slot_drafts}
 use Rattle.library_steps.specs.Records.{live_record, slot_there}
 use Rattle.library_steps.specs.Reads.{open_changed, with_opened}
-use Rattle.library_steps.specs.SlotChange.{NewSlot, are_both, begins_cycle, change_made, cycle_for, cycle_number, drafts_of, few_changes, images_of, is_behind_last, not_held, noted, slot_change, slot_changed, slot_put, status_among, touched, with_cycle, with_slot, with_undo}
+use Rattle.library_steps.specs.SlotChange.{NewSlot, are_both, begins_cycle, change_made, cycle_for, cycle_number, drafts_of, few_changes, images_of, is_behind_last, not_held, noted, slot_change, slot_changed, slot_put, touched, with_cycle, with_undo}
 use Rattle.library_steps.specs.UniqueKeys.{keys_free}
 use Rattle.library_steps.specs.Locking.{few_locks, locks_left, not_locked, with_locks}
 use Rattle.library_steps.specs.WriteRecord.{format_or_refused, has_room, is_input, next_place, packed, place_asked, write_call, write_change, write_plan, write_record}
 use Rattle.library_steps.specs.ChangeRecord.{delete_change, delete_plan, delete_record, is_current, update_change, update_plan, update_record, without_current, without_record}
 use Rattle.library_parts.specs.Lawful.{OpenHolds, OpensHold, OpensMember}
-use Rattle.library_parts.proofs.MemberLemmas.{IsThere-is_some, item_at-with_item_other, item_at-with_item_same, member_of-with}
+use Rattle.library_parts.proofs.MemberLemmas.{IsThere-is_some, item_at-with_item_other, member_of-with}
 use Rattle.joint_state.specs.Agreed.{Agrees, StaysJournaled, is_journaled}
-use Rattle.joint_state.specs.CurrentRecords.{AllCurrentStand, CurrentStands}
-use Rattle.joint_state.specs.Joint.{JobStands}
+use Rattle.joint_state.specs.CurrentRecords.{CurrentStands}
 use Rattle.joint_state.specs.Sound.{IsSound, after}
 use Rattle.range_histories.proofs.ResultLemmas.{bind-ok, found-ok, ok-same, refuse_if-ok}
 use Rattle.journal_kept.proofs.KnownLemmas.{quiet-began}
-use Rattle.journal_kept.proofs.DraftLemmas.{IsSilent, SlotLeads, all-append, drafts-none, of-others, slot_drafts-lead, slot_drafts-of, slots-append, slots-silent}
+use Rattle.journal_kept.proofs.DraftLemmas.{IsSilent, all-append, drafts-none, of-others, slot_drafts-lead, slot_drafts-of, slots-append, slots-silent}
 use Rattle.journal_kept.proofs.StatusLemmas.{all_changed, journaled-same}
 use Rattle.journal_kept.proofs.StepLemmas.{IsFollowed, given-followed, kept-journaled, known_of, stays-followed, wider-jobs}
 use Rattle.journal_kept.proofs.PutLemmas.{MayPut, live-within, slot_of-put, slot_there-is}
 use Rattle.journal_kept.proofs.JobLemmas.{IsOpenJournaled, all-job_changed, all-named, changes-noted, job-of, job-opened, job-opens, none-open}
 use Rattle.journal_kept.proofs.JobRequests.{does-each}
-
-none-of : {A : Type 0} (o : Option A) → is_some o ≡ false → o ≡ None
-none-of None h = refl
-none-of (Some a) h = absurd cc
 
 -- ---- one slot
 
@@ -76,7 +69,8 @@ module _ (s : State) (sound : IsSound s) (job timestamp : ℕ) (new : NewSlot) (
 
   -- the member itself, by whether images of it are kept
   here : (images : Option Images) (place : ℕ) → images_of new.opened.member (memory_of s) ≡ images
-      → IsFollowed s (drafts_of (author_of (memory_of s) job timestamp) (job_of job (memory_of s)) new images (memory_of s)) members_after (all_changed new.opened.member touched s.files) new.opened.member place
+      → IsFollowed s (drafts_of (author_of (memory_of s) job timestamp) (job_of job (memory_of s)) new images (memory_of s)) members_after
+      (all_changed new.opened.member touched s.files) new.opened.member place
   here None place off =
       let none = (sound.agreed.told new.opened.member place there).silent off in
       record {
@@ -86,11 +80,13 @@ module _ (s : State) (sound : IsSound s) (job timestamp : ℕ) (new : NewSlot) (
         silent = λ at off. none;
       }
   here (Some images) place on =
-      given-followed s (drafts_of (author_of (memory_of s) job timestamp) (job_of job (memory_of s)) new (Some images) (memory_of s)) members_after (all_changed new.opened.member touched s.files) new.opened.member place
+      given-followed s (drafts_of (author_of (memory_of s) job timestamp) (job_of job (memory_of s)) new (Some images) (memory_of s)) members_after
+      (all_changed new.opened.member touched s.files) new.opened.member place
       (cond (new.rrn - 1 == place) new.slot (slot_of (member_of new.opened.member s.members).slots place))
       (slots-append new.opened.member place (known_of s new.opened.member place) (slot_of (member_of new.opened.member s.members).slots place) _
       (cond new.opened.commit (begins_cycle (author_of (memory_of s) job timestamp) (memory_of s) (job_of job (memory_of s))) [])
-      (slot_drafts (author_of (memory_of s) job timestamp) (cycle_number new.opened.commit (memory_of s) (job_of job (memory_of s))) (new.opened.commit || are_both images) (is_behind_last new.opened.member new.rrn (memory_of s))
+      (slot_drafts (author_of (memory_of s) job timestamp) (cycle_number new.opened.commit (memory_of s) (job_of job (memory_of s))) (new.opened.commit || are_both images)
+      (is_behind_last new.opened.member new.rrn (memory_of s))
       new.opened.member new.rrn (slot_there new.opened.member new.rrn (memory_of s)) new.slot)
       (slots-silent new.opened.member place (known_of s new.opened.member place) (slot_of (member_of new.opened.member s.members).slots place) _ (sound.agreed.told new.opened.member place there).so
       (begins_silent new.opened.member new.opened.commit (author_of (memory_of s) job timestamp) (job_of job (memory_of s))))
@@ -116,7 +112,8 @@ module _ (s : State) (sound : IsSound s) (job timestamp : ℕ) (new : NewSlot) (
       (all_changed new.opened.member touched s.files) member place
   unfolding members_after
   followed member place = elim (cases_eq member new.opened.member) [
-    | inl same ↦ subst (λ (n : ℕ). IsFollowed s (drafts_of (author_of (memory_of s) job timestamp) (job_of job (memory_of s)) new (images_of new.opened.member (memory_of s)) (memory_of s)) members_after
+    | inl same ↦ subst (λ (n : ℕ). IsFollowed s
+        (drafts_of (author_of (memory_of s) job timestamp) (job_of job (memory_of s)) new (images_of new.opened.member (memory_of s)) (memory_of s)) members_after
         (all_changed new.opened.member touched s.files) n place) (sym same) (here (images_of new.opened.member (memory_of s)) place refl)
     | inr differs ↦ stays-followed s _ members_after (all_changed new.opened.member touched s.files) member place sound.agreed
         (silent_on member (images_of new.opened.member (memory_of s)) differs)
@@ -125,7 +122,8 @@ module _ (s : State) (sound : IsSound s) (job timestamp : ℕ) (new : NewSlot) (
   ]
 
   -- whatever else is done to jobs and locks
-  pub slot-kept : (forced : Bool) (reply : Reply) (m : Memory) → m.gone ≡ s.gone → m.members ≡ with_member new.opened.member (slot_put new.rrn new.slot (member_of new.opened.member s.members)) s.members
+  pub slot-kept : (forced : Bool) (reply : Reply) (m : Memory) → m.gone ≡ s.gone
+      → m.members ≡ with_member new.opened.member (slot_put new.rrn new.slot (member_of new.opened.member s.members)) s.members
       → m.files ≡ all_changed new.opened.member touched s.files → AllByRecursion (StaysJournaled s.files) m.jobs
       → Agrees (after s (journaled (drafts_of (author_of (memory_of s) job timestamp) (job_of job (memory_of s)) new (images_of new.opened.member (memory_of s)) (memory_of s)) forced reply m))
   unfolding members_after
@@ -152,7 +150,8 @@ module _ (job : ℕ) (undo : MemberChange) (cycle : CycleState) (m : Memory) whe
   undo-files true = refl
   undo-files false = refl
 
-  undo-jobs : (P : JobState → Type 0) (commit : Bool) → AllByRecursion P m.jobs → (commit ≡ true → (j : JobState) → P j → P (with_cycle (noted undo cycle) j)) → AllByRecursion P (with_undo commit job undo cycle m).jobs
+  undo-jobs : (P : JobState → Type 0) (commit : Bool) → AllByRecursion P m.jobs → (commit ≡ true → (j : JobState) → P j → P (with_cycle (noted undo cycle) j))
+      → AllByRecursion P (with_undo commit job undo cycle m).jobs
   undo-jobs P true all each = all-job_changed P _ (with_cycle (noted undo cycle)) m.jobs (each refl) all
   undo-jobs P false all each = all
 
@@ -172,7 +171,8 @@ all-indexed P (job ∷ jobs) each = (each 0 job refl, all-indexed P jobs (λ pla
 abbrev pub LiveOpens : State → JobState → Type 0
 LiveOpens s job = AllByRecursion (λ (entry : List ℕ × OpenState). (rrn : ℕ) → entry.1.current ≡ Some rrn → IsSome (live_record entry.1.member rrn (memory_of s))) job.opens
 
-all-live : (s : State) (number : ℕ) (opens : Named OpenState) → AllByRecursion (λ (entry : List ℕ × OpenState). (rrn : ℕ) → entry.1.current ≡ Some rrn → CurrentStands (memory_of s) number entry.1 rrn) opens
+all-live : (s : State) (number : ℕ) (opens : Named OpenState)
+    → AllByRecursion (λ (entry : List ℕ × OpenState). (rrn : ℕ) → entry.1.current ≡ Some rrn → CurrentStands (memory_of s) number entry.1 rrn) opens
     → AllByRecursion (λ (entry : List ℕ × OpenState). (rrn : ℕ) → entry.1.current ≡ Some rrn → IsSome (live_record entry.1.member rrn (memory_of s))) opens
 all-live s number [] all = tt
 all-live s number (entry ∷ opens) all = ((λ rrn at. (all.0 rrn at).live), all-live s number opens all.1)
@@ -181,7 +181,8 @@ open-named : (s : State) → IsSound s → (job : ℕ) (name : List ℕ) (opened
 open-named s sound job name opened h = record {
   there = opens (named opened.file s.files) refl (all-named (λ (entry : List ℕ × OpenState). OpenHolds s.files entry.1) (OpenHolds s.files) name (job_of job (memory_of s)).opens opened (λ entry p. p)
       (job-of (OpensHold s.files) s job sound.library.opens tt) h);
-  journaled = all-named (λ (entry : List ℕ × OpenState). entry.1.commit ≡ true → is_journaled entry.1.member s.files ≡ true) (IsOpenJournaled s.files) name (job_of job (memory_of s)).opens opened (λ entry p. p)
+  journaled = all-named (λ (entry : List ℕ × OpenState). entry.1.commit ≡ true → is_journaled entry.1.member s.files ≡ true) (IsOpenJournaled s.files) name
+      (job_of job (memory_of s)).opens opened (λ entry p. p)
       (job-of (StaysJournaled s.files) s job sound.agreed.committed (none-open s.files)).opens h;
   current = all-named (λ (entry : List ℕ × OpenState). (rrn : ℕ) → entry.1.current ≡ Some rrn → IsSome (live_record entry.1.member rrn (memory_of s)))
       (λ (o : OpenState). (rrn : ℕ) → o.current ≡ Some rrn → IsSome (live_record o.member rrn (memory_of s))) name (job_of job (memory_of s)).opens opened (λ entry p. p)
@@ -304,7 +305,8 @@ module _ (s : State) (sound : IsSound s) (job : ℕ) where
             (job-of (StaysJournaled s.files) s job sound.agreed.committed (none-open s.files)) (placed.open_is.journaled on);
       })
 
-  placed-kept : (timestamp : ℕ) (new : NewSlot) (reply : Reply) (besides : Memory → Memory) → IsPlaced s job new → ((m : Memory) → (besides m).gone ≡ m.gone) → ((m : Memory) → (besides m).members ≡ m.members)
+  placed-kept : (timestamp : ℕ) (new : NewSlot) (reply : Reply) (besides : Memory → Memory) → IsPlaced s job new → ((m : Memory) → (besides m).gone ≡ m.gone)
+      → ((m : Memory) → (besides m).members ≡ m.members)
       → ((m : Memory) → (besides m).files ≡ m.files) → ((m : Memory) → AllByRecursion (StaysJournaled s.files) m.jobs → AllByRecursion (StaysJournaled s.files) (besides m).jobs)
       → Agrees (after s (slot_change job timestamp new reply besides (memory_of s)))
   placed-kept timestamp new reply besides placed gone members files jobs =
@@ -318,18 +320,23 @@ module _ (s : State) (sound : IsSound s) (job : ℕ) where
   pub write_record-kept : (timestamp : ℕ) (args : WriteRecord) (done : Change) → write_record (memory_of s) job timestamp args ≡ Ok done → Agrees (after s done)
   write_record-kept timestamp args done h =
       does-each (write_change (memory_of s) job timestamp (write_call args.record_number)) (write_plan (memory_of s) job args) done (λ c. Agrees (after s c)) h
-      (λ new is. placed-kept timestamp new (Added new.rrn) (with_locks (locks_left (write_call args.record_number) job new.opened new.rrn (memory_of s))) (write_plan-ok args new is) (λ m. refl) (λ m. refl) (λ m. refl) (λ m all. all))
+      (λ new is. placed-kept timestamp new (Added new.rrn) (with_locks (locks_left (write_call args.record_number) job new.opened new.rrn (memory_of s))) (write_plan-ok args new is)
+      (λ m. refl) (λ m. refl) (λ m. refl) (λ m all. all))
 
   pub update_record-kept : (timestamp : ℕ) (args : UpdateRecord) (done : Change) → update_record (memory_of s) job timestamp args ≡ Ok done → Agrees (after s done)
   update_record-kept timestamp args done h =
       does-each (update_change (memory_of s) job timestamp) (update_plan (memory_of s) job args) done (λ c. Agrees (after s c)) h
-      (λ new is. placed-kept timestamp new Done (λ m. with_opened job new.opened without_current (with_locks (locks_left calls.Update job new.opened new.rrn (memory_of s)) m)) (update_plan-ok args new is) (λ m. refl) (λ m. refl) (λ m. refl)
-      (λ m all. all-job_changed (StaysJournaled s.files) (job - 1) (open_changed new.opened.number without_current) m.jobs (job-opened s.files new.opened.number without_current (λ opened holds. holds)) all))
+      (λ new is. placed-kept timestamp new Done (λ m. with_opened job new.opened without_current (with_locks (locks_left calls.Update job new.opened new.rrn (memory_of s)) m))
+      (update_plan-ok args new is) (λ m. refl) (λ m. refl) (λ m. refl)
+      (λ m all. all-job_changed (StaysJournaled s.files) (job - 1) (open_changed new.opened.number without_current) m.jobs
+      (job-opened s.files new.opened.number without_current (λ opened holds. holds)) all))
 
   pub delete_record-kept : (timestamp : ℕ) (args : OpenName) (done : Change) → delete_record (memory_of s) job timestamp args ≡ Ok done → Agrees (after s done)
   delete_record-kept timestamp args done h =
       does-each (delete_change (memory_of s) job timestamp) (delete_plan (memory_of s) job args) done (λ c. Agrees (after s c)) h
-      (λ new is. placed-kept timestamp new Done (λ m. with_job job (with_opens (without_record new.opened.member new.rrn)) (with_locks (locks_left calls.Delete job new.opened new.rrn (memory_of s)) m)) (delete_plan-ok args new is) (λ m. refl) (λ m. refl) (λ m. refl)
+      (λ new is. placed-kept timestamp new Done
+      (λ m. with_job job (with_opens (without_record new.opened.member new.rrn)) (with_locks (locks_left calls.Delete job new.opened new.rrn (memory_of s)) m))
+      (delete_plan-ok args new is) (λ m. refl) (λ m. refl) (λ m. refl)
       (λ m all. all-job_changed (StaysJournaled s.files) (job - 1) (with_opens (without_record new.opened.member new.rrn)) m.jobs
       (job-opens s.files (without_record new.opened.member new.rrn)
       (λ opened holds. elim (is_current new.opened.member new.rrn opened) as (λ b. IsOpenJournaled s.files (cond b (without_current opened) opened)) [ true ↦ holds | false ↦ holds ])) all))

@@ -1,15 +1,14 @@
 -- Which members are journaled, by the statuses in the files: the status that is found, and what each change of files and statuses leaves.
-use Rattle.std.proofs.Common.{◌≡◌, ◌≢◌, ℕ, ◌<◌, Bool, true, false, ◌==◌, ◌||◌, cond, if◌then◌else◌, not, filter, nat_eq, List, [], ◌∷◌, ◌++◌, map, Option, Some, None, refl, sym, ap, ◌∙◌, subst, arith, inl, inr}
+use Rattle.std.proofs.Common.{◌≡◌, ◌≢◌, ℕ, Bool, true, false, ◌==◌, cond, if◌then◌else◌, not, nat_eq, List, [], ◌∷◌, ◌++◌, map, Option, Some, None, refl, sym, ap, ◌∙◌, subst, arith}
 use Rattle.std.specs.List.{AllByRecursion, IsDistinct, find}
 use Rattle.std.specs.Option.{is_some, option_map, option_and_then}
 use Rattle.std.specs.Map.{keys_of}
-use Rattle.std.proofs.lemmas.Bool.{cases_eq, eq-eqb, ne_eqb, eqb-true, eqb-false}
+use Rattle.std.proofs.lemmas.Bool.{eq-eqb, ne_eqb, eqb-true}
 use Rattle.std.proofs.lemmas.Bool.Decides.{nat_tests}
-use Rattle.entry_codec.specs.declared.kinds.Images.{Images}
 use Rattle.library_model.specs.Named.{Named, named, same_name}
 use Rattle.file_catalogue.specs.Owners.{Owns, AreApart, has_number, numbers_of, owner}
 use Rattle.file_catalogue.proofs.OwnerLemmas.{owner-status, owner-owns}
-use Rattle.library_steps.specs.State.{State, FileState, MemberStatus, status_changed}
+use Rattle.library_steps.specs.State.{FileState, MemberStatus, status_changed}
 use Rattle.library_steps.specs.SlotChange.{status_in, status_among}
 use Rattle.library_steps.specs.CreatePhysicalFile.{new_status}
 use Rattle.library_steps.specs.MemberCommands.{file_changed, with_member_name}
@@ -28,7 +27,8 @@ module _ (number : ℕ) where
         | false ↦ λ e. named-among P name members status all.1 e
       ] h
 
-status_in-cons : (number : ℕ) (entry : List ℕ × MemberStatus) (members : Named MemberStatus) → status_in number (entry ∷ members) ≡ cond (entry.1.number == number) (Some entry.1) (status_in number members)
+status_in-cons : (number : ℕ) (entry : List ℕ × MemberStatus) (members : Named MemberStatus)
+    → status_in number (entry ∷ members) ≡ cond (entry.1.number == number) (Some entry.1) (status_in number members)
 status_in-cons number entry members =
     elim (entry.1.number == number) as (λ b. option_map (λ (e : List ℕ × MemberStatus). e.1) (cond b (Some entry) (find (λ (e : List ℕ × MemberStatus). e.1.number == number) members))
     ≡ cond b (Some entry.1) (status_in number members)) [ true ↦ refl | false ↦ refl ]
@@ -39,7 +39,8 @@ unfolding IsDistinct
 status_in-named name [] status distinct h = absurd cc
 status_in-named name (entry ∷ members) status distinct h =
     status_in-cons status.number entry members
-    ∙ elim (same_name name entry.0) as (λ b. cond b (Some entry.1) (named name members) ≡ Some status → cond (entry.1.number == status.number) (Some entry.1) (status_in status.number members) ≡ Some status) [
+    ∙ elim (same_name name entry.0) as (λ b. cond b (Some entry.1) (named name members) ≡ Some status → cond (entry.1.number == status.number) (Some entry.1)
+    (status_in status.number members) ≡ Some status) [
       | true ↦ λ e.
           let same : entry.1 ≡ status = cc in
           ap (λ (b : Bool). cond b (Some entry.1) (status_in status.number members)) (eq-eqb entry.1.number status.number (ap (λ (s : MemberStatus). s.number) same)) ∙ e
@@ -80,7 +81,8 @@ some-name : (o : Option (List ℕ)) → is_some o ≡ true → (name : List ℕ)
 some-name None h = absurd cc
 some-name (Some name) h = (name, refl)
 
-pub journaled-owned : (number : ℕ) (files : Named FileState) → IsDistinct same_name (keys_of files) → is_journaled number files ≡ true → (name : List ℕ) × (file : FileState) × Owns files name file number
+pub journaled-owned : (number : ℕ) (files : Named FileState) → IsDistinct same_name (keys_of files) → is_journaled number files ≡ true
+    → (name : List ℕ) × (file : FileState) × Owns files name file number
 journaled-owned number files names on =
     let it = some-name (owner number files) (sym (status-owner number files) ∙ some-status (status_among number files) on) in
     let owns = owner-owns number it.0 files names it.1 in
@@ -101,7 +103,8 @@ module _ (f : MemberStatus → MemberStatus) (keeps : (status : MemberStatus) �
       at true = refl
       at false = refl
 
-chosen : (f : MemberStatus → MemberStatus) (x y : Option MemberStatus) (r s : Option MemberStatus) → x ≡ option_map f y → r ≡ option_map f s → cond (is_some x) x r ≡ option_map f (cond (is_some y) y s)
+chosen : (f : MemberStatus → MemberStatus) (x y : Option MemberStatus) (r s : Option MemberStatus) → x ≡ option_map f y → r ≡ option_map f s
+    → cond (is_some x) x r ≡ option_map f (cond (is_some y) y s)
 chosen f x None r s e g = ap (λ (o : Option MemberStatus). cond (is_some o) o r) e ∙ g
 chosen f x (Some status) r s e g = ap (λ (o : Option MemberStatus). cond (is_some o) o r) e
 
@@ -119,7 +122,8 @@ module _ (number : ℕ) (change : MemberStatus → MemberStatus) (keeps : (statu
   status_among-changed : (n : ℕ) (files : Named FileState) → status_among n (all_changed number change files) ≡ option_map (change_at number change) (status_among n files)
   status_among-changed n [] = refl
   status_among-changed n (entry ∷ files) =
-      chosen (change_at number change) (status_in n (status_changed number change entry.1).members) (status_in n entry.1.members) (status_among n (all_changed number change files)) (status_among n files)
+      chosen (change_at number change) (status_in n (status_changed number change entry.1).members) (status_in n entry.1.members) (status_among n (all_changed number change files))
+      (status_among n files)
       (status_in-map (change_at number change) change_at-keeps n entry.1.members) (status_among-changed n files)
 
   -- where images stay, so does which members are journaled
@@ -127,7 +131,8 @@ module _ (number : ℕ) (change : MemberStatus → MemberStatus) (keeps : (statu
   journaled-same images n files =
       ap (λ (o : Option MemberStatus). is_some (option_and_then (λ (s : MemberStatus). s.images) o)) (status_among-changed n files) ∙ at (status_among n files)
     where
-      at : (o : Option MemberStatus) → is_some (option_and_then (λ (s : MemberStatus). s.images) (option_map (change_at number change) o)) ≡ is_some (option_and_then (λ (s : MemberStatus). s.images) o)
+      at : (o : Option MemberStatus) → is_some (option_and_then (λ (s : MemberStatus). s.images) (option_map (change_at number change) o)) ≡ is_some
+          (option_and_then (λ (s : MemberStatus). s.images) o)
       at None = refl
       at (Some status) = elim (status.number == number) as (λ b. is_some (cond b (change status) status).images ≡ is_some status.images) [ true ↦ ap is_some (images status) | false ↦ refl ]
 
@@ -153,7 +158,8 @@ module _ (number : ℕ) (change : MemberStatus → MemberStatus) (keeps : (statu
       status_among-number : (n : ℕ) (files : Named FileState) (status : MemberStatus) → status_among n files ≡ Some status → status.number ≡ n
       status_among-number n [] status h = absurd cc
       status_among-number n (entry ∷ files) status h = by (status_in n entry.1.members) refl h (λ e. status_among-number n files status e) where
-        by : (o : Option MemberStatus) → status_in n entry.1.members ≡ o → cond (is_some o) o (status_among n files) ≡ Some status → (status_among n files ≡ Some status → status.number ≡ n) → status.number ≡ n
+        by : (o : Option MemberStatus) → status_in n entry.1.members ≡ o → cond (is_some o) o (status_among n files) ≡ Some status → (status_among n files ≡ Some status → status.number ≡ n)
+            → status.number ≡ n
         by None at_in e more = more e
         by (Some found) at_in e more = status_in-number n entry.1.members status (at_in ∙ e)
 
@@ -173,7 +179,8 @@ unjournaled-new n number name =
     ∙ elim (number == n) as (λ b. is_some (option_and_then (λ (s : MemberStatus). s.images) (cond b (Some (new_status number)) None)) ≡ false) [ true ↦ refl | false ↦ refl ]
 
 -- a file with one member, which isn't journaled
-pub journaled-added : (n number : ℕ) (name member : List ℕ) (file : FileState) (files : Named FileState) → file.members ≡ (member, new_status number) ∷ [] → is_journaled n (files ++ (name, file) ∷ []) ≡ is_journaled n files
+pub journaled-added : (n number : ℕ) (name member : List ℕ) (file : FileState) (files : Named FileState) → file.members ≡ (member, new_status number) ∷ []
+    → is_journaled n (files ++ (name, file) ∷ []) ≡ is_journaled n files
 journaled-added n number name member file [] is =
     ap (λ (ms : Named MemberStatus). is_some (option_and_then (λ (s : MemberStatus). s.images) (cond (is_some (status_in n ms)) (status_in n ms) None))) is
     ∙ at (status_in n ((member, new_status number) ∷ [])) (unjournaled-new n number member)
@@ -197,7 +204,8 @@ status_in-push n number name (entry ∷ members) differs =
     ∙ sym (status_in-cons n entry members)
 
 -- a member more
-pub journaled-member_added : (n number : ℕ) (name member : List ℕ) (files : Named FileState) → n ≢ number → is_journaled n (file_changed name (with_member_name member number) files) ≡ is_journaled n files
+pub journaled-member_added : (n number : ℕ) (name member : List ℕ) (files : Named FileState) → n ≢ number
+    → is_journaled n (file_changed name (with_member_name member number) files) ≡ is_journaled n files
 journaled-member_added n number name member files differs = ap (λ (o : Option MemberStatus). is_some (option_and_then (λ (s : MemberStatus). s.images) o)) (each files) where
   each : (files : Named FileState) → status_among n (file_changed name (with_member_name member number) files) ≡ status_among n files
   each [] = refl

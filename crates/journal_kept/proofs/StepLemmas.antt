@@ -1,26 +1,27 @@
 -- That the journal still agrees after a change: what a change owes of each member and place, and what it owes of the jobs.
-use Rattle.std.proofs.Common.{◌≡◌, ◌≢◌, ℕ, suc, ◌+◌, ◌-◌, Bool, true, false, List, [], ◌∷◌, ◌++◌, drop, Option, Some, None, unwrap_or, refl, sym, ap, ◌∙◌, subst, arith}
+use Rattle.std.proofs.Common.{◌≡◌, ℕ, ◌+◌, ◌-◌, Bool, true, false, List, [], ◌∷◌, ◌++◌, Option, Some, None, unwrap_or, refl, sym, ap, ◌∙◌, subst, arith}
 use Rattle.std.specs.List.{AllByRecursion}
-use Rattle.std.specs.Option.{is_some, option_and_then}
+use Rattle.std.specs.Option.{is_some}
 use Rattle.entry_codec.specs.declared.entries.Entry.{Entry}
 use Rattle.entry_codec.specs.declared.entries.Draft.{Draft}
 use Rattle.member_slots.specs.declared.slot.Slot.{Slot}
 use Rattle.member_slots.specs.Member.{MemberState, empty_member}
 use Rattle.member_slots.specs.Members.{NumberedMembers, member_at, member_of}
-use Rattle.journal_model.specs.Acts.{Act, acts, entry_before}
+use Rattle.journal_model.specs.Acts.{acts, entry_before}
 use Rattle.journal_model.specs.AtSequence.{known_after, IsChained, IsSo}
 use Rattle.journal_model.specs.Places.{slot_of}
 use Rattle.journal_model.specs.Rollback.{MemberChange, numbered_from}
 use Rattle.journal_model.proofs.MemberLemmas.{acts-append}
 use Rattle.library_model.specs.Named.{Named}
 use Rattle.library_model.specs.declared.replies.Reply.{Reply}
-use Rattle.library_steps.specs.State.{State, Memory, FileState, MemberStatus, OpenState, JobState, memory_of}
+use Rattle.library_steps.specs.State.{State, Memory, FileState, OpenState, JobState, memory_of}
 use Rattle.library_steps.specs.Uses.{changes_in}
-use Rattle.library_steps.specs.Change.{Change, journaled, unjournaled}
-use Rattle.library_steps.specs.SlotChange.{images_of, status_among}
-use Rattle.joint_state.specs.Agreed.{Agrees, StaysJournaled, IsAsTold, is_journaled}
+use Rattle.library_steps.specs.Change.{journaled}
+use Rattle.library_steps.specs.SlotChange.{images_of}
+use Rattle.joint_state.specs.Agreed.{Agrees, StaysJournaled, is_journaled}
 use Rattle.joint_state.specs.Sound.{after}
-use Rattle.journal_kept.proofs.KnownLemmas.{Leads, leads-append, leads-quiet, known_after-append, IsChained-append}
+use Rattle.range_histories.proofs.HistoryLemmas.{drop-none}
+use Rattle.journal_kept.proofs.KnownLemmas.{known_after-append, IsChained-append}
 use Rattle.journal_kept.proofs.DraftLemmas.{DraftsLead, IsSilent, SlotLeads, drafts-silent}
 
 -- what the kept entries tell of a record, and the last of them
@@ -33,12 +34,6 @@ last_of s = entry_before None s.entries
 pub nothing-there : {A : Type 0} (o : Option A) → is_some o ≡ false → o ≡ None
 nothing-there None h = refl
 nothing-there (Some a) h = absurd cc
-
-pub drop-none : {A : Type 0} (n : ℕ) (xs : List A) → n ≡ 0 → drop n xs ≡ xs
-drop-none {A = A} n xs e = ap (λ (k : ℕ). drop k xs) e ∙ at xs where
-  at : (xs : List A) → drop 0 xs ≡ xs
-  at [] = refl
-  at (x ∷ xs) = refl
 
 -- ---- what drafts owe of one record
 
@@ -55,7 +50,8 @@ kept-journaled s drafts forced reply m agrees gone follows committed = record {
   chained = λ member place.
       let f = follows member place in
       subst (IsChained place None) (sym (all member))
-      (IsChained-append place None (acts member None s.entries) (acts member (last_of s) (numbered_from (m.last_entry + 1) drafts)) (agrees.chained member place) (f.lead.lead (last_of s) (m.last_entry + 1)).chained);
+      (IsChained-append place None (acts member None s.entries) (acts member (last_of s) (numbered_from (m.last_entry + 1) drafts)) (agrees.chained member place)
+      (f.lead.lead (last_of s) (m.last_entry + 1)).chained);
   told = λ member place there.
       let f = follows member place in
       let now = known member place f in
@@ -100,7 +96,8 @@ all-stay s drafts agrees quiet member place = stays-followed s drafts s.members 
 -- ---- a journaled member whose slots are given
 
 pub given-followed : (s : State) (drafts : List Draft) (members : NumberedMembers) (files : Named FileState) (member place : ℕ) (slot : Slot)
-    → SlotLeads member place (known_of s member place) drafts slot → slot ≡ slot_of (member_of member members).slots place → is_journaled member files ≡ true → IsFollowed s drafts members files member place
+    → SlotLeads member place (known_of s member place) drafts slot → slot ≡ slot_of (member_of member members).slots place → is_journaled member files ≡ true
+    → IsFollowed s drafts members files member place
 given-followed s drafts members files member place slot leads is on = record {
   to = leads.to;
   lead = leads.lead;
@@ -116,7 +113,8 @@ broken-followed s drafts members files member place lead = record { to = None; l
 
 -- ---- the jobs
 
-pub wider-jobs : (files later : Named FileState) (jobs : List JobState) → ((number : ℕ) → is_journaled number files ≡ true → is_journaled number later ≡ true) → AllByRecursion (StaysJournaled files) jobs
+pub wider-jobs : (files later : Named FileState) (jobs : List JobState) → ((number : ℕ) → is_journaled number files ≡ true → is_journaled number later ≡ true)
+    → AllByRecursion (StaysJournaled files) jobs
     → AllByRecursion (StaysJournaled later) jobs
 wider-jobs files later [] wider all = tt
 wider-jobs files later (job ∷ jobs) wider all =
@@ -127,6 +125,7 @@ wider-jobs files later (job ∷ jobs) wider all =
     opens [] each = tt
     opens (entry ∷ entries) each = ((λ c. wider entry.1.member (each.0 c)), opens entries each.1)
 
-    changes : (undos : List MemberChange) → AllByRecursion (λ (undo : MemberChange). is_journaled undo.member files ≡ true) undos → AllByRecursion (λ (undo : MemberChange). is_journaled undo.member later ≡ true) undos
+    changes : (undos : List MemberChange) → AllByRecursion (λ (undo : MemberChange). is_journaled undo.member files ≡ true) undos
+        → AllByRecursion (λ (undo : MemberChange). is_journaled undo.member later ≡ true) undos
     changes [] each = tt
     changes (undo ∷ undos) each = (wider undo.member each.0, changes undos each.1)

@@ -1,38 +1,33 @@
 -- What a removal and an application leave of their member and of all others, and what an application leaves directly after a removal.
-use Rattle.std.proofs.Common.{◌≡◌, ◌≢◌, ℕ, ◌+◌, ◌-◌, ◌≤◌, ◌==◌, Bool, true, false, cond, List, [], ◌∷◌, ◌++◌, length, take, drop, Option, Some, None, unwrap_or, is_some, Result, Ok, Err, IsTrue, IsFalse, refl, sym, ap, ◌∙◌, subst, arith}
+use Rattle.std.proofs.Common.{◌≡◌, ◌≢◌, ℕ, ◌-◌, ◌≤◌, ◌==◌, Bool, true, false, cond, List, [], ◌∷◌, ◌++◌, length, drop, Some, None, is_some, Ok, IsTrue, IsFalse, refl, sym, ap, ◌∙◌, subst, arith}
 use Rattle.std.specs.Option.{option_map, option_and_then}
 use Rattle.std.proofs.lemmas.Bool.{eqb-true, eq-eqb}
-use Rattle.std.proofs.lemmas.Bool.Decides.{nat_tests}
-use Rattle.std.proofs.lemmas.List.{drop_all}
-use Rattle.entry_codec.specs.declared.entries.Entry.{Entry}
 use Rattle.member_slots.specs.declared.slot.Slot.{Slot}
-use Rattle.member_slots.specs.Member.{MemberState, empty_member}
+use Rattle.member_slots.specs.Member.{MemberState}
 use Rattle.member_slots.specs.Members.{Numbered, NumberedMembers, item_at, with_item, member_at, member_of, with_member}
 use Rattle.journal_model.specs.Acts.{Act, acts, changes, entry_before}
 use Rattle.journal_model.specs.Places.{slot_of}
-use Rattle.journal_model.specs.AtSequence.{slot_at, touches, IsChained}
-use Rattle.journal_model.specs.Parts.{applied_part, not_applied, removed_part, not_removed, removed_from}
+use Rattle.journal_model.specs.AtSequence.{touches, IsChained}
+use Rattle.journal_model.specs.Parts.{applied_part, removed_part, not_removed, removed_from}
 use Rattle.journal_model.specs.Walks as walks
 use Rattle.journal_model.specs.Ranges.{RangeDone, apply_range, remove_range}
 use Rattle.journal_model.proofs.MemberLemmas.{acts-append}
 use Rattle.journal_model.proofs.WalkLemmas.{apply-removed}
 use Rattle.journal_model.proofs.RangeLemmas.{remove_range-touched, remove_range-others, apply_range-touched, apply_range-others, remove_range-went, apply_range-went}
-use Rattle.library_model.specs.Named.{Named, named}
+use Rattle.library_model.specs.Named.{named}
 use Rattle.library_model.specs.declared.requests.JournaledChanges.{JournaledChanges}
 use Rattle.library_model.specs.declared.requests.Request.TheVariants as requests
-use Rattle.library_model.specs.declared.replies.Reply.{Reply}
 use Rattle.library_model.specs.declared.replies.Reply.TheVariants as replies
-use Rattle.file_catalogue.specs.Owners.{Owns}
-use Rattle.library_steps.specs.State.{State, Memory, FileState, MemberStatus, memory_of, fields_of}
+use Rattle.library_steps.specs.State.{State, FileState, MemberStatus, memory_of, fields_of}
 use Rattle.library_steps.specs.Change.{Change}
-use Rattle.library_steps.specs.Ranges.{Range, RangeWork, range_change, slots_now, with_range}
+use Rattle.library_steps.specs.Ranges.{RangeWork, slots_now, with_range}
 use Rattle.library_parts.specs.Lawful.{IsLibrary}
-use Rattle.library_parts.proofs.MemberLemmas.{IsThere-is_some, at-member_of, item_at-with_item_same, item_at-with_item_other, member_of-with}
+use Rattle.library_parts.proofs.MemberLemmas.{IsThere-is_some, at-member_of, item_at-with_item_other, member_of-with}
 use Rattle.joint_state.specs.Sound.{IsSound, after}
-use Rattle.range_histories.specs.Ranges.{GoesBack, GoesForward, AppliesAgain, IsAgain, IsDone, IsMoved, Moves, again, is_changed, member_named, slot_at_sequence, slot_now, to_before, to_end}
+use Rattle.range_histories.specs.Ranges.{GoesBack, GoesForward, AppliesAgain, IsAgain, IsDone, Moves, again, member_named, slot_now, to_before, to_end}
 use Rattle.range_histories.proofs.ResultLemmas.{ok-same}
 use Rattle.range_histories.proofs.CutLemmas.{IsPart, part-between, slot-before, slot-behind, part-more, same-part}
-use Rattle.range_histories.proofs.NamedLemmas.{IsNamed, named-has_number}
+use Rattle.range_histories.proofs.NamedLemmas.{named-has_number}
 use Rattle.range_histories.proofs.WorkLemmas.{IsApplied, IsRemoved, is_applied, is_removed, removed-is_part, applied-is_part, applied_part-closed, removed_part-closed}
 
 -- ---- the member
@@ -185,11 +180,13 @@ redone first lo range slots d e removed applied same =
     let begin : lo ≡ removed_from first range = same ∙ w.begins in
     let again_is : walks.apply (walks.numbered lo (applied_part (removed_part range))) d.slots ≡ walks.apply (walks.numbered (removed_from first range) (removed_part range)) d.slots
     = (λ i. walks.apply (walks.numbered (begin i) (whole i)) d.slots) in
-    let given : walks.apply (walks.numbered (removed_from first range) (removed_part range)) d.slots ≡ Ok slots = apply-removed (walks.numbered (removed_from first range) (removed_part range)) slots d.slots w.walked in
+    let given : walks.apply (walks.numbered (removed_from first range) (removed_part range)) d.slots ≡ Ok slots =
+    apply-removed (walks.numbered (removed_from first range) (removed_part range)) slots d.slots w.walked in
     let slots_are : e.slots ≡ slots = ok-same (walks.apply (walks.numbered lo (applied_part (removed_part range))) d.slots) e.slots slots v.walked (again_is ∙ given) in
     (slots_are, v.changes ∙ (λ i. walks.numbered (begin i) (whole i)) ∙ sym w.changes)
 
-drop-none : {A : Type 0} (n : ℕ) (xs : List A) → n ≡ 0 → drop n xs ≡ xs
+-- none of a list dropped
+pub drop-none : {A : Type 0} (n : ℕ) (xs : List A) → n ≡ 0 → drop n xs ≡ xs
 drop-none {A = A} n xs e = ap (λ (k : ℕ). drop k xs) e ∙ at xs where
   at : (xs : List A) → drop 0 xs ≡ xs
   at [] = refl
@@ -289,6 +286,7 @@ applies_again s args removal application lo hi count = λ sound d reply e.
     let same : replies.Range r.walk.first r.walk.last (length r.walk.changes) ≡ replies.Range lo hi count = sym (removed_reply s args removal r) ∙ reply in
     let low : lo ≡ r.walk.first = cc in
     let high : hi ≡ r.walk.last = cc in
-    let done : IsDone (after s removal) (requests.ApplyChanges (again args r.walk.first r.walk.last)) application = subst (λ (x : ℕ). IsDone (after s removal) (requests.ApplyChanges (again args x r.walk.last)) application) low
+    let done : IsDone (after s removal) (requests.ApplyChanges (again args r.walk.first r.walk.last)) application =
+    subst (λ (x : ℕ). IsDone (after s removal) (requests.ApplyChanges (again args x r.walk.last)) application) low
     (subst (λ (x : ℕ). IsDone (after s removal) (requests.ApplyChanges (again args lo x)) application) high e) in
     again_alike s args removal application sound r (is_applied (after s removal) (again args r.walk.first r.walk.last) application done)

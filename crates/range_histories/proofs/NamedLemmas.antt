@@ -1,22 +1,19 @@
 -- The range that a request names, where it isn't refused: a member that is there, and its acts between two sequences that are kept.
-use Rattle.std.proofs.Common.{◌≡◌, ℕ, ◌+◌, ◌-◌, ◌<◌, ◌≤◌, ◌==◌, ◌||◌, nat_lt, if◌then◌else◌, Bool, true, false, List, [], ◌∷◌, ◌++◌, length, take, drop, Option, Some, None, is_some, Result, Ok, Err, refl, sym, ap, ◌∙◌, subst, arith}
+use Rattle.std.proofs.Common.{◌≡◌, ℕ, ◌+◌, ◌-◌, ◌≤◌, ◌==◌, ◌||◌, nat_lt, if◌then◌else◌, Bool, true, false, List, [], ◌∷◌, length, take, drop, Some, None, Ok, refl, ap, ◌∙◌, subst, arith}
 use Rattle.std.specs.Option.{is_none}
-use Rattle.std.specs.Map.{lookup}
 use Rattle.std.proofs.lemmas.List.{length-take-le, length-drop}
-use Rattle.std.proofs.lemmas.Bool.{or_parts, cases_Bool}
+use Rattle.std.proofs.lemmas.Bool.{or_parts}
 use Rattle.std.proofs.lemmas.Bool.Decides.{nat_tests}
-use Rattle.entry_codec.specs.declared.entries.Entry.{Entry}
 use Rattle.journal_model.specs.Acts.{Act, acts}
 use Rattle.library_model.specs.Named.{Named, named, same_name}
 use Rattle.library_model.specs.declared.requests.JournaledChanges.{JournaledChanges}
 use Rattle.library_model.specs.declared.requests.RangeEnd.{RangeEnd}
-use Rattle.library_model.specs.declared.replies.Reply.{Reply}
 use Rattle.library_model.specs.declared.replies.Reply.TheVariants as replies
 use Rattle.file_catalogue.specs.Owners.{has_number}
 use Rattle.file_catalogue.proofs.StatusLemmas.{has_number-cons}
 use Rattle.library_steps.specs.State.{State, Memory, FileState, MemberStatus, memory_of}
-use Rattle.library_steps.specs.JournalReads.{are_there, are_kept, is_no_range, first_kept, entries_between}
-use Rattle.library_steps.specs.Refusals.{◌>>=◌, FoundMember, member_of_file, refuse_if, sequences_left}
+use Rattle.library_steps.specs.JournalReads.{are_there, are_kept, is_no_range, first_kept}
+use Rattle.library_steps.specs.Refusals.{FoundMember, member_of_file, refuse_if, sequences_left}
 use Rattle.library_steps.specs.Uses.{unused, user_of}
 use Rattle.library_steps.specs.Ranges.{Range, end_named, range_between, range_named}
 use Rattle.range_histories.proofs.ResultLemmas.{bind-ok, refuse_if-ok, unused-ok, member_of_file-ok}
@@ -120,7 +117,8 @@ range_named-ok args s first last range h =
     }) is
   where
     by : (it : FoundMember)
-        → IsNamed args s first last (range_between it.status (end_named first it.status.number s.entries (memory_of s)) (end_named last it.status.number s.entries (memory_of s)) s.entries (memory_of s))
+        → IsNamed args s first last (range_between it.status (end_named first it.status.number s.entries (memory_of s)) (end_named last it.status.number s.entries (memory_of s)) s.entries
+        (memory_of s))
         → range_between it.status (end_named first it.status.number s.entries (memory_of s)) (end_named last it.status.number s.entries (memory_of s)) s.entries (memory_of s) ≡ range
         → IsNamed args s first last range
     by it named is = subst (IsNamed args s first last) is named

@@ -1,8 +1,8 @@
 -- What a request that was done tells of the refusals before it: none of them held.
 use Rattle.std.proofs.Common.{◌≡◌, ℕ, Bool, true, false, Option, Some, None, Result, Ok, Err, List, refl, sym, ap, ◌∙◌, subst}
 use Rattle.library_model.specs.declared.replies.Reply.{Reply}
-use Rattle.library_model.specs.Named.{Named, named}
-use Rattle.library_steps.specs.State.{Memory, FileState, MemberStatus, file_named}
+use Rattle.library_model.specs.Named.{named}
+use Rattle.library_steps.specs.State.{Memory, file_named}
 use Rattle.library_steps.specs.Change.{Change, does}
 use Rattle.library_steps.specs.Refusals.{◌>>=◌, found, refuse_if, refuse_with, named_or_refused, FoundMember, member_of_file}
 use Rattle.library_steps.specs.Uses.{unused}
@@ -35,7 +35,8 @@ pub ok-same : {A E : Type 0} (r : Result A E) (x y : A) → r ≡ Ok x → r ≡
 ok-same (Ok z) x y h g = let a : z ≡ x = cc in let b : z ≡ y = cc in sym a ∙ b
 ok-same (Err e) x y h g = absurd cc
 
-pub member_of_file-ok : (file member : List ℕ) (m : Memory) (it : FoundMember) → member_of_file file member m ≡ Ok it → (named file m.files ≡ Some it.file) × (named member it.file.members ≡ Some it.status)
+pub member_of_file-ok : (file member : List ℕ) (m : Memory) (it : FoundMember) → member_of_file file member m ≡ Ok it
+    → (named file m.files ≡ Some it.file) × (named member it.file.members ≡ Some it.status)
 member_of_file-ok file member m it h =
     let a = bind-ok (named_or_refused file (file_named file m)) _ it h in
     let b = bind-ok (named_or_refused member (named member a.0.members)) _ it a.2 in

@@ -1,5 +1,5 @@
 -- A walk that fails ends at a change that doesn't fit what the walk has made of the member by then.
-use Rattle.std.proofs.Common.{◌≡◌, List, [], ◌∷◌, ◌++◌, Result, Ok, Err, refl, ap, ◌∙◌}
+use Rattle.std.proofs.Common.{◌≡◌, List, [], ◌∷◌, Result, Ok, Err, refl, ap, ◌∙◌}
 use Rattle.member_slots.specs.declared.slot.Slot.{Slot}
 use Rattle.journal_model.specs.Walks.{Numbered, RangeFault, ◌then◌, apply, redo, remove, undo}
 use Rattle.range_histories.specs.Stops.{StopsGoingBack, StopsGoingForward}

@@ -1,17 +1,15 @@
 -- What APYJRNCHG and RMVJRNCHG did where they weren't refused: the part of the range that was gone through, its sequences and the slots after it.
-use Rattle.std.proofs.Common.{◌≡◌, ℕ, ◌+◌, ◌-◌, ◌≤◌, nat_lt, true, List, [], ◌∷◌, ◌++◌, length, take, drop, Option, Some, None, Result, Ok, Err, refl, sym, ap, ◌∙◌, subst, arith, append_assoc}
+use Rattle.std.proofs.Common.{◌≡◌, ℕ, ◌-◌, ◌≤◌, nat_lt, true, List, ◌++◌, length, take, Result, Ok, Err, refl, sym, ap, ◌∙◌, arith, append_assoc}
 use Rattle.std.proofs.lemmas.List.{take-append-drop, take_all, length-take-le, length-drop, length-append}
-use Rattle.entry_codec.specs.declared.entries.Entry.{Entry}
-use Rattle.entry_codec.specs.declared.kinds.EntryKind.{EntryKind}
 use Rattle.entry_codec.specs.declared.kinds.EntryKind.TheVariants.{ChangesApplied, ChangesRemoved}
 use Rattle.member_slots.specs.declared.slot.Slot.{Slot}
-use Rattle.journal_model.specs.Acts.{Act, acts}
+use Rattle.journal_model.specs.Acts.{Act}
 use Rattle.journal_model.specs.Closed.{is_closed, closed_prefix, closed_suffix, last}
-use Rattle.journal_model.specs.Parts.{applied_part, not_applied, removed_part, not_removed, removed_from}
-use Rattle.journal_model.specs.Walks.{Numbered, RangeFault, numbered, apply, remove}
+use Rattle.journal_model.specs.Parts.{applied_part, not_applied, removed_part, not_removed}
+use Rattle.journal_model.specs.Walks.{RangeFault}
 use Rattle.journal_model.specs.Ranges.{RangeDone, apply_range, remove_range}
 use Rattle.journal_model.proofs.PartLemmas.{greatest-within, greatest-whole, closed_suffix-closed}
-use Rattle.journal_model.proofs.RangeLemmas.{Went, remove_range-went, apply_range-went}
+use Rattle.journal_model.proofs.RangeLemmas.{remove_range-went, apply_range-went}
 use Rattle.library_model.specs.declared.requests.JournaledChanges.{JournaledChanges}
 use Rattle.library_model.specs.declared.requests.Request.TheVariants.{ApplyChanges, RemoveChanges}
 use Rattle.library_model.specs.declared.replies.Reply.{Reply}
@@ -113,14 +111,36 @@ unfolding change
 is_applied s args done d =
     let a = does-ok (range_change (memory_of s)) (apply_plan s.entries (memory_of s) d.job d.timestamp args) done d.does in
     let p = apply_plan-ok s d.job d.timestamp args a.0 a.1 in
-    record { work = a.0; range = p.range; named = range_named-ok args s args.from args.to p.range p.is_named; walk = p.done; walked = p.walked; job = d.job; timestamp = d.timestamp; makes = p.is; is = a.2 }
+    record {
+      work = a.0;
+      range = p.range;
+      named =
+          range_named-ok args s args.from args.to p.range p.is_named;
+      walk = p.done;
+      walked = p.walked;
+      job = d.job;
+      timestamp = d.timestamp;
+      makes = p.is;
+      is = a.2;
+    }
 
 pub is_removed : (s : State) (args : JournaledChanges) (done : Change) → IsDone s (RemoveChanges args) done → IsRemoved s args done
 unfolding change
 is_removed s args done d =
     let a = does-ok (range_change (memory_of s)) (remove_plan s.entries (memory_of s) d.job d.timestamp args) done d.does in
     let p = remove_plan-ok s d.job d.timestamp args a.0 a.1 in
-    record { work = a.0; range = p.range; named = range_named-ok args s args.to args.from p.range p.is_named; walk = p.done; walked = p.walked; job = d.job; timestamp = d.timestamp; makes = p.is; is = a.2 }
+    record {
+      work = a.0;
+      range = p.range;
+      named =
+          range_named-ok args s args.to args.from p.range p.is_named;
+      walk = p.done;
+      walked = p.walked;
+      job = d.job;
+      timestamp = d.timestamp;
+      makes = p.is;
+      is = a.2;
+    }
 
 -- ---- the part that was gone through
 
