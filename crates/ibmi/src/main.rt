@@ -13,8 +13,10 @@ use ibmi_batch::words::are_run_words;
 use outside::{StandardInput, StandardOutput, SystemClock};
 use std::io::{ErrorKind, IsTerminal};
 use std::process::ExitCode;
+use std::sync::Wait;
+use std::thread::Threads;
 use std::{env, io};
-use store_model::{MemoryStore, OpenGate};
+use store_model::{Clock, MemoryStore, OpenGate, Sink, Source};
 
 fn main(rt: HostRuntime) -> ExitCode {
     let words: Vec<String> = match env::args(&rt) {
@@ -33,29 +35,8 @@ fn main(rt: HostRuntime) -> ExitCode {
     }
     let mut input = KeptSource::new(rt.alloc(), StandardInput::new(reader));
     let mut output = KeptSink::new(rt.alloc(), StandardOutput::new(io::writer(&rt)));
-    let store = MemoryStore::new(rt.alloc());
     let clock = SystemClock::new(clock);
-    let (status, _store, _clock) = if are_run_words(words.as_slice()) {
-        program(
-            &rt,
-            rt.alloc(),
-            words.as_slice(),
-            store,
-            &mut input,
-            &mut output,
-            clock,
-            &OpenGate,
-        )
-    } else {
-        program_alone(
-            rt.alloc(),
-            words.as_slice(),
-            store,
-            &mut input,
-            &mut output,
-            clock,
-        )
-    };
+    let status = run(&rt, words.as_slice(), &mut input, &mut output, clock);
     let code = end(&rt, status);
     let remains = Remains {
         words: words.as_slice(),
@@ -64,6 +45,24 @@ fn main(rt: HostRuntime) -> ExitCode {
     };
     say_help(&rt, rt.alloc(), status, &remains);
     code
+}
+
+/// Does what the words say: RUN with a runtime for the threads of its jobs, every other command without one.
+fn run<R: AllocGlobal + Threads + Wait + Sync, I: Source, O: Sink, C: Clock + Send + Drop>(
+    rt: &R,
+    words: &[String],
+    input: &mut I,
+    output: &mut O,
+    clock: C,
+) -> Status {
+    let alloc = rt.alloc();
+    let store = MemoryStore::new(alloc);
+    let (status, _store, _clock) = if are_run_words(words) {
+        program(rt, alloc, words, store, input, output, clock, &OpenGate)
+    } else {
+        program_alone(alloc, words, store, input, output, clock)
+    };
+    status
 }
 
 /// What a run comes to whose words can't be had: one of them is no text, or there is no memory for them.
