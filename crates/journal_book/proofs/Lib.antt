@@ -1,2 +1,4 @@
+pub mod Bodies
+pub mod Deposits
 pub mod Forcing
 pub mod Reading
