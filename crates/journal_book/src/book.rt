@@ -56,8 +56,8 @@ impl Model for Book {
     } };
 
     ghost invariant = { λ b.
-      (4 ≤ length b.framed.items) × (4 ≤ vec_len b.framed) × (vec_len b.framed + 1 ≤ vec_capacity b.framed)
-      × (1 ≤ b.first) × (b.first + (b.forced + b.waiting) ≤ 2 ^ 64) × IsBuffer (drop 4 b.framed.items) b.waiting };
+        (4 ≤ length b.framed.items) × (4 ≤ vec_len b.framed) × (vec_len b.framed + 1 ≤ vec_capacity b.framed)
+        × (1 ≤ b.first) × (b.first + (b.forced + b.waiting) ≤ 2 ^ 64) × IsBuffer (drop 4 b.framed.items) b.waiting };
 }
 
 impl Book {
@@ -67,10 +67,7 @@ impl Book {
         ensures last { result.1 ≡ last_of self.now }
         ensures least { 1 ≤ self.now.first }
     {
-        (
-            self.first,
-            self.first - 1 + (self.forced + self.waiting),
-        )
+        (self.first, self.first - 1 + (self.forced + self.waiting))
     }
 
     /// The number of the attached receiver.

@@ -5,6 +5,8 @@
 mod book;
 mod grammar;
 mod laws;
+mod opening;
 
 pub use book::Book;
 pub use laws::one_reading;
+pub use opening::open;
