@@ -1,2 +1,9 @@
+pub mod Attaching
+pub mod Bodies
+pub mod Chains
+pub mod Deposits
+pub mod Endings
 pub mod Forcing
+pub mod Openings
 pub mod Reading
+pub mod Walking

@@ -23,10 +23,10 @@ one_group (a ∷ xs) (b ∷ ys) all each same =
     let parts = one_spelling a b (spelled xs) (spelled ys) all.0 each.0 same in
     ap (λ (e : Entry). e ∷ xs) parts.0 ∙ ap (λ (l : List Entry). b ∷ l) (one_group xs ys all.1 each.1 parts.1)
 
-one_block : (xs ys : List Entry) (block : List ℕ) → IsBlock xs block → IsBlock ys block → xs ≡ ys
+pub one_block : (xs ys : List Entry) (block : List ℕ) → IsBlock xs block → IsBlock ys block → xs ≡ ys
 one_block xs ys block is same = one_group xs ys is.each same.each (sym is.whole ∙ same.whole)
 
-one_blocks : (xs ys : List (List Entry)) (blocks : List (List ℕ)) → AreBlocks xs blocks → AreBlocks ys blocks → xs ≡ ys
+pub one_blocks : (xs ys : List (List Entry)) (blocks : List (List ℕ)) → AreBlocks xs blocks → AreBlocks ys blocks → xs ≡ ys
 one_blocks [] [] [] are same = refl
 one_blocks [] (b ∷ ys) [] are same = absurd same
 one_blocks (a ∷ xs) ys [] are same = absurd are

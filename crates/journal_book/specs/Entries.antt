@@ -1,6 +1,6 @@
 -- Which entries do the blocks of the receivers hold, and where do the entries stand that tie receivers? (Journal
 -- Management, "Journal code finder", code J, entry types NR and PR. That a call's entries are one block is our own.)
-use Rattle.std.specs.Prelude.{ℕ, ◌+◌, ◌-◌, ◌≡◌, ◌≢◌, ◌⊎◌, List, [], ◌∷◌, ◌++◌}
+use Rattle.std.specs.Prelude.{ℕ, ◌+◌, ◌-◌, ◌≡◌, ◌≢◌, ◌≤◌, ◌⊎◌, List, [], ◌∷◌, ◌++◌}
 use Rattle.std.specs.List.{AllByRecursion}
 use Rattle.entry_codec.specs.declared.entries.Entry.{Entry}
 use Rattle.entry_codec.specs.declared.kinds.EntryKind.TheVariants.{NextReceiver, PreviousReceiver}
@@ -35,13 +35,21 @@ flat (entries ∷ groups) = entries ++ flat groups
 abbrev pub IsInside : Entry → Type 0
 IsInside e = (number : ℕ) → (e.kind ≡ NextReceiver number) ⊎ (e.kind ≡ PreviousReceiver number) → ⊥
 
--- none of these entries does
+-- the entry ends no receiver
+abbrev pub IsNoEnd : Entry → Type 0
+IsNoEnd e = (number : ℕ) → e.kind ≡ NextReceiver number → ⊥
+
+-- none of these entries ties receivers
 abbrev pub AreInside : List (List Entry) → Type 0
 AreInside groups = AllByRecursion (λ entries. AllByRecursion IsInside entries) groups
 
 -- a receiver begins with J PR of the one before, alone in its block, but for receiver 1
 abbrev pub BeginsWith : ℕ → List (List Entry) → List (List Entry) → Type 0
 BeginsWith number groups rest = ((number ≡ 1) × (groups ≡ rest)) ⊎ ((number ≢ 1) × ((e : Entry) × (e.kind ≡ PreviousReceiver (number - 1)) × (groups ≡ (e ∷ []) ∷ rest)))
+
+-- a receiver that has begun, and then entries that tie nothing
+abbrev pub HasBegun : ℕ → List (List Entry) → Type 0
+HasBegun number groups = (body : List (List Entry)) × BeginsWith number groups body × AreInside body
 
 -- a receiver that another follows ends with J NR of that one, alone in its block
 abbrev pub IsEnded : ℕ → List (List Entry) → Type 0
@@ -50,7 +58,7 @@ IsEnded number groups =
 
 -- the attached receiver has entries that tie nothing; it may still lack its J PR, and is empty then
 abbrev pub IsAttached : ℕ → List (List Entry) → Type 0
-IsAttached number groups = ((body : List (List Entry)) × BeginsWith number groups body × AreInside body) ⊎ ((number ≢ 1) × (groups ≡ []))
+IsAttached number groups = HasBegun number groups ⊎ ((number ≢ 1) × (groups ≡ []))
 
 -- the groups of receivers, of which each but the last is ended
 abbrev pub AreReceivers : ℕ → List Receiver → List (List (List Entry)) → Receiver → List (List Entry) → Type 0
@@ -72,10 +80,11 @@ abbrev pub all_groups : List (List (List Entry)) → List (List Entry) → List 
 all_groups [] last = last
 all_groups (groups ∷ more) last = groups ++ all_groups more last
 
--- the receivers hold these entries, in the grammar, in place and numbered
+-- the receivers hold these entries, in the grammar, in place and numbered; no sequence is 0
 pub record HoldsEntries (first : ℕ) (kept : Kept) (entries : List Entry) : Type 0 where
   pub earlier : List (List (List Entry))
   pub last : List (List Entry)
   pub receivers : AreReceivers first kept.earlier earlier kept.attached last
   pub all : entries ≡ flat (all_groups earlier last)
   pub numbered : AreNumbered (first_sequence kept) entries
+  pub counted : 1 ≤ first_sequence kept

@@ -1,3 +1,5 @@
+pub mod Bodies
 pub mod Book
 pub mod Entries
 pub mod Kept
+pub mod Openings

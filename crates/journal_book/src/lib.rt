@@ -1,9 +1,12 @@
-//! The journal as a list of entries over the chain of its receivers: which entries the areas of a store spell, and what a
-//! stop may leave of them.
+//! The journal as a list of entries over the chain of its receivers: which entries the areas of a store spell, how they
+//! are read, deposited and forced, and what a stop may leave of them.
 #![tactic(auto)]
 
 mod book;
+mod grammar;
 mod laws;
+mod opening;
 
 pub use book::Book;
 pub use laws::one_reading;
+pub use opening::open;
