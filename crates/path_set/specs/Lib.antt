@@ -1,0 +1,4 @@
+pub mod KeptPaths
+pub mod RecordChanges
+pub mod Sharing
+pub mod Entries

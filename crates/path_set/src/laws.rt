@@ -1,0 +1,1 @@
+//! Laws of kept paths, as contracts of functions that do nothing.
