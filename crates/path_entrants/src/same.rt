@@ -1,9 +1,11 @@
 //! Whether two path specifications are one. Files whose specifications are share the path.
 ghost use Rattle.std.specs.Prelude.{◌≡◌, ◌↔◌, IsTrue};
 
+use field_types::values::Value;
 use file_model::paths::{PathFormat, PathSpec};
 use file_model::rules::{Condition, Rules, Statement, Test};
-use file_model::views::{FieldSource, ViewField};
+use file_model::views::{FieldSource, Piece, ViewField};
+use key_spec::KeyPart;
 
 /// Whether they are equal. It takes no memory.
 pub fn is_same(a: &PathSpec, b: &PathSpec) -> bool
@@ -36,7 +38,7 @@ impl Same for PathFormat {
         self.member == other.member
             && self.rules.is_same(&other.rules)
             && are_same(self.fields.as_slice(), other.fields.as_slice())
-            && self.key.as_slice() == other.key.as_slice()
+            && are_same(self.key.as_slice(), other.key.as_slice())
     }
 }
 
@@ -84,7 +86,7 @@ impl Same for Test {
                 let Test::Values(other_values) = other else {
                     return false;
                 };
-                values.as_slice() == other_values.as_slice()
+                are_same(values.as_slice(), other_values.as_slice())
             }
         }
     }
@@ -122,7 +124,7 @@ impl Same for FieldSource {
                 let FieldSource::Concatenated(other_pieces) = other else {
                     return false;
                 };
-                pieces.as_slice() == other_pieces.as_slice()
+                are_same(pieces.as_slice(), other_pieces.as_slice())
             }
             FieldSource::Substring(piece) => {
                 let FieldSource::Substring(other_piece) = other else {
@@ -131,5 +133,23 @@ impl Same for FieldSource {
                 piece == other_piece
             }
         }
+    }
+}
+
+impl Same for Piece {
+    fn is_same(&self, other: &Piece) -> bool {
+        self == other
+    }
+}
+
+impl Same for Value {
+    fn is_same(&self, other: &Value) -> bool {
+        self == other
+    }
+}
+
+impl Same for KeyPart {
+    fn is_same(&self, other: &KeyPart) -> bool {
+        self == other
     }
 }

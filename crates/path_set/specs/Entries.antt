@@ -1,11 +1,14 @@
 -- How are paths kept: in one list by ascending number. (Our own.)
 use Rattle.std.specs.Prelude.{◌≡◌, ◌≢◌, ℕ, ◌<◌, ◌≤◌, List, length, map, All, AllPairs, HoldsAt, slice_index_or}
+use Rattle.std.specs.Option.{option_copied}
 use Rattle.key_pages.specs.EntryList.{EntryList}
 use Rattle.access_path.specs.PathBytes.{is_falling}
 use Rattle.member_slots.specs.Members.{Numbered}
 use Rattle.path_set.specs.declared.kept.Kept.{Kept}
 use Rattle.path_set.specs.declared.kept.TheConstants.{MOST_PATHS}
+use Rattle.path_set.specs.declared.kept.Asked.{Asked}
 use Rattle.path_set.specs.KeptPaths.{KeptPath, PathRoom, KeptPaths}
+use Rattle.path_set.specs.RecordChanges.{RecordChange}
 
 abbrev pub path_of : Kept → KeptPath
 path_of kept = record { spec = kept.by; files = kept.files; entries = kept.path.entries }
@@ -50,3 +53,20 @@ pub record IsFirstFree (kept : List Kept) (place : ℕ) : Type 0 where
   pub in_range : place ≤ length kept
   pub before : (k : ℕ) (d : Kept) → k < place → (slice_index_or kept k d).id ≡ k
   pub here : place < length kept → HoldsAt (λ path. path.id ≢ place) kept place
+
+-- the same path, with no less room
+pub record HasMoreRoom (old new : Kept) : Type 0 where
+  pub id : new.id ≡ old.id
+  pub by : new.by ≡ old.by
+  pub files : new.files ≡ old.files
+  pub entries : new.path.entries ≡ old.path.entries
+  pub falling : new.path.falling ≡ old.path.falling
+  pub spare : old.path.spare ≤ new.path.spare
+
+-- with this number of files
+abbrev pub with_files : Kept → ℕ → Kept
+with_files kept files = record { id = kept.id; by = kept.by; files = files; path = kept.path }
+
+-- the change that is asked for
+abbrev pub change_of : Asked → RecordChange
+change_of asked = record { member = asked.member; rrn = asked.rrn; old = option_copied asked.old; new = option_copied asked.new }

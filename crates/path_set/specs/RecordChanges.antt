@@ -37,10 +37,14 @@ TakeImage member image paths = All (λ path. TakesImage member image path.item.s
 abbrev pub move_in : KeyOf → RecordChange → (format : ℕ) → Move
 move_in keys c format = record { format = format; rrn = c.rrn; old = image_key (keys format) c.old; new = image_key (keys format) c.new }
 
--- the moves of the formats over these members, where it is the record's; the first format has this number
+-- the move of a format over this member, where it is the record's
+abbrev pub moves_at : KeyOf → RecordChange → (format member : ℕ) → List Move
+moves_at keys c format member = if member == c.member then move_in keys c format ∷ [] else []
+
+-- the moves of the formats over these members, the first of which has this number
 abbrev pub moves_from : KeyOf → RecordChange → (format : ℕ) → (members : List ℕ) → List Move
 moves_from keys c format [] = []
-moves_from keys c format (member ∷ members) = (if member == c.member then move_in keys c format ∷ [] else []) ++ moves_from keys c (format + 1) members
+moves_from keys c format (member ∷ members) = moves_at keys c format member ++ moves_from keys c (format + 1) members
 
 -- the moves of a path
 abbrev pub moves_of : RecordChange → PathSpec → List Move

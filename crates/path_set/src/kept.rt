@@ -1,13 +1,13 @@
 //! One kept path, and paths in a list by ascending number. The set itself is in `set.rt`.
-ghost use Rattle.std.specs.Prelude.{◌≡◌, ◌≢◌, ◌*◌, ◌<◌, ◌≤◌, ◌++◌, All, IfSome, IfNone, IfOk, IfErr, OnOk, HoldsAt, MatchOption, length};
+ghost use Rattle.std.specs.Prelude.{◌≡◌, ◌≢◌, ◌*◌, ◌+◌, ◌<◌, ◌≤◌, ◌++◌, ℕ, All, IfSome, IfNone, IsSome, IfOk, IfErr, OnOk, OnErr, HoldsAt, length, slice_index};
 ghost use Rattle.std.specs.Option.{option_copied};
 ghost use Rattle.member_slots.specs.Members.{item_at};
-ghost use Rattle.access_path.specs.Moves.{opposite, moved, FitsIn};
-ghost use Rattle.access_path.specs.PathBytes.{is_falling};
+ghost use Rattle.access_path.specs.PathBytes.{is_falling, members_of};
+ghost use Rattle.path_entrants.specs.Formats.{keys_of};
 ghost use Rattle.path_set.specs.KeptPaths.{entries_of};
-ghost use Rattle.path_set.specs.RecordChanges.{TakesImage, in_path, moves_of};
+ghost use Rattle.path_set.specs.RecordChanges.{TakesImage, in_path, moves_at, moves_of};
 ghost use Rattle.path_set.specs.Sharing.{CanBeKept};
-ghost use Rattle.path_set.specs.Entries.{AreKept, IsPlace, IsGap, IsFirstFree};
+ghost use Rattle.path_set.specs.Entries.{AreKept, IsPlace, IsGap, IsFirstFree, HasMoreRoom, with_files, change_of, paths_of};
 
 use crate::moves::Moves;
 use access_path::entrant::Entrant;
@@ -35,33 +35,67 @@ pub struct Kept {
     pub(crate) path: Path,
 }
 
+/// A change of a record that is to be prepared: its image before it and after it, none where it isn't live.
+#[derive(Clone, Copy)]
+pub struct Asked<'a> {
+    pub(crate) member: u32,
+    pub(crate) rrn: u32,
+    pub(crate) old: Option<&'a [u8]>,
+    pub(crate) new: Option<&'a [u8]>,
+    /// The undos that are held.
+    pub(crate) held: u32,
+}
+
 impl Kept {
-    /// Prepares a change of a record in each format over its member, and adds it to the moves.
-    pub(crate) fn prepare(
-        &mut self,
-        member: u32,
-        rrn: u32,
-        old: Option<&[u8]>,
-        new: Option<&[u8]>,
-        held: u32,
-        moves: &mut Moves,
-    ) -> Result<(), AllocError>
-        requires old { TakesImage member (option_copied old) self.old.by }
-        requires new { TakesImage member (option_copied new) self.old.by }
-        ensures moves { OnOk result (moves.new ≡ moves.old ++ in_path self.old.id (moves_of (record { member = member; rrn = rrn; old = option_copied old.entry; new = option_copied new.entry }) self.old.by)) }
-        ensures id { self.new.id ≡ self.old.id }
-        ensures by { self.new.by ≡ self.old.by }
-        ensures files { self.new.files ≡ self.old.files }
-        ensures entries { self.new.path.entries ≡ self.old.path.entries }
-        ensures falling { self.new.path.falling ≡ self.old.path.falling }
-        ensures spare { self.old.path.spare ≤ self.new.path.spare }
+    /// One file more has it. It answers its number, or that no more files can be counted.
+    pub(crate) fn add_file(&mut self) -> Result<u64, AllocError>
+        ensures id { IfOk result (λ id. id ≡ self.old.id) }
+        ensures counted { OnOk result (self.new ≡ with_files self.old (self.old.files + 1)) }
+        ensures refused { OnErr result (self.new ≡ self.old) }
+    {
+        let Some(files) = self.files.checked_add(1) else {
+            return Err(AllocError);
+        };
+        self.files = files;
+        Ok(self.id)
+    }
+
+    /// Prepares a change in each format over its member, and adds it to the moves.
+    pub(crate) fn prepare(&mut self, asked: Asked<'_>, moves: &mut Moves) -> Result<(), AllocError>
+        requires old { TakesImage asked.member (option_copied asked.old) self.old.by }
+        requires new { TakesImage asked.member (option_copied asked.new) self.old.by }
+        ensures moves { OnOk result (moves.new ≡ moves.old ++ in_path self.old.id (moves_of (change_of asked.entry) self.old.by)) }
+        ensures same { HasMoreRoom self.old self.new }
+        ensures room { OnOk result ((k : ℕ) → k < length (members_of self.old.by.formats) → slice_index (members_of self.old.by.formats) k ≡ asked.entry.member
+            → (asked.entry.held + 2) * length (members_of self.old.by.formats) ≤ self.new.path.spare) }
     {
         for format in 0..self.by.formats() {
-            if self.by.member(format) == member {
-                let change = self.path.prepare(&self.by, format, rrn, old, new, held)?;
-                moves.push(self.id, change)?;
-            }
+            self.prepare_format(format, asked, moves)?;
         }
+        Ok(())
+    }
+
+    /// Prepares it in one format, where that is over the member.
+    fn prepare_format(
+        &mut self,
+        format: u16,
+        asked: Asked<'_>,
+        moves: &mut Moves,
+    ) -> Result<(), AllocError>
+        requires there { format < length (members_of self.old.by.formats) }
+        requires old { TakesImage asked.member (option_copied asked.old) self.old.by }
+        requires new { TakesImage asked.member (option_copied asked.new) self.old.by }
+        ensures moves { OnOk result (moves.new ≡ moves.old ++ in_path self.old.id (moves_at (keys_of self.old.by.formats) (change_of asked.entry) format (slice_index (members_of self.old.by.formats) format))) }
+        ensures same { HasMoreRoom self.old self.new }
+        ensures room { OnOk result (slice_index (members_of self.old.by.formats) format ≡ asked.entry.member → (asked.entry.held + 2) * length (members_of self.old.by.formats) ≤ self.new.path.spare) }
+    {
+        if self.by.member(format) != asked.member {
+            return Ok(());
+        }
+        let change = self.path.prepare(
+            &self.by, format, asked.rrn, asked.old, asked.new, asked.held,
+        )?;
+        moves.push(self.id, change)?;
         Ok(())
     }
 }
@@ -110,6 +144,15 @@ pub(crate) fn place_of(kept: &[Kept], id: u64) -> Result<usize, usize>
     ensures absent { IfErr result (IsGap kept.now id) }
 {
     kept.binary_search_by_key(&id, |path| path.id)
+}
+
+/// Where the path of a number is, which is kept.
+pub(crate) fn place_of_kept(kept: &[Kept], id: u64) -> usize
+    requires sorted { AreKept kept.now }
+    requires there { IsSome (item_at id (paths_of kept.now).paths) }
+    ensures { IsPlace kept.now id result }
+{
+    place_of(kept, id).unwrap()
 }
 
 /// Where the path of a specification is.

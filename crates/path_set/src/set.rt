@@ -1,7 +1,7 @@
 //! The paths that a library keeps. A single one is in `kept.rt`, a prepared change in `moves.rt`.
-ghost use Rattle.std.specs.Prelude.{◌≡◌, ◌+◌, ◌*◌, ◌≤◌, ◌⊎◌, ℕ, [], ◌∷◌, Some, None, IfSome, IfOk, OnOk, OnErr, MatchOption, MatchResult, IsErrOf, is_some, length, if◌then◌else◌};
+ghost use Rattle.std.specs.Prelude.{◌≡◌, ◌+◌, ◌*◌, ◌≤◌, ◌⊎◌, ℕ, [], ◌∷◌, Some, None, IsSome, IfSome, IfOk, OnOk, OnErr, MatchOption, MatchResult, IsErrOf, is_some, length, if◌then◌else◌};
 ghost use Rattle.std.specs.Option.{option_copied};
-ghost use Rattle.member_slots.specs.Members.{item_at};
+ghost use Rattle.member_slots.specs.Members.{item_at, put_item};
 ghost use Rattle.file_model.specs.Paths.{repeated_in};
 ghost use Rattle.access_path.specs.PathBytes.{is_falling};
 ghost use Rattle.access_path.specs.Moves.{opposite, FitsIn};
@@ -12,7 +12,9 @@ ghost use Rattle.path_set.specs.RecordChanges.{TakeImage, moves_in, opposites, p
 ghost use Rattle.path_set.specs.Sharing.{CanBeKept, IsNew, IsShared, IsPut, IsLeastFree, detached};
 
 use crate::faults::PathFault;
-use crate::kept::{Kept, MOST_PATHS, first_free, path_over, place_of, place_of_spec};
+use crate::kept::{
+    Asked, Kept, MOST_PATHS, first_free, path_over, place_of, place_of_kept, place_of_spec,
+};
 use crate::moves::{Moves, PathMove};
 use access_path::entrant::Entrant;
 use access_path::path::Path;
@@ -105,14 +107,10 @@ impl PathSet {
         ensures shared { MatchResult result (λ id. MatchOption id (IsNew spec.now self.old.paths × (self.new ≡ self.old)) (λ id. IsShared spec.now id self.old.paths self.new.paths)) (λ _. self.new ≡ self.old) }
         ensures rooms { self.new.rooms ≡ self.old.rooms }
     {
-        let Some(place) = place_of_spec(&self.paths, spec) else {
-            return Ok(None);
-        };
-        let Some(files) = self.paths[place].files.checked_add(1) else {
-            return Err(AllocError);
-        };
-        self.paths[place].files = files;
-        Ok(Some(self.paths[place].id))
+        match place_of_spec(&self.paths, spec) {
+            Some(place) => Ok(Some(self.paths[place].add_file()?)),
+            None => Ok(None),
+        }
     }
 
     /// Keeps a path for one file, under the least free number.
@@ -145,13 +143,12 @@ impl PathSet {
         ensures paths { self.new.paths ≡ detached id self.old.paths }
         ensures rooms { (other : ℕ) → IsSome (item_at other self.new.paths) → spare_of other self.new ≡ spare_of other self.old }
     {
-        let Ok(place) = place_of(&self.paths, id) else {
-            return;
-        };
-        if self.paths[place].files > 1 {
-            self.paths[place].files -= 1;
-        } else {
-            self.paths.remove(place);
+        match place_of(&self.paths, id) {
+            Ok(place) if self.paths[place].files > 1 => self.paths[place].files -= 1,
+            Ok(place) => {
+                self.paths.remove(place);
+            }
+            Err(_) => {}
         }
     }
 
@@ -173,8 +170,15 @@ impl PathSet {
         ensures rooms { (id : ℕ) → spare_of id self.old ≤ spare_of id self.new }
     {
         let mut moves = Moves::new(self.alloc);
+        let asked = Asked {
+            member,
+            rrn,
+            old,
+            new,
+            held,
+        };
         for place in 0..self.paths.len() {
-            self.paths[place].prepare(member, rrn, old, new, held, &mut moves)?;
+            self.paths[place].prepare(asked, &mut moves)?;
         }
         Ok(moves)
     }
@@ -187,7 +191,7 @@ impl PathSet {
         ensures rooms { (id : ℕ) → spare_of id self.old ≤ spare_of id self.new + count_in id moves }
     {
         let Moves { mut items } = moves;
-        for _ in 0..items.len() {
+        for turn in 0..items.len() {
             let PathMove { id, change } = items.pop_front().unwrap();
             let change = self.change_path(id, change);
             items.push_back_reserved(PathMove { id, change });
@@ -197,12 +201,14 @@ impl PathSet {
 
     /// Does a prepared change in one path and gives the opposite.
     fn change_path(&mut self, id: u64, change: Prepared) -> Prepared
-        requires { CanBeMade (record { id = id; change = change } ∷ []) self.old }
+        requires there { IsSome (item_at id self.old.paths) }
+        requires fits { IfSome (item_at id self.old.paths) (λ path. FitsIn (is_falling path.spec.ties) change path.entries) }
+        requires spare { 1 ≤ spare_of id self.old }
         ensures paths { self.new.paths ≡ paths_after (record { id = id; change = change } ∷ []) self.old.paths }
         ensures opposite { result ≡ opposite change }
         ensures rooms { (other : ℕ) → spare_of other self.old ≤ spare_of other self.new + count_in other (record { id = id; change = change } ∷ []) }
     {
-        let place = place_of(&self.paths, id).unwrap();
+        let place = place_of_kept(&self.paths, id);
         self.paths[place].path.change(change)
     }
 
