@@ -204,24 +204,24 @@ AreNew front xs = AllByRecursion (λ y. list_any (has_equal_key y.key) front ≡
 
 new-more : (front : List PathEntry) (x : PathEntry) (xs : List PathEntry) → AreNew front xs → list_any (has_equal_key x.key) xs ≡ false → AreNew (front ++ x ∷ []) xs
 new-more front x [] new none = tt
-new-more front x (y ∷ xs) new none = by (has_equal_key x.key y) refl none
+new-more front x (y ∷ xs) new none = by (has_equal_key x.key y) refl none (λ h. new-more front x xs new.1 h)
   where
-    by : (b : Bool) → has_equal_key x.key y ≡ b → b || list_any (has_equal_key x.key) xs ≡ false → AreNew (front ++ x ∷ []) (y ∷ xs)
-    by true is h = absurd (let e : true ≡ false = h in cc)
-    by false is h = (
+    by : (b : Bool) → has_equal_key x.key y ≡ b → b || list_any (has_equal_key x.key) xs ≡ false → (list_any (has_equal_key x.key) xs ≡ false → AreNew (front ++ x ∷ []) xs)
+        → AreNew (front ++ x ∷ []) (y ∷ xs)
+    by true is h more = absurd (let e : true ≡ false = h in cc)
+    by false is h more = (
       any-append (has_equal_key y.key) front (x ∷ [])
       ∙ ap (λ (b : Bool). b || (has_equal_key y.key x || false)) new.0
       ∙ ap (λ (b : Bool). b || false) (equal-back y x ∙ is),
-      new-more front x xs new.1 h,
+      more h,
     )
 
 first-told : (front xs : List PathEntry) → AreNew front xs → Rises xs → least_of (front ++ xs) xs ≡ first_repeated xs
 first-told front [] new rises = refl
-first-told front (x ∷ xs) new rises = by (list_any (has_equal_key x.key) xs) refl
+first-told front (x ∷ xs) new rises =
+    by (list_any (has_equal_key x.key) xs) refl
+    (λ none. ap (λ (w : List PathEntry). least_of w xs) (sym (append_assoc front (x ∷ []) xs)) ∙ first-told (front ++ x ∷ []) xs (new-more front x xs new.1 none) rises.1)
   where
-    itself : has_equal_key x.key x || list_any (has_equal_key x.key) xs ≡ has_equal_key x.key x || list_any (has_equal_key x.key) xs
-    itself = refl
-
     other : has_other (front ++ x ∷ xs) x ≡ list_any (has_equal_key x.key) xs
     other =
         any-append (is_other x) front (x ∷ xs)
@@ -230,15 +230,13 @@ first-told front (x ∷ xs) new rises = by (list_any (has_equal_key x.key) xs) r
         ∙ ap (λ (b : Bool). b || list_any (is_other x) xs) (and-false (has_equal_key x.key x))
         ∙ later-other x xs rises.0
 
-    rest : list_any (has_equal_key x.key) xs ≡ false → least_of (front ++ x ∷ xs) xs ≡ first_repeated xs
-    rest none = ap (λ (w : List PathEntry). least_of w xs) (sym (append_assoc front (x ∷ []) xs)) ∙ first-told (front ++ x ∷ []) xs (new-more front x xs new.1 none) rises.1
-
-    by : (b : Bool) → list_any (has_equal_key x.key) xs ≡ b → least_of (front ++ x ∷ xs) (x ∷ xs) ≡ first_repeated (x ∷ xs)
-    by true is =
+    by : (b : Bool) → list_any (has_equal_key x.key) xs ≡ b → (list_any (has_equal_key x.key) xs ≡ false → least_of (front ++ x ∷ xs) xs ≡ first_repeated xs)
+        → least_of (front ++ x ∷ xs) (x ∷ xs) ≡ first_repeated (x ∷ xs)
+    by true is rest =
         ap (λ (b : Bool). lesser (cond b (Some x.rrn) None) (least_of (front ++ x ∷ xs) xs)) (other ∙ is)
         ∙ first-least x.rrn (front ++ x ∷ xs) xs rises.0
         ∙ sym (cond-true (list_any (has_equal_key x.key) xs) (Some x.rrn) (first_repeated xs) is)
-    by false is =
+    by false is rest =
         ap (λ (b : Bool). lesser (cond b (Some x.rrn) None) (least_of (front ++ x ∷ xs) xs)) (other ∙ is)
         ∙ rest is
         ∙ sym (cond-false (list_any (has_equal_key x.key) xs) (Some x.rrn) (first_repeated xs) is)

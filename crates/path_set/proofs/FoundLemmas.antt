@@ -111,3 +111,13 @@ pub found-each : (P : Numbered KeptPath → Type 0) (paths : List Kept) (place :
 found-each P paths place kept low read all =
     let at = get_or-map (numbered path_of) paths place kept (numbered path_of kept) low in
     subst P (at ∙ ap (numbered path_of) (sym read)) (all place (numbered path_of kept) (rw length-map low))
+
+-- no path has the number
+pub record IsMissing (value : KeptPaths) (number : ℕ) : Type 0 where
+  pub paths : item_at number value.paths ≡ None
+  pub rooms : item_at number value.rooms ≡ None
+
+pub missing : (items slice : List Kept) (value : KeptPaths) (number place : ℕ) → paths_of items ≡ value → slice ≡ items → IsGap slice number place → IsMissing value number
+missing items slice value number place view shown in_slice =
+    let gap : IsGap items number place = rw (← shown) in_slice in
+    rw (← view) (record { paths = item_at-gap path_of number items place gap; rooms = item_at-gap room_of number items place gap })

@@ -1,6 +1,6 @@
 -- Moves that are made one after another.
 use Rattle.std.proofs.Common.{ℕ, zero, suc, ◌+◌, ◌<◌, ◌≤◌, ◌≡◌, ◌≢◌, ◌==◌, Bool, true, false, cond, List, [], ◌∷◌, ◌++◌, length, map, set, get_or, Option, Some, None, IsSome, IfSome, refl, sym, ap, arith, ◌∙◌, subst, append_assoc}
-use Rattle.std.specs.Prelude.{filter, flat_map, All}
+use Rattle.std.specs.Prelude.{filter, flat_map, All, option_to_list}
 use Rattle.std.specs.List.{AllByRecursion}
 use Rattle.std.proofs.lemmas.Bool.{cases_order, cond_both, cond-true, cond-false}
 use Rattle.std.proofs.lemmas.Bool.Decides.{nat_tests}
@@ -99,16 +99,37 @@ underway-first moves start can = record {
     append-none [] = refl
     append-none (x ∷ xs) = ap (λ (w : List PathMove). x ∷ w) (append-none xs)
 
+-- there are as many as there were
+pub underway-length : (moves : List PathMove) (start : KeptPaths) (items : List PathMove) (now : KeptPaths) (turn : ℕ) → IsUnderway moves start items now turn → length items ≡ length moves
+underway-length moves start items now turn u =
+    let a = ap length u.turned in
+    let b = length-parts u.left (opposites u.done) in
+    let c = ap length u.whole in
+    let d = length-parts u.done u.left in
+    let o = length-opposites u.done in
+    omega (arith, a, b, c, d, o)
+  where
+    length-parts : (xs ys : List PathMove) → length (xs ++ ys) ≡ length xs + length ys
+    length-parts [] ys = omega arith
+    length-parts (x ∷ xs) ys = let e = length-parts xs ys in omega (arith, e)
+
+    length-opposites : (xs : List PathMove) → length (opposites xs) ≡ length xs
+    length-opposites [] = refl
+    length-opposites (x ∷ xs) = ap suc (length-opposites xs)
+
 -- the first of those that are left
 pub record IsNext (moves : List PathMove) (start : KeptPaths) (items : List PathMove) (now : KeptPaths) (turn : ℕ) (m : PathMove) (rest : List PathMove) : Type 0 where
   pub can : CanBeMade (m ∷ []) now
-  pub after : (opp : PathMove) (then : KeptPaths) → opp ≡ record { id = m.id; change = opposite m.change } → then.paths ≡ paths_after (m ∷ []) now.paths
-      → ((id : ℕ) → spare_of id now ≤ spare_of id then + count_in id (m ∷ [])) → IsUnderway moves start (rest ++ opp ∷ []) then (turn + 1)
+  pub after : (back : Move) (then : KeptPaths) (final : List PathMove) → back ≡ opposite m.change → then.paths ≡ paths_after (m ∷ []) now.paths
+      → ((id : ℕ) → spare_of id now ≤ spare_of id then + count_in id (m ∷ [])) → final ≡ rest ++ record { id = m.id; change = back } ∷ [] → IsUnderway moves start final then (turn + 1)
 
 pub underway-next : (moves : List PathMove) (start : KeptPaths) (items : List PathMove) (now : KeptPaths) (turn : ℕ) (m : PathMove) (rest : List PathMove)
-    → IsUnderway moves start items now turn → turn < length moves → items ≡ m ∷ rest → IsNext moves start items now turn m rest
-underway-next moves start items now turn m rest u low popped = by u.left refl
+    → (o : Option PathMove) → IsUnderway moves start items now turn → turn < length moves → items ≡ option_to_list o ++ rest → o ≡ Some m → IsNext moves start items now turn m rest
+underway-next moves start items now turn m rest o u low taken first = by u.left refl
   where
+    popped : items ≡ m ∷ rest
+    popped = taken ∙ ap (λ (x : Option PathMove). option_to_list x ++ rest) first
+
     ends : (left : List PathMove) → u.left ≡ left → length moves ≡ turn + length left
     ends left is = ap length u.whole ∙ (let e = length-parts u.done u.left in let s = ap length is in let c = u.count in omega (arith, e, s, c))
       where
@@ -126,12 +147,12 @@ underway-next moves start items now turn m rest u low popped = by u.left refl
         let can : CanBeMade (m ∷ xs) now = subst (λ (w : List PathMove). CanBeMade w now) left u.can in
         record {
           can = made-first m xs now can;
-          after = λ opp then is_opp made spare. record {
+          after = λ back then final is_back made spare is_final. record {
             done = u.done ++ m ∷ [];
             left = xs;
             whole = u.whole ∙ ap (λ (w : List PathMove). u.done ++ w) left ∙ sym (append_assoc u.done (m ∷ []) xs);
-            turned = ap (λ (w : List PathMove). w ++ opp ∷ []) (sym tail) ∙ append_assoc xs (opposites u.done) (opp ∷ [])
-                ∙ ap (λ (w : List PathMove). xs ++ w) (ap (λ (o : PathMove). opposites u.done ++ o ∷ []) is_opp ∙ sym (map-append (λ (y : PathMove). record { id = y.id; change = opposite y.change }) u.done (m ∷ [])));
+            turned = is_final ∙ ap (λ (w : List PathMove). w ++ record { id = m.id; change = back } ∷ []) (sym tail) ∙ append_assoc xs (opposites u.done) (record { id = m.id; change = back } ∷ [])
+                ∙ ap (λ (w : List PathMove). xs ++ w) (ap (λ (b : Move). opposites u.done ++ record { id = m.id; change = b } ∷ []) is_back ∙ sym (map-append (λ (y : PathMove). record { id = y.id; change = opposite y.change }) u.done (m ∷ [])));
             count = count-more u.done ∙ ap (λ (n : ℕ). n + 1) u.count;
             can = made-rest m xs now then can made spare;
             paths = ap (paths_after xs) made ∙ paths_after-cons m xs now.paths ∙ ap (λ (w : List PathMove). paths_after w now.paths) (sym left) ∙ u.paths;

@@ -37,7 +37,7 @@ more-room-then a b c h k = record {
 drop-first : {A : Type 0} (xs : List A) (i : ℕ) (d : A) → i < length xs → drop i xs ≡ get_or xs i d ∷ drop (i + 1) xs
 drop-first [] i d low = absurd (omega arith)
 drop-first (x ∷ xs) zero d low = refl
-drop-first (x ∷ xs) (suc i) d low = drop-first xs i d (omega arith)
+drop-first (x ∷ xs) (suc i) d low = drop-first xs i d (omega arith) ∙ ap (λ (n : ℕ). get_or xs i d ∷ drop n (x ∷ xs)) (let e : suc (i + 1) ≡ suc i + 1 = omega arith in e)
 
 -- the moves of a format, and of those after it
 pub moves-step : (keys : KeyOf) (c : RecordChange) (id format : ℕ) (members : List ℕ) → format < length members
@@ -236,6 +236,11 @@ gathering-end start c changes place moves items g high =
 pub prepare-room : (member changes : ℕ) (items : List Kept) → AreKept items → ((k : ℕ) (d : Kept) → k < length items → HasRoomAt member changes (get_or items k d)) → HaveRoom member changes (paths_of items)
 prepare-room member changes items h room k d within any = by items h room within refl
   where
+    get-same : (xs : List Kept) (i : ℕ) (a d : Kept) → i < length xs → get_or xs i a ≡ get_or xs i d
+    get-same [] i a d low = absurd (omega arith)
+    get-same (x ∷ xs) zero a d low = refl
+    get-same (x ∷ xs) (suc i) a d low = get-same xs i a d (omega arith)
+
     by : (xs : List Kept) → AreKept xs → ((k : ℕ) (d : Kept) → k < length xs → HasRoomAt member changes (get_or xs k d)) → k < length (map (numbered path_of) xs) → xs ≡ items
         → changes * length (get_or (map (numbered path_of) items) k d).item.spec.formats ≤ spare_of (get_or (map (numbered path_of) items) k d).number (paths_of items)
     by [] g r low is = absurd (omega arith)
@@ -254,7 +259,8 @@ prepare-room member changes items h room k d within any = by items h room within
         subst (λ (p : Numbered KeptPath). changes * length p.item.spec.formats ≤ spare_of p.number (paths_of items)) (sym at)
         (rw entry.spare (rw longer at holds))
 
-    get-same : (xs : List Kept) (i : ℕ) (a d : Kept) → i < length xs → get_or xs i a ≡ get_or xs i d
-    get-same [] i a d low = absurd (omega arith)
-    get-same (x ∷ xs) zero a d low = refl
-    get-same (x ∷ xs) (suc i) a d low = get-same xs i a d (omega arith)
+pub view-length : (items : List Kept) (value : KeptPaths) → paths_of items ≡ value → length value.paths ≡ length items
+view-length items value view = ap (λ (v : KeptPaths). length v.paths) (sym view) ∙ length-map items (numbered path_of)
+
+pub gathering-length : (start : KeptPaths) (c : RecordChange) (changes place : ℕ) (moves : List PathMove) (items : List Kept) → IsGathering start c changes place moves items → length items ≡ length start.paths
+gathering-length start c changes place moves items g = sym (length-map items (numbered path_of)) ∙ ap length g.same

@@ -87,9 +87,9 @@ module _ (keys : KeyOf) (falling : Bool) (c : RecordChange) (before after : Numb
       by (inl was) = from (ap (λ (s : List Slot). kept keys falling (done ++ s ∷ rest)) (sym was))
       by (inr last) =
           from (ap (λ (s : Slot). kept keys falling (done ++ (front ++ s ∷ back) ∷ rest)) last.deleted
-              ∙ ap (λ (s : List Slot). kept keys falling (done ++ (front ++ Deleted ∷ s) ∷ rest)) last.back
+              ∙ ap (λ (s : List Slot). kept keys falling (done ++ (front ++ Deleted ∷ s) ∷ rest)) last.none
               ∙ kept-deleted keys falling done rest front
-              ∙ ap (λ (s : List Slot). kept keys falling (done ++ s ∷ rest)) (sym last.front))
+              ∙ ap (λ (s : List Slot). kept keys falling (done ++ s ∷ rest)) (sym last.all))
 
   -- the moves from a format on
   pub record IsLedFrom (done : List (List Slot)) (members : List ℕ) : Type 0 where
@@ -98,7 +98,7 @@ module _ (keys : KeyOf) (falling : Bool) (c : RecordChange) (before after : Numb
 
   led-from : (done : List (List Slot)) (members : List ℕ) → IsLedFrom done members
   led-from done [] = record { fits = tt; is = refl }
-  led-from done (member ∷ members) = by (member == c.member) refl
+  led-from done (member ∷ members) = by (member == c.member) refl (λ slots. led-from (done ++ slots ∷ []) members)
     where
       longer : (slots : List Slot) → length (done ++ slots ∷ []) ≡ length done + 1
       longer slots = count done
@@ -107,12 +107,11 @@ module _ (keys : KeyOf) (falling : Bool) (c : RecordChange) (before after : Numb
           count [] = omega arith
           count (x ∷ xs) = let e = count xs in omega (arith, e)
 
-      next : (slots : List Slot) → slots ≡ (member_of member after).slots → record {
+      next : (slots : List Slot) → IsLedFrom (done ++ slots ∷ []) members → slots ≡ (member_of member after).slots → record {
         fits : FitAll falling (moves_from keys c (length done + 1) members) (kept keys falling (done ++ slots ∷ member_slots members before));
         is : moved_all falling (moves_from keys c (length done + 1) members) (kept keys falling (done ++ slots ∷ member_slots members before)) ≡ kept keys falling (done ++ member_slots (member ∷ members) after);
       }
-      next slots same =
-          let rest = led-from (done ++ slots ∷ []) members in
+      next slots rest same =
           let count = longer slots in
           let join : kept keys falling ((done ++ slots ∷ []) ++ member_slots members before) ≡ kept keys falling (done ++ slots ∷ member_slots members before) =
           ap (kept keys falling) (append_assoc done (slots ∷ []) (member_slots members before)) in
@@ -126,11 +125,11 @@ module _ (keys : KeyOf) (falling : Bool) (c : RecordChange) (before after : Numb
                 ∙ rest.is ∙ also;
           }
 
-      by : (b : Bool) → (member == c.member) ≡ b → IsLedFrom done (member ∷ members)
-      by true same =
+      by : (b : Bool) → (member == c.member) ≡ b → ((slots : List Slot) → IsLedFrom (done ++ slots ∷ []) members) → IsLedFrom done (member ∷ members)
+      by true same more =
           let own : member ≡ c.member = grind (arith, nat_tests) in
           let now = led done members in
-          let rest = next (member_of c.member after).slots (ap (λ (n : ℕ). (member_of n after).slots) (sym own)) in
+          let rest = next (member_of c.member after).slots (more (member_of c.member after).slots) (ap (λ (n : ℕ). (member_of n after).slots) (sym own)) in
           let moves : moves_from keys c (length done) (member ∷ members) ≡ move_in keys c (length done) ∷ moves_from keys c (length done + 1) members =
           ap (λ (w : List Move). w ++ moves_from keys c (length done + 1) members) (cond-true (member == c.member) (move_in keys c (length done) ∷ []) [] same) in
           let start : mixed done (c.member ∷ members) ≡ mixed done (member ∷ members) = ap (λ (n : ℕ). mixed done (n ∷ members)) (sym own) in
@@ -144,9 +143,9 @@ module _ (keys : KeyOf) (falling : Bool) (c : RecordChange) (before after : Numb
                 ∙ ap (moved_all falling (moves_from keys c (length done + 1) members)) first
                 ∙ rest.is;
           }
-      by false same =
+      by false same more =
           let other : member ≢ c.member = grind (arith, nat_tests) in
-          let rest = next (member_of member before).slots (sym (changes.others member other)) in
+          let rest = next (member_of member before).slots (more (member_of member before).slots) (sym (changes.others member other)) in
           let moves : moves_from keys c (length done) (member ∷ members) ≡ moves_from keys c (length done + 1) members =
           ap (λ (w : List Move). w ++ moves_from keys c (length done + 1) members) (cond-false (member == c.member) (move_in keys c (length done) ∷ []) [] same) in
           record {
@@ -317,18 +316,18 @@ paths-over c before after paths changes shared over =
         → AllByRecursion (λ (path : Numbered KeptPath). (entries : List Entry) → entries_after (is_falling path.item.spec.ties) path.number (moves_in c paths) entries
             ≡ moved_all (is_falling path.item.spec.ties) (moves_of c path.item.spec) entries) rest
         → AllByRecursion (λ (path : Numbered KeptPath). entries_after (is_falling path.item.spec.ties) path.number (moves_in c paths) path.item.entries ≡ entries_of path.item.spec after) rest
-    join [] was led = tt
-    join (path ∷ rest) was led = (
-      led.0 path.item.entries ∙ ap (moved_all (is_falling path.item.spec.ties) (moves_of c path.item.spec)) was.0 ∙ (led-path c before after changes path.item.spec).is,
-      join rest was.1 led.1,
+    join [] was follows = tt
+    join (path ∷ rest) was follows = (
+      follows.0 path.item.entries ∙ ap (moved_all (is_falling path.item.spec.ties) (moves_of c path.item.spec)) was.0 ∙ (led-path c before after changes path.item.spec).is,
+      join rest was.1 follows.1,
     )
 
 some-at : (front : NumberedPaths) (path : Numbered KeptPath) (back : NumberedPaths) → IsSome (item_at path.number (front ++ path ∷ back))
-some-at [] path back = rw (let e : cond (path.number == path.number) (Some path.item) (item_at path.number back) ≡ Some path.item = cond-true (path.number == path.number) (Some path.item) (item_at path.number back) (let t : (path.number == path.number) ≡ true = grind (arith, nat_tests) in t) in e) tt
+some-at [] path back = rw (let e : cond (path.number == path.number) (Some path.item) (item_at path.number back) ≡ Some path.item = cond-true (path.number == path.number) (Some path.item) (item_at path.number back) (let t : (path.number == path.number) ≡ true = grind (arith, nat_tests) in t) in e) refl
 some-at (first ∷ front) path back = by (first.number == path.number) (some-at front path back)
   where
     by : (b : Bool) → IsSome (item_at path.number (front ++ path ∷ back)) → IsSome (cond b (Some first.item) (item_at path.number (front ++ path ∷ back)))
-    by true rest = tt
+    by true rest = refl
     by false rest = rest
 
 both-moves : (P : PathMove → Type 0) (xs ys : List PathMove) → AllByRecursion P xs → AllByRecursion P ys → AllByRecursion P (xs ++ ys)

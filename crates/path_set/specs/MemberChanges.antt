@@ -13,8 +13,8 @@ slot_with (Some image) = Live image
 
 -- a record is added after these slots
 pub record IsAfterLast (old : Slot) (before front back : List Slot) : Type 0 where
-  pub front : before ≡ front
-  pub back : back ≡ []
+  pub all : before ≡ front
+  pub none : back ≡ []
   pub deleted : old ≡ Deleted
 
 -- the slots differ at this number alone, where they had the old slot, or where a deleted one comes after the last

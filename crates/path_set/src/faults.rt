@@ -1,4 +1,6 @@
 //! Why a path is not kept.
+ghost use Rattle.std.specs.Prelude.{◌≡◌};
+
 use std::alloc::AllocError;
 
 #[derive(Clone, Copy, PartialEq)]

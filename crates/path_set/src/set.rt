@@ -84,7 +84,8 @@ impl PathSet {
         if let Some(rrn) = equal_keys(&by, &path) {
             return Err(PathFault::Equal { rrn });
         }
-        Ok(self.put(by, path)?)
+        let id = self.put(by, path)?;
+        Ok(id)
     }
 
     /// Gives a file its path, as `attach` does, where no record is changed and no two keys are equal that may not be.
@@ -99,7 +100,8 @@ impl PathSet {
         }
         let by = SpecEntrant::new(spec);
         let path = path_over(self.alloc, &by, members, 0)?;
-        self.put(by, path)
+        let id = self.put(by, path)?;
+        Ok(id)
     }
 
     /// Gives a file the path of a specification that is kept.
@@ -119,7 +121,8 @@ impl PathSet {
         requires absent { IsNew by self.old.paths }
         ensures number { IfOk result (λ id. IsLeastFree id self.old.paths) }
         ensures paths { IfOk result (λ id. self.new.paths ≡ put_item id (record { spec = by; files = 1; entries = path.entries }) self.old.paths) }
-        ensures rooms { IfOk result (λ id. self.new.rooms ≡ put_item id (record { spare = path.spare; pages = path.pages }) self.old.rooms) }
+        ensures room { IfOk result (λ id. spare_of id self.new ≡ path.spare) }
+        ensures rooms { (id : ℕ) → spare_of id self.old ≤ spare_of id self.new }
         ensures refused { OnErr result (self.new ≡ self.old) }
     {
         if self.paths.len() >= MOST_PATHS {

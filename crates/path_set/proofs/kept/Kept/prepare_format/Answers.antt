@@ -1,4 +1,4 @@
-use Rattle.std.proofs.Common.{◌≡◌, get_or, refl, sym, ap, ◌∙◌, ◌∷◌, ◌++◌, arith, List}
+use Rattle.std.proofs.Common.{◌≡◌, get_or, refl, sym, ap, ◌∙◌, ◌∷◌, ◌++◌, arith, List, rules}
 use Rattle.access_path.specs.PathBytes.{members_of}
 use Rattle.path_entrants.specs.Formats.{keys_of}
 use Rattle.path_set.specs.declared.moves.PathMove.{PathMove}
