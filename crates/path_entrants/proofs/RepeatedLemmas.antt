@@ -211,8 +211,8 @@ new-more front x (y ∷ xs) new none = by (has_equal_key x.key y) refl none (λ 
     by true is h more = absurd (let e : true ≡ false = h in cc)
     by false is h more = (
       any-append (has_equal_key y.key) front (x ∷ [])
-      ∙ ap (λ (b : Bool). b || (has_equal_key y.key x || false)) new.0
-      ∙ ap (λ (b : Bool). b || false) (equal-back y x ∙ is),
+          ∙ ap (λ (b : Bool). b || (has_equal_key y.key x || false)) new.0
+          ∙ ap (λ (b : Bool). b || false) (equal-back y x ∙ is),
       more h,
     )
 

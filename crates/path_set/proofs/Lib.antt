@@ -5,4 +5,5 @@ pub mod FoundLemmas
 pub mod MoveLemmas
 pub mod PrepareLemmas
 pub mod ShareLemmas
+pub mod AttachLemmas
 pub mod RecordLemmas
