@@ -1,12 +1,12 @@
 -- The least number whose key another entry has is that of the first record, in arrival order, that has an equal later one.
-use Rattle.std.proofs.Common.{◌≡◌, ◌≢◌, ℕ, zero, suc, ◌+◌, ◌<◌, ◌≤◌, Bool, true, false, not, cond, ◌&&◌, ◌||◌, ◌==◌, Option, Some, None, List, [], ◌∷◌, ◌++◌, length, map, min, refl, sym, ◌∙◌, ap, subst, arith, append_assoc}
+use Rattle.std.proofs.Common.{◌≡◌, ℕ, ◌+◌, ◌<◌, ◌≤◌, Bool, true, false, not, cond, ◌&&◌, ◌||◌, ◌==◌, Option, Some, None, List, [], ◌∷◌, ◌++◌, length, map, min, refl, sym, ◌∙◌, ap, subst}
+use Rattle.std.proofs.Common.{arith, append_assoc}
 use Rattle.std.specs.Prelude.{filter, is_some}
 use Rattle.std.specs.List.{AllByRecursion, list_any}
 use Rattle.std.specs.declared.cmp.Ordering.{Ordering}
 use Rattle.std.specs.declared.cmp.Ordering.TheVariants.{Less, Equal, Greater}
-use Rattle.std.specs.Ordering.{nat_cmp, ordering_reverse, is_eq, is_lt}
-use Rattle.std.specs.Cmp.{IsTotalOrder}
-use Rattle.std.proofs.lemmas.Bool.{cond_both, cond-true, cond-false}
+use Rattle.std.specs.Ordering.{ordering_reverse, is_eq, is_lt}
+use Rattle.std.proofs.lemmas.Bool.{cond-true, cond-false}
 use Rattle.std.proofs.lemmas.Bool.Decides.{nat_tests}
 use Rattle.std.proofs.lemmas.List.Elements.{recursion_from_All}
 use Rattle.key_spec.specs.declared.KeyPart.{KeyPart}
@@ -19,7 +19,7 @@ use Rattle.member_slots.specs.Member.{records_from}
 use Rattle.member_slots.specs.Members.{NumberedMembers, member_of}
 use Rattle.file_model.specs.declared.paths.PathFormat.{PathFormat}
 use Rattle.file_model.specs.declared.paths.PathSpec.{PathSpec}
-use Rattle.file_model.specs.KeyOrder.{KeyValue, compare_keys, key_of}
+use Rattle.file_model.specs.KeyOrder.{compare_keys}
 use Rattle.file_model.specs.Selection.{selects}
 use Rattle.file_model.specs.Sorting.{put_in_order, in_order}
 use Rattle.file_model.specs.Views.{view_of}
@@ -29,9 +29,9 @@ use Rattle.file_model.proofs.PathLemmas.{weaker, all-map}
 use Rattle.key_order.specs.KeyFields.{AreBytes}
 use Rattle.key_order.proofs.KeyLemmas.{AreFit, keys-cmp, image-fits, Matches-itself}
 use Rattle.access_path.specs.Clash.{lesser, other_number, least_other}
-use Rattle.access_path.specs.PathBytes.{in_bytes, parts_of, ShowsBytes, IsInBytes}
+use Rattle.access_path.specs.PathBytes.{in_bytes, parts_of, ShowsBytes}
 use Rattle.access_path.proofs.OrderedLemmas.{all-in_order}
-use Rattle.path_entrants.specs.Repeated.{repeated_number, least_repeated, TellsRepeated}
+use Rattle.path_entrants.specs.Repeated.{least_repeated, TellsRepeated}
 
 -- ---- the lesser of two numbers
 
@@ -82,7 +82,8 @@ module _ (formats : List PathFormat) (parts : List KeyPart) (own : parts_of form
   some-other x [] good all = refl
   some-other x (e ∷ es) good all =
       some-lesser (other_number (in_bytes formats x).key x.rrn (in_bytes formats e)) (least_other (in_bytes formats x).key x.rrn (map (in_bytes formats) es))
-      ∙ ap (λ (o : Ordering). is_some (cond (is_eq o && not (e.rrn == x.rrn)) (Some e.rrn) None) || is_some (least_other (in_bytes formats x).key x.rrn (map (in_bytes formats) es))) (same-bytes x e good all.0)
+      ∙ ap (λ (o : Ordering). is_some (cond (is_eq o && not (e.rrn == x.rrn)) (Some e.rrn) None) || is_some (least_other (in_bytes formats x).key x.rrn (map (in_bytes formats) es)))
+      (same-bytes x e good all.0)
       ∙ ap (λ (b : Bool). b || is_some (least_other (in_bytes formats x).key x.rrn (map (in_bytes formats) es))) (some-cond (is_other x e) e.rrn)
       ∙ ap (λ (b : Bool). is_other x e || b) (some-other x es good all.1)
     where

@@ -1,13 +1,12 @@
 -- A walk over the entries of a path, from one to the next.
-use Rattle.std.proofs.Common.{◌≡◌, ℕ, suc, Bool, true, false, cond, Option, Some, None, List, [], ◌∷◌, length, min, refl, sym, ◌∙◌, ap, arith}
-use Rattle.std.specs.Prelude.{filter, is_some}
-use Rattle.std.specs.List.{find}
+use Rattle.std.proofs.Common.{◌≡◌, ℕ, Bool, Option, Some, None, List, [], ◌∷◌, min, refl, sym, ◌∙◌, ap, arith}
+use Rattle.std.specs.Prelude.{filter}
 use Rattle.key_pages.specs.declared.entries.Entry.{Entry}
 use Rattle.key_pages.specs.declared.positions.Position.{Position}
 use Rattle.key_pages.specs.declared.positions.Position.TheVariants.{Start}
-use Rattle.key_pages.specs.Order.{entry_cmp, IsInOrder}
-use Rattle.key_pages.specs.Position.{side_of, is_past, next_entry, IsOn}
-use Rattle.access_path.specs.Clash.{lesser, least_other}
+use Rattle.key_pages.specs.Order.{IsInOrder}
+use Rattle.key_pages.specs.Position.{is_past, next_entry, IsOn}
+use Rattle.access_path.specs.Clash.{lesser}
 use Rattle.access_path.proofs.ClashLemmas.{side-on, past-step, past-none, lesser-none}
 use Rattle.path_entrants.specs.Repeated.{repeated_number, least_repeated}
 

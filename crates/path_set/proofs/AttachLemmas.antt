@@ -11,7 +11,8 @@ use Rattle.path_set.specs.KeptPaths.{KeptPath, NumberedPaths, entries_of}
 use Rattle.path_set.specs.Sharing.{IsNew, IsShared}
 use Rattle.path_set.proofs.ShareLemmas.{judged}
 
-all-at : (spec : PathSpec) (id : ℕ) (found : KeptPath) (paths : NumberedPaths) → AllByRecursion (λ (path : Numbered KeptPath). path.item.spec ≢ spec) paths → item_at id paths ≡ Some found → found.spec ≡ spec → ⊥
+all-at : (spec : PathSpec) (id : ℕ) (found : KeptPath) (paths : NumberedPaths) → AllByRecursion (λ (path : Numbered KeptPath). path.item.spec ≢ spec) paths
+    → item_at id paths ≡ Some found → found.spec ≡ spec → ⊥
 all-at spec id found [] absent at same = let e : ◌≡◌ {A = Option KeptPath} None (Some found) = at in cc
 all-at spec id found (path ∷ paths) absent at same = by (path.number == id) at (all-at spec id found paths absent.1)
   where

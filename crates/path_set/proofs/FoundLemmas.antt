@@ -1,14 +1,14 @@
 -- What a call by number learns of the path that it has found, and of its change.
-use Rattle.std.proofs.Common.{ℕ, zero, suc, ◌+◌, ◌<◌, ◌≤◌, ◌≡◌, ◌≢◌, List, [], ◌∷◌, length, map, set, get_or, Option, Some, None, sym, ap, arith, refl, ◌∙◌, subst}
-use Rattle.std.specs.List.{insert, remove, All}
+use Rattle.std.proofs.Common.{ℕ, zero, suc, ◌<◌, ◌≡◌, ◌≢◌, List, [], ◌∷◌, length, map, set, get_or, Some, None, sym, ap, arith, refl, ◌∙◌, subst}
+use Rattle.std.specs.List.{remove, All}
 use Rattle.std.proofs.lemmas.Bool.Decides.{nat_tests}
 use Rattle.std.proofs.lemmas.List.{set-get_or, length-set, get_or-map, length-map, get_or-set_same, get_or-set_other}
 use Rattle.path_set.specs.declared.kept.Kept.{Kept}
-use Rattle.member_slots.specs.Members.{Numbered, item_at, with_item, put_item, without_item}
+use Rattle.member_slots.specs.Members.{Numbered, item_at, with_item, without_item}
 use Rattle.path_set.specs.KeptPaths.{KeptPath, PathRoom, KeptPaths, spare_of}
 use Rattle.path_set.specs.Entries.{AreKept, IsKept, IsPlace, IsGap, paths_of, numbered, path_of, room_of}
-use Rattle.path_set.proofs.PlaceLemmas.{item_at-place, item_at-gap, with_item-place, put_item-gap, without_item-place}
-use Rattle.path_set.proofs.OrderLemmas.{AreKept-set, AreKept-remove}
+use Rattle.path_set.proofs.PlaceLemmas.{item_at-place, item_at-gap, with_item-place, without_item-place}
+use Rattle.path_set.proofs.OrderLemmas.{AreKept-set}
 
 -- another item of another number
 pub item_at-set_other : {A : Type 0} (part : Kept → A) (paths : List Kept) (place number : ℕ) (new : Kept) → ((d : Kept) → (get_or paths place d).id ≢ number) → new.id ≢ number
@@ -30,13 +30,11 @@ pub record IsFound (paths : List Kept) (value : KeptPaths) (number place : ℕ) 
   pub rooms_after : (new : Kept) → new.id ≡ number → map (numbered room_of) (set paths place new) ≡ with_item number (room_of new) value.rooms
   pub same_paths : with_item number (path_of kept) value.paths ≡ value.paths
   pub same_rooms : with_item number (room_of kept) value.rooms ≡ value.rooms
-  pub unchanged : paths_of (set paths place kept) ≡ value
   pub spare_after : (new : Kept) → new.id ≡ number → spare_of number (paths_of (set paths place new)) ≡ new.path.spare
   pub others_after : (new : Kept) (other : ℕ) → new.id ≡ number → other ≢ number → spare_of other (paths_of (set paths place new)) ≡ spare_of other value
   pub ordered : (new : Kept) → new.id ≡ kept.id → new.by ≡ kept.by → IsKept new → AreKept (set paths place new)
   pub gone_paths : map (numbered path_of) (remove paths place) ≡ without_item number value.paths
   pub gone_rooms : map (numbered room_of) (remove paths place) ≡ without_item number value.rooms
-  pub gone_ordered : AreKept (remove paths place)
 
 IsPlace-set : (paths : List Kept) (number place : ℕ) (new : Kept) → IsPlace paths number place → new.id ≡ number → IsPlace (set paths place new) number place
 IsPlace-set paths number place new h same = record {
@@ -65,7 +63,6 @@ found paths slice value number place kept view invariant shown at_slice read =
       rooms_after = λ new same. sym (with_item-place room_of number paths place new at same);
       same_paths = with_item-place path_of number paths place kept at named ∙ ap (map (numbered path_of)) back;
       same_rooms = with_item-place room_of number paths place kept at named ∙ ap (map (numbered room_of)) back;
-      unchanged = ap paths_of back;
       spare_after = λ new same.
           let there = IsPlace-set paths number place new at same in
           spare-room number (paths_of (set paths place new)) (room_of new)
@@ -77,7 +74,6 @@ found paths slice value number place kept view invariant shown at_slice read =
           AreKept-set paths place new at.in_range (λ d. same_id ∙ ap (λ (k : Kept). k.id) (reads d)) (λ d. same_by ∙ ap (λ (k : Kept). k.by) (reads d)) is invariant;
       gone_paths = sym (without_item-place path_of number paths place at);
       gone_rooms = sym (without_item-place room_of number paths place at);
-      gone_ordered = AreKept-remove paths place invariant at.in_range;
     })
   where
     get-same : (xs : List Kept) (i : ℕ) (a d : Kept) → i < length xs → get_or xs i a ≡ get_or xs i d

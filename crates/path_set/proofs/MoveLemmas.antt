@@ -1,8 +1,9 @@
 -- Moves that are made one after another.
-use Rattle.std.proofs.Common.{ℕ, zero, suc, ◌+◌, ◌<◌, ◌≤◌, ◌≡◌, ◌≢◌, ◌==◌, Bool, true, false, cond, List, [], ◌∷◌, ◌++◌, length, map, set, get_or, Option, Some, None, IsSome, IfSome, refl, sym, ap, arith, ◌∙◌, subst, append_assoc}
-use Rattle.std.specs.Prelude.{filter, flat_map, All, option_to_list}
+use Rattle.std.proofs.Common.{ℕ, zero, suc, ◌+◌, ◌<◌, ◌≤◌, ◌≡◌, ◌≢◌, ◌==◌, Bool, true, false, cond, List, [], ◌∷◌, ◌++◌, length, map, set, get_or, Option, Some, IsSome, IfSome, refl, sym}
+use Rattle.std.proofs.Common.{ap, arith, ◌∙◌, subst, append_assoc}
+use Rattle.std.specs.Prelude.{filter, option_to_list}
 use Rattle.std.specs.List.{AllByRecursion}
-use Rattle.std.proofs.lemmas.Bool.{cases_order, cond_both, cond-true, cond-false}
+use Rattle.std.proofs.lemmas.Bool.{cond-true, cond-false}
 use Rattle.std.proofs.lemmas.Bool.Decides.{nat_tests}
 use Rattle.std.proofs.lemmas.List.{map-append}
 use Rattle.std.proofs.lemmas.List.Elements.{All-map, All-from_recursion, recursion_from_All}
@@ -14,7 +15,7 @@ use Rattle.access_path.specs.PathBytes.{is_falling}
 use Rattle.path_set.specs.declared.kept.Kept.{Kept}
 use Rattle.path_set.specs.declared.moves.PathMove.{PathMove}
 use Rattle.path_set.specs.KeptPaths.{KeptPath, KeptPaths, NumberedPaths, spare_of}
-use Rattle.path_set.specs.RecordChanges.{opposites, entries_after, path_after, paths_after, FitEntries, count_in, CanBeMade}
+use Rattle.path_set.specs.RecordChanges.{opposites, path_after, paths_after, FitEntries, count_in, CanBeMade}
 use Rattle.path_set.specs.Entries.{IsPlace, numbered, path_of, paths_of}
 use Rattle.path_set.proofs.PlaceLemmas.{IsPlace-tail}
 use Rattle.path_set.proofs.FoundLemmas.{IsFound}
@@ -27,14 +28,12 @@ count-one id m same = grind (arith, nat_tests)
 pub count-cons : (id : ℕ) (m : PathMove) (moves : List PathMove) → count_in id (m ∷ moves) ≡ count_in id (m ∷ []) + count_in id moves
 count-cons id m moves = by (m.id == id)
   where
-    by : (b : Bool) → length (cond b (m ∷ filter (λ (x : PathMove). x.id == id) moves) (filter (λ (x : PathMove). x.id == id) moves)) ≡ length (cond b (m ∷ []) []) + length (filter (λ (x : PathMove). x.id == id) moves)
+    by : (b : Bool) → length (cond b (m ∷ filter (λ (x : PathMove). x.id == id) moves) (filter (λ (x : PathMove). x.id == id) moves))
+        ≡ length (cond b (m ∷ []) []) + length (filter (λ (x : PathMove). x.id == id) moves)
     by true = omega arith
     by false = omega arith
 
 -- ---- one move after another
-
-after-none : (path : Numbered KeptPath) → path_after [] path ≡ path
-after-none path = refl
 
 pub paths_after-none : (paths : NumberedPaths) → paths_after [] paths ≡ paths
 paths_after-none [] = refl
@@ -152,7 +151,8 @@ underway-next moves start items now turn m rest o u low taken first = by u.left 
             left = xs;
             whole = u.whole ∙ ap (λ (w : List PathMove). u.done ++ w) left ∙ sym (append_assoc u.done (m ∷ []) xs);
             turned = is_final ∙ ap (λ (w : List PathMove). w ++ record { id = m.id; change = back } ∷ []) (sym tail) ∙ append_assoc xs (opposites u.done) (record { id = m.id; change = back } ∷ [])
-                ∙ ap (λ (w : List PathMove). xs ++ w) (ap (λ (b : Move). opposites u.done ++ record { id = m.id; change = b } ∷ []) is_back ∙ sym (map-append (λ (y : PathMove). record { id = y.id; change = opposite y.change }) u.done (m ∷ [])));
+                ∙ ap (λ (w : List PathMove). xs ++ w) (ap (λ (b : Move). opposites u.done ++ record { id = m.id; change = b } ∷ []) is_back
+                ∙ sym (map-append (λ (y : PathMove). record { id = y.id; change = opposite y.change }) u.done (m ∷ [])));
             count = count-more u.done ∙ ap (λ (n : ℕ). n + 1) u.count;
             can = made-rest m xs now then can made spare;
             paths = ap (paths_after xs) made ∙ paths_after-cons m xs now.paths ∙ ap (λ (w : List PathMove). paths_after w now.paths) (sym left) ∙ u.paths;

@@ -1,17 +1,14 @@
 -- The paths stay in order, and each once, when one of them changes, comes or goes.
 use Rattle.std.proofs.Common.{ℕ, zero, suc, ◌+◌, ◌-◌, ◌<◌, ◌≤◌, ◌≡◌, ◌≢◌, List, [], ◌∷◌, length, map, set, get_or, sym, ap, ◌∙◌, subst, arith}
-use Rattle.std.specs.List.{insert, remove, All, AllPairs}
+use Rattle.std.specs.List.{insert, All}
 use Rattle.std.proofs.lemmas.List.{get_or-map, length-map, length-set, get_or-set_same, get_or-set_other}
-use Rattle.std.proofs.lemmas.Grind.{common_steps}
 use Rattle.std.proofs.lemmas.List.Elements.{All-set, All-map}
-use Rattle.std.proofs.lemmas.List.Quantifiers.{all_pairs_remove}
-use Rattle.std.proofs.lemmas.List.Edits.{length-insert, get_or-insert_below, get_or-insert_at, get_or-insert_above, length-remove, get_or-remove_below, get_or-remove_above}
+use Rattle.std.proofs.lemmas.List.Edits.{length-insert, get_or-insert_below, get_or-insert_at, get_or-insert_above}
 use Rattle.path_set.specs.declared.kept.Kept.{Kept}
 use Rattle.path_set.specs.declared.kept.TheConstants.{MOST_PATHS}
 use Rattle.member_slots.specs.Members.{Numbered}
-use Rattle.file_model.specs.declared.paths.PathSpec.{PathSpec}
 use Rattle.path_set.specs.KeptPaths.{KeptPath, AreShared}
-use Rattle.path_set.specs.Entries.{AreKept, IsKept, IsPlace, IsGap, IsFirstFree, numbered, path_of}
+use Rattle.path_set.specs.Entries.{AreKept, IsKept, IsGap, IsFirstFree, numbered, path_of}
 
 -- ---- another path of the same number and specification at its place
 
@@ -19,8 +16,14 @@ module _ (paths : List Kept) (place : ℕ) (new : Kept) (within : place < length
   -- what is the same of the new one is the same at each place
   same-set : {A : Type 0} (part : Kept → A) → ((d : Kept) → part new ≡ part (get_or paths place d)) → (k : ℕ) (d : Kept) → part (get_or (set paths place new) k d) ≡ part (get_or paths k d)
   same-set part same k d =
-      grind (arith, ap part (get_or-set_same paths place new d within), λ (other : k ≢ place). ap part (get_or-set_other paths place k new d other), same d,
-      λ (at : k ≡ place). ap (λ i. part (get_or (set paths place new) i d)) at, λ (at : k ≡ place). ap (λ i. part (get_or paths i d)) at)
+      grind (
+        arith,
+        ap part (get_or-set_same paths place new d within),
+        λ (other : k ≢ place). ap part (get_or-set_other paths place k new d other),
+        same d,
+        λ (at : k ≡ place). ap (λ i. part (get_or (set paths place new) i d)) at,
+        λ (at : k ≡ place). ap (λ i. part (get_or paths i d)) at,
+      )
 
   pub AreKept-set : ((d : Kept) → new.id ≡ (get_or paths place d).id) → ((d : Kept) → new.by ≡ (get_or paths place d).by) → IsKept new → AreKept paths → AreKept (set paths place new)
   AreKept-set same_id same_by is h = record {
@@ -55,18 +58,6 @@ AreKept-insert paths number place new h gap same absent is few =
           grind (arith, below i d, here i d, above i d, below j d, here j d, above j d, h.once i j d, h.once i (j - 1) d, h.once (i - 1) (j - 1) d, absent i d, absent (j - 1) d);
       each = λ k d within. grind (arith, below k d, here k d, above k d, h.each k d, h.each (k - 1) d);
       few = omega (arith, longer);
-    }
-
--- ---- a path fewer
-
-pub AreKept-remove : (paths : List Kept) (place : ℕ) → AreKept paths → place < length paths → AreKept (remove paths place)
-AreKept-remove paths place h in_range =
-    let shorter = length-remove paths place in_range in
-    record {
-      ascend = all_pairs_remove (λ (former later : Kept). former.id < later.id) paths place in_range h.ascend;
-      once = all_pairs_remove (λ (former later : Kept). former.by ≢ later.by) paths place in_range h.once;
-      each = λ k d within. grind (arith, get_or-remove_below paths place d k, get_or-remove_above paths place d k, h.each k d, h.each (k + 1) d);
-      few = omega (arith, shorter, h.few);
     }
 
 -- ---- the first free number

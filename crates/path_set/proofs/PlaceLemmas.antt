@@ -1,4 +1,4 @@
--- What the place of a number in the list of paths says of the members.
+-- What the place of a number in the list of paths says of what they are seen as.
 use Rattle.std.proofs.Common.{ℕ, zero, suc, ◌<◌, ◌≡◌, List, [], ◌∷◌, length, map, set, get_or, Some, None, arith, refl}
 use Rattle.std.specs.List.{insert, remove}
 use Rattle.std.proofs.lemmas.Bool.Decides.{nat_tests}
@@ -6,7 +6,7 @@ use Rattle.path_set.specs.declared.kept.Kept.{Kept}
 use Rattle.member_slots.specs.Members.{item_at, with_item, put_item, without_item}
 use Rattle.path_set.specs.Entries.{numbered, IsPlace, IsGap}
 
--- a place after the first kept is a place of the paths after it
+-- a place after the first path is a place of the paths after it
 pub IsPlace-tail : (kept : Kept) (paths : List Kept) (number place : ℕ) → IsPlace (kept ∷ paths) number (suc place) → IsPlace paths number place
 IsPlace-tail kept paths number place h = record {
   in_range = omega (arith, h.in_range);
@@ -15,7 +15,7 @@ IsPlace-tail kept paths number place h = record {
   after = λ k d lt within. h.after (suc k) d (omega arith) (omega arith);
 }
 
--- a gap after the first kept is a gap of the paths after it
+-- a gap after the first path is a gap of the paths after it
 IsGap-tail : (kept : Kept) (paths : List Kept) (number place : ℕ) → IsGap (kept ∷ paths) number (suc place) → IsGap paths number place
 IsGap-tail kept paths number place h = record {
   in_range = omega (arith, h.in_range);
@@ -23,7 +23,7 @@ IsGap-tail kept paths number place h = record {
   after = λ k d le within. h.after (suc k) d (omega arith) (omega arith);
 }
 
--- no kept is left out where all have other numbers
+-- no path is left out where all have other numbers
 module _ {A : Type 0} (part : Kept → A) (number : ℕ) where
   without_item-above : (paths : List Kept) → ((k : ℕ) (d : Kept) → k < length paths → number < (get_or paths k d).id) → without_item number (map (numbered part) paths) ≡ map (numbered part) paths
   without_item-above [] above = refl
@@ -32,14 +32,14 @@ module _ {A : Type 0} (part : Kept → A) (number : ℕ) where
 
 -- at the place of the number
 module _ {A : Type 0} (part : Kept → A) (number : ℕ) where
-  -- its kept is found
+  -- its path is found
   pub item_at-place : (paths : List Kept) (place : ℕ) → IsPlace paths number place → (d : Kept) → item_at number (map (numbered part) paths) ≡ Some (part (get_or paths place d))
   item_at-place [] place h d = absurd (omega (arith, h.in_range))
   item_at-place (kept ∷ paths) zero h d = grind (arith, nat_tests, h.here d)
   item_at-place (kept ∷ paths) (suc place) h d =
       grind (arith, nat_tests, h.before zero d, item_at-place paths place (IsPlace-tail kept paths number place h) d)
 
-  -- another kept there is another item
+  -- another path there is another item
   pub with_item-place : (paths : List Kept) (place : ℕ) (new : Kept) → IsPlace paths number place → new.id ≡ number →
       with_item number (part new) (map (numbered part) paths) ≡ map (numbered part) (set paths place new)
   with_item-place [] place new h same = absurd (omega (arith, h.in_range))
@@ -47,15 +47,7 @@ module _ {A : Type 0} (part : Kept → A) (number : ℕ) where
   with_item-place (kept ∷ paths) (suc place) new h same =
       grind (arith, nat_tests, h.before zero kept, with_item-place paths place new (IsPlace-tail kept paths number place h) same)
 
-  -- and the item put in place of the one that is there
-  pub put_item-place : (paths : List Kept) (place : ℕ) (new : Kept) → IsPlace paths number place → new.id ≡ number →
-      put_item number (part new) (map (numbered part) paths) ≡ map (numbered part) (set paths place new)
-  put_item-place [] place new h same = absurd (omega (arith, h.in_range))
-  put_item-place (kept ∷ paths) zero new h same = grind (arith, nat_tests, h.here kept)
-  put_item-place (kept ∷ paths) (suc place) new h same =
-      grind (arith, nat_tests, h.before zero kept, put_item-place paths place new (IsPlace-tail kept paths number place h) same)
-
-  -- without the kept the item is gone
+  -- without the path the item is gone
   pub without_item-place : (paths : List Kept) (place : ℕ) → IsPlace paths number place →
       without_item number (map (numbered part) paths) ≡ map (numbered part) (remove paths place)
   without_item-place [] place h = absurd (omega (arith, h.in_range))
@@ -83,14 +75,7 @@ module _ {A : Type 0} (part : Kept → A) (number : ℕ) where
   item_at-gap (kept ∷ paths) (suc place) h =
       grind (arith, nat_tests, h.before zero kept, item_at-gap paths place (IsGap-tail kept paths number place h))
 
-  -- nothing is left out
-  pub without_item-gap : (paths : List Kept) (place : ℕ) → IsGap paths number place → without_item number (map (numbered part) paths) ≡ map (numbered part) paths
-  without_item-gap [] place h = refl
-  without_item-gap (kept ∷ paths) zero h = without_item-above part number (kept ∷ paths) (λ k d within. h.after k d (omega arith) within)
-  without_item-gap (kept ∷ paths) (suc place) h =
-      grind (arith, nat_tests, h.before zero kept, without_item-gap paths place (IsGap-tail kept paths number place h))
-
-  -- a new kept there is the item put in order
+  -- a new path there is the item put in order
   pub put_item-gap : (paths : List Kept) (place : ℕ) (new : Kept) → IsGap paths number place → new.id ≡ number →
       put_item number (part new) (map (numbered part) paths) ≡ map (numbered part) (insert paths place new)
   put_item-gap [] place new h same = grind (arith, nat_tests, h.in_range)

@@ -1,13 +1,13 @@
 -- Changes that are prepared in one format after another, and in one path after another.
-use Rattle.std.proofs.Common.{ℕ, zero, suc, ◌+◌, ◌*◌, ◌<◌, ◌≤◌, ◌≡◌, ◌≢◌, ◌==◌, Bool, true, false, cond, List, [], ◌∷◌, ◌++◌, length, map, drop, set, get_or, Option, Some, None, IfSome, refl, sym, ap, arith, ◌∙◌, subst, append_assoc}
-use Rattle.std.specs.Prelude.{All, Any, flat_map, slice_get}
-use Rattle.std.proofs.lemmas.Bool.{cond-true, cond-false}
+use Rattle.std.proofs.Common.{ℕ, zero, suc, ◌+◌, ◌*◌, ◌<◌, ◌≤◌, ◌≡◌, ◌≢◌, ◌==◌, Bool, true, false, List, [], ◌∷◌, ◌++◌, length, map, drop, set, get_or, Option, Some, None, IfSome, refl}
+use Rattle.std.proofs.Common.{sym, ap, arith, ◌∙◌, subst, append_assoc}
+use Rattle.std.specs.Prelude.{All, Any, slice_get}
 use Rattle.std.proofs.lemmas.Bool.Decides.{nat_tests}
-use Rattle.std.proofs.lemmas.List.{map-append, length-map, get_or-map, set-get_or, length-set, get_or-set_same, get_or-set_other}
+use Rattle.std.proofs.lemmas.List.{map-append, length-map, get_or-map, get_or-set_same, get_or-set_other}
 use Rattle.file_model.specs.declared.paths.PathFormat.{PathFormat}
 use Rattle.file_model.specs.declared.paths.PathSpec.{PathSpec}
 use Rattle.key_pages.specs.declared.entries.Entry.{Entry}
-use Rattle.member_slots.specs.Members.{Numbered, item_at, with_item}
+use Rattle.member_slots.specs.Members.{Numbered, with_item}
 use Rattle.access_path.specs.KeptEntries.{KeyOf}
 use Rattle.access_path.specs.Moves.{Move}
 use Rattle.access_path.specs.PathBytes.{is_falling, members_of}
@@ -15,8 +15,8 @@ use Rattle.path_entrants.specs.Formats.{IsAskable, CanBeAsked, keys_of}
 use Rattle.path_set.specs.declared.kept.Kept.{Kept}
 use Rattle.path_set.specs.declared.moves.PathMove.{PathMove}
 use Rattle.path_set.specs.KeptPaths.{KeptPath, KeptPaths, NumberedPaths, spare_of}
-use Rattle.path_set.specs.RecordChanges.{RecordChange, TakesImage, TakeImage, in_path, move_in, moves_at, moves_from, moves_of, moves_in, HaveRoom}
-use Rattle.path_set.specs.Entries.{AreKept, IsKept, IsPlace, HasMoreRoom, paths_of, numbered, path_of, room_of}
+use Rattle.path_set.specs.RecordChanges.{RecordChange, TakesImage, TakeImage, in_path, moves_at, moves_from, moves_of, moves_in, HaveRoom}
+use Rattle.path_set.specs.Entries.{AreKept, HasMoreRoom, paths_of, numbered, path_of}
 use Rattle.path_set.proofs.FoundLemmas.{IsFound, found, found-each, IsPlace-at}
 
 -- ---- the formats of a path
@@ -94,8 +94,8 @@ preparing-next start c changes begun format moves more now next p low wider new 
       room = λ k below same.
           equal-or-not (changes * length (members_of start.by.formats) ≤ next.path.spare) k format
           (λ here.
-              subst (λ (s : PathSpec). changes * length (members_of s.formats) ≤ next.path.spare) p.same.by
-              (room (subst (λ (s : PathSpec). get_or (members_of s.formats) format 0 ≡ c.member) (sym p.same.by) (subst (λ n. get_or (members_of start.by.formats) n 0 ≡ c.member) here same))))
+          subst (λ (s : PathSpec). changes * length (members_of s.formats) ≤ next.path.spare) p.same.by
+          (room (subst (λ (s : PathSpec). get_or (members_of s.formats) format 0 ≡ c.member) (sym p.same.by) (subst (λ n. get_or (members_of start.by.formats) n 0 ≡ c.member) here same))))
           (λ other. let e = p.room k (omega arith) same in let w = wider.spare in omega (arith, e, w));
     }
 
@@ -115,18 +115,6 @@ preparing-end start c changes begun format moves now p high =
     sym (append-none moves)
     ∙ ap (λ (w : List ℕ). moves ++ in_path start.id (moves_from (keys_of start.by.formats) c format w)) (sym (drop-all (members_of start.by.formats) format high))
     ∙ p.moves_left
-
--- the move of a format over the member, and of another one
-pub one-move : (keys : KeyOf) (c : RecordChange) (id format member : ℕ) (p : Move) → member ≡ c.member → p ≡ move_in keys c format
-    → in_path id (moves_at keys c format member) ≡ record { id = id; change = p } ∷ []
-one-move keys c id format member p own is =
-    ap (in_path id) (cond-true (member == c.member) (move_in keys c format ∷ []) [] (let e : (member == c.member) ≡ true = grind (arith, nat_tests) in e))
-    ∙ ap (λ (m : Move). record { id = id; change = m } ∷ []) (sym is)
-
-pub no-move : (keys : KeyOf) (c : RecordChange) (id format member : ℕ) (moves : List PathMove) → member ≢ c.member → moves ≡ moves ++ in_path id (moves_at keys c format member)
-no-move keys c id format member moves other =
-    sym (ap (λ (w : List Move). moves ++ in_path id w) (cond-false (member == c.member) (move_in keys c format ∷ []) [] (let e : (member == c.member) ≡ false = grind (arith, nat_tests) in e))
-    ∙ append-none moves)
 
 -- ---- one path after another
 
@@ -172,7 +160,7 @@ prepare-step c changes value items place kept new moves more h same low read wid
   rooms = λ so id.
       equal-or-not (spare_of id value ≤ spare_of id (paths_of (set items place new))) id kept.id
       (λ own. subst (λ n. spare_of n value ≤ spare_of n (paths_of (set items place new))) (sym own)
-          (let a = so kept.id in let b = entry.spare in let e = entry.spare_after new wider.id in let w = wider.spare in omega (arith, a, b, e, w)))
+      (let a = so kept.id in let b = entry.spare in let e = entry.spare_after new wider.id in let w = wider.spare in omega (arith, a, b, e, w)))
       (λ other. let a = so id in let e = entry.others_after new id wider.id other in omega (arith, a, e));
   room = λ so here k d below.
       equal-or-not (HasRoomAt c.member changes (get_or (set items place new) k d)) k place
@@ -224,7 +212,8 @@ gathering-next start c changes place moves more items kept new g low read wider 
       same = step.same;
       moves_left = step.moves_after (moves_in c start.paths) is g.moves_left;
       rooms = step.rooms g.rooms;
-      room = step.room g.room (subst (λ (s : PathSpec). (k : ℕ) → k < length (members_of s.formats) → get_or (members_of s.formats) k 0 ≡ c.member → changes * length (members_of s.formats) ≤ new.path.spare) (sym wider.by) room);
+      room = step.room g.room (subst (λ (s : PathSpec). (k : ℕ) → k < length (members_of s.formats) → get_or (members_of s.formats) k 0 ≡ c.member
+          → changes * length (members_of s.formats) ≤ new.path.spare) (sym wider.by) room);
     }
 
 pub gathering-end : (start : KeptPaths) (c : RecordChange) (changes place : ℕ) (moves : List PathMove) (items : List Kept) → IsGathering start c changes place moves items → length items ≤ place
@@ -233,7 +222,8 @@ gathering-end start c changes place moves items g high =
     let longer : length start.paths ≤ place = rw (← g.same) (rw length-map high) in
     sym (append-none moves) ∙ ap (λ (w : NumberedPaths). moves ++ moves_in c w) (sym (drop-all start.paths place longer)) ∙ g.moves_left
 
-pub prepare-room : (member changes : ℕ) (items : List Kept) → AreKept items → ((k : ℕ) (d : Kept) → k < length items → HasRoomAt member changes (get_or items k d)) → HaveRoom member changes (paths_of items)
+pub prepare-room : (member changes : ℕ) (items : List Kept) → AreKept items → ((k : ℕ) (d : Kept) → k < length items → HasRoomAt member changes (get_or items k d))
+    → HaveRoom member changes (paths_of items)
 prepare-room member changes items h room k d within any = by items h room within refl
   where
     get-same : (xs : List Kept) (i : ℕ) (a d : Kept) → i < length xs → get_or xs i a ≡ get_or xs i d
@@ -250,7 +240,8 @@ prepare-room member changes items h room k d within any = by items h room within
         let entry : IsFound items (paths_of items) (get_or items k x).id k (get_or items k x) =
         found items items (paths_of items) (get_or items k x).id k (get_or items k x) refl h refl (IsPlace-at items k (get_or items k x) h inside read) read in
         let at : get_or (map (numbered path_of) items) k d ≡ numbered path_of (get_or items k x) = get_or-map (numbered path_of) items k x d inside in
-        let some : Any (λ (f : PathFormat). f.member ≡ member) (get_or items k x).by.formats = subst (λ (p : Numbered KeptPath). Any (λ (f : PathFormat). f.member ≡ member) p.item.spec.formats) at any in
+        let some : Any (λ (f : PathFormat). f.member ≡ member) (get_or items k x).by.formats = subst (λ (p : Numbered KeptPath). Any (λ (f : PathFormat). f.member
+        ≡ member) p.item.spec.formats) at any in
         let formats = (get_or items k x).by.formats in
         let place : get_or (members_of formats) some.0 0 ≡ member =
         get_or-map (λ (f : PathFormat). f.member) formats some.0 some.1 0 some.2 ∙ ap (λ (f : PathFormat). f.member) some.3 ∙ some.4 in
@@ -262,5 +253,6 @@ prepare-room member changes items h room k d within any = by items h room within
 pub view-length : (items : List Kept) (value : KeptPaths) → paths_of items ≡ value → length value.paths ≡ length items
 view-length items value view = ap (λ (v : KeptPaths). length v.paths) (sym view) ∙ length-map items (numbered path_of)
 
-pub gathering-length : (start : KeptPaths) (c : RecordChange) (changes place : ℕ) (moves : List PathMove) (items : List Kept) → IsGathering start c changes place moves items → length items ≡ length start.paths
+pub gathering-length : (start : KeptPaths) (c : RecordChange) (changes place : ℕ) (moves : List PathMove) (items : List Kept) → IsGathering start c changes place moves items
+    → length items ≡ length start.paths
 gathering-length start c changes place moves items g = sym (length-map items (numbered path_of)) ∙ ap length g.same

@@ -1,14 +1,15 @@
 -- The moves of a change of one record lead each path of the members before it to that of the members after it.
-use Rattle.std.proofs.Common.{ℕ, zero, suc, ◌+◌, ◌*◌, ◌<◌, ◌≤◌, ◌≡◌, ◌≢◌, ◌==◌, ◌⊎◌, inl, inr, Bool, true, false, cond, List, [], ◌∷◌, ◌++◌, length, map, get_or, Option, Some, None, IsSome, refl, sym, ap, arith, ◌∙◌, subst, append_assoc}
-use Rattle.std.specs.Prelude.{filter, All, AllPairs, Any, flat_map}
+use Rattle.std.proofs.Common.{ℕ, zero, suc, ◌+◌, ◌*◌, ◌<◌, ◌≤◌, ◌≡◌, ◌≢◌, ◌==◌, ◌⊎◌, inl, inr, Bool, true, false, cond, List, [], ◌∷◌, ◌++◌, length, map, Option, Some, None, IsSome, refl}
+use Rattle.std.proofs.Common.{sym, ap, arith, ◌∙◌, subst, append_assoc}
+use Rattle.std.specs.Prelude.{filter, AllPairs, Any}
 use Rattle.std.specs.List.{AllByRecursion}
 use Rattle.std.proofs.lemmas.Bool.{cond-true, cond-false}
 use Rattle.std.proofs.lemmas.Bool.Decides.{nat_tests}
-use Rattle.std.proofs.lemmas.List.{map-append, length-map}
+use Rattle.std.proofs.lemmas.List.{map-append}
 use Rattle.std.proofs.lemmas.List.Elements.{All-map, All-from_recursion, recursion_from_All}
 use Rattle.key_pages.specs.declared.entries.Entry.{Entry}
 use Rattle.member_slots.specs.declared.slot.Slot.{Slot}
-use Rattle.member_slots.specs.declared.slot.Slot.TheVariants.{Live, Deleted}
+use Rattle.member_slots.specs.declared.slot.Slot.TheVariants.{Deleted}
 use Rattle.member_slots.specs.Members.{Numbered, NumberedMembers, item_at, member_of}
 use Rattle.file_model.specs.declared.paths.PathFormat.{PathFormat}
 use Rattle.file_model.specs.declared.paths.PathSpec.{PathSpec}
@@ -21,8 +22,9 @@ use Rattle.access_path.proofs.EntryLemmas.{kept-deleted}
 use Rattle.path_entrants.specs.Formats.{keys_of}
 use Rattle.path_set.specs.declared.moves.PathMove.{PathMove}
 use Rattle.path_set.specs.KeptPaths.{KeptPath, KeptPaths, NumberedPaths, AreShared, AreOver, entries_of, spare_of}
-use Rattle.path_set.specs.RecordChanges.{RecordChange, reversed, move_in, moves_at, moves_from, moves_of, in_path, moves_in, opposites, entries_after, path_after, paths_after, FitEntries, count_in, CanBeMade, HaveRoom}
-use Rattle.path_set.specs.MemberChanges.{slot_with, IsAfterLast, IsSlotChange, IsRecordChange, AreReady}
+use Rattle.path_set.specs.RecordChanges.{RecordChange, reversed, move_in, moves_at, moves_from, moves_of, in_path, moves_in, opposites, entries_after, path_after, paths_after, FitEntries}
+use Rattle.path_set.specs.RecordChanges.{count_in, CanBeMade}
+use Rattle.path_set.specs.MemberChanges.{slot_with, IsAfterLast, IsRecordChange, AreReady}
 
 -- ---- the moves of one path
 
@@ -68,15 +70,17 @@ module _ (keys : KeyOf) (falling : Bool) (c : RecordChange) (before after : Numb
 
       same_move : record { format = length done; rrn = 1 + length front; old = slot_key (keys (length done)) old; new = slot_key (keys (length done)) new } ≡ move_in keys c (length done)
       same_move =
-          ap (λ (o : Option (List ℕ)). record { format = length done; rrn = 1 + length changes.slots.front; old = o; new = slot_key (keys (length done)) (slot_with c.new) }) (slot-key (keys (length done)) c.old)
-          ∙ ap (λ (o : Option (List ℕ)). record { format = length done; rrn = 1 + length changes.slots.front; old = image_key (keys (length done)) c.old; new = o }) (slot-key (keys (length done)) c.new)
+          ap (λ (o : Option (List ℕ)). record { format = length done; rrn = 1 + length changes.slots.front; old = o; new = slot_key (keys (length done)) (slot_with c.new) })
+          (slot-key (keys (length done)) c.old)
+          ∙ ap (λ (o : Option (List ℕ)). record { format = length done; rrn = 1 + length changes.slots.front; old = image_key (keys (length done)) c.old; new = o })
+          (slot-key (keys (length done)) c.new)
           ∙ ap (λ (n : ℕ). record { format = length done; rrn = n; old = image_key (keys (length done)) c.old; new = image_key (keys (length done)) c.new }) (sym changes.slots.number)
 
       from : kept keys falling (done ++ (front ++ old ∷ back) ∷ rest) ≡ kept keys falling (done ++ (member_of c.member before).slots ∷ rest) → IsLed done members
       from same = record {
         fits = subst (λ (w : List Entry). FitsIn falling (move_in keys c (length done)) w) same
             (subst (λ (m : Move). FitsIn falling m (kept keys falling (done ++ (changes.slots.front ++ slot_with c.old ∷ changes.slots.back) ∷ member_slots members before))) same_move
-                (path-fits keys falling done (member_slots members before) changes.slots.front changes.slots.back (slot_with c.old) (slot_with c.new)));
+            (path-fits keys falling done (member_slots members before) changes.slots.front changes.slots.back (slot_with c.old) (slot_with c.new)));
         is = ap (moved falling (move_in keys c (length done))) (sym same)
             ∙ ap (λ (m : Move). moved falling m (kept keys falling (done ++ (changes.slots.front ++ slot_with c.old ∷ changes.slots.back) ∷ member_slots members before))) (sym same_move)
             ∙ path-moved keys falling done (member_slots members before) changes.slots.front changes.slots.back (slot_with c.old) (slot_with c.new)
@@ -87,9 +91,9 @@ module _ (keys : KeyOf) (falling : Bool) (c : RecordChange) (before after : Numb
       by (inl was) = from (ap (λ (s : List Slot). kept keys falling (done ++ s ∷ rest)) (sym was))
       by (inr last) =
           from (ap (λ (s : Slot). kept keys falling (done ++ (front ++ s ∷ back) ∷ rest)) last.deleted
-              ∙ ap (λ (s : List Slot). kept keys falling (done ++ (front ++ Deleted ∷ s) ∷ rest)) last.none
-              ∙ kept-deleted keys falling done rest front
-              ∙ ap (λ (s : List Slot). kept keys falling (done ++ s ∷ rest)) (sym last.all))
+          ∙ ap (λ (s : List Slot). kept keys falling (done ++ (front ++ Deleted ∷ s) ∷ rest)) last.none
+          ∙ kept-deleted keys falling done rest front
+          ∙ ap (λ (s : List Slot). kept keys falling (done ++ s ∷ rest)) (sym last.all))
 
   -- the moves from a format on
   pub record IsLedFrom (done : List (List Slot)) (members : List ℕ) : Type 0 where
@@ -109,7 +113,8 @@ module _ (keys : KeyOf) (falling : Bool) (c : RecordChange) (before after : Numb
 
       next : (slots : List Slot) → IsLedFrom (done ++ slots ∷ []) members → slots ≡ (member_of member after).slots → record {
         fits : FitAll falling (moves_from keys c (length done + 1) members) (kept keys falling (done ++ slots ∷ member_slots members before));
-        is : moved_all falling (moves_from keys c (length done + 1) members) (kept keys falling (done ++ slots ∷ member_slots members before)) ≡ kept keys falling (done ++ member_slots (member ∷ members) after);
+        is : moved_all falling (moves_from keys c (length done + 1) members) (kept keys falling (done ++ slots ∷ member_slots members before))
+            ≡ kept keys falling (done ++ member_slots (member ∷ members) after);
       }
       next slots rest same =
           let count = longer slots in
@@ -136,9 +141,10 @@ module _ (keys : KeyOf) (falling : Bool) (c : RecordChange) (before after : Numb
           let first : moved falling (move_in keys c (length done)) (mixed done (member ∷ members)) ≡ kept keys falling (done ++ (member_of c.member after).slots ∷ member_slots members before) =
           ap (moved falling (move_in keys c (length done))) (sym start) ∙ now.is in
           record {
-            fits = subst (λ (w : List Move). FitAll falling w (mixed done (member ∷ members))) (sym moves)
-                (subst (FitsIn falling (move_in keys c (length done))) start now.fits,
-                subst (FitAll falling (moves_from keys c (length done + 1) members)) (sym first) rest.fits);
+            fits = subst (λ (w : List Move). FitAll falling w (mixed done (member ∷ members))) (sym moves) (
+              subst (FitsIn falling (move_in keys c (length done))) start now.fits,
+              subst (FitAll falling (moves_from keys c (length done + 1) members)) (sym first) rest.fits,
+            );
             is = ap (λ (w : List Move). moved_all falling w (mixed done (member ∷ members))) moves
                 ∙ ap (moved_all falling (moves_from keys c (length done + 1) members)) first
                 ∙ rest.is;
@@ -199,7 +205,8 @@ module _ (falling : Bool) (id : ℕ) where
   after-append [] ys entries = refl
   after-append (x ∷ xs) ys entries = after-append xs ys (cond (x.id == id) (moved falling x.change entries) entries)
 
-  fit-append : (xs ys : List PathMove) (entries : List Entry) → FitEntries falling id xs entries → FitEntries falling id ys (entries_after falling id xs entries) → FitEntries falling id (xs ++ ys) entries
+  fit-append : (xs ys : List PathMove) (entries : List Entry) → FitEntries falling id xs entries → FitEntries falling id ys (entries_after falling id xs entries)
+      → FitEntries falling id (xs ++ ys) entries
   fit-append [] ys entries first second = second
   fit-append (x ∷ xs) ys entries first second = (first.0, fit-append xs ys (cond (x.id == id) (moved falling x.change entries) entries) first.1 second)
 
@@ -247,23 +254,25 @@ both P (x ∷ xs) ys first second = (first.0, both P xs ys first.1 second)
 -- a fact that follows where all others have another number holds of each
 each-apart : (P : Numbered KeptPath → Type 0) (whole : NumberedPaths)
     → ((front : NumberedPaths) (path : Numbered KeptPath) (back : NumberedPaths) → whole ≡ front ++ path ∷ back → AllByRecursion (λ (other : Numbered KeptPath). other.number ≢ path.number) front
-        → AllByRecursion (λ (other : Numbered KeptPath). other.number ≢ path.number) back → P path)
+    → AllByRecursion (λ (other : Numbered KeptPath). other.number ≢ path.number) back → P path)
     → Ascend whole → AllByRecursion P whole
 each-apart P whole fact ascend = go [] whole refl ascend tt
   where
-    go : (front paths : NumberedPaths) → whole ≡ front ++ paths → Ascend paths → AllByRecursion (λ (former : Numbered KeptPath). AllByRecursion (λ (later : Numbered KeptPath). former.number < later.number) paths) front
+    go : (front paths : NumberedPaths) → whole ≡ front ++ paths → Ascend paths
+        → AllByRecursion (λ (former : Numbered KeptPath). AllByRecursion (λ (later : Numbered KeptPath). former.number < later.number) paths) front
         → AllByRecursion P paths
     go front [] is ascend below = tt
     go front (path ∷ paths) is ascend below = (
       fact front path paths is
-          (weaken (λ (former : Numbered KeptPath). AllByRecursion (λ (later : Numbered KeptPath). former.number < later.number) (path ∷ paths)) (λ (other : Numbered KeptPath). other.number ≢ path.number)
-              (λ former all same. let lt = all.0 in omega (arith, lt, same)) front below)
+          (weaken (λ (former : Numbered KeptPath). AllByRecursion (λ (later : Numbered KeptPath). former.number < later.number) (path ∷ paths))
+          (λ (other : Numbered KeptPath). other.number ≢ path.number)
+          (λ former all same. let lt = all.0 in omega (arith, lt, same)) front below)
           (weaken (λ (later : Numbered KeptPath). path.number < later.number) (λ (other : Numbered KeptPath). other.number ≢ path.number) (λ later lt same. omega (arith, lt, same)) paths ascend.0),
       go (front ++ path ∷ []) paths (is ∙ sym (append_assoc front (path ∷ []) paths)) ascend.1
           (both (λ (former : Numbered KeptPath). AllByRecursion (λ (later : Numbered KeptPath). former.number < later.number) paths) front (path ∷ [])
-              (weaken (λ (former : Numbered KeptPath). AllByRecursion (λ (later : Numbered KeptPath). former.number < later.number) (path ∷ paths))
-                  (λ (former : Numbered KeptPath). AllByRecursion (λ (later : Numbered KeptPath). former.number < later.number) paths) (λ former all. all.1) front below)
-              (ascend.0, tt)),
+          (weaken (λ (former : Numbered KeptPath). AllByRecursion (λ (later : Numbered KeptPath). former.number < later.number) (path ∷ paths))
+          (λ (former : Numbered KeptPath). AllByRecursion (λ (later : Numbered KeptPath). former.number < later.number) paths) (λ former all. all.1) front below)
+          (ascend.0, tt)),
     )
 
 moves-split : (c : RecordChange) (front : NumberedPaths) (path : Numbered KeptPath) (back : NumberedPaths)
@@ -274,7 +283,8 @@ moves-split c (first ∷ front) path back =
     ∙ sym (append_assoc (in_path first.number (moves_of c first.item.spec)) (moves_in c front) (in_path path.number (moves_of c path.item.spec) ++ moves_in c back))
 
 module _ (c : RecordChange) (whole front back : NumberedPaths) (path : Numbered KeptPath) (is : whole ≡ front ++ path ∷ back)
-  (before_apart : AllByRecursion (λ (other : Numbered KeptPath). other.number ≢ path.number) front) (after_apart : AllByRecursion (λ (other : Numbered KeptPath). other.number ≢ path.number) back) where
+    (before_apart : AllByRecursion (λ (other : Numbered KeptPath). other.number ≢ path.number) front)
+    (after_apart : AllByRecursion (λ (other : Numbered KeptPath). other.number ≢ path.number) back) where
   abbrev falls : Bool
   falls = is_falling path.item.spec.ties
 
@@ -295,10 +305,10 @@ module _ (c : RecordChange) (whole front back : NumberedPaths) (path : Numbered 
   one-fit entries fit =
       subst (λ (w : NumberedPaths). FitEntries falls path.number (moves_in c w) entries) (sym is)
       (subst (λ (w : List PathMove). FitEntries falls path.number w entries) (sym (moves-split c front path back))
-          (fit-append falls path.number (moves_in c front) (own ++ moves_in c back) entries (others-fit falls path.number c front entries before_apart)
-              (fit-append falls path.number own (moves_in c back) (entries_after falls path.number (moves_in c front) entries)
-                  (subst (FitEntries falls path.number own) (sym (others-after falls path.number c front entries before_apart)) (own-fit falls path.number (moves_of c path.item.spec) entries fit))
-                  (others-fit falls path.number c back (entries_after falls path.number own (entries_after falls path.number (moves_in c front) entries)) after_apart))))
+      (fit-append falls path.number (moves_in c front) (own ++ moves_in c back) entries (others-fit falls path.number c front entries before_apart)
+      (fit-append falls path.number own (moves_in c back) (entries_after falls path.number (moves_in c front) entries)
+      (subst (FitEntries falls path.number own) (sym (others-after falls path.number c front entries before_apart)) (own-fit falls path.number (moves_of c path.item.spec) entries fit))
+      (others-fit falls path.number c back (entries_after falls path.number own (entries_after falls path.number (moves_in c front) entries)) after_apart))))
 
 -- ---- the laws
 
@@ -307,14 +317,14 @@ pub paths-over : (c : RecordChange) (before after : NumberedMembers) (paths : Nu
 paths-over c before after paths changes shared over =
     All-map (λ (path : Numbered KeptPath). path.item.entries ≡ entries_of path.item.spec after) (path_after (moves_in c paths)) paths
     (All-from_recursion (λ (path : Numbered KeptPath). entries_after (is_falling path.item.spec.ties) path.number (moves_in c paths) path.item.entries ≡ entries_of path.item.spec after) paths
-        (join paths (recursion_from_All (λ (path : Numbered KeptPath). path.item.entries ≡ entries_of path.item.spec before) paths over)
-            (each-apart (λ (path : Numbered KeptPath). (entries : List Entry) → entries_after (is_falling path.item.spec.ties) path.number (moves_in c paths) entries
-                ≡ moved_all (is_falling path.item.spec.ties) (moves_of c path.item.spec) entries) paths
-                (λ front path back is first second entries. one-after c paths front back path is first second entries) (ascend-from paths shared.ascend))))
+    (join paths (recursion_from_All (λ (path : Numbered KeptPath). path.item.entries ≡ entries_of path.item.spec before) paths over)
+    (each-apart (λ (path : Numbered KeptPath). (entries : List Entry) → entries_after (is_falling path.item.spec.ties) path.number (moves_in c paths) entries
+    ≡ moved_all (is_falling path.item.spec.ties) (moves_of c path.item.spec) entries) paths
+    (λ front path back is first second entries. one-after c paths front back path is first second entries) (ascend-from paths shared.ascend))))
   where
     join : (rest : NumberedPaths) → AllByRecursion (λ (path : Numbered KeptPath). path.item.entries ≡ entries_of path.item.spec before) rest
         → AllByRecursion (λ (path : Numbered KeptPath). (entries : List Entry) → entries_after (is_falling path.item.spec.ties) path.number (moves_in c paths) entries
-            ≡ moved_all (is_falling path.item.spec.ties) (moves_of c path.item.spec) entries) rest
+        ≡ moved_all (is_falling path.item.spec.ties) (moves_of c path.item.spec) entries) rest
         → AllByRecursion (λ (path : Numbered KeptPath). entries_after (is_falling path.item.spec.ties) path.number (moves_in c paths) path.item.entries ≡ entries_of path.item.spec after) rest
     join [] was follows = tt
     join (path ∷ rest) was follows = (
@@ -323,7 +333,8 @@ paths-over c before after paths changes shared over =
     )
 
 some-at : (front : NumberedPaths) (path : Numbered KeptPath) (back : NumberedPaths) → IsSome (item_at path.number (front ++ path ∷ back))
-some-at [] path back = rw (let e : cond (path.number == path.number) (Some path.item) (item_at path.number back) ≡ Some path.item = cond-true (path.number == path.number) (Some path.item) (item_at path.number back) (let t : (path.number == path.number) ≡ true = grind (arith, nat_tests) in t) in e) refl
+some-at [] path back = rw (let e : cond (path.number == path.number) (Some path.item) (item_at path.number back)
+    ≡ Some path.item = cond-true (path.number == path.number) (Some path.item) (item_at path.number back) (let t : (path.number == path.number) ≡ true = grind (arith, nat_tests) in t) in e) refl
 some-at (first ∷ front) path back = by (first.number == path.number) (some-at front path back)
   where
     by : (b : Bool) → IsSome (item_at path.number (front ++ path ∷ back)) → IsSome (cond b (Some first.item) (item_at path.number (front ++ path ∷ back)))
@@ -338,7 +349,8 @@ there-all : (c : RecordChange) (whole paths : NumberedPaths) → AllByRecursion 
     → AllByRecursion (λ (m : PathMove). IsSome (item_at m.id whole)) (moves_in c paths)
 there-all c whole [] some = tt
 there-all c whole (path ∷ paths) some =
-    both-moves (λ (m : PathMove). IsSome (item_at m.id whole)) (in_path path.number (moves_of c path.item.spec)) (moves_in c paths) (own-there (moves_of c path.item.spec)) (there-all c whole paths some.1)
+    both-moves (λ (m : PathMove). IsSome (item_at m.id whole)) (in_path path.number (moves_of c path.item.spec)) (moves_in c paths)
+    (own-there (moves_of c path.item.spec)) (there-all c whole paths some.1)
   where
     own-there : (moves : List Move) → AllByRecursion (λ (m : PathMove). IsSome (item_at m.id whole)) (in_path path.number moves)
     own-there [] = tt
@@ -364,7 +376,7 @@ count-other : (id other : ℕ) (moves : List Move) → other ≢ id → count_in
 count-other id other [] differs = refl
 count-other id other (m ∷ moves) differs =
     ap length (cond-false (other == id) (record { id = other; change = m } ∷ filter (λ (x : PathMove). x.id == id) (in_path other moves)) (filter (λ (x : PathMove). x.id == id) (in_path other moves))
-        (let e : (other == id) ≡ false = grind (arith, nat_tests) in e))
+    (let e : (other == id) ≡ false = grind (arith, nat_tests) in e))
     ∙ count-other id other moves differs
 
 count-few : (id other : ℕ) (moves : List Move) → count_in id (in_path other moves) ≤ length moves
@@ -372,7 +384,8 @@ count-few id other [] = omega arith
 count-few id other (m ∷ moves) = by (other == id) (count-few id other moves)
   where
     by : (b : Bool) → count_in id (in_path other moves) ≤ length moves
-        → length (cond b (record { id = other; change = m } ∷ filter (λ (x : PathMove). x.id == id) (in_path other moves)) (filter (λ (x : PathMove). x.id == id) (in_path other moves))) ≤ suc (length moves)
+        → length (cond b (record { id = other; change = m } ∷ filter (λ (x : PathMove). x.id == id) (in_path other moves))
+        (filter (λ (x : PathMove). x.id == id) (in_path other moves))) ≤ suc (length moves)
     by true e = omega (arith, e)
     by false e = omega (arith, e)
 
@@ -415,7 +428,7 @@ path-room c path spare room =
     let most = count-few path.number path.number (moves_of c path.item.spec) in
     let all = few.few in
     elim few.none [
-      inl none ↦ omega (arith, most, none)
+      | inl none ↦ omega (arith, most, none)
       | inr any ↦ (let r = room any in omega (arith, most, all, r))
     ]
 
@@ -439,7 +452,8 @@ counts id spare c (path ∷ paths) ascend room =
         → count_in id (moves_in c paths) ≤ spare → count_in id (moves_in c (path ∷ paths)) ≤ spare
     by true same e rest =
         let own : path.number ≡ id = grind (arith, nat_tests) in
-        let z = none-later paths (weaken (λ (later : Numbered KeptPath). path.number < later.number) (λ (other : Numbered KeptPath). other.number ≢ id) (λ later lt equal. omega (arith, lt, equal, own)) paths ascend.0) in
+        let z = none-later paths (weaken (λ (later : Numbered KeptPath). path.number < later.number)
+        (λ (other : Numbered KeptPath). other.number ≢ id) (λ later lt equal. omega (arith, lt, equal, own)) paths ascend.0) in
         let r = room.0 own in
         omega (arith, e, z, r)
     by false same e rest =
@@ -454,21 +468,21 @@ paths-made c before after kept ready =
     record {
       there = All-from_recursion (λ (m : PathMove). IsSome (item_at m.id paths)) (moves_in c paths)
           (there-all c paths paths (each-apart (λ (path : Numbered KeptPath). IsSome (item_at path.number paths)) paths
-                  (λ front path back is first second. subst (λ (w : NumberedPaths). IsSome (item_at path.number w)) (sym is) (some-at front path back)) ascend));
+          (λ front path back is first second. subst (λ (w : NumberedPaths). IsSome (item_at path.number w)) (sym is) (some-at front path back)) ascend));
       fit = All-from_recursion (λ (path : Numbered KeptPath). FitEntries (is_falling path.item.spec.ties) path.number (moves_in c paths) path.item.entries) paths
           (join paths (recursion_from_All (λ (path : Numbered KeptPath). path.item.entries ≡ entries_of path.item.spec before) paths ready.over)
-              (each-apart (λ (path : Numbered KeptPath). (entries : List Entry) → FitAll (is_falling path.item.spec.ties) (moves_of c path.item.spec) entries
-                  → FitEntries (is_falling path.item.spec.ties) path.number (moves_in c paths) entries) paths
-                  (λ front path back is first second entries fit. one-fit c paths front back path is first second entries fit) ascend));
+          (each-apart (λ (path : Numbered KeptPath). (entries : List Entry) → FitAll (is_falling path.item.spec.ties) (moves_of c path.item.spec) entries
+          → FitEntries (is_falling path.item.spec.ties) path.number (moves_in c paths) entries) paths
+          (λ front path back is first second entries fit. one-fit c paths front back path is first second entries fit) ascend));
       room = λ id.
           counts id (spare_of id kept) c paths ascend
           (each-room id paths (recursion_from_All (λ (path : Numbered KeptPath). Any (λ (f : PathFormat). f.member ≡ c.member) path.item.spec.formats
-              → 1 * length path.item.spec.formats ≤ spare_of path.number kept) paths ready.room));
+          → 1 * length path.item.spec.formats ≤ spare_of path.number kept) paths ready.room));
     }
   where
     join : (rest : NumberedPaths) → AllByRecursion (λ (path : Numbered KeptPath). path.item.entries ≡ entries_of path.item.spec before) rest
         → AllByRecursion (λ (path : Numbered KeptPath). (entries : List Entry) → FitAll (is_falling path.item.spec.ties) (moves_of c path.item.spec) entries
-            → FitEntries (is_falling path.item.spec.ties) path.number (moves_in c kept.paths) entries) rest
+        → FitEntries (is_falling path.item.spec.ties) path.number (moves_in c kept.paths) entries) rest
         → AllByRecursion (λ (path : Numbered KeptPath). FitEntries (is_falling path.item.spec.ties) path.number (moves_in c kept.paths) path.item.entries) rest
     join [] was fits = tt
     join (path ∷ rest) was fits = (

@@ -37,7 +37,7 @@ module _ (paths : List Kept) (h : AreKept paths) (number : ℕ) where
     };
   }
 
--- where a member has the number, the search ends at a place
+-- where a path has the number, the search ends at a place
 pub found_where_there : (paths : List Kept) (number : ℕ) (r : Result ℕ ℕ) → IfErr r (IsGap paths number) → IsSome (item_at number (map (numbered path_of) paths)) → IsOk r
 found_where_there paths number (Ok place) absent there = grind arith
 found_where_there paths number (Err place) absent there = grind (arith, item_at-gap path_of number paths place absent)

@@ -1,16 +1,16 @@
 -- A path is shared, put under the least free number, and given up.
-use Rattle.std.proofs.Common.{ℕ, zero, suc, ◌+◌, ◌-◌, ◌<◌, ◌≤◌, ◌≡◌, ◌≢◌, Bool, true, false, cond, List, [], ◌∷◌, length, map, set, get_or, Option, Some, None, IsSome, IfSome, refl, sym, ap, arith, ◌∙◌, subst}
+use Rattle.std.proofs.Common.{ℕ, zero, suc, ◌+◌, ◌-◌, ◌<◌, ◌≤◌, ◌≡◌, ◌≢◌, Bool, true, false, cond, List, [], ◌∷◌, length, map, set, get_or, Option, Some, None, IsSome, refl, sym, ap, arith}
+use Rattle.std.proofs.Common.{◌∙◌, subst}
 use Rattle.std.specs.Prelude.{All, HoldsAt, nat_lt, ◌==◌, unwrap_or, option_map}
-use Rattle.std.specs.List.{insert, remove}
+use Rattle.std.specs.List.{insert}
 use Rattle.std.proofs.lemmas.Bool.Decides.{nat_tests}
 use Rattle.std.proofs.lemmas.Bool.{cond-true, cond-false}
 use Rattle.std.proofs.lemmas.List.Elements.{All-map}
 use Rattle.file_model.specs.declared.paths.PathSpec.{PathSpec}
 use Rattle.file_model.specs.Paths.{path, repeated_in}
 use Rattle.key_pages.specs.declared.entries.Entry.{Entry}
-use Rattle.key_pages.specs.EntryList.{EntryList}
 use Rattle.member_slots.specs.Members.{Numbered, NumberedMembers, item_at, with_item, put_item, without_item}
-use Rattle.access_path.specs.PathBytes.{is_falling, in_bytes, IsInBytes}
+use Rattle.access_path.specs.PathBytes.{in_bytes, IsInBytes}
 use Rattle.access_path.proofs.BytesLemmas.{kept-path}
 use Rattle.path_entrants.specs.Formats.{keys_of}
 use Rattle.path_entrants.specs.Repeated.{least_repeated, TellsRepeated}
@@ -19,7 +19,7 @@ use Rattle.path_entrants.proofs.RepeatedLemmas.{told}
 use Rattle.path_set.specs.declared.kept.Kept.{Kept}
 use Rattle.path_set.specs.declared.kept.TheConstants.{MOST_PATHS}
 use Rattle.path_set.specs.KeptPaths.{KeptPath, PathRoom, KeptPaths, NumberedPaths, entries_of, spare_of}
-use Rattle.path_set.specs.Sharing.{IsNew, IsLeastFree, one_more, one_fewer, IsShared, given_up, detached}
+use Rattle.path_set.specs.Sharing.{IsNew, IsLeastFree, one_fewer, IsShared, detached}
 use Rattle.path_set.specs.Entries.{AreKept, IsKept, IsPlace, IsGap, IsFirstFree, paths_of, numbered, path_of, room_of, with_files}
 use Rattle.path_set.proofs.PlaceLemmas.{item_at-place, item_at-gap, put_item-gap}
 use Rattle.path_set.proofs.OrderLemmas.{AreKept-insert, IsGap-free}
@@ -34,8 +34,6 @@ pub record IsCounted (spec : PathSpec) (items : List Kept) (value : KeptPaths) (
   pub shared : (new : Kept) → new ≡ with_files kept (kept.files + 1) → IsShared spec kept.id value.paths (map (numbered path_of) (set items place new))
   pub rooms : (new : Kept) → new ≡ with_files kept (kept.files + 1) → map (numbered room_of) (set items place new) ≡ value.rooms
   pub ordered : (new : Kept) → new ≡ with_files kept (kept.files + 1) → AreKept (set items place new)
-  pub same : (new : Kept) → new ≡ kept → paths_of (set items place new) ≡ value
-  pub same_ordered : (new : Kept) → new ≡ kept → AreKept (set items place new)
 
 pub counted : (spec : PathSpec) (items slice : List Kept) (value : KeptPaths) (place : ℕ) (kept : Kept) → paths_of items ≡ value → AreKept items → slice ≡ items
     → (place < length slice) × HoldsAt (λ path. path.by ≡ spec) slice place → kept ≡ get_or items place kept → IsCounted spec items value place kept
@@ -48,9 +46,9 @@ counted spec items slice value place kept view h shown is read = record {
   });
   rooms = λ new same.
       subst (λ (k : Kept). map (numbered room_of) (set items place k) ≡ value.rooms) (sym same) (entry.rooms_after (with_files kept (kept.files + 1)) refl ∙ entry.same_rooms);
-  ordered = λ new same. subst (λ (k : Kept). AreKept (set items place k)) (sym same) (entry.ordered (with_files kept (kept.files + 1)) refl refl (record { falling = entry.is.falling; attached = omega arith }));
-  same = λ new same. subst (λ (k : Kept). paths_of (set items place k) ≡ value) (sym same) entry.unchanged;
-  same_ordered = λ new same. subst (λ (k : Kept). AreKept (set items place k)) (sym same) (entry.ordered kept refl refl entry.is);
+  ordered = λ new same.
+      subst (λ (k : Kept). AreKept (set items place k)) (sym same)
+      (entry.ordered (with_files kept (kept.files + 1)) refl refl (record { falling = entry.is.falling; attached = omega arith }));
 }
   where
     at : (place < length items) × HoldsAt (λ path. path.by ≡ spec) items place

@@ -1,7 +1,6 @@
 -- How are paths kept: in one list by ascending number. (Our own.)
 use Rattle.std.specs.Prelude.{◌≡◌, ◌≢◌, ℕ, ◌<◌, ◌≤◌, List, length, map, All, AllPairs, HoldsAt, slice_index_or}
 use Rattle.std.specs.Option.{option_copied}
-use Rattle.key_pages.specs.EntryList.{EntryList}
 use Rattle.access_path.specs.PathBytes.{is_falling}
 use Rattle.member_slots.specs.Members.{Numbered}
 use Rattle.path_set.specs.declared.kept.Kept.{Kept}

@@ -2,7 +2,6 @@
 use Rattle.std.specs.Prelude.{◌≡◌, ℕ, ◌+◌, ◌≤◌, ◌==◌, Bool, List, [], ◌∷◌, ◌++◌, length, map, filter, flat_map, All, Any, Option, Some, None, IsSome, ◌*◌, if◌then◌else◌}
 use Rattle.key_pages.specs.declared.entries.Entry.{Entry}
 use Rattle.member_slots.specs.Members.{Numbered, item_at}
-use Rattle.file_model.specs.declared.paths.PathFormat.{PathFormat}
 use Rattle.file_model.specs.declared.paths.PathSpec.{PathSpec}
 use Rattle.access_path.specs.KeptEntries.{KeyOf, image_key}
 use Rattle.access_path.specs.Moves.{Move, opposite, moved, FitsIn}

@@ -1,6 +1,6 @@
 -- What happens to the paths when a file gets its path, or gives it up? (Database Programming, "Sharing existing access
 -- paths". That a new path gets the least free number is our own.)
-use Rattle.std.specs.Prelude.{◌≡◌, ◌≢◌, ℕ, ◌+◌, ◌-◌, ◌<◌, ◌≤◌, nat_lt, List, length, All, Option, Some, None, IsSome, if◌then◌else◌}
+use Rattle.std.specs.Prelude.{◌≡◌, ◌≢◌, ℕ, ◌+◌, ◌-◌, ◌<◌, ◌≤◌, nat_lt, length, All, Option, Some, None, IsSome, if◌then◌else◌}
 use Rattle.member_slots.specs.Members.{NumberedMembers, item_at, with_item, put_item, without_item}
 use Rattle.file_model.specs.declared.paths.PathSpec.{PathSpec}
 use Rattle.access_path.specs.PathBytes.{members_of}

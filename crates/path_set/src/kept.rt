@@ -85,7 +85,8 @@ impl Kept {
         requires there { format < length (members_of self.old.by.formats) }
         requires old { TakesImage asked.member (option_copied asked.old) self.old.by }
         requires new { TakesImage asked.member (option_copied asked.new) self.old.by }
-        ensures moves { OnOk result (moves.new ≡ moves.old ++ in_path self.old.id (moves_at (keys_of self.old.by.formats) (change_of asked.entry) format (slice_index (members_of self.old.by.formats) format))) }
+        ensures moves { OnOk result (moves.new ≡ moves.old
+            ++ in_path self.old.id (moves_at (keys_of self.old.by.formats) (change_of asked.entry) format (slice_index (members_of self.old.by.formats) format))) }
         ensures same { HasMoreRoom self.old self.new }
         ensures room { OnOk result (slice_index (members_of self.old.by.formats) format ≡ asked.entry.member → (asked.entry.held + 2) * length (members_of self.old.by.formats) ≤ self.new.path.spare) }
     {

@@ -106,7 +106,8 @@ impl PathSet {
 
     /// Gives a file the path of a specification that is kept.
     fn share(&mut self, spec: &PathSpec) -> Result<Option<u64>, AllocError>
-        ensures shared { MatchResult result (λ id. MatchOption id (IsNew spec.now self.old.paths × (self.new ≡ self.old)) (λ id. IsShared spec.now id self.old.paths self.new.paths)) (λ _. self.new ≡ self.old) }
+        ensures shared { MatchResult result
+            (λ id. MatchOption id (IsNew spec.now self.old.paths × (self.new ≡ self.old)) (λ id. IsShared spec.now id self.old.paths self.new.paths)) (λ _. self.new ≡ self.old) }
         ensures rooms { self.new.rooms ≡ self.old.rooms }
     {
         match place_of_spec(&self.paths, spec) {

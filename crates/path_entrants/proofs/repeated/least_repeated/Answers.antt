@@ -1,4 +1,4 @@
-use Rattle.std.proofs.Common.{◌≡◌, ◌∙◌, ◌∷◌, suc, length, ap, sym, arith}
+use Rattle.std.proofs.Common.{◌≡◌, ◌∙◌, suc, length, ap, sym, arith}
 use Rattle.std.specs.Prelude.{filter}
 use Rattle.key_pages.specs.Position.{is_past}
 use Rattle.path_entrants.proofs.WalkLemmas.{walk-begins, walk-rest, walk-next, walk-ends}

@@ -1,9 +1,6 @@
-use Rattle.std.proofs.Common.{◌≡◌, get_or, refl, sym, ap, ◌∙◌, ◌∷◌, ◌++◌, arith, List, rules}
+use Rattle.std.proofs.Common.{◌≡◌, get_or, rules}
 use Rattle.access_path.specs.PathBytes.{members_of}
-use Rattle.path_entrants.specs.Formats.{keys_of}
-use Rattle.path_set.specs.declared.moves.PathMove.{PathMove}
-use Rattle.path_set.specs.Entries.{change_of}
-use Rattle.path_set.proofs.PrepareLemmas.{asked-at, one-move, no-move, more-room-same}
+use Rattle.path_set.proofs.PrepareLemmas.{asked-at}
 use Rattle.path_set.proofs.kept.Kept.prepare_format.Goals as goal
 
 pub prepare-requires-clause-old : goal.prepare-requires-clause-old

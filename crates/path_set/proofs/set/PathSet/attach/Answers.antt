@@ -15,8 +15,7 @@ returns-in-Some-clause-unique c tells absent =
 pub returns-in-Some-equal_keys-clause-equal : goal.returns-in-Some-equal_keys-clause-equal
 returns-in-Some-equal_keys-clause-equal c rrn tells is =
     let none = rw c.in_default.is at c.in_ok-id.ensures.shared in
-    let same : c.in-Some-equal_keys.rrn ≡ rrn = cc in
-    (
+    let same : c.in-Some-equal_keys.rrn ≡ rrn = cc in (
       none.0,
       judged-put c.args.spec c.new-by.result c.args.members.now.members c.in_ok-path.path.entries c.equal_keys.result c.new-by.ensures c.in_ok-path.ensures.entries c.equal_keys.ensures tells
           ∙ c.in-Some-equal_keys.is

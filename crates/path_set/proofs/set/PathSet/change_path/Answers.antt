@@ -1,4 +1,4 @@
-use Rattle.std.proofs.Common.{refl, ◌∙◌, sym, is_some}
+use Rattle.std.proofs.Common.{refl, ◌∙◌}
 use Rattle.path_set.proofs.FoundLemmas.{found}
 use Rattle.path_set.proofs.MoveLemmas.{found-moved, found-spent}
 use Rattle.path_set.proofs.set.PathSet.change_path.Goals as goal
