@@ -1,0 +1,5 @@
+use Rattle.path_set.proofs.OrderLemmas.{AreShared-paths}
+use Rattle.path_set.proofs.set.PathSet.kept.Goals as goal
+
+pub returns-clause-shared : goal.returns-clause-shared
+returns-clause-shared c = rw (← c.self.view_is) (AreShared-paths _ c.self.invariant)
