@@ -1,0 +1,148 @@
+//! What is wrong with formats over one file each.
+ghost use Rattle.std.specs.Prelude.{◌≡◌, ◌++◌, [], flat_map, codes, Option, OnOk};
+ghost use Rattle.dds_source.specs.Faults.{first_after};
+ghost use Rattle.dds_physical.specs.Keywords.{first_named};
+ghost use Rattle.dds_physical.specs.References.{file_of_keyword};
+ghost use Rattle.dds_logical.specs.FormatLines.{formats_in};
+ghost use Rattle.dds_logical.specs.Logical.{view_faults};
+ghost use Rattle.dds_logical.specs.Judged.{faults_at, format_with};
+ghost use Rattle.dds_logical.specs.Mismatches.{mismatches, mismatches_from};
+
+use crate::arguments::argument_name;
+use crate::bases::{Bases, fields_of_name};
+use crate::fields::note_field_lines;
+use crate::first::FirstFault;
+use crate::format_lines::{is_record, lines_ahead};
+use crate::key_mismatches::{EarlierKeys, note_positions};
+use crate::keyword_names::{arguments_of, first_named};
+use crate::keys::{judged_parts, note_key_lines, note_sizes};
+use crate::named_fields::named_fields;
+use crate::selections::note_selections;
+use crate::whole_file::note_head;
+use dds_source::specifications::Specification;
+use field_types::names::Name;
+use std::alloc::{AllocError, Global};
+
+/// The file that a format is over.
+pub(crate) fn base_name(line: &Specification) -> Option<Name>
+    ensures { result ≡ file_of_keyword (first_named (codes "PFILE") line.now.keywords) }
+{
+    match first_named(b"PFILE", line.keywords.as_slice()) {
+        Some(keyword) => match arguments_of(keyword) {
+            [file, ..] => argument_name(file),
+            [] => None,
+        },
+        None => None,
+    }
+}
+
+/// Notes what is wrong with the lines of a format.
+#[tactic(auto, using(dds_physical::proofs::FaultLemmas::first_after_append))]
+fn note_view<B: Bases>(
+    alloc: Global,
+    bases: &B,
+    last_line: u32,
+    is_multi: bool,
+    line: &Specification,
+    body: &[Specification],
+    first: &mut FirstFault,
+) -> Result<(), AllocError>
+    ensures { OnOk result (first.new.fault ≡ first_after first.old.fault (view_faults (B.bases bases.now) last_line is_multi (format_with line.now body.now))) }
+{
+    let base = fields_of_name(bases, &base_name(line));
+    let named = named_fields(alloc, base, body)?;
+    let parts = judged_parts(alloc, named.as_slice(), body)?;
+    note_head(bases, false, line, first);
+    note_field_lines(alloc, base, body, first)?;
+    note_key_lines(alloc, false, is_multi, named.as_slice(), body, first)?;
+    note_selections(alloc, named.as_slice(), base, body, first)?;
+    note_sizes(
+        last_line,
+        named.as_slice(),
+        parts.as_slice(),
+        body,
+        first,
+    );
+    Ok(())
+}
+
+/// Notes what is wrong with the format that a line begins, if it begins one.
+fn note_view_at<B: Bases>(
+    alloc: Global,
+    bases: &B,
+    last_line: u32,
+    is_multi: bool,
+    line: &Specification,
+    more: &[Specification],
+    first: &mut FirstFault,
+) -> Result<(), AllocError>
+    ensures { OnOk result (first.new.fault ≡ first_after first.old.fault (faults_at (view_faults (B.bases bases.now) last_line is_multi) line.now more.now)) }
+{
+    if is_record(line.kind) {
+        let body = lines_ahead(more);
+        note_view(alloc, bases, last_line, is_multi, line, body, first)
+    } else {
+        Ok(())
+    }
+}
+
+/// Notes what is wrong with the lines of each format.
+#[tactic(auto, using(dds_physical::proofs::FaultLemmas::first_after_append, crate::proofs::FormatLemmas::faults_more))]
+pub(crate) fn note_views<B: Bases>(
+    alloc: Global,
+    bases: &B,
+    last_line: u32,
+    is_multi: bool,
+    specifications: &[Specification],
+    first: &mut FirstFault,
+) -> Result<(), AllocError>
+    ensures { OnOk result (first.new.fault ≡ first_after first.old.fault (flat_map (view_faults (B.bases bases.now) last_line is_multi) (formats_in specifications.now))) }
+{
+    let mut rest = specifications;
+    while let [line, more @ ..] = rest {
+        note_view_at(alloc, bases, last_line, is_multi, line, more, first)?;
+        rest = more;
+    }
+    Ok(())
+}
+
+/// Notes the positions of a format that differ from those of an earlier one, and adds its own.
+#[tactic(auto, using(dds_physical::proofs::FaultLemmas::first_after_append))]
+fn note_mismatch<B: Bases>(
+    alloc: Global,
+    bases: &B,
+    line: &Specification,
+    more: &[Specification],
+    earlier: &mut EarlierKeys,
+    first: &mut FirstFault,
+) -> Result<(), AllocError>
+    ensures { OnOk result (first_after first.new.fault (mismatches (B.bases bases.now) earlier.new more.now) ≡ first_after first.old.fault (mismatches_from (B.bases bases.now) earlier.old line.now more.now)) }
+{
+    if !is_record(line.kind) {
+        return Ok(());
+    }
+    let body = lines_ahead(more);
+    let base = fields_of_name(bases, &base_name(line));
+    let named = named_fields(alloc, base, body)?;
+    note_positions(earlier, named.as_slice(), body, first);
+    let parts = judged_parts(alloc, named.as_slice(), body)?;
+    earlier.push(parts)
+}
+
+/// Notes positions of keys that differ between formats.
+pub(crate) fn note_mismatches<B: Bases>(
+    alloc: Global,
+    bases: &B,
+    specifications: &[Specification],
+    first: &mut FirstFault,
+) -> Result<(), AllocError>
+    ensures { OnOk result (first.new.fault ≡ first_after first.old.fault (mismatches (B.bases bases.now) [] specifications.now)) }
+{
+    let mut earlier = EarlierKeys::new(alloc);
+    let mut rest = specifications;
+    while let [line, more @ ..] = rest {
+        note_mismatch(alloc, bases, line, more, &mut earlier, first)?;
+        rest = more;
+    }
+    Ok(())
+}
