@@ -14,20 +14,20 @@ use Rattle.dds_logical.specs.Judged.{is_of, lines_of, faults_at, is_missing_base
 
 pub formats_count : (ss : List Specification) → length (formats_in ss) ≡ length (filter (λ s. is_record s.kind) ss)
 formats_count [] = refl
-formats_count (s ∷ ss) = elim cases_Bool (is_record s.kind) [ inl h ↦ rw h (ap suc (formats_count ss)) | inr h ↦ rw h (formats_count ss) ]
+formats_count (s ∷ ss) = elim (cases_Bool (is_record s.kind)) [ inl h ↦ rw h (ap suc (formats_count ss)) | inr h ↦ rw h (formats_count ss) ]
 
 pub heads_are : (ss : List Specification) → map (λ f. f.head) (formats_in ss) ≡ lines_of line_kinds.Record ss
 heads_are [] = refl
-heads_are (s ∷ ss) = elim cases_Bool (is_record s.kind) [ inl h ↦ rw h (ap (λ (ts : List Specification). s ∷ ts) (heads_are ss)) | inr h ↦ rw h (heads_are ss) ]
+heads_are (s ∷ ss) = elim (cases_Bool (is_record s.kind)) [ inl h ↦ rw h (ap (λ (ts : List Specification). s ∷ ts) (heads_are ss)) | inr h ↦ rw h (heads_are ss) ]
 
 pub no_formats : (ss : List Specification) → not (list_any (λ s. is_of line_kinds.Record s.kind) ss) ≡ (length (formats_in ss) == 0)
 no_formats [] = refl
-no_formats (s ∷ ss) = elim cases_Bool (is_record s.kind) [ inl h ↦ rw h refl | inr h ↦ rw h (no_formats ss) ]
+no_formats (s ∷ ss) = elim (cases_Bool (is_record s.kind)) [ inl h ↦ rw h refl | inr h ↦ rw h (no_formats ss) ]
 
 -- of each format what is wrong with it
 pub faults_more : (wrong : FormatLines → List DdsFault) (s : Specification) (ss : List Specification)
     → faults_at wrong s ss ++ flat_map wrong (formats_in ss) ≡ flat_map wrong (formats_in (s ∷ ss))
-faults_more wrong s ss = elim cases_Bool (is_record s.kind) [ inl h ↦ rw h refl | inr h ↦ rw h refl ]
+faults_more wrong s ss = elim (cases_Bool (is_record s.kind)) [ inl h ↦ rw h refl | inr h ↦ rw h refl ]
 
 pub missing_cons : (bases : List ℕ → Option PhysicalSpec) (m : Option (List ℕ)) (ns : List (List ℕ))
     → list_any (is_no_base bases) (cons_option m ns) ≡ (is_missing_base bases m || list_any (is_no_base bases) ns)

@@ -6,3 +6,4 @@ pub mod KeyLemmas
 pub mod TestedLemmas
 pub mod RuleLemmas
 pub mod ListLemmas
+pub mod ViewLemmas

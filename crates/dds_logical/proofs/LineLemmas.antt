@@ -12,7 +12,7 @@ use Rattle.dds_logical.specs.Judged.{is_of, lines_of, line_faults_of, first_line
 -- of each line what is wrong with it, if it is of the kind
 pub faults_of_kind : (kind : LineKind) (wrong : Specification → List DdsFault) (ss : List Specification) → flat_map (line_faults_of kind wrong) ss ≡ flat_map wrong (lines_of kind ss)
 faults_of_kind kind wrong [] = refl
-faults_of_kind kind wrong (s ∷ ss) = elim cases_Bool (is_of kind s.kind)
+faults_of_kind kind wrong (s ∷ ss) = elim (cases_Bool (is_of kind s.kind))
     [ inl h ↦ rw h (ap (λ (fs : List DdsFault). wrong s ++ fs) (faults_of_kind kind wrong ss)) | inr h ↦ rw h (faults_of_kind kind wrong ss) ]
 
 abbrev pub beyond : Option Specification → List DdsFault

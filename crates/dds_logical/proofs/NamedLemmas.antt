@@ -18,14 +18,15 @@ cons_option_is (Some x) xs = refl
 
 fields_if : (base : List Field) (ss : List Specification) → filter_map (field_if base) ss ≡ filter_map (field_of_line false base) (lines_of line_kinds.Field ss)
 fields_if base [] = refl
-fields_if base (s ∷ ss) = elim cases_Bool (is_of line_kinds.Field s.kind)
+fields_if base (s ∷ ss) = elim (cases_Bool (is_of line_kinds.Field s.kind))
     [ inl h ↦ rw h (ap (λ (fs : List NamedField). cons_option (field_of_line false base s) fs) (fields_if base ss)) | inr h ↦ rw h (fields_if base ss) ]
 
 has_some : (ss : List Specification) → list_any (λ s. is_of line_kinds.Field s.kind) ss ≡ true → (t : Specification) × (ts : List Specification) × (lines_of line_kinds.Field ss ≡ t ∷ ts)
 has_some [] h = absurd cc
-has_some (s ∷ ss) h = elim cases_Bool (is_of line_kinds.Field s.kind)
-    [ inl is ↦ (s, lines_of line_kinds.Field ss, rw is refl)
-    | inr isnt ↦ let more = has_some ss (subst (λ (b : Bool). (b || list_any (λ t. is_of line_kinds.Field t.kind) ss) ≡ true) isnt h) in (more.0, more.1, rw isnt more.2) ]
+has_some (s ∷ ss) h = elim (cases_Bool (is_of line_kinds.Field s.kind)) [
+  | inl is ↦ (s, lines_of line_kinds.Field ss, rw is refl)
+  | inr isnt ↦ let more = has_some ss (subst (λ (b : Bool). (b || list_any (λ t. is_of line_kinds.Field t.kind) ss) ≡ true) isnt h) in (more.0, more.1, rw isnt more.2)
+]
 
 pub named_by_lines : (base : List Field) (ss : List Specification) → list_any (λ s. is_of line_kinds.Field s.kind) ss ≡ true
     → filter_map (field_if base) ss ≡ named_fields base (lines_of line_kinds.Field ss)
@@ -35,9 +36,10 @@ named_by_lines base ss h =
 
 has_none : (ss : List Specification) → list_any (λ s. is_of line_kinds.Field s.kind) ss ≡ false → lines_of line_kinds.Field ss ≡ []
 has_none [] h = refl
-has_none (s ∷ ss) h = elim cases_Bool (is_of line_kinds.Field s.kind)
-    [ inl is ↦ absurd (let e : true ≡ false = subst (λ (b : Bool). (b || list_any (λ t. is_of line_kinds.Field t.kind) ss) ≡ false) is h in cc)
-    | inr isnt ↦ rw isnt (has_none ss (subst (λ (b : Bool). (b || list_any (λ t. is_of line_kinds.Field t.kind) ss) ≡ false) isnt h)) ]
+has_none (s ∷ ss) h = elim (cases_Bool (is_of line_kinds.Field s.kind)) [
+  | inl is ↦ absurd (let e : true ≡ false = subst (λ (b : Bool). (b || list_any (λ t. is_of line_kinds.Field t.kind) ss) ≡ false) is h in cc)
+  | inr isnt ↦ rw isnt (has_none ss (subst (λ (b : Bool). (b || list_any (λ t. is_of line_kinds.Field t.kind) ss) ≡ false) isnt h))
+]
 
 pub named_as_they_are : (base : List Field) (ss : List Specification) → list_any (λ s. is_of line_kinds.Field s.kind) ss ≡ false
     → map field_as_it_is base ≡ named_fields base (lines_of line_kinds.Field ss)

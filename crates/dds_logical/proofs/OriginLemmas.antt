@@ -1,6 +1,6 @@
 -- What a field is made of, by the arguments of a keyword.
-use Rattle.std.proofs.Common.{◌≡◌, ◌∙◌, ◌+◌, ◌-◌, ◌≤◌, ℕ, sym, ap, refl, Bool, true, false, not, ◌&&◌, ◌||◌, nat_le, List, [], ◌∷◌, map, Option, Some, None, is_none, is_some, if◌then◌else◌, subst, nat_eq, arith, nat_tests}
-use Rattle.std.proofs.Math.Option.{some-injective}
+use Rattle.std.proofs.Common.{◌≡◌, ◌∙◌, ◌+◌, ◌-◌, ◌≤◌, ℕ, sym, ap, refl, Bool, true, false, not, ◌&&◌, ◌||◌, nat_le, List, [], ◌∷◌, map, Option, Some, None, is_none, is_some, if◌then◌else◌, subst, nat_eq, arith}
+use Rattle.std.proofs.lemmas.Bool.Decides.{nat_tests}
 use lib.Pointwise.{pointwise}
 use Rattle.field_values.specs.FieldTypes.{width}
 use Rattle.std.specs.List.{list_any, list_all, filter_map, cons_option}
@@ -12,10 +12,11 @@ use Rattle.record_fmt.proofs.LayoutLemmas.{lies-parts}
 use Rattle.file_model.specs.declared.views.Piece.{Piece}
 use Rattle.dds_physical.specs.Names.{field_named}
 use Rattle.dds_physical.specs.KeywordRules.{argument_name}
+use Rattle.dds_logical.specs.declared.parts.Part.{Part}
 use Rattle.dds_logical.specs.KeywordArguments.{names_among}
 use Rattle.dds_logical.specs.Keys.{field_of_name}
-use Rattle.dds_logical.specs.Origins.{Origin, own_name, lacks_one, fields_of_names, is_character, are_characters, whole_field, copied_from, first_copied, substring_of, part_origin, is_part_outside, if_within, part_said}
-use Rattle.dds_logical.specs.Made.{first_of, is_text_or_none, origin_by_name, part_by, is_outside_of, or_first}
+use Rattle.dds_logical.specs.Origins.{Origin, own_name, lacks_one, fields_of_names, is_character, are_characters, whole_field, copied_from, first_copied, substring_of, part_origin, is_part_outside, lies_within, if_within, part_said}
+use Rattle.dds_logical.specs.Made.{first_of, is_text_or_none, origin_by_name, part_by, is_outside_of, or_first, IsLow}
 
 pub ends_within : (a b e : ℕ) → nat_le (a + b) e ≡ (nat_le a e && nat_le b (e - a))
 ends_within a b e = grind (arith, nat_tests)
@@ -108,17 +109,27 @@ named_low start (g ∷ gs) name f lies h =
   where
     named_case : (b : Bool) (start : ℕ) (g : Field) (gs : List Field) (name : List ℕ) (f : Field) → g.offset ≡ start
         → (field_named name gs ≡ Some f → f.offset ≤ start + width g.ty + record_length gs) → (if b then Some g else field_named name gs) ≡ Some f → f.offset ≤ start + (width g.ty + record_length gs)
-    named_case true start g gs name f at more h = subst (λ (k : Field). k.offset ≤ start + (width g.ty + record_length gs)) (some-injective g f h) (omega (arith, at))
+    named_case true start g gs name f at more h =
+        let same : g ≡ f = cc in
+        subst (λ (k : Field). k.offset ≤ start + (width g.ty + record_length gs)) same (omega (arith, at))
     named_case false start g gs name f at more h = let low = more h in omega (arith, low)
 
-first_case : (base : List Field) (o : Option Field) (fs : List Field) (f : Field) → (o ≡ Some f → f.offset ≤ 32766) → (first_of fs ≡ Some f → f.offset ≤ 32766)
-    → first_of (cons_option o fs) ≡ Some f → f.offset ≤ 32766
-first_case base None fs f here more h = more h
-first_case base (Some g) fs f here more h = here h
+low_case : (o : Option Field) (fs : List Field) → IsLow o → IsLow (first_of fs) → IsLow (first_of (cons_option o fs))
+low_case None fs here more = more
+low_case (Some f) fs here more = here
 
-pub first_low : (base : List Field) (ns : List (List ℕ)) (f : Field) → IsLaidOut base → first_of (fields_of_names base ns) ≡ Some f → f.offset ≤ 32766
-first_low base [] f laid h = absurd cc
-first_low base (n ∷ ns) f laid h =
-    first_case base (field_named n base) (fields_of_names base ns) f
-    (λ is. let low = named_low 0 base n f laid.lies is in let narrow : record_length base ≤ 32766 = laid.narrow in omega (arith, low, narrow))
-    (first_low base ns f laid) h
+low_field : (base : List Field) (name : List ℕ) → IsLaidOut base → (o : Option Field) → field_named name base ≡ o → IsLow o
+low_field base name laid None h = tt
+low_field base name laid (Some f) h =
+    let low = named_low 0 base name f laid.lies h in
+    let narrow : record_length base ≤ 32766 = laid.narrow in
+    omega (arith, low, narrow)
+
+pub first_low : (base : List Field) (ns : List (List ℕ)) → IsLaidOut base → IsLow (first_of (fields_of_names base ns))
+first_low base [] laid = tt
+first_low base (n ∷ ns) laid = low_case (field_named n base) (fields_of_names base ns) (low_field base n laid (field_named n base) refl) (first_low base ns laid)
+
+-- ---- parts
+
+pub within_parts : (n : ℕ) (p : Part) → lies_within n p ≡ true → (1 ≤ p.start) × (1 ≤ p.size) × (p.start + p.size ≤ n + 1)
+within_parts n p h = grind (arith, nat_tests, h)

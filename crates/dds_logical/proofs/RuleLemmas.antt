@@ -40,6 +40,7 @@ begins_none find kinds.Join s ss h = refl
 
 pub statements_more : (find : List ℕ → Option ViewField) (s : Specification) (ss : List Specification)
     → statement_begun find s.kind s (lines_of line_kinds.Selection ss) ++ statements_said find (lines_of line_kinds.Selection ss) ≡ statements_said find (lines_of line_kinds.Selection (s ∷ ss))
-statements_more find s ss = elim cases_Bool (is_condition s.kind)
-    [ inl h ↦ rw h refl
-    | inr h ↦ rw h (ap (λ (xs : List Statement). xs ++ statements_said find (lines_of line_kinds.Selection ss)) (begins_none find s.kind s (lines_of line_kinds.Selection ss) h)) ]
+statements_more find s ss = elim (cases_Bool (is_condition s.kind)) [
+  | inl h ↦ rw h refl
+  | inr h ↦ rw h (ap (λ (xs : List Statement). xs ++ statements_said find (lines_of line_kinds.Selection ss)) (begins_none find s.kind s (lines_of line_kinds.Selection ss) h))
+]

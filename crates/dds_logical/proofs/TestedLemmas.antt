@@ -21,7 +21,7 @@ use Rattle.dds_logical.specs.Tested.{type_of_field, view_of_named, is_other_type
 
 pub shown_is : (name : List ℕ) (fs : List NamedField) → shown_field name fs ≡ view_of_named (named_of name fs)
 shown_is name [] = refl
-shown_is name (f ∷ fs) = elim cases_Bool (pointwise nat_eq f.name name) [ inl h ↦ rw h refl | inr h ↦ rw h (shown_is name fs) ]
+shown_is name (f ∷ fs) = elim (cases_Bool (pointwise nat_eq f.name name)) [ inl h ↦ rw h refl | inr h ↦ rw h (shown_is name fs) ]
 
 pub no_type_is : (o : Option ViewField) → is_none (type_of_field o) ≡ is_none o
 no_type_is None = refl
@@ -44,14 +44,15 @@ selects_too kinds.Join h = refl
 
 pub selection_among : (ss : List Specification) → list_any (λ s. is_selection s.kind) (lines_of line_kinds.Selection ss) ≡ list_any (λ s. is_selection s.kind) ss
 selection_among [] = refl
-selection_among (s ∷ ss) = elim cases_Bool (is_condition s.kind)
-    [ inl h ↦ rw h (ap (λ (b : Bool). is_selection s.kind || b) (selection_among ss))
-    | inr h ↦ rw h (rw (selects_too s.kind h) (selection_among ss)) ]
+selection_among (s ∷ ss) = elim (cases_Bool (is_condition s.kind)) [
+  | inl h ↦ rw h (ap (λ (b : Bool). is_selection s.kind || b) (selection_among ss))
+  | inr h ↦ rw h (rw (selects_too s.kind h) (selection_among ss))
+]
 
 pub further_next : (ss : List Specification) → not (length (further_lines ss) == 0) ≡ is_further_line (first_line ss)
 further_next [] = refl
-further_next (s ∷ ss) = elim cases_Bool (is_further s.kind) [ inl h ↦ rw h refl | inr h ↦ rw h refl ]
+further_next (s ∷ ss) = elim (cases_Bool (is_further s.kind)) [ inl h ↦ rw h refl | inr h ↦ rw h refl ]
 
 pub selection_more : (find : List ℕ → Option ViewField) (s : Specification) (ss : List Specification)
     → selection_at find s ss ++ selection_lines_faults find (lines_of line_kinds.Selection ss) ≡ selection_lines_faults find (lines_of line_kinds.Selection (s ∷ ss))
-selection_more find s ss = elim cases_Bool (is_condition s.kind) [ inl h ↦ rw h refl | inr h ↦ rw h refl ]
+selection_more find s ss = elim (cases_Bool (is_condition s.kind)) [ inl h ↦ rw h refl | inr h ↦ rw h refl ]

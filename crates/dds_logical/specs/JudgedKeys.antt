@@ -1,5 +1,5 @@
 -- What are the keys of formats before their fields have places in a record? (Our own.)
-use Rattle.std.specs.Prelude.{ℕ, ◌+◌, List, [], ◌∷◌, ◌++◌, drop, Option, Some, None, nat_eq, false, if◌then◌else◌, codes}
+use Rattle.std.specs.Prelude.{ℕ, ◌+◌, List, [], ◌∷◌, ◌++◌, drop, length, Option, Some, None, nat_eq, false, if◌then◌else◌, codes}
 use lib.Pointwise.{pointwise}
 use Rattle.key_spec.specs.declared.KeyPart.{KeyPart}
 use Rattle.key_spec.specs.declared.KeyPart.TheVariants as parts
@@ -11,12 +11,16 @@ use Rattle.dds_source.specs.declared.faults.DdsCause.TheVariants.{KeyMismatch}
 use Rattle.dds_source.specs.Entries.{when}
 use Rattle.std.specs.List.{list_any}
 use Rattle.dds_physical.specs.Places.{fault_at}
-use Rattle.dds_logical.specs.Keys.{parts_differ, first_part}
+use Rattle.record_fmt.specs.declared.formats.Field.{Field}
+use Rattle.dds_physical.specs.Draft.{key_part}
+use Rattle.dds_logical.specs.Keys.{parts_differ, first_part, field_of_name}
 use Rattle.dds_physical.specs.Names.{name_of}
 use Rattle.dds_physical.specs.Keywords.{is_there}
 use Rattle.dds_logical.specs.declared.named_fields.NamedField.{NamedField}
 use Rattle.dds_logical.specs.declared.format_lines.LineKind.TheVariants as line_kinds
-use Rattle.dds_logical.specs.Judged.{is_of}
+use Rattle.dds_source.specs.Reading.{is_record}
+use Rattle.dds_logical.specs.FormatLines.{key_lines}
+use Rattle.dds_logical.specs.Judged.{is_of, format_of}
 
 -- the field of a name
 abbrev pub named_of : List ℕ → List NamedField → Option NamedField
@@ -53,3 +57,11 @@ positions_from place earlier (p ∷ ps) (s ∷ ss) =
 abbrev pub forget_place : KeyPart → KeyPart
 forget_place parts.Absent = parts.Absent
 forget_place (parts.Field t at descend absval) = parts.Field t 0 descend absval
+
+-- the position of a line, if it is a key field's
+abbrev pub part_if : List Field → Specification → Option KeyPart
+part_if fields s = if is_of line_kinds.Key s.kind then Some (key_part (field_of_name fields (name_of s.name)) s.keywords) else None
+
+-- how many key lines the format has that a line begins
+abbrev pub parts_at : Specification → List Specification → ℕ
+parts_at s ss = if is_record s.kind then length (key_lines (format_of s ss)) else 0

@@ -1,5 +1,5 @@
 -- What does the body's account of what a field is made of mean? (Our own.)
-use Rattle.std.specs.Prelude.{ℕ, Bool, true, false, is_none, ◌||◌, List, [], ◌∷◌, Option, Some, None, if◌then◌else◌, codes}
+use Rattle.std.specs.Prelude.{ℕ, ◌≤◌, ◌+◌, ◌-◌, Bool, true, false, is_none, ◌||◌, List, [], ◌∷◌, Option, Some, None, if◌then◌else◌, codes}
 use Rattle.field_types.specs.declared.kinds.FieldType.{FieldType}
 use Rattle.record_fmt.specs.declared.formats.Field.{Field}
 use Rattle.dds_source.specs.declared.arguments.Argument.{Argument}
@@ -10,6 +10,7 @@ use Rattle.file_model.specs.Views.{character, pieces_length}
 use Rattle.dds_logical.specs.declared.origins.MadeOf.{MadeOf}
 use Rattle.dds_logical.specs.declared.origins.MadeOf.TheVariants as made
 use Rattle.dds_logical.specs.declared.origins.OwnType.{OwnType}
+use Rattle.dds_logical.specs.declared.parts.Part.{Part}
 use Rattle.dds_logical.specs.KeywordArguments.{names_among}
 use Rattle.dds_logical.specs.Origins.{Origin, lacks_one, fields_of_names, is_character, concatenated, substring_of, first_copied, part_origin, if_within, part_said}
 
@@ -55,3 +56,12 @@ is_outside_of args (Some f) = is_none (if_within f.ty.length (part_said f.ty.len
 abbrev pub or_first : Option Field → Option Field → Option Field
 or_first None other = other
 or_first (Some f) other = Some f
+
+-- part of a field that begins there
+abbrev pub part_at : (offset : ℕ) → Part → Origin
+part_at offset p = record { own_type = character p.size; source = Substring (record { offset = offset + p.start - 1; length = p.size }) }
+
+-- it begins within a record, if it is there
+abbrev pub IsLow : Option Field → Type 0
+IsLow None = Unit {0}
+IsLow (Some f) = f.offset ≤ 32766

@@ -136,10 +136,7 @@ fn sized(
 }
 
 /// The type of the field of a line that is made of what has this type; or the first entry at fault.
-pub(crate) fn attributes(
-    specification: &Specification,
-    own: OwnType,
-) -> Result<FieldType, DdsFault>
+pub(crate) fn attributes(specification: &Specification, own: OwnType) -> Result<FieldType, DdsFault>
     requires { own.length < 2 ^ 100 }
     ensures value { result ≡ attributes specification.now (Some (type_of own)) }
     ensures allowed { IfOk result IsFieldType }

@@ -30,7 +30,7 @@ pub(crate) fn fields_of_file<'a, B: Bases>(bases: &'a B, file: &Name) -> &'a [Fi
     }
 }
 
-fn no_fields() -> &'static [Field]
+pub(crate) fn no_fields() -> &'static [Field]
     ensures fields { result.now ≡ [] }
     ensures laid_out { IsLaidOut result.now }
 {

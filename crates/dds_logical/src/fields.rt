@@ -77,7 +77,11 @@ fn narrows_length(ty: FieldType, own: OwnType) -> bool
 fn length_column(line: &Specification) -> u32
     ensures { result ≡ length_column line.now }
 {
-    if line.columns.length.is_some() { 30 } else { 36 }
+    if line.columns.length.is_some() {
+        30
+    } else {
+        36
+    }
 }
 
 /// Notes a field that is too narrow for what it is made of.
@@ -85,10 +89,7 @@ fn length_column(line: &Specification) -> u32
 fn note_narrowing(line: &Specification, ty: FieldType, own: OwnType, first: &mut FirstFault)
     ensures { first.new.fault ≡ first_after first.old.fault (narrowing_faults line.now ty (type_of own)) }
 {
-    first.note_if(
-        !are_alike(ty, own),
-        fault_at(line, 35, DdsCause::Narrowing),
-    );
+    first.note_if(!are_alike(ty, own), fault_at(line, 35, DdsCause::Narrowing));
     first.note_if(
         narrows_decimals(ty, own),
         fault_at(line, 36, DdsCause::Narrowing),

@@ -14,8 +14,8 @@ use crate::fields::note_field_lines;
 use crate::first::FirstFault;
 use crate::format_lines::{is_record, lines_ahead};
 use crate::key_mismatches::{EarlierKeys, note_positions};
-use crate::keyword_names::{arguments_of, first_named};
 use crate::keys::{judged_parts, note_key_lines, note_sizes};
+use crate::keyword_names::{arguments_of, first_named};
 use crate::named_fields::named_fields;
 use crate::selections::note_selections;
 use crate::whole_file::note_head;
@@ -56,13 +56,7 @@ fn note_view<B: Bases>(
     note_field_lines(alloc, base, body, first)?;
     note_key_lines(alloc, false, is_multi, named.as_slice(), body, first)?;
     note_selections(alloc, named.as_slice(), base, body, first)?;
-    note_sizes(
-        last_line,
-        named.as_slice(),
-        parts.as_slice(),
-        body,
-        first,
-    );
+    note_sizes(last_line, named.as_slice(), parts.as_slice(), body, first);
     Ok(())
 }
 

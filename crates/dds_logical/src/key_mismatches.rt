@@ -31,8 +31,18 @@ fn parts_differ(part: KeyPart, other: KeyPart) -> bool
 {
     match (part, other) {
         (
-            KeyPart::Field { ty, descend, absval, .. },
-            KeyPart::Field { ty: other_ty, descend: falling, absval: unsigned, .. },
+            KeyPart::Field {
+                ty,
+                descend,
+                absval,
+                ..
+            },
+            KeyPart::Field {
+                ty: other_ty,
+                descend: falling,
+                absval: unsigned,
+                ..
+            },
         ) => {
             !(is_same_type(ty, other_ty)
                 && is_same_flag(descend, falling)
@@ -89,9 +99,7 @@ impl EarlierKeys {
     fn differ_at(&self, place: usize, part: KeyPart) -> bool
         ensures { result ≡ list_any (λ others. parts_differ (first_part (drop place others)) part) self.now }
     {
-        self.items
-            .iter()
-            .any(|others| parts_differ(part_at(others.as_slice(), place), part))
+        self.items.iter().any(|others| parts_differ(part_at(others.as_slice(), place), part))
     }
 }
 

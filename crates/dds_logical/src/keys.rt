@@ -70,10 +70,7 @@ fn note_key(
     ensures { first.new.fault ≡ first_after first.old.fault (line_faults_of line_kinds.Key (key_line_faults is_join is_multi (laid_out 0 named.now)) line.now) }
 {
     if is_of(LineKind::Key, line) {
-        first.note_if(
-            is_blank(line.name),
-            fault_at(line, 19, DdsCause::BadName),
-        );
+        first.note_if(is_blank(line.name), fault_at(line, 19, DdsCause::BadName));
         first.note_if(
             is_no_key(is_multi, named, line.name),
             fault_at(line, 19, DdsCause::NoSuchField),

@@ -1,6 +1,8 @@
 //! What a field of a logical format is made of: RENAME, CONCAT, SST.
 ghost use Rattle.std.specs.Prelude.{◌≡◌, ◌+◌, ◌≤◌, ◌<◌, ◌^◌, ◌++◌, ◌&&◌, ◌||◌, not, true, map, codes, is_none, Some, Option, IfOk, if◌then◌else◌};
 ghost use Rattle.std.specs.Option.{option_copied, option_map};
+ghost use Rattle.std.specs.List.{list_any, list_all, filter_map};
+ghost use Rattle.dds_physical.specs.KeywordRules.{argument_name};
 ghost use Rattle.dds_source.specs.Faults.{first_after};
 ghost use Rattle.dds_physical.specs.Keywords.{first_named};
 ghost use Rattle.record_fmt.specs.Layout.{IsLaidOut};
@@ -9,7 +11,7 @@ ghost use Rattle.dds_logical.specs.KeywordArguments.{names_among};
 ghost use Rattle.dds_logical.specs.Keys.{field_of_name};
 ghost use Rattle.dds_logical.specs.Origins.{origin, own_name, lacks_one, fields_of_names, are_characters, is_character, whole_field, lies_within, part_origin, copied_from, is_substring, own_name_faults, missing_faults, character_faults, part_faults, is_part_outside, origin_faults, if_within, part_said};
 ghost use Rattle.field_types.specs.declared.kinds.Kind.TheVariants.{Char};
-ghost use Rattle.dds_logical.specs.Made.{made_by, type_of, first_of, is_text_or_none, origin_by_concat, origin_by_part, origin_by_name, names_another};
+ghost use Rattle.dds_logical.specs.Made.{made_by, part_at, part_by, is_outside_of, IsLow, type_of, first_of, is_text_or_none, origin_by_concat, origin_by_part, origin_by_name, names_another};
 
 use crate::arguments::argument_name;
 use crate::first::{FirstFault, fault_at, keyword_fault};
@@ -108,6 +110,12 @@ fn lacks(base: &[Field], name: Option<Name>) -> bool
 pub(crate) fn lacks_one(base: &[Field], arguments: &[Argument]) -> bool
     ensures { result ≡ lacks_one base.now (names_among arguments.now) }
 {
+    one_lacks(base, arguments)
+}
+
+fn one_lacks(base: &[Field], arguments: &[Argument]) -> bool
+    ensures { result ≡ list_any (λ a. lacks_one base.now (own_name (argument_name a))) arguments.now }
+{
     arguments
         .iter()
         .any(|argument| lacks(base, argument_name(argument)))
@@ -136,9 +144,13 @@ fn is_character(kind: Kind) -> bool
 fn are_characters(base: &[Field], arguments: &[Argument]) -> bool
     ensures { result ≡ are_characters (fields_of_names base.now (names_among arguments.now)) }
 {
-    arguments
-        .iter()
-        .all(|argument| is_text_or_none(field_of(base, argument_name(argument))))
+    all_are_texts(base, arguments)
+}
+
+fn all_are_texts(base: &[Field], arguments: &[Argument]) -> bool
+    ensures { result ≡ list_all (λ a. is_text_or_none (field_of_name base.now (argument_name a))) arguments.now }
+{
+    arguments.iter().all(|argument| is_text_or_none(field_of(base, argument_name(argument))))
 }
 
 /// The first field of these names.
@@ -177,6 +189,16 @@ fn pieces_of(
 ) -> Result<Vec<Piece>, AllocError>
     ensures { IfOk result (λ pieces. pieces.items ≡ map whole_field (fields_of_names base.now (names_among arguments.now))) }
 {
+    pieces_among(alloc, base, arguments)
+}
+
+fn pieces_among(
+    alloc: Global,
+    base: &[Field],
+    arguments: &[Argument],
+) -> Result<Vec<Piece>, AllocError>
+    ensures { IfOk result (λ pieces. pieces.items ≡ filter_map (λ a. option_map whole_field (field_of_name base.now (argument_name a))) arguments.now) }
+{
     arguments
         .iter()
         .filter_map(|argument| whole_field(field_of(base, argument_name(argument))))
@@ -198,15 +220,15 @@ fn concatenation(
     Ok(Some(MadeOf::Pieces(ListOf::from_vec(pieces))))
 }
 
-/// Part of a field that begins within a record.
-fn part_of(field: &Field, part: Part) -> MadeOf
-    requires within { lies_within field.now.ty.length part ≡ true }
-    requires low { field.now.offset ≤ 32766 }
-    ensures { Some (made_by result) ≡ part_origin field.now (Some part) }
+/// Part of a field of this length that begins there.
+fn part_of(offset: u32, length: u16, part: Part) -> MadeOf
+    requires within { lies_within length part ≡ true }
+    requires low { offset ≤ 32766 }
+    ensures { made_by result ≡ part_at offset part }
 {
     let start = part.start as u32;
     MadeOf::Part(Piece {
-        offset: field.offset + start - 1,
+        offset: offset + start - 1,
         length: part.size as u32,
     })
 }
@@ -220,7 +242,14 @@ fn substring(base: &[Field], arguments: &[Argument]) -> Option<MadeOf>
     if lacks_one(base, arguments) {
         return None;
     }
-    match first_field(base, arguments) {
+    part_of_first(first_field(base, arguments), arguments)
+}
+
+fn part_of_first(field: Option<&Field>, arguments: &[Argument]) -> Option<MadeOf>
+    requires { IsLow (option_copied field.entry) }
+    ensures { option_map made_by result ≡ part_by arguments.now (option_copied field.entry) }
+{
+    match field {
         Some(field) if is_character(field.ty.kind) => part_of_field(field, arguments),
         _ => None,
     }
@@ -231,7 +260,7 @@ fn part_of_field(field: &Field, arguments: &[Argument]) -> Option<MadeOf>
     ensures { option_map made_by result ≡ part_origin field.now (if_within field.now.ty.length (part_said field.now.ty.length arguments.now)) }
 {
     match part_within(field.ty.length, arguments) {
-        Some(part) => Some(part_of(field, part)),
+        Some(part) => Some(part_of(field.offset, field.ty.length, part)),
         None => None,
     }
 }
@@ -337,7 +366,13 @@ fn note_other_kind(base: &[Field], keyword: Option<&Keyword>, first: &mut FirstF
 fn is_part_outside(base: &[Field], arguments: &[Argument]) -> bool
     ensures { result ≡ is_part_outside arguments.now (fields_of_names base.now (names_among arguments.now)) }
 {
-    match first_field(base, arguments) {
+    is_outside_of(first_field(base, arguments), arguments)
+}
+
+fn is_outside_of(field: Option<&Field>, arguments: &[Argument]) -> bool
+    ensures { result ≡ is_outside_of arguments.now (option_copied field.entry) }
+{
+    match field {
         Some(field) => part_within(field.ty.length, arguments).is_none(),
         None => false,
     }

@@ -37,12 +37,7 @@ use std::alloc::{AllocError, Global};
 
 /// Notes a line with a name that neither the format nor its base has.
 #[tactic(auto, using(crate::proofs::TestedLemmas::no_type_is))]
-fn note_no_field(
-    named: &[NamedField],
-    base: &[Field],
-    line: &Specification,
-    first: &mut FirstFault,
-)
+fn note_no_field(named: &[NamedField], base: &[Field], line: &Specification, first: &mut FirstFault)
     ensures { first.new.fault ≡ first_after first.old.fault (no_field_faults (field_to_test named.now base.now) line.now) }
 {
     let is_missing = type_to_test(named, base, name_of(line.name)).is_none();
@@ -69,7 +64,13 @@ fn is_other_type(ty: &FieldType, other: Option<FieldType>) -> bool
     ensures { result ≡ is_other_type ty.now other }
 {
     match other {
-        Some(other) => { if is_numeric(ty.kind) { !is_numeric(other.kind) } else { is_numeric(other.kind) } }
+        Some(other) => {
+            if is_numeric(ty.kind) {
+                !is_numeric(other.kind)
+            } else {
+                is_numeric(other.kind)
+            }
+        }
         None => false,
     }
 }
@@ -86,12 +87,7 @@ fn other_name(arguments: &[Argument]) -> Option<Name>
 
 /// Notes COMP with a field that isn't there.
 #[tactic(auto, using(crate::proofs::TestedLemmas::no_type_is))]
-fn note_other_field(
-    named: &[NamedField],
-    base: &[Field],
-    keyword: &Keyword,
-    first: &mut FirstFault,
-)
+fn note_other_field(named: &[NamedField], base: &[Field], keyword: &Keyword, first: &mut FirstFault)
     ensures { first.new.fault ≡ first_after first.old.fault (other_field_faults (field_to_test named.now base.now) keyword.now) }
 {
     let arguments = arguments_of(keyword);

@@ -2,8 +2,8 @@
 ghost use Rattle.std.specs.Prelude.{◌≡◌, ◌==◌, ◌++◌, ◌∷◌, length, IfOk, OnOk, if◌then◌else◌, Some};
 ghost use Rattle.dds_physical.specs.Defaults.{with_piece, with_pieces, text_of, literal_value};
 
-use crate::literals::literal_value;
 use crate::keyword_names::{arguments_of, is_heading};
+use crate::literals::literal_value;
 use dds_source::arguments::Argument;
 use dds_source::keywords::Keyword;
 use field_types::texts::Text;
