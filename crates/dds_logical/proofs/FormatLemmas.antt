@@ -1,7 +1,7 @@
 -- Formats among the lines of a source.
-use Rattle.std.proofs.Common.{◌≡◌, ◌∙◌, ◌==◌, ◌||◌, ◌++◌, ℕ, suc, ap, sym, refl, Bool, true, false, not, inl, inr, List, [], ◌∷◌, length, filter, map, Option, Some, None, is_none, flat_map}
-use Rattle.std.specs.List.{list_any, cons_option}
-use Rattle.std.proofs.lemmas.Bool.{cases_Bool}
+use Rattle.std.proofs.Common.{◌≡◌, ◌∙◌, ◌==◌, ◌||◌, ◌++◌, ℕ, suc, ap, sym, refl, Bool, true, false, not, inl, inr, List, [], ◌∷◌, length, filter, map, Option, Some, None, is_none, flat_map, take, arith}
+use Rattle.std.specs.List.{list_any, cons_option, before_first, prefix_len}
+use Rattle.std.proofs.lemmas.Bool.{cases_Bool, ne_eqb}
 use Rattle.dds_source.specs.declared.faults.DdsFault.{DdsFault}
 use Rattle.dds_source.specs.declared.specifications.Specification.{Specification}
 use Rattle.dds_source.specs.Reading.{is_record}
@@ -22,14 +22,18 @@ heads_are (s ∷ ss) = elim (cases_Bool (is_record s.kind)) [ inl h ↦ rw h (ap
 
 pub no_formats : (ss : List Specification) → not (list_any (λ s. is_of line_kinds.Record s.kind) ss) ≡ (length (formats_in ss) == 0)
 no_formats [] = refl
-no_formats (s ∷ ss) = elim (cases_Bool (is_record s.kind)) [ inl h ↦ rw h refl | inr h ↦ rw h (no_formats ss) ]
+no_formats (s ∷ ss) = elim (cases_Bool (is_record s.kind)) [ inl h ↦ rw h (sym (ne_eqb (suc (length (formats_in ss))) 0 (λ e. absurd (omega (arith, e))))) | inr h ↦ rw h (no_formats ss) ]
 
 -- of each format what is wrong with it
 pub faults_more : (wrong : FormatLines → List DdsFault) (s : Specification) (ss : List Specification)
     → faults_at wrong s ss ++ flat_map wrong (formats_in ss) ≡ flat_map wrong (formats_in (s ∷ ss))
+unfolding faults_at
 faults_more wrong s ss = elim (cases_Bool (is_record s.kind)) [ inl h ↦ rw h refl | inr h ↦ rw h refl ]
 
 pub missing_cons : (bases : List ℕ → Option PhysicalSpec) (m : Option (List ℕ)) (ns : List (List ℕ))
     → list_any (is_no_base bases) (cons_option m ns) ≡ (is_missing_base bases m || list_any (is_no_base bases) ns)
 missing_cons bases None ns = refl
 missing_cons bases (Some n) ns = refl
+
+pub ahead_is : (ss : List Specification) → take (prefix_len (λ s. not (is_record s.kind)) ss) ss ≡ before_first (λ s. is_record s.kind) ss
+ahead_is ss = refl

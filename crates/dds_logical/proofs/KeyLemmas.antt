@@ -1,5 +1,5 @@
 -- Keys of formats before and after their fields have places in a record.
-use Rattle.std.proofs.Common.{◌≡◌, ◌∙◌, ◌+◌, ap, sym, refl, ℕ, zero, suc, Bool, true, false, not, ◌||◌, List, [], ◌∷◌, ◌++◌, map, reverse, drop, Option, Some, None, is_some, is_none, nat_eq, if◌then◌else◌, inl, inr}
+use Rattle.std.proofs.Common.{add-one, ◌≡◌, ◌∙◌, ◌+◌, ap, sym, refl, ℕ, zero, suc, Bool, true, false, not, ◌||◌, List, [], ◌∷◌, ◌++◌, map, reverse, drop, Option, Some, None, is_some, is_none, nat_eq, if◌then◌else◌, inl, inr}
 use Rattle.std.specs.List.{list_any, filter_map, cons_option}
 use Rattle.std.proofs.lemmas.Grind.{reverse_onto}
 use lib.Pointwise.{pointwise}
@@ -120,10 +120,13 @@ positions_forget n earlier (p ∷ ps) (s ∷ ss) =
     ∙ ap (λ (fs : List DdsFault). when (list_any (λ others. parts_differ (first_part (drop n others)) p) earlier) (fault_at s 19 KeyMismatch) ++ fs) (positions_forget (n + 1) earlier ps ss)
 
 -- the definition cuts the first position off, where this counts
+drop_next : {X : Type 0} (n : ℕ) (xs : List X) → drop 1 (drop n xs) ≡ drop (suc n) xs
+drop_next zero xs = refl
+drop_next (suc n) [] = refl
+drop_next (suc n) (x ∷ xs) = drop_next n xs
+
 drop_one : {X : Type 0} (n : ℕ) (xs : List X) → drop 1 (drop n xs) ≡ drop (n + 1) xs
-drop_one zero xs = refl
-drop_one (suc n) [] = refl
-drop_one (suc n) (x ∷ xs) = drop_one n xs
+drop_one n xs = drop_next n xs ∙ ap (λ (m : ℕ). drop m xs) (sym (add-one n))
 
 drops_one : (n : ℕ) (earlier : List (List KeyPart)) → map (λ others. drop 1 others) (map (λ others. drop n others) earlier) ≡ map (λ others. drop (n + 1) others) earlier
 drops_one n [] = refl

@@ -7,3 +7,6 @@ pub mod TestedLemmas
 pub mod RuleLemmas
 pub mod ListLemmas
 pub mod ViewLemmas
+pub mod LayoutLemmas
+pub mod CompleteLemmas
+pub mod FileLemmas

@@ -7,10 +7,14 @@ use Rattle.dds_source.specs.declared.specifications.Specification.{Specification
 use Rattle.dds_physical.specs.Places.{fault_at}
 use Rattle.dds_logical.specs.declared.format_lines.LineKind.{LineKind}
 use Rattle.dds_logical.specs.Fields.{too_many_faults, first_too_many}
-use Rattle.dds_logical.specs.Judged.{is_of, lines_of, line_faults_of, first_line}
+use Rattle.dds_source.specs.declared.keywords.Keyword.{Keyword}
+use Rattle.dds_logical.specs.declared.keyword_places.KeywordPlace.{KeywordPlace}
+use Rattle.dds_logical.specs.KeywordRules.{stands_at, logical_keyword_faults}
+use Rattle.dds_logical.specs.Judged.{one_keyword_faults, is_of, lines_of, line_faults_of, first_line}
 
 -- of each line what is wrong with it, if it is of the kind
 pub faults_of_kind : (kind : LineKind) (wrong : Specification → List DdsFault) (ss : List Specification) → flat_map (line_faults_of kind wrong) ss ≡ flat_map wrong (lines_of kind ss)
+unfolding line_faults_of
 faults_of_kind kind wrong [] = refl
 faults_of_kind kind wrong (s ∷ ss) = elim (cases_Bool (is_of kind s.kind))
     [ inl h ↦ rw h (ap (λ (fs : List DdsFault). wrong s ++ fs) (faults_of_kind kind wrong ss)) | inr h ↦ rw h (faults_of_kind kind wrong ss) ]
@@ -22,3 +26,9 @@ beyond (Some s) = fault_at s 19 TooLarge ∷ []
 pub too_many_is : (ss : List Specification) → beyond (first_line ss) ≡ first_too_many ss
 too_many_is [] = refl
 too_many_is (s ∷ ss) = refl
+
+-- what is wrong with a keyword, and with those behind it
+pub keywords_more : (is_join : Bool) (place : KeywordPlace) (k : Keyword) (ks : List Keyword)
+    → one_keyword_faults (stands_at is_join place k) k ks ++ logical_keyword_faults is_join place ks ≡ logical_keyword_faults is_join place (k ∷ ks)
+unfolding one_keyword_faults
+keywords_more is_join place k ks = refl

@@ -1,5 +1,5 @@
 -- The fields of a format.
-use Rattle.std.proofs.Common.{◌≡◌, ◌∙◌, ap, sym, refl, Bool, true, false, ◌||◌, inl, inr, List, [], ◌∷◌, ◌++◌, map, Option, Some, None, subst}
+use Rattle.std.proofs.Common.{◌≡◌, ◌∙◌, ap, sym, refl, Bool, true, false, ◌||◌, inl, inr, List, [], ◌∷◌, ◌++◌, map, Option, Some, None, subst, cond}
 use Rattle.std.specs.List.{list_any, filter_map, cons_option}
 use Rattle.std.specs.Option.{option_to_list}
 use Rattle.std.proofs.lemmas.Bool.{cases_Bool}
@@ -25,7 +25,7 @@ has_some : (ss : List Specification) → list_any (λ s. is_of line_kinds.Field 
 has_some [] h = absurd cc
 has_some (s ∷ ss) h = elim (cases_Bool (is_of line_kinds.Field s.kind)) [
   | inl is ↦ (s, lines_of line_kinds.Field ss, rw is refl)
-  | inr isnt ↦ let more = has_some ss (subst (λ (b : Bool). (b || list_any (λ t. is_of line_kinds.Field t.kind) ss) ≡ true) isnt h) in (more.0, more.1, rw isnt more.2)
+  | inr isnt ↦ let more = has_some ss (subst (λ (b : Bool). (b || list_any (λ t. is_of line_kinds.Field t.kind) ss) ≡ true) isnt h) in (more.0, more.1, ap (λ (b : Bool). cond b (s ∷ lines_of line_kinds.Field ss) (lines_of line_kinds.Field ss)) isnt ∙ more.2)
 ]
 
 pub named_by_lines : (base : List Field) (ss : List Specification) → list_any (λ s. is_of line_kinds.Field s.kind) ss ≡ true

@@ -15,11 +15,6 @@ use Rattle.dds_logical.specs.Selections.{conditions_on, has_all, choice_of, stat
 use Rattle.dds_logical.specs.Judged.{is_of, lines_of}
 use Rattle.dds_logical.specs.Tested.{statement_with}
 
-pub conditions_more : (o : Option ViewField) (t : Option Test) (ts : List Test) → conditions_on o (option_to_list t) ++ conditions_on o ts ≡ conditions_on o (cons_option t ts)
-conditions_more None t ts = refl
-conditions_more (Some f) None ts = refl
-conditions_more (Some f) (Some t) ts = refl
-
 pub begun_is : (find : List ℕ → Option ViewField) (kind : SpecificationKind) (s : Specification) (ss : List Specification) → statement_with find (choice_of kind) s ss ≡ statement_begun find kind s ss
 begun_is find kinds.Record s ss = refl
 begun_is find kinds.Field s ss = refl

@@ -1,8 +1,12 @@
 -- The fields that are tested, and the lines of a selection.
-use Rattle.std.proofs.Common.{◌≡◌, ◌∙◌, ap, sym, refl, ℕ, Bool, true, false, not, ◌&&◌, ◌||◌, ◌==◌, List, [], ◌∷◌, ◌++◌, map, length, take, Option, Some, None, is_some, is_none, nat_eq, if◌then◌else◌, inl, inr}
-use Rattle.std.specs.List.{list_any, before_first}
+use Rattle.std.proofs.Common.{◌+◌, suc, cond, flat_map, subst, arith, ◌≡◌, ◌∙◌, ap, sym, refl, ℕ, Bool, true, false, not, ◌&&◌, ◌||◌, ◌==◌, List, [], ◌∷◌, ◌++◌, map, length, take, Option, Some, None, is_some, is_none, nat_eq, if◌then◌else◌, inl, inr}
+use Rattle.std.specs.List.{list_any, before_first, prefix_len, filter_map, cons_option}
+use Rattle.std.specs.Option.{option_to_list}
+use Rattle.dds_source.specs.declared.keywords.Keyword.{Keyword}
+use Rattle.dds_physical.specs.Names.{name_of}
+use Rattle.file_model.specs.declared.rules.Test.{Test}
 use lib.Pointwise.{pointwise}
-use Rattle.std.proofs.lemmas.Bool.{cases_Bool}
+use Rattle.std.proofs.lemmas.Bool.{cases_Bool, ne_eqb}
 use Rattle.field_types.specs.declared.kinds.FieldType.{FieldType}
 use Rattle.record_fmt.specs.declared.formats.Field.{Field}
 use Rattle.dds_source.specs.declared.faults.DdsFault.{DdsFault}
@@ -14,10 +18,10 @@ use Rattle.dds_physical.specs.Names.{field_named}
 use Rattle.file_model.specs.declared.views.ViewField.{ViewField}
 use Rattle.dds_logical.specs.declared.named_fields.NamedField.{NamedField}
 use Rattle.dds_logical.specs.declared.format_lines.LineKind.TheVariants as line_kinds
-use Rattle.dds_logical.specs.Selections.{shown_field, field_itself, or_else, is_further, further_lines, is_other_kind, selection_lines_faults}
+use Rattle.dds_logical.specs.Selections.{tested_field, test_said, conditions_on, conditions_said, shown_field, field_itself, or_else, is_further, further_lines, is_other_kind, selection_lines_faults}
 use Rattle.dds_logical.specs.Judged.{is_of, lines_of, first_line}
 use Rattle.dds_logical.specs.JudgedKeys.{named_of}
-use Rattle.dds_logical.specs.Tested.{type_of_field, view_of_named, is_other_type, is_further_line, selection_at}
+use Rattle.dds_logical.specs.Tested.{condition_of, conditions_of, conditions_at, further_conditions, type_of_field, view_of_named, is_other_type, is_further_line, selection_at}
 
 pub shown_is : (name : List ℕ) (fs : List NamedField) → shown_field name fs ≡ view_of_named (named_of name fs)
 shown_is name [] = refl
@@ -49,10 +53,58 @@ selection_among (s ∷ ss) = elim (cases_Bool (is_condition s.kind)) [
   | inr h ↦ rw h (rw (selects_too s.kind h) (selection_among ss))
 ]
 
+one_more : (n : ℕ) → 1 + n ≡ suc n
+one_more n = omega arith
+
+further_more : (s : Specification) (ss : List Specification) → is_further s.kind ≡ true → further_lines (s ∷ ss) ≡ s ∷ further_lines ss
+further_more s ss h =
+    ap (λ (b : Bool). take (cond (not (not b)) (1 + prefix_len (λ t. not (not (is_further t.kind))) ss) 0) (s ∷ ss)) h
+    ∙ ap (λ (n : ℕ). take n (s ∷ ss)) (one_more (prefix_len (λ t. not (not (is_further t.kind))) ss))
+
+further_none : (s : Specification) (ss : List Specification) → is_further s.kind ≡ false → further_lines (s ∷ ss) ≡ []
+further_none s ss h = ap (λ (b : Bool). take (cond (not (not b)) (1 + prefix_len (λ t. not (not (is_further t.kind))) ss) 0) (s ∷ ss)) h
+
 pub further_next : (ss : List Specification) → not (length (further_lines ss) == 0) ≡ is_further_line (first_line ss)
 further_next [] = refl
-further_next (s ∷ ss) = elim (cases_Bool (is_further s.kind)) [ inl h ↦ rw h refl | inr h ↦ rw h refl ]
+further_next (s ∷ ss) = elim (cases_Bool (is_further s.kind))
+    [ inl h ↦ ap (λ (ts : List Specification). not (length ts == 0)) (further_more s ss h) ∙ ap not (ne_eqb (suc (length (further_lines ss))) 0 (λ e. absurd (omega (arith, e)))) ∙ sym h
+    | inr h ↦ ap (λ (ts : List Specification). not (length ts == 0)) (further_none s ss h) ∙ sym h ]
+
+-- ---- the conditions of a statement
+
+pub conditions_more : (find : List ℕ → Option ViewField) (s : Specification) (k : Keyword) (ks : List Keyword) → condition_of find s k ++ conditions_of find s ks ≡ conditions_of find s (k ∷ ks)
+unfolding condition_of, conditions_of
+conditions_more find s k ks = conditions_cons (tested_field find (name_of s.name)) (test_said find k) (filter_map (test_said find) ks)
+  where
+    conditions_cons : (o : Option ViewField) (t : Option Test) (ts : List Test) → conditions_on o (option_to_list t) ++ conditions_on o ts ≡ conditions_on o (cons_option t ts)
+    conditions_cons None t ts = refl
+    conditions_cons (Some f) None ts = refl
+    conditions_cons (Some f) (Some t) ts = refl
+
+-- a select or an omit ends the further conditions
+pub further_ends : (find : List ℕ → Option ViewField) (s : Specification) (ss : List Specification) → is_of line_kinds.Selection s.kind ≡ true → is_further s.kind ≡ false → further_conditions find (s ∷ ss) ≡ []
+unfolding further_conditions
+further_ends find s ss of further =
+    ap (λ (b : Bool). flat_map (conditions_said find) (further_lines (cond b (s ∷ lines_of line_kinds.Selection ss) (lines_of line_kinds.Selection ss)))) of
+    ∙ ap (flat_map (conditions_said find)) (further_none s (lines_of line_kinds.Selection ss) further)
+
+-- another line is a further condition, or none of the selection
+pub further_goes : (find : List ℕ → Option ViewField) (s : Specification) (ss : List Specification) → (is_of line_kinds.Selection s.kind && not (is_further s.kind)) ≡ false
+    → conditions_at find s ++ further_conditions find ss ≡ further_conditions find (s ∷ ss)
+unfolding further_conditions, conditions_at
+further_goes find s ss h = elim (cases_Bool (is_of line_kinds.Selection s.kind))
+    [ inl of ↦ let further : is_further s.kind ≡ true = not_not (is_further s.kind) (subst (λ (b : Bool). (b && not (is_further s.kind)) ≡ false) of h) in
+        ap (λ (b : Bool). cond b (conditions_said find s) [] ++ further_conditions find ss) of
+        ∙ sym (ap (λ (b : Bool). flat_map (conditions_said find) (further_lines (cond b (s ∷ lines_of line_kinds.Selection ss) (lines_of line_kinds.Selection ss)))) of
+        ∙ ap (flat_map (conditions_said find)) (further_more s (lines_of line_kinds.Selection ss) further))
+    | inr of ↦ ap (λ (b : Bool). cond b (conditions_said find s) [] ++ further_conditions find ss) of
+        ∙ sym (ap (λ (b : Bool). flat_map (conditions_said find) (further_lines (cond b (s ∷ lines_of line_kinds.Selection ss) (lines_of line_kinds.Selection ss)))) of) ]
+  where
+    not_not : (b : Bool) → (true && not b) ≡ false → b ≡ true
+    not_not true h = refl
+    not_not false h = absurd cc
 
 pub selection_more : (find : List ℕ → Option ViewField) (s : Specification) (ss : List Specification)
     → selection_at find s ss ++ selection_lines_faults find (lines_of line_kinds.Selection ss) ≡ selection_lines_faults find (lines_of line_kinds.Selection (s ∷ ss))
+unfolding selection_at
 selection_more find s ss = elim (cases_Bool (is_condition s.kind)) [ inl h ↦ rw h refl | inr h ↦ rw h refl ]

@@ -19,7 +19,7 @@ use Rattle.dds_logical.specs.KeywordRules.{unknown_faults, argument_faults, twic
 use Rattle.dds_logical.specs.LineOrder.{stage_faults, kind_faults, out_of_order}
 
 -- what is wrong with a keyword, before others
-abbrev pub one_keyword_faults : Bool → Keyword → List Keyword → List DdsFault
+unfoldable pub one_keyword_faults : Bool → Keyword → List Keyword → List DdsFault
 one_keyword_faults is_known k more = unknown_faults is_known k ++ argument_faults is_known k ++ twice_faults is_known k more
 
 -- ---- lines
@@ -39,7 +39,7 @@ abbrev pub format_of : Specification → List Specification → FormatLines
 format_of s ss = record { head = s; body = before_first (λ other. is_record other.kind) ss }
 
 -- what is wrong with the format that a line begins, if it begins one
-abbrev pub faults_at : (FormatLines → List DdsFault) → Specification → List Specification → List DdsFault
+unfoldable pub faults_at : (FormatLines → List DdsFault) → Specification → List Specification → List DdsFault
 faults_at wrong s ss = if is_record s.kind then wrong (format_of s ss) else []
 
 -- ---- order
@@ -56,7 +56,7 @@ second_formats false (f ∷ fs) = map (λ other. out_of_order other.head) fs
 -- ---- lines of a kind
 
 -- what is wrong with a line, if it is of the kind
-abbrev pub line_faults_of : LineKind → (Specification → List DdsFault) → Specification → List DdsFault
+unfoldable pub line_faults_of : LineKind → (Specification → List DdsFault) → Specification → List DdsFault
 line_faults_of kind wrong s = if is_of kind s.kind then wrong s else []
 
 abbrev pub first_line : List Specification → Option Specification

@@ -9,7 +9,7 @@ use Rattle.dds_source.specs.declared.specifications.Specification.{Specification
 use Rattle.dds_source.specs.declared.faults.DdsFault.{DdsFault}
 use Rattle.dds_source.specs.declared.faults.DdsCause.TheVariants.{KeyMismatch}
 use Rattle.dds_source.specs.Entries.{when}
-use Rattle.std.specs.List.{list_any}
+use Rattle.std.specs.List.{list_any, filter_map}
 use Rattle.dds_physical.specs.Places.{fault_at}
 use Rattle.record_fmt.specs.declared.formats.Field.{Field}
 use Rattle.dds_physical.specs.Draft.{key_part}
@@ -20,7 +20,7 @@ use Rattle.dds_logical.specs.declared.named_fields.NamedField.{NamedField}
 use Rattle.dds_logical.specs.declared.format_lines.LineKind.TheVariants as line_kinds
 use Rattle.dds_source.specs.Reading.{is_record}
 use Rattle.dds_logical.specs.FormatLines.{key_lines}
-use Rattle.dds_logical.specs.Judged.{is_of, format_of}
+use Rattle.dds_logical.specs.Judged.{is_of, lines_of, format_of}
 
 -- the field of a name
 abbrev pub named_of : List ℕ → List NamedField → Option NamedField
@@ -52,6 +52,10 @@ positions_from place earlier (p ∷ ps) [] = []
 positions_from place earlier (p ∷ ps) (s ∷ ss) =
     when (list_any (λ others. parts_differ (first_part (drop place others)) p) earlier) (fault_at s 19 KeyMismatch)
     ++ positions_from (place + 1) earlier ps ss
+
+-- among lines with these fields
+abbrev pub positions_of : (place : ℕ) → (earlier : List (List KeyPart)) → List NamedField → List Specification → List DdsFault
+positions_of place earlier fields ss = positions_from place earlier (filter_map (judged_if fields) ss) (lines_of line_kinds.Key ss)
 
 -- without its place in a record
 abbrev pub forget_place : KeyPart → KeyPart

@@ -18,3 +18,4 @@ pub mod Named
 pub mod JudgedKeys
 pub mod Tested
 pub mod Mismatches
+pub mod Complete

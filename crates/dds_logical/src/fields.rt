@@ -266,6 +266,7 @@ pub(crate) fn note_names_twice(
 }
 
 /// The line of the kind that has so many before it.
+#[tactic(auto, using(crate::proofs::ListLemmas::drop_less))]
 fn line_beyond<'a>(
     kind: LineKind,
     most: usize,
@@ -301,7 +302,7 @@ pub(crate) fn note_too_many(
 }
 
 /// Notes what is wrong with a line, if it is a field's.
-#[tactic(auto, using(dds_physical::proofs::FaultLemmas::first_after_append))]
+#[tactic(auto, using(dds_physical::proofs::FaultLemmas::first_after_append), unfolding(crate::specs::Judged::line_faults_of))]
 fn note_field(
     alloc: Global,
     base: &[Field],

@@ -61,6 +61,7 @@ fn note_view<B: Bases>(
 }
 
 /// Notes what is wrong with the format that a line begins, if it begins one.
+#[tactic(auto, unfolding(crate::specs::Judged::faults_at))]
 fn note_view_at<B: Bases>(
     alloc: Global,
     bases: &B,

@@ -118,6 +118,7 @@ fn is_condition(kind: SpecificationKind) -> bool
 }
 
 /// The lines up to the next record format.
+#[tactic(auto, using(crate::proofs::FormatLemmas::ahead_is))]
 pub(crate) fn lines_ahead(lines: &[Specification]) -> &[Specification]
     ensures { result.now ≡ before_first (λ s. is_record s.kind) lines.now }
 {

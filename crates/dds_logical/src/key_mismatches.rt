@@ -1,11 +1,10 @@
 //! Positions of keys that differ between the formats of a file.
-ghost use Rattle.std.specs.Prelude.{◌≡◌, ◌+◌, ◌&&◌, ◌||◌, ◌∷◌, [], not, drop, length, if◌then◌else◌, OnOk};
-ghost use Rattle.std.specs.List.{list_any, filter_map};
+ghost use Rattle.std.specs.Prelude.{◌≡◌, ◌<◌, ◌≤◌, List, reverse, ◌+◌, ◌&&◌, ◌||◌, ◌∷◌, [], not, drop, length, if◌then◌else◌, OnOk};
+ghost use Rattle.std.specs.List.{list_any};
+ghost use Rattle.dds_source.specs.declared.specifications.Specification.{Specification};
 ghost use Rattle.dds_source.specs.Faults.{first_after};
-ghost use Rattle.dds_logical.specs.declared.format_lines.LineKind.TheVariants as line_kinds;
 ghost use Rattle.dds_logical.specs.Keys.{is_same_flag, parts_differ, first_part};
-ghost use Rattle.dds_logical.specs.Judged.{lines_of};
-ghost use Rattle.dds_logical.specs.JudgedKeys.{judged_if, positions_from};
+ghost use Rattle.dds_logical.specs.JudgedKeys.{positions_of};
 
 use crate::fields::is_same_type;
 use crate::first::{FirstFault, fault_at};
@@ -95,34 +94,64 @@ impl EarlierKeys {
     }
 
     /// Whether one of them differs at this place.
-    #[tactic(auto, using(crate::proofs::KeyLemmas::any_reverse))]
     fn differ_at(&self, place: usize, part: KeyPart) -> bool
         ensures { result ≡ list_any (λ others. parts_differ (first_part (drop place others)) part) self.now }
     {
-        self.items.iter().any(|others| parts_differ(part_at(others.as_slice(), place), part))
+        latest_differs(self.items.as_slice(), place, part)
     }
 }
 
-/// Notes the positions that differ from those of an earlier format.
+/// Whether one of these differs at this place, the last one first.
+fn latest_differs(formats: &[KeyParts], place: usize, part: KeyPart) -> bool
+    ensures { result ≡ list_any (λ others. parts_differ (first_part (drop place others)) part) (reverse formats.now) }
+{
+    one_differs(formats, place, part)
+}
+
+fn one_differs(formats: &[KeyParts], place: usize, part: KeyPart) -> bool
+    ensures { result ≡ list_any (λ others. parts_differ (first_part (drop place others)) part) formats.now }
+{
+    formats
+        .iter()
+        .any(|others| parts_differ(part_at(others.as_slice(), place), part))
+}
+
+/// Notes a line whose position differs from that of an earlier format, if it is a key field's; and tells whether it is.
 #[tactic(auto, using(dds_physical::proofs::FaultLemmas::first_after_append))]
+fn note_position(
+    earlier: &EarlierKeys,
+    named: &[NamedField],
+    place: usize,
+    line: &Specification,
+    first: &mut FirstFault,
+) -> usize
+    requires { place < 18446744073709551615 }
+    ensures bound { result ≤ place + 1 }
+    ensures noted { (later : List Specification) → first_after first.new.fault (positions_of result earlier.now named.now later) ≡ first_after first.old.fault (positions_of place earlier.now named.now (line.now ∷ later)) }
+{
+    if !is_of(LineKind::Key, line) {
+        return place;
+    }
+    let field = named_or_none(named, name_of(line.name));
+    let part = judged_part(field, line.keywords.as_slice());
+    first.note_if(
+        earlier.differ_at(place, part),
+        fault_at(line, 19, DdsCause::KeyMismatch),
+    );
+    place + 1
+}
+
+/// Notes the positions that differ from those of an earlier format.
 pub(crate) fn note_positions(
     earlier: &EarlierKeys,
     named: &[NamedField],
     lines: &[Specification],
     first: &mut FirstFault,
 )
-    ensures { first.new.fault ≡ first_after first.old.fault (positions_from 0 earlier.now (filter_map (judged_if named.now) lines.now) (lines_of line_kinds.Key lines.now)) }
+    ensures { first.new.fault ≡ first_after first.old.fault (positions_of 0 earlier.now named.now lines.now) }
 {
     let mut place = 0;
     for line in lines {
-        if is_of(LineKind::Key, line) {
-            let field = named_or_none(named, name_of(line.name));
-            let part = judged_part(field, line.keywords.as_slice());
-            first.note_if(
-                earlier.differ_at(place, part),
-                fault_at(line, 19, DdsCause::KeyMismatch),
-            );
-            place += 1;
-        }
+        place = note_position(earlier, named, place, line, first);
     }
 }

@@ -11,7 +11,7 @@ ghost use Rattle.dds_logical.specs.Fields.{laid_out};
 ghost use Rattle.dds_logical.specs.Keys.{is_no_key, key_line_faults, key_lines_faults, parts_of_lines};
 ghost use Rattle.dds_logical.specs.Judged.{lines_of, line_faults_of};
 ghost use Rattle.dds_logical.specs.WholeFile.{size_faults};
-ghost use Rattle.dds_logical.specs.JudgedKeys.{named_of, named_or_none, judged_part, judged_if};
+ghost use Rattle.dds_logical.specs.JudgedKeys.{bytes_of, named_of, named_or_none, judged_part, judged_if};
 
 use crate::fields::{note_names_twice, note_too_many};
 use crate::first::{FirstFault, fault_at, file_fault};
@@ -59,7 +59,7 @@ fn is_no_key(is_multi: bool, named: &[NamedField], name: NameEntry) -> bool
 }
 
 /// Notes what is wrong with a line, if it is a key field's.
-#[tactic(auto, using(dds_physical::proofs::FaultLemmas::first_after_append))]
+#[tactic(auto, using(dds_physical::proofs::FaultLemmas::first_after_append), unfolding(crate::specs::Judged::line_faults_of))]
 fn note_key(
     is_join: bool,
     is_multi: bool,
@@ -194,9 +194,14 @@ fn is_key_too_long(parts: &[KeyPart]) -> bool
 }
 
 /// Whether a record of the format has more bytes than it may.
-#[tactic(auto, using(crate::proofs::KeyLemmas::record_length_by_name))]
 fn is_record_too_long(named: &[NamedField]) -> bool
     ensures { result ≡ nat_lt MOST_BYTES (record_length (laid_out 0 named.now)) }
+{
+    has_too_many_bytes(named)
+}
+
+fn has_too_many_bytes(named: &[NamedField]) -> bool
+    ensures { result ≡ nat_lt MOST_BYTES (bytes_of named.now) }
 {
     let mut left = MOST_BYTES as usize;
     let mut rest = named;

@@ -14,7 +14,7 @@ use dds_source::faults::DdsCause;
 use dds_source::keywords::Keyword;
 
 /// Notes what is wrong with the keywords of a place.
-#[tactic(auto, using(dds_physical::proofs::FaultLemmas::first_after_append))]
+#[tactic(auto, using(dds_physical::proofs::FaultLemmas::first_after_append, crate::proofs::LineLemmas::keywords_more))]
 pub(crate) fn note_keywords(
     is_join: bool,
     place: KeywordPlace,
@@ -30,7 +30,7 @@ pub(crate) fn note_keywords(
     }
 }
 
-#[tactic(auto, using(dds_physical::proofs::FaultLemmas::first_after_append))]
+#[tactic(auto, using(dds_physical::proofs::FaultLemmas::first_after_append), unfolding(crate::specs::Judged::one_keyword_faults))]
 fn note_keyword(is_known: bool, keyword: &Keyword, more: &[Keyword], first: &mut FirstFault)
     ensures { first.new.fault ≡ first_after first.old.fault (one_keyword_faults is_known keyword.now more.now) }
 {

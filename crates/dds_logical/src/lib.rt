@@ -20,6 +20,7 @@ mod layout;
 pub mod limits;
 mod line_order;
 mod literals;
+pub mod logical_files;
 mod named_fields;
 mod names;
 mod origins;
@@ -35,4 +36,5 @@ mod whole_file;
 
 pub use bases::Bases;
 pub use join_views::{JoinView, JoinedField, JoinedFile};
+pub use logical_files::{LogicalFault, is_join, logical_without_join};
 pub use views::{LogicalSpec, View, Views};

@@ -65,7 +65,7 @@ fn note_kinds(is_join: bool, body: &[Specification], first: &mut FirstFault)
 }
 
 /// Notes what stands out of order in a format, if the line begins one.
-#[tactic(auto, using(dds_physical::proofs::FaultLemmas::first_after_append))]
+#[tactic(auto, using(dds_physical::proofs::FaultLemmas::first_after_append), unfolding(crate::specs::Judged::faults_at))]
 fn note_format(is_join: bool, line: &Specification, more: &[Specification], first: &mut FirstFault)
     ensures { first.new.fault ≡ first_after first.old.fault (faults_at (order_faults_of is_join) line.now more.now) }
 {

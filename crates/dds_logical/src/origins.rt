@@ -189,7 +189,8 @@ fn pieces_of(
 ) -> Result<Vec<Piece>, AllocError>
     ensures { IfOk result (λ pieces. pieces.items ≡ map whole_field (fields_of_names base.now (names_among arguments.now))) }
 {
-    pieces_among(alloc, base, arguments)
+    let pieces = pieces_among(alloc, base, arguments)?;
+    Ok(pieces)
 }
 
 fn pieces_among(
@@ -246,7 +247,7 @@ fn substring(base: &[Field], arguments: &[Argument]) -> Option<MadeOf>
 }
 
 fn part_of_first(field: Option<&Field>, arguments: &[Argument]) -> Option<MadeOf>
-    requires { IsLow (option_copied field.entry) }
+    requires { IsLow (option_copied field) }
     ensures { option_map made_by result ≡ part_by arguments.now (option_copied field.entry) }
 {
     match field {

@@ -1,12 +1,9 @@
 //! The select and omit statements of a format.
 ghost use Rattle.std.specs.Prelude.{◌≡◌, ◌++◌, ◌∷◌, List, [], flat_map, Option, Some, None, IfOk, OnOk, if◌then◌else◌};
-ghost use Rattle.std.specs.Option.{option_to_list};
-ghost use Rattle.std.specs.List.{filter_map};
-ghost use Rattle.dds_physical.specs.Names.{name_of};
 ghost use Rattle.dds_logical.specs.declared.format_lines.LineKind.TheVariants as line_kinds;
-ghost use Rattle.dds_logical.specs.Selections.{field_to_test, tested_field, test_said, conditions_on, conditions_said, further_lines, has_all, statement_of, statement_begun, statements_said, choice_of, all_said, rules_said};
+ghost use Rattle.dds_logical.specs.Selections.{field_to_test, further_lines, has_all, statement_of, statement_begun, statements_said, choice_of, all_said, rules_said};
 ghost use Rattle.dds_logical.specs.Judged.{lines_of};
-ghost use Rattle.dds_logical.specs.Tested.{conditions_at};
+ghost use Rattle.dds_logical.specs.Tested.{condition_of, conditions_of, conditions_at, further_conditions};
 
 use crate::format_lines::{LineKind, is_of};
 use crate::keyword_names::is_there;
@@ -23,6 +20,7 @@ use record_fmt::formats::Field;
 use std::alloc::{AllocError, Global};
 
 /// Adds the condition of a keyword, if it is a test and the line has a field.
+#[tactic(auto, unfolding(crate::specs::Tested::condition_of))]
 fn add_condition(
     alloc: Global,
     named: &[NamedField],
@@ -31,7 +29,7 @@ fn add_condition(
     keyword: &Keyword,
     conditions: &mut ListOf<Condition>,
 ) -> Result<(), AllocError>
-    ensures { OnOk result (conditions.new ≡ conditions.old ++ conditions_on (tested_field (field_to_test named.now base.now) (name_of line.now.name)) (option_to_list (test_said (field_to_test named.now base.now) keyword.now))) }
+    ensures { OnOk result (conditions.new ≡ conditions.old ++ condition_of (field_to_test named.now base.now) line.now keyword.now) }
 {
     let field = field_to_test(alloc, named, base, name_of(line.name))?;
     let test = test_said(alloc, named, base, keyword)?;
@@ -42,7 +40,7 @@ fn add_condition(
 }
 
 /// Adds the conditions of a line.
-#[tactic(auto, using(crate::proofs::RuleLemmas::conditions_more, crate::proofs::ListLemmas::joined))]
+#[tactic(auto, using(crate::proofs::TestedLemmas::conditions_more, crate::proofs::ListLemmas::joined))]
 fn add_conditions(
     alloc: Global,
     named: &[NamedField],
@@ -50,7 +48,7 @@ fn add_conditions(
     line: &Specification,
     conditions: &mut ListOf<Condition>,
 ) -> Result<(), AllocError>
-    ensures { OnOk result (conditions.new ≡ conditions.old ++ conditions_said (field_to_test named.now base.now) line.now) }
+    ensures { OnOk result (conditions.new ≡ conditions.old ++ conditions_of (field_to_test named.now base.now) line.now line.now.keywords) }
 {
     for keyword in line.keywords.as_slice() {
         add_condition(alloc, named, base, line, keyword, conditions)?;
@@ -58,6 +56,7 @@ fn add_conditions(
     Ok(())
 }
 
+#[tactic(auto, unfolding(crate::specs::Tested::conditions_at, crate::specs::Tested::conditions_of))]
 fn add_if_selection(
     alloc: Global,
     named: &[NamedField],
@@ -75,6 +74,7 @@ fn add_if_selection(
 }
 
 /// Adds the further conditions that lines begin with.
+#[tactic(auto, using(crate::proofs::TestedLemmas::further_ends, crate::proofs::TestedLemmas::further_goes, crate::proofs::ListLemmas::joined))]
 fn add_further(
     alloc: Global,
     named: &[NamedField],
@@ -82,7 +82,7 @@ fn add_further(
     lines: &[Specification],
     conditions: &mut ListOf<Condition>,
 ) -> Result<(), AllocError>
-    ensures { OnOk result (conditions.new ≡ conditions.old ++ flat_map (conditions_said (field_to_test named.now base.now)) (further_lines (lines_of line_kinds.Selection lines.now))) }
+    ensures { OnOk result (conditions.new ≡ conditions.old ++ further_conditions (field_to_test named.now base.now) lines.now) }
 {
     for line in lines {
         if is_of(LineKind::Selection, line) && !is_further(line.kind) {
@@ -94,7 +94,7 @@ fn add_further(
 }
 
 /// The statement that a line begins.
-#[tactic(auto, using(crate::proofs::ListLemmas::joined))]
+#[tactic(auto, using(crate::proofs::ListLemmas::joined), unfolding(crate::specs::Tested::further_conditions, crate::specs::Tested::conditions_of))]
 fn statement(
     alloc: Global,
     named: &[NamedField],

@@ -233,6 +233,12 @@ fn is_all_not_alone(line: &Specification, more: &[Specification]) -> bool
 fn has_selection(lines: &[Specification]) -> bool
     ensures { result ≡ list_any (λ s. is_selection s.kind) (lines_of line_kinds.Selection lines.now) }
 {
+    has_select_or_omit(lines)
+}
+
+fn has_select_or_omit(lines: &[Specification]) -> bool
+    ensures { result ≡ list_any (λ s. is_selection s.kind) lines.now }
+{
     lines.iter().any(|line| is_selection(line.kind))
 }
 
@@ -276,6 +282,7 @@ fn note_line(
 }
 
 /// Notes what is wrong with a line, if it is one of a selection.
+#[tactic(auto, unfolding(crate::specs::Tested::selection_at))]
 fn note_selection(
     alloc: Global,
     named: &[NamedField],

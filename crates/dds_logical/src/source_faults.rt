@@ -1,8 +1,9 @@
 //! What is wrong with a source whose formats are over one file each.
-ghost use Rattle.std.specs.Prelude.{◌≡◌, ◌++◌, false, OnOk};
+ghost use Rattle.std.specs.Prelude.{◌≡◌, ◌++◌, false, OnOk, None, IfOk};
 ghost use Rattle.dds_source.specs.Faults.{first_after};
 ghost use Rattle.dds_logical.specs.FormatLines.{formats_in};
 ghost use Rattle.dds_logical.specs.Logical.{faults_over, formats_at_fault};
+ghost use Rattle.dds_logical.specs.Complete.{CompleteUnless};
 
 use crate::bases::Bases;
 use crate::fields::note_letters;
@@ -13,6 +14,7 @@ use crate::keyword_places::KeywordPlace;
 use crate::keyword_rules::{note_conflicts, note_keywords};
 use crate::line_order::note_order;
 use crate::whole_file::{note_format_missing, note_formats};
+use dds_source::faults::DdsFault;
 use dds_source::specifications::Source;
 use std::alloc::{AllocError, Global};
 
@@ -62,6 +64,20 @@ pub(crate) fn note_source<B: Bases>(
     note_order(false, specifications, first);
     note_formats(alloc, specifications, first)?;
     note_formats_at_fault(alloc, bases, source, first)?;
-    note_format_missing(source.last_line, false, specifications, first);
+    note_format_missing(source.last_line, specifications, first);
     Ok(())
+}
+
+/// The first fault of a source that isn't a join's.
+pub(crate) fn first_fault<B: Bases>(
+    alloc: Global,
+    bases: &B,
+    source: &Source,
+) -> Result<Option<DdsFault>, AllocError>
+    ensures fault { IfOk result (λ f. f ≡ first_after None (faults_over (B.bases bases.now) source.now false (formats_in source.now.specifications))) }
+    ensures complete { IfOk result (CompleteUnless (B.bases bases.now) (formats_in source.now.specifications)) }
+{
+    let mut first = FirstFault::none();
+    note_source(alloc, bases, source, &mut first)?;
+    Ok(first.fault)
 }

@@ -15,7 +15,7 @@ use record_fmt::formats::Field;
 use std::alloc::{AllocError, Global};
 
 /// The type of the field of a name, if there are both.
-#[tactic(auto, using(crate::proofs::TestedLemmas::type_is))]
+#[tactic(auto, using(crate::proofs::TestedLemmas::shown_is))]
 pub(crate) fn type_to_test(
     named: &[NamedField],
     base: &[Field],

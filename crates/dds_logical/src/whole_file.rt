@@ -1,11 +1,11 @@
 //! What is wrong with the formats of a file, and with the file as a whole.
-ghost use Rattle.std.specs.Prelude.{◌≡◌, ◌++◌, ◌&&◌, ◌||◌, ◌==◌, not, length, is_none, is_some, Option, OnOk, codes, if◌then◌else◌};
+ghost use Rattle.std.specs.Prelude.{◌≡◌, ◌++◌, ◌&&◌, ◌||◌, ◌==◌, false, not, length, is_none, is_some, Option, OnOk, codes, if◌then◌else◌};
 ghost use Rattle.std.specs.Option.{option_copied};
 ghost use Rattle.std.specs.List.{list_any};
 ghost use Rattle.dds_source.specs.Faults.{first_after};
 ghost use Rattle.dds_physical.specs.Keywords.{first_named};
 ghost use Rattle.dds_logical.specs.KeywordArguments.{names_among};
-ghost use Rattle.dds_logical.specs.FormatLines.{formats_in, based_on, field_lines};
+ghost use Rattle.dds_logical.specs.FormatLines.{formats_in, based_on};
 ghost use Rattle.dds_logical.specs.WholeFile.{is_no_base, base_faults, head_faults, formats_faults, lacks_format, format_missing_faults};
 ghost use Rattle.dds_logical.specs.Judged.{is_missing_base};
 
@@ -13,7 +13,7 @@ use crate::arguments::argument_name;
 use crate::bases::Bases;
 use crate::fields::{note_names_twice, note_too_many};
 use crate::first::{FirstFault, fault_at, file_fault, keyword_fault};
-use crate::format_lines::{LineKind, based_on, has_lines, is_record, lines_ahead};
+use crate::format_lines::{LineKind, based_on, has_lines, is_record};
 use crate::keyword_names::{arguments_of, first_named};
 use crate::keyword_places::KeywordPlace;
 use crate::keyword_rules::note_keywords;
@@ -117,40 +117,31 @@ fn is_one_baseless(specifications: &[Specification]) -> bool
     false
 }
 
-/// Whether a format has no lines of fields.
-fn is_one_empty(specifications: &[Specification]) -> bool
-    ensures { result ≡ list_any (λ f. length (field_lines f) == 0) (formats_in specifications.now) }
-{
-    let mut rest = specifications;
-    while let [line, more @ ..] = rest {
-        if is_record(line.kind) && !has_lines(LineKind::Field, lines_ahead(more)) {
-            return true;
-        }
-        rest = more;
-    }
-    false
-}
-
+/// Whether there is no format.
 #[tactic(auto, using(crate::proofs::FormatLemmas::no_formats))]
-fn lacks_format(is_join: bool, specifications: &[Specification]) -> bool
-    ensures { result ≡ lacks_format is_join (formats_in specifications.now) }
+fn has_no_format(specifications: &[Specification]) -> bool
+    ensures { result ≡ (length (formats_in specifications.now) == 0) }
 {
     !has_lines(LineKind::Record, specifications)
-        || is_one_baseless(specifications)
-        || (is_join && is_one_empty(specifications))
 }
 
-/// Notes a file without a format, or with one that lacks what it needs.
+/// Whether a file over one file each format has no format, or one that is over no file.
+fn lacks_format(specifications: &[Specification]) -> bool
+    ensures { result ≡ lacks_format false (formats_in specifications.now) }
+{
+    has_no_format(specifications) || is_one_baseless(specifications)
+}
+
+/// Notes such a file.
 pub(crate) fn note_format_missing(
     last_line: u32,
-    is_join: bool,
     specifications: &[Specification],
     first: &mut FirstFault,
 )
-    ensures { first.new.fault ≡ first_after first.old.fault (format_missing_faults last_line is_join (formats_in specifications.now)) }
+    ensures { first.new.fault ≡ first_after first.old.fault (format_missing_faults last_line false (formats_in specifications.now)) }
 {
     first.note_if(
-        lacks_format(is_join, specifications),
+        lacks_format(specifications),
         file_fault(last_line, DdsCause::NoFormat),
     );
 }

@@ -1,6 +1,6 @@
 use Rattle.std.proofs.Common.{length, ◌≡◌, ◌+◌, ◌≤◌}
 use Rattle.dds_logical.specs.JudgedKeys.{bytes_of}
-use Rattle.dds_logical.proofs.keys.is_record_too_long.Given as goal
+use Rattle.dds_logical.proofs.keys.has_too_many_bytes.Given as goal
 
 abbrev pub invariant-loop-rest : goal.invariant-loop-rest
 invariant-loop-rest l = (l.left ≤ 32766) × (bytes_of l.named + l.left ≡ 32766 + bytes_of l.rest)
