@@ -1,6 +1,7 @@
 -- Formats among the lines of a source.
-use Rattle.std.proofs.Common.{◌≡◌, ◌∙◌, ◌==◌, ◌||◌, ◌++◌, ℕ, suc, ap, sym, refl, Bool, true, false, not, inl, inr, List, [], ◌∷◌, length, filter, map, Option, Some, None, is_none, flat_map, take, arith}
+use Rattle.std.proofs.Common.{◌≤◌, ◌≡◌, ◌∙◌, ◌==◌, ◌||◌, ◌++◌, ℕ, suc, ap, sym, refl, Bool, true, false, not, inl, inr, List, [], ◌∷◌, length, filter, map, Option, Some, None, is_none, flat_map, take, arith}
 use Rattle.std.specs.List.{list_any, cons_option, before_first, prefix_len}
+use Rattle.std.proofs.lemmas.List.Sums.{prefix_len-le-length}
 use Rattle.std.proofs.lemmas.Bool.{cases_Bool, ne_eqb}
 use Rattle.dds_source.specs.declared.faults.DdsFault.{DdsFault}
 use Rattle.dds_source.specs.declared.specifications.Specification.{Specification}
@@ -37,3 +38,6 @@ missing_cons bases (Some n) ns = refl
 
 pub ahead_is : (ss : List Specification) → take (prefix_len (λ s. not (is_record s.kind)) ss) ss ≡ before_first (λ s. is_record s.kind) ss
 ahead_is ss = refl
+
+pub ahead_short : (ss : List Specification) → prefix_len (λ s. not (is_record s.kind)) ss ≤ length ss
+ahead_short ss = prefix_len-le-length (λ s. not (is_record s.kind)) ss

@@ -17,7 +17,7 @@ length-laid_out at (suc i) [] = omega arith
 length-laid_out at (suc i) (f ∷ fs) = let more = length-laid_out (at + width f.shown.field.ty) i fs in omega (arith, more)
 
 -- a field behind others
-field_at : NamedField → ℕ → Field
+abbrev field_at : NamedField → ℕ → Field
 field_at f at = record { name = f.name; ty = f.shown.field.ty; offset = at; default = unspecified f.shown.field.ty.kind; text = f.text }
 
 laid_out-end : (at : ℕ) (fs : List NamedField) (f : NamedField) → laid_out at (fs ++ f ∷ []) ≡ laid_out at fs ++ field_at f (at + bytes_of fs) ∷ []

@@ -10,3 +10,5 @@ pub mod ViewLemmas
 pub mod LayoutLemmas
 pub mod CompleteLemmas
 pub mod FileLemmas
+pub mod LoopLemmas
+pub mod MismatchLemmas

@@ -17,6 +17,7 @@ cons_option_is None xs = refl
 cons_option_is (Some x) xs = refl
 
 fields_if : (base : List Field) (ss : List Specification) → filter_map (field_if base) ss ≡ filter_map (field_of_line false base) (lines_of line_kinds.Field ss)
+unfolding field_if
 fields_if base [] = refl
 fields_if base (s ∷ ss) = elim (cases_Bool (is_of line_kinds.Field s.kind))
     [ inl h ↦ rw h (ap (λ (fs : List NamedField). cons_option (field_of_line false base s) fs) (fields_if base ss)) | inr h ↦ rw h (fields_if base ss) ]

@@ -73,7 +73,7 @@ further_next (s ∷ ss) = elim (cases_Bool (is_further s.kind))
 -- ---- the conditions of a statement
 
 pub conditions_more : (find : List ℕ → Option ViewField) (s : Specification) (k : Keyword) (ks : List Keyword) → condition_of find s k ++ conditions_of find s ks ≡ conditions_of find s (k ∷ ks)
-unfolding condition_of, conditions_of
+unfolding condition_of conditions_of
 conditions_more find s k ks = conditions_cons (tested_field find (name_of s.name)) (test_said find k) (filter_map (test_said find) ks)
   where
     conditions_cons : (o : Option ViewField) (t : Option Test) (ts : List Test) → conditions_on o (option_to_list t) ++ conditions_on o ts ≡ conditions_on o (cons_option t ts)
@@ -91,7 +91,7 @@ further_ends find s ss of further =
 -- another line is a further condition, or none of the selection
 pub further_goes : (find : List ℕ → Option ViewField) (s : Specification) (ss : List Specification) → (is_of line_kinds.Selection s.kind && not (is_further s.kind)) ≡ false
     → conditions_at find s ++ further_conditions find ss ≡ further_conditions find (s ∷ ss)
-unfolding further_conditions, conditions_at
+unfolding further_conditions conditions_at
 further_goes find s ss h = elim (cases_Bool (is_of line_kinds.Selection s.kind))
     [ inl of ↦ let further : is_further s.kind ≡ true = not_not (is_further s.kind) (subst (λ (b : Bool). (b && not (is_further s.kind)) ≡ false) of h) in
         ap (λ (b : Bool). cond b (conditions_said find s) [] ++ further_conditions find ss) of

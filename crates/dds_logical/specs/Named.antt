@@ -16,5 +16,5 @@ abbrev pub AreShown : List NamedField → Type 0
 AreShown fs = All IsShown fs
 
 -- the field of a line, if it describes one
-abbrev pub field_if : List Field → Specification → Option NamedField
+unfoldable pub field_if : List Field → Specification → Option NamedField
 field_if base s = if is_of line_kinds.Field s.kind then field_of_line false base s else None

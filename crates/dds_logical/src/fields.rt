@@ -10,7 +10,7 @@ ghost use Rattle.dds_physical.specs.Lines.{is_letter_wrong};
 ghost use Rattle.dds_logical.specs.Origins.{origin};
 ghost use Rattle.dds_logical.specs.Fields.{kind_letter, is_same_type, are_alike, narrows_kind, narrows_decimals, narrows_length, length_column, narrowing_faults, type_faults_over, is_usage, says_read_only, says_both, letter_faults, is_read_only_mapping, usage_faults, names_twice, with_name, field_entry_faults, made_faults, file_number_faults, too_many_faults, field_lines_faults};
 ghost use Rattle.dds_logical.specs.Made.{made_by, type_of};
-ghost use Rattle.dds_logical.specs.Judged.{lines_of, line_faults_of, first_line, types_faults, field_line_faults};
+ghost use Rattle.dds_logical.specs.Judged.{lines_of, left_behind, line_faults_of, first_line, types_faults, field_line_faults};
 ghost use Rattle.dds_logical.specs.declared.format_lines.LineKind.TheVariants as line_kinds;
 
 use crate::attributes::{attributes, is_numeric, kind_by_letter};
@@ -265,8 +265,19 @@ pub(crate) fn note_names_twice(
     Ok(())
 }
 
+/// How many lines of the kind may still come behind this one.
+fn left_after(kind: LineKind, line: &Specification, left: usize) -> usize
+    ensures { result ≡ left_behind kind line.now left }
+{
+    if is_of(kind, line) {
+        left.saturating_sub(1)
+    } else {
+        left
+    }
+}
+
 /// The line of the kind that has so many before it.
-#[tactic(auto, using(crate::proofs::ListLemmas::drop_less))]
+#[tactic(auto, using(crate::proofs::LineLemmas::beyond_more))]
 fn line_beyond<'a>(
     kind: LineKind,
     most: usize,
@@ -276,12 +287,10 @@ fn line_beyond<'a>(
 {
     let mut left = most;
     for line in lines {
-        if is_of(kind, line) {
-            if left == 0 {
-                return Some(line);
-            }
-            left -= 1;
+        if is_of(kind, line) && left == 0 {
+            return Some(line);
         }
+        left = left_after(kind, line, left);
     }
     None
 }

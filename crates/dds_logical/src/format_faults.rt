@@ -1,12 +1,12 @@
 //! What is wrong with formats over one file each.
-ghost use Rattle.std.specs.Prelude.{◌≡◌, ◌++◌, [], flat_map, codes, Option, OnOk};
+ghost use Rattle.std.specs.Prelude.{◌≡◌, ◌++◌, ◌∷◌, List, [], flat_map, codes, Option, IfOk, OnOk};
 ghost use Rattle.dds_source.specs.Faults.{first_after};
 ghost use Rattle.dds_physical.specs.Keywords.{first_named};
 ghost use Rattle.dds_physical.specs.References.{file_of_keyword};
-ghost use Rattle.dds_logical.specs.FormatLines.{formats_in};
-ghost use Rattle.dds_logical.specs.Logical.{view_faults};
+ghost use Rattle.dds_logical.specs.FormatLines.{FormatLines, formats_in};
+ghost use Rattle.dds_logical.specs.Logical.{fields_named, view_faults};
 ghost use Rattle.dds_logical.specs.Judged.{faults_at, format_with};
-ghost use Rattle.dds_logical.specs.Mismatches.{mismatches, mismatches_from};
+ghost use Rattle.dds_logical.specs.Mismatches.{mismatches, mismatches_of, mismatches_from};
 
 use crate::arguments::argument_name;
 use crate::bases::{Bases, fields_of_name};
@@ -16,7 +16,7 @@ use crate::format_lines::{is_record, lines_ahead};
 use crate::key_mismatches::{EarlierKeys, note_positions};
 use crate::keys::{judged_parts, note_key_lines, note_sizes};
 use crate::keyword_names::{arguments_of, first_named};
-use crate::named_fields::named_fields;
+use crate::named_fields::{NamedFields, named_fields};
 use crate::selections::note_selections;
 use crate::whole_file::note_head;
 use dds_source::specifications::Specification;
@@ -94,15 +94,48 @@ pub(crate) fn note_views<B: Bases>(
     ensures { OnOk result (first.new.fault ≡ first_after first.old.fault (flat_map (view_faults (B.bases bases.now) last_line is_multi) (formats_in specifications.now))) }
 {
     let mut rest = specifications;
-    while let [line, more @ ..] = rest {
-        note_view_at(alloc, bases, last_line, is_multi, line, more, first)?;
+    while !rest.is_empty() {
+        let (here, more) = rest.split_at(1);
+        note_view_at(alloc, bases, last_line, is_multi, &here[0], more, first)?;
         rest = more;
     }
     Ok(())
 }
 
+/// The fields of a format.
+fn named_of_format<B: Bases>(
+    alloc: Global,
+    bases: &B,
+    line: &Specification,
+    body: &[Specification],
+) -> Result<NamedFields, AllocError>
+    ensures { IfOk result (λ named. named ≡ fields_named (B.bases bases.now) (format_with line.now body.now)) }
+{
+    let base = fields_of_name(bases, &base_name(line));
+    let named = named_fields(alloc, base, body)?;
+    Ok(named)
+}
+
 /// Notes the positions of a format that differ from those of an earlier one, and adds its own.
-#[tactic(auto, using(dds_physical::proofs::FaultLemmas::first_after_append))]
+fn note_mismatch_of<B: Bases>(
+    alloc: Global,
+    bases: &B,
+    line: &Specification,
+    body: &[Specification],
+    earlier: &mut EarlierKeys,
+    first: &mut FirstFault,
+) -> Result<(), AllocError>
+    ensures { OnOk result ((later : List FormatLines) → first_after first.new.fault (mismatches_of (B.bases bases.now) earlier.new later) ≡ first_after first.old.fault (mismatches_of (B.bases bases.now) earlier.old (format_with line.now body.now ∷ later))) }
+{
+    let named = named_of_format(alloc, bases, line, body)?;
+    let fields = named.as_slice();
+    note_positions(earlier, fields, body, first);
+    let parts = judged_parts(alloc, fields, body)?;
+    earlier.push(parts)?;
+    Ok(())
+}
+
+/// The same, if the line begins a format.
 fn note_mismatch<B: Bases>(
     alloc: Global,
     bases: &B,
@@ -117,11 +150,8 @@ fn note_mismatch<B: Bases>(
         return Ok(());
     }
     let body = lines_ahead(more);
-    let base = fields_of_name(bases, &base_name(line));
-    let named = named_fields(alloc, base, body)?;
-    note_positions(earlier, named.as_slice(), body, first);
-    let parts = judged_parts(alloc, named.as_slice(), body)?;
-    earlier.push(parts)
+    note_mismatch_of(alloc, bases, line, body, earlier, first)?;
+    Ok(())
 }
 
 /// Notes positions of keys that differ between formats.

@@ -1,7 +1,7 @@
 //! Which lines belong to which format, and which kind of file it is.
-ghost use Rattle.std.specs.Prelude.{◌≡◌, nat_lt, length};
+ghost use Rattle.std.specs.Prelude.{◌≡◌, nat_lt, not, length};
 ghost use Rattle.std.specs.Option.{option_copied};
-ghost use Rattle.std.specs.List.{list_any, before_first};
+ghost use Rattle.std.specs.List.{list_any, before_first, prefix_len};
 ghost use Rattle.dds_source.specs.Reading.{is_record, is_condition, is_selection};
 ghost use Rattle.dds_physical.specs.WholeFile.{is_field_kind, is_key_kind};
 ghost use Rattle.dds_logical.specs.FormatLines.{formats_in, is_join_kind, based_on, is_join_keyword, is_join_file, is_multi_format};
@@ -118,15 +118,21 @@ fn is_condition(kind: SpecificationKind) -> bool
 }
 
 /// The lines up to the next record format.
-#[tactic(auto, using(crate::proofs::FormatLemmas::ahead_is))]
+#[tactic(auto, using(crate::proofs::FormatLemmas::ahead_is, crate::proofs::FormatLemmas::ahead_short))]
 pub(crate) fn lines_ahead(lines: &[Specification]) -> &[Specification]
     ensures { result.now ≡ before_first (λ s. is_record s.kind) lines.now }
 {
-    let count = lines
+    let count = count_ahead(lines);
+    &lines[..count]
+}
+
+fn count_ahead(lines: &[Specification]) -> usize
+    ensures { result ≡ prefix_len (λ s. not (is_record s.kind)) lines.now }
+{
+    lines
         .iter()
         .take_while(|line| !is_record(line.kind))
-        .count();
-    &lines[..count]
+        .count()
 }
 
 /// Whether there is a line of this kind.

@@ -4,7 +4,7 @@ ghost use Rattle.dds_physical.specs.Keywords.{first_named};
 ghost use Rattle.dds_physical.specs.Names.{name_of};
 ghost use Rattle.dds_physical.specs.Physical.{ties_of};
 ghost use Rattle.dds_physical.specs.References.{file_of_keyword};
-ghost use Rattle.dds_logical.specs.FormatLines.{formats_in};
+ghost use Rattle.dds_logical.specs.FormatLines.{formats_in, field_lines};
 ghost use Rattle.dds_logical.specs.Logical.{fields_named, most_parts, ties_with, is_keyless, view_described};
 ghost use Rattle.dds_logical.specs.Judged.{format_with};
 ghost use Rattle.dds_logical.specs.JudgedKeys.{bytes_of, parts_at};
@@ -84,7 +84,7 @@ pub(crate) fn view_described<B: Bases>(
 ) -> Result<View, AllocError>
     requires named { is_some (name_of line.now.name) ≡ true }
     requires based { is_some (file_of_keyword (first_named (codes "PFILE") line.now.keywords)) ≡ true }
-    requires few { length (fields_named (B.bases bases.now) (format_with line.now body.now)) ≤ 1000 }
+    requires few { length (field_lines (format_with line.now body.now)) ≤ 1000 }
     requires narrow { bytes_of (fields_named (B.bases bases.now) (format_with line.now body.now)) ≤ 32766 }
     ensures { IfOk result (λ view. view ≡ view_described (B.bases bases.now) keywords.now is_multi positions (format_with line.now body.now)) }
 {

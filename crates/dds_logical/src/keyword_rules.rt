@@ -14,7 +14,6 @@ use dds_source::faults::DdsCause;
 use dds_source::keywords::Keyword;
 
 /// Notes what is wrong with the keywords of a place.
-#[tactic(auto, using(dds_physical::proofs::FaultLemmas::first_after_append, crate::proofs::LineLemmas::keywords_more))]
 pub(crate) fn note_keywords(
     is_join: bool,
     place: KeywordPlace,
@@ -24,16 +23,24 @@ pub(crate) fn note_keywords(
     ensures { first.new.fault ≡ first_after first.old.fault (logical_keyword_faults is_join place keywords.now) }
 {
     let mut rest = keywords;
-    while let [keyword, more @ ..] = rest {
-        note_keyword(stands_at(is_join, place, keyword), keyword, more, first);
+    while !rest.is_empty() {
+        let (here, more) = rest.split_at(1);
+        note_keyword(is_join, place, &here[0], more, first);
         rest = more;
     }
 }
 
 #[tactic(auto, using(dds_physical::proofs::FaultLemmas::first_after_append), unfolding(crate::specs::Judged::one_keyword_faults))]
-fn note_keyword(is_known: bool, keyword: &Keyword, more: &[Keyword], first: &mut FirstFault)
-    ensures { first.new.fault ≡ first_after first.old.fault (one_keyword_faults is_known keyword.now more.now) }
+fn note_keyword(
+    is_join: bool,
+    place: KeywordPlace,
+    keyword: &Keyword,
+    more: &[Keyword],
+    first: &mut FirstFault,
+)
+    ensures { first.new.fault ≡ first_after first.old.fault (one_keyword_faults (stands_at is_join place keyword.now) keyword.now more.now) }
 {
+    let is_known = stands_at(is_join, place, keyword);
     first.note_if(!is_known, keyword_fault(keyword, DdsCause::UnknownKeyword));
     first.note_if(
         is_known && !takes_its_arguments(keyword),

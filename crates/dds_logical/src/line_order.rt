@@ -76,13 +76,13 @@ fn note_format(is_join: bool, line: &Specification, more: &[Specification], firs
     }
 }
 
-#[tactic(auto, using(dds_physical::proofs::FaultLemmas::first_after_append, crate::proofs::FormatLemmas::faults_more))]
 fn note_formats(is_join: bool, specifications: &[Specification], first: &mut FirstFault)
     ensures { first.new.fault ≡ first_after first.old.fault (flat_map (order_faults_of is_join) (formats_in specifications.now)) }
 {
     let mut rest = specifications;
-    while let [line, more @ ..] = rest {
-        note_format(is_join, line, more, first);
+    while !rest.is_empty() {
+        let (here, more) = rest.split_at(1);
+        note_format(is_join, &here[0], more, first);
         rest = more;
     }
 }

@@ -2,7 +2,8 @@
 ghost use Rattle.std.specs.Prelude.{◌≡◌, ◌++◌, ◌∷◌, [], List, map, true, false, IfOk, OnOk};
 ghost use Rattle.dds_logical.specs.FormatLines.{formats_in, is_join_file, is_multi_format};
 ghost use Rattle.dds_logical.specs.Logical.{view_described, most_parts, one_or_several, described_by, logical_of};
-ghost use Rattle.dds_logical.specs.Complete.{AreComplete, AreCompleteFrom, views_at, Gives};
+ghost use Rattle.dds_logical.specs.Complete.{IsComplete, AreComplete, AreCompleteFrom, views_at, Gives};
+ghost use Rattle.dds_logical.specs.Judged.{format_with};
 ghost use Rattle.dds_logical.specs.declared.logical_files.LogicalFault.TheVariants.{NoMemory};
 
 use crate::bases::Bases;
@@ -32,6 +33,25 @@ impl From<AllocError> for LogicalFault {
     }
 }
 
+/// Adds a format.
+fn push_view<B: Bases>(
+    alloc: Global,
+    bases: &B,
+    keywords: &[Keyword],
+    is_multi: bool,
+    positions: usize,
+    line: &Specification,
+    body: &[Specification],
+    views: &mut Vec<View>,
+) -> Result<(), AllocError>
+    requires { IsComplete (B.bases bases.now) (format_with line.now body.now) }
+    ensures { OnOk result (views.new.items ≡ views.old.items ++ view_described (B.bases bases.now) keywords.now is_multi positions (format_with line.now body.now) ∷ []) }
+{
+    let view = view_described(alloc, bases, keywords, is_multi, positions, line, body)?;
+    views.push(view)?;
+    Ok(())
+}
+
 /// Adds the format that a line begins, if it begins one.
 fn add_view<B: Bases>(
     alloc: Global,
@@ -46,17 +66,18 @@ fn add_view<B: Bases>(
     requires { AreCompleteFrom (B.bases bases.now) line.now more.now }
     ensures { OnOk result (views.new.items ≡ views.old.items ++ views_at (view_described (B.bases bases.now) keywords.now is_multi positions) line.now more.now) }
 {
-    if !is_record(line.kind) {
-        return Ok(());
+    if is_record(line.kind) {
+        let body = lines_ahead(more);
+        push_view(
+            alloc, bases, keywords, is_multi, positions, line, body, views,
+        )
+    } else {
+        Ok(())
     }
-    let body = lines_ahead(more);
-    let view = view_described(alloc, bases, keywords, is_multi, positions, line, body)?;
-    views.push(view)?;
-    Ok(())
 }
 
 /// The formats of a file.
-#[tactic(auto, using(crate::proofs::ListLemmas::joined, crate::proofs::FileLemmas::views_more))]
+#[tactic(auto, using(crate::proofs::ListLemmas::joined, crate::proofs::FileLemmas::views_more, crate::proofs::FileLemmas::complete_rest))]
 fn views_described<B: Bases>(
     alloc: Global,
     bases: &B,
@@ -130,7 +151,7 @@ pub fn is_join(source: &Source) -> bool
 /// The logical file that a source describes, over the files of `bases`; not for the source of a join file.
 ///
 /// Fields, keys and names take memory as they are judged, so memory may run out before a fault is found.
-#[tactic(auto, unfolding(crate::specs::Logical::logical_of, crate::specs::Logical::logical_faults, crate::specs::Logical::logical_specification))]
+#[tactic(auto, using(crate::proofs::FileLemmas::answered))]
 pub fn logical_without_join<B: Bases>(
     alloc: Global,
     source: &Source,

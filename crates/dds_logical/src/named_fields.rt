@@ -181,6 +181,7 @@ pub(crate) fn field_of_line(
 }
 
 /// Adds the field of a line, if it describes one.
+#[tactic(auto, unfolding(crate::specs::Named::field_if))]
 fn add_field(
     alloc: Global,
     base: &[Field],
@@ -225,8 +226,10 @@ pub(crate) fn named_fields(
     ensures { IfOk result (λ fields. fields ≡ named_fields base.now (lines_of line_kinds.Field lines.now)) }
 {
     if has_lines(LineKind::Field, lines) {
-        fields_of_lines(alloc, base, lines)
+        let described = fields_of_lines(alloc, base, lines)?;
+        Ok(described)
     } else {
-        fields_as_they_are(alloc, base)
+        let whole = fields_as_they_are(alloc, base)?;
+        Ok(whole)
     }
 }

@@ -118,7 +118,6 @@ fn is_one_baseless(specifications: &[Specification]) -> bool
 }
 
 /// Whether there is no format.
-#[tactic(auto, using(crate::proofs::FormatLemmas::no_formats))]
 fn has_no_format(specifications: &[Specification]) -> bool
     ensures { result ≡ (length (formats_in specifications.now) == 0) }
 {
