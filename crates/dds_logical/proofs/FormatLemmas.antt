@@ -11,7 +11,7 @@ use Rattle.dds_physical.specs.WholeFile.{is_field_kind}
 use Rattle.dds_logical.specs.declared.format_lines.LineKind.TheVariants as line_kinds
 use Rattle.dds_logical.specs.FormatLines.{FormatLines, formats_in}
 use Rattle.dds_logical.specs.WholeFile.{is_no_base}
-use Rattle.dds_logical.specs.Judged.{is_of, lines_of, faults_at, is_missing_base}
+use Rattle.dds_logical.specs.Judged.{stands_within, is_of, lines_of, faults_at, is_missing_base}
 
 pub formats_count : (ss : List Specification) → length (formats_in ss) ≡ length (filter (λ s. is_record s.kind) ss)
 formats_count [] = refl
@@ -36,8 +36,9 @@ pub missing_cons : (bases : List ℕ → Option PhysicalSpec) (m : Option (List 
 missing_cons bases None ns = refl
 missing_cons bases (Some n) ns = refl
 
-pub ahead_is : (ss : List Specification) → take (prefix_len (λ s. not (is_record s.kind)) ss) ss ≡ before_first (λ s. is_record s.kind) ss
+pub ahead_is : (ss : List Specification) → take (prefix_len stands_within ss) ss ≡ before_first (λ s. is_record s.kind) ss
+unfolding stands_within
 ahead_is ss = refl
 
-pub ahead_short : (ss : List Specification) → prefix_len (λ s. not (is_record s.kind)) ss ≤ length ss
-ahead_short ss = prefix_len-le-length (λ s. not (is_record s.kind)) ss
+pub ahead_short : (ss : List Specification) → prefix_len stands_within ss ≤ length ss
+ahead_short ss = prefix_len-le-length stands_within ss

@@ -1,6 +1,6 @@
 -- Lines of a kind among others.
-use Rattle.std.proofs.Common.{sym, cond, false, ◌&&◌, ◌==◌, ◌-◌, ◌≡◌, ◌∙◌, ap, refl, Bool, inl, inr, List, [], ◌∷◌, ◌++◌, drop, ℕ, Option, Some, None, flat_map, if◌then◌else◌}
-use Rattle.std.proofs.lemmas.Bool.{cases_Bool}
+use Rattle.std.proofs.Common.{sym, cond, true, false, ◌&&◌, ◌==◌, ◌-◌, ◌≡◌, ◌∙◌, ap, refl, Bool, inl, inr, List, [], ◌∷◌, ◌++◌, drop, ℕ, Option, Some, None, flat_map, if◌then◌else◌}
+use Rattle.std.proofs.lemmas.Bool.{cases_Bool, and_parts, eqb-true}
 use Rattle.dds_source.specs.declared.faults.DdsFault.{DdsFault}
 use Rattle.dds_source.specs.declared.faults.DdsCause.TheVariants.{TooLarge}
 use Rattle.dds_source.specs.declared.specifications.Specification.{Specification}
@@ -11,7 +11,7 @@ use Rattle.dds_source.specs.declared.keywords.Keyword.{Keyword}
 use Rattle.dds_logical.specs.declared.keyword_places.KeywordPlace.{KeywordPlace}
 use Rattle.dds_logical.specs.KeywordRules.{stands_at, logical_keyword_faults}
 use Rattle.dds_logical.proofs.ListLemmas.{drop_less}
-use Rattle.dds_logical.specs.Judged.{one_keyword_faults, left_behind, is_of, lines_of, line_faults_of, first_line}
+use Rattle.dds_logical.specs.Judged.{one_keyword_faults, is_beyond, left_behind, is_of, lines_of, line_faults_of, first_line}
 
 -- of each line what is wrong with it, if it is of the kind
 pub faults_of_kind : (kind : LineKind) (wrong : Specification → List DdsFault) (ss : List Specification) → flat_map (line_faults_of kind wrong) ss ≡ flat_map wrong (lines_of kind ss)
@@ -34,10 +34,20 @@ pub keywords_more : (is_join : Bool) (place : KeywordPlace) (k : Keyword) (ks : 
 unfolding one_keyword_faults
 keywords_more is_join place k ks = refl
 
-pub beyond_more : (kind : LineKind) (s : Specification) (ss : List Specification) (n : ℕ) → (is_of kind s.kind && (n == 0)) ≡ false
-    → drop (left_behind kind s n) (lines_of kind ss) ≡ drop n (lines_of kind (s ∷ ss))
+-- ---- the line that is too many
+
+pub beyond_here : (kind : LineKind) (s : Specification) (ss : List Specification) (n : ℕ) → is_beyond kind s n ≡ true → first_line (drop n (lines_of kind (s ∷ ss))) ≡ Some s
+unfolding is_beyond
+beyond_here kind s ss n h =
+    let both = and_parts (is_of kind s.kind) (n == 0) h in
+    ap (λ (b : Bool). first_line (drop n (cond b (s ∷ lines_of kind ss) (lines_of kind ss)))) both.0 ∙ ap (λ (m : ℕ). first_line (drop m (s ∷ lines_of kind ss))) (eqb-true n 0 both.1)
+
+pub beyond_more : (kind : LineKind) (s : Specification) (ss : List Specification) (n : ℕ) → is_beyond kind s n ≡ false
+    → first_line (drop (left_behind kind s n) (lines_of kind ss)) ≡ first_line (drop n (lines_of kind (s ∷ ss)))
+unfolding is_beyond left_behind
 beyond_more kind s ss n h = elim (cases_Bool (is_of kind s.kind))
-    [ inl of ↦ ap (λ (b : Bool). drop (cond b (n - 1) n) (lines_of kind ss)) of
-        ∙ drop_less n s (lines_of kind ss) (ap (λ (b : Bool). b && (n == 0)) (sym of) ∙ h)
-        ∙ sym (ap (λ (b : Bool). drop n (cond b (s ∷ lines_of kind ss) (lines_of kind ss))) of)
-    | inr of ↦ ap (λ (b : Bool). drop (cond b (n - 1) n) (lines_of kind ss)) of ∙ sym (ap (λ (b : Bool). drop n (cond b (s ∷ lines_of kind ss) (lines_of kind ss))) of) ]
+    [ inl of ↦ ap (λ (b : Bool). first_line (drop (cond b (n - 1) n) (lines_of kind ss))) of
+        ∙ ap first_line (drop_less n s (lines_of kind ss) (ap (λ (b : Bool). b && (n == 0)) (sym of) ∙ h))
+        ∙ sym (ap (λ (b : Bool). first_line (drop n (cond b (s ∷ lines_of kind ss) (lines_of kind ss)))) of)
+    | inr of ↦ ap (λ (b : Bool). first_line (drop (cond b (n - 1) n) (lines_of kind ss))) of
+        ∙ sym (ap (λ (b : Bool). first_line (drop n (cond b (s ∷ lines_of kind ss) (lines_of kind ss)))) of) ]

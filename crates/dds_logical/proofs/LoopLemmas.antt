@@ -1,5 +1,6 @@
 -- What loops note and keep, one step after another.
 use Rattle.std.proofs.Common.{◌≡◌, ◌∙◌, ◌<◌, ◌+◌, ℕ, zero, suc, ap, sym, refl, List, [], ◌∷◌, ◌++◌, length, take, drop, get_or, flat_map, Option, add-one, arith}
+use Rattle.std.proofs.lemmas.List.{append_assoc, append-nil}
 use Rattle.dds_source.specs.declared.faults.DdsFault.{DdsFault}
 use Rattle.dds_source.specs.Faults.{first_after}
 use Rattle.dds_physical.proofs.FaultLemmas.{first_after_append, cons-parts}
@@ -27,3 +28,17 @@ noted-step {X} best new total step xs i x lt is noted before =
     ∙ ap (λ (b : Option DdsFault). first_after b (flat_map step (drop (suc i) xs))) noted
     ∙ sym (first_after_append best (step x) (flat_map step (drop (suc i) xs)))
     ∙ ap (λ (ys : List X). first_after best (flat_map step ys)) (sym (drop-here xs i x lt is)) ∙ before
+
+-- ---- what a step adds
+
+pub kept-one : {X Y : Type 0} (old new total : List Y) (here : List Y) (all : List X → List Y) (xs : List X) (i : ℕ) (x : X) → i < length xs → x ≡ get_or xs i x
+    → new ≡ old ++ here → here ++ all (drop (suc i) xs) ≡ all (x ∷ drop (suc i) xs) → old ++ all (drop i xs) ≡ total → new ++ all (drop (i + 1) xs) ≡ total
+kept-one {X} {Y} old new total here all xs i x lt is added joins before =
+    ap (λ (n : ℕ). new ++ all (drop n xs)) (add-one i) ∙ ap (λ (ys : List Y). ys ++ all (drop (suc i) xs)) added ∙ append_assoc old here (all (drop (suc i) xs))
+    ∙ ap (λ (ys : List Y). old ++ ys) joins ∙ ap (λ (zs : List X). old ++ all zs) (sym (drop-here xs i x lt is)) ∙ before
+
+-- nothing more is added from a place on
+pub kept-ended : {X Y : Type 0} (new total : List Y) (all : List X → List Y) (xs : List X) (i : ℕ) (x : X) → i < length xs → x ≡ get_or xs i x
+    → all (x ∷ drop (suc i) xs) ≡ [] → new ++ all (drop i xs) ≡ total → new ≡ total
+kept-ended {X} {Y} new total all xs i x lt is ended before =
+    sym (append-nil new) ∙ ap (λ (ys : List Y). new ++ ys) (sym ended) ∙ ap (λ (zs : List X). new ++ all zs) (sym (drop-here xs i x lt is)) ∙ before

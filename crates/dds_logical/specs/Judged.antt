@@ -1,5 +1,5 @@
 -- What do the parts of the judgement say that the body has in functions of their own? (Our own.)
-use Rattle.std.specs.Prelude.{ℕ, ◌-◌, Bool, true, false, List, [], ◌∷◌, ◌++◌, map, flat_map, filter, Option, Some, None, is_none, Result, Ok, Err, if◌then◌else◌}
+use Rattle.std.specs.Prelude.{ℕ, ◌-◌, ◌&&◌, ◌==◌, not, Bool, true, false, List, [], ◌∷◌, ◌++◌, map, flat_map, filter, Option, Some, None, is_none, Result, Ok, Err, if◌then◌else◌}
 use Rattle.field_types.specs.declared.kinds.FieldType.{FieldType}
 use Rattle.record_fmt.specs.declared.formats.Field.{Field}
 use Rattle.dds_physical.specs.Attributes.{attributes}
@@ -83,6 +83,14 @@ is_missing_base bases (Some file) = is_none (bases file)
 abbrev pub format_with : Specification → List Specification → FormatLines
 format_with s body = record { head = s; body = body }
 
+-- it begins no format
+unfoldable pub stands_within : Specification → Bool
+stands_within s = not (is_record s.kind)
+
+-- the line is one of the kind, and no more may come
+unfoldable pub is_beyond : LineKind → Specification → (left : ℕ) → Bool
+is_beyond kind s left = is_of kind s.kind && (left == 0)
+
 -- of so many lines of the kind that may come, how many may come behind this one
-abbrev pub left_behind : LineKind → Specification → (left : ℕ) → ℕ
+unfoldable pub left_behind : LineKind → Specification → (left : ℕ) → ℕ
 left_behind kind s left = if is_of kind s.kind then left - 1 else left

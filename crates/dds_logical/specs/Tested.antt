@@ -1,5 +1,5 @@
 -- What of the fields that are tested decides what is wrong with the tests? (Our own.)
-use Rattle.std.specs.Prelude.{ℕ, Bool, true, false, not, List, [], ◌∷◌, ◌++◌, length, flat_map, Option, Some, None, if◌then◌else◌}
+use Rattle.std.specs.Prelude.{ℕ, Bool, true, false, not, ◌&&◌, List, [], ◌∷◌, ◌++◌, length, flat_map, Option, Some, None, if◌then◌else◌}
 use Rattle.field_types.specs.declared.kinds.FieldType.{FieldType}
 use Rattle.field_values.specs.FieldTypes.{is_numeric}
 use Rattle.std.specs.List.{filter_map}
@@ -52,9 +52,13 @@ statement_with find (Some choice) s ss = if has_all s then [] else statement_of 
 unfoldable pub condition_of : (List ℕ → Option ViewField) → Specification → Keyword → List Condition
 condition_of find s k = conditions_on (tested_field find (name_of s.name)) (option_to_list (test_said find k))
 
-unfoldable pub conditions_of : (List ℕ → Option ViewField) → Specification → List Keyword → List Condition
+abbrev pub conditions_of : (List ℕ → Option ViewField) → Specification → List Keyword → List Condition
 conditions_of find s ks = conditions_on (tested_field find (name_of s.name)) (filter_map (test_said find) ks)
 
 -- the further conditions that lines begin with
-unfoldable pub further_conditions : (List ℕ → Option ViewField) → List Specification → List Condition
+abbrev pub further_conditions : (List ℕ → Option ViewField) → List Specification → List Condition
 further_conditions find ss = flat_map (conditions_said find) (further_lines (lines_of line_kinds.Selection ss))
+
+-- a select or an omit, which ends the further conditions before it
+unfoldable pub ends_further : Specification → Bool
+ends_further s = is_of line_kinds.Selection s.kind && not (is_further s.kind)

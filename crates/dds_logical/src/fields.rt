@@ -10,7 +10,7 @@ ghost use Rattle.dds_physical.specs.Lines.{is_letter_wrong};
 ghost use Rattle.dds_logical.specs.Origins.{origin};
 ghost use Rattle.dds_logical.specs.Fields.{kind_letter, is_same_type, are_alike, narrows_kind, narrows_decimals, narrows_length, length_column, narrowing_faults, type_faults_over, is_usage, says_read_only, says_both, letter_faults, is_read_only_mapping, usage_faults, names_twice, with_name, field_entry_faults, made_faults, file_number_faults, too_many_faults, field_lines_faults};
 ghost use Rattle.dds_logical.specs.Made.{made_by, type_of};
-ghost use Rattle.dds_logical.specs.Judged.{lines_of, left_behind, line_faults_of, first_line, types_faults, field_line_faults};
+ghost use Rattle.dds_logical.specs.Judged.{lines_of, is_beyond, left_behind, line_faults_of, first_line, types_faults, field_line_faults};
 ghost use Rattle.dds_logical.specs.declared.format_lines.LineKind.TheVariants as line_kinds;
 
 use crate::attributes::{attributes, is_numeric, kind_by_letter};
@@ -265,8 +265,17 @@ pub(crate) fn note_names_twice(
     Ok(())
 }
 
+/// Whether the line is one of the kind, and no more may come.
+#[tactic(auto, unfolding(crate::specs::Judged::is_beyond))]
+fn is_beyond(kind: LineKind, line: &Specification, left: usize) -> bool
+    ensures { result ≡ is_beyond kind line.now left }
+{
+    is_of(kind, line) && left == 0
+}
+
 /// How many lines of the kind may still come behind this one.
-fn left_after(kind: LineKind, line: &Specification, left: usize) -> usize
+#[tactic(auto, unfolding(crate::specs::Judged::left_behind))]
+fn left_behind(kind: LineKind, line: &Specification, left: usize) -> usize
     ensures { result ≡ left_behind kind line.now left }
 {
     if is_of(kind, line) {
@@ -277,7 +286,7 @@ fn left_after(kind: LineKind, line: &Specification, left: usize) -> usize
 }
 
 /// The line of the kind that has so many before it.
-#[tactic(auto, using(crate::proofs::LineLemmas::beyond_more))]
+#[tactic(auto, using(crate::proofs::LineLemmas::beyond_here, crate::proofs::LineLemmas::beyond_more))]
 fn line_beyond<'a>(
     kind: LineKind,
     most: usize,
@@ -286,11 +295,13 @@ fn line_beyond<'a>(
     ensures { option_copied result ≡ first_line (drop most (lines_of kind lines.now)) }
 {
     let mut left = most;
-    for line in lines {
-        if is_of(kind, line) && left == 0 {
+    let mut rest = lines;
+    while let [line, more @ ..] = rest {
+        if is_beyond(kind, line, left) {
             return Some(line);
         }
-        left = left_after(kind, line, left);
+        left = left_behind(kind, line, left);
+        rest = more;
     }
     None
 }

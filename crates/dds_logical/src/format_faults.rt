@@ -1,12 +1,14 @@
 //! What is wrong with formats over one file each.
 ghost use Rattle.std.specs.Prelude.{◌≡◌, ◌++◌, ◌∷◌, List, [], flat_map, codes, Option, IfOk, OnOk};
+ghost use Rattle.record_fmt.specs.Layout.{IsLaidOut};
 ghost use Rattle.dds_source.specs.Faults.{first_after};
+ghost use Rattle.dds_logical.specs.Named.{AreShown};
 ghost use Rattle.dds_physical.specs.Keywords.{first_named};
 ghost use Rattle.dds_physical.specs.References.{file_of_keyword};
 ghost use Rattle.dds_logical.specs.FormatLines.{FormatLines, formats_in};
-ghost use Rattle.dds_logical.specs.Logical.{fields_named, view_faults};
+ghost use Rattle.dds_logical.specs.Logical.{base_of, fields_named, view_faults};
 ghost use Rattle.dds_logical.specs.Judged.{faults_at, format_with};
-ghost use Rattle.dds_logical.specs.Mismatches.{mismatches, mismatches_of, mismatches_from};
+ghost use Rattle.dds_logical.specs.Mismatches.{faults_with, mismatches, mismatches_of, mismatches_from};
 
 use crate::arguments::argument_name;
 use crate::bases::{Bases, fields_of_name};
@@ -16,11 +18,12 @@ use crate::format_lines::{is_record, lines_ahead};
 use crate::key_mismatches::{EarlierKeys, note_positions};
 use crate::keys::{judged_parts, note_key_lines, note_sizes};
 use crate::keyword_names::{arguments_of, first_named};
-use crate::named_fields::{NamedFields, named_fields};
+use crate::named_fields::{NamedField, NamedFields, named_fields};
 use crate::selections::note_selections;
 use crate::whole_file::note_head;
 use dds_source::specifications::Specification;
 use field_types::names::Name;
+use record_fmt::formats::Field;
 use std::alloc::{AllocError, Global};
 
 /// The file that a format is over.
@@ -36,8 +39,41 @@ pub(crate) fn base_name(line: &Specification) -> Option<Name>
     }
 }
 
-/// Notes what is wrong with the lines of a format.
+/// The fields of the file that a format is over.
+pub(crate) fn base_of<'a, B: Bases>(bases: &'a B, line: &Specification) -> &'a [Field]
+    ensures fields { result.now ≡ base_of (B.bases bases.now) (format_with line.now []) }
+    ensures laid_out { IsLaidOut result.now }
+{
+    fields_of_name(bases, &base_name(line))
+}
+
+/// Notes what is wrong with the lines of a format with these fields, over these.
 #[tactic(auto, using(dds_physical::proofs::FaultLemmas::first_after_append))]
+fn note_lines<B: Bases>(
+    alloc: Global,
+    bases: &B,
+    last_line: u32,
+    is_multi: bool,
+    base: &[Field],
+    named: &[NamedField],
+    line: &Specification,
+    body: &[Specification],
+    first: &mut FirstFault,
+) -> Result<(), AllocError>
+    requires base { IsLaidOut base.now }
+    requires named { AreShown named.now }
+    ensures { OnOk result (first.new.fault ≡ first_after first.old.fault (faults_with (B.bases bases.now) last_line is_multi (format_with line.now body.now) base.now named.now)) }
+{
+    let parts = judged_parts(alloc, named, body)?;
+    note_head(bases, false, line, first);
+    note_field_lines(alloc, base, body, first)?;
+    note_key_lines(alloc, false, is_multi, named, body, first)?;
+    note_selections(alloc, named, base, body, first)?;
+    note_sizes(last_line, named, parts.as_slice(), body, first);
+    Ok(())
+}
+
+/// Notes what is wrong with the lines of a format.
 fn note_view<B: Bases>(
     alloc: Global,
     bases: &B,
@@ -49,14 +85,12 @@ fn note_view<B: Bases>(
 ) -> Result<(), AllocError>
     ensures { OnOk result (first.new.fault ≡ first_after first.old.fault (view_faults (B.bases bases.now) last_line is_multi (format_with line.now body.now))) }
 {
-    let base = fields_of_name(bases, &base_name(line));
+    let base = base_of(bases, line);
     let named = named_fields(alloc, base, body)?;
-    let parts = judged_parts(alloc, named.as_slice(), body)?;
-    note_head(bases, false, line, first);
-    note_field_lines(alloc, base, body, first)?;
-    note_key_lines(alloc, false, is_multi, named.as_slice(), body, first)?;
-    note_selections(alloc, named.as_slice(), base, body, first)?;
-    note_sizes(last_line, named.as_slice(), parts.as_slice(), body, first);
+    let fields = named.as_slice();
+    note_lines(
+        alloc, bases, last_line, is_multi, base, fields, line, body, first,
+    )?;
     Ok(())
 }
 
@@ -111,7 +145,7 @@ fn named_of_format<B: Bases>(
 ) -> Result<NamedFields, AllocError>
     ensures { IfOk result (λ named. named ≡ fields_named (B.bases bases.now) (format_with line.now body.now)) }
 {
-    let base = fields_of_name(bases, &base_name(line));
+    let base = base_of(bases, line);
     let named = named_fields(alloc, base, body)?;
     Ok(named)
 }

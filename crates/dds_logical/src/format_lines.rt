@@ -1,11 +1,11 @@
 //! Which lines belong to which format, and which kind of file it is.
-ghost use Rattle.std.specs.Prelude.{◌≡◌, nat_lt, not, length};
+ghost use Rattle.std.specs.Prelude.{◌≡◌, nat_lt, length};
 ghost use Rattle.std.specs.Option.{option_copied};
 ghost use Rattle.std.specs.List.{list_any, before_first, prefix_len};
 ghost use Rattle.dds_source.specs.Reading.{is_record, is_condition, is_selection};
 ghost use Rattle.dds_physical.specs.WholeFile.{is_field_kind, is_key_kind};
 ghost use Rattle.dds_logical.specs.FormatLines.{formats_in, is_join_kind, based_on, is_join_keyword, is_join_file, is_multi_format};
-ghost use Rattle.dds_logical.specs.Judged.{is_of, lines_of};
+ghost use Rattle.dds_logical.specs.Judged.{is_of, lines_of, stands_within};
 
 use crate::keyword_names::has_name;
 use dds_source::keywords::Keyword;
@@ -127,12 +127,17 @@ pub(crate) fn lines_ahead(lines: &[Specification]) -> &[Specification]
 }
 
 fn count_ahead(lines: &[Specification]) -> usize
-    ensures { result ≡ prefix_len (λ s. not (is_record s.kind)) lines.now }
+    ensures { result ≡ prefix_len stands_within lines.now }
 {
-    lines
-        .iter()
-        .take_while(|line| !is_record(line.kind))
-        .count()
+    lines.iter().take_while(|line| stands_within(line)).count()
+}
+
+/// Whether the line begins no format.
+#[tactic(auto, unfolding(crate::specs::Judged::stands_within))]
+fn stands_within(line: &Specification) -> bool
+    ensures { result ≡ stands_within line.now }
+{
+    !is_record(line.kind)
 }
 
 /// Whether there is a line of this kind.

@@ -2,27 +2,31 @@
 ghost use Rattle.std.specs.Prelude.{◌≡◌, ◌≤◌, ◌&&◌, ◌==◌, not, length, true, is_some, codes, if◌then◌else◌, IfOk};
 ghost use Rattle.dds_physical.specs.Keywords.{first_named};
 ghost use Rattle.dds_physical.specs.Names.{name_of};
-ghost use Rattle.dds_physical.specs.Physical.{ties_of};
+ghost use Rattle.dds_physical.specs.Physical.{ties_of, name_or_none};
 ghost use Rattle.dds_physical.specs.References.{file_of_keyword};
-ghost use Rattle.dds_logical.specs.FormatLines.{formats_in, field_lines};
-ghost use Rattle.dds_logical.specs.Logical.{fields_named, most_parts, ties_with, is_keyless, view_described};
-ghost use Rattle.dds_logical.specs.Judged.{format_with};
+ghost use Rattle.dds_logical.specs.FormatLines.{formats_in};
+ghost use Rattle.dds_logical.specs.Logical.{most_parts, ties_with, is_keyless, key_of, view_described};
+ghost use Rattle.dds_logical.specs.Judged.{format_with, lines_of};
+ghost use Rattle.dds_logical.specs.Keys.{parts_of_lines};
 ghost use Rattle.dds_logical.specs.JudgedKeys.{bytes_of, parts_at};
+ghost use Rattle.dds_logical.specs.declared.format_lines.LineKind.TheVariants as line_kinds;
+ghost use Rattle.dds_logical.specs.Complete.{IsComplete, view_with};
 
-use crate::bases::{Bases, fields_of_name};
-use crate::format_faults::base_name;
+use crate::bases::Bases;
+use crate::format_faults::{base_name, base_of};
 use crate::format_lines::{LineKind, count_lines, is_record, lines_ahead};
 use crate::keyword_names::is_there;
 use crate::layout::{laid_out, mapping_of, padded};
 use crate::line_order::later_of;
-use crate::named_fields::named_fields;
+use crate::named_fields::{NamedFields, named_fields};
 use crate::names::name_of;
 use crate::rules_said::rules_said;
 use crate::views::View;
 use dds_source::keywords::Keyword;
 use dds_source::specifications::Specification;
 use key_spec::{KeySpec, Ties};
-use record_fmt::formats::Format;
+use field_types::names::Name;
+use record_fmt::formats::{Field, Format};
 use std::alloc::{AllocError, Global};
 
 /// How records with equal keys are ordered.
@@ -72,6 +76,65 @@ pub(crate) fn most_parts(specifications: &[Specification]) -> usize
     most
 }
 
+/// The key of a format with these fields.
+fn key_of(
+    alloc: Global,
+    keywords: &[Keyword],
+    is_multi: bool,
+    positions: usize,
+    fields: &[Field],
+    lines: &[Specification],
+) -> Result<KeySpec, AllocError>
+    ensures { IfOk result (λ keys. keys ≡ key_of is_multi positions keywords.now (parts_of_lines fields.now (lines_of line_kinds.Key lines.now))) }
+{
+    let parts = padded(alloc, positions, fields, lines)?;
+    let is_keyless = !is_multi && positions == 0;
+    Ok(KeySpec {
+        parts,
+        unique: is_there(b"UNIQUE", keywords),
+        ties: ties_with(is_keyless, keywords),
+    })
+}
+
+fn name_given(name: Option<Name>) -> Name
+    requires { is_some name ≡ true }
+    ensures { result ≡ name_or_none name }
+{
+    name.unwrap()
+}
+
+/// What the lines of a format with these fields describe, over these.
+fn view_with(
+    alloc: Global,
+    keywords: &[Keyword],
+    is_multi: bool,
+    positions: usize,
+    base: &[Field],
+    named: &NamedFields,
+    line: &Specification,
+    body: &[Specification],
+) -> Result<View, AllocError>
+    requires named { is_some (name_of line.now.name) ≡ true }
+    requires based { is_some (file_of_keyword (first_named (codes "PFILE") line.now.keywords)) ≡ true }
+    requires few { length named.now ≤ 1000 }
+    requires narrow { bytes_of named.now ≤ 32766 }
+    ensures { IfOk result (λ view. view ≡ view_with keywords.now is_multi positions (format_with line.now body.now) base.now named.now) }
+{
+    let fields = laid_out(alloc, named)?;
+    let keys = key_of(alloc, keywords, is_multi, positions, fields.as_slice(), body)?;
+    let mapping = mapping_of(alloc, named)?;
+    let rules = rules_said(alloc, named.as_slice(), base, body)?;
+    let file = name_given(base_name(line));
+    let name = name_given(name_of(line.name));
+    Ok(View {
+        base: file,
+        format: Format { name, fields },
+        mapping,
+        rules,
+        keys,
+    })
+}
+
 /// The format that a line begins, in a file with these keywords and so many positions of the key.
 pub(crate) fn view_described<B: Bases>(
     alloc: Global,
@@ -82,30 +145,13 @@ pub(crate) fn view_described<B: Bases>(
     line: &Specification,
     body: &[Specification],
 ) -> Result<View, AllocError>
-    requires named { is_some (name_of line.now.name) ≡ true }
-    requires based { is_some (file_of_keyword (first_named (codes "PFILE") line.now.keywords)) ≡ true }
-    requires few { length (field_lines (format_with line.now body.now)) ≤ 1000 }
-    requires narrow { bytes_of (fields_named (B.bases bases.now) (format_with line.now body.now)) ≤ 32766 }
+    requires { IsComplete (B.bases bases.now) (format_with line.now body.now) }
     ensures { IfOk result (λ view. view ≡ view_described (B.bases bases.now) keywords.now is_multi positions (format_with line.now body.now)) }
 {
-    let base = fields_of_name(bases, &base_name(line));
+    let base = base_of(bases, line);
     let named = named_fields(alloc, base, body)?;
-    let fields = laid_out(alloc, &named)?;
-    let keys = KeySpec {
-        parts: padded(alloc, positions, fields.as_slice(), body)?,
-        unique: is_there(b"UNIQUE", keywords),
-        ties: ties_with(!is_multi && positions == 0, keywords),
-    };
-    let mapping = mapping_of(alloc, &named)?;
-    let rules = rules_said(alloc, named.as_slice(), base, body)?;
-    Ok(View {
-        base: base_name(line).unwrap(),
-        format: Format {
-            name: name_of(line.name).unwrap(),
-            fields,
-        },
-        mapping,
-        rules,
-        keys,
-    })
+    let view = view_with(
+        alloc, keywords, is_multi, positions, base, &named, line, body,
+    )?;
+    Ok(view)
 }

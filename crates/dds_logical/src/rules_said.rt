@@ -3,7 +3,7 @@ ghost use Rattle.std.specs.Prelude.{◌≡◌, ◌++◌, ◌∷◌, List, [], fl
 ghost use Rattle.dds_logical.specs.declared.format_lines.LineKind.TheVariants as line_kinds;
 ghost use Rattle.dds_logical.specs.Selections.{field_to_test, further_lines, has_all, statement_of, statement_begun, statements_said, choice_of, all_said, rules_said};
 ghost use Rattle.dds_logical.specs.Judged.{lines_of};
-ghost use Rattle.dds_logical.specs.Tested.{condition_of, conditions_of, conditions_at, further_conditions};
+ghost use Rattle.dds_logical.specs.Tested.{condition_of, conditions_of, conditions_at, further_conditions, ends_further};
 
 use crate::format_lines::{LineKind, is_of};
 use crate::keyword_names::is_there;
@@ -40,7 +40,6 @@ fn add_condition(
 }
 
 /// Adds the conditions of a line.
-#[tactic(auto, using(crate::proofs::TestedLemmas::conditions_more, crate::proofs::ListLemmas::joined))]
 fn add_conditions(
     alloc: Global,
     named: &[NamedField],
@@ -50,13 +49,14 @@ fn add_conditions(
 ) -> Result<(), AllocError>
     ensures { OnOk result (conditions.new ≡ conditions.old ++ conditions_of (field_to_test named.now base.now) line.now line.now.keywords) }
 {
-    for keyword in line.keywords.as_slice() {
+    let keywords = line.keywords.as_slice();
+    for keyword in keywords {
         add_condition(alloc, named, base, line, keyword, conditions)?;
     }
     Ok(())
 }
 
-#[tactic(auto, unfolding(crate::specs::Tested::conditions_at, crate::specs::Tested::conditions_of))]
+#[tactic(auto, unfolding(crate::specs::Tested::conditions_at))]
 fn add_if_selection(
     alloc: Global,
     named: &[NamedField],
@@ -73,8 +73,15 @@ fn add_if_selection(
     }
 }
 
+/// Whether the line is a select or an omit, which ends the further conditions before it.
+#[tactic(auto, unfolding(crate::specs::Tested::ends_further))]
+fn ends_further(line: &Specification) -> bool
+    ensures { result ≡ ends_further line.now }
+{
+    is_of(LineKind::Selection, line) && !is_further(line.kind)
+}
+
 /// Adds the further conditions that lines begin with.
-#[tactic(auto, using(crate::proofs::TestedLemmas::further_ends, crate::proofs::TestedLemmas::further_goes, crate::proofs::ListLemmas::joined))]
 fn add_further(
     alloc: Global,
     named: &[NamedField],
@@ -85,7 +92,7 @@ fn add_further(
     ensures { OnOk result (conditions.new ≡ conditions.old ++ further_conditions (field_to_test named.now base.now) lines.now) }
 {
     for line in lines {
-        if is_of(LineKind::Selection, line) && !is_further(line.kind) {
+        if ends_further(line) {
             return Ok(());
         }
         add_if_selection(alloc, named, base, line, conditions)?;
@@ -94,7 +101,7 @@ fn add_further(
 }
 
 /// The statement that a line begins.
-#[tactic(auto, using(crate::proofs::ListLemmas::joined), unfolding(crate::specs::Tested::further_conditions, crate::specs::Tested::conditions_of))]
+#[tactic(auto, using(crate::proofs::ListLemmas::joined))]
 fn statement(
     alloc: Global,
     named: &[NamedField],

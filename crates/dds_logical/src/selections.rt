@@ -1,5 +1,5 @@
 //! What is wrong with select and omit lines.
-ghost use Rattle.std.specs.Prelude.{◌≡◌, ◌++◌, ◌&&◌, ◌||◌, ◌==◌, not, length, flat_map, is_some, is_none, codes, Option, Some, IfOk, OnOk};
+ghost use Rattle.std.specs.Prelude.{◌≡◌, ◌++◌, ◌&&◌, ◌||◌, ◌==◌, not, length, flat_map, is_some, is_none, codes, Option, Some, IfOk, IfSome, OnOk};
 ghost use Rattle.std.specs.Option.{option_copied};
 ghost use Rattle.std.specs.List.{list_any};
 ghost use Rattle.field_values.specs.FieldTypes.{IsFieldType};
@@ -153,6 +153,16 @@ fn note_tests(
     Ok(())
 }
 
+/// The type of the field of a name, which is one that a data description can give.
+fn allowed_type(named: &[NamedField], base: &[Field], name: Option<Name>) -> Option<FieldType>
+    requires named { AreShown named.now }
+    requires base { IsLaidOut base.now }
+    ensures value { result ≡ type_of_field (tested_field (field_to_test named.now base.now) name) }
+    ensures allowed { IfSome result IsFieldType }
+{
+    type_to_test(named, base, name)
+}
+
 /// Notes what is wrong with the tests of the field of a line, if it is there.
 fn note_field_tests(
     alloc: Global,
@@ -165,7 +175,7 @@ fn note_field_tests(
     requires base { IsLaidOut base.now }
     ensures { OnOk result (first.new.fault ≡ first_after first.old.fault (tests_faults (field_to_test named.now base.now) (tested_field (field_to_test named.now base.now) (name_of line.now.name)) line.now.keywords)) }
 {
-    match type_to_test(named, base, name_of(line.name)) {
+    match allowed_type(named, base, name_of(line.name)) {
         Some(ty) => note_tests(alloc, named, base, &ty, line.keywords.as_slice(), first),
         None => Ok(()),
     }
@@ -316,8 +326,9 @@ pub(crate) fn note_selections(
     ensures { OnOk result (first.new.fault ≡ first_after first.old.fault (selection_lines_faults (field_to_test named.now base.now) (lines_of line_kinds.Selection lines.now))) }
 {
     let mut rest = lines;
-    while let [line, more @ ..] = rest {
-        note_selection(alloc, named, base, line, more, first)?;
+    while !rest.is_empty() {
+        let (here, more) = rest.split_at(1);
+        note_selection(alloc, named, base, &here[0], more, first)?;
         rest = more;
     }
     Ok(())

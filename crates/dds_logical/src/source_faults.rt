@@ -3,7 +3,8 @@ ghost use Rattle.std.specs.Prelude.{◌≡◌, ◌++◌, false, OnOk, None, IfOk
 ghost use Rattle.dds_source.specs.Faults.{first_after};
 ghost use Rattle.dds_logical.specs.FormatLines.{formats_in};
 ghost use Rattle.dds_logical.specs.Logical.{faults_over, formats_at_fault};
-ghost use Rattle.dds_logical.specs.Complete.{CompleteUnless};
+ghost use Rattle.dds_physical.specs.WholeFile.{has_key};
+ghost use Rattle.dds_logical.specs.Complete.{CompleteUnless, outline_faults};
 
 use crate::bases::Bases;
 use crate::fields::note_letters;
@@ -15,7 +16,8 @@ use crate::keyword_rules::{note_conflicts, note_keywords};
 use crate::line_order::note_order;
 use crate::whole_file::{note_format_missing, note_formats};
 use dds_source::faults::DdsFault;
-use dds_source::specifications::Source;
+use dds_source::keywords::Keyword;
+use dds_source::specifications::{Source, Specification};
 use std::alloc::{AllocError, Global};
 
 /// Notes what is wrong with the formats.
@@ -41,6 +43,25 @@ fn note_formats_at_fault<B: Bases>(
     note_mismatches(alloc, bases, specifications, first)
 }
 
+fn has_key(specifications: &[Specification]) -> bool
+    ensures { result ≡ has_key specifications.now }
+{
+    has_lines(LineKind::Key, specifications)
+}
+
+/// Notes what is wrong with the keywords of the file, with letters in 35 and 38, and lines out of order.
+#[tactic(auto, using(dds_physical::proofs::FaultLemmas::first_after_append))]
+fn note_outlines(keywords: &[Keyword], specifications: &[Specification], first: &mut FirstFault)
+    ensures { first.new.fault ≡ first_after first.old.fault (outline_faults keywords.now specifications.now) }
+{
+    let has_key = has_key(specifications);
+    let is_multi = is_multi_format(specifications);
+    note_keywords(false, KeywordPlace::File, keywords, first);
+    note_conflicts(has_key, is_multi, keywords, first);
+    note_letters(false, specifications, first);
+    note_order(false, specifications, first);
+}
+
 /// Notes what is wrong with a source that isn't a join's.
 #[tactic(auto, using(dds_physical::proofs::FaultLemmas::first_after_append))]
 pub(crate) fn note_source<B: Bases>(
@@ -52,16 +73,7 @@ pub(crate) fn note_source<B: Bases>(
     ensures { OnOk result (first.new.fault ≡ first_after first.old.fault (faults_over (B.bases bases.now) source.now false (formats_in source.now.specifications))) }
 {
     let specifications = source.specifications.as_slice();
-    let keywords = source.file.as_slice();
-    note_keywords(false, KeywordPlace::File, keywords, first);
-    note_conflicts(
-        has_lines(LineKind::Key, specifications),
-        is_multi_format(specifications),
-        keywords,
-        first,
-    );
-    note_letters(false, specifications, first);
-    note_order(false, specifications, first);
+    note_outlines(source.file.as_slice(), specifications, first);
     note_formats(alloc, specifications, first)?;
     note_formats_at_fault(alloc, bases, source, first)?;
     note_format_missing(source.last_line, specifications, first);

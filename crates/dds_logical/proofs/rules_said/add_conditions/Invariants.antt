@@ -4,5 +4,5 @@ use Rattle.dds_logical.specs.Tested.{conditions_of}
 use Rattle.dds_logical.proofs.rules_said.add_conditions.Given as goal
 
 abbrev pub invariant-loop-keyword : goal.invariant-loop-keyword
-invariant-loop-keyword l = l.conditions ++ conditions_of (field_to_test l.named l.base) l.line (drop l.keyword-index l.line.keywords)
-    ≡ l.fn.conditions ++ conditions_of (field_to_test l.named l.base) l.line l.line.keywords
+invariant-loop-keyword l = l.conditions ++ conditions_of (field_to_test l.named l.base) l.line (drop l.keyword-index l.keywords)
+    ≡ l.fn.conditions ++ conditions_of (field_to_test l.named l.base) l.line l.keywords
