@@ -118,11 +118,13 @@ file_named (k ∷ ks) none based =
     let parts = nothing_in (unknown_faults (stands_at false places.Record k) k) (argument_faults (stands_at false places.Record k) k) twice.0 in
     let stands = not_wrong (not (stands_at false places.Record k)) _ parts.0 in
     let takes = not_wrong (stands_at false places.Record k && not (takes_its_arguments k)) _ parts.1 in
-    elim (cases_Bool (has_name (codes "PFILE") k))
-    [ inl h ↦ rw h (pfile_fits k h (takes_them (takes_its_arguments k) (subst (λ (b : Bool). ((b || has_name (codes "TEXT") k) && not (takes_its_arguments k)) ≡ false) h takes)))
-    | inr h ↦ rw h (elim (cases_Bool (has_name (codes "JFILE") k))
-        [ inl j ↦ absurd (let no : not (stands_at false places.Record k) ≡ true = ap not (ap (λ (b : Bool). b || has_name (codes "TEXT") k) h ∙ named_so (codes "JFILE") (codes "TEXT") k j) in cc)
-        | inr j ↦ file_named ks more.1 (subst (λ (b : Bool). is_some (if b then Some k else based_on ks) ≡ true) (ap (λ (b : Bool). b || has_name (codes "JFILE") k) h ∙ j) based) ]) ]
+    elim (cases_Bool (has_name (codes "PFILE") k)) [
+      | inl h ↦ rw h (pfile_fits k h (takes_them (takes_its_arguments k) (subst (λ (b : Bool). ((b || has_name (codes "TEXT") k) && not (takes_its_arguments k)) ≡ false) h takes)))
+      | inr h ↦ rw h (elim (cases_Bool (has_name (codes "JFILE") k)) [
+        | inl j ↦ absurd (let no : not (stands_at false places.Record k) ≡ true = ap not (ap (λ (b : Bool). b || has_name (codes "TEXT") k) h ∙ named_so (codes "JFILE") (codes "TEXT") k j) in cc)
+        | inr j ↦ file_named ks more.1 (subst (λ (b : Bool). is_some (if b then Some k else based_on ks) ≡ true) (ap (λ (b : Bool). b || has_name (codes "JFILE") k) h ∙ j) based)
+      ])
+    ]
   where
     takes_them : (b : Bool) → (true && not b) ≡ false → b ≡ true
     takes_them true h = refl
@@ -133,7 +135,7 @@ file_named (k ∷ ks) none based =
 complete_one : (bases : List ℕ → Option PhysicalSpec) (last_line : ℕ) (is_multi : Bool) (f : FormatLines) → view_faults bases last_line is_multi f ≡ [] → is_some (based_on f.head.keywords) ≡ true → IsComplete bases f
 complete_one bases last_line is_multi f none based =
     let sizes = nothing_in (head_faults bases false f.head ++ field_lines_faults (base_of bases f) (field_lines f) ++ key_lines_faults false is_multi (format_fields bases f) (key_lines f)
-        ++ selection_lines_faults (find_field bases f) (selection_lines f)) (size_faults last_line (format_fields bases f) (format_parts bases f)) none in
+    ++ selection_lines_faults (find_field bases f) (selection_lines f)) (size_faults last_line (format_fields bases f) (format_parts bases f)) none in
     let selections = nothing_in (head_faults bases false f.head ++ field_lines_faults (base_of bases f) (field_lines f) ++ key_lines_faults false is_multi (format_fields bases f) (key_lines f)) (selection_lines_faults (find_field bases f) (selection_lines f)) sizes.0 in
     let keys = nothing_in (head_faults bases false f.head ++ field_lines_faults (base_of bases f) (field_lines f)) (key_lines_faults false is_multi (format_fields bases f) (key_lines f)) selections.0 in
     let fields = nothing_in (head_faults bases false f.head) (field_lines_faults (base_of bases f) (field_lines f)) keys.0 in
@@ -170,9 +172,9 @@ one_has_base is_join fs last_line none =
 complete_file : (bases : List ℕ → Option PhysicalSpec) (source : Source) (fs : List FormatLines) → faults_over bases source false fs ≡ [] → AreComplete bases fs
 complete_file bases source fs none =
     let missing = nothing_in (logical_keyword_faults false places.File source.file ++ file_conflicts (has_key source.specifications) (is_multi_format fs) source.file ++ flat_map (letter_faults false) source.specifications
-        ++ order_faults false source.specifications fs ++ formats_faults fs ++ formats_at_fault bases source false fs) (format_missing_faults source.last_line false fs) none in
+    ++ order_faults false source.specifications fs ++ formats_faults fs ++ formats_at_fault bases source false fs) (format_missing_faults source.last_line false fs) none in
     let formats = nothing_in (logical_keyword_faults false places.File source.file ++ file_conflicts (has_key source.specifications) (is_multi_format fs) source.file ++ flat_map (letter_faults false) source.specifications
-        ++ order_faults false source.specifications fs ++ formats_faults fs) (formats_at_fault bases source false fs) missing.0 in
+    ++ order_faults false source.specifications fs ++ formats_faults fs) (formats_at_fault bases source false fs) missing.0 in
     let views = nothing_in (flat_map (view_faults bases source.last_line (is_multi_format fs)) fs) (mismatch_faults (format_parts bases) [] fs) formats.1 in
     complete_all bases source.last_line (is_multi_format fs) fs views.0 (one_has_base false fs source.last_line missing.1)
 

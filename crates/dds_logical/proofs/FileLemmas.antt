@@ -22,9 +22,10 @@ pub complete_at : (bases : List ℕ → Option PhysicalSpec) (s : Specification)
 complete_at bases s ss h all = (subst (λ (b : Bool). AreComplete bases (cond b (format_of s ss ∷ formats_in ss) (formats_in ss))) h all).0
 
 pub complete_rest : (bases : List ℕ → Option PhysicalSpec) (s : Specification) (ss : List Specification) → AreCompleteFrom bases s ss → AreComplete bases (formats_in ss)
-complete_rest bases s ss all = elim (cases_Bool (is_record s.kind))
-    [ inl h ↦ (subst (λ (b : Bool). AreComplete bases (cond b (format_of s ss ∷ formats_in ss) (formats_in ss))) h all).1
-    | inr h ↦ subst (λ (b : Bool). AreComplete bases (cond b (format_of s ss ∷ formats_in ss) (formats_in ss))) h all ]
+complete_rest bases s ss all = elim (cases_Bool (is_record s.kind)) [
+  | inl h ↦ (subst (λ (b : Bool). AreComplete bases (cond b (format_of s ss ∷ formats_in ss) (formats_in ss))) h all).1
+  | inr h ↦ subst (λ (b : Bool). AreComplete bases (cond b (format_of s ss ∷ formats_in ss) (formats_in ss))) h all
+]
 
 -- ---- a source that isn't a join's
 

@@ -53,6 +53,6 @@ laid_out-next fs old new i f default text lt is before valued copied pushed =
     let at : ℕ → Value → List ℕ → Field = λ n v t. record { name = f.name; ty = f.shown.field.ty; offset = n; default = v; text = t } in
     let place : record_length old ≡ bytes_of (take i fs) = ap record_length before ∙ record_length_by_name 0 (take i fs) in
     let same : at (record_length old) default text ≡ field_at f (0 + bytes_of (take i fs)) =
-        ap (λ n. at n default text) (place ∙ omega arith) ∙ ap (λ (v : Value). at (0 + bytes_of (take i fs)) v text) valued ∙ ap (λ (t : List ℕ). at (0 + bytes_of (take i fs)) (unspecified f.shown.field.ty.kind) t) copied in
+    ap (λ n. at n default text) (place ∙ omega arith) ∙ ap (λ (v : Value). at (0 + bytes_of (take i fs)) v text) valued ∙ ap (λ (t : List ℕ). at (0 + bytes_of (take i fs)) (unspecified f.shown.field.ty.kind) t) copied in
     pushed ∙ ap (λ (g : Field). old ++ g ∷ []) same ∙ ap (λ (gs : List Field). gs ++ field_at f (0 + bytes_of (take i fs)) ∷ []) before
     ∙ sym (laid_out-end 0 (take i fs) f) ∙ sym (ap (laid_out 0) (next_is fs i f lt is))

@@ -12,3 +12,4 @@ pub mod CompleteLemmas
 pub mod FileLemmas
 pub mod LoopLemmas
 pub mod MismatchLemmas
+pub mod AheadLemmas

@@ -1,5 +1,5 @@
 -- Lines of a kind among others.
-use Rattle.std.proofs.Common.{sym, cond, true, false, ◌&&◌, ◌==◌, ◌-◌, ◌≡◌, ◌∙◌, ap, refl, Bool, inl, inr, List, [], ◌∷◌, ◌++◌, drop, ℕ, Option, Some, None, flat_map, if◌then◌else◌}
+use Rattle.std.proofs.Common.{◌<◌, ◌+◌, suc, length, get_or, add-one, sym, cond, true, false, ◌&&◌, ◌==◌, ◌-◌, ◌≡◌, ◌∙◌, ap, refl, Bool, inl, inr, List, [], ◌∷◌, ◌++◌, drop, ℕ, Option, Some, None, flat_map, if◌then◌else◌}
 use Rattle.std.proofs.lemmas.Bool.{cases_Bool, and_parts, eqb-true}
 use Rattle.dds_source.specs.declared.faults.DdsFault.{DdsFault}
 use Rattle.dds_source.specs.declared.faults.DdsCause.TheVariants.{TooLarge}
@@ -11,6 +11,7 @@ use Rattle.dds_source.specs.declared.keywords.Keyword.{Keyword}
 use Rattle.dds_logical.specs.declared.keyword_places.KeywordPlace.{KeywordPlace}
 use Rattle.dds_logical.specs.KeywordRules.{stands_at, logical_keyword_faults}
 use Rattle.dds_logical.proofs.ListLemmas.{drop_less}
+use Rattle.dds_logical.proofs.LoopLemmas.{drop-here}
 use Rattle.dds_logical.specs.Judged.{one_keyword_faults, is_beyond, left_behind, is_of, lines_of, line_faults_of, first_line}
 
 -- of each line what is wrong with it, if it is of the kind
@@ -45,9 +46,18 @@ beyond_here kind s ss n h =
 pub beyond_more : (kind : LineKind) (s : Specification) (ss : List Specification) (n : ℕ) → is_beyond kind s n ≡ false
     → first_line (drop (left_behind kind s n) (lines_of kind ss)) ≡ first_line (drop n (lines_of kind (s ∷ ss)))
 unfolding is_beyond left_behind
-beyond_more kind s ss n h = elim (cases_Bool (is_of kind s.kind))
-    [ inl of ↦ ap (λ (b : Bool). first_line (drop (cond b (n - 1) n) (lines_of kind ss))) of
-        ∙ ap first_line (drop_less n s (lines_of kind ss) (ap (λ (b : Bool). b && (n == 0)) (sym of) ∙ h))
-        ∙ sym (ap (λ (b : Bool). first_line (drop n (cond b (s ∷ lines_of kind ss) (lines_of kind ss)))) of)
-    | inr of ↦ ap (λ (b : Bool). first_line (drop (cond b (n - 1) n) (lines_of kind ss))) of
-        ∙ sym (ap (λ (b : Bool). first_line (drop n (cond b (s ∷ lines_of kind ss) (lines_of kind ss)))) of) ]
+beyond_more kind s ss n h = elim (cases_Bool (is_of kind s.kind)) [
+  | inl of ↦ ap (λ (b : Bool). first_line (drop (cond b (n - 1) n) (lines_of kind ss))) of
+      ∙ ap first_line (drop_less n s (lines_of kind ss) (ap (λ (b : Bool). b && (n == 0)) (sym of) ∙ h))
+      ∙ sym (ap (λ (b : Bool). first_line (drop n (cond b (s ∷ lines_of kind ss) (lines_of kind ss)))) of)
+  | inr of ↦ ap (λ (b : Bool). first_line (drop (cond b (n - 1) n) (lines_of kind ss))) of
+      ∙ sym (ap (λ (b : Bool). first_line (drop n (cond b (s ∷ lines_of kind ss) (lines_of kind ss)))) of)
+]
+
+pub beyond-step : (kind : LineKind) (lines : List Specification) (i : ℕ) (s : Specification) (n new : ℕ) (total : Option Specification) → i < length lines → s ≡ get_or lines i s → is_beyond kind s n ≡ false
+    → new ≡ left_behind kind s n → first_line (drop n (lines_of kind (drop i lines))) ≡ total → first_line (drop new (lines_of kind (drop (i + 1) lines))) ≡ total
+beyond-step kind lines i s n new total lt is none left before =
+    ap (λ (k : ℕ). first_line (drop new (lines_of kind (drop k lines)))) (add-one i)
+    ∙ ap (λ (m : ℕ). first_line (drop m (lines_of kind (drop (suc i) lines)))) left
+    ∙ beyond_more kind s (drop (suc i) lines) n none
+    ∙ ap (λ (ss : List Specification). first_line (drop n (lines_of kind ss))) (sym (drop-here lines i s lt is)) ∙ before

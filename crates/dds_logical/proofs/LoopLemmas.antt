@@ -15,7 +15,7 @@ noted-split {X} best new total step all joins (y ∷ ys) here more x some front 
     ap (λ (b : Option DdsFault). first_after b (all more)) noted ∙ sym (first_after_append best (step x more) (all more))
     ∙ ap (first_after best) (joins x more ∙ ap all parts) ∙ before
 
-drop-here : {X : Type 0} (xs : List X) (i : ℕ) (x : X) → i < length xs → x ≡ get_or xs i x → drop i xs ≡ x ∷ drop (suc i) xs
+pub drop-here : {X : Type 0} (xs : List X) (i : ℕ) (x : X) → i < length xs → x ≡ get_or xs i x → drop i xs ≡ x ∷ drop (suc i) xs
 drop-here [] i x lt is = absurd (omega (arith, lt))
 drop-here {X} (y ∷ ys) zero x lt is = ap (λ (z : X). z ∷ ys) (sym is)
 drop-here (y ∷ ys) (suc i) x lt is = drop-here ys i x (omega (arith, lt)) is

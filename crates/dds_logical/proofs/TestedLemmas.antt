@@ -72,9 +72,10 @@ further_none s ss h = ap (λ (b : Bool). take (cond (not (not b)) (1 + prefix_le
 
 pub further_next : (ss : List Specification) → not (length (further_lines ss) == 0) ≡ is_further_line (first_line ss)
 further_next [] = refl
-further_next (s ∷ ss) = elim (cases_Bool (is_further s.kind))
-    [ inl h ↦ ap (λ (ts : List Specification). not (length ts == 0)) (further_more s ss h) ∙ ap not (ne_eqb (suc (length (further_lines ss))) 0 (λ e. absurd (omega (arith, e)))) ∙ sym h
-    | inr h ↦ ap (λ (ts : List Specification). not (length ts == 0)) (further_none s ss h) ∙ sym h ]
+further_next (s ∷ ss) = elim (cases_Bool (is_further s.kind)) [
+  | inl h ↦ ap (λ (ts : List Specification). not (length ts == 0)) (further_more s ss h) ∙ ap not (ne_eqb (suc (length (further_lines ss))) 0 (λ e. absurd (omega (arith, e)))) ∙ sym h
+  | inr h ↦ ap (λ (ts : List Specification). not (length ts == 0)) (further_none s ss h) ∙ sym h
+]
 
 -- ---- the conditions of a statement
 
@@ -103,13 +104,14 @@ further_stop find s ss h =
 pub further_goes : (find : List ℕ → Option ViewField) (s : Specification) (ss : List Specification) → ends_further s ≡ false
     → conditions_at find s ++ further_conditions find ss ≡ further_conditions find (s ∷ ss)
 unfolding ends_further conditions_at
-further_goes find s ss h = elim (cases_Bool (is_of line_kinds.Selection s.kind))
-    [ inl of ↦ let further : is_further s.kind ≡ true = not_not (is_further s.kind) (subst (λ (b : Bool). (b && not (is_further s.kind)) ≡ false) of h) in
-        ap (λ (b : Bool). cond b (conditions_said find s) [] ++ further_conditions find ss) of
-        ∙ sym (ap (λ (b : Bool). flat_map (conditions_said find) (further_lines (cond b (s ∷ lines_of line_kinds.Selection ss) (lines_of line_kinds.Selection ss)))) of
-        ∙ ap (flat_map (conditions_said find)) (further_more s (lines_of line_kinds.Selection ss) further))
-    | inr of ↦ ap (λ (b : Bool). cond b (conditions_said find s) [] ++ further_conditions find ss) of
-        ∙ sym (ap (λ (b : Bool). flat_map (conditions_said find) (further_lines (cond b (s ∷ lines_of line_kinds.Selection ss) (lines_of line_kinds.Selection ss)))) of) ]
+further_goes find s ss h = elim (cases_Bool (is_of line_kinds.Selection s.kind)) [
+  | inl of ↦ let further : is_further s.kind ≡ true = not_not (is_further s.kind) (subst (λ (b : Bool). (b && not (is_further s.kind)) ≡ false) of h) in
+      ap (λ (b : Bool). cond b (conditions_said find s) [] ++ further_conditions find ss) of
+      ∙ sym (ap (λ (b : Bool). flat_map (conditions_said find) (further_lines (cond b (s ∷ lines_of line_kinds.Selection ss) (lines_of line_kinds.Selection ss)))) of
+      ∙ ap (flat_map (conditions_said find)) (further_more s (lines_of line_kinds.Selection ss) further))
+  | inr of ↦ ap (λ (b : Bool). cond b (conditions_said find s) [] ++ further_conditions find ss) of
+      ∙ sym (ap (λ (b : Bool). flat_map (conditions_said find) (further_lines (cond b (s ∷ lines_of line_kinds.Selection ss) (lines_of line_kinds.Selection ss)))) of)
+]
   where
     not_not : (b : Bool) → (true && not b) ≡ false → b ≡ true
     not_not true h = refl

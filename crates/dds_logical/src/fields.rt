@@ -295,13 +295,11 @@ fn line_beyond<'a>(
     ensures { option_copied result ≡ first_line (drop most (lines_of kind lines.now)) }
 {
     let mut left = most;
-    let mut rest = lines;
-    while let [line, more @ ..] = rest {
+    for line in lines {
         if is_beyond(kind, line, left) {
             return Some(line);
         }
         left = left_behind(kind, line, left);
-        rest = more;
     }
     None
 }

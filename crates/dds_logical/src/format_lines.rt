@@ -129,15 +129,14 @@ pub(crate) fn lines_ahead(lines: &[Specification]) -> &[Specification]
 fn count_ahead(lines: &[Specification]) -> usize
     ensures { result ≡ prefix_len stands_within lines.now }
 {
-    lines.iter().take_while(|line| stands_within(line)).count()
-}
-
-/// Whether the line begins no format.
-#[tactic(auto, unfolding(crate::specs::Judged::stands_within))]
-fn stands_within(line: &Specification) -> bool
-    ensures { result ≡ stands_within line.now }
-{
-    !is_record(line.kind)
+    let mut count = 0;
+    for line in lines {
+        if is_record(line.kind) {
+            return count;
+        }
+        count += 1;
+    }
+    count
 }
 
 /// Whether there is a line of this kind.

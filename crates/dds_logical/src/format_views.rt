@@ -24,8 +24,8 @@ use crate::rules_said::rules_said;
 use crate::views::View;
 use dds_source::keywords::Keyword;
 use dds_source::specifications::Specification;
-use key_spec::{KeySpec, Ties};
 use field_types::names::Name;
+use key_spec::{KeySpec, Ties};
 use record_fmt::formats::{Field, Format};
 use std::alloc::{AllocError, Global};
 
@@ -121,7 +121,14 @@ fn view_with(
     ensures { IfOk result (λ view. view ≡ view_with keywords.now is_multi positions (format_with line.now body.now) base.now named.now) }
 {
     let fields = laid_out(alloc, named)?;
-    let keys = key_of(alloc, keywords, is_multi, positions, fields.as_slice(), body)?;
+    let keys = key_of(
+        alloc,
+        keywords,
+        is_multi,
+        positions,
+        fields.as_slice(),
+        body,
+    )?;
     let mapping = mapping_of(alloc, named)?;
     let rules = rules_said(alloc, named.as_slice(), base, body)?;
     let file = name_given(base_name(line));

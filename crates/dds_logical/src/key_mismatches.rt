@@ -111,9 +111,7 @@ fn latest_differs(formats: &[KeyParts], place: usize, part: KeyPart) -> bool
 fn one_differs(formats: &[KeyParts], place: usize, part: KeyPart) -> bool
     ensures { result ≡ list_any (λ others. parts_differ (first_part (drop place others)) part) formats.now }
 {
-    formats
-        .iter()
-        .any(|others| parts_differ(part_at(others.as_slice(), place), part))
+    formats.iter().any(|others| parts_differ(part_at(others.as_slice(), place), part))
 }
 
 /// Notes a line whose position differs from that of an earlier format, if it is a key field's; and tells whether it is.

@@ -93,14 +93,7 @@ fn views_described<B: Bases>(
     let mut rest = specifications;
     while let [line, more @ ..] = rest {
         add_view(
-            alloc,
-            bases,
-            keywords,
-            is_multi,
-            positions,
-            line,
-            more,
-            &mut views,
+            alloc, bases, keywords, is_multi, positions, line, more, &mut views,
         )?;
         rest = more;
     }
@@ -120,11 +113,7 @@ fn one_or_several(views: Vec<View>) -> LogicalSpec
 }
 
 /// The file of a source that isn't a join's.
-fn described<B: Bases>(
-    alloc: Global,
-    bases: &B,
-    source: &Source,
-) -> Result<LogicalSpec, AllocError>
+fn described<B: Bases>(alloc: Global, bases: &B, source: &Source) -> Result<LogicalSpec, AllocError>
     requires single { is_join_file (formats_in source.now.specifications) ≡ false }
     requires complete { AreComplete (B.bases bases.now) (formats_in source.now.specifications) }
     ensures { IfOk result (λ spec. spec ≡ described_by (B.bases bases.now) source.now (formats_in source.now.specifications)) }

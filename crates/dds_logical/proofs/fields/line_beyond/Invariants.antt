@@ -1,9 +1,6 @@
-use Rattle.std.proofs.Common.{◌≡◌, drop, length}
+use Rattle.std.proofs.Common.{◌≡◌, drop}
 use Rattle.dds_logical.specs.Judged.{lines_of, first_line}
 use Rattle.dds_logical.proofs.fields.line_beyond.Given as goal
 
-abbrev pub invariant-loop-rest : goal.invariant-loop-rest
-invariant-loop-rest l = first_line (drop l.left (lines_of l.kind l.rest)) ≡ first_line (drop l.most (lines_of l.kind l.lines))
-
-abbrev pub decreases-loop-rest : goal.decreases-loop-rest
-decreases-loop-rest l = length l.rest
+abbrev pub invariant-loop-line : goal.invariant-loop-line
+invariant-loop-line l = first_line (drop l.left (lines_of l.kind (drop l.line-index l.lines))) ≡ first_line (drop l.most (lines_of l.kind l.lines))
