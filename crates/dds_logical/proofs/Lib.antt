@@ -13,3 +13,4 @@ pub mod FileLemmas
 pub mod LoopLemmas
 pub mod MismatchLemmas
 pub mod AheadLemmas
+pub mod BeyondLemmas
