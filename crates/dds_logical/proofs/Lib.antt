@@ -1,0 +1,16 @@
+pub mod FormatLemmas
+pub mod OriginLemmas
+pub mod LineLemmas
+pub mod NamedLemmas
+pub mod KeyLemmas
+pub mod TestedLemmas
+pub mod RuleLemmas
+pub mod ListLemmas
+pub mod ViewLemmas
+pub mod LayoutLemmas
+pub mod CompleteLemmas
+pub mod FileLemmas
+pub mod LoopLemmas
+pub mod MismatchLemmas
+pub mod AheadLemmas
+pub mod BeyondLemmas

@@ -22,15 +22,10 @@ use Rattle.file_model.specs.declared.views.FieldSource.{FieldSource}
 use Rattle.file_model.specs.declared.views.FieldSource.TheVariants.{Copied, Converted, Concatenated, Substring}
 use Rattle.file_model.specs.declared.views.ViewField.{ViewField}
 use Rattle.file_model.specs.declared.views.LogicalField.{LogicalField}
+use Rattle.dds_logical.specs.declared.named_fields.NamedField.{NamedField}
 use Rattle.dds_logical.specs.declared.keyword_places.KeywordPlace.TheVariants as places
 use Rattle.dds_logical.specs.KeywordRules.{logical_keyword_faults}
 use Rattle.dds_logical.specs.Origins.{Origin, origin, origin_faults, is_substring}
-
--- a field that a line describes, or that the base file has
-pub record NamedField : Type 0 where
-  pub name : List ℕ
-  pub text : List ℕ
-  pub shown : LogicalField
 
 -- ---- the type
 

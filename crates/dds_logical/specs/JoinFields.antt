@@ -16,7 +16,8 @@ use Rattle.dds_physical.specs.Keywords.{first_named, arguments_of}
 use Rattle.dds_physical.specs.KeywordRules.{argument_name}
 use Rattle.dds_logical.specs.KeywordArguments.{whole_number}
 use Rattle.dds_logical.specs.Origins.{origin_names, lacks_one}
-use Rattle.dds_logical.specs.Fields.{NamedField, field_of_line, field_entry_faults, made_faults, names_twice, too_many_faults}
+use Rattle.dds_logical.specs.declared.named_fields.NamedField.{NamedField}
+use Rattle.dds_logical.specs.Fields.{field_of_line, field_entry_faults, made_faults, names_twice, too_many_faults}
 use Rattle.dds_logical.specs.JoinLines.{place_from, fields_at}
 use lib.Pointwise.{pointwise}
 use Rattle.std.specs.Prelude.{nat_eq}

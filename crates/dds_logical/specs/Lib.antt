@@ -12,4 +12,10 @@ pub mod JoinLines
 pub mod JoinFields
 pub mod JoinViews
 pub mod Logical
-pub mod Sources
+pub mod Judged
+pub mod Made
+pub mod Named
+pub mod JudgedKeys
+pub mod Tested
+pub mod Mismatches
+pub mod Complete

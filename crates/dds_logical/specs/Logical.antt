@@ -25,7 +25,8 @@ use Rattle.dds_logical.specs.Bases.{fields_of_name}
 use Rattle.dds_logical.specs.FormatLines.{FormatLines, formats_in, field_lines, key_lines, selection_lines, is_join_file, is_multi_format}
 use Rattle.dds_logical.specs.KeywordRules.{logical_keyword_faults, file_conflicts}
 use Rattle.dds_logical.specs.LineOrder.{order_faults, later_of}
-use Rattle.dds_logical.specs.Fields.{NamedField, named_fields, laid_out, mapping_of, field_lines_faults, letter_faults}
+use Rattle.dds_logical.specs.declared.named_fields.NamedField.{NamedField}
+use Rattle.dds_logical.specs.Fields.{named_fields, laid_out, mapping_of, field_lines_faults, letter_faults}
 use Rattle.dds_logical.specs.Keys.{parts_of_lines, padded, key_lines_faults, mismatch_faults}
 use Rattle.dds_logical.specs.Selections.{field_to_test, rules_said, selection_lines_faults}
 use Rattle.dds_logical.specs.JoinViews.{join_described, join_faults}

@@ -19,6 +19,7 @@ use Rattle.file_model.specs.declared.views.Piece.{Piece}
 use Rattle.file_model.specs.declared.views.FieldSource.{FieldSource}
 use Rattle.file_model.specs.declared.views.FieldSource.TheVariants.{Copied, Concatenated, Substring}
 use Rattle.file_model.specs.Views.{character, pieces_length}
+use Rattle.dds_logical.specs.declared.parts.Part.{Part}
 use Rattle.dds_logical.specs.KeywordArguments.{names_among, whole_number}
 
 -- what a field is made of, with the type that it has there
@@ -65,11 +66,6 @@ abbrev pub are_characters : List Field → Bool
 are_characters fields = list_all (λ f. is_character f.ty.kind) fields
 
 -- ---- parts of a field
-
--- where a part of a field begins, counted from 1, and how long it is
-pub record Part : Type 0 where
-  pub start : ℕ
-  pub size : ℕ
 
 -- without a length it goes to the end of the field
 abbrev pub part_to_end : (field_length : ℕ) → Option ℕ → Option Part

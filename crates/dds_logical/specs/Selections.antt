@@ -35,7 +35,7 @@ use Rattle.file_model.specs.declared.rules.Rules.{Rules}
 use Rattle.dds_logical.specs.declared.keyword_places.KeywordPlace.TheVariants as places
 use Rattle.dds_logical.specs.KeywordArguments.{relation_of, is_compare_keyword}
 use Rattle.dds_logical.specs.KeywordRules.{logical_keyword_faults}
-use Rattle.dds_logical.specs.Fields.{NamedField}
+use Rattle.dds_logical.specs.declared.named_fields.NamedField.{NamedField}
 
 -- ---- fields
 

@@ -1,15 +1,40 @@
-//! What a logical file is by its data description: the types, and the definitions in `specs/`. Nothing runs yet. Begin with
-//! `specs/Logical.antt`.
-#![tactic(auto, unfolding(dds_source::specs::Lines::positions, dds_source::specs::Lines::line_of, dds_source::specs::Lines::last_line, dds_source::specs::Lines::counted_lines, dds_source::specs::Continuation::line_text, dds_source::specs::Continuation::joined_text, dds_source::specs::KeywordTexts::keywords_in, dds_source::specs::ArgumentTexts::arguments_in, dds_source::specs::ArgumentTexts::argument_of, dds_source::specs::Entries::columns_of, dds_source::specs::Reading::keyword_of, dds_source::specs::Reading::keywords_of, dds_source::specs::Reading::specification_of, dds_source::specs::Reading::extended, dds_source::specs::Reading::source_in, ebc_text::specs::CodePage::ebcdic_of, field_values::specs::FieldBytes::fault_of, crate::specs::Logical::logical_specification, crate::specs::Logical::logical_faults, crate::specs::Logical::logical_of))]
+//! What a logical file is by its data description: from a source to the file, or to the source's first fault. The meaning
+//! stands in `specs/`, the whole in `specs/Logical.antt`.
+#![tactic(auto)]
 
-pub mod fault_rows;
-pub mod join_rows;
+mod arguments;
+mod attributes;
+pub mod bases;
+mod fields;
+mod first;
+mod format_faults;
+mod format_lines;
+mod format_views;
 pub mod join_views;
-pub mod keyword_fault_rows;
+mod key_mismatches;
+mod keys;
+mod keyword_names;
 pub mod keyword_places;
+mod keyword_rules;
+mod layout;
 pub mod limits;
-pub mod rows;
+mod line_order;
+mod literals;
+pub mod logical_files;
+mod named_fields;
+mod names;
+mod origins;
+mod parts;
+mod rules_said;
+mod selections;
+mod source_faults;
+mod tested_fields;
+mod tests_said;
+mod texts;
 pub mod views;
+mod whole_file;
 
+pub use bases::Bases;
 pub use join_views::{JoinView, JoinedField, JoinedFile};
+pub use logical_files::{LogicalFault, is_join, logical_without_join};
 pub use views::{LogicalSpec, View, Views};

@@ -10,7 +10,7 @@ ghost use Rattle.dds_logical.specs.declared.views.LogicalSpec.TheVariants.{Simpl
 ghost use Rattle.dds_source.specs.declared.faults.DdsCause.TheVariants.{BadType};
 ghost use Rattle.dds_source.specs.declared.specifications.NameEntry.TheVariants.{Blank, Named, StarNone};
 ghost use Rattle.dds_source.specs.declared.specifications.SpecificationKind.TheVariants as kinds;
-ghost use Rattle.dds_logical.specs.Sources.{path_described, described, described_by_text, keyword, flag, word, number, quoted, special, blank, entries, line, characters, packed, whole, text, plain, shown, read_only, keyless, keyed, view, all_records, rules, statement, piece, field_itself, all_of, all_of_cust, headers, details};
+ghost use Rattle.logical_rows.specs.Sources.{path_described, described, described_by_text, keyword, flag, word, number, quoted, special, blank, entries, line, characters, packed, whole, text, plain, shown, read_only, keyless, keyed, view, all_records, rules, statement, piece, field_itself, all_of, all_of_cust, headers, details};
 
 /// A view has NAME alone, under another name.
 pub fn renamed_field()

@@ -6,7 +6,7 @@ ghost use Rattle.dds_source.specs.declared.specifications.NameEntry.TheVariants.
 ghost use Rattle.dds_source.specs.declared.specifications.SpecificationKind.TheVariants as kinds;
 ghost use Rattle.file_model.specs.declared.views.FieldSource.TheVariants.{Copied, Converted, Concatenated, Substring};
 ghost use Rattle.dds_logical.specs.declared.views.LogicalSpec.TheVariants.{Join};
-ghost use Rattle.dds_logical.specs.Sources.{described, keyword, flag, word, number, quoted, special, blank, entries, line, characters, packed, plain, piece, field_itself, keyless, keyed, pair, joined, unkeyed_join, seen, unseen};
+ghost use Rattle.logical_rows.specs.Sources.{described, keyword, flag, word, number, quoted, special, blank, entries, line, characters, packed, plain, piece, field_itself, keyless, keyed, pair, joined, unkeyed_join, seen, unseen};
 
 /// Customers with their orders, the greatest amount first; a customer without orders is kept.
 pub fn customers_with_orders()

@@ -3,7 +3,7 @@ ghost use Rattle.std.specs.Prelude.{◌≡◌, List, [], ◌∷◌, Some, None, 
 ghost use Rattle.dds_source.specs.declared.faults.DdsCause.TheVariants as causes;
 ghost use Rattle.dds_source.specs.declared.specifications.NameEntry.TheVariants.{Blank, Named, StarNone};
 ghost use Rattle.dds_source.specs.declared.specifications.SpecificationKind.TheVariants as kinds;
-ghost use Rattle.dds_logical.specs.Sources.{described, keyword, flag, word, number, quoted, special, blank, entries, referring, line, fault};
+ghost use Rattle.logical_rows.specs.Sources.{described, keyword, flag, word, number, quoted, special, blank, entries, referring, line, fault};
 
 /// Another place or another kind of file.
 pub fn unknown_keywords()

@@ -5,7 +5,7 @@ ghost use Rattle.dds_logical.specs.declared.views.LogicalSpec.TheVariants.{Multi
 ghost use Rattle.dds_source.specs.declared.faults.DdsCause.TheVariants as causes;
 ghost use Rattle.dds_source.specs.declared.specifications.NameEntry.TheVariants.{Blank, Named, StarNone};
 ghost use Rattle.dds_source.specs.declared.specifications.SpecificationKind.TheVariants as kinds;
-ghost use Rattle.dds_logical.specs.Sources.{described, keyword, flag, word, number, quoted, special, blank, entries, referring, line, fault, ordered};
+ghost use Rattle.logical_rows.specs.Sources.{described, keyword, flag, word, number, quoted, special, blank, entries, referring, line, fault, ordered};
 ghost use Rattle.dds_logical.specs.Fields.{too_many_faults};
 
 /// Lines that stand out of order: at 17, a field at 19.
