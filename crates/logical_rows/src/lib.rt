@@ -5,4 +5,5 @@
 pub mod fault_rows;
 pub mod join_rows;
 pub mod keyword_fault_rows;
+pub mod record_rows;
 pub mod rows;

@@ -1,0 +1,3 @@
+//! What physical and logical files show of records and store in them, by their data descriptions. The definitions are in
+//! `specs/`; nothing runs. Begin with `specs/Bases.antt`.
+#![tactic(auto)]
