@@ -1,0 +1,5 @@
+pub mod FormatLemmas
+pub mod KeyLemmas
+pub mod ListLemmas
+pub mod RestoredLemmas
+pub mod UniqueLemmas
