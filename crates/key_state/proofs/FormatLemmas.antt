@@ -58,7 +58,7 @@ path-each P number files entry path all =
     own-here P number entry path.unique path.has
     (all-in (λ (e : List ℕ × FileState). AllByRecursion P (own_unique number e)) entry files (flat-each P (own_unique number) files all) path.among)
 
-each-path : (P : UniquePath → Type 0) (number : ℕ) (files : Named FileState) → ((entry : List ℕ × FileState) → HasPath files number entry → P (own_path number entry))
+pub each-path : (P : UniquePath → Type 0) (number : ℕ) (files : Named FileState) → ((entry : List ℕ × FileState) → HasPath files number entry → P (own_path number entry))
     → AllByRecursion P (flat_map (own_unique number) files)
 each-path P number files each =
     each-flat P (own_unique number) files

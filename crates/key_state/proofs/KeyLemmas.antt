@@ -42,7 +42,7 @@ has-back o a k same has = has-equal o k a (equal-back a k same) has
 -- ---- the entries of a format over slots
 
 -- the records among the slots from this number on that the format selects, and their entries
-abbrev selected : PathFormat → (first : ℕ) → List Slot → List (ℕ × List ℕ)
+abbrev pub selected : PathFormat → (first : ℕ) → List Slot → List (ℕ × List ℕ)
 selected format first slots = filter (λ pair. selects format.rules pair.1) (records_from first slots)
 
 abbrev pub shown : PathFormat → (first : ℕ) → List Slot → List PathEntry
