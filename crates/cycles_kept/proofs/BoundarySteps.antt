@@ -55,7 +55,7 @@ taken_back-record (undo ∷ undos) m other all =
     taken_back-record undos (with_slot undo.member (undo.change.place + 1) (before_of undo.change) m) other all.1
     ∙ record-put_other other.member undo.member other.change.place (undo.change.place + 1) (before_of undo.change) m.members all.0
 
-changes-alike : (o : Option CycleState) → changes_of o ≡ changes_in o
+pub changes-alike : (o : Option CycleState) → changes_of o ≡ changes_in o
 changes-alike None = refl
 changes-alike (Some cycle) = refl
 

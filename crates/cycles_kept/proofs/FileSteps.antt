@@ -60,7 +60,7 @@ cycle-there : (s : State) (cycle : Option CycleState) → CycleGoesBack s.files 
 cycle-there s None back = tt
 cycle-there s (Some cycle) back = undos-there s cycle.sequence cycle.undos back
 
-goes-back : (s : State) (jobs : List JobState) (place : ℕ) (job : JobState) → AllGoBack s.files s.members jobs → slice_get jobs place ≡ Some job → CycleGoesBack s.files s.members job.cycle
+pub goes-back : (s : State) (jobs : List JobState) (place : ℕ) (job : JobState) → AllGoBack s.files s.members jobs → slice_get jobs place ≡ Some job → CycleGoesBack s.files s.members job.cycle
 goes-back s [] place job all here = absurd cc
 goes-back s (first ∷ jobs) zero job all here = let same : first ≡ job = cc in subst (λ (j : JobState). CycleGoesBack s.files s.members j.cycle) same all.0
 goes-back s (first ∷ jobs) (suc place) job all here = goes-back s jobs place job all.1 here
@@ -136,7 +136,7 @@ unused-member s c number member none jobs locks members =
     (λ place old there. subst (λ (ms : NumberedMembers). AllByRecursion (Alike s.members ms) (changes_in old.cycle)) (sym members)
     (other-alike s.members number member (changes_in old.cycle) (not-changed s number none place old there)))
 
-empty-unused : (m : Memory) (args : FileMember) → Holds (empty_plan m args) (λ status. user_of status.number m ≡ None)
+pub empty-unused : (m : Memory) (args : FileMember) → Holds (empty_plan m args) (λ status. user_of status.number m ≡ None)
 unfolding empty_plan
 empty-unused m args =
     then-holds (sequences_left m) _ _ (λ few.
@@ -215,7 +215,7 @@ delete_file-cycles s job timestamp args =
 
 -- ---- APYJRNCHG and RMVJRNCHG
 
-named-unused : (args : JournaledChanges) (first last : RangeEnd) (entries : List Entry) (m : Memory) → Holds (range_named args first last entries m) (λ range. user_of range.status.number m ≡ None)
+pub named-unused : (args : JournaledChanges) (first last : RangeEnd) (entries : List Entry) (m : Memory) → Holds (range_named args first last entries m) (λ range. user_of range.status.number m ≡ None)
 named-unused args first last entries m =
     then-holds (sequences_left m) _ _ (λ few.
     then-holds (member_of_file args.file args.member m) _ _ (λ it.

@@ -94,7 +94,7 @@ length-numbered first (draft ∷ drafts) = ap (λ n. suc n) (length-numbered (fi
 
 -- ---- the beginning of a commit cycle
 
-undos-for : (m : Memory) (job : JobState) → (cycle_for m job).undos ≡ changes_in job.cycle
+pub undos-for : (m : Memory) (job : JobState) → (cycle_for m job).undos ≡ changes_in job.cycle
 undos-for m job = by job.cycle
   where
     by : (o : Option CycleState) → (unwrap_or o (record { sequence = m.last_entry + 1; undos = [] })).undos ≡ changes_in o

@@ -113,7 +113,7 @@ current-may s job name its rrn slot sound asks finds current free =
       own = own-free s job its.opened rrn free;
     }
 
-update-may : (s : State) (job : ℕ) (args : UpdateRecord) → IsSound s → IsAsking s job → Holds (update_plan (memory_of s) job args) (MayPut s job)
+pub update-may : (s : State) (job : ℕ) (args : UpdateRecord) → IsSound s → IsAsking s job → Holds (update_plan (memory_of s) job args) (MayPut s job)
 unfolding update_plan
 update-may s job args sound asks =
     then-holds (sequences_left (memory_of s)) _ _ (λ few.
@@ -127,7 +127,7 @@ update-may s job args sound asks =
     then-holds (few_changes its.opened.commit (slot_there its.opened.member rrn (memory_of s)) (Live image) (memory_of s)) _ _ (λ count.
     record { holds = current-may s job args.open_id its rrn (Live image) sound asks finds current free }))))))))
 
-delete-may : (s : State) (job : ℕ) (args : OpenName) → IsSound s → IsAsking s job → Holds (delete_plan (memory_of s) job args) (MayPut s job)
+pub delete-may : (s : State) (job : ℕ) (args : OpenName) → IsSound s → IsAsking s job → Holds (delete_plan (memory_of s) job args) (MayPut s job)
 unfolding delete_plan
 delete-may s job args sound asks =
     then-holds (sequences_left (memory_of s)) _ _ (λ few.
@@ -207,7 +207,7 @@ place-for member rrn image within =
       | inr differ ↦ inl (omega (arith, within, differ))
     ]
 
-write-may : (s : State) (job : ℕ) (args : WriteRecord) → IsSound s → IsAsking s job → Holds (write_plan (memory_of s) job args) (MayPut s job)
+pub write-may : (s : State) (job : ℕ) (args : WriteRecord) → IsSound s → IsAsking s job → Holds (write_plan (memory_of s) job args) (MayPut s job)
 unfolding write_plan
 write-may s job args sound asks =
     then-holds (sequences_left (memory_of s)) _ _ (λ few.
@@ -268,7 +268,7 @@ module _ (s : State) (job timestamp : ℕ) (new : NewSlot) where
   pub write-journaled : (call : Call) → IsJournaled s (write_change (memory_of s) job timestamp call new)
   write-journaled call = deposits s (write_change (memory_of s) job timestamp call new) gone numbered
 
-  update-puts : Puts s (update_change (memory_of s) job timestamp new) job Update new
+  pub update-puts : Puts s (update_change (memory_of s) job timestamp new) job Update new
   update-puts = record {
     change = tt;
     members = members;
@@ -281,7 +281,7 @@ module _ (s : State) (job timestamp : ℕ) (new : NewSlot) where
     entries = length-numbered _ _;
   }
 
-  delete-puts : Puts s (delete_change (memory_of s) job timestamp new) job Delete new
+  pub delete-puts : Puts s (delete_change (memory_of s) job timestamp new) job Delete new
   delete-puts = record {
     change = tt;
     members = members;
@@ -294,7 +294,7 @@ module _ (s : State) (job timestamp : ℕ) (new : NewSlot) where
     entries = length-numbered _ _;
   }
 
-  write-puts : (call : Call) → IsChange call → Puts s (write_change (memory_of s) job timestamp call new) job call new
+  pub write-puts : (call : Call) → IsChange call → Puts s (write_change (memory_of s) job timestamp call new) job call new
   write-puts call is = record {
     change = is;
     members = members;
@@ -306,7 +306,7 @@ module _ (s : State) (job timestamp : ℕ) (new : NewSlot) where
     entries = length-numbered _ _;
   }
 
-write_call-change : (asked : Option ℕ) → IsChange (write_call asked)
+pub write_call-change : (asked : Option ℕ) → IsChange (write_call asked)
 write_call-change None = tt
 write_call-change (Some rrn) = tt
 

@@ -1,0 +1,6 @@
+pub mod FormatLemmas
+pub mod KeyLemmas
+pub mod ListLemmas
+pub mod RestoredLemmas
+pub mod TestedLemmas
+pub mod UniqueLemmas

@@ -1,0 +1,11 @@
+pub mod EffectLemmas
+pub mod FileSteps
+pub mod FreeLemmas
+pub mod JobLemmas
+pub mod JobSteps
+pub mod QuietLemmas
+pub mod RangeSteps
+pub mod RecordSteps
+pub mod RolledLemmas
+pub mod StateLemmas
+pub mod StepLemmas
