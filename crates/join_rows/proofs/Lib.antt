@@ -1,0 +1,6 @@
+mod OptionLemmas
+mod LevelLemmas
+mod NextLemmas
+mod WantedLemmas
+mod WalkLemmas
+mod SearchLemmas

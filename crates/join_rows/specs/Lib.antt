@@ -1,0 +1,4 @@
+pub mod Levels
+pub mod NextRow
+pub mod Wanted
+pub mod Search
