@@ -2,5 +2,11 @@ mod OptionLemmas
 mod LevelLemmas
 mod NextLemmas
 mod WantedLemmas
+mod SortedLemmas
+mod MatchLemmas
 mod WalkLemmas
 mod SearchLemmas
+mod SoughtLemmas
+mod PlaceLemmas
+mod JoinedLemmas
+mod OrderLemmas
