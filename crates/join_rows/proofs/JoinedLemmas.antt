@@ -106,8 +106,8 @@ all-kept file members good =
     both-all (λ pair. IsThere file pair.1 × Bytes pair.1) (λ pair. (1 ≤ pair.0) × (slot_at (member_of file.member members) pair.0 ≡ Some (Live pair.1))) (IsKept file members)
     (λ pair one two. (record { there = one.0; bytes = one.1; above = two.0 }, ap image_of two.1)) all
     (both-all (λ pair. HasJoined file pair.1) (λ pair. AreBytes pair.1) (λ pair. IsThere file pair.1 × Bytes pair.1)
-      (λ pair one two. (recursion_from_All (λ p. is_some (field_value pair.1 p.to) ≡ true) file.pairs one, recursion_from_All (λ b. b < 256) pair.1 two)) all
-      (recursion_from_All (λ pair. HasJoined file pair.1) all good.joined) (recursion_from_All (λ pair. AreBytes pair.1) all good.bytes))
+    (λ pair one two. (recursion_from_All (λ p. is_some (field_value pair.1 p.to) ≡ true) file.pairs one, recursion_from_All (λ b. b < 256) pair.1 two)) all
+    (recursion_from_All (λ pair. HasJoined file pair.1) all good.joined) (recursion_from_All (λ pair. AreBytes pair.1) all good.bytes))
     (all-records (member_of file.member members))
 
 pub path-kept : (file : Secondary) (members : NumberedMembers) → AreJoinable file members → AllByRecursion (IsKept file members) (records_in_path file members)
@@ -156,7 +156,7 @@ module _ (file : Secondary) (members : NumberedMembers) (row : JoinRow) (good : 
   joined-tests : (part : List ℕ) → wanted_bytes file.pairs image ≡ Some part → (list : EntryList) → IsPathOf list (secondary_path file) members
       → (keeps : Matched → Bool) (test : Entry → Bool)
       → ((values : List Value) (is : wanted file.pairs image ≡ Some values) (sought : AreSought file.pairs values) → part ≡ values_bytes file.pairs values
-        → (pair : ℕ × List ℕ) → IsRecord file pair → test (entry_in_path file pair) ≡ (joins file image pair && keeps (matched file pair)))
+      → (pair : ℕ × List ℕ) → IsRecord file pair → test (entry_in_path file pair) ≡ (joins file image pair && keeps (matched file pair)))
       → filter keeps (matches_of file members row) ≡ map (λ entry. matched_number file members (Some entry.rrn)) (filter test list.entries)
   joined-tests part some list is keeps test agree = by (wanted file.pairs image) refl
     where
@@ -169,10 +169,10 @@ module _ (file : Secondary) (members : NumberedMembers) (row : JoinRow) (good : 
           ∙ filter-map keeps (matched file) (filter (joins file image) own)
           ∙ ap (map (matched file)) (filter-twice (joins file image) (λ pair. keeps (matched file pair)) own)
           ∙ map-same (IsKept file members) (matched file) numbered
-            (λ pair kind. ap (λ w. matched file (pair.0, w)) (sym kind.1)) (filter (kept keeps) own) (all-filter (IsKept file members) (kept keeps) own (path-kept file members good))
+          (λ pair kind. ap (λ w. matched file (pair.0, w)) (sym kind.1)) (filter (kept keeps) own) (all-filter (IsKept file members) (kept keeps) own (path-kept file members good))
           ∙ ap (map numbered)
-            (filter-same (IsKept file members) (kept keeps) (λ pair. test (entry_in_path file pair))
-            (λ pair kind. sym (agree values wants sought same pair kind.0)) own (path-kept file members good))
+          (filter-same (IsKept file members) (kept keeps) (λ pair. test (entry_in_path file pair))
+          (λ pair kind. sym (agree values wants sought same pair kind.0)) own (path-kept file members good))
           ∙ sym (map-map shows (entry_in_path file) (filter (λ pair. test (entry_in_path file pair)) own))
           ∙ ap (map shows) (sym (filter-map test (entry_in_path file) own))
           ∙ ap (λ es. map shows (filter test es)) (sym (entries-of-path file members list is))
@@ -183,7 +183,7 @@ module _ (file : Secondary) (members : NumberedMembers) (row : JoinRow) (good : 
   all-joined part some list is =
       sym (filter-always (matches_of file members row))
       ∙ joined-tests part some list is (λ m. true) (begins_with part)
-        (λ values wants sought same pair r. ap (λ w. begins_with w (entry_in_path file pair)) same ∙ joined-test file image values wants sought pair r ∙ sym (and-true (joins file image pair)))
+      (λ values wants sought same pair r. ap (λ w. begins_with w (entry_in_path file pair)) same ∙ joined-test file image values wants sought pair r ∙ sym (and-true (joins file image pair)))
 
   -- those from a position on
   pub joined-from : (part : List ℕ) → wanted_bytes file.pairs image ≡ Some part → (list : EntryList) → IsPathOf list (secondary_path file) members → (place : Option (List Match)) → IsFrom file place

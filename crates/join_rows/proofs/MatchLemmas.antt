@@ -59,11 +59,11 @@ fields-key (f ∷ fields) image front back at long there =
     let count : length here ≡ width f.ty = some-width f.ty here there.0 in
     let behind : front ++ ((here ++ view_of fields image) ++ back) ≡ front ++ (here ++ (view_of fields image ++ back)) = ap (λ w. front ++ w) (append_assoc here (view_of fields image) back) in
     let first : part at (width f.ty) (front ++ ((here ++ view_of fields image) ++ back)) ≡ here =
-        ap (part at (width f.ty)) behind
-        ∙ ap (take (width f.ty)) (drop_at front (here ++ (view_of fields image ++ back)) at long)
-        ∙ take_at here (view_of fields image ++ back) (width f.ty) count in
+    ap (part at (width f.ty)) behind
+    ∙ ap (take (width f.ty)) (drop_at front (here ++ (view_of fields image ++ back)) at long)
+    ∙ take_at here (view_of fields image ++ back) (width f.ty) count in
     let rest : key_of (parts_from (at + width f.ty) fields) ((front ++ here) ++ (view_of fields image ++ back)) ≡ map (λ g. at_position false false (field_value image g)) fields =
-        fields-key fields image (front ++ here) back (at + width f.ty) (let n : length (front ++ here) ≡ length front + length here = length-append front here in omega arith) there.1 in
+    fields-key fields image (front ++ here) back (at + width f.ty) (let n : length (front ++ here) ≡ length front + length here = length-append front here in omega arith) there.1 in
     ap (λ w. at_position false false (held f.ty w) ∷ key_of (parts_from (at + width f.ty) fields) (front ++ ((here ++ view_of fields image) ++ back))) first
     ∙ ap (λ w. at_position false false (field_value image f) ∷ key_of (parts_from (at + width f.ty) fields) w) (behind ∙ sym (append_assoc front here (view_of fields image ++ back)))
     ∙ ap (λ w. at_position false false (field_value image f) ∷ w) rest
@@ -215,22 +215,22 @@ module _ (file : Secondary) (from : List ℕ) where
       by (Some values) is =
           let seqs : ℕ × List ℕ → List KeyValue = λ pair. sequence_key file.sequence (key_value file.sequence pair.1) in
           let one : compare_keys (joined_key file.pairs a.1) (as_key values) ≡ Equal =
-              begins-equal file.pairs from a.1 (seqs a) values is
-              (ap (λ o. has_wanted o (joined_key file.pairs a.1 ++ seqs a)) (sym is) ∙ sym (joined-wanted file.pairs from a.1 (seqs a) first.there) ∙ first.joined) in
+          begins-equal file.pairs from a.1 (seqs a) values is
+          (ap (λ o. has_wanted o (joined_key file.pairs a.1 ++ seqs a)) (sym is) ∙ sym (joined-wanted file.pairs from a.1 (seqs a) first.there) ∙ first.joined) in
           let two : compare_keys (joined_key file.pairs b.1) (as_key values) ≡ Equal =
-              begins-equal file.pairs from b.1 (seqs b) values is
-              (ap (λ o. has_wanted o (joined_key file.pairs b.1 ++ seqs b)) (sym is) ∙ sym (joined-wanted file.pairs from b.1 (seqs b) second.there) ∙ second.joined) in
+          begins-equal file.pairs from b.1 (seqs b) values is
+          (ap (λ o. has_wanted o (joined_key file.pairs b.1 ++ seqs b)) (sym is) ∙ sym (joined-wanted file.pairs from b.1 (seqs b) second.there) ∙ second.joined) in
           let both : compare_keys (joined_key file.pairs a.1) (joined_key file.pairs b.1) ≡ Equal =
-              compare_keys-total.congr (joined_key file.pairs a.1) (as_key values) (joined_key file.pairs b.1) one
-              ∙ compare_keys-total.antisymm (as_key values) (joined_key file.pairs b.1) ∙ ap ordering_reverse two in
+          compare_keys-total.congr (joined_key file.pairs a.1) (as_key values) (joined_key file.pairs b.1) one
+          ∙ compare_keys-total.antisymm (as_key values) (joined_key file.pairs b.1) ∙ ap ordering_reverse two in
           let long : length (joined_key file.pairs a.1) ≡ length (joined_key file.pairs b.1) =
-              length-map file.pairs (λ pair. at_position false false (field_value a.1 pair.to)) ∙ sym (length-map file.pairs (λ pair. at_position false false (field_value b.1 pair.to))) in
+          length-map file.pairs (λ pair. at_position false false (field_value a.1 pair.to)) ∙ sym (length-map file.pairs (λ pair. at_position false false (field_value b.1 pair.to))) in
           let keys : compare_keys (path_key (format_of file) a.1) (path_key (format_of file) b.1) ≡ compare_key_values (key_value file.sequence a.1) (key_value file.sequence b.1) =
-              ap (λ w. compare_keys w (path_key (format_of file) b.1)) (path-key file a.1 first.there)
-              ∙ ap (λ w. compare_keys (secondary_key file a.1) w) (path-key file b.1 second.there)
-              ∙ slice-append (joined_key file.pairs a.1) (joined_key file.pairs b.1) (seqs a) (seqs b) long
-              ∙ ap (λ o. ordering_then o (slice_cmp compare_key_values (seqs a) (seqs b))) both
-              ∙ sequences-cmp file.sequence (key_value file.sequence a.1) (key_value file.sequence b.1) (absent-equal file.sequence a.1 b.1) in
+          ap (λ w. compare_keys w (path_key (format_of file) b.1)) (path-key file a.1 first.there)
+          ∙ ap (λ w. compare_keys (secondary_key file a.1) w) (path-key file b.1 second.there)
+          ∙ slice-append (joined_key file.pairs a.1) (joined_key file.pairs b.1) (seqs a) (seqs b) long
+          ∙ ap (λ o. ordering_then o (slice_cmp compare_key_values (seqs a) (seqs b))) both
+          ∙ sequences-cmp file.sequence (key_value file.sequence a.1) (key_value file.sequence b.1) (absent-equal file.sequence a.1 b.1) in
           ap (λ o. ordering_then o (nat_cmp a.0 b.0)) keys
 
 -- ---- the matches
@@ -263,5 +263,5 @@ matches-records file members row there =
     in_order-map compare_matched (matched file) (filter (joins file from) all)
     ∙ ap (map (matched file))
     (sym (in_order-same compare (λ a b. compare_matched (matched file a) (matched file b)) (IsAmong file from) (same-order file from) (filter (joins file from) all)
-      (all-kept (λ pair. IsThere file pair.1) (IsAmong file from) (joins file from) (λ pair is joined. record { there = is; joined = joined }) all there))
+    (all-kept (λ pair. IsThere file pair.1) (IsAmong file from) (joins file from) (λ pair is joined. record { there = is; joined = joined }) all there))
     ∙ sym (filter-in_order compare (on_total (entry_of 0 (format_of file)) (compare_entries-total Rising)) (joins file from) all))

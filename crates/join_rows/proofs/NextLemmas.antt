@@ -112,11 +112,11 @@ module _ (spec : JoinSpec) (members : NumberedMembers) (position : Position RowP
       (λ entry. next_below spec.keeps_missing members spec.secondaries (row_of_entry spec members entry) (below_entry spec.primary.ties position entry))
       (entry_isnt_before spec.primary.ties position)
       (λ entry is. ap (find (λ row. after spec members position (root row) (keys row))) (tree entry)
-        ∙ next-leaf row_with match_of compare_matches root keys (λ row m. refl) (λ row m. refl) (after spec members position) levels
-        (row_of_entry spec members entry) (below_entry spec.primary.ties position entry) (after-kept spec members position entry is))
+      ∙ next-leaf row_with match_of compare_matches root keys (λ row m. refl) (λ row m. refl) (after spec members position) levels
+      (row_of_entry spec members entry) (below_entry spec.primary.ties position entry) (after-kept spec members position entry is))
       (λ entry is. ap (find (λ row. after spec members position (root row) (keys row))) (tree entry)
-        ∙ none-below row_with match_of compare_matches root keys (λ row m. refl) (λ row m. refl) (after spec members position) levels
-        (row_of_entry spec members entry) (after-dropped spec members position entry is))
+      ∙ none-below row_with match_of compare_matches root keys (λ row m. refl) (λ row m. refl) (after spec members position) levels
+      (row_of_entry spec members entry) (after-dropped spec members position entry is))
       (path spec.primary members)
 
   pub prior-row : prior_row spec members position ≡ prior_by_levels spec members position
@@ -126,11 +126,11 @@ module _ (spec : JoinSpec) (members : NumberedMembers) (position : Position RowP
       (λ entry. prior_below spec.keeps_missing members spec.secondaries (row_of_entry spec members entry) (below_entry spec.primary.ties position entry))
       (entry_isnt_after spec.primary.ties position)
       (λ entry is. ap (λ rows. find (λ row. before spec members position (root row) (keys row)) (reverse rows)) (tree entry)
-        ∙ prior-leaf row_with match_of compare_matches root keys (λ row m. refl) (λ row m. refl) (before spec members position) levels
-        (row_of_entry spec members entry) (below_entry spec.primary.ties position entry) (before-kept spec members position entry is))
+      ∙ prior-leaf row_with match_of compare_matches root keys (λ row m. refl) (λ row m. refl) (before spec members position) levels
+      (row_of_entry spec members entry) (below_entry spec.primary.ties position entry) (before-kept spec members position entry is))
       (λ entry is. ap (λ rows. find (λ row. before spec members position (root row) (keys row)) (reverse rows)) (tree entry)
-        ∙ none-below-back row_with match_of compare_matches root keys (λ row m. refl) (λ row m. refl) (before spec members position) levels
-        (row_of_entry spec members entry) (before-dropped spec members position entry is))
+      ∙ none-below-back row_with match_of compare_matches root keys (λ row m. refl) (λ row m. refl) (before spec members position) levels
+      (row_of_entry spec members entry) (before-dropped spec members position entry is))
       (reverse (path spec.primary members))
       ∙ ap (first_of (λ entry. prior_below spec.keeps_missing members spec.secondaries (row_of_entry spec members entry) (below_entry spec.primary.ties position entry)))
       (filter-reverse (entry_isnt_after spec.primary.ties position) (path spec.primary members))

@@ -83,12 +83,12 @@ module _ {R S M K : Type 0} (extend : R → M → R) (key : M → K) (compare : 
   goes-on (level ∷ levels) row =
       all-flat (GoesOn row) (λ m. leaves extend levels (extend row m))
       (λ m. weaker (GoesOn (extend row m)) (GoesOn row)
-        (λ leaf is. record {
-          same_root = is.same_root ∙ stays row m;
-          more = key m ∷ is.more;
-          goes = is.goes ∙ ap (λ w. w ++ is.more) (extends row m) ∙ append_assoc (keys row) (key m ∷ []) is.more;
-        })
-        (leaves extend levels (extend row m)) (goes-on levels (extend row m)))
+      (λ leaf is. record {
+        same_root = is.same_root ∙ stays row m;
+        more = key m ∷ is.more;
+        goes = is.goes ∙ ap (λ w. w ++ is.more) (extends row m) ∙ append_assoc (keys row) (key m ∷ []) is.more;
+      })
+      (leaves extend levels (extend row m)) (goes-on levels (extend row m)))
       (level row)
 
   behind-equal : (front a b : List K) → slice_cmp compare (front ++ a) (front ++ b) ≡ slice_cmp compare a b
@@ -107,10 +107,10 @@ module _ {R S M K : Type 0} (extend : R → M → R) (key : M → K) (compare : 
   leaves-rise (level ∷ levels) sorted row =
       pair-flat (λ m. leaves extend levels (extend row m)) (λ a b. compare (key a) (key b) ≡ Less) (λ m leaf. GoesOn (extend row m) leaf) Rises
       (λ x y a b less one two.
-        ap (λ w. slice_cmp compare w (keys b)) (one.goes ∙ ap (λ w. w ++ one.more) (extends row x) ∙ append_assoc (keys row) (key x ∷ []) one.more)
-        ∙ ap (slice_cmp compare (keys row ++ key x ∷ one.more)) (two.goes ∙ ap (λ w. w ++ two.more) (extends row y) ∙ append_assoc (keys row) (key y ∷ []) two.more)
-        ∙ behind-equal (keys row) (key x ∷ one.more) (key y ∷ two.more)
-        ∙ ap (λ o. ordering_then o (slice_cmp compare one.more two.more)) less)
+      ap (λ w. slice_cmp compare w (keys b)) (one.goes ∙ ap (λ w. w ++ one.more) (extends row x) ∙ append_assoc (keys row) (key x ∷ []) one.more)
+      ∙ ap (slice_cmp compare (keys row ++ key x ∷ one.more)) (two.goes ∙ ap (λ w. w ++ two.more) (extends row y) ∙ append_assoc (keys row) (key y ∷ []) two.more)
+      ∙ behind-equal (keys row) (key x ∷ one.more) (key y ∷ two.more)
+      ∙ ap (λ o. ordering_then o (slice_cmp compare one.more two.more)) less)
       (λ m. goes-on levels (extend row m)) (λ m. leaves-rise levels sorted.1 (extend row m)) (level row) (sorted.0 row)
 
 -- ---- the records of a secondary file
@@ -162,9 +162,9 @@ matches-rise file members row =
     sorted-pairs compare_matched (matches_of file members row)
     (in_order-strict compare_matched (on_total match_of compare_matches-total) (map (matched file) (filter joins all))
     (pair-map Apart (matched file) (filter joins all)
-      (pair-weaker (λ p. Unit {0}) (λ p q. p.0 < q.0) (λ p q. Apart (matched file p) (matched file q))
-        (λ p q one two less. differ (key_value file.sequence p.1) (key_value file.sequence q.1) p.0 q.0 less)
-        (filter joins all) (always (filter joins all)) (pair-filter (λ p q. p.0 < q.0) joins all (records-rise 1 (member_of file.member members).slots)))))
+    (pair-weaker (λ p. Unit {0}) (λ p q. p.0 < q.0) (λ p q. Apart (matched file p) (matched file q))
+    (λ p q one two less. differ (key_value file.sequence p.1) (key_value file.sequence q.1) p.0 q.0 less)
+    (filter joins all) (always (filter joins all)) (pair-filter (λ p q. p.0 < q.0) joins all (records-rise 1 (member_of file.member members).slots)))))
 
 or_missing-rises : (keeps_missing : Bool) (file : Secondary) (found : List Matched) → Pairwise (λ a b. compare_matches (match_of a) (match_of b) ≡ Less) found
     → Pairwise (λ a b. compare_matches (match_of a) (match_of b) ≡ Less) (or_missing keeps_missing file found)
@@ -212,13 +212,13 @@ module _ (spec : JoinSpec) (members : NumberedMembers) where
   tree-rises entry =
       pair-weaker (IsBelow entry) (λ a b. slice_cmp compare_matches a.place.matches b.place.matches ≡ Less) Precedes
       (λ a b one two less.
-        ap (λ e. ordering_then (compare_entries ties e b.place.primary) (slice_cmp compare_matches a.place.matches b.place.matches)) one
-        ∙ ap (λ e. ordering_then (compare_entries ties entry e) (slice_cmp compare_matches a.place.matches b.place.matches)) two
-        ∙ ap (λ o. ordering_then o (slice_cmp compare_matches a.place.matches b.place.matches)) (tied_itself (compare_entries-total ties) entry)
-        ∙ less)
+      ap (λ e. ordering_then (compare_entries ties e b.place.primary) (slice_cmp compare_matches a.place.matches b.place.matches)) one
+      ∙ ap (λ e. ordering_then (compare_entries ties entry e) (slice_cmp compare_matches a.place.matches b.place.matches)) two
+      ∙ ap (λ o. ordering_then o (slice_cmp compare_matches a.place.matches b.place.matches)) (tied_itself (compare_entries-total ties) entry)
+      ∙ less)
       (tree entry) (tree-below entry)
       (leaves-rise row_with match_of compare_matches compare_matches-total roots keys_of (λ row m. refl) (λ row m. refl) (levels_of spec.keeps_missing members spec.secondaries)
-        (levels-sorted spec.keeps_missing members spec.secondaries) (row_of_entry spec members entry))
+      (levels-sorted spec.keeps_missing members spec.secondaries) (row_of_entry spec members entry))
 
   same-tree : (entry : PathEntry) → tree entry ≡ rows_below entry
   same-tree entry = sym (rows-leaves spec.keeps_missing spec.secondaries members (row_of_entry spec members entry))
@@ -228,10 +228,10 @@ module _ (spec : JoinSpec) (members : NumberedMembers) where
       pairs-sorted (compare_places ties) (map (λ row. row.place) (rows_of spec members))
       (pair-map (λ a b. compare_places ties a b ≡ Less) (λ (row : JoinRow). row.place) (rows_of spec members)
       (pair-flat rows_below (λ a b. compare_entries ties a b ≡ Less) IsBelow Precedes
-        (λ x y a b less one two.
-          ap (λ e. ordering_then (compare_entries ties e b.place.primary) (slice_cmp compare_matches a.place.matches b.place.matches)) one
-          ∙ ap (λ e. ordering_then (compare_entries ties x e) (slice_cmp compare_matches a.place.matches b.place.matches)) two
-          ∙ ap (λ o. ordering_then o (slice_cmp compare_matches a.place.matches b.place.matches)) less)
-        (λ entry. subst (AllByRecursion (IsBelow entry)) (same-tree entry) (tree-below entry))
-        (λ entry. subst (Pairwise Precedes) (same-tree entry) (tree-rises entry))
-        (path spec.primary members) (sorted-pairs (compare_entries ties) (path spec.primary members) (path-strict spec.primary members))))
+      (λ x y a b less one two.
+      ap (λ e. ordering_then (compare_entries ties e b.place.primary) (slice_cmp compare_matches a.place.matches b.place.matches)) one
+      ∙ ap (λ e. ordering_then (compare_entries ties x e) (slice_cmp compare_matches a.place.matches b.place.matches)) two
+      ∙ ap (λ o. ordering_then o (slice_cmp compare_matches a.place.matches b.place.matches)) less)
+      (λ entry. subst (AllByRecursion (IsBelow entry)) (same-tree entry) (tree-below entry))
+      (λ entry. subst (Pairwise Precedes) (same-tree entry) (tree-rises entry))
+      (path spec.primary members) (sorted-pairs (compare_entries ties) (path spec.primary members) (path-strict spec.primary members))))

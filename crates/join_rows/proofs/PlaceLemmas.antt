@@ -166,7 +166,7 @@ module _ (file : Secondary) (from : List ℕ) (values : List Value) (is : wanted
   from-first pair r joined =
       ap (λ o. is_gt (ordering_then o (nat_cmp pair.0 0)))
       (keys-cmp (format_of file).key (joined_parts file.pairs) (own_key pair) (as_key values)
-        (matches-joined 0 file.pairs (sequence_part (total_width (joined_fields file)) file.sequence)) (own-fits pair r) sought.fit
+      (matches-joined 0 file.pairs (sequence_part (total_width (joined_fields file)) file.sequence)) (own-fits pair r) sought.fit
       ∙ ap (compare_keys (own_key pair)) (sym (append-nil (as_key values)))
       ∙ key-behind pair r joined [])
       ∙ by file.sequence
@@ -181,7 +181,7 @@ module _ (file : Secondary) (from : List ℕ) (values : List Value) (is : wanted
   key-order pair r joined v seq =
       ap (key_cmp (key_bytes (format_of file).key (own_key pair))) whole
       ∙ keys-cmp (format_of file).key both (own_key pair) (as_key values ++ seqs seq.image)
-        (matches-all 0 (total_width (joined_fields file)) file.pairs file.sequence) (own-fits pair r) fits
+      (matches-all 0 (total_width (joined_fields file)) file.pairs file.sequence) (own-fits pair r) fits
       ∙ key-behind pair r joined (seqs seq.image)
       ∙ sequences-cmp file.sequence pair.1 seq.image
       ∙ ap (compare_key_values (key_value file.sequence pair.1)) (sym seq.value)

@@ -60,7 +60,7 @@ module _ (falling : Bool) (part : List ℕ) where
       by Equal is =
           let turned : key_cmp part (cut a) ≡ Less = nat_list_cmp_total.antisymm part (cut a) ∙ ap ordering_reverse greater in
           let above : key_cmp (cut a) (cut b) ≡ Greater =
-              nat_list_cmp_total.antisymm (cut a) (cut b) ∙ ap ordering_reverse (nat_list_cmp_total.congr (cut b) part (cut a) is ∙ turned) in
+          nat_list_cmp_total.antisymm (cut a) (cut b) ∙ ap ordering_reverse (nat_list_cmp_total.congr (cut b) part (cut a) is ∙ turned) in
           true-false (sym (ap is_gt above) ∙ cut-upto a b less)
 
   -- before a lesser key none begins with the bytes
@@ -99,9 +99,9 @@ module _ (falling : Bool) (part key : List ℕ) (rrn : ℕ) (begins : take (leng
   past-upto : (a : Entry) → is_gt (entry_cmp falling a at) ≡ true → is_lt (compare_part part a.key) ≡ false
   past-upto a h =
       let low : is_gt (key_cmp key a.key) ≡ false =
-          ap is_gt (nat_list_cmp_total.antisymm key a.key) ∙ gt-not-below (key_cmp a.key key) (ordering_then (nat_cmp a.format 0) (tie_cmp falling a.rrn rrn)) h in
+      ap is_gt (nat_list_cmp_total.antisymm key a.key) ∙ gt-not-below (key_cmp a.key key) (ordering_then (nat_cmp a.format 0) (tie_cmp falling a.rrn rrn)) h in
       let same : is_gt (key_cmp part (take (length part) a.key)) ≡ false =
-          ap (λ w. is_gt (key_cmp w (take (length part) a.key))) (sym begins) ∙ cut_rises (length part) key a.key low in
+      ap (λ w. is_gt (key_cmp w (take (length part) a.key))) (sym begins) ∙ cut_rises (length part) key a.key low in
       ap is_lt (nat_list_cmp_total.antisymm (take (length part) a.key) part) ∙ turned (key_cmp part (take (length part) a.key)) same
     where
       turned : (o : Ordering) → is_gt o ≡ false → is_lt (ordering_reverse o) ≡ false
@@ -211,8 +211,8 @@ module _ (falling : Bool) (part : List ℕ) where
     matches-from entries x sorted first h =
         walked IsFirst (λ a b. entry_cmp falling a b ≡ Less) after rest_after
         (λ a b here less is. ap (λ (t : Bool). begins_with part b && t)
-          (still-past a b less (both-true (begins_with part a) (is_gt (entry_cmp falling a (entry_with 0 rrn key))) is)
-          ∙ sym (ap (λ e. is_gt (entry_cmp falling b e)) (at-place a here) ∙ is-above a b less)))
+        (still-past a b less (both-true (begins_with part a) (is_gt (entry_cmp falling a (entry_with 0 rrn key))) is)
+        ∙ sym (ap (λ e. is_gt (entry_cmp falling b e)) (at-place a here) ∙ is-above a b less)))
         (λ a here. ap (λ (t : Bool). begins_with part a && t) (ap (λ e. is_gt (entry_cmp falling a e)) (at-place a here) ∙ ap is_gt (tied_itself (entry_total falling) a)) ∙ and-false (begins_with part a))
         (λ a b there less. ap (λ (t : Bool). begins_with part a && t) (ap (λ e. is_gt (entry_cmp falling a e)) (at-place b there) ∙ ap is_gt less) ∙ and-false (begins_with part a))
         entries x first (sorted-pairs falling entries sorted) h

@@ -85,10 +85,13 @@ module _ {A : Type 0} (compare : A → A → Ordering) (o : IsTotalOrder compare
     where
       by : (b : Bool) → is_lt (compare x z) ≡ b → Rises (put_in_order compare x xs) → Rises (put_in_order compare x (z ∷ xs))
       by true is rest =
-          subst Rises (sym (put-before compare x z xs is))
-          ((isnt-below x z (less-of x z is),
-            weaker (λ y. is_lt (compare y z) ≡ false) (λ y. is_lt (compare y x) ≡ false) (λ y h. isnt-below x y (less-above x z y (less-of x z is) h)) xs rises.0),
-          rises)
+          subst Rises (sym (put-before compare x z xs is)) (
+            (
+              isnt-below x z (less-of x z is),
+              weaker (λ y. is_lt (compare y z) ≡ false) (λ y. is_lt (compare y x) ≡ false) (λ y h. isnt-below x y (less-above x z y (less-of x z is) h)) xs rises.0,
+            ),
+            rises,
+          )
       by false is rest =
           subst Rises (sym (put-behind compare x z xs is))
           (all-put (λ y. is_lt (compare y z) ≡ false) x xs is rises.0, rest)
@@ -125,7 +128,7 @@ module _ {A : Type 0} (compare : A → A → Ordering) (o : IsTotalOrder compare
             → filter keeps (put_in_order compare x (z ∷ xs)) ≡ put_in_order compare x (filter keeps (z ∷ xs))
         by true is c also rest =
             let less : AllByRecursion (λ y. compare x y ≡ Less) (z ∷ xs) =
-                (less-of x z is, weaker (λ y. is_lt (compare y z) ≡ false) (λ y. compare x y ≡ Less) (λ y h. less-above x z y (less-of x z is) h) xs rises.0) in
+            (less-of x z is, weaker (λ y. is_lt (compare y z) ≡ false) (λ y. compare x y ≡ Less) (λ y h. less-above x z y (less-of x z is) h) xs rises.0) in
             ap (filter keeps) (put-before compare x z xs is)
             ∙ kept x (z ∷ xs) stays
             ∙ sym (put-first x (filter keeps (z ∷ xs)) (all-filter (λ y. compare x y ≡ Less) keeps (z ∷ xs) less))

@@ -34,9 +34,10 @@ records-at : (n : ℕ) (member : MemberState) (slots : List Slot) → ((i : ℕ)
 records-at n member [] given = tt
 records-at n member (Deleted ∷ slots) given =
     records-at (n + 1) member slots (λ i. given (suc i) ∙ ap (slice_get member.slots) (let e : n + suc i ≡ n + 1 + i = omega arith in e))
-records-at n member (Live image ∷ slots) given =
-    ((omega arith, here),
-    records-at (n + 1) member slots (λ i. given (suc i) ∙ ap (slice_get member.slots) (let e : n + suc i ≡ n + 1 + i = omega arith in e)))
+records-at n member (Live image ∷ slots) given = (
+  (omega arith, here),
+  records-at (n + 1) member slots (λ i. given (suc i) ∙ ap (slice_get member.slots) (let e : n + suc i ≡ n + 1 + i = omega arith in e)),
+)
   where
     here : slot_at member (n + 1) ≡ Some (Live image)
     here =

@@ -109,8 +109,8 @@ module _ {A : Type 0} (P : A → Type 0) (Before : A → A → Type 0) (test : A
           cond-false (test a) (a ∷ filter test xs) (filter test xs) is
           ∙ later there
           ∙ ap (λ w. x ∷ w)
-            (sym (cond-false (rest_of x a) (a ∷ filter (rest_of x) xs) (filter (rest_of x) xs)
-              (passed a x (find-all P test xs x all.1 there) (find-all (Before a) test xs x pairs.0 there))))
+          (sym (cond-false (rest_of x a) (a ∷ filter (rest_of x) xs) (filter (rest_of x) xs)
+          (passed a x (find-all P test xs x all.1 there) (find-all (Before a) test xs x pairs.0 there))))
 
 -- ---- the last that passes
 

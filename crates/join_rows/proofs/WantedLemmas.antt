@@ -76,8 +76,7 @@ cut-short w a le =
 module _ (w : ℕ) (a b : List ℕ) (long : length b ≡ w) where
   short-sides : length a ≤ w → (filled (length b) a ≡ filled w a) × (filled (length a) b ≡ b) × (filled w (cut_to w a) ≡ filled w a) × (filled w (filled w (cut_to w a)) ≡ filled w a)
   short-sides le =
-      let cut : filled w (cut_to w a) ≡ filled w a = ap (filled w) (cut-short w a le) in
-      (
+      let cut : filled w (cut_to w a) ≡ filled w a = ap (filled w) (cut-short w a le) in (
         ap (λ (n : ℕ). filled n a) long,
         filled-full (length a) b (omega arith),
         cut,
@@ -94,13 +93,13 @@ module _ (w : ℕ) (a b : List ℕ) (long : length b ≡ w) where
   wide-cut lt all =
       let count : length (take w a) ≡ w = length-take-le w a (omega arith) in
       let first : filled w (cut_to w a) ≡ take w a =
-          ap (filled w) (cond-true (list_all is_blank (drop w a)) (take w a) a all) ∙ filled-full w (take w a) (omega arith) in
+      ap (filled w) (cond-true (list_all is_blank (drop w a)) (take w a) a all) ∙ filled-full w (take w a) (omega arith) in
       (first, ap (filled w) first ∙ filled-full w (take w a) (omega arith))
 
   wide-kept : w < length a → list_all is_blank (drop w a) ≡ false → filled w (filled w (cut_to w a)) ≡ a
   wide-kept lt some =
       let first : filled w (cut_to w a) ≡ a =
-          ap (filled w) (cond-false (list_all is_blank (drop w a)) (take w a) a some) ∙ filled-full w a (omega arith) in
+      ap (filled w) (cond-false (list_all is_blank (drop w a)) (take w a) a some) ∙ filled-full w a (omega arith) in
       ap (filled w) first ∙ filled-full w a (omega arith)
 
   tail-blank : filled (length b) a ≡ filled (length a) b → w < length a → drop w a ≡ replicate (length a - w) 0x40
@@ -155,7 +154,7 @@ number-held : (t : FieldType) (n : Dec) → fault_of t (Number n) ≡ None → c
 number-held t n fits =
     let k : ℕ = unsigned_abs n.units * 10 ^ t.decimals / 10 ^ n.scale in
     let same : k * 10 ^ n.scale ≡ unsigned_abs n.units * 10 ^ t.decimals =
-        ap (λ (m : ℕ). m * 10 ^ n.scale) (sym (unsigned_abs-signed (is_negative n.units) k)) ∙ held-number t n fits in
+    ap (λ (m : ℕ). m * 10 ^ n.scale) (sym (unsigned_abs-signed (is_negative n.units) k)) ∙ held-number t n fits in
     (compare_numbers-value (record { units = units_at t.decimals n; scale = t.decimals }) n).1 (in-proportion n.units k (10 ^ n.scale) (10 ^ t.decimals) same)
 
 module _ (t : FieldType) (n m : Dec) (scale : m.scale ≡ t.decimals) (small : unsigned_abs m.units < 10 ^ t.length) (numeric : is_numeric t.kind ≡ true) where
@@ -164,7 +163,7 @@ module _ (t : FieldType) (n m : Dec) (scale : m.scale ≡ t.decimals) (small : u
   number-fits same =
       let one : n.units *ℤ pos (10 ^ m.scale) ≡ m.units *ℤ pos (10 ^ n.scale) = (compare_numbers-value n m).0 same in
       let apart : unsigned_abs n.units * 10 ^ m.scale ≡ unsigned_abs m.units * 10 ^ n.scale =
-          sym (unsigned_abs-mul n.units (pos (10 ^ m.scale))) ∙ ap unsigned_abs one ∙ unsigned_abs-mul m.units (pos (10 ^ n.scale)) in
+      sym (unsigned_abs-mul n.units (pos (10 ^ m.scale))) ∙ ap unsigned_abs one ∙ unsigned_abs-mul m.units (pos (10 ^ n.scale)) in
       let exact : unsigned_abs m.units * 10 ^ n.scale ≡ unsigned_abs n.units * 10 ^ t.decimals = sym apart ∙ ap (λ (k : ℕ). unsigned_abs n.units * 10 ^ k) scale in
       cond-true (is_numeric t.kind) (number_fault t.length t.decimals n) (Some WrongKind) numeric
       ∙ number_fault-Ok t.length t.decimals (unsigned_abs m.units) n exact

@@ -16,7 +16,11 @@ pub fn next_match<'a>(path: &'a Path, part: &[u8], key: &[u8], rrn: u32) -> Opti
 {
     let pages = path.pages();
     pages.in_order();
-    let Some(entry) = pages.next_entry(&Position::On { key, format: 0, rrn }) else {
+    let Some(entry) = pages.next_entry(&Position::On {
+        key,
+        format: 0,
+        rrn,
+    }) else {
         return None;
     };
     if begins_with(entry.key.as_bytes(), part) {
@@ -33,7 +37,11 @@ pub fn prior_match<'a>(path: &'a Path, part: &[u8], key: &[u8], rrn: u32) -> Opt
 {
     let pages = path.pages();
     pages.in_order();
-    let Some(entry) = pages.prior_entry(&Position::On { key, format: 0, rrn }) else {
+    let Some(entry) = pages.prior_entry(&Position::On {
+        key,
+        format: 0,
+        rrn,
+    }) else {
         return None;
     };
     if begins_with(entry.key.as_bytes(), part) {
