@@ -1,0 +1,12 @@
+mod OptionLemmas
+mod LevelLemmas
+mod NextLemmas
+mod WantedLemmas
+mod SortedLemmas
+mod MatchLemmas
+mod WalkLemmas
+mod SearchLemmas
+mod SoughtLemmas
+mod PlaceLemmas
+mod JoinedLemmas
+mod OrderLemmas
