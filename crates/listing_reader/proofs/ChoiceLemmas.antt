@@ -1,5 +1,5 @@
 -- The words of parameters: each lies within the parentheses, and is read back.
-use Rattle.std.proofs.Common.{◌≡◌, ℕ, if◌then◌else◌, ◌<◌, ◌^◌, Bool, true, false, cond, Option, Some, None, option_map, List, [], ◌∷◌, ◌++◌, codes, refl, ap, ◌∙◌, sym, arith}
+use Rattle.std.proofs.Common.{◌≡◌, ℕ, if◌then◌else◌, Bool, true, false, Option, Some, None, option_map, List, [], ◌∷◌, codes, refl, ap, ◌∙◌, arith}
 use Rattle.std.specs.Option.{option_map_or}
 use Rattle.std.specs.Fmt.{decimal}
 use Rattle.std.proofs.lemmas.Bool.{cond-true}
@@ -24,20 +24,19 @@ use Rattle.library_model.specs.declared.requests.Limit.TheVariants as limit
 use Rattle.library_model.specs.declared.requests.ChainTo.{ChainTo}
 use Rattle.library_model.specs.declared.requests.ChainTo.TheVariants as chain_to
 use Rattle.listing.specs.RequestText.{level_text, images_text, end_text, option_text, yes_or_no, path_text, lock_text, reason_text, format_text, place_text, limit_parameter, chain_parameter}
-use Rattle.listing.specs.Texts.{parameter, values_text, given_values_text}
+use Rattle.listing.specs.Texts.{values_text, given_values_text}
 use Rattle.statement_reader.specs.Commands.{is_word}
 use Rattle.statement_reader.specs.Lists.{let_some}
 use Rattle.listing_reader.specs.Choices.{level_of, images_of, option_of, yes_of, path_of, lock_of, reason_of}
 use Rattle.listing_reader.specs.Listed.{IsEnd, IsFormat, IsPlace, AreValues, AreGiven, IsLimit, IsChainTo}
 use Rattle.listing_reader.specs.Parameters.{level_in, images_in, option_in, yes_in, path_in, lock_in, reason_in, end_of, end_in, format_of, format_in, place_of, place_in, values_in, given_values_in, limit_word, key_limit, limit_in, chain_key, chain_to_in}
 use Rattle.listing_reader.specs.Values.{units, number_in, value_of, values_of, given_values_of, number_of, unsigned, text_of}
-use Rattle.listing_reader.specs.Words.{is_break, inside, given, name_of}
+use Rattle.listing_reader.specs.Words.{is_break, inside, given}
 use Rattle.statement_reader.specs.Words.{words}
 use Rattle.listing_reader.proofs.ScanLemmas.{LiesInside, Follows}
 use Rattle.listing_reader.proofs.TextLemmas.{name-inside, decimal-inside}
-use Rattle.listing_reader.proofs.ValueLemmas.{number-decimal, long-decimal, values-inner, givens-inner, values-read, givens-read}
+use Rattle.listing_reader.proofs.ValueLemmas.{number-decimal, long-decimal, values-inner, values-read, givens-read}
 use Rattle.listing_reader.proofs.ParameterLemmas.{word_of, parameter-follows, given-own, given-next, number-given}
-use Rattle.listing_reader.specs.declared.numbers.TheConstants.{MOST_NUMBER, MOST_LONG}
 
 pub level-inner : (x : Level) → LiesInside (level_text x)
 level-inner level.Chg = refl
@@ -148,7 +147,8 @@ unfolding end_of units
 end-read range_end.First is = refl
 end-read range_end.Last is = refl
 end-read (range_end.Sequence number) is =
-    ap (λ o. option_map_or (λ n. Some (range_end.Sequence n)) o (if is_word (codes "*FIRST") (decimal number) then Some range_end.First else (if is_word (codes "*LAST") (decimal number) then Some range_end.Last else None))) (long-decimal number is)
+    ap (λ o. option_map_or
+    (λ n. Some (range_end.Sequence n)) o (if is_word (codes "*FIRST") (decimal number) then Some range_end.First else (if is_word (codes "*LAST") (decimal number) then Some range_end.Last else None))) (long-decimal number is)
 
 pub end-given : (keyword : List ℕ) (x : RangeEnd) (words : List (List ℕ)) → given keyword words ≡ Some (end_text x) → IsEnd x → end_in keyword words ≡ Some x
 unfolding end_in
@@ -219,18 +219,23 @@ keyed name text more = given-next (codes "KEY") (word_of (codes "OPNID") name) (
 pub limit-given : (name : List ℕ) (x : Limit) (more : List (List ℕ)) → IsLimit x → limit_in (word_of (codes "OPNID") name ∷ limit_word_of x ∷ codes "=>" ∷ more) ≡ Some x
 unfolding limit_in inside key_limit
 limit-given name (limit.Key values) more is =
-    ap (λ o. option_map_or key_limit o (option_map limit.RecordNumber (number_in (codes "RRN") (word_of (codes "OPNID") name ∷ word_of (codes "KEY") (values_text values) ∷ codes "=>" ∷ more)))) (keyed name (values_text values) (codes "=>" ∷ more))
+    ap (λ o. option_map_or key_limit o (option_map limit.RecordNumber (number_in (codes "RRN") (word_of (codes "OPNID") name ∷ word_of (codes "KEY") (values_text values) ∷ codes "=>"
+    ∷ more)))) (keyed name (values_text values) (codes "=>" ∷ more))
     ∙ ap (λ o. option_map_or (λ vs. Some (limit.Key vs)) o (limit_word (values_text values))) (values-read values is)
 limit-given name limit.LowValue more is =
-    ap (λ o. option_map_or key_limit o (option_map limit.RecordNumber (number_in (codes "RRN") (word_of (codes "OPNID") name ∷ word_of (codes "KEY") (codes "*LOVAL") ∷ codes "=>" ∷ more)))) (keyed name (codes "*LOVAL") (codes "=>" ∷ more))
+    ap (λ o. option_map_or key_limit o (option_map limit.RecordNumber (number_in (codes "RRN") (word_of (codes "OPNID") name ∷ word_of (codes "KEY") (codes "*LOVAL") ∷ codes "=>"
+    ∷ more)))) (keyed name (codes "*LOVAL") (codes "=>" ∷ more))
     ∙ low-read
 limit-given name limit.HighValue more is =
-    ap (λ o. option_map_or key_limit o (option_map limit.RecordNumber (number_in (codes "RRN") (word_of (codes "OPNID") name ∷ word_of (codes "KEY") (codes "*HIVAL") ∷ codes "=>" ∷ more)))) (keyed name (codes "*HIVAL") (codes "=>" ∷ more))
+    ap (λ o. option_map_or key_limit o (option_map limit.RecordNumber (number_in (codes "RRN") (word_of (codes "OPNID") name ∷ word_of (codes "KEY") (codes "*HIVAL") ∷ codes "=>"
+    ∷ more)))) (keyed name (codes "*HIVAL") (codes "=>" ∷ more))
     ∙ high-read
 limit-given name (limit.RecordNumber rrn) more is =
     let row = word_of (codes "OPNID") name ∷ word_of (codes "RRN") (decimal rrn) ∷ codes "=>" ∷ more in
-    let none : given (codes "KEY") row ≡ None = given-next (codes "KEY") (word_of (codes "OPNID") name) (word_of (codes "RRN") (decimal rrn) ∷ codes "=>" ∷ more) refl refl ∙ given-next (codes "KEY") (word_of (codes "RRN") (decimal rrn)) (codes "=>" ∷ more) refl refl in
-    let here : given (codes "RRN") row ≡ Some (decimal rrn) = given-next (codes "RRN") (word_of (codes "OPNID") name) (word_of (codes "RRN") (decimal rrn) ∷ codes "=>" ∷ more) refl refl ∙ given-own (codes "RRN") (decimal rrn) (codes "=>" ∷ more) refl in
+    let none : given (codes "KEY") row ≡ None = given-next (codes "KEY") (word_of (codes "OPNID") name) (word_of (codes "RRN") (decimal rrn) ∷ codes "=>" ∷ more) refl refl
+    ∙ given-next (codes "KEY") (word_of (codes "RRN") (decimal rrn)) (codes "=>" ∷ more) refl refl in
+    let here : given (codes "RRN") row ≡ Some (decimal rrn) = given-next (codes "RRN") (word_of (codes "OPNID") name) (word_of (codes "RRN") (decimal rrn) ∷ codes "=>" ∷ more) refl refl
+    ∙ given-own (codes "RRN") (decimal rrn) (codes "=>" ∷ more) refl in
     ap (λ o. option_map_or key_limit o (option_map limit.RecordNumber (number_in (codes "RRN") row))) none
     ∙ ap (option_map limit.RecordNumber) (number-given (codes "RRN") rrn row here is)
 
@@ -251,14 +256,19 @@ unfolding inside
 chain-lock (chain_to.Key values) = refl
 chain-lock (chain_to.RecordNumber rrn) = refl
 
-pub chain-given : (name : List ℕ) (x : ChainTo) (lock : LockOption) (more : List (List ℕ)) → IsChainTo x → chain_to_in (word_of (codes "OPNID") name ∷ chain_word_of x ∷ word_of (codes "LCK") (lock_text lock) ∷ codes "=>" ∷ more) ≡ Some x
+pub chain-given : (name : List ℕ) (x : ChainTo) (lock : LockOption) (more : List (List ℕ)) → IsChainTo x → chain_to_in (word_of (codes "OPNID") name ∷ chain_word_of x
+    ∷ word_of (codes "LCK") (lock_text lock) ∷ codes "=>" ∷ more) ≡ Some x
 unfolding chain_to_in inside chain_key
 chain-given name (chain_to.Key values) lock more is =
-    ap (λ o. option_map_or chain_key o (option_map chain_to.RecordNumber (number_in (codes "RRN") (word_of (codes "OPNID") name ∷ word_of (codes "KEY") (values_text values) ∷ word_of (codes "LCK") (lock_text lock) ∷ codes "=>" ∷ more)))) (keyed name (values_text values) (word_of (codes "LCK") (lock_text lock) ∷ codes "=>" ∷ more))
+    ap (λ o. option_map_or chain_key o (option_map chain_to.RecordNumber (number_in (codes "RRN") (word_of (codes "OPNID") name ∷ word_of (codes "KEY") (values_text values)
+    ∷ word_of (codes "LCK") (lock_text lock) ∷ codes "=>" ∷ more)))) (keyed name (values_text values) (word_of (codes "LCK") (lock_text lock) ∷ codes "=>" ∷ more))
     ∙ ap (option_map chain_to.Key) (values-read values is)
 chain-given name (chain_to.RecordNumber rrn) lock more is =
     let row = word_of (codes "OPNID") name ∷ word_of (codes "RRN") (decimal rrn) ∷ word_of (codes "LCK") (lock_text lock) ∷ codes "=>" ∷ more in
-    let none : given (codes "KEY") row ≡ None = given-next (codes "KEY") (word_of (codes "OPNID") name) (word_of (codes "RRN") (decimal rrn) ∷ word_of (codes "LCK") (lock_text lock) ∷ codes "=>" ∷ more) refl refl ∙ given-next (codes "KEY") (word_of (codes "RRN") (decimal rrn)) (word_of (codes "LCK") (lock_text lock) ∷ codes "=>" ∷ more) refl refl ∙ given-next (codes "KEY") (word_of (codes "LCK") (lock_text lock)) (codes "=>" ∷ more) refl refl in
-    let here : given (codes "RRN") row ≡ Some (decimal rrn) = given-next (codes "RRN") (word_of (codes "OPNID") name) (word_of (codes "RRN") (decimal rrn) ∷ word_of (codes "LCK") (lock_text lock) ∷ codes "=>" ∷ more) refl refl ∙ given-own (codes "RRN") (decimal rrn) (word_of (codes "LCK") (lock_text lock) ∷ codes "=>" ∷ more) refl in
+    let none : given (codes "KEY") row ≡ None = given-next (codes "KEY") (word_of (codes "OPNID") name) (word_of (codes "RRN") (decimal rrn) ∷ word_of (codes "LCK") (lock_text lock)
+    ∷ codes "=>" ∷ more) refl refl ∙ given-next (codes "KEY") (word_of (codes "RRN") (decimal rrn)) (word_of (codes "LCK") (lock_text lock) ∷ codes "=>" ∷ more) refl refl
+    ∙ given-next (codes "KEY") (word_of (codes "LCK") (lock_text lock)) (codes "=>" ∷ more) refl refl in
+    let here : given (codes "RRN") row ≡ Some (decimal rrn) = given-next (codes "RRN") (word_of (codes "OPNID") name) (word_of (codes "RRN") (decimal rrn)
+    ∷ word_of (codes "LCK") (lock_text lock) ∷ codes "=>" ∷ more) refl refl ∙ given-own (codes "RRN") (decimal rrn) (word_of (codes "LCK") (lock_text lock) ∷ codes "=>" ∷ more) refl in
     ap (λ o. option_map_or chain_key o (option_map chain_to.RecordNumber (number_in (codes "RRN") row))) none
     ∙ ap (option_map chain_to.RecordNumber) (number-given (codes "RRN") rrn row here is)

@@ -1,14 +1,12 @@
 -- Each entry of the journal is read back, of a source its length alone.
-use Rattle.std.proofs.Common.{◌≡◌, ℕ, zero, suc, if◌then◌else◌, ◌+◌, ◌<◌, ◌≤◌, ◌^◌, Bool, true, false, cond, ◌&&◌, ◌==◌, nat_eq, nat_lt, nat_le, IsTrue, Option, Some, None, IfSome, is_some, option_map, List, [], ◌∷◌, ◌++◌, length, take, drop, replicate, map, codes, refl, ap, ◌∙◌, sym, append_assoc, append-nil, arith}
-use Rattle.std.specs.List.{list_all, flat_map}
+use Rattle.std.proofs.Common.{◌≡◌, ℕ, zero, suc, if◌then◌else◌, ◌<◌, ◌^◌, Bool, true, false, ◌&&◌, ◌==◌, nat_eq, nat_lt, nat_le, IsTrue, Option, Some, None, IfSome, is_some, option_map, List, [], ◌∷◌, ◌++◌, length, take, drop, replicate, map, codes, refl, ap, ◌∙◌, sym, append-nil, arith}
+use Rattle.std.specs.List.{list_all}
 use Rattle.std.specs.Option.{option_map_or, unwrap_or}
 use Rattle.std.specs.Fmt.{decimal}
 use Rattle.std.specs.Cmp.Lexicographic.{pointwise}
-use Rattle.std.proofs.lemmas.Bool.{and_parts, cond-true, cond-false, le-leb, leb-true, eqb-true, ne_eqb}
+use Rattle.std.proofs.lemmas.Bool.{and_parts, cond-true, cond-false, le-leb, ne_eqb}
 use Rattle.std.proofs.lemmas.List.{length-replicate}
-use Rattle.commit_level.specs.declared.Level.{Level}
-use Rattle.commit_level.specs.declared.Level.TheVariants as level
-use Rattle.entry_codec.specs.Placing.{letters, place, place_of_file, is_absent, is_present, is_counted, is_own, is_placed_at, is_placed}
+use Rattle.entry_codec.specs.Placing.{letters, place, is_absent, is_present, is_counted, is_own, is_placed_at, is_placed}
 use Rattle.entry_codec.specs.Spelling.{IsImage, HoldsFields, HasSpelling, IsKind, IsHead}
 use Rattle.entry_codec.specs.declared.entries.Entry.{Entry}
 use Rattle.entry_codec.specs.declared.kinds.EntryKind.{EntryKind}
@@ -20,28 +18,25 @@ use Rattle.entry_codec.specs.declared.kinds.TheConstants.{MIN_RECORD_LENGTH, MAX
 use Rattle.entry_codec.specs.declared.places.Place.{Place}
 use Rattle.entry_codec.specs.declared.places.Place.TheVariants as place_kind
 use Rattle.field_types.specs.SystemName.{is_name}
-use Rattle.listing.specs.EntryText.{job_text, file_kind_text, image_parameter, after_flag, optional_image_parameter, range_parameter, body_text, place_text, origin_text, entry_text, stroked_entry, entries_text}
+use Rattle.listing.specs.EntryText.{job_text, file_kind_text, after_flag, optional_image_parameter, range_parameter, body_text, place_text, origin_text, stroked_entry, entries_text}
 use Rattle.listing.specs.RequestText.{level_text, images_text}
 use Rattle.listing.specs.Texts.{parameter, text_literal}
 use Rattle.statement_reader.specs.Commands.{is_word}
-use Rattle.statement_reader.specs.Lists.{let_some, onto_others}
-use Rattle.statement_reader.specs.Words.{words, has_text, outside}
+use Rattle.statement_reader.specs.Lists.{onto_others}
+use Rattle.statement_reader.specs.Words.{words, has_text}
 use Rattle.text_lines.specs.Decimal.{is_digit}
 use Rattle.listing_reader.specs.Choices.{file_kind_of}
 use Rattle.listing_reader.specs.Entries.{two, image_of, image_in, optional_image_of, optional_image_in, flag_of, flag_in, file_kind_in, ends_of, changes_in, optional_name_of, optional_name_in, counted, origin_in, file_created, member_added, journaling_started, after_image, undo_after_image, body_of, is_image, is_optional_image, holds_fields, has_spelling, spelled, entry_from, typed_entry, entry_of, entries_in}
 use Rattle.listing_reader.specs.EntryTypes.{entry_named, file_type, record_type, cycle_type, journal_type}
-use Rattle.listing_reader.specs.Listed.{IsName, IsNumber, IsLong, IsOptionalName, AreBytes, AreOptionalBytes, AreKindBytes, IsEntry, AreEntries, shown_kind, shown_entry}
-use Rattle.listing_reader.specs.Parameters.{level_in, images_in}
-use Rattle.listing_reader.specs.Values.{units, number_in, long_in, text_of}
-use Rattle.listing_reader.specs.Words.{is_break, inside, given, behind_given, let_word, name_of, name_in}
+use Rattle.listing_reader.specs.Listed.{IsName, IsNumber, IsLong, AreBytes, AreOptionalBytes, AreKindBytes, IsEntry, AreEntries, shown_kind, shown_entry}
+use Rattle.listing_reader.specs.Values.{text_of}
+use Rattle.listing_reader.specs.Words.{inside, behind_given, name_of}
 use Rattle.listing_reader.specs.declared.entry_fields.Origin.{Origin}
-use Rattle.listing_reader.specs.declared.entry_fields.Changes.{Changes}
 use Rattle.listing_reader.specs.declared.entry_types.EntryType.{EntryType}
 use Rattle.listing_reader.specs.declared.entry_types.EntryType.TheVariants as entry_type
-use Rattle.listing_reader.specs.declared.numbers.TheConstants.{MOST_LONG}
-use Rattle.listing_reader.proofs.ScanLemmas.{LiesInside, IsWord, AreWords, Follows, both, nothing, spaced, inside-append, spaced-words}
+use Rattle.listing_reader.proofs.ScanLemmas.{LiesInside, IsWord, Follows, both, nothing, inside-append, spaced-words}
 use Rattle.listing_reader.proofs.TextLemmas.{apart, name-text, name-inside, decimal-inside, decimal-word, decimal-digits, text-inside, text-word}
-use Rattle.listing_reader.proofs.ValueLemmas.{number-decimal, long-decimal, text-read}
+use Rattle.listing_reader.proofs.ValueLemmas.{long-decimal, text-read}
 use Rattle.listing_reader.proofs.ParameterLemmas.{word_of, parameter-follows, inside-own, given-own, given-next, some-then, name-given, number-given, long-given}
 use Rattle.listing_reader.proofs.ChoiceLemmas.{level-inner, images-inner, level-given, images-given}
 
@@ -61,7 +56,8 @@ changes_words first last changes = word_of (codes "ENT") (decimal first ++ 32 �
 
 pub changes-follows : (first last changes : ℕ) → IsLong first × IsLong last × IsNumber changes → Follows (range_parameter first last changes) (changes_words first last changes)
 changes-follows first last changes is =
-    both _ _ (word_of (codes "ENT") (decimal first ++ 32 ∷ decimal last) ∷ []) (word_of (codes "CHG") (decimal changes) ∷ []) (parameter-follows (codes "ENT") (decimal first ++ 32 ∷ decimal last) refl refl (two-inner (decimal first) (decimal last) (decimal-inside first (omega (arith, is.0))) (decimal-inside last (omega (arith, is.1)))))
+    both _ _ (word_of (codes "ENT") (decimal first ++ 32 ∷ decimal last) ∷ []) (word_of (codes "CHG") (decimal changes) ∷ []) (parameter-follows (codes "ENT") (decimal first ++ 32
+    ∷ decimal last) refl refl (two-inner (decimal first) (decimal last) (decimal-inside first (omega (arith, is.0))) (decimal-inside last (omega (arith, is.1)))))
     (parameter-follows (codes "CHG") (decimal changes) refl refl (decimal-inside changes (omega (arith, is.2))))
 
 ends-read : (first last : ℕ) → IsLong first → IsLong last → ends_of (decimal first ++ 32 ∷ decimal last) ≡ Some (first, last)
@@ -72,12 +68,14 @@ ends-read first last one other =
     some-then _ _ last _ (long-decimal last other) (
     refl)))
 
-pub changes-read : (first last changes : ℕ) (more : List (List ℕ)) → IsLong first × IsLong last × IsNumber changes → changes_in (changes_words first last changes ++ more) ≡ Some (record { first = first; last = last; changes = changes })
+pub changes-read : (first last changes : ℕ) (more : List (List ℕ)) → IsLong first × IsLong last × IsNumber changes → changes_in (changes_words first last changes ++ more)
+    ≡ Some (record { first = first; last = last; changes = changes })
 unfolding changes_in inside
 changes-read first last changes more is =
     some-then _ _ (decimal first ++ 32 ∷ decimal last) _ (given-own (codes "ENT") (decimal first ++ 32 ∷ decimal last) (word_of (codes "CHG") (decimal changes) ∷ more) refl) (
     some-then _ _ (first, last) _ (ends-read first last is.0 is.1) (
-    some-then _ _ changes _ (number-given (codes "CHG") changes (changes_words first last changes ++ more) (given-next (codes "CHG") (word_of (codes "ENT") (decimal first ++ 32 ∷ decimal last)) (word_of (codes "CHG") (decimal changes) ∷ more) refl refl ∙ given-own (codes "CHG") (decimal changes) more refl) is.2) (
+    some-then _ _ changes _ (number-given (codes "CHG") changes (changes_words first last changes ++ more) (given-next (codes "CHG") (word_of (codes "ENT") (decimal first ++ 32
+    ∷ decimal last)) (word_of (codes "CHG") (decimal changes) ∷ more) refl refl ∙ given-own (codes "CHG") (decimal changes) more refl) is.2) (
     refl)))
 
 -- ---- images
@@ -138,7 +136,8 @@ before-of : (before : Option (List ℕ)) → AreOptionalBytes before → optiona
 unfolding optional_image_of
 before-of None bytes = no-image
 before-of (Some image) bytes =
-    ap (λ o. option_map_or (λ parts. option_map (λ image. Some image) (text_of parts.1)) o (Some None)) (two-words (codes "1") (text_literal image) one-word (text-word image)) ∙ ap (option_map (λ image. Some image)) (text-read image bytes)
+    ap (λ o. option_map_or (λ parts. option_map (λ image. Some image) (text_of parts.1)) o (Some None)) (two-words (codes "1") (text_literal image) one-word (text-word image))
+    ∙ ap (option_map (λ image. Some image)) (text-read image bytes)
 
 before-read : (before : Option (List ℕ)) (more : List (List ℕ)) → AreOptionalBytes before → optional_image_in (word_of (codes "IMG") (before_value before) ∷ more) ≡ Some before
 unfolding optional_image_in
@@ -219,36 +218,51 @@ pub record IsBody (k : EntryKind) (ws : List (List ℕ)) : Type 0 where
   pub reads : (more : List (List ℕ)) → body_of (type_of k) (ws ++ more) ≡ Some (shown_kind k)
   pub strokes : (more : List (List ℕ)) → entries_in (ws ++ more) ≡ entries_in more
 
-created-reads : (fk : FileKind) (name source : List ℕ) (more : List (List ℕ)) → IsName name → IsNumber (length source) → file_created ((word_of (codes "KIND") (file_kind_text fk) ∷ word_of (codes "NAME") name ∷ word_of (codes "LEN") (decimal (length source)) ∷ []) ++ more) ≡ Some (kind.FileCreated fk name (replicate (length source) 32))
+created-reads : (fk : FileKind) (name source : List ℕ) (more : List (List ℕ)) → IsName name → IsNumber (length source) → file_created ((word_of (codes "KIND") (file_kind_text fk)
+    ∷ word_of (codes "NAME") name ∷ word_of (codes "LEN") (decimal (length source)) ∷ []) ++ more) ≡ Some (kind.FileCreated fk name (replicate (length source) 32))
 unfolding file_created file_kind_in inside
 created-reads fk name source more is small =
-    some-then _ _ fk _ (some-then _ _ (file_kind_text fk) _ (given-own (codes "KIND") (file_kind_text fk) (word_of (codes "NAME") name ∷ word_of (codes "LEN") (decimal (length source)) ∷ more) refl) (file_kind-read fk)) (
-    some-then _ _ name _ (name-given (codes "NAME") name (word_of (codes "KIND") (file_kind_text fk) ∷ word_of (codes "NAME") name ∷ word_of (codes "LEN") (decimal (length source)) ∷ more) (given-next (codes "NAME") (word_of (codes "KIND") (file_kind_text fk)) (word_of (codes "NAME") name ∷ word_of (codes "LEN") (decimal (length source)) ∷ more) refl refl ∙ given-own (codes "NAME") name (word_of (codes "LEN") (decimal (length source)) ∷ more) refl) is) (
-    some-then _ _ (length source) _ (number-given (codes "LEN") (length source) (word_of (codes "KIND") (file_kind_text fk) ∷ word_of (codes "NAME") name ∷ word_of (codes "LEN") (decimal (length source)) ∷ more) (given-next (codes "LEN") (word_of (codes "KIND") (file_kind_text fk)) (word_of (codes "NAME") name ∷ word_of (codes "LEN") (decimal (length source)) ∷ more) refl refl ∙ given-next (codes "LEN") (word_of (codes "NAME") name) (word_of (codes "LEN") (decimal (length source)) ∷ more) refl refl ∙ given-own (codes "LEN") (decimal (length source)) (more) refl) small) (
+    some-then _ _ fk _ (some-then _ _ (file_kind_text fk) _ (given-own (codes "KIND") (file_kind_text fk) (word_of (codes "NAME") name ∷ word_of (codes "LEN") (decimal (length source))
+    ∷ more) refl) (file_kind-read fk)) (
+    some-then _ _ name _ (name-given (codes "NAME") name (word_of (codes "KIND") (file_kind_text fk) ∷ word_of (codes "NAME") name ∷ word_of (codes "LEN") (decimal (length source)) ∷ more)
+    (given-next (codes "NAME") (word_of (codes "KIND") (file_kind_text fk)) (word_of (codes "NAME") name ∷ word_of (codes "LEN") (decimal (length source)) ∷ more) refl refl
+    ∙ given-own (codes "NAME") name (word_of (codes "LEN") (decimal (length source)) ∷ more) refl) is) (
+    some-then _ _ (length source) _ (number-given (codes "LEN") (length source) (word_of (codes "KIND") (file_kind_text fk) ∷ word_of (codes "NAME") name
+    ∷ word_of (codes "LEN") (decimal (length source)) ∷ more) (given-next (codes "LEN") (word_of (codes "KIND") (file_kind_text fk)) (word_of (codes "NAME") name
+    ∷ word_of (codes "LEN") (decimal (length source)) ∷ more) refl refl ∙ given-next (codes "LEN") (word_of (codes "NAME") name) (word_of (codes "LEN") (decimal (length source))
+    ∷ more) refl refl ∙ given-own (codes "LEN") (decimal (length source)) (more) refl) small) (
     refl)))
 
-added-reads : (file name : List ℕ) (more : List (List ℕ)) → IsName file × IsName name → member_added ((word_of (codes "NAME") file ∷ word_of (codes "MBR") name ∷ []) ++ more) ≡ Some (kind.MemberAdded file name)
+added-reads : (file name : List ℕ) (more : List (List ℕ)) → IsName file × IsName name → member_added ((word_of (codes "NAME") file ∷ word_of (codes "MBR") name ∷ []) ++ more)
+    ≡ Some (kind.MemberAdded file name)
 unfolding member_added inside
 added-reads file name more is =
-    some-then _ _ file _ (name-given (codes "NAME") file (word_of (codes "NAME") file ∷ word_of (codes "MBR") name ∷ more) (given-own (codes "NAME") file (word_of (codes "MBR") name ∷ more) refl) is.0) (
-    some-then _ _ name _ (name-given (codes "MBR") name (word_of (codes "NAME") file ∷ word_of (codes "MBR") name ∷ more) (given-next (codes "MBR") (word_of (codes "NAME") file) (word_of (codes "MBR") name ∷ more) refl refl ∙ given-own (codes "MBR") name (more) refl) is.1) (
+    some-then _ _ file _ (name-given (codes "NAME") file (word_of (codes "NAME") file ∷ word_of (codes "MBR") name ∷ more) (given-own (codes "NAME") file (word_of (codes "MBR") name
+    ∷ more) refl) is.0) (
+    some-then _ _ name _ (name-given (codes "MBR") name (word_of (codes "NAME") file ∷ word_of (codes "MBR") name ∷ more) (given-next (codes "MBR") (word_of (codes "NAME") file)
+    (word_of (codes "MBR") name ∷ more) refl refl ∙ given-own (codes "MBR") name (more) refl) is.1) (
     refl))
 
-started-reads : (images : Images) (slots : ℕ) (more : List (List ℕ)) → IsNumber slots → journaling_started ((word_of (codes "IMAGES") (images_text images) ∷ word_of (codes "SLOTS") (decimal slots) ∷ []) ++ more) ≡ Some (kind.JournalingStarted images slots)
+started-reads : (images : Images) (slots : ℕ) (more : List (List ℕ)) → IsNumber slots → journaling_started ((word_of (codes "IMAGES") (images_text images)
+    ∷ word_of (codes "SLOTS") (decimal slots) ∷ []) ++ more) ≡ Some (kind.JournalingStarted images slots)
 unfolding journaling_started inside
 started-reads images slots more is =
-    some-then _ _ images _ (images-given (codes "IMAGES") images (word_of (codes "IMAGES") (images_text images) ∷ word_of (codes "SLOTS") (decimal slots) ∷ more) (given-own (codes "IMAGES") (images_text images) (word_of (codes "SLOTS") (decimal slots) ∷ more) refl)) (
-    some-then _ _ slots _ (number-given (codes "SLOTS") slots (word_of (codes "IMAGES") (images_text images) ∷ word_of (codes "SLOTS") (decimal slots) ∷ more) (given-next (codes "SLOTS") (word_of (codes "IMAGES") (images_text images)) (word_of (codes "SLOTS") (decimal slots) ∷ more) refl refl ∙ given-own (codes "SLOTS") (decimal slots) (more) refl) is) (
+    some-then _ _ images _ (images-given (codes "IMAGES") images (word_of (codes "IMAGES") (images_text images) ∷ word_of (codes "SLOTS") (decimal slots) ∷ more)
+    (given-own (codes "IMAGES") (images_text images) (word_of (codes "SLOTS") (decimal slots) ∷ more) refl)) (
+    some-then _ _ slots _ (number-given (codes "SLOTS") slots (word_of (codes "IMAGES") (images_text images) ∷ word_of (codes "SLOTS") (decimal slots) ∷ more) (given-next (codes "SLOTS")
+    (word_of (codes "IMAGES") (images_text images)) (word_of (codes "SLOTS") (decimal slots) ∷ more) refl refl ∙ given-own (codes "SLOTS") (decimal slots) (more) refl) is) (
     refl))
 
-after-reads : (has : Bool) (image : List ℕ) (more : List (List ℕ)) → AreBytes image → after_image (word_of (codes "IMG") (after_flag has ++ 32 ∷ text_literal image) ∷ more) ≡ Some (kind.AfterImage has image)
+after-reads : (has : Bool) (image : List ℕ) (more : List (List ℕ)) → AreBytes image → after_image (word_of (codes "IMG") (after_flag has ++ 32 ∷ text_literal image) ∷ more)
+    ≡ Some (kind.AfterImage has image)
 unfolding after_image
 after-reads has image more bytes =
     some-then _ _ has _ (flag-read has image more) (
     some-then _ _ image _ (image-read (after_flag has) image more (flag-word has) bytes) (
     refl))
 
-undo-after-reads : (has : Bool) (image : List ℕ) (more : List (List ℕ)) → AreBytes image → undo_after_image (word_of (codes "IMG") (after_flag has ++ 32 ∷ text_literal image) ∷ more) ≡ Some (kind.UndoAfterImage has image)
+undo-after-reads : (has : Bool) (image : List ℕ) (more : List (List ℕ)) → AreBytes image → undo_after_image (word_of (codes "IMG") (after_flag has ++ 32 ∷ text_literal image) ∷ more)
+    ≡ Some (kind.UndoAfterImage has image)
 unfolding undo_after_image
 undo-after-reads has image more bytes =
     some-then _ _ has _ (flag-read has image more) (
@@ -257,32 +271,175 @@ undo-after-reads has image more bytes =
 
 pub body-is : (k : EntryKind) → IsKind k → HoldsFields k → AreKindBytes k → (ws : List (List ℕ)) × IsBody k ws
 unfolding body_of
-body-is (kind.FileCreated fk name source) is holds bytes = ((word_of (codes "KIND") (file_kind_text fk) ∷ word_of (codes "NAME") name ∷ word_of (codes "LEN") (decimal (length source)) ∷ []), record { follows = (both _ _ (word_of (codes "KIND") (file_kind_text fk) ∷ word_of (codes "NAME") name ∷ []) (word_of (codes "LEN") (decimal (length source)) ∷ []) (both _ _ (word_of (codes "KIND") (file_kind_text fk) ∷ []) (word_of (codes "NAME") name ∷ []) (parameter-follows (codes "KIND") (file_kind_text fk) refl refl (file_kind-inner fk)) (parameter-follows (codes "NAME") name refl refl (name-inside name is))) (parameter-follows (codes "LEN") (decimal (length source)) refl refl (decimal-inside (length source) (omega (arith, holds))))); reads = λ more. created-reads fk name source more is (omega (arith, holds)); strokes = λ more. refl })
-body-is (kind.FileDeleted name) is holds bytes = ((word_of (codes "NAME") name ∷ []), record { follows = (parameter-follows (codes "NAME") name refl refl (name-inside name is)); reads = λ more. ap (option_map kind.FileDeleted) (name-given (codes "NAME") name (word_of (codes "NAME") name ∷ more) (given-own (codes "NAME") name (more) refl) is); strokes = λ more. refl })
-body-is (kind.MemberAdded file name) is holds bytes = ((word_of (codes "NAME") file ∷ word_of (codes "MBR") name ∷ []), record { follows = (both _ _ (word_of (codes "NAME") file ∷ []) (word_of (codes "MBR") name ∷ []) (parameter-follows (codes "NAME") file refl refl (name-inside file is.0)) (parameter-follows (codes "MBR") name refl refl (name-inside name is.1))); reads = λ more. added-reads file name more is; strokes = λ more. refl })
-body-is (kind.JournalingStarted images slots) is holds bytes = ((word_of (codes "IMAGES") (images_text images) ∷ word_of (codes "SLOTS") (decimal slots) ∷ []), record { follows = (both _ _ (word_of (codes "IMAGES") (images_text images) ∷ []) (word_of (codes "SLOTS") (decimal slots) ∷ []) (parameter-follows (codes "IMAGES") (images_text images) refl refl (images-inner images)) (parameter-follows (codes "SLOTS") (decimal slots) refl refl (decimal-inside slots (omega (arith, is))))); reads = λ more. started-reads images slots more is; strokes = λ more. refl })
-body-is (kind.InitialSlot image) is holds bytes = ((word_of (codes "IMG") (codes "1" ++ 32 ∷ text_literal image) ∷ []), record { follows = parameter-follows (codes "IMG") (codes "1" ++ 32 ∷ text_literal image) refl refl (flagged-inner (codes "1") image refl); reads = λ more. ap (option_map kind.InitialSlot) (image-read (codes "1") image more one-word bytes); strokes = λ more. refl })
+body-is (kind.FileCreated fk name source) is holds bytes = (
+  (word_of (codes "KIND") (file_kind_text fk) ∷ word_of (codes "NAME") name ∷ word_of (codes "LEN") (decimal (length source))
+      ∷ []),
+  record {
+    follows = (both _ _ (word_of (codes "KIND") (file_kind_text fk) ∷ word_of (codes "NAME") name ∷ []) (word_of (codes "LEN") (decimal (length source)) ∷ []) (both _ _
+        (word_of (codes "KIND") (file_kind_text fk) ∷ []) (word_of (codes "NAME") name ∷ []) (parameter-follows (codes "KIND") (file_kind_text fk) refl refl (file_kind-inner fk))
+        (parameter-follows (codes "NAME") name refl refl (name-inside name is)))
+        (parameter-follows (codes "LEN") (decimal (length source)) refl refl (decimal-inside (length source) (omega (arith, holds)))));
+    reads = λ more. created-reads fk name source more is (omega (arith, holds));
+    strokes = λ more. refl;
+  },
+)
+body-is (kind.FileDeleted name) is holds bytes = (
+  (word_of (codes "NAME") name ∷ []),
+  record {
+    follows = (parameter-follows (codes "NAME") name refl refl (name-inside name is));
+    reads = λ more. ap (option_map kind.FileDeleted) (name-given (codes "NAME") name (word_of (codes "NAME") name ∷ more) (given-own (codes "NAME") name (more) refl) is);
+    strokes = λ more. refl;
+  },
+)
+body-is (kind.MemberAdded file name) is holds bytes = (
+  (word_of (codes "NAME") file ∷ word_of (codes "MBR") name ∷ []),
+  record {
+    follows = (both _ _ (word_of (codes "NAME") file ∷ [])
+        (word_of (codes "MBR") name ∷ []) (parameter-follows (codes "NAME") file refl refl (name-inside file is.0)) (parameter-follows (codes "MBR") name refl refl (name-inside name is.1)));
+    reads = λ more. added-reads file name more is;
+    strokes = λ more. refl;
+  },
+)
+body-is (kind.JournalingStarted images slots) is holds bytes = (
+  (word_of (codes "IMAGES") (images_text images) ∷ word_of (codes "SLOTS") (decimal slots) ∷ []),
+  record {
+    follows = (both _ _
+        (word_of (codes "IMAGES") (images_text images) ∷ []) (word_of (codes "SLOTS") (decimal slots) ∷ [])
+        (parameter-follows (codes "IMAGES") (images_text images) refl refl (images-inner images))
+        (parameter-follows (codes "SLOTS") (decimal slots) refl refl (decimal-inside slots (omega (arith, is)))));
+    reads = λ more. started-reads images slots more is;
+    strokes = λ more. refl;
+  },
+)
+body-is (kind.InitialSlot image) is holds bytes = (
+  (word_of (codes "IMG") (codes "1" ++ 32 ∷ text_literal image) ∷ []),
+  record {
+    follows = parameter-follows (codes "IMG") (codes "1" ++ 32
+        ∷ text_literal image) refl refl (flagged-inner (codes "1") image refl);
+    reads = λ more. ap (option_map kind.InitialSlot) (image-read (codes "1") image more one-word bytes);
+    strokes = λ more. refl;
+  },
+)
 body-is kind.JournalingEnded is holds bytes = ([], record { follows = nothing; reads = λ more. refl; strokes = λ more. refl })
 body-is kind.MemberCleared is holds bytes = ([], record { follows = nothing; reads = λ more. refl; strokes = λ more. refl })
 body-is kind.MemberReorganized is holds bytes = ([], record { follows = nothing; reads = λ more. refl; strokes = λ more. refl })
-body-is (kind.ChangesApplied first last changes) is holds bytes = ((changes_words first last changes), record { follows = changes-follows first last changes is; reads = λ more. ap (option_map (λ c. kind.ChangesApplied c.first c.last c.changes)) (changes-read first last changes more is); strokes = λ more. refl })
-body-is (kind.ChangesRemoved first last changes) is holds bytes = ((changes_words first last changes), record { follows = changes-follows first last changes is; reads = λ more. ap (option_map (λ c. kind.ChangesRemoved c.first c.last c.changes)) (changes-read first last changes more is); strokes = λ more. refl })
-body-is (kind.RecordAdded image) is holds bytes = ((word_of (codes "IMG") (codes "1" ++ 32 ∷ text_literal image) ∷ []), record { follows = parameter-follows (codes "IMG") (codes "1" ++ 32 ∷ text_literal image) refl refl (flagged-inner (codes "1") image refl); reads = λ more. ap (option_map kind.RecordAdded) (image-read (codes "1") image more one-word bytes); strokes = λ more. refl })
-body-is (kind.RecordAddedAtNumber image) is holds bytes = ((word_of (codes "IMG") (codes "1" ++ 32 ∷ text_literal image) ∷ []), record { follows = parameter-follows (codes "IMG") (codes "1" ++ 32 ∷ text_literal image) refl refl (flagged-inner (codes "1") image refl); reads = λ more. ap (option_map kind.RecordAddedAtNumber) (image-read (codes "1") image more one-word bytes); strokes = λ more. refl })
-body-is (kind.BeforeImage image) is holds bytes = ((word_of (codes "IMG") (codes "1" ++ 32 ∷ text_literal image) ∷ []), record { follows = parameter-follows (codes "IMG") (codes "1" ++ 32 ∷ text_literal image) refl refl (flagged-inner (codes "1") image refl); reads = λ more. ap (option_map kind.BeforeImage) (image-read (codes "1") image more one-word bytes); strokes = λ more. refl })
-body-is (kind.AfterImage has image) is holds bytes = ((word_of (codes "IMG") (after_flag has ++ 32 ∷ text_literal image) ∷ []), record { follows = parameter-follows (codes "IMG") (after_flag has ++ 32 ∷ text_literal image) refl refl (flagged-inner (after_flag has) image (flag-inner has)); reads = λ more. after-reads has image more bytes; strokes = λ more. refl })
-body-is (kind.RecordDeleted before) is holds bytes = ((word_of (codes "IMG") (before_value before) ∷ []), record { follows = before-follows before; reads = λ more. ap (option_map kind.RecordDeleted) (before-read before more bytes); strokes = λ more. refl })
-body-is (kind.UndoBeforeImage image) is holds bytes = ((word_of (codes "IMG") (codes "1" ++ 32 ∷ text_literal image) ∷ []), record { follows = parameter-follows (codes "IMG") (codes "1" ++ 32 ∷ text_literal image) refl refl (flagged-inner (codes "1") image refl); reads = λ more. ap (option_map kind.UndoBeforeImage) (image-read (codes "1") image more one-word bytes); strokes = λ more. refl })
-body-is (kind.UndoAfterImage has image) is holds bytes = ((word_of (codes "IMG") (after_flag has ++ 32 ∷ text_literal image) ∷ []), record { follows = parameter-follows (codes "IMG") (after_flag has ++ 32 ∷ text_literal image) refl refl (flagged-inner (after_flag has) image (flag-inner has)); reads = λ more. undo-after-reads has image more bytes; strokes = λ more. refl })
-body-is (kind.UndoDelete image) is holds bytes = ((word_of (codes "IMG") (codes "1" ++ 32 ∷ text_literal image) ∷ []), record { follows = parameter-follows (codes "IMG") (codes "1" ++ 32 ∷ text_literal image) refl refl (flagged-inner (codes "1") image refl); reads = λ more. ap (option_map kind.UndoDelete) (image-read (codes "1") image more one-word bytes); strokes = λ more. refl })
-body-is (kind.CommitmentStarted lvl) is holds bytes = ((word_of (codes "LVL") (level_text lvl) ∷ []), record { follows = parameter-follows (codes "LVL") (level_text lvl) refl refl (level-inner lvl); reads = λ more. ap (option_map kind.CommitmentStarted) (level-given (codes "LVL") lvl (word_of (codes "LVL") (level_text lvl) ∷ more) (given-own (codes "LVL") (level_text lvl) more refl)); strokes = λ more. refl })
+body-is (kind.ChangesApplied first last changes) is holds bytes = (
+  (changes_words first last changes),
+  record {
+    follows = changes-follows first last changes is;
+    reads = λ more. ap (option_map (λ c. kind.ChangesApplied c.first c.last c.changes)) (changes-read first last changes more is);
+    strokes = λ more. refl;
+  },
+)
+body-is (kind.ChangesRemoved first last changes) is holds bytes = (
+  (changes_words first last changes),
+  record {
+    follows = changes-follows first last changes is;
+    reads = λ more. ap (option_map (λ c. kind.ChangesRemoved c.first c.last c.changes)) (changes-read first last changes more is);
+    strokes = λ more. refl;
+  },
+)
+body-is (kind.RecordAdded image) is holds bytes = (
+  (word_of (codes "IMG") (codes "1" ++ 32 ∷ text_literal image) ∷ []),
+  record {
+    follows = parameter-follows (codes "IMG") (codes "1" ++ 32
+        ∷ text_literal image) refl refl (flagged-inner (codes "1") image refl);
+    reads = λ more. ap (option_map kind.RecordAdded) (image-read (codes "1") image more one-word bytes);
+    strokes = λ more. refl;
+  },
+)
+body-is (kind.RecordAddedAtNumber image) is holds bytes = (
+  (word_of (codes "IMG") (codes "1" ++ 32 ∷ text_literal image) ∷ []),
+  record {
+    follows = parameter-follows (codes "IMG") (codes "1" ++ 32 ∷ text_literal image) refl refl (flagged-inner (codes "1") image refl);
+    reads = λ more. ap (option_map kind.RecordAddedAtNumber) (image-read (codes "1") image more one-word bytes);
+    strokes = λ more. refl;
+  },
+)
+body-is (kind.BeforeImage image) is holds bytes = (
+  (word_of (codes "IMG") (codes "1" ++ 32 ∷ text_literal image) ∷ []),
+  record {
+    follows = parameter-follows (codes "IMG") (codes "1" ++ 32
+        ∷ text_literal image) refl refl (flagged-inner (codes "1") image refl);
+    reads = λ more. ap (option_map kind.BeforeImage) (image-read (codes "1") image more one-word bytes);
+    strokes = λ more. refl;
+  },
+)
+body-is (kind.AfterImage has image) is holds bytes = (
+  (word_of (codes "IMG") (after_flag has ++ 32 ∷ text_literal image) ∷ []),
+  record {
+    follows = parameter-follows (codes "IMG") (after_flag has ++ 32 ∷ text_literal image) refl refl (flagged-inner (after_flag has) image (flag-inner has));
+    reads = λ more. after-reads has image more bytes;
+    strokes = λ more. refl;
+  },
+)
+body-is (kind.RecordDeleted before) is holds bytes = (
+  (word_of (codes "IMG") (before_value before) ∷ []),
+  record {
+    follows = before-follows before;
+    reads = λ more. ap (option_map kind.RecordDeleted) (before-read before more bytes);
+    strokes = λ more. refl;
+  },
+)
+body-is (kind.UndoBeforeImage image) is holds bytes = (
+  (word_of (codes "IMG") (codes "1" ++ 32 ∷ text_literal image) ∷ []),
+  record {
+    follows = parameter-follows (codes "IMG") (codes "1" ++ 32 ∷ text_literal image) refl refl (flagged-inner (codes "1") image refl);
+    reads = λ more. ap (option_map kind.UndoBeforeImage) (image-read (codes "1") image more one-word bytes);
+    strokes = λ more. refl;
+  },
+)
+body-is (kind.UndoAfterImage has image) is holds bytes = (
+  (word_of (codes "IMG") (after_flag has ++ 32 ∷ text_literal image) ∷ []),
+  record {
+    follows = parameter-follows (codes "IMG") (after_flag has ++ 32 ∷ text_literal image) refl refl (flagged-inner (after_flag has) image (flag-inner has));
+    reads = λ more. undo-after-reads has image more bytes;
+    strokes = λ more. refl;
+  },
+)
+body-is (kind.UndoDelete image) is holds bytes = (
+  (word_of (codes "IMG") (codes "1" ++ 32 ∷ text_literal image) ∷ []),
+  record {
+    follows = parameter-follows (codes "IMG") (codes "1" ++ 32
+        ∷ text_literal image) refl refl (flagged-inner (codes "1") image refl);
+    reads = λ more. ap (option_map kind.UndoDelete) (image-read (codes "1") image more one-word bytes);
+    strokes = λ more. refl;
+  },
+)
+body-is (kind.CommitmentStarted lvl) is holds bytes = (
+  (word_of (codes "LVL") (level_text lvl) ∷ []),
+  record {
+    follows = parameter-follows (codes "LVL") (level_text lvl) refl refl (level-inner lvl);
+    reads = λ more. ap (option_map kind.CommitmentStarted) (level-given (codes "LVL") lvl
+        (word_of (codes "LVL") (level_text lvl) ∷ more) (given-own (codes "LVL") (level_text lvl) more refl));
+    strokes = λ more. refl;
+  },
+)
 body-is kind.CommitCycleStarted is holds bytes = ([], record { follows = nothing; reads = λ more. refl; strokes = λ more. refl })
 body-is kind.CommitCycleCommitted is holds bytes = ([], record { follows = nothing; reads = λ more. refl; strokes = λ more. refl })
 body-is kind.CommitCycleRolledBack is holds bytes = ([], record { follows = nothing; reads = λ more. refl; strokes = λ more. refl })
 body-is kind.CommitmentEnded is holds bytes = ([], record { follows = nothing; reads = λ more. refl; strokes = λ more. refl })
 body-is kind.AbnormalEnd is holds bytes = ([], record { follows = nothing; reads = λ more. refl; strokes = λ more. refl })
-body-is (kind.NextReceiver number) is holds bytes = ((word_of (codes "RCV") (decimal number) ∷ []), record { follows = (parameter-follows (codes "RCV") (decimal number) refl refl (decimal-inside number (omega (arith, is)))); reads = λ more. ap (option_map kind.NextReceiver) (number-given (codes "RCV") number (word_of (codes "RCV") (decimal number) ∷ more) (given-own (codes "RCV") (decimal number) (more) refl) is); strokes = λ more. refl })
-body-is (kind.PreviousReceiver number) is holds bytes = ((word_of (codes "RCV") (decimal number) ∷ []), record { follows = (parameter-follows (codes "RCV") (decimal number) refl refl (decimal-inside number (omega (arith, is)))); reads = λ more. ap (option_map kind.PreviousReceiver) (number-given (codes "RCV") number (word_of (codes "RCV") (decimal number) ∷ more) (given-own (codes "RCV") (decimal number) (more) refl) is); strokes = λ more. refl })
+body-is (kind.NextReceiver number) is holds bytes = (
+  (word_of (codes "RCV") (decimal number) ∷ []),
+  record {
+    follows =
+        (parameter-follows (codes "RCV") (decimal number) refl refl (decimal-inside number (omega (arith, is))));
+    reads = λ more. ap (option_map kind.NextReceiver) (number-given (codes "RCV") number (word_of (codes "RCV") (decimal number) ∷ more)
+        (given-own (codes "RCV") (decimal number) (more) refl) is);
+    strokes = λ more. refl;
+  },
+)
+body-is (kind.PreviousReceiver number) is holds bytes = (
+  (word_of (codes "RCV") (decimal number) ∷ []),
+  record {
+    follows =
+        (parameter-follows (codes "RCV") (decimal number) refl refl (decimal-inside number (omega (arith, is))));
+    reads = λ more. ap (option_map kind.PreviousReceiver) (number-given (codes "RCV") number (word_of (codes "RCV") (decimal number) ∷ more)
+        (given-own (codes "RCV") (decimal number) (more) refl) is);
+    strokes = λ more. refl;
+  },
+)
 
 -- ---- origins
 
@@ -336,12 +493,19 @@ job-read (Some name) is =
     cond-true (has_text name) (option_map (λ n. Some n) (name_of name)) (Some None) (name-text name is) ∙ ap (option_map (λ n. Some n)) (cond-true (is_name name) (Some name) None is)
 
 abbrev pub origin_words : Entry → List (List ℕ)
-origin_words e = (word_of (codes "JOB") (job_text e.job) ∷ word_of (codes "AT") (decimal e.moment) ∷ word_of (codes "GRP") (decimal (unwrap_or e.group 0)) ∷ word_of (codes "MBR") (decimal (unwrap_or e.member 0)) ∷ word_of (codes "RRN") (decimal (unwrap_or e.rrn 0)) ∷ [])
+origin_words e = (word_of (codes "JOB") (job_text e.job) ∷ word_of (codes "AT") (decimal e.moment) ∷ word_of (codes "GRP") (decimal (unwrap_or e.group 0))
+    ∷ word_of (codes "MBR") (decimal (unwrap_or e.member 0)) ∷ word_of (codes "RRN") (decimal (unwrap_or e.rrn 0)) ∷ [])
 
 origin-follows : (e : Entry) → IsHead e → Follows (origin_text e) (origin_words e)
 unfolding origin_text
 origin-follows e is =
-    (both _ _ (word_of (codes "JOB") (job_text e.job) ∷ word_of (codes "AT") (decimal e.moment) ∷ word_of (codes "GRP") (decimal (unwrap_or e.group 0)) ∷ word_of (codes "MBR") (decimal (unwrap_or e.member 0)) ∷ []) (word_of (codes "RRN") (decimal (unwrap_or e.rrn 0)) ∷ []) (both _ _ (word_of (codes "JOB") (job_text e.job) ∷ word_of (codes "AT") (decimal e.moment) ∷ word_of (codes "GRP") (decimal (unwrap_or e.group 0)) ∷ []) (word_of (codes "MBR") (decimal (unwrap_or e.member 0)) ∷ []) (both _ _ (word_of (codes "JOB") (job_text e.job) ∷ word_of (codes "AT") (decimal e.moment) ∷ []) (word_of (codes "GRP") (decimal (unwrap_or e.group 0)) ∷ []) (both _ _ (word_of (codes "JOB") (job_text e.job) ∷ []) (word_of (codes "AT") (decimal e.moment) ∷ []) (parameter-follows (codes "JOB") (job_text e.job) refl refl (job-inner e.job is.job)) (parameter-follows (codes "AT") (decimal e.moment) refl refl (decimal-inside e.moment (omega (arith, is.moment))))) (parameter-follows (codes "GRP") (decimal (unwrap_or e.group 0)) refl refl (decimal-inside (unwrap_or e.group 0) (omega (arith, (small-or-0 e.group (2 ^ 64) (omega arith) is.group)))))) (parameter-follows (codes "MBR") (decimal (unwrap_or e.member 0)) refl refl (decimal-inside (unwrap_or e.member 0) (omega (arith, (small-or-0 e.member (2 ^ 32) (omega arith) is.member)))))) (parameter-follows (codes "RRN") (decimal (unwrap_or e.rrn 0)) refl refl (decimal-inside (unwrap_or e.rrn 0) (omega (arith, (small-or-0 e.rrn (2 ^ 32) (omega arith) is.rrn))))))
+    (both _ _ (word_of (codes "JOB") (job_text e.job) ∷ word_of (codes "AT") (decimal e.moment) ∷ word_of (codes "GRP") (decimal (unwrap_or e.group 0))
+    ∷ word_of (codes "MBR") (decimal (unwrap_or e.member 0)) ∷ []) (word_of (codes "RRN") (decimal (unwrap_or e.rrn 0)) ∷ []) (both _ _ (word_of (codes "JOB") (job_text e.job)
+    ∷ word_of (codes "AT") (decimal e.moment) ∷ word_of (codes "GRP") (decimal (unwrap_or e.group 0)) ∷ []) (word_of (codes "MBR") (decimal (unwrap_or e.member 0)) ∷ []) (both _ _
+    (word_of (codes "JOB") (job_text e.job) ∷ word_of (codes "AT") (decimal e.moment) ∷ []) (word_of (codes "GRP") (decimal (unwrap_or e.group 0)) ∷ []) (both _ _
+    (word_of (codes "JOB") (job_text e.job) ∷ []) (word_of (codes "AT") (decimal e.moment) ∷ []) (parameter-follows (codes "JOB") (job_text e.job) refl refl (job-inner e.job is.job))
+    (parameter-follows (codes "AT") (decimal e.moment) refl refl (decimal-inside e.moment (omega (arith, is.moment)))))
+    (parameter-follows (codes "GRP") (decimal (unwrap_or e.group 0)) refl refl (decimal-inside (unwrap_or e.group 0) (omega (arith, (small-or-0 e.group (2 ^ 64) (omega arith) is.group)))))) (parameter-follows (codes "MBR") (decimal (unwrap_or e.member 0)) refl refl (decimal-inside (unwrap_or e.member 0) (omega (arith, (small-or-0 e.member (2 ^ 32) (omega arith) is.member)))))) (parameter-follows (codes "RRN") (decimal (unwrap_or e.rrn 0)) refl refl (decimal-inside (unwrap_or e.rrn 0) (omega (arith, (small-or-0 e.rrn (2 ^ 32) (omega arith) is.rrn))))))
 
 abbrev pub origin_of : Entry → Origin
 origin_of e = record { job = e.job; moment = e.moment; group = e.group; member = e.member; rrn = e.rrn }
@@ -349,11 +513,39 @@ origin_of e = record { job = e.job; moment = e.moment; group = e.group; member =
 origin-read : (e : Entry) → IsHead e → AreCounted e.group e.member e.rrn → (more : List (List ℕ)) → origin_in (origin_words e ++ more) ≡ Some (origin_of e)
 unfolding origin_in optional_name_in inside
 origin-read e is there more =
-    some-then _ _ e.job _ (some-then _ _ (job_text e.job) _ (given-own (codes "JOB") (job_text e.job) (word_of (codes "AT") (decimal e.moment) ∷ word_of (codes "GRP") (decimal (unwrap_or e.group 0)) ∷ word_of (codes "MBR") (decimal (unwrap_or e.member 0)) ∷ word_of (codes "RRN") (decimal (unwrap_or e.rrn 0)) ∷ more) refl) (job-read e.job is.job)) (
-    some-then _ _ e.moment _ (long-given (codes "AT") e.moment (word_of (codes "JOB") (job_text e.job) ∷ word_of (codes "AT") (decimal e.moment) ∷ word_of (codes "GRP") (decimal (unwrap_or e.group 0)) ∷ word_of (codes "MBR") (decimal (unwrap_or e.member 0)) ∷ word_of (codes "RRN") (decimal (unwrap_or e.rrn 0)) ∷ more) (given-next (codes "AT") (word_of (codes "JOB") (job_text e.job)) (word_of (codes "AT") (decimal e.moment) ∷ word_of (codes "GRP") (decimal (unwrap_or e.group 0)) ∷ word_of (codes "MBR") (decimal (unwrap_or e.member 0)) ∷ word_of (codes "RRN") (decimal (unwrap_or e.rrn 0)) ∷ more) refl refl ∙ given-own (codes "AT") (decimal e.moment) (word_of (codes "GRP") (decimal (unwrap_or e.group 0)) ∷ word_of (codes "MBR") (decimal (unwrap_or e.member 0)) ∷ word_of (codes "RRN") (decimal (unwrap_or e.rrn 0)) ∷ more) refl) is.moment) (
-    some-then _ _ (unwrap_or e.group 0) _ (long-given (codes "GRP") (unwrap_or e.group 0) (word_of (codes "JOB") (job_text e.job) ∷ word_of (codes "AT") (decimal e.moment) ∷ word_of (codes "GRP") (decimal (unwrap_or e.group 0)) ∷ word_of (codes "MBR") (decimal (unwrap_or e.member 0)) ∷ word_of (codes "RRN") (decimal (unwrap_or e.rrn 0)) ∷ more) (given-next (codes "GRP") (word_of (codes "JOB") (job_text e.job)) (word_of (codes "AT") (decimal e.moment) ∷ word_of (codes "GRP") (decimal (unwrap_or e.group 0)) ∷ word_of (codes "MBR") (decimal (unwrap_or e.member 0)) ∷ word_of (codes "RRN") (decimal (unwrap_or e.rrn 0)) ∷ more) refl refl ∙ given-next (codes "GRP") (word_of (codes "AT") (decimal e.moment)) (word_of (codes "GRP") (decimal (unwrap_or e.group 0)) ∷ word_of (codes "MBR") (decimal (unwrap_or e.member 0)) ∷ word_of (codes "RRN") (decimal (unwrap_or e.rrn 0)) ∷ more) refl refl ∙ given-own (codes "GRP") (decimal (unwrap_or e.group 0)) (word_of (codes "MBR") (decimal (unwrap_or e.member 0)) ∷ word_of (codes "RRN") (decimal (unwrap_or e.rrn 0)) ∷ more) refl) (small-or-0 e.group (2 ^ 64) (omega arith) is.group)) (
-    some-then _ _ (unwrap_or e.member 0) _ (number-given (codes "MBR") (unwrap_or e.member 0) (word_of (codes "JOB") (job_text e.job) ∷ word_of (codes "AT") (decimal e.moment) ∷ word_of (codes "GRP") (decimal (unwrap_or e.group 0)) ∷ word_of (codes "MBR") (decimal (unwrap_or e.member 0)) ∷ word_of (codes "RRN") (decimal (unwrap_or e.rrn 0)) ∷ more) (given-next (codes "MBR") (word_of (codes "JOB") (job_text e.job)) (word_of (codes "AT") (decimal e.moment) ∷ word_of (codes "GRP") (decimal (unwrap_or e.group 0)) ∷ word_of (codes "MBR") (decimal (unwrap_or e.member 0)) ∷ word_of (codes "RRN") (decimal (unwrap_or e.rrn 0)) ∷ more) refl refl ∙ given-next (codes "MBR") (word_of (codes "AT") (decimal e.moment)) (word_of (codes "GRP") (decimal (unwrap_or e.group 0)) ∷ word_of (codes "MBR") (decimal (unwrap_or e.member 0)) ∷ word_of (codes "RRN") (decimal (unwrap_or e.rrn 0)) ∷ more) refl refl ∙ given-next (codes "MBR") (word_of (codes "GRP") (decimal (unwrap_or e.group 0))) (word_of (codes "MBR") (decimal (unwrap_or e.member 0)) ∷ word_of (codes "RRN") (decimal (unwrap_or e.rrn 0)) ∷ more) refl refl ∙ given-own (codes "MBR") (decimal (unwrap_or e.member 0)) (word_of (codes "RRN") (decimal (unwrap_or e.rrn 0)) ∷ more) refl) (small-or-0 e.member (2 ^ 32) (omega arith) is.member)) (
-    some-then _ _ (unwrap_or e.rrn 0) _ (number-given (codes "RRN") (unwrap_or e.rrn 0) (word_of (codes "JOB") (job_text e.job) ∷ word_of (codes "AT") (decimal e.moment) ∷ word_of (codes "GRP") (decimal (unwrap_or e.group 0)) ∷ word_of (codes "MBR") (decimal (unwrap_or e.member 0)) ∷ word_of (codes "RRN") (decimal (unwrap_or e.rrn 0)) ∷ more) (given-next (codes "RRN") (word_of (codes "JOB") (job_text e.job)) (word_of (codes "AT") (decimal e.moment) ∷ word_of (codes "GRP") (decimal (unwrap_or e.group 0)) ∷ word_of (codes "MBR") (decimal (unwrap_or e.member 0)) ∷ word_of (codes "RRN") (decimal (unwrap_or e.rrn 0)) ∷ more) refl refl ∙ given-next (codes "RRN") (word_of (codes "AT") (decimal e.moment)) (word_of (codes "GRP") (decimal (unwrap_or e.group 0)) ∷ word_of (codes "MBR") (decimal (unwrap_or e.member 0)) ∷ word_of (codes "RRN") (decimal (unwrap_or e.rrn 0)) ∷ more) refl refl ∙ given-next (codes "RRN") (word_of (codes "GRP") (decimal (unwrap_or e.group 0))) (word_of (codes "MBR") (decimal (unwrap_or e.member 0)) ∷ word_of (codes "RRN") (decimal (unwrap_or e.rrn 0)) ∷ more) refl refl ∙ given-next (codes "RRN") (word_of (codes "MBR") (decimal (unwrap_or e.member 0))) (word_of (codes "RRN") (decimal (unwrap_or e.rrn 0)) ∷ more) refl refl ∙ given-own (codes "RRN") (decimal (unwrap_or e.rrn 0)) (more) refl) (small-or-0 e.rrn (2 ^ 32) (omega arith) is.rrn)) (
+    some-then _ _ e.job _ (some-then _ _ (job_text e.job) _ (given-own (codes "JOB") (job_text e.job) (word_of (codes "AT") (decimal e.moment)
+    ∷ word_of (codes "GRP") (decimal (unwrap_or e.group 0)) ∷ word_of (codes "MBR") (decimal (unwrap_or e.member 0)) ∷ word_of (codes "RRN") (decimal (unwrap_or e.rrn 0))
+    ∷ more) refl) (job-read e.job is.job)) (
+    some-then _ _ e.moment _ (long-given (codes "AT") e.moment (word_of (codes "JOB") (job_text e.job) ∷ word_of (codes "AT") (decimal e.moment)
+    ∷ word_of (codes "GRP") (decimal (unwrap_or e.group 0)) ∷ word_of (codes "MBR") (decimal (unwrap_or e.member 0)) ∷ word_of (codes "RRN") (decimal (unwrap_or e.rrn 0)) ∷ more)
+    (given-next (codes "AT") (word_of (codes "JOB") (job_text e.job)) (word_of (codes "AT") (decimal e.moment) ∷ word_of (codes "GRP") (decimal (unwrap_or e.group 0))
+    ∷ word_of (codes "MBR") (decimal (unwrap_or e.member 0)) ∷ word_of (codes "RRN") (decimal (unwrap_or e.rrn 0)) ∷ more) refl refl ∙ given-own (codes "AT") (decimal e.moment)
+    (word_of (codes "GRP") (decimal (unwrap_or e.group 0)) ∷ word_of (codes "MBR") (decimal (unwrap_or e.member 0)) ∷ word_of (codes "RRN") (decimal (unwrap_or e.rrn 0))
+    ∷ more) refl) is.moment) (
+    some-then _ _ (unwrap_or e.group 0) _ (long-given (codes "GRP") (unwrap_or e.group 0) (word_of (codes "JOB") (job_text e.job) ∷ word_of (codes "AT") (decimal e.moment)
+    ∷ word_of (codes "GRP") (decimal (unwrap_or e.group 0)) ∷ word_of (codes "MBR") (decimal (unwrap_or e.member 0)) ∷ word_of (codes "RRN") (decimal (unwrap_or e.rrn 0)) ∷ more)
+    (given-next (codes "GRP") (word_of (codes "JOB") (job_text e.job)) (word_of (codes "AT") (decimal e.moment) ∷ word_of (codes "GRP") (decimal (unwrap_or e.group 0))
+    ∷ word_of (codes "MBR") (decimal (unwrap_or e.member 0)) ∷ word_of (codes "RRN") (decimal (unwrap_or e.rrn 0)) ∷ more) refl refl ∙ given-next (codes "GRP")
+    (word_of (codes "AT") (decimal e.moment)) (word_of (codes "GRP") (decimal (unwrap_or e.group 0)) ∷ word_of (codes "MBR") (decimal (unwrap_or e.member 0))
+    ∷ word_of (codes "RRN") (decimal (unwrap_or e.rrn 0)) ∷ more) refl refl ∙ given-own (codes "GRP") (decimal (unwrap_or e.group 0))
+    (word_of (codes "MBR") (decimal (unwrap_or e.member 0)) ∷ word_of (codes "RRN") (decimal (unwrap_or e.rrn 0)) ∷ more) refl) (small-or-0 e.group (2 ^ 64) (omega arith) is.group)) (
+    some-then _ _ (unwrap_or e.member 0) _ (number-given (codes "MBR") (unwrap_or e.member 0) (word_of (codes "JOB") (job_text e.job) ∷ word_of (codes "AT") (decimal e.moment)
+    ∷ word_of (codes "GRP") (decimal (unwrap_or e.group 0)) ∷ word_of (codes "MBR") (decimal (unwrap_or e.member 0)) ∷ word_of (codes "RRN") (decimal (unwrap_or e.rrn 0)) ∷ more)
+    (given-next (codes "MBR") (word_of (codes "JOB") (job_text e.job)) (word_of (codes "AT") (decimal e.moment) ∷ word_of (codes "GRP") (decimal (unwrap_or e.group 0))
+    ∷ word_of (codes "MBR") (decimal (unwrap_or e.member 0)) ∷ word_of (codes "RRN") (decimal (unwrap_or e.rrn 0)) ∷ more) refl refl ∙ given-next (codes "MBR")
+    (word_of (codes "AT") (decimal e.moment)) (word_of (codes "GRP") (decimal (unwrap_or e.group 0)) ∷ word_of (codes "MBR") (decimal (unwrap_or e.member 0))
+    ∷ word_of (codes "RRN") (decimal (unwrap_or e.rrn 0)) ∷ more) refl refl ∙ given-next (codes "MBR") (word_of (codes "GRP") (decimal (unwrap_or e.group 0)))
+    (word_of (codes "MBR") (decimal (unwrap_or e.member 0)) ∷ word_of (codes "RRN") (decimal (unwrap_or e.rrn 0)) ∷ more) refl refl
+    ∙ given-own (codes "MBR") (decimal (unwrap_or e.member 0)) (word_of (codes "RRN") (decimal (unwrap_or e.rrn 0)) ∷ more) refl) (small-or-0 e.member (2 ^ 32) (omega arith) is.member)) (
+    some-then _ _ (unwrap_or e.rrn 0) _ (number-given (codes "RRN") (unwrap_or e.rrn 0) (word_of (codes "JOB") (job_text e.job) ∷ word_of (codes "AT") (decimal e.moment)
+    ∷ word_of (codes "GRP") (decimal (unwrap_or e.group 0)) ∷ word_of (codes "MBR") (decimal (unwrap_or e.member 0)) ∷ word_of (codes "RRN") (decimal (unwrap_or e.rrn 0)) ∷ more)
+    (given-next (codes "RRN") (word_of (codes "JOB") (job_text e.job)) (word_of (codes "AT") (decimal e.moment) ∷ word_of (codes "GRP") (decimal (unwrap_or e.group 0))
+    ∷ word_of (codes "MBR") (decimal (unwrap_or e.member 0)) ∷ word_of (codes "RRN") (decimal (unwrap_or e.rrn 0)) ∷ more) refl refl ∙ given-next (codes "RRN")
+    (word_of (codes "AT") (decimal e.moment)) (word_of (codes "GRP") (decimal (unwrap_or e.group 0)) ∷ word_of (codes "MBR") (decimal (unwrap_or e.member 0))
+    ∷ word_of (codes "RRN") (decimal (unwrap_or e.rrn 0)) ∷ more) refl refl ∙ given-next (codes "RRN") (word_of (codes "GRP") (decimal (unwrap_or e.group 0)))
+    (word_of (codes "MBR") (decimal (unwrap_or e.member 0)) ∷ word_of (codes "RRN") (decimal (unwrap_or e.rrn 0)) ∷ more) refl refl ∙ given-next (codes "RRN")
+    (word_of (codes "MBR") (decimal (unwrap_or e.member 0))) (word_of (codes "RRN") (decimal (unwrap_or e.rrn 0)) ∷ more) refl refl
+    ∙ given-own (codes "RRN") (decimal (unwrap_or e.rrn 0)) (more) refl) (small-or-0 e.rrn (2 ^ 32) (omega arith) is.rrn)) (
     ap (λ g. Some (record { job = e.job; moment = e.moment; group = g; member = counted (unwrap_or e.member 0); rrn = counted (unwrap_or e.rrn 0) })) there.0
     ∙ ap (λ m. Some (record { job = e.job; moment = e.moment; group = e.group; member = m; rrn = counted (unwrap_or e.rrn 0) })) there.1
     ∙ ap (λ r. Some (record { job = e.job; moment = e.moment; group = e.group; member = e.member; rrn = r })) there.2)))))
@@ -515,9 +707,11 @@ abbrev pub entry_words : Entry → List (List ℕ) → List (List ℕ)
 entry_words e body = place_words e ++ origin_words e ++ body
 
 entry-follows : (e : Entry) (body : List (List ℕ)) → IsEntry e → IsBody e.kind body → Follows (stroked_entry e) (entry_words e body)
-entry-follows e body is there = both _ _ (place_words e ++ origin_words e) body (both _ _ (place_words e) (origin_words e) (place-follows e is.head.sequence) (origin-follows e is.head)) there.follows
+entry-follows e body is there = both _ _ (place_words e ++ origin_words e) body
+    (both _ _ (place_words e) (origin_words e) (place-follows e is.head.sequence) (origin-follows e is.head)) there.follows
 
-entry-read : (e : Entry) (body more : List (List ℕ)) → IsEntry e → IsBody e.kind body → entry_of (codes "ENT" ∷ decimal e.sequence ∷ code_word e ∷ type_word e ∷ (origin_words e ++ (body ++ more))) ≡ Some (shown_entry e)
+entry-read : (e : Entry) (body more : List (List ℕ)) → IsEntry e → IsBody e.kind body → entry_of (codes "ENT" ∷ decimal e.sequence ∷ code_word e ∷ type_word e
+    ∷ (origin_words e ++ (body ++ more))) ≡ Some (shown_entry e)
 unfolding entry_of typed_entry
 entry-read e body more is there =
     some-then _ _ e.sequence _ (long-decimal e.sequence is.head.sequence) (
@@ -551,7 +745,8 @@ entries_words (e ∷ entries) are = entry_words e (body_words e are.0) ++ entrie
 pub entries-follow : (entries : List Entry) (are : AreEntries entries) → Follows (entries_text entries) (entries_words entries are)
 unfolding entries_text
 entries-follow [] are = nothing
-entries-follow (e ∷ entries) are = both _ _ (entry_words e (body_words e are.0)) (entries_words entries are.1) (entry-follows e (body_words e are.0) are.0 (body-there e are.0)) (entries-follow entries are.1)
+entries-follow (e
+    ∷ entries) are = both _ _ (entry_words e (body_words e are.0)) (entries_words entries are.1) (entry-follows e (body_words e are.0) are.0 (body-there e are.0)) (entries-follow entries are.1)
 
 pub entries-read : (entries : List Entry) (are : AreEntries entries) → entries_in (entries_words entries are) ≡ Some (map shown_entry entries)
 entries-read [] are = refl

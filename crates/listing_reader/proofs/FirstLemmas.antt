@@ -1,18 +1,16 @@
 -- The first line in which a text differs from the listing of what was read of it is the first that no listing has there.
-use Rattle.std.proofs.Common.{◌≡◌, ◌≢◌, ℕ, zero, suc, ◌+◌, ◌-◌, ◌<◌, ◌≤◌, ◌^◌, Bool, true, false, cond, ◌||◌, ◌==◌, Option, Some, None, List, [], ◌∷◌, ◌++◌, length, get_or, drop, map, codes, refl, ap, ◌∙◌, sym, subst, append_assoc, append-nil, length-append, arith}
+use Rattle.std.proofs.Common.{◌≡◌, ◌≢◌, ℕ, zero, suc, ◌+◌, ◌-◌, ◌<◌, ◌^◌, Bool, true, false, cond, ◌||◌, ◌==◌, List, [], ◌∷◌, ◌++◌, length, get_or, drop, codes, refl, ap, ◌∙◌, sym, subst, append_assoc, length-append, arith}
 use Rattle.std.specs.Option.{option_map_or}
 use Rattle.std.specs.Fmt.{decimal}
 use Rattle.std.proofs.lemmas.Bool.{cond-true, cond-false, eq-eqb, eqb-true}
 use Rattle.library_model.specs.declared.calls.Call.{Call}
 use Rattle.listing.specs.HistoryListing.{call_line, call_lines, listing}
 use Rattle.text_lines.specs.Lines.{lines_of}
-use Rattle.statement_reader.specs.Words.{words}
 use Rattle.listing_reader.specs.FirstBad.{first_lines, shared_lines, IsFirstBad}
-use Rattle.listing_reader.specs.Lines.{call_of, calls_of}
-use Rattle.listing_reader.specs.Listed.{IsCall, AreCalls, AreDifferent, shown}
-use Rattle.listing_reader.proofs.ScanLemmas.{has_feed, has_feed-append, lines-first}
-use Rattle.listing_reader.proofs.TextLemmas.{decimal-word}
-use Rattle.listing_reader.proofs.LineLemmas.{IsLine, line-is, last_text, last-feed, last-none-of}
+use Rattle.listing_reader.specs.Lines.{calls_of}
+use Rattle.listing_reader.specs.Listed.{AreCalls, AreDifferent, shown}
+use Rattle.listing_reader.proofs.ScanLemmas.{has_feed, lines-first}
+use Rattle.listing_reader.proofs.LineLemmas.{line-is, last_text, last-feed, last-none-of}
 use Rattle.listing_reader.proofs.ShownLemmas.{same-line}
 
 -- ---- texts that share their first lines
@@ -24,11 +22,14 @@ next-line c text others (suc count) other same =
     ∙ ap (λ t. c ∷ t) same
     ∙ sym (ap (λ v. c ∷ cond v (first_lines others count) (first_lines others (suc count))) other)
 
-shared-step : (c : ℕ) (text others : List ℕ) → first_lines text (shared_lines text others) ≡ first_lines others (shared_lines text others) → first_lines (c ∷ text) (cond (c == 10) (suc (shared_lines text others)) (shared_lines text others)) ≡ first_lines (c ∷ others) (cond (c == 10) (suc (shared_lines text others)) (shared_lines text others))
+shared-step : (c : ℕ) (text others : List ℕ) → first_lines text (shared_lines text others) ≡ first_lines others (shared_lines text others) → first_lines (c ∷ text)
+    (cond (c == 10) (suc (shared_lines text others)) (shared_lines text others)) ≡ first_lines (c ∷ others) (cond (c == 10) (suc (shared_lines text others)) (shared_lines text others))
 shared-step c text others same =
     let count = shared_lines text others in
-    (elim (c == 10) as (λ v. (c == 10) ≡ v → first_lines (c ∷ text) (cond v (suc (shared_lines text others)) (shared_lines text others)) ≡ first_lines (c ∷ others) (cond v (suc (shared_lines text others)) (shared_lines text others))) [
-      | true ↦ λ feed. ap (λ v. c ∷ cond v (first_lines text (shared_lines text others)) (first_lines text (suc (shared_lines text others)))) feed ∙ ap (λ t. c ∷ t) same ∙ sym (ap (λ v. c ∷ cond v (first_lines others (shared_lines text others)) (first_lines others (suc (shared_lines text others)))) feed)
+    (elim (c == 10) as (λ v. (c == 10) ≡ v → first_lines (c ∷ text) (cond v (suc (shared_lines text others)) (shared_lines text others)) ≡ first_lines (c ∷ others)
+    (cond v (suc (shared_lines text others)) (shared_lines text others))) [
+      | true ↦ λ feed. ap (λ v. c ∷ cond v (first_lines text (shared_lines text others)) (first_lines text (suc (shared_lines text others)))) feed ∙ ap (λ t. c ∷ t) same ∙ sym (ap (λ v. c
+          ∷ cond v (first_lines others (shared_lines text others)) (first_lines others (suc (shared_lines text others)))) feed)
       | false ↦ λ other. next-line c text others (shared_lines text others) other same
     ]) refl
 
@@ -38,18 +39,25 @@ shared-same [] others = refl
 shared-same (c ∷ text) [] = refl
 shared-same (c ∷ text) (d ∷ others) =
     let step = shared-step c text others (shared-same text others) in
-    (elim (c == d) as (λ v. (c == d) ≡ v → first_lines (c ∷ text) (cond v (cond (c == 10) (suc (shared_lines text others)) (shared_lines text others)) 0) ≡ first_lines (d ∷ others) (cond v (cond (c == 10) (suc (shared_lines text others)) (shared_lines text others)) 0)) [
-      | true ↦ λ same. subst (λ e. first_lines (c ∷ text) (cond (c == 10) (suc (shared_lines text others)) (shared_lines text others)) ≡ first_lines (e ∷ others) (cond (c == 10) (suc (shared_lines text others)) (shared_lines text others))) (eqb-true c d same) step
+    (elim (c == d) as (λ v. (c == d) ≡ v → first_lines (c ∷ text) (cond v (cond (c == 10) (suc (shared_lines text others)) (shared_lines text others)) 0) ≡ first_lines (d ∷ others) (cond v
+    (cond (c == 10) (suc (shared_lines text others)) (shared_lines text others)) 0)) [
+      | true ↦ λ same. subst (λ e. first_lines (c ∷ text) (cond (c == 10) (suc (shared_lines text others)) (shared_lines text others)) ≡ first_lines (e ∷ others)
+          (cond (c == 10) (suc (shared_lines text others)) (shared_lines text others))) (eqb-true c d same) step
       | false ↦ λ other. refl
     ]) refl
 
-same-head : (c : ℕ) (text others : List ℕ) → (first_lines text (suc (shared_lines text others)) ≡ first_lines others (suc (shared_lines text others)) → text ≡ others) → first_lines (c ∷ text) (suc (shared_lines (c ∷ text) (c ∷ others))) ≡ first_lines (c ∷ others) (suc (shared_lines (c ∷ text) (c ∷ others))) → c ∷ text ≡ c ∷ others
+same-head : (c : ℕ) (text others : List ℕ) → (first_lines text (suc (shared_lines text others)) ≡ first_lines others (suc (shared_lines text others)) → text ≡ others) → first_lines (c
+    ∷ text) (suc (shared_lines (c ∷ text) (c ∷ others))) ≡ first_lines (c ∷ others) (suc (shared_lines (c ∷ text) (c ∷ others))) → c ∷ text ≡ c ∷ others
 same-head c text others more h =
-    let count : shared_lines (c ∷ text) (c ∷ others) ≡ cond (c == 10) (suc (shared_lines text others)) (shared_lines text others) = cond-true (c == c) (cond (c == 10) (suc (shared_lines text others)) (shared_lines text others)) 0 (eq-eqb c c refl) in
-    let there : first_lines (c ∷ text) (suc (cond (c == 10) (suc (shared_lines text others)) (shared_lines text others))) ≡ first_lines (c ∷ others) (suc (cond (c == 10) (suc (shared_lines text others)) (shared_lines text others))) =
+    let count : shared_lines (c ∷ text) (c ∷ others) ≡ cond (c == 10) (suc (shared_lines text others)) (shared_lines text others) = cond-true (c == c)
+    (cond (c == 10) (suc (shared_lines text others)) (shared_lines text others)) 0 (eq-eqb c c refl) in
+    let there : first_lines (c ∷ text) (suc (cond (c == 10) (suc (shared_lines text others)) (shared_lines text others))) ≡ first_lines (c ∷ others) (suc
+    (cond (c == 10) (suc (shared_lines text others)) (shared_lines text others))) =
     subst (λ n. first_lines (c ∷ text) (suc n) ≡ first_lines (c ∷ others) (suc n)) count h in
     let tails = ap (drop 1) there in
-    ap (λ t. c ∷ t) ((elim (c == 10) as (λ v. cond v (first_lines text (cond v (suc (shared_lines text others)) (shared_lines text others))) (first_lines text (suc (cond v (suc (shared_lines text others)) (shared_lines text others)))) ≡ cond v (first_lines others (cond v (suc (shared_lines text others)) (shared_lines text others))) (first_lines others (suc (cond v (suc (shared_lines text others)) (shared_lines text others)))) → text ≡ others) [
+    ap (λ t. c ∷ t) ((elim (c == 10) as (λ v. cond v (first_lines text (cond v (suc (shared_lines text others)) (shared_lines text others))) (first_lines text (suc
+    (cond v (suc (shared_lines text others)) (shared_lines text others)))) ≡ cond v (first_lines others
+    (cond v (suc (shared_lines text others)) (shared_lines text others))) (first_lines others (suc (cond v (suc (shared_lines text others)) (shared_lines text others)))) → text ≡ others) [
       | true ↦ λ t. more t
       | false ↦ λ t. more t
     ]) tails)
@@ -61,14 +69,16 @@ shared-all [] (d ∷ others) h = absurd cc
 shared-all (c ∷ text) [] h = absurd cc
 shared-all (c ∷ text) (d ∷ others) h =
     let at : c ≡ d = ap (λ l. get_or l 0 0) h in
-    (subst (λ e. first_lines (c ∷ text) (suc (shared_lines (c ∷ text) (e ∷ others))) ≡ first_lines (e ∷ others) (suc (shared_lines (c ∷ text) (e ∷ others))) → c ∷ text ≡ e ∷ others) at (same-head c text others (shared-all text others))) h
+    (subst (λ e. first_lines (c ∷ text) (suc (shared_lines (c ∷ text) (e ∷ others))) ≡ first_lines (e ∷ others) (suc (shared_lines (c ∷ text) (e ∷ others))) → c ∷ text ≡ e
+    ∷ others) at (same-head c text others (shared-all text others))) h
 
 -- ---- lines taken from the front
 
 lines-taken : (count : ℕ) (line rest : List ℕ) → has_feed line ≡ false → first_lines (line ++ 10 ∷ rest) (suc count) ≡ line ++ 10 ∷ first_lines rest count
 lines-taken count [] rest clear = refl
 lines-taken count (c ∷ line) rest clear =
-    (elim (c == 10) as (λ v. v || has_feed line ≡ false → c ∷ cond v (first_lines (line ++ 10 ∷ rest) count) (first_lines (line ++ 10 ∷ rest) (suc count)) ≡ c ∷ (line ++ 10 ∷ first_lines rest count)) [
+    (elim (c == 10) as (λ v. v || has_feed line ≡ false → c ∷ cond v (first_lines (line ++ 10 ∷ rest) count) (first_lines (line ++ 10 ∷ rest) (suc count)) ≡ c ∷ (line ++ 10
+    ∷ first_lines rest count)) [
       | true ↦ λ is. absurd cc
       | false ↦ λ is. ap (λ t. c ∷ t) (lines-taken count line rest is)
     ]) clear
@@ -106,7 +116,8 @@ end_line count = codes "END " ++ (decimal count ++ 10 ∷ [])
 abbrev pub lines_from : List (List ℕ) → ℕ → List Call → List ℕ
 lines_from names before calls = call_lines names (before + 1) calls ++ end_line (before + length calls)
 
-one-more : (names : List (List ℕ)) (before : ℕ) (call : Call) (calls : List Call) (line : List ℕ) → call_line names (before + 1) call ≡ line ++ 10 ∷ [] → lines_from names before (call ∷ calls) ≡ line ++ 10 ∷ lines_from names (before + 1) calls
+one-more : (names : List (List ℕ)) (before : ℕ) (call : Call) (calls : List Call) (line : List ℕ) → call_line names (before + 1) call ≡ line ++ 10 ∷ [] → lines_from names before (call
+    ∷ calls) ≡ line ++ 10 ∷ lines_from names (before + 1) calls
 one-more names before call calls line text =
     let count : before + suc (length calls) ≡ before + 1 + length calls = omega arith in
     append_assoc (call_line names (before + 1) call) (call_lines names (before + 1 + 1) calls) (end_line (before + suc (length calls)))
@@ -124,16 +135,19 @@ no-line [] rest more last count h = absurd cc
 no-line (d ∷ digits) rest more last count h = absurd cc
 
 -- a text whose first lines are those of a listing isn't empty
-some-byte : (names : List (List ℕ)) (before count : ℕ) (call : Call) (calls : List Call) (bytes : List ℕ) → first_lines (lines_from names before (call ∷ calls)) (suc count) ≡ first_lines bytes (suc count) → 0 < length bytes
+some-byte : (names : List (List ℕ)) (before count : ℕ) (call : Call) (calls : List Call) (bytes : List ℕ) → first_lines (lines_from names before (call ∷ calls)) (suc count)
+    ≡ first_lines bytes (suc count) → 0 < length bytes
 unfolding call_line
 some-byte names before count call calls [] same = absurd (no-line (decimal (before + 1)) _ _ _ count same)
 some-byte names before count call calls (b ∷ bytes) same = omega arith
 
-begins-small : (names : List (List ℕ)) (before count : ℕ) (call : Call) (calls : List Call) (bytes : List ℕ) → before + length bytes < 10 ^ 64 → first_lines (lines_from names before (call ∷ calls)) (suc count) ≡ first_lines bytes (suc count) → before + 1 < 10 ^ 64
+begins-small : (names : List (List ℕ)) (before count : ℕ) (call : Call) (calls : List Call) (bytes : List ℕ) → before + length bytes < 10 ^ 64 → first_lines (lines_from names before (call
+    ∷ calls)) (suc count) ≡ first_lines bytes (suc count) → before + 1 < 10 ^ 64
 begins-small names before count call calls bytes small same = omega (arith, small, some-byte names before count call calls bytes same)
 
 -- the listing of what is read of a text begins with the lines with which any listing begins as the text does
-lines-agree : (names : List (List ℕ)) (before count : ℕ) (calls : List Call) (bytes : List ℕ) → AreDifferent names → AreCalls names calls → before + length bytes < 10 ^ 64 → first_lines (lines_from names before calls) count ≡ first_lines bytes count → first_lines (lines_from names before (calls_of names (lines_of bytes))) count ≡ first_lines bytes count
+lines-agree : (names : List (List ℕ)) (before count : ℕ) (calls : List Call) (bytes : List ℕ) → AreDifferent names → AreCalls names calls → before + length bytes < 10 ^ 64
+    → first_lines (lines_from names before calls) count ≡ first_lines bytes count → first_lines (lines_from names before (calls_of names (lines_of bytes))) count ≡ first_lines bytes count
 lines-agree names before zero calls bytes different are small same = refl
 lines-agree names before (suc count) [] bytes different are small same =
     let none : before + 0 ≡ before = omega arith in
@@ -151,7 +165,8 @@ lines-agree names before (suc count) (call ∷ calls) bytes different are small 
     let found = lines-begin count line.0 bytes (first_lines (lines_from names (before + 1) calls) count) line.1.feed (sym same ∙ taken) in
     let shorter : before + 1 + length found.0 < 10 ^ 64 = rest-small before line.0 bytes found.0 found.1 small in
     let read : calls_of names (lines_of bytes) ≡ shown call ∷ calls_of names (lines_of found.0) =
-    ap (λ b. calls_of names (lines_of b)) found.1 ∙ ap (calls_of names) (lines-first line.0 found.0 line.1.feed) ∙ ap (λ o. option_map_or (λ c. c ∷ calls_of names (lines_of found.0)) o []) line.1.reads in
+    ap (λ b. calls_of names (lines_of b)) found.1 ∙ ap (calls_of names) (lines-first line.0 found.0 line.1.feed) ∙ ap (λ o. option_map_or (λ c. c
+    ∷ calls_of names (lines_of found.0)) o []) line.1.reads in
     let deeper = lines-agree names (before + 1) count calls found.0 different are.1 shorter (sym found.2) in
     ap (λ cs. first_lines (lines_from names before cs) (suc count)) read
     ∙ ap (λ t. first_lines t (suc count)) (one-more names before (shown call) (calls_of names (lines_of found.0)) line.0 (same-line names (before + 1) call ∙ line.1.text))
@@ -167,13 +182,16 @@ listing-lines names calls =
     ap (λ n. codes "HISTORY" ++ 10 ∷ (call_lines names 1 calls ++ end_line n)) (sym none)
 
 -- the whole listing
-listing-agrees : (names : List (List ℕ)) (count : ℕ) (calls : List Call) (bytes : List ℕ) → AreDifferent names → AreCalls names calls → length bytes < 2 ^ 64 → first_lines (listing names calls) count ≡ first_lines bytes count → first_lines (listing names (calls_of names (drop 1 (lines_of bytes)))) count ≡ first_lines bytes count
+listing-agrees : (names : List (List ℕ)) (count : ℕ) (calls : List Call) (bytes : List ℕ) → AreDifferent names → AreCalls names calls → length bytes < 2 ^ 64
+    → first_lines (listing names calls) count ≡ first_lines bytes count → first_lines (listing names (calls_of names (drop 1 (lines_of bytes)))) count ≡ first_lines bytes count
 listing-agrees names zero calls bytes different are small same = refl
 listing-agrees names (suc count) calls bytes different are small same =
-    let taken : first_lines (codes "HISTORY" ++ 10 ∷ lines_from names 0 calls) (suc count) ≡ codes "HISTORY" ++ 10 ∷ first_lines (lines_from names 0 calls) count = lines-taken count (codes "HISTORY") (lines_from names 0 calls) refl in
+    let taken : first_lines (codes "HISTORY" ++ 10 ∷ lines_from names 0 calls) (suc count) ≡ codes "HISTORY" ++ 10
+    ∷ first_lines (lines_from names 0 calls) count = lines-taken count (codes "HISTORY") (lines_from names 0 calls) refl in
     let whole : listing names calls ≡ codes "HISTORY" ++ 10 ∷ lines_from names 0 calls = listing-lines names calls in
     let found = lines-begin count (codes "HISTORY") bytes (first_lines (lines_from names 0 calls) count) refl (sym same ∙ ap (λ t. first_lines t (suc count)) whole ∙ taken) in
-    let read : calls_of names (drop 1 (lines_of bytes)) ≡ calls_of names (lines_of found.0) = ap (λ b. calls_of names (drop 1 (lines_of b))) found.1 ∙ ap (λ ls. calls_of names (drop 1 ls)) (lines-first (codes "HISTORY") found.0 refl) in
+    let read : calls_of names (drop 1 (lines_of bytes)) ≡ calls_of names (lines_of found.0) = ap (λ b. calls_of names (drop 1 (lines_of b))) found.1 ∙ ap
+    (λ ls. calls_of names (drop 1 ls)) (lines-first (codes "HISTORY") found.0 refl) in
     let shorter : 0 + length found.0 < 10 ^ 64 = omega (arith, rest-small 0 (codes "HISTORY") bytes found.0 found.1 (omega (arith, small))) in
     ap (λ cs. first_lines (listing names cs) (suc count)) read
     ∙ ap (λ t. first_lines t (suc count)) (listing-lines names (calls_of names (lines_of found.0)))
@@ -183,13 +201,15 @@ listing-agrees names (suc count) calls bytes different are small same =
     ∙ ap (λ b. first_lines b (suc count)) (sym found.1)
 
 -- where the bytes are not the listing of what is read of them, the first line in which they differ is the first bad one
-pub first-bad : (names : List (List ℕ)) (made : List Call) (bytes : List ℕ) (line : ℕ) → AreDifferent names → length bytes < 2 ^ 64 → made ≡ calls_of names (drop 1 (lines_of bytes)) → listing names made ≢ bytes → line ≡ suc (shared_lines (listing names made) bytes) → IsFirstBad names bytes line
+pub first-bad : (names : List (List ℕ)) (made : List Call) (bytes : List ℕ) (line : ℕ) → AreDifferent names → length bytes < 2 ^ 64 → made ≡ calls_of names (drop 1 (lines_of bytes))
+    → listing names made ≢ bytes → line ≡ suc (shared_lines (listing names made) bytes) → IsFirstBad names bytes line
 first-bad names made bytes line different small read differ at =
     let shared = shared_lines (listing names made) bytes in
     let less : line - 1 ≡ shared = omega (arith, at) in
     record {
       none = λ calls are same.
-          let agree : first_lines (listing names made) line ≡ first_lines bytes line = ap (λ cs. first_lines (listing names cs) line) read ∙ listing-agrees names line calls bytes different are small same in
+          let agree : first_lines (listing names made) line ≡ first_lines bytes line = ap (λ cs. first_lines (listing names cs) line) read
+          ∙ listing-agrees names line calls bytes different are small same in
           let more : first_lines (listing names made) (suc shared) ≡ first_lines bytes (suc shared) = subst (λ n. first_lines (listing names made) n ≡ first_lines bytes n) at agree in
           differ (shared-all (listing names made) bytes more);
       before = (made, subst (λ n. first_lines (listing names made) n ≡ first_lines bytes n) (sym less) (shared-same (listing names made) bytes));

@@ -1,5 +1,5 @@
 -- Jobs are read back by their names.
-use Rattle.std.proofs.Common.{◌≡◌, ℕ, zero, suc, ◌+◌, ◌-◌, ◌<◌, ◌≤◌, Bool, true, false, cond, Option, Some, None, List, [], ◌∷◌, length, slice_get, refl, ap, ◌∙◌, sym, arith}
+use Rattle.std.proofs.Common.{◌≡◌, ℕ, zero, suc, ◌+◌, ◌-◌, ◌<◌, true, false, Some, List, [], ◌∷◌, length, slice_get, ap, ◌∙◌, arith}
 use Rattle.std.specs.Option.{unwrap_or}
 use Rattle.std.proofs.lemmas.Bool.{cond-true, cond-false}
 use Rattle.field_types.specs.SystemName.{is_name}
@@ -42,6 +42,7 @@ job-named names job different has =
 pub job-is-name : (names : List (List ℕ)) (job : ℕ) → AreDifferent names → HasName names job → is_name (job_name names job) ≡ true
 job-is-name names job different has = name-at names (job - 1) different (omega (arith, has.0, has.1))
 
-pub job-given : (names : List (List ℕ)) (keyword : List ℕ) (job : ℕ) (words : List (List ℕ)) → AreDifferent names → HasName names job → given keyword words ≡ Some (job_name names job) → job_in names keyword words ≡ Some job
+pub job-given : (names : List (List ℕ)) (keyword : List ℕ) (job : ℕ) (words : List (List ℕ)) → AreDifferent names → HasName names job → given keyword words ≡ Some (job_name names job)
+    → job_in names keyword words ≡ Some job
 unfolding job_in
 job-given names keyword job words different has here = ap (λ o. let_some o (job_from 1 names)) here ∙ job-named names job different has

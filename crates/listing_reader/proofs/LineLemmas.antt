@@ -1,5 +1,5 @@
 -- Each line is read back, and so is the listing.
-use Rattle.std.proofs.Common.{◌≡◌, ℕ, suc, ◌+◌, ◌<◌, ◌≤◌, ◌^◌, Bool, true, false, Option, Some, None, List, [], ◌∷◌, ◌++◌, length, drop, map, codes, refl, ap, ◌∙◌, sym, append_assoc, append-nil, length-append, arith}
+use Rattle.std.proofs.Common.{◌≡◌, ℕ, ◌+◌, ◌<◌, ◌≤◌, ◌^◌, false, Some, None, List, [], ◌∷◌, ◌++◌, length, drop, map, codes, refl, ap, ◌∙◌, sym, append_assoc, append-nil, length-append, arith}
 use Rattle.std.specs.Option.{option_map_or}
 use Rattle.std.specs.Fmt.{decimal}
 use Rattle.library_model.specs.declared.calls.Call.{Call}
@@ -13,7 +13,7 @@ use Rattle.text_lines.specs.Lines.{lines_of}
 use Rattle.listing_reader.specs.Lines.{reply_behind, call_from, call_of, calls_of}
 use Rattle.listing_reader.specs.Replies.{read_reply}
 use Rattle.listing_reader.specs.Listed.{IsCall, AreCalls, AreDifferent, shown_reply, shown}
-use Rattle.listing_reader.proofs.ScanLemmas.{IsWord, AreWords, spaced, has_feed, Follows, spaced-append, are_words-append, spaced-words, spaced-feed, word-feed, has_feed-append, lines-first}
+use Rattle.listing_reader.proofs.ScanLemmas.{IsWord, AreWords, spaced, has_feed, spaced-append, are_words-append, spaced-words, spaced-feed, word-feed, has_feed-append, lines-first}
 use Rattle.listing_reader.proofs.TextLemmas.{name-word, decimal-word}
 use Rattle.listing_reader.proofs.ValueLemmas.{long-decimal}
 use Rattle.listing_reader.proofs.ParameterLemmas.{some-then}
@@ -72,7 +72,8 @@ line_words names call ps ds = job_name names call.job ∷ decimal call.timestamp
 abbrev pub behind_command : Call → List (List ℕ) → List (List ℕ) → List ℕ
 behind_command call ps ds = spaced (ps ++ codes "=>" ∷ answer call.reply ∷ ds)
 
-exchange-text : (names : List (List ℕ)) (call : Call) (ps ds : List (List ℕ)) → parameters call.request ≡ spaced ps → details names call.reply ≡ spaced ds → exchange names call ≡ (command call.request ++ behind_command call ps ds) ++ 10 ∷ []
+exchange-text : (names : List (List ℕ)) (call : Call) (ps ds : List (List ℕ)) → parameters call.request ≡ spaced ps → details names call.reply ≡ spaced ds → exchange names call
+    ≡ (command call.request ++ behind_command call ps ds) ++ 10 ∷ []
 unfolding exchange request_text reply_text
 exchange-text names call ps ds params carried =
     let back = spaced (codes "=>" ∷ answer call.reply ∷ ds) in
@@ -83,7 +84,8 @@ exchange-text names call ps ds params carried =
     ∙ ap (λ t. command call.request ++ (t ++ 10 ∷ [])) (sym (spaced-append ps (codes "=>" ∷ answer call.reply ∷ ds)))
     ∙ sym (append_assoc (command call.request) (behind_command call ps ds) (10 ∷ []))
 
-line-text : (names : List (List ℕ)) (number : ℕ) (call : Call) (ps ds : List (List ℕ)) → parameters call.request ≡ spaced ps → details names call.reply ≡ spaced ds → call_line names number call ≡ (decimal number ++ spaced (line_words names call ps ds)) ++ 10 ∷ []
+line-text : (names : List (List ℕ)) (number : ℕ) (call : Call) (ps ds : List (List ℕ)) → parameters call.request ≡ spaced ps → details names call.reply ≡ spaced ds
+    → call_line names number call ≡ (decimal number ++ spaced (line_words names call ps ds)) ++ 10 ∷ []
 unfolding call_line
 line-text names number call ps ds params carried =
     let time = command call.request ++ behind_command call ps ds in
@@ -99,7 +101,8 @@ pub record IsLine (names : List (List ℕ)) (number : ℕ) (call : Call) (line :
   pub feed : has_feed line ≡ false
   pub reads : call_of names (words line) ≡ Some (shown call)
 
-call-read : (names : List (List ℕ)) (call : Call) (ps ds : List (List ℕ)) (number : List ℕ) → AreDifferent names → IsCall names call → IsReadBack call.request ps → read_reply names (answer call.reply) ds ≡ Some (shown_reply call.reply) → call_of names (number ∷ line_words names call ps ds) ≡ Some (shown call)
+call-read : (names : List (List ℕ)) (call : Call) (ps ds : List (List ℕ)) (number : List ℕ) → AreDifferent names → IsCall names call → IsReadBack call.request ps
+    → read_reply names (answer call.reply) ds ≡ Some (shown_reply call.reply) → call_of names (number ∷ line_words names call ps ds) ≡ Some (shown call)
 unfolding call_of call_from reply_behind
 call-read names call ps ds number different is back replies =
     some-then _ _ call.job _ (job-named names call.job different is.job) (
@@ -126,14 +129,16 @@ line-is names number call different small is =
     )
 
 -- the calls of a text that begins with the line of a call
-line-first : (names : List (List ℕ)) (number : ℕ) (call : Call) (line rest : List ℕ) → IsLine names number call line → calls_of names (lines_of (call_line names number call ++ rest)) ≡ shown call ∷ calls_of names (lines_of rest)
+line-first : (names : List (List ℕ)) (number : ℕ) (call : Call) (line rest : List ℕ) → IsLine names number call line → calls_of names (lines_of (call_line names number call ++ rest))
+    ≡ shown call ∷ calls_of names (lines_of rest)
 line-first names number call line rest is =
     ap (λ t. calls_of names (lines_of (t ++ rest))) is.text
     ∙ ap (λ t. calls_of names (lines_of t)) (append_assoc line (10 ∷ []) rest)
     ∙ ap (calls_of names) (lines-first line rest is.feed)
     ∙ ap (λ o. option_map_or (λ c. c ∷ calls_of names (lines_of rest)) o []) is.reads
 
-lines-read : (names : List (List ℕ)) (number : ℕ) (calls : List Call) (rest : List ℕ) → AreDifferent names → AreCalls names calls → number + length calls < 10 ^ 64 → calls_of names (lines_of (call_lines names number calls ++ rest)) ≡ map shown calls ++ calls_of names (lines_of rest)
+lines-read : (names : List (List ℕ)) (number : ℕ) (calls : List Call) (rest : List ℕ) → AreDifferent names → AreCalls names calls → number + length calls < 10 ^ 64
+    → calls_of names (lines_of (call_lines names number calls ++ rest)) ≡ map shown calls ++ calls_of names (lines_of rest)
 lines-read names number [] rest different are small = refl
 lines-read names number (call ∷ calls) rest different are small =
     let here = line-is names number call different (omega (arith, small)) are.0 in
@@ -167,7 +172,8 @@ last-none-of names count rest small =
 last-none : (names : List (List ℕ)) (count : ℕ) → count < 10 ^ 64 → calls_of names (lines_of (codes "END " ++ (decimal count ++ 10 ∷ []))) ≡ []
 last-none names count small = last-none-of names count [] small
 
-pub listing-read : (names : List (List ℕ)) (calls : List Call) → AreDifferent names → AreCalls names calls → length calls < 2 ^ 64 → calls_of names (drop 1 (lines_of (listing names calls))) ≡ map shown calls
+pub listing-read : (names : List (List ℕ)) (calls : List Call) → AreDifferent names → AreCalls names calls → length calls < 2 ^ 64 → calls_of names (drop 1 (lines_of (listing names calls)))
+    ≡ map shown calls
 unfolding listing
 listing-read names calls different are small =
     let last = codes "END " ++ (decimal (length calls) ++ 10 ∷ []) in
@@ -191,12 +197,14 @@ listing-length names calls =
     omega (arith, lines-length names 1 calls, length-append (call_lines names 1 calls) last, length-append (codes "HISTORY") (10 ∷ (call_lines names 1 calls ++ last)))
 
 -- what is read of a listing has that listing
-pub read-again : (names : List (List ℕ)) (calls made : List Call) (bytes : List ℕ) → AreDifferent names → AreCalls names calls → length bytes < 2 ^ 64 → listing names calls ≡ bytes → made ≡ calls_of names (drop 1 (lines_of bytes)) → listing names made ≡ bytes
+pub read-again : (names : List (List ℕ)) (calls made : List Call) (bytes : List ℕ) → AreDifferent names → AreCalls names calls → length bytes < 2 ^ 64 → listing names calls ≡ bytes → made
+    ≡ calls_of names (drop 1 (lines_of bytes)) → listing names made ≡ bytes
 read-again names calls made bytes different are small text read =
     let few : length calls < 2 ^ 64 = omega (arith, listing-length names calls, ap length text, small) in
     ap (listing names) (read ∙ ap (λ t. calls_of names (drop 1 (lines_of t))) (sym text) ∙ listing-read names calls different are few) ∙ same-listing names calls ∙ text
 
 -- listings that are the same show the same
-pub same-shown : (names : List (List ℕ)) (calls others : List Call) → AreDifferent names → AreCalls names calls → AreCalls names others → length calls < 2 ^ 64 → length others < 2 ^ 64 → listing names calls ≡ listing names others → map shown calls ≡ map shown others
+pub same-shown : (names : List (List ℕ)) (calls others : List Call) → AreDifferent names → AreCalls names calls → AreCalls names others → length calls < 2 ^ 64 → length others < 2 ^ 64
+    → listing names calls ≡ listing names others → map shown calls ≡ map shown others
 same-shown names calls others different are those few many same =
     sym (listing-read names calls different are few) ∙ ap (λ t. calls_of names (drop 1 (lines_of t))) same ∙ listing-read names others different those many

@@ -1,5 +1,5 @@
 -- A parameter as a word, and what the words of parameters give.
-use Rattle.std.proofs.Common.{◌≡◌, ℕ, if◌then◌else◌, suc, ◌+◌, ◌-◌, ◌<◌, ◌≤◌, ◌^◌, Bool, true, false, cond, ◌&&◌, ◌==◌, nat_eq, Option, Some, None, List, [], ◌∷◌, ◌++◌, length, take, drop, codes, refl, ap, ◌∙◌, sym, append_assoc, append-nil, length-append, arith}
+use Rattle.std.proofs.Common.{◌≡◌, ℕ, if◌then◌else◌, ◌-◌, ◌<◌, ◌^◌, true, false, ◌&&◌, nat_eq, Option, Some, None, List, [], ◌∷◌, ◌++◌, length, take, drop, codes, refl, ap, ◌∙◌, sym, append_assoc, append-nil, length-append, arith}
 use Rattle.std.specs.Option.{option_or}
 use Rattle.std.specs.Fmt.{decimal}
 use Rattle.std.specs.Cmp.Lexicographic.{pointwise}
@@ -13,7 +13,7 @@ use Rattle.statement_reader.specs.Words.{after, is_outside, outside, has_text}
 use Rattle.listing_reader.specs.Values.{units, number_in, long_in}
 use Rattle.listing_reader.specs.Words.{is_break, inside, given, name_of, name_in}
 use Rattle.listing_reader.specs.declared.numbers.TheConstants.{MOST_NUMBER, MOST_LONG}
-use Rattle.listing_reader.proofs.ScanLemmas.{scan, IsClosed, LiesInside, Opens, IsWord, AreWords, Follows, scan-append}
+use Rattle.listing_reader.proofs.ScanLemmas.{scan, IsClosed, LiesInside, Opens, Follows, scan-append}
 use Rattle.listing_reader.proofs.ValueLemmas.{number-decimal, long-decimal}
 
 -- the word of a parameter
@@ -28,7 +28,8 @@ pub parameter-follows : (keyword value : List ℕ) → has_text keyword ≡ true
 unfolding parameter
 parameter-follows keyword value some opens lies =
     let closed : IsClosed (word_of keyword value) =
-    ap (scan is_outside after outside) (sym (append_assoc keyword (40 ∷ []) (value ++ 41 ∷ []))) ∙ scan-append is_outside after outside (keyword ++ 40 ∷ []) (value ++ 41 ∷ []) (after outside 40) opens ∙ scan-append is_outside after (after outside 40) value (41 ∷ []) (after outside 40) lies in
+    ap (scan is_outside after outside) (sym (append_assoc keyword (40 ∷ []) (value ++ 41 ∷ []))) ∙ scan-append is_outside after outside (keyword ++ 40 ∷ []) (value ++ 41
+    ∷ []) (after outside 40) opens ∙ scan-append is_outside after (after outside 40) value (41 ∷ []) (after outside 40) lies in
     record { text_is = ap (λ t. 32 ∷ t) (sym (append-nil (word_of keyword value))); are = (record { text = text-before keyword (40 ∷ (value ++ 41 ∷ [])) some; closed = closed }, tt) }
 
 pub same-words : (xs : List ℕ) → pointwise nat_eq xs xs ≡ true

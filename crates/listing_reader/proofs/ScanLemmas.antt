@@ -1,9 +1,9 @@
 -- Which texts are one word, and what the words of a text of words are.
 use Rattle.std.specs.Prelude.{⊤}
-use Rattle.std.proofs.Common.{◌≡◌, ℕ, if◌then◌else◌, Bool, true, false, cond, ◌&&◌, ◌||◌, ◌==◌, not, Option, Some, None, List, [], ◌∷◌, ◌++◌, refl, ap, ◌∙◌, sym, append_assoc, append-nil, is_some, true≢false}
-use Rattle.std.specs.List.{filter, list_all}
+use Rattle.std.proofs.Common.{◌≡◌, ℕ, if◌then◌else◌, Bool, true, false, cond, ◌&&◌, ◌||◌, ◌==◌, Option, Some, None, List, [], ◌∷◌, ◌++◌, refl, ap, ◌∙◌, sym, append_assoc, append-nil, is_some, true≢false}
+use Rattle.std.specs.List.{filter}
 use Rattle.std.specs.Option.{unwrap_or}
-use Rattle.std.proofs.lemmas.Bool.{cond-true, cond-false}
+use Rattle.std.proofs.lemmas.Bool.{cond-true}
 use Rattle.text_lines.specs.Lines.{is_blank, onto_first, lines_of}
 use Rattle.statement_reader.specs.Words.{after, is_outside, outside, pieces, has_text, words}
 
@@ -51,9 +51,11 @@ pub piece : (n : _) (w rest : List ℕ) → scan is_outside after n w ≡ Some o
 piece n [] rest h = ap (λ x. pieces x (32 ∷ rest)) (some-same n outside h)
 piece n (c ∷ w) rest h =
     let more = piece (after n c) w rest in
-    (elim (is_outside n && is_blank c) as (λ v. cond (v || (c == 10)) None (scan is_outside after (after n c) w) ≡ Some outside → cond v ([] ∷ pieces outside (w ++ 32 ∷ rest)) (onto_first c (pieces (after n c) (w ++ 32 ∷ rest))) ≡ (c ∷ w) ∷ pieces outside rest) [
+    (elim (is_outside n && is_blank c) as (λ v. cond (v || (c == 10)) None (scan is_outside after (after n c) w) ≡ Some outside → cond v ([] ∷ pieces outside (w ++ 32
+    ∷ rest)) (onto_first c (pieces (after n c) (w ++ 32 ∷ rest))) ≡ (c ∷ w) ∷ pieces outside rest) [
       | true ↦ λ none. absurd (none-some none)
-      | false ↦ (elim (c == 10) as (λ v. cond v None (scan is_outside after (after n c) w) ≡ Some outside → onto_first c (pieces (after n c) (w ++ 32 ∷ rest)) ≡ (c ∷ w) ∷ pieces outside rest) [ true ↦ λ none. absurd (none-some none) | false ↦ λ on. ap (onto_first c) (more on) ])
+      | false ↦ (elim (c == 10) as (λ v. cond v None (scan is_outside after (after n c) w) ≡ Some outside → onto_first c (pieces (after n c) (w ++ 32 ∷ rest)) ≡ (c ∷ w)
+          ∷ pieces outside rest) [ true ↦ λ none. absurd (none-some none) | false ↦ λ on. ap (onto_first c) (more on) ])
     ]) h
 
 -- and the last piece is all of it
@@ -61,9 +63,11 @@ pub last-piece : (n m : _) (w : List ℕ) → scan is_outside after n w ≡ Some
 last-piece n m [] h = refl
 last-piece n m (c ∷ w) h =
     let more = last-piece (after n c) m w in
-    (elim (is_outside n && is_blank c) as (λ v. cond (v || (c == 10)) None (scan is_outside after (after n c) w) ≡ Some m → cond v ([] ∷ pieces outside w) (onto_first c (pieces (after n c) w)) ≡ (c ∷ w) ∷ []) [
+    (elim (is_outside n && is_blank c) as (λ v. cond (v || (c == 10)) None (scan is_outside after (after n c) w) ≡ Some m → cond v ([]
+    ∷ pieces outside w) (onto_first c (pieces (after n c) w)) ≡ (c ∷ w) ∷ []) [
       | true ↦ λ none. absurd (none-some none)
-      | false ↦ (elim (c == 10) as (λ v. cond v None (scan is_outside after (after n c) w) ≡ Some m → onto_first c (pieces (after n c) w) ≡ (c ∷ w) ∷ []) [ true ↦ λ none. absurd (none-some none) | false ↦ λ on. ap (onto_first c) (more on) ])
+      | false ↦ (elim (c == 10) as (λ v. cond v None (scan is_outside after (after n c) w) ≡ Some m → onto_first c (pieces (after n c) w) ≡ (c ∷ w)
+          ∷ []) [ true ↦ λ none. absurd (none-some none) | false ↦ λ on. ap (onto_first c) (more on) ])
     ]) h
 
 -- a word without a line feed begins a line

@@ -1,5 +1,5 @@
 -- What is shown of a call has the same text.
-use Rattle.std.proofs.Common.{◌≡◌, ℕ, suc, ◌+◌, List, [], ◌∷◌, ◌++◌, length, replicate, take, drop, map, codes, refl, ap, ◌∙◌, sym}
+use Rattle.std.proofs.Common.{◌≡◌, ℕ, suc, ◌+◌, List, [], ◌∷◌, ◌++◌, length, take, drop, map, codes, refl, ap, ◌∙◌, sym}
 use Rattle.std.specs.Fmt.{decimal}
 use Rattle.std.proofs.lemmas.List.{length-replicate}
 use Rattle.entry_codec.specs.Placing.{letters}
@@ -45,7 +45,8 @@ same-letters (kind.NextReceiver number) = refl
 same-letters (kind.PreviousReceiver number) = refl
 
 same-body : (k : EntryKind) → body_text (shown_kind k) ≡ body_text k
-same-body (kind.FileCreated fk name source) = ap (λ n. parameter (codes "KIND") (file_kind_text fk) ++ parameter (codes "NAME") name ++ parameter (codes "LEN") (decimal n)) (length-replicate {A = ℕ} (length source) 32)
+same-body (kind.FileCreated fk name source) = ap
+    (λ n. parameter (codes "KIND") (file_kind_text fk) ++ parameter (codes "NAME") name ++ parameter (codes "LEN") (decimal n)) (length-replicate {A = ℕ} (length source) 32)
 same-body (kind.FileDeleted name) = refl
 same-body (kind.MemberAdded file name) = refl
 same-body (kind.JournalingStarted images slots) = refl
@@ -141,7 +142,8 @@ same-details names (reply.LimitReached which number) = refl
 pub same-line : (names : List (List ℕ)) (number : ℕ) (call : Call) → call_line names number (shown call) ≡ call_line names number call
 unfolding call_line exchange reply_text
 same-line names number call =
-    ap (λ t. decimal number ++ 32 ∷ (job_name names call.job ++ 32 ∷ (decimal call.timestamp ++ 32 ∷ (request_text call.request ++ (codes " => " ++ (t ++ 10 ∷ [])))))) (same-details names call.reply)
+    ap (λ t. decimal number ++ 32 ∷ (job_name names call.job ++ 32 ∷ (decimal call.timestamp ++ 32 ∷ (request_text call.request ++ (codes " => " ++ (t ++ 10
+    ∷ [])))))) (same-details names call.reply)
 
 same-lines : (names : List (List ℕ)) (number : ℕ) (calls : List Call) → call_lines names number (map shown calls) ≡ call_lines names number calls
 same-lines names number [] = refl

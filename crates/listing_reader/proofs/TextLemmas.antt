@@ -1,9 +1,9 @@
 -- Which texts lie within one word: names, numbers, texts in apostrophes and values.
-use Rattle.std.proofs.Common.{◌≡◌, ℕ, zero, suc, rules, ◌+◌, ◌-◌, ◌/◌, ◌%◌, ◌<◌, ◌^◌, ℤ, pos, negsuc, Bool, true, false, cond, ◌&&◌, ◌||◌, ◌==◌, not, nat_le, nat_lt, IsTrue, Option, Some, None, is_some, List, [], ◌∷◌, ◌++◌, length, take, drop, replicate, map, codes, refl, ap, ◌∙◌, sym, subst, append_assoc, append-nil, take-append-drop, true≢false, arith}
-use Rattle.std.specs.List.{list_all, flat_map, All}
+use Rattle.std.proofs.Common.{◌≡◌, ℕ, zero, suc, ◌+◌, ◌-◌, ◌/◌, ◌%◌, ◌<◌, ◌^◌, ℤ, pos, negsuc, Bool, true, false, cond, ◌&&◌, ◌||◌, ◌==◌, nat_le, nat_lt, Some, None, is_some, List, [], ◌∷◌, ◌++◌, length, take, drop, replicate, refl, ap, ◌∙◌, sym, append_assoc, append-nil, take-append-drop, true≢false, arith}
+use Rattle.std.specs.List.{list_all, flat_map}
 use Rattle.std.specs.Option.{unwrap_or}
 use Rattle.std.specs.Fmt.{decimal}
-use Rattle.std.proofs.lemmas.Bool.{and_parts, cond-true, cond-false, eqb-true, le-leb}
+use Rattle.std.proofs.lemmas.Bool.{and_parts, cond-false, eqb-true, le-leb}
 use Rattle.std.proofs.lemmas.Bool.Decides.{nat_tests}
 use Rattle.std.proofs.lemmas.Fmt.{decimal_by_steps_wide}
 use Rattle.std.proofs.lemmas.List.Folds.{list_all-append}
@@ -11,12 +11,10 @@ use Rattle.ebc_text.specs.CodePage.{ebcdic_of, ascii_of}
 use Rattle.ebc_text.proofs.TableLemmas.{ebcdic_of-ascii_of}
 use Rattle.field_types.specs.SystemName.{is_name, begins_name, continues_name}
 use Rattle.field_types.specs.declared.values.Dec.{Dec}
-use Rattle.field_types.specs.declared.values.Value.{Value}
-use Rattle.field_types.specs.declared.values.Value.TheVariants.{Chars, Number}
 use Rattle.text_lines.specs.Decimal.{is_digit}
 use Rattle.text_lines.specs.Lines.{is_blank}
-use Rattle.statement_reader.specs.Words.{after, is_outside, outside, has_text, words}
-use Rattle.listing.specs.Texts.{character_of, has_character, quoted_character, hex_digit, hex_pair, text_literal, sign_of, magnitude, padded_digits, pointed, number_literal, value_text, given_text, with_blanks_behind, joined_by_blanks, values_text, given_values_text}
+use Rattle.statement_reader.specs.Words.{after, is_outside, outside, has_text}
+use Rattle.listing.specs.Texts.{character_of, has_character, quoted_character, hex_digit, hex_pair, text_literal, sign_of, magnitude, padded_digits, pointed, number_literal}
 use Rattle.listing_reader.proofs.ScanLemmas.{scan, IsClosed, LiesInside, IsWord}
 
 -- a character that passes a test isn't one that doesn't
@@ -57,7 +55,8 @@ pub record IsPlain (P : ℕ → Bool) : Type 0 where
   pub closing : P 41 ≡ false
 
 -- a step at a character that is no blank and no line feed
-step : {N : Type 0} (out : N → Bool) (next : N → ℕ → N) (n m : N) (c : ℕ) (text : List ℕ) → is_blank c ≡ false → (c == 10) ≡ false → next n c ≡ m → scan out next n (c ∷ text) ≡ scan out next m text
+step : {N : Type 0} (out : N → Bool) (next : N → ℕ → N) (n m : N) (c : ℕ) (text : List ℕ) → is_blank c ≡ false → (c == 10) ≡ false → next n c ≡ m → scan out next n (c ∷ text)
+    ≡ scan out next m text
 step out next n m c text blank feed to =
     (elim (out n) as (λ v. cond ((v && is_blank c) || (c == 10)) None (scan out next (next n c) text) ≡ scan out next (next n c) text) [
       | true ↦ ap (λ v. cond (v || (c == 10)) None (scan out next (next n c) text)) blank ∙ cond-false (c == 10) None (scan out next (next n c) text) feed
@@ -65,7 +64,8 @@ step out next n m c text blank feed to =
     ]) ∙ ap (λ x. scan out next x text) to
 
 -- a step between apostrophes
-quoted-scan : {N : Type 0} (out : N → Bool) (next : N → ℕ → N) (n m : N) (c : ℕ) (text : List ℕ) → out n ≡ false → (c == 10) ≡ false → next n c ≡ m → scan out next n (c ∷ text) ≡ scan out next m text
+quoted-scan : {N : Type 0} (out : N → Bool) (next : N → ℕ → N) (n m : N) (c : ℕ) (text : List ℕ) → out n ≡ false → (c == 10) ≡ false → next n c ≡ m → scan out next n (c ∷ text)
+    ≡ scan out next m text
 quoted-scan out next n m c text inside feed to =
     ap (λ v. cond ((v && is_blank c) || (c == 10)) None (scan out next (next n c) text)) inside
     ∙ cond-false (c == 10) None (scan out next (next n c) text) feed
@@ -177,7 +177,8 @@ pointed-in scale digits all =
     let parts = all-cut is_digit (length digits - scale) digits all in
     elim (scale == 0) as (λ v. list_all in_number (cond v digits (take (length digits - scale) digits ++ 46 ∷ drop (length digits - scale) digits)) ≡ true) [
       | true ↦ digits-in digits all
-      | false ↦ all-both in_number (take (length digits - scale) digits) (46 ∷ drop (length digits - scale) digits) (digits-in (take (length digits - scale) digits) parts.0) (digits-in (drop (length digits - scale) digits) parts.1)
+      | false ↦ all-both in_number (take (length digits - scale) digits) (46
+          ∷ drop (length digits - scale) digits) (digits-in (take (length digits - scale) digits) parts.0) (digits-in (drop (length digits - scale) digits) parts.1)
     ]
 
 sign-in : (units : ℤ) → list_all in_number (sign_of units) ≡ true
@@ -222,7 +223,8 @@ module _ {N : Type 0} (out : N → Bool) (next : N → ℕ → N) (n : N) (at : 
   quoted-step : (byte : ℕ) (rest : List ℕ) → has_character byte ≡ true → scan out next (next n 39) (quoted_character byte ++ rest) ≡ scan out next (next n 39) rest
   quoted-step byte rest has =
       let feed = no-feed byte has in
-      (elim (character_of byte == 39) as (λ v. (character_of byte == 39) ≡ v → scan out next (next n 39) ((cond v (39 ∷ 39 ∷ []) (character_of byte ∷ [])) ++ rest) ≡ scan out next (next n 39) rest) [
+      (elim (character_of byte == 39) as (λ v. (character_of byte == 39) ≡ v → scan out next (next n 39) ((cond v (39 ∷ 39 ∷ []) (character_of byte ∷ [])) ++ rest)
+      ≡ scan out next (next n 39) rest) [
         | true ↦ λ same. quoted-scan out next (next n 39) n 39 (39 ∷ rest) at.hidden refl at.leaves ∙ step out next n (next n 39) 39 rest refl refl refl
         | false ↦ λ other. quoted-scan out next (next n 39) (next n 39) (character_of byte) rest at.hidden feed (at.holds (character_of byte) other)
       ]) refl
@@ -249,9 +251,11 @@ module _ {N : Type 0} (out : N → Bool) (next : N → ℕ → N) (n : N) (at : 
   text-scan : (text : List ℕ) → scan out next n (text_literal text) ≡ Some n
   unfolding text_literal
   text-scan text =
-      (elim (list_all has_character text) as (λ v. list_all has_character text ≡ v → scan out next n (cond v (39 ∷ (flat_map quoted_character text ++ 39 ∷ [])) (88 ∷ 39 ∷ (flat_map hex_pair text ++ 39 ∷ []))) ≡ Some n) [
+      (elim (list_all has_character text) as (λ v. list_all has_character text ≡ v → scan out next n (cond v (39 ∷ (flat_map quoted_character text ++ 39 ∷ [])) (88 ∷ 39
+      ∷ (flat_map hex_pair text ++ 39 ∷ []))) ≡ Some n) [
         | true ↦ λ all. step out next n (next n 39) 39 (flat_map quoted_character text ++ 39 ∷ []) refl refl refl ∙ quotes-scan text all
-        | false ↦ λ some. step out next n n 88 (39 ∷ (flat_map hex_pair text ++ 39 ∷ [])) refl refl (at.keeps 88 refl refl refl) ∙ step out next n (next n 39) 39 (flat_map hex_pair text ++ 39 ∷ []) refl refl refl ∙ hex-scan text
+        | false ↦ λ some. step out next n n 88 (39 ∷ (flat_map hex_pair text ++ 39 ∷ [])) refl refl (at.keeps 88 refl refl refl)
+            ∙ step out next n (next n 39) 39 (flat_map hex_pair text ++ 39 ∷ []) refl refl refl ∙ hex-scan text
       ]) refl
 
 pub text-inside : (text : List ℕ) → LiesInside (text_literal text)
@@ -259,7 +263,8 @@ text-inside text = text-scan is_outside after (after outside 40) open-inside tex
 
 text-text : (text : List ℕ) → has_text (text_literal text) ≡ true
 unfolding text_literal
-text-text text = elim (list_all has_character text) as (λ v. has_text (cond v (39 ∷ (flat_map quoted_character text ++ 39 ∷ [])) (88 ∷ 39 ∷ (flat_map hex_pair text ++ 39 ∷ []))) ≡ true) [ true ↦ refl | false ↦ refl ]
+text-text text = elim (list_all has_character text) as (λ v. has_text (cond v (39 ∷ (flat_map quoted_character text ++ 39 ∷ [])) (88 ∷ 39 ∷ (flat_map hex_pair text ++ 39 ∷ [])))
+    ≡ true) [ true ↦ refl | false ↦ refl ]
 
 pub text-word : (text : List ℕ) → IsWord (text_literal text)
 text-word text = record { text = text-text text; closed = text-scan is_outside after outside open-outside text }

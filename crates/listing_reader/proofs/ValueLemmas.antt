@@ -1,14 +1,14 @@
 -- What is read of the texts of numbers, texts and values.
 use Rattle.std.specs.Prelude.{⊤}
-use Rattle.std.proofs.Common.{◌≡◌, ℕ, zero, suc, if◌then◌else◌, ◌+◌, ◌-◌, ◌*◌, ◌/◌, ◌%◌, ◌<◌, ◌≤◌, ◌^◌, ℤ, pos, negsuc, neg_ℤ, Bool, true, false, cond, ◌&&◌, ◌||◌, ◌==◌, not, nat_le, nat_lt, Option, Some, None, option_map, List, [], ◌∷◌, ◌++◌, length, take, drop, replicate, map, codes, refl, ap, ◌∙◌, sym, subst, append_assoc, append-nil, take-append-drop, length-append, length-drop, length-take-le, arith}
-use Rattle.std.specs.List.{list_all, flat_map, prefix_len, position_or_len}
+use Rattle.std.proofs.Common.{◌≡◌, ℕ, zero, suc, if◌then◌else◌, ◌+◌, ◌-◌, ◌*◌, ◌/◌, ◌%◌, ◌<◌, ◌≤◌, ◌^◌, ℤ, pos, negsuc, true, false, cond, ◌&&◌, ◌==◌, not, nat_le, Option, Some, None, option_map, List, [], ◌∷◌, ◌++◌, length, take, drop, replicate, map, codes, refl, ap, ◌∙◌, sym, subst, append_assoc, append-nil, take-append-drop, length-append, length-drop, length-take-le, arith}
+use Rattle.std.specs.List.{list_all, flat_map, position_or_len}
 use Rattle.std.specs.Option.{option_map_or}
 use Rattle.std.specs.Fmt.{decimal}
 use Rattle.std.proofs.lemmas.Bool.{and_parts, cond-true, cond-false, eqb-true, le-leb, leb-true}
 use Rattle.std.proofs.lemmas.Bool.Decides.{nat_tests}
 use Rattle.std.proofs.lemmas.Fmt.{decimal_by_steps_wide}
 use Rattle.std.proofs.lemmas.List.{length-replicate}
-use Rattle.ebc_text.specs.CodePage.{ebcdic_of, ascii_of}
+use Rattle.ebc_text.specs.CodePage.{ebcdic_of}
 use Rattle.field_types.specs.SystemName.{is_name, begins_name, continues_name}
 use Rattle.field_types.specs.declared.values.Dec.{Dec}
 use Rattle.field_types.specs.declared.values.Value.{Value}
@@ -46,7 +46,8 @@ decimal-units limit n rest small =
     (λ n one more. let same : 10 * 0 + n ≡ n = omega arith in digit-step limit 0 n more one ∙ ap (λ v. units_after limit v more) same)
     (λ n ds large so_far more.
     let whole : 10 * (n / 10) + n % 10 ≡ n = omega arith in
-    ap (units_after limit 0) (append_assoc ds ((48 + n % 10) ∷ []) more) ∙ so_far ((48 + n % 10) ∷ more) ∙ digit-step limit (n / 10) (n % 10) more (omega arith) ∙ ap (λ v. units_after limit v more) whole)
+    ap (units_after limit 0) (append_assoc ds ((48 + n % 10) ∷ []) more) ∙ so_far ((48 + n % 10) ∷ more) ∙ digit-step limit (n / 10) (n % 10) more (omega arith) ∙ ap
+    (λ v. units_after limit v more) whole)
     n small in
     whole rest
 
@@ -72,7 +73,8 @@ zeros-units limit (suc k) rest = zeros-units limit k rest
 point-units : (limit number : ℕ) (front back : List ℕ) → units_after limit number (front ++ 46 ∷ back) ≡ units_after limit number (front ++ back)
 point-units limit number [] back = refl
 point-units limit number (d ∷ front) back =
-    elim (d == 46) as (λ v. cond v (units_after limit number (front ++ 46 ∷ back)) (cond (is_digit d) (units_after limit (10 * number + (d - 48)) (front ++ 46 ∷ back)) None) ≡ cond v (units_after limit number (front ++ back)) (cond (is_digit d) (units_after limit (10 * number + (d - 48)) (front ++ back)) None)) [
+    elim (d == 46) as (λ v. cond v (units_after limit number (front ++ 46 ∷ back)) (cond (is_digit d) (units_after limit (10 * number + (d - 48)) (front ++ 46 ∷ back)) None)
+    ≡ cond v (units_after limit number (front ++ back)) (cond (is_digit d) (units_after limit (10 * number + (d - 48)) (front ++ back)) None)) [
       | true ↦ point-units limit number front back
       | false ↦ ap (λ v. cond (is_digit d) v None) (point-units limit (10 * number + (d - 48)) front back)
     ]
@@ -201,7 +203,8 @@ hexadecimal-read (byte ∷ text) all =
 pub text-read : (text : List ℕ) → list_all is_byte text ≡ true → text_of (text_literal text) ≡ Some text
 unfolding text_of text_literal
 text-read text bytes =
-    (elim (list_all has_character text) as (λ v. list_all has_character text ≡ v → text_of (cond v (39 ∷ (flat_map quoted_character text ++ 39 ∷ [])) (88 ∷ 39 ∷ (flat_map hex_pair text ++ 39 ∷ []))) ≡ Some text) [
+    (elim (list_all has_character text) as (λ v. list_all has_character text ≡ v → text_of (cond v (39 ∷ (flat_map quoted_character text ++ 39 ∷ [])) (88 ∷ 39
+    ∷ (flat_map hex_pair text ++ 39 ∷ []))) ≡ Some text) [
       | true ↦ λ all. quoted-read text all
       | false ↦ λ some. hexadecimal-read text bytes
     ]) refl
@@ -210,20 +213,23 @@ text-read text bytes =
 text-no-number : (text : List ℕ) → number_of (text_literal text) ≡ None
 unfolding number_of unsigned units text_literal
 text-no-number text =
-    elim (list_all has_character text) as (λ v. number_of (cond v (39 ∷ (flat_map quoted_character text ++ 39 ∷ [])) (88 ∷ 39 ∷ (flat_map hex_pair text ++ 39 ∷ []))) ≡ None) [ true ↦ refl | false ↦ refl ]
+    elim (list_all has_character text) as (λ v. number_of (cond v (39 ∷ (flat_map quoted_character text ++ 39 ∷ [])) (88 ∷ 39 ∷ (flat_map hex_pair text ++ 39 ∷ [])))
+    ≡ None) [ true ↦ refl | false ↦ refl ]
 
 -- ---- values
 
 pub value-read : (value : Value) → IsValue value → value_of (value_text value) ≡ Some value
 unfolding value_of
-value-read (Chars text) is = ap (λ o. option_map_or (λ number. Some (Number number)) o (option_map Chars (text_of (text_literal text)))) (text-no-number text) ∙ ap (option_map Chars) (text-read text is)
+value-read (Chars text) is = ap (λ o. option_map_or (λ number. Some (Number number)) o (option_map Chars (text_of (text_literal text)))) (text-no-number text)
+    ∙ ap (option_map Chars) (text-read text is)
 value-read (Number number) is = ap (λ o. option_map_or (λ n. Some (Number n)) o (option_map Chars (text_of (number_literal number)))) (number-read number is.0 is.1)
 
 pointed-text : (scale : ℕ) (digits : List ℕ) → scale < length digits → has_text (pointed scale digits) ≡ true
 pointed-text scale [] long = absurd (omega arith)
 pointed-text scale (d ∷ digits) long =
     let some : length (d ∷ digits) - scale ≡ suc (length digits - scale) = omega arith in
-    elim (scale == 0) as (λ v. has_text (cond v (d ∷ digits) (take (length (d ∷ digits) - scale) (d ∷ digits) ++ 46 ∷ drop (length (d ∷ digits) - scale) (d ∷ digits))) ≡ true) [ true ↦ refl | false ↦ rw some refl ]
+    elim (scale == 0) as (λ v. has_text (cond v (d ∷ digits) (take (length (d ∷ digits) - scale) (d ∷ digits) ++ 46 ∷ drop (length (d ∷ digits) - scale) (d ∷ digits)))
+    ≡ true) [ true ↦ refl | false ↦ rw some refl ]
 
 number-text : (d : Dec) → magnitude d.units ≤ MOST_UNITS → has_text (number_literal d) ≡ true
 unfolding number_literal

@@ -1,6 +1,6 @@
 -- The parameters of requests, read back.
 use Rattle.std.specs.Prelude.{ℕ, Bool, if◌then◌else◌, Option, Some, None, List, codes, option_map}
-use Rattle.std.specs.Option.{option_map_or, option_or}
+use Rattle.std.specs.Option.{option_map_or}
 use Rattle.commit_level.specs.declared.Level.{Level}
 use Rattle.entry_codec.specs.declared.kinds.Images.{Images}
 use Rattle.field_types.specs.declared.values.Value.{Value}

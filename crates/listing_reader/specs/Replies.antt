@@ -4,7 +4,6 @@ use Rattle.std.specs.Option.{option_map_or}
 use Rattle.dds_source.specs.declared.faults.DdsFault.{DdsFault}
 use Rattle.field_types.specs.declared.faults.RecordFault.{RecordFault}
 use Rattle.field_types.specs.declared.faults.RecordFault.TheVariants.{Count, BadField}
-use Rattle.library_model.specs.declared.replies.LimitKind.{LimitKind}
 use Rattle.library_model.specs.declared.replies.Missing.{Missing}
 use Rattle.library_model.specs.declared.replies.Missing.TheVariants as missing
 use Rattle.library_model.specs.declared.replies.RecordRead.{RecordRead}

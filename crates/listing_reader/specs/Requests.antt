@@ -1,5 +1,5 @@
 -- The requests, read back: what each asks, by its parameters.
-use Rattle.std.specs.Prelude.{ℕ, Option, Some, None, List, codes, option_map}
+use Rattle.std.specs.Prelude.{ℕ, Option, Some, List, codes, option_map}
 use Rattle.library_model.specs.declared.requests.Request.{Request}
 use Rattle.library_model.specs.declared.requests.Request.TheVariants as request
 use Rattle.library_model.specs.declared.requests.ChainRecord.{ChainRecord}
