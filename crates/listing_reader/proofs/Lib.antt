@@ -1,0 +1,12 @@
+mod ChoiceLemmas
+mod EntryLemmas
+mod FirstLemmas
+mod JobLemmas
+mod LineLemmas
+mod ParameterLemmas
+mod ReplyLemmas
+mod RequestLemmas
+mod ScanLemmas
+mod ShownLemmas
+mod TextLemmas
+mod ValueLemmas
