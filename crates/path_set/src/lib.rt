@@ -2,9 +2,15 @@
 //! `specs/KeptPaths.antt`, then `set.rt`.
 #![tactic(auto)]
 
+pub mod equal_keys;
 pub mod faults;
 mod kept;
+pub mod key_laws;
 pub mod laws;
+mod many;
+pub mod many_laws;
+pub mod member_laws;
 pub mod moves;
+pub mod rebuilding;
 pub mod set;
 mod tests;

@@ -1,0 +1,14 @@
+use Rattle.path_set.proofs.ManyLemmas.{many-over, many-made, many-few, shared-after}
+use Rattle.path_set.proofs.many_laws.paths_follow_many_changes.Goals as goal
+
+pub returns-clause-over : goal.returns-clause-over
+returns-clause-over c = many-over
+
+pub returns-clause-made : goal.returns-clause-made
+returns-clause-made c = many-made
+
+pub returns-clause-few : goal.returns-clause-few
+returns-clause-few c = many-few
+
+pub returns-clause-shared : goal.returns-clause-shared
+returns-clause-shared c = shared-after
