@@ -12,10 +12,11 @@ use Rattle.member_slots.specs.Members.{Numbered, NumberedMembers, item_at}
 use Rattle.file_model.specs.declared.paths.PathFormat.{PathFormat}
 use Rattle.access_path.specs.Moves.{Move}
 use Rattle.access_path.specs.PathBytes.{is_falling}
+use Rattle.path_set.specs.declared.moves.ImageChange.{ImageChange}
 use Rattle.path_set.specs.declared.moves.PathMove.{PathMove}
 use Rattle.path_set.specs.KeptPaths.{KeptPath, KeptPaths, NumberedPaths, AreShared, AreOver, spare_of}
 use Rattle.path_set.specs.RecordChanges.{RecordChange, moves_of, in_path, moves_in, entries_after, path_after, paths_after, FitEntries, CanBeMade, count_in, HaveRoom}
-use Rattle.path_set.specs.ManyChanges.{moves_of_all, LeadTo}
+use Rattle.path_set.specs.ManyChanges.{change_in, moves_of_all, LeadTo}
 use Rattle.path_set.specs.MemberSteps.{is_over}
 use Rattle.path_set.proofs.MoveLemmas.{paths_after-none}
 use Rattle.path_set.proofs.RecordLemmas.{Ascend, ascend-from, after-append, fit-append, both-moves, paths-there, paths-fit, paths-over, moves-later, count-append, count-other}
@@ -40,8 +41,8 @@ pairs-map R f keeps paths h i j d lt within =
 
 pub shared-after : (moves : List PathMove) (paths : NumberedPaths) → AreShared paths → AreShared (paths_after moves paths)
 shared-after moves paths shared = record {
-  ascend = pairs-map (λ (former later : Numbered KeptPath). former.number < later.number) (path_after moves) paths (λ a b lt. lt) paths shared.ascend;
-  once = pairs-map (λ (former later : Numbered KeptPath). former.item.spec ≢ later.item.spec) (path_after moves) paths (λ a b differs. differs) paths shared.once;
+  ascend = pairs-map (λ (former later : Numbered KeptPath). former.number < later.number) (path_after moves) (λ a b lt. lt) paths shared.ascend;
+  once = pairs-map (λ (former later : Numbered KeptPath). former.item.spec ≢ later.item.spec) (path_after moves) (λ a b differs. differs) paths shared.once;
   attached = All-map (λ (path : Numbered KeptPath). 1 ≤ path.item.files) (path_after moves) paths shared.attached;
 }
 
@@ -121,17 +122,14 @@ bounded : (member most id spare : ℕ) (paths : NumberedPaths) → Ascend paths
     → AllByRecursion (λ (path : Numbered KeptPath). path.number ≡ id → Any (λ (f : PathFormat). f.member ≡ member) path.item.spec.formats → most * length path.item.spec.formats ≤ spare) paths
     → IsBound member most id spare paths
 bounded member most id spare [] ascend room = record { bound = 0; fits = omega arith; counts = λ c same. omega arith }
-bounded member most id spare (path ∷ paths) ascend room = by (path.number == id) refl
+bounded member most id spare (path ∷ paths) ascend room = by (path.number == id) refl (bounded member most id spare paths ascend.1 room.1)
   where
-    rest : IsBound member most id spare paths
-    rest = bounded member most id spare paths ascend.1 room.1
-
     own : path.number ≡ id → (b : Bool) → is_over member path.item.spec ≡ b → most * cond b (length path.item.spec.formats) 0 ≤ spare
     own same true is = room.0 same (any-over member path.item.spec.formats is)
     own same false is = omega arith
 
-    by : (b : Bool) → (path.number == id) ≡ b → IsBound member most id spare (path ∷ paths)
-    by true is =
+    by : (b : Bool) → (path.number == id) ≡ b → IsBound member most id spare paths → IsBound member most id spare (path ∷ paths)
+    by true is rest =
         let here : path.number ≡ id = grind (arith, nat_tests) in
         record {
           bound = cond (is_over member path.item.spec) (length path.item.spec.formats) 0;
@@ -144,7 +142,7 @@ bounded member most id spare (path ∷ paths) ascend room = by (path.number == i
               let none = others-counted c path.number paths (later-apart path paths ascend.0) in
               omega (arith, e, few, none)));
         }
-    by false is =
+    by false is rest =
         let other : path.number ≢ id = grind (arith, nat_tests) in
         record {
           bound = rest.bound;
@@ -200,3 +198,11 @@ many-made member changes before after kept own lead shared over room = record {
       (many-fit changes before after kept.paths lead shared over);
   room = λ id. let e = many-few member 1 (length changes) changes kept own shared (omega arith) room id in omega (arith, e);
 }
+
+-- the changes of a member's records are of the member
+pub all-of-member : (member : ℕ) (changes : List ImageChange) → All (λ (c : RecordChange). c.member ≡ member) (map (change_in member) changes)
+all-of-member member changes = All-from_recursion (λ (c : RecordChange). c.member ≡ member) (map (change_in member) changes) (go changes)
+  where
+    go : (rest : List ImageChange) → AllByRecursion (λ (c : RecordChange). c.member ≡ member) (map (change_in member) rest)
+    go [] = tt
+    go (change ∷ rest) = (refl, go rest)

@@ -22,7 +22,7 @@ use Rattle.path_set.specs.KeptPaths.{KeptPath, NumberedPaths, AreOver, entries_o
 use Rattle.path_set.specs.declared.moves.PathMove.{PathMove}
 use Rattle.path_set.specs.RecordChanges.{RecordChange, reversed, move_in, moves_from, moves_of, in_path, moves_in}
 use Rattle.path_set.specs.MemberChanges.{slot_with, IsSlotChange, IsRecordChange}
-use Rattle.path_set.specs.MemberSteps.{image_in, record_added, slot_replaced, AreSameBut, is_over, over}
+use Rattle.path_set.specs.MemberSteps.{image_in, slot_added, record_added, with_slot_behind, slot_replaced, AreSameBut, is_over, paths_over}
 use Rattle.path_set.proofs.NumberedLemmas.{at-with_same, at-with_other, at-put_same, at-put_other, at-without_other}
 
 -- ---- another state of a member
@@ -118,21 +118,26 @@ replaced-changes number rrn old new members at =
       others = same-with number member members;
     }
 
-pub added-changes : (number : ℕ) (image : List ℕ) (members : NumberedMembers) → IsSome (member_at number members)
-    → IsRecordChange (record_added number image members) members (with_member number (appended (member_of number members) image) members)
-added-changes number image members there =
+pub slot-added-changes : (number : ℕ) (slot : Slot) (members : NumberedMembers) → IsSome (member_at number members)
+    → IsRecordChange (slot_added number slot members) members (with_member number (with_slot_behind slot (member_of number members)) members)
+slot-added-changes number slot members there =
     let slots = (member_of number members).slots in
-    let member = appended (member_of number members) image in
+    let member = with_slot_behind slot (member_of number members) in
     record {
-      slots = subst (λ (w : List Slot). IsSlotChange (length slots + 1) Deleted (Live image) slots w) (sym (member-with_same number member members there)) (record {
-        front = slots;
-        back = [];
-        number = omega arith;
-        was = inr (record { all = refl; none = refl; deleted = refl });
-        is = refl;
-      });
+      slots = subst (λ (w : List Slot). IsSlotChange (length slots + 1) Deleted (slot_with (image_in slot)) slots w) (sym (member-with_same number member members there))
+          (subst (λ (s : Slot). IsSlotChange (length slots + 1) Deleted s slots (slots ++ slot ∷ [])) (slot-image slot) (record {
+            front = slots;
+            back = [];
+            number = omega arith;
+            was = inr (record { all = refl; none = refl; deleted = refl });
+            is = refl;
+          }));
       others = same-with number member members;
     }
+
+pub added-changes : (number : ℕ) (image : List ℕ) (members : NumberedMembers) → IsSome (member_at number members)
+    → IsRecordChange (record_added number image members) members (with_member number (appended (member_of number members) image) members)
+added-changes number image members there = slot-added-changes number (Live image) members there
 
 -- what was added stands at the end
 pub added-there : (number : ℕ) (image : List ℕ) (members : NumberedMembers) → IsSome (member_at number members)
@@ -208,12 +213,12 @@ pub moves-others : (c : RecordChange) (spec : PathSpec) → is_over c.member spe
 moves-others c spec none = no-moves (keys_of spec.formats) c 0 spec.formats (apart-each c.member spec.formats none)
 
 -- so the moves are those of the paths over the member
-pub moves-over : (c : RecordChange) (paths : NumberedPaths) → moves_in c paths ≡ moves_in c (over c.member paths)
+pub moves-over : (c : RecordChange) (paths : NumberedPaths) → moves_in c paths ≡ moves_in c (paths_over c.member paths)
 moves-over c [] = refl
 moves-over c (path ∷ paths) = by (is_over c.member path.item.spec) refl (moves-over c paths)
   where
-    by : (b : Bool) → is_over c.member path.item.spec ≡ b → moves_in c paths ≡ moves_in c (over c.member paths)
-        → moves_in c (path ∷ paths) ≡ moves_in c (cond b (path ∷ over c.member paths) (over c.member paths))
+    by : (b : Bool) → is_over c.member path.item.spec ≡ b → moves_in c paths ≡ moves_in c (paths_over c.member paths)
+        → moves_in c (path ∷ paths) ≡ moves_in c (cond b (path ∷ paths_over c.member paths) (paths_over c.member paths))
     by true is rest = ap (λ (w : List PathMove). in_path path.number (moves_of c path.item.spec) ++ w) rest
     by false is rest = ap (λ (w : List Move). in_path path.number w ++ moves_in c paths) (moves-others c path.item.spec is) ∙ rest
 

@@ -1,7 +1,7 @@
 -- Paths made anew, and what they make of the kept paths.
 use Rattle.std.proofs.Common.{ℕ, zero, suc, ◌+◌, ◌*◌, ◌<◌, ◌≤◌, ◌≡◌, ◌≢◌, ◌==◌, Bool, true, false, cond, ◌||◌, List, [], ◌∷◌, ◌++◌, length, map, drop, set, get_or, Option, Some, None, IsSome, IfSome, refl}
 use Rattle.std.proofs.Common.{sym, ap, arith, ◌∙◌, subst, append_assoc, ◌⊎◌, inl, inr}
-use Rattle.std.specs.Prelude.{All, Any, unwrap_or, option_map, option_to_list}
+use Rattle.std.specs.Prelude.{All, Any, unwrap_or, option_map}
 use Rattle.std.specs.List.{AllByRecursion, AllZip, list_any}
 use Rattle.std.proofs.lemmas.Bool.{cond-true, cond-false}
 use Rattle.std.proofs.lemmas.Bool.Decides.{nat_tests}
@@ -11,12 +11,13 @@ use Rattle.key_pages.specs.declared.entries.Entry.{Entry}
 use Rattle.key_pages.specs.EntryList.{EntryList}
 use Rattle.member_slots.specs.Members.{Numbered, NumberedMembers, item_at}
 use Rattle.file_model.specs.declared.paths.PathFormat.{PathFormat}
+use Rattle.file_model.specs.declared.paths.PathSpec.{PathSpec}
 use Rattle.access_path.specs.PathBytes.{is_falling}
 use Rattle.path_set.specs.declared.kept.Kept.{Kept}
 use Rattle.path_set.specs.KeptPaths.{KeptPath, PathRoom, KeptPaths, NumberedPaths, AreShared, AreOver, entries_of, spare_of}
 use Rattle.path_set.specs.RecordChanges.{HaveRoom}
 use Rattle.path_set.specs.Sharing.{CanBeKept}
-use Rattle.path_set.specs.MemberSteps.{AreSameBut, is_over, over}
+use Rattle.path_set.specs.MemberSteps.{AreSameBut, is_over, paths_over}
 use Rattle.path_set.specs.RebuiltPaths.{CanBeRebuilt, IsRebuilt, AreRebuilt, HaveTies, entries_or, room_or, path_with, room_with, kept_with, IsAdded}
 use Rattle.path_set.specs.Entries.{AreKept, IsKept, IsPlace, IsGap, paths_of, numbered, path_of, room_of}
 use Rattle.path_set.proofs.FoundLemmas.{IsFound, found-each}
@@ -30,11 +31,11 @@ use Rattle.path_set.proofs.MemberStepLemmas.{entries-others}
 
 -- those at this place and after it are still to be made
 pub record IsMaking (members : NumberedMembers) (number held : ℕ) (paths : NumberedPaths) (place : ℕ) (rebuilt : List (Numbered EntryList)) : Type 0 where
-  pub rest : (more : List (Numbered EntryList)) → AreRebuilt members held (over number (drop place paths)) more → AreRebuilt members held (over number paths) (rebuilt ++ more)
+  pub rest : (more : List (Numbered EntryList)) → AreRebuilt members held (paths_over number (drop place paths)) more → AreRebuilt members held (paths_over number paths) (rebuilt ++ more)
 
 pub making-first : (members : NumberedMembers) (number held : ℕ) (paths : NumberedPaths) (rebuilt : List (Numbered EntryList)) → rebuilt ≡ [] → IsMaking members number held paths 0 rebuilt
 making-first members number held paths rebuilt none = record {
-  rest = λ more made. subst (λ (w : List (Numbered EntryList)). AreRebuilt members held (over number paths) (w ++ more)) (sym none) made;
+  rest = λ more made. subst (λ (w : List (Numbered EntryList)). AreRebuilt members held (paths_over number paths) (w ++ more)) (sym none) made;
 }
 
 drop-first : (xs : NumberedPaths) (i : ℕ) (d : Numbered KeptPath) → i < length xs → drop i xs ≡ get_or xs i d ∷ drop (i + 1) xs
@@ -59,16 +60,16 @@ making-next members number held value items place kept rebuilt more making view 
     by : (b : Bool) → is_over number kept.by ≡ b → IsAdded b members held (numbered path_of kept) rebuilt more → IsMaking members number held value.paths (place + 1) more
     by false is same = record {
       rest = λ others made.
-          subst (λ (w : List (Numbered EntryList)). AreRebuilt members held (over number value.paths) (w ++ others)) (sym same)
-          (making.rest others (subst (λ (w : NumberedPaths). AreRebuilt members held (over number w) others) (sym split)
-          (subst (λ (w : NumberedPaths). AreRebuilt members held w others) (sym (cond-false (is_over number kept.by) (numbered path_of kept ∷ over number (drop (place + 1) value.paths)) (over number (drop (place + 1) value.paths)) is)) made)));
+          subst (λ (w : List (Numbered EntryList)). AreRebuilt members held (paths_over number value.paths) (w ++ others)) (sym same)
+          (making.rest others (subst (λ (w : NumberedPaths). AreRebuilt members held (paths_over number w) others) (sym split)
+          (subst (λ (w : NumberedPaths). AreRebuilt members held w others) (sym (cond-false (is_over number kept.by) (numbered path_of kept ∷ paths_over number (drop (place + 1) value.paths)) (paths_over number (drop (place + 1) value.paths)) is)) made)));
     }
     by true is (item, added, new) = record {
       rest = λ others made.
-          subst (λ (w : List (Numbered EntryList)). AreRebuilt members held (over number value.paths) (w ++ others)) (sym added)
-          (subst (λ (w : List (Numbered EntryList)). AreRebuilt members held (over number value.paths) w) (sym (append_assoc rebuilt (item ∷ []) others))
-          (making.rest (item ∷ others) (subst (λ (w : NumberedPaths). AreRebuilt members held (over number w) (item ∷ others)) (sym split)
-          (subst (λ (w : NumberedPaths). AreRebuilt members held w (item ∷ others)) (sym (cond-true (is_over number kept.by) (numbered path_of kept ∷ over number (drop (place + 1) value.paths)) (over number (drop (place + 1) value.paths)) is)) (new, made)))));
+          subst (λ (w : List (Numbered EntryList)). AreRebuilt members held (paths_over number value.paths) (w ++ others)) (sym added)
+          (subst (λ (w : List (Numbered EntryList)). AreRebuilt members held (paths_over number value.paths) w) (sym (append_assoc rebuilt (item ∷ []) others))
+          (making.rest (item ∷ others) (subst (λ (w : NumberedPaths). AreRebuilt members held (paths_over number w) (item ∷ others)) (sym split)
+          (subst (λ (w : NumberedPaths). AreRebuilt members held w (item ∷ others)) (sym (cond-true (is_over number kept.by) (numbered path_of kept ∷ paths_over number (drop (place + 1) value.paths)) (paths_over number (drop (place + 1) value.paths)) is)) (new, made)))));
     }
 
 drop-all : (xs : NumberedPaths) (i : ℕ) → length xs ≤ i → drop i xs ≡ []
@@ -82,10 +83,10 @@ append-none [] = refl
 append-none (x ∷ xs) = ap (λ (w : List (Numbered EntryList)). x ∷ w) (append-none xs)
 
 pub making-end : (members : NumberedMembers) (number held : ℕ) (paths : NumberedPaths) (place : ℕ) (rebuilt : List (Numbered EntryList)) → IsMaking members number held paths place rebuilt
-    → length paths ≤ place → AreRebuilt members held (over number paths) rebuilt
+    → length paths ≤ place → AreRebuilt members held (paths_over number paths) rebuilt
 making-end members number held paths place rebuilt making high =
-    subst (AreRebuilt members held (over number paths)) (append-none rebuilt)
-    (making.rest [] (subst (λ (w : NumberedPaths). AreRebuilt members held (over number w) []) (sym (drop-all paths place high)) tt))
+    subst (AreRebuilt members held (paths_over number paths)) (append-none rebuilt)
+    (making.rest [] (subst (λ (w : NumberedPaths). AreRebuilt members held (paths_over number w) []) (sym (drop-all paths place high)) tt))
 
 -- each path that is over the member can be made
 pub making-can : (members : NumberedMembers) (number : ℕ) (value : KeptPaths) (items : List Kept) (place : ℕ) (kept : Kept) → paths_of items ≡ value → place < length items
@@ -172,7 +173,7 @@ found-put items value x place kept new view entry is =
     path-here : numbered path_of new ≡ path_with (x ∷ []) (numbered path_of kept)
     path-here =
         ap (λ (n : ℕ). record { number = n; item = path_of new }) is.id
-        ∙ ap (λ (s : _). record { number = kept.id; item = record { spec = s; files = new.files; entries = new.path.entries } }) is.by
+        ∙ ap (λ (s : PathSpec). record { number = kept.id; item = record { spec = s; files = new.files; entries = new.path.entries } }) is.by
         ∙ ap (λ (n : ℕ). record { number = kept.id; item = record { spec = kept.by; files = n; entries = new.path.entries } }) is.files
         ∙ ap (λ (l : EntryList). record { number = kept.id; item = record { spec = kept.by; files = kept.files; entries = l.entries } }) is.pages
         ∙ ap (λ (o : Option EntryList). record { number = kept.id; item = record { spec = kept.by; files = kept.files; entries = entries_or o kept.path.entries } }) (sym here)
@@ -269,9 +270,9 @@ pub record IsLast (rebuilt : List (Numbered EntryList)) (start : KeptPaths) (x :
   pub ties : HaveTies (x ∷ []) now.paths
   pub after : (then : KeptPaths) → then ≡ kept_with (x ∷ []) now → IsPutting rebuilt start rest then
 
-pub putting-next : (rebuilt items rest : List (Numbered EntryList)) (start now : KeptPaths) (x : Numbered EntryList) (o : Option (Numbered EntryList)) → IsPutting rebuilt start items now
-    → items ≡ rest ++ option_to_list o → o ≡ Some x → IsLast rebuilt start x rest now
-putting-next rebuilt items rest start now x o putting popped is = record {
+pub putting-next : (rebuilt items rest : List (Numbered EntryList)) (start now : KeptPaths) (x : Numbered EntryList) → IsPutting rebuilt start items now → items ≡ rest ++ x ∷ []
+    → IsLast rebuilt start x rest now
+putting-next rebuilt items rest start now x putting list = record {
   ties = All-from_recursion (λ (new : Numbered EntryList). IfSome (item_at new.number now.paths) (λ path. new.item.falling ≡ is_falling path.spec.ties)) (x ∷ []) (last rest all, tt);
   after = λ then done.
       subst (IsPutting rebuilt start rest) (sym done) (record {
@@ -280,9 +281,6 @@ putting-next rebuilt items rest start now x o putting popped is = record {
       });
 }
   where
-    list : items ≡ rest ++ x ∷ []
-    list = popped ∙ ap (λ (y : Option (Numbered EntryList)). rest ++ option_to_list y) is
-
     all : AllByRecursion (λ (new : Numbered EntryList). IfSome (item_at new.number now.paths) (λ path. new.item.falling ≡ is_falling path.spec.ties)) (rest ++ x ∷ [])
     all =
         recursion_from_All (λ (new : Numbered EntryList). IfSome (item_at new.number now.paths) (λ path. new.item.falling ≡ is_falling path.spec.ties)) (rest ++ x ∷ [])
@@ -298,17 +296,8 @@ putting-next rebuilt items rest start now x o putting popped is = record {
     others [] h = tt
     others (f ∷ front) h = (ties-after (x ∷ []) f now.paths h.0, others front h.1)
 
-pub putting-end : (rebuilt items rest : List (Numbered EntryList)) (start now : KeptPaths) (o : Option (Numbered EntryList)) → IsPutting rebuilt start items now
-    → items ≡ rest ++ option_to_list o → o ≡ None → length rest ≡ 0 → now ≡ kept_with rebuilt start
-putting-end rebuilt items rest start now o putting popped is none =
-    sym (kept-none now) ∙ ap (λ (w : List (Numbered EntryList)). kept_with w now) (sym list) ∙ putting.same
-  where
-    empty : (xs : List (Numbered EntryList)) → length xs ≡ 0 → xs ≡ []
-    empty [] h = refl
-    empty (x ∷ xs) h = absurd (omega (arith, h))
-
-    list : items ≡ []
-    list = popped ∙ ap (λ (y : Option (Numbered EntryList)). rest ++ option_to_list y) is ∙ append-none rest ∙ empty rest none
+pub putting-end : (rebuilt items : List (Numbered EntryList)) (start now : KeptPaths) → IsPutting rebuilt start items now → items ≡ [] → now ≡ kept_with rebuilt start
+putting-end rebuilt items start now putting none = sym (kept-none now) ∙ ap (λ (w : List (Numbered EntryList)). kept_with w now) (sym none) ∙ putting.same
 
 -- ---- what the number of a path finds among those made anew
 
@@ -320,18 +309,19 @@ IsChosen members held true path found = (list : EntryList) × (found ≡ Some li
 module _ (members : NumberedMembers) (member held : ℕ) where
   -- none is of a number before those of the paths
   absent : (n : ℕ) (paths : NumberedPaths) (rebuilt : List (Numbered EntryList)) → AllByRecursion (λ (later : Numbered KeptPath). n < later.number) paths
-      → AreRebuilt members held (over member paths) rebuilt → item_at n rebuilt ≡ None
+      → AreRebuilt members held (paths_over member paths) rebuilt → item_at n rebuilt ≡ None
   absent n [] [] below made = refl
   absent n [] (new ∷ rebuilt) below made = absurd made
-  absent n (path ∷ paths) rebuilt below made = by (is_over member path.item.spec) rebuilt made
+  absent n (path ∷ paths) rebuilt below made = by (is_over member path.item.spec) rebuilt made (λ list others. absent n paths list below.1 others)
     where
-      by : (b : Bool) (list : List (Numbered EntryList)) → AreRebuilt members held (cond b (path ∷ over member paths) (over member paths)) list → item_at n list ≡ None
-      by false list made = absent n paths list below.1 made
-      by true [] made = absurd made
-      by true (new ∷ list) made =
+      by : (b : Bool) (list : List (Numbered EntryList)) → AreRebuilt members held (cond b (path ∷ paths_over member paths) (paths_over member paths)) list
+          → ((more : List (Numbered EntryList)) → AreRebuilt members held (paths_over member paths) more → item_at n more ≡ None) → item_at n list ≡ None
+      by false list made rest = rest list made
+      by true [] made rest = absurd made
+      by true (new ∷ list) made rest =
           cond-false (new.number == n) (Some new.item) (item_at n list)
           (let lt = below.0 in let same = made.0.number in let e : (new.number == n) ≡ false = grind (arith, nat_tests) in e)
-          ∙ absent n paths list below.1 made.1
+          ∙ rest list made.1
 
   skipped : (new : Numbered EntryList) (rebuilt : List (Numbered EntryList)) (n : ℕ) → new.number < n → item_at n (new ∷ rebuilt) ≡ item_at n rebuilt
   skipped new rebuilt n lt = cond-false (new.number == n) (Some new.item) (item_at n rebuilt) (let e : (new.number == n) ≡ false = grind (arith, nat_tests) in e)
@@ -348,33 +338,35 @@ module _ (members : NumberedMembers) (member held : ℕ) where
   below-same : (a b : ℕ) (rest : NumberedPaths) → a ≡ b → AllByRecursion (λ (later : Numbered KeptPath). b < later.number) rest → AllByRecursion (λ (later : Numbered KeptPath). a < later.number) rest
   below-same a b rest same below = subst (λ (n : ℕ). AllByRecursion (λ (later : Numbered KeptPath). n < later.number) rest) (sym same) below
 
-  pub all-chosen : (paths : NumberedPaths) (rebuilt : List (Numbered EntryList)) → Ascend paths → AreRebuilt members held (over member paths) rebuilt
+  pub all-chosen : (paths : NumberedPaths) (rebuilt : List (Numbered EntryList)) → Ascend paths → AreRebuilt members held (paths_over member paths) rebuilt
       → AllByRecursion (λ (path : Numbered KeptPath). IsChosen members held (is_over member path.item.spec) path (item_at path.number rebuilt)) paths
   all-chosen [] rebuilt ascend made = tt
-  all-chosen (path ∷ paths) rebuilt ascend made = by (is_over member path.item.spec) refl rebuilt made
+  all-chosen (path ∷ paths) rebuilt ascend made = by (is_over member path.item.spec) refl rebuilt made (λ list others. all-chosen paths list ascend.1 others)
     where
-      by : (b : Bool) → is_over member path.item.spec ≡ b → (list : List (Numbered EntryList)) → AreRebuilt members held (cond b (path ∷ over member paths) (over member paths)) list
+      by : (b : Bool) → is_over member path.item.spec ≡ b → (list : List (Numbered EntryList)) → AreRebuilt members held (cond b (path ∷ paths_over member paths) (paths_over member paths)) list
+          → ((more : List (Numbered EntryList)) → AreRebuilt members held (paths_over member paths) more
+          → AllByRecursion (λ (other : Numbered KeptPath). IsChosen members held (is_over member other.item.spec) other (item_at other.number more)) paths)
           → IsChosen members held (is_over member path.item.spec) path (item_at path.number list)
           × AllByRecursion (λ (other : Numbered KeptPath). IsChosen members held (is_over member other.item.spec) other (item_at other.number list)) paths
-      by false is list made = (
+      by false is list made rest = (
         subst (λ (t : Bool). IsChosen members held t path (item_at path.number list)) (sym is) (absent path.number paths list ascend.0 made),
-        all-chosen paths list ascend.1 made,
+        rest list made,
       )
-      by true is [] made = absurd made
-      by true is (new ∷ list) made = (
+      by true is [] made rest = absurd made
+      by true is (new ∷ list) made rest = (
         subst (λ (t : Bool). IsChosen members held t path (item_at path.number (new ∷ list))) (sym is) (
           new.item,
           cond-true (new.number == path.number) (Some new.item) (item_at path.number list)
               (let same = made.0.number in let e : (new.number == path.number) ≡ true = grind (arith, nat_tests) in e),
           record { number = refl; entries = made.0.entries; falling = made.0.falling; room = made.0.room },
         ),
-        chosen-later new list paths (below-same new.number path.number paths made.0.number ascend.0) (all-chosen paths list ascend.1 made.1),
+        chosen-later new list paths (below-same new.number path.number paths made.0.number ascend.0) (rest list made.1),
       )
 
 -- ---- the laws
 
 pub rebuilt-over : (member held : ℕ) (before after : NumberedMembers) (paths : NumberedPaths) (rebuilt : List (Numbered EntryList)) → AreSameBut member before after → AreShared paths
-    → AreOver before paths → AreRebuilt after held (over member paths) rebuilt → AreOver after (map (path_with rebuilt) paths)
+    → AreOver before paths → AreRebuilt after held (paths_over member paths) rebuilt → AreOver after (map (path_with rebuilt) paths)
 rebuilt-over member held before after paths rebuilt same shared over made =
     All-map (λ (path : Numbered KeptPath). path.item.entries ≡ entries_of path.item.spec after) (path_with rebuilt) paths
     (All-from_recursion (λ (path : Numbered KeptPath). entries_or (item_at path.number rebuilt) path.item.entries ≡ entries_of path.item.spec after) paths
@@ -416,7 +408,7 @@ own-there whole ascend =
         ∙ past path back front apart.1
 
 pub rebuilt-ties : (member held : ℕ) (members : NumberedMembers) (paths : NumberedPaths) (rebuilt : List (Numbered EntryList)) → AreShared paths
-    → AreRebuilt members held (over member paths) rebuilt → HaveTies rebuilt paths
+    → AreRebuilt members held (paths_over member paths) rebuilt → HaveTies rebuilt paths
 rebuilt-ties member held members paths rebuilt shared made =
     All-from_recursion (λ (new : Numbered EntryList). IfSome (item_at new.number paths) (λ path. new.item.falling ≡ is_falling path.spec.ties)) rebuilt
     (go paths rebuilt (own-there paths (ascend-from paths shared.ascend)) made)
@@ -428,17 +420,19 @@ rebuilt-ties member held members paths rebuilt shared made =
         (subst (λ (o : Option KeptPath). IfSome o (λ p. new.item.falling ≡ is_falling p.spec.ties)) (sym there) is.falling)
 
     go : (rest : NumberedPaths) (list : List (Numbered EntryList)) → AllByRecursion (λ (path : Numbered KeptPath). item_at path.number paths ≡ Some path.item) rest
-        → AreRebuilt members held (over member rest) list
+        → AreRebuilt members held (paths_over member rest) list
         → AllByRecursion (λ (new : Numbered EntryList). IfSome (item_at new.number paths) (λ p. new.item.falling ≡ is_falling p.spec.ties)) list
     go [] [] there made = tt
     go [] (new ∷ list) there made = absurd made
-    go (path ∷ rest) list there made = by (is_over member path.item.spec) list made
+    go (path ∷ rest) list there made = by (is_over member path.item.spec) list made (λ more others. go rest more there.1 others)
       where
-        by : (b : Bool) (more : List (Numbered EntryList)) → AreRebuilt members held (cond b (path ∷ over member rest) (over member rest)) more
+        by : (b : Bool) (more : List (Numbered EntryList)) → AreRebuilt members held (cond b (path ∷ paths_over member rest) (paths_over member rest)) more
+            → ((later : List (Numbered EntryList)) → AreRebuilt members held (paths_over member rest) later
+            → AllByRecursion (λ (new : Numbered EntryList). IfSome (item_at new.number paths) (λ p. new.item.falling ≡ is_falling p.spec.ties)) later)
             → AllByRecursion (λ (new : Numbered EntryList). IfSome (item_at new.number paths) (λ p. new.item.falling ≡ is_falling p.spec.ties)) more
-        by false more made = go rest more there.1 made
-        by true [] made = absurd made
-        by true (new ∷ more) made = (one path new there.0 made.0, go rest more there.1 made.1)
+        by false more made done = done more made
+        by true [] made done = absurd made
+        by true (new ∷ more) made done = (one path new there.0 made.0, done more made.1)
 
 -- ---- room
 
@@ -478,7 +472,7 @@ module _ (items : List Kept) (rebuilt : List (Numbered EntryList)) (number held 
       → item_at path.number (map (numbered path_of) items) ≡ Some path.item → HasRoom path
   one-room path false not_over none there any = absurd (let e : true ≡ false = sym (over-any number path.item.spec.formats any) ∙ not_over in cc)
   one-room path true is_one (list, found, made_anew) there any =
-      let spare = room-at rebuilt list path.number found items (rw there refl) in
+      let spare : spare_of path.number (kept_with rebuilt (paths_of items)) ≡ list.spare = room-at rebuilt list path.number found items (rw there refl) in
       let room = made_anew.room in
       omega (arith, spare, room)
 
@@ -488,7 +482,7 @@ module _ (items : List Kept) (rebuilt : List (Numbered EntryList)) (number held 
   all-room [] chosen there = tt
   all-room (path ∷ rest) chosen there = (one-room path (is_over number path.item.spec) refl chosen.0 there.0, all-room rest chosen.1 there.1)
 
-  kept-room : AreKept items → AreRebuilt members held (over number (map (numbered path_of) items)) rebuilt → HaveRoom number held (kept_with rebuilt (paths_of items))
+  kept-room : AreKept items → AreRebuilt members held (paths_over number (map (numbered path_of) items)) rebuilt → HaveRoom number held (kept_with rebuilt (paths_of items))
   kept-room kept made =
       let paths = map (numbered path_of) items in
       let ascend : Ascend (map (numbered path_of) items) = ascend-from (map (numbered path_of) items) (AreShared-paths items kept).ascend in
@@ -497,7 +491,7 @@ module _ (items : List Kept) (rebuilt : List (Numbered EntryList)) (number held 
       (all-room paths (all-chosen members number held paths rebuilt ascend made) (own-there paths ascend)))
 
 pub rebuilt-room : (items : List Kept) (old new : KeptPaths) (rebuilt : List (Numbered EntryList)) → paths_of items ≡ old → AreKept items → new ≡ kept_with rebuilt old
-    → (number held : ℕ) (members : NumberedMembers) → AreRebuilt members held (over number old.paths) rebuilt → HaveRoom number held new
+    → (number held : ℕ) (members : NumberedMembers) → AreRebuilt members held (paths_over number old.paths) rebuilt → HaveRoom number held new
 rebuilt-room items old new rebuilt view kept is number held members made =
     subst (HaveRoom number held) (sym (is ∙ ap (kept_with rebuilt) (sym view)))
-    (kept-room items rebuilt number held members kept (subst (λ (v : KeptPaths). AreRebuilt members held (over number v.paths) rebuilt) (sym view) made))
+    (kept-room items rebuilt number held members kept (subst (λ (v : KeptPaths). AreRebuilt members held (paths_over number v.paths) rebuilt) (sym view) made))

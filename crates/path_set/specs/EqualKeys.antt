@@ -7,7 +7,7 @@ use Rattle.member_slots.specs.Members.{item_at}
 use Rattle.access_path.specs.Clash.{least_other}
 use Rattle.path_entrants.specs.Formats.{keys_of}
 use Rattle.path_entrants.specs.Repeated.{least_repeated}
-use Rattle.path_set.specs.declared.equal_keys.Repeated.{Repeated}
+use Rattle.path_set.specs.declared.repeated.Repeated.{Repeated}
 use Rattle.path_set.specs.KeptPaths.{KeptPath, NumberedPaths}
 
 -- the least record that has an equal later one, where the path may have none

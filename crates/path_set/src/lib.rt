@@ -2,7 +2,6 @@
 //! `specs/KeptPaths.antt`, then `set.rt`.
 #![tactic(auto)]
 
-pub mod equal_keys;
 pub mod faults;
 mod kept;
 pub mod key_laws;
@@ -12,5 +11,6 @@ pub mod many_laws;
 pub mod member_laws;
 pub mod moves;
 pub mod rebuilding;
+pub mod repeated;
 pub mod set;
 mod tests;

@@ -25,15 +25,15 @@ impl PathSet {
         ensures rooms { (id : ℕ) → spare_of id self.old ≤ spare_of id self.new }
     {
         let mut moves = Moves::new(self.alloc);
-        let held = held_with(held, changes.len())?;
+        let undos = held_with(held, changes.len())?;
         for turn in 0..changes.len() {
-            let ImageChange { rrn, old, new } = changes[turn];
+            let change = changes[turn];
             let asked = Asked {
                 member,
-                rrn,
-                old,
-                new,
-                held,
+                rrn: change.rrn,
+                old: change.old,
+                new: change.new,
+                held: undos,
             };
             self.prepare_more(asked, &mut moves)?;
         }

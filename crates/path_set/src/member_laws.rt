@@ -9,11 +9,14 @@ ghost use Rattle.file_model.specs.declared.paths.PathSpec.{PathSpec};
 ghost use Rattle.path_set.specs.KeptPaths.{KeptPaths, NumberedPaths, AreShared, AreOver, entries_of, spare_of};
 ghost use Rattle.path_set.specs.RecordChanges.{RecordChange, reversed, moves_of, moves_in, paths_after, HaveRoom, count_in};
 ghost use Rattle.path_set.specs.MemberChanges.{IsRecordChange};
-ghost use Rattle.path_set.specs.MemberSteps.{record_added, slot_replaced, AreSameBut, is_over, over};
+ghost use Rattle.path_set.specs.MemberSteps.{slot_added, record_added, with_slot_behind, slot_replaced, AreSameBut, is_over, paths_over};
 ghost use Rattle.path_set.specs.RebuiltPaths.{AreRebuilt, HaveTies, path_with};
 
-/// A record behind the last slot of a member is a change of one record, and so is the deletion that undoes it.
+/// A record behind the last slot of a member is a change of one record, and so are a deleted slot there and the deletion
+/// that undoes it.
 pub fn paths_follow_an_added_record()
+    ensures slot { (number : ℕ) (slot : Slot) (members : NumberedMembers) → IsSome (member_at number members)
+        → IsRecordChange (slot_added number slot members) members (with_member number (with_slot_behind slot (member_of number members)) members) }
     ensures change { (number : ℕ) (image : List ℕ) (members : NumberedMembers) → IsSome (member_at number members)
         → IsRecordChange (record_added number image members) members (with_member number (appended (member_of number members) image) members) }
     ensures over { (number : ℕ) (image : List ℕ) (members : NumberedMembers) (paths : NumberedPaths) → IsSome (member_at number members) → AreShared paths → AreOver members paths
@@ -37,7 +40,7 @@ pub fn paths_follow_a_replaced_slot()
 pub fn paths_of_others_stay()
     ensures entries { (number : ℕ) (before after : NumberedMembers) (spec : PathSpec) → AreSameBut number before after → is_over number spec ≡ false → entries_of spec after ≡ entries_of spec before }
     ensures moves { (c : RecordChange) (spec : PathSpec) → is_over c.member spec ≡ false → moves_of c spec ≡ [] }
-    ensures all { (c : RecordChange) (paths : NumberedPaths) → moves_in c paths ≡ moves_in c (over c.member paths) }
+    ensures all { (c : RecordChange) (paths : NumberedPaths) → moves_in c paths ≡ moves_in c (paths_over c.member paths) }
 {}
 
 /// A member without records changes no path where it is put, nor does one that no path is over where it goes.
@@ -61,9 +64,9 @@ pub fn room_falls_by_one_change()
 /// are then those of the members with the member as it was given.
 pub fn rebuilt_paths_are_those_of_the_members()
     ensures ties { (number held : ℕ) (after : NumberedMembers) (paths : NumberedPaths) (rebuilt : List (Numbered EntryList)) → AreShared paths
-        → AreRebuilt after held (over number paths) rebuilt → HaveTies rebuilt paths }
+        → AreRebuilt after held (paths_over number paths) rebuilt → HaveTies rebuilt paths }
     ensures over { (number held : ℕ) (before after : NumberedMembers) (paths : NumberedPaths) (rebuilt : List (Numbered EntryList)) → AreSameBut number before after → AreShared paths
-        → AreOver before paths → AreRebuilt after held (over number paths) rebuilt → AreOver after (map (path_with rebuilt) paths) }
+        → AreOver before paths → AreRebuilt after held (paths_over number paths) rebuilt → AreOver after (map (path_with rebuilt) paths) }
     ensures same { (number : ℕ) (member : MemberState) (members : NumberedMembers) → AreSameBut number members (with_member number member members) }
     ensures shared { (paths : NumberedPaths) (rebuilt : List (Numbered EntryList)) → AreShared paths → AreShared (map (path_with rebuilt) paths) }
 {}

@@ -5,7 +5,7 @@ ghost use Rattle.access_path.specs.PathBytes.{is_falling};
 ghost use Rattle.path_set.specs.KeptPaths.{entries_of};
 ghost use Rattle.path_set.specs.RecordChanges.{HaveRoom};
 ghost use Rattle.path_set.specs.Sharing.{CanBeKept};
-ghost use Rattle.path_set.specs.MemberSteps.{is_over, over};
+ghost use Rattle.path_set.specs.MemberSteps.{is_over, paths_over};
 ghost use Rattle.path_set.specs.RebuiltPaths.{CanBeRebuilt, AreRebuilt, HaveTies, kept_with, IsAdded};
 ghost use Rattle.path_set.specs.Entries.{numbered, path_of};
 
@@ -83,7 +83,7 @@ impl PathSet {
     ) -> Result<Rebuilt, AllocError>
         requires there { IsSome (member_at number members.now.members) }
         requires can { CanBeRebuilt number (with_member number member.now.state members.now.members) self.now.paths }
-        ensures { IfOk result (λ rebuilt. AreRebuilt (with_member number member.now.state members.now.members) held (over number self.now.paths) rebuilt) }
+        ensures { IfOk result (λ rebuilt. AreRebuilt (with_member number member.now.state members.now.members) held (paths_over number self.now.paths) rebuilt) }
     {
         let mut rebuilt = Rebuilt::new(self.alloc);
         for place in 0..self.paths.len() {
@@ -99,7 +99,7 @@ impl PathSet {
     pub fn rebuild(&mut self, rebuilt: Rebuilt)
         requires { HaveTies rebuilt self.old.paths }
         ensures put { self.new ≡ kept_with rebuilt self.old }
-        ensures room { (number held : ℕ) (members : NumberedMembers) → AreRebuilt members held (over number self.old.paths) rebuilt → HaveRoom number held self.new }
+        ensures room { (number held : ℕ) (members : NumberedMembers) → AreRebuilt members held (paths_over number self.old.paths) rebuilt → HaveRoom number held self.new }
     {
         let Rebuilt { mut items } = rebuilt;
         // The last first: where a number is there twice, the first path is the one that stays.

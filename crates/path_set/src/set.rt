@@ -1,5 +1,5 @@
 //! The paths that a library keeps. A single one is in `kept.rt`, a prepared change in `moves.rt`; several changes are in
-//! `many.rt`, paths made anew in `rebuilding.rt`, equal keys in `equal_keys.rt`.
+//! `many.rt`, paths made anew in `rebuilding.rt`, equal keys in `repeated.rt`.
 ghost use Rattle.std.specs.Prelude.{◌≡◌, ◌+◌, ◌*◌, ◌≤◌, ◌⊎◌, ℕ, [], ◌∷◌, ◌++◌, Some, None, IsSome, IfSome, IfOk, OnOk, OnErr, MatchOption, MatchResult, IsErrOf, is_some, length, if◌then◌else◌};
 ghost use Rattle.std.specs.Option.{option_copied};
 ghost use Rattle.member_slots.specs.Members.{item_at, put_item};

@@ -1,9 +1,12 @@
 use Rattle.member_slots.specs.Member.{appended}
 use Rattle.member_slots.specs.Members.{member_of, with_member}
 use Rattle.path_set.specs.MemberSteps.{record_added}
-use Rattle.path_set.proofs.MemberStepLemmas.{added-changes, added-undone}
+use Rattle.path_set.proofs.MemberStepLemmas.{slot-added-changes, added-changes, added-undone}
 use Rattle.path_set.proofs.RecordLemmas.{paths-over}
 use Rattle.path_set.proofs.member_laws.paths_follow_an_added_record.Goals as goal
+
+pub returns-clause-slot : goal.returns-clause-slot
+returns-clause-slot c = slot-added-changes
 
 pub returns-clause-change : goal.returns-clause-change
 returns-clause-change c = added-changes

@@ -6,14 +6,14 @@ pub loop-turn-init : goal.loop-turn-init
 loop-turn-init c = all-first _ _ _ _ _ c.new-moves.ensures
 
 pub prepare_more-requires-clause-old : goal.prepare_more-requires-clause-old
-prepare_more-requires-clause-old c = (all-takes _ _ _ _ _ _ _ _ c.loop-turn.invariant (omega arith) c.index.ensures c.requires).0
+prepare_more-requires-clause-old c = (all-takes _ _ _ _ _ _ _ _ c.loop-turn.invariant (omega arith) c.index-change.ensures c.requires).0
 
 pub prepare_more-requires-clause-new : goal.prepare_more-requires-clause-new
-prepare_more-requires-clause-new c = (all-takes _ _ _ _ _ _ _ _ c.loop-turn.invariant (omega arith) c.index.ensures c.requires).1
+prepare_more-requires-clause-new c = (all-takes _ _ _ _ _ _ _ _ c.loop-turn.invariant (omega arith) c.index-change.ensures c.requires).1
 
 pub loop-turn-preserved : goal.loop-turn-preserved
 loop-turn-preserved c =
-    all-next _ _ _ _ _ _ _ _ _ _ c.loop-turn.invariant (omega arith) c.index.ensures c.in_ok-prepare_more.ensures.moves c.prepare_more.ensures.paths c.prepare_more.ensures.rooms
+    all-next _ _ _ _ _ _ _ _ _ _ c.loop-turn.invariant (omega arith) c.index-change.ensures c.in_ok-prepare_more.ensures.moves c.prepare_more.ensures.paths c.prepare_more.ensures.rooms
     c.in_ok-prepare_more.ensures.room
 
 pub returns-in_err-prepare_more-clause-rooms : goal.returns-in_err-prepare_more-clause-rooms

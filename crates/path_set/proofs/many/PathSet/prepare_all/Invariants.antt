@@ -3,4 +3,4 @@ use Rattle.path_set.proofs.ManyPrepareLemmas.{IsPreparingAll}
 use Rattle.path_set.proofs.many.PathSet.prepare_all.Given as goal
 
 abbrev pub invariant-loop-turn : goal.invariant-loop-turn
-invariant-loop-turn l = IsPreparingAll l.fn.self l.member (l.held + 2) l.changes l.turn l.moves l.self
+invariant-loop-turn l = IsPreparingAll l.fn.self l.member (l.undos + 2) l.changes l.turn l.moves l.self
