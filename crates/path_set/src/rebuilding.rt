@@ -114,8 +114,9 @@ impl PathSet {
         ensures { self.new ≡ kept_with (new ∷ []) self.old }
     {
         let RebuiltPath { id, path } = new;
-        if let Ok(place) = place_of(&self.paths, id) {
-            self.paths[place].path = path;
+        match place_of(&self.paths, id) {
+            Ok(place) => self.paths[place].path = path,
+            Err(_) => {}
         }
     }
 }

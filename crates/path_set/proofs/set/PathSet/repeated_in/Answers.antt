@@ -1,6 +1,6 @@
 use Rattle.std.proofs.Common.{refl}
 use Rattle.path_set.proofs.FoundLemmas.{found, missing}
-use Rattle.path_set.proofs.repeated.PathSet.repeated_in.Goals as goal
+use Rattle.path_set.proofs.set.PathSet.repeated_in.Goals as goal
 
 pub returns-in-Ok : goal.returns-in-Ok
 returns-in-Ok c =

@@ -1,6 +1,6 @@
 use Rattle.std.proofs.Common.{arith}
 use Rattle.path_set.proofs.ManyPrepareLemmas.{all-first, all-takes, all-next, all-wider, all-end}
-use Rattle.path_set.proofs.many.PathSet.prepare_all.Goals as goal
+use Rattle.path_set.proofs.set.PathSet.prepare_all.Goals as goal
 
 pub loop-turn-init : goal.loop-turn-init
 loop-turn-init c = all-first _ _ _ _ _ c.new-moves.ensures

@@ -1,7 +1,7 @@
 use Rattle.std.proofs.Common.{arith}
 use Rattle.path_set.proofs.PrepareLemmas.{view-length}
 use Rattle.path_set.proofs.RebuildLemmas.{making-first, making-next, making-end, making-can}
-use Rattle.path_set.proofs.rebuilding.PathSet.prepare_rebuild.Goals as goal
+use Rattle.path_set.proofs.set.PathSet.prepare_rebuild.Goals as goal
 
 pub loop-place-init : goal.loop-place-init
 loop-place-init c = making-first _ _ _ _ _ c.new-rebuilt.ensures

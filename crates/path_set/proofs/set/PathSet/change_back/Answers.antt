@@ -1,7 +1,7 @@
 use Rattle.std.proofs.Common.{◌≡◌, length, deque_len, ap, arith, rules}
 use Rattle.path_set.proofs.MoveLemmas.{made-there, made-fits, made-spare}
 use Rattle.path_set.proofs.ManyPrepareLemmas.{backing-first, backing-length, backing-next, backing-end}
-use Rattle.path_set.proofs.many.PathSet.change_back.Goals as goal
+use Rattle.path_set.proofs.set.PathSet.change_back.Goals as goal
 
 pub loop-turn-init : goal.loop-turn-init
 loop-turn-init c = backing-first _ _ _ c.requires c.moves.view_is

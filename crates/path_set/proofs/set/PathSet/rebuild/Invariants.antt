@@ -1,7 +1,7 @@
 use Rattle.std.proofs.Common.{length}
 use Rattle.std.specs.Prelude.{vec_len}
 use Rattle.path_set.proofs.RebuildLemmas.{IsPutting}
-use Rattle.path_set.proofs.rebuilding.PathSet.rebuild.Given as goal
+use Rattle.path_set.proofs.set.PathSet.rebuild.Given as goal
 
 abbrev pub invariant-loop-new : goal.invariant-loop-new
 invariant-loop-new l = IsPutting l.fn.rebuilt l.fn.self l.items.items l.self

@@ -1,6 +1,6 @@
 use Rattle.std.proofs.Common.{refl}
 use Rattle.path_set.proofs.FoundLemmas.{found, missing}
-use Rattle.path_set.proofs.repeated.PathSet.clash.Goals as goal
+use Rattle.path_set.proofs.set.PathSet.clash.Goals as goal
 
 pub clash_at-requires : goal.clash_at-requires
 clash_at-requires c =
