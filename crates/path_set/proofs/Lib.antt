@@ -15,3 +15,4 @@ pub mod UndoLemmas
 pub mod RebuildLemmas
 pub mod ManyPrepareLemmas
 pub mod ClashLemmas
+pub mod KeptRoomLemmas

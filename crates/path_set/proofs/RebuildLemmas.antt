@@ -18,10 +18,9 @@ use Rattle.path_set.specs.KeptPaths.{KeptPath, PathRoom, KeptPaths, NumberedPath
 use Rattle.path_set.specs.RecordChanges.{HaveRoom}
 use Rattle.path_set.specs.Sharing.{CanBeKept}
 use Rattle.path_set.specs.MemberSteps.{AreSameBut, is_over, paths_over}
-use Rattle.path_set.specs.RebuiltPaths.{CanBeRebuilt, IsRebuilt, AreRebuilt, HaveTies, entries_or, room_or, path_with, room_with, kept_with, IsAdded}
+use Rattle.path_set.specs.RebuiltPaths.{CanBeRebuilt, IsRebuilt, AreRebuilt, HaveRooms, HaveTies, entries_or, room_or, path_with, room_with, kept_with, IsAdded}
 use Rattle.path_set.specs.Entries.{AreKept, IsKept, IsPlace, IsGap, paths_of, numbered, path_of, room_of}
 use Rattle.path_set.proofs.FoundLemmas.{IsFound, found-each}
-use Rattle.path_set.proofs.OrderLemmas.{AreShared-paths}
 use Rattle.path_set.proofs.PlaceLemmas.{IsPlace-tail}
 use Rattle.path_set.proofs.RecordLemmas.{Ascend, ascend-from, each-apart}
 use Rattle.path_set.proofs.ManyLemmas.{pairs-map}
@@ -450,48 +449,42 @@ over-any member (f ∷ formats) (suc k, x, low, at, is) = by (f.member == member
 abbrev spare_in : Option PathRoom → ℕ
 spare_in o = unwrap_or (option_map (λ (room : PathRoom). room.spare) o) 0
 
-room-at : (rebuilt : List (Numbered EntryList)) (list : EntryList) (n : ℕ) → item_at n rebuilt ≡ Some list → (items : List Kept) → IsSome (item_at n (map (numbered path_of) items))
-    → spare_in (item_at n (map (room_with rebuilt) (map (numbered room_of) items))) ≡ list.spare
+room-at : (rebuilt : List (Numbered EntryList)) (list : EntryList) (n : ℕ) → item_at n rebuilt ≡ Some list → (rooms : List (Numbered PathRoom)) → IsSome (item_at n rooms)
+    → spare_in (item_at n (map (room_with rebuilt) rooms)) ≡ list.spare
 room-at rebuilt list n found [] there = absurd cc
-room-at rebuilt list n found (kept ∷ items) there = by (kept.id == n) refl there (room-at rebuilt list n found items)
+room-at rebuilt list n found (room ∷ rooms) there = by (room.number == n) refl there (room-at rebuilt list n found rooms)
   where
-    by : (b : Bool) → (kept.id == n) ≡ b → IsSome (cond b (Some (path_of kept)) (item_at n (map (numbered path_of) items)))
-        → (IsSome (item_at n (map (numbered path_of) items)) → spare_in (item_at n (map (room_with rebuilt) (map (numbered room_of) items))) ≡ list.spare)
-        → spare_in (cond b (Some (room_or (item_at kept.id rebuilt) (room_of kept))) (item_at n (map (room_with rebuilt) (map (numbered room_of) items)))) ≡ list.spare
+    by : (b : Bool) → (room.number == n) ≡ b → IsSome (cond b (Some room.item) (item_at n rooms))
+        → (IsSome (item_at n rooms) → spare_in (item_at n (map (room_with rebuilt) rooms)) ≡ list.spare)
+        → spare_in (cond b (Some (room_or (item_at room.number rebuilt) room.item)) (item_at n (map (room_with rebuilt) rooms))) ≡ list.spare
     by true is h rest =
-        let own : kept.id ≡ n = grind (arith, nat_tests) in
-        ap (λ (o : Option EntryList). (room_or o (room_of kept)).spare) (ap (λ (k : ℕ). item_at k rebuilt) own ∙ found)
+        let own : room.number ≡ n = grind (arith, nat_tests) in
+        ap (λ (o : Option EntryList). (room_or o room.item).spare) (ap (λ (k : ℕ). item_at k rebuilt) own ∙ found)
     by false is h rest = rest h
 
-module _ (items : List Kept) (rebuilt : List (Numbered EntryList)) (number held : ℕ) (members : NumberedMembers) where
+module _ (kept : KeptPaths) (rebuilt : List (Numbered EntryList)) (number held : ℕ) (members : NumberedMembers) where
   abbrev HasRoom : Numbered KeptPath → Type 0
-  HasRoom path = Any (λ (f : PathFormat). f.member ≡ number) path.item.spec.formats
-      → held * length path.item.spec.formats ≤ spare_of path.number (kept_with rebuilt (paths_of items))
+  HasRoom path = Any (λ (f : PathFormat). f.member ≡ number) path.item.spec.formats → held * length path.item.spec.formats ≤ spare_of path.number (kept_with rebuilt kept)
 
-  one-room : (path : Numbered KeptPath) (b : Bool) → is_over number path.item.spec ≡ b → IsChosen members held b path (item_at path.number rebuilt)
-      → item_at path.number (map (numbered path_of) items) ≡ Some path.item → HasRoom path
+  one-room : (path : Numbered KeptPath) (b : Bool) → is_over number path.item.spec ≡ b → IsChosen members held b path (item_at path.number rebuilt) → IsSome (item_at path.number kept.rooms)
+      → HasRoom path
   one-room path false not_over none there any = absurd (let e : true ≡ false = sym (over-any number path.item.spec.formats any) ∙ not_over in cc)
   one-room path true is_one (list, found, made_anew) there any =
-      let spare : spare_of path.number (kept_with rebuilt (paths_of items)) ≡ list.spare = room-at rebuilt list path.number found items (rw there refl) in
+      let spare : spare_of path.number (kept_with rebuilt kept) ≡ list.spare = room-at rebuilt list path.number found kept.rooms there in
       let room = made_anew.room in
       omega (arith, spare, room)
 
   all-room : (rest : NumberedPaths) → AllByRecursion (λ (path : Numbered KeptPath). IsChosen members held (is_over number path.item.spec) path (item_at path.number rebuilt)) rest
-      → AllByRecursion (λ (path : Numbered KeptPath). item_at path.number (map (numbered path_of) items) ≡ Some path.item) rest
+      → AllByRecursion (λ (path : Numbered KeptPath). IsSome (item_at path.number kept.rooms)) rest
       → AllByRecursion (λ (path : Numbered KeptPath). HasRoom (path_with rebuilt path)) rest
   all-room [] chosen there = tt
   all-room (path ∷ rest) chosen there = (one-room path (is_over number path.item.spec) refl chosen.0 there.0, all-room rest chosen.1 there.1)
 
-  kept-room : AreKept items → AreRebuilt members held (paths_over number (map (numbered path_of) items)) rebuilt → HaveRoom number held (kept_with rebuilt (paths_of items))
-  kept-room kept made =
-      let paths = map (numbered path_of) items in
-      let ascend : Ascend (map (numbered path_of) items) = ascend-from (map (numbered path_of) items) (AreShared-paths items kept).ascend in
-      All-map HasRoom (path_with rebuilt) paths
-      (All-from_recursion (λ (path : Numbered KeptPath). HasRoom (path_with rebuilt path)) paths
-      (all-room paths (all-chosen members number held paths rebuilt ascend made) (own-there paths ascend)))
-
-pub rebuilt-room : (items : List Kept) (old new : KeptPaths) (rebuilt : List (Numbered EntryList)) → paths_of items ≡ old → AreKept items → new ≡ kept_with rebuilt old
+pub rebuilt-room : (old new : KeptPaths) (rebuilt : List (Numbered EntryList)) → AreShared old.paths → HaveRooms old → new ≡ kept_with rebuilt old
     → (number held : ℕ) (members : NumberedMembers) → AreRebuilt members held (paths_over number old.paths) rebuilt → HaveRoom number held new
-rebuilt-room items old new rebuilt view kept is number held members made =
-    subst (HaveRoom number held) (sym (is ∙ ap (kept_with rebuilt) (sym view)))
-    (kept-room items rebuilt number held members kept (subst (λ (v : KeptPaths). AreRebuilt members held (paths_over number v.paths) rebuilt) (sym view) made))
+rebuilt-room old new rebuilt shared rooms is number held members made =
+    subst (HaveRoom number held) (sym is)
+    (All-map (HasRoom old rebuilt number held members) (path_with rebuilt) old.paths
+    (All-from_recursion (λ (path : Numbered KeptPath). HasRoom old rebuilt number held members (path_with rebuilt path)) old.paths
+    (all-room old rebuilt number held members old.paths (all-chosen members number held old.paths rebuilt (ascend-from old.paths shared.ascend) made)
+    (recursion_from_All (λ (path : Numbered KeptPath). IsSome (item_at path.number old.rooms)) old.paths rooms))))

@@ -1,5 +1,5 @@
 -- What is a path that is made anew, and what becomes of the kept paths when it takes the place of the old one? (Our own.)
-use Rattle.std.specs.Prelude.{◌≡◌, ℕ, ◌≤◌, ◌*◌, Bool, true, false, List, [], ◌∷◌, ◌++◌, length, map, All, Option, Some, None, IfSome}
+use Rattle.std.specs.Prelude.{◌≡◌, ℕ, ◌≤◌, ◌*◌, Bool, true, false, List, [], ◌∷◌, ◌++◌, length, map, All, Option, Some, None, IsSome, IfSome}
 use Rattle.std.specs.List.{AllZip}
 use Rattle.key_pages.specs.declared.entries.Entry.{Entry}
 use Rattle.key_pages.specs.EntryList.{EntryList}
@@ -25,6 +25,10 @@ abbrev pub AreRebuilt : NumberedMembers → (held : ℕ) → NumberedPaths → L
 AreRebuilt members held paths rebuilt = AllZip (IsRebuilt members held) paths rebuilt
 
 -- ---- in the places of the old ones
+
+-- each path has its room
+abbrev pub HaveRooms : KeptPaths → Type 0
+HaveRooms kept = All (λ path. IsSome (item_at path.number kept.rooms)) kept.paths
 
 -- where a path has the number of one made anew, its equal keys go the same way
 abbrev pub HaveTies : List (Numbered EntryList) → NumberedPaths → Type 0

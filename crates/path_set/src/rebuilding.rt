@@ -101,6 +101,8 @@ impl PathSet {
         ensures put { self.new ≡ kept_with rebuilt self.old }
         ensures room { (number held : ℕ) (members : NumberedMembers) → AreRebuilt members held (paths_over number self.old.paths) rebuilt → HaveRoom number held self.new }
     {
+        // What holds of all kept paths.
+        let _ = self.kept();
         let Rebuilt { mut items } = rebuilt;
         // The last first: where a number is there twice, the first path is the one that stays.
         while let Some(new) = items.pop() {

@@ -11,6 +11,7 @@ ghost use Rattle.path_entrants.specs.Repeated.{least_repeated, TellsRepeated};
 ghost use Rattle.path_set.specs.KeptPaths.{KeptPath, AreShared, spare_of, pages_at, entries_of};
 ghost use Rattle.path_set.specs.RecordChanges.{TakeImage, moves_in, opposites, paths_after, CanBeMade, HaveRoom, count_in};
 ghost use Rattle.path_set.specs.Entries.{change_of};
+ghost use Rattle.path_set.specs.RebuiltPaths.{HaveRooms};
 ghost use Rattle.path_set.specs.Sharing.{CanBeKept, IsNew, IsShared, IsPut, IsLeastFree, detached};
 
 use crate::faults::PathFault;
@@ -63,6 +64,7 @@ impl PathSet {
     pub fn kept(&self) -> u32
         ensures count { result ≡ length self.now.paths }
         ensures shared { AreShared self.now.paths }
+        ensures rooms { HaveRooms self.now }
     {
         self.paths.len() as u32
     }

@@ -17,4 +17,4 @@ returns-clause-put c = let none : c.loop-new.items.items ≡ [] = search rules i
 pub returns-clause-room : goal.returns-clause-room
 returns-clause-room c =
     let none : c.loop-new.items.items ≡ [] = search rules in
-    rebuilt-room _ _ _ _ c.self.view_is c.self.invariant (putting-end _ _ _ _ c.loop-new.invariant none)
+    rebuilt-room _ _ _ c.kept.ensures.shared c.kept.ensures.rooms (putting-end _ _ _ _ c.loop-new.invariant none)
