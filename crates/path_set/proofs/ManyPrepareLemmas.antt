@@ -36,6 +36,17 @@ pub all-takes : (start : KeptPaths) (member most : ℕ) (changes : List ImageCha
 all-takes start member most changes turn moves now change p low read takes =
     subst (λ (w : NumberedPaths). TakeImages member w change) (sym p.paths) (subst (TakeImages member start.paths) (sym read) (takes turn change low))
 
+get-same : (xs : List ImageChange) (i : ℕ) (a d : ImageChange) → i < length xs → get_or xs i a ≡ get_or xs i d
+get-same [] i a d low = absurd (omega arith)
+get-same (x ∷ xs) zero a d low = refl
+get-same (x ∷ xs) (suc i) a d low = get-same xs i a d (omega arith)
+
+-- the same, read with any default
+pub all-takes-at : (start : KeptPaths) (member most : ℕ) (changes : List ImageChange) (turn : ℕ) (moves : List PathMove) (now : KeptPaths) (d : ImageChange)
+    → IsPreparingAll start member most changes turn moves now → turn < length changes → All (TakeImages member start.paths) changes → TakeImages member now.paths (get_or changes turn d)
+all-takes-at start member most changes turn moves now d p low takes =
+    all-takes start member most changes turn moves now (get_or changes turn d) p low (get-same changes turn d (get_or changes turn d) low) takes
+
 drop-first : (xs : List ImageChange) (i : ℕ) (d : ImageChange) → i < length xs → drop i xs ≡ get_or xs i d ∷ drop (i + 1) xs
 drop-first [] i d low = absurd (omega arith)
 drop-first (x ∷ xs) zero d low = refl
@@ -58,6 +69,12 @@ all-next start member most changes turn moves more now then change p low read is
       rooms = λ id. let a = p.rooms id in let b = spare id in omega (arith, a, b);
       room = λ some. room;
     }
+
+pub all-next-at : (start : KeptPaths) (member most : ℕ) (changes : List ImageChange) (turn : ℕ) (moves more : List PathMove) (now then : KeptPaths) (d : ImageChange)
+    → IsPreparingAll start member most changes turn moves now → turn < length changes → more ≡ moves ++ moves_in (change_in member (get_or changes turn d)) now.paths
+    → then.paths ≡ now.paths → ((id : ℕ) → spare_of id now ≤ spare_of id then) → HaveRoom member most then → IsPreparingAll start member most changes (turn + 1) more then
+all-next-at start member most changes turn moves more now then d p low is same spare room =
+    all-next start member most changes turn moves more now then (get_or changes turn d) p low (get-same changes turn d (get_or changes turn d) low) is same spare room
 
 -- memory may run out in the midst of a change
 pub all-wider : (start : KeptPaths) (member most : ℕ) (changes : List ImageChange) (turn : ℕ) (moves : List PathMove) (now then : KeptPaths) → IsPreparingAll start member most changes turn moves now
@@ -92,14 +109,17 @@ reverse-last rest o = reverse-append rest (option_to_list o) ∙ ap (λ (w : Lis
     one (Some m) = refl
 
 -- the moves turned round are under way
-abbrev pub IsBacking : (moves : List PathMove) (start : KeptPaths) (items : List PathMove) (now : KeptPaths) (turn : ℕ) → Type 0
-IsBacking moves start items now turn = IsUnderway (reverse moves) start (reverse items) now turn
+pub record IsBacking (moves : List PathMove) (start : KeptPaths) (items : List PathMove) (now : KeptPaths) (turn : ℕ) : Type 0 where
+  pub underway : IsUnderway (reverse moves) start (reverse items) now turn
 
 pub backing-first : (moves items : List PathMove) (start : KeptPaths) → CanBeMade (reverse moves) start → items ≡ moves → IsBacking moves start items start 0
-backing-first moves items start can is = subst (λ (w : List PathMove). IsUnderway (reverse moves) start (reverse w) start 0) (sym is) (underway-first (reverse moves) start can)
+backing-first moves items start can is = record {
+  underway = subst (λ (w : List PathMove). IsUnderway (reverse moves) start (reverse w) start 0) (sym is) (underway-first (reverse moves) start can);
+}
 
 pub backing-length : (moves : List PathMove) (start : KeptPaths) (items : List PathMove) (now : KeptPaths) (turn : ℕ) → IsBacking moves start items now turn → length items ≡ length moves
-backing-length moves start items now turn u = sym (length-reverse items) ∙ underway-length (reverse moves) start (reverse items) now turn u ∙ length-reverse moves
+backing-length moves start items now turn u =
+    sym (length-reverse items) ∙ underway-length (reverse moves) start (reverse items) now turn u.underway ∙ length-reverse moves
 
 -- the last of those that are left
 pub record IsLastLeft (moves : List PathMove) (start : KeptPaths) (now : KeptPaths) (turn : ℕ) (m : PathMove) (rest : List PathMove) : Type 0 where
@@ -111,11 +131,12 @@ pub backing-next : (moves : List PathMove) (start : KeptPaths) (items : List Pat
     → IsBacking moves start items now turn → turn < length moves → items ≡ rest ++ option_to_list o → o ≡ Some m → IsLastLeft moves start now turn m rest
 backing-next moves start items now turn m rest o u low popped is =
     let next : IsNext (reverse moves) start (reverse items) now turn m (reverse rest) =
-    underway-next (reverse moves) start (reverse items) now turn m (reverse rest) o u (let e = length-reverse moves in omega (arith, low, e)) (ap reverse popped ∙ reverse-last rest o) is in
+    underway-next (reverse moves) start (reverse items) now turn m (reverse rest) o u.underway (let e = length-reverse moves in omega (arith, low, e)) (ap reverse popped ∙ reverse-last rest o) is in
     record {
       can = next.can;
-      after = λ back then final is_back made spare is_final.
-          next.after back then (reverse final) is_back made spare (ap reverse is_final ∙ reverse-first (record { id = m.id; change = back }) rest);
+      after = λ back then final is_back made spare is_final. record {
+        underway = next.after back then (reverse final) is_back made spare (ap reverse is_final ∙ reverse-first (record { id = m.id; change = back }) rest);
+      };
     }
 
 opposites-reverse : (xs : List PathMove) → opposites (reverse xs) ≡ reverse (opposites xs)
@@ -134,7 +155,7 @@ pub record AreBack (moves : List PathMove) (start : KeptPaths) (items : List Pat
 pub backing-end : (moves : List PathMove) (start : KeptPaths) (items : List PathMove) (now : KeptPaths) (turn : ℕ) → IsBacking moves start items now turn → length moves ≤ turn
     → AreBack moves start items now
 backing-end moves start items now turn u high =
-    let made : IsMade (reverse moves) start (reverse items) now = underway-end (reverse moves) start (reverse items) now turn u (let e = length-reverse moves in omega (arith, high, e)) in
+    let made : IsMade (reverse moves) start (reverse items) now = underway-end (reverse moves) start (reverse items) now turn u.underway (let e = length-reverse moves in omega (arith, high, e)) in
     record {
       paths = made.paths;
       opposite = sym (reverse-reverse items) ∙ ap reverse (made.opposite ∙ opposites-reverse moves) ∙ reverse-reverse (opposites moves);

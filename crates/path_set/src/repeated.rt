@@ -42,7 +42,10 @@ impl PathSet {
         ensures { result ≡ option_and_then repeated_of (item_at id self.now.paths) }
     {
         match place_of(&self.paths, id) {
-            Ok(place) => equal_keys(&self.paths[place].by, &self.paths[place].path),
+            Ok(place) => {
+                let kept = &self.paths[place];
+                equal_keys(&kept.by, &kept.path)
+            }
             Err(_) => None,
         }
     }
