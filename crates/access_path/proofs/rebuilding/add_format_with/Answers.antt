@@ -12,12 +12,12 @@ add_format-requires-clause-taken g c =
     let differs : get_or (g.E.Entrant.members c.args.by.now) c.args.format 0 ≢ c.args.number = search rules in
     rw (with-others _ _ c.args.member.now.state _ differs) at c.requires.taken
 
-pub returns-then-clause-entries : goal.returns-then-clause-entries
-returns-then-clause-entries g c =
+pub returns-then-member-number-clause-entries : goal.returns-then-member-number-clause-entries
+returns-then-member-number-clause-entries g c =
     let same : get_or (g.E.Entrant.members c.args.by.now) c.args.format 0 ≡ c.args.number = search rules in
     rw (with-here _ _ c.args.member.now.state c.args.members.now.members c.requires.there same) c.add_slots.ensures.entries
 
-pub returns-else-clause-entries : goal.returns-else-clause-entries
-returns-else-clause-entries g c =
+pub returns-else-member-number-clause-entries : goal.returns-else-member-number-clause-entries
+returns-else-member-number-clause-entries g c =
     let differs : get_or (g.E.Entrant.members c.args.by.now) c.args.format 0 ≢ c.args.number = search rules in
     rw (with-others _ _ c.args.member.now.state c.args.members.now.members differs) c.add_format.ensures.entries
