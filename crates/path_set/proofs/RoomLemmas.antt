@@ -47,9 +47,9 @@ few-from : (c : RecordChange) (paths : NumberedPaths) → Ascend paths → AllBy
 few-from c [] ascend = tt
 few-from c (path ∷ paths) ascend = (
   (let e = count-append path.number (in_path path.number (moves_of c path.item.spec)) (moves_in c paths) in
-  let own = own-few c path.number path.item.spec in
-  let rest = others-counted c path.number paths (later-apart path paths ascend.0) in
-  omega (arith, e, own, rest)),
+      let own = own-few c path.number path.item.spec in
+      let rest = others-counted c path.number paths (later-apart path paths ascend.0) in
+      omega (arith, e, own, rest)),
   later paths ascend.0 (few-from c paths ascend.1),
 )
   where
@@ -59,10 +59,10 @@ few-from c (path ∷ paths) ascend = (
     later [] below few = tt
     later (other ∷ rest) below few = (
       (let e = count-append other.number (in_path path.number (moves_of c path.item.spec)) (moves_in c paths) in
-      let lt = below.0 in
-      let z = count-other other.number path.number (moves_of c path.item.spec) (λ same. omega (arith, lt, same)) in
-      let f = few.0 in
-      omega (arith, e, z, f)),
+          let lt = below.0 in
+          let z = count-other other.number path.number (moves_of c path.item.spec) (λ same. omega (arith, lt, same)) in
+          let f = few.0 in
+          omega (arith, e, z, f)),
       later rest below.1 few.1,
     )
 

@@ -89,7 +89,13 @@ impl PathSet {
         for place in 0..self.paths.len() {
             let kept = &self.paths[place];
             add_rebuilt(
-                self.alloc, kept, members, number, member, held, &mut rebuilt,
+                self.alloc,
+                kept,
+                members,
+                number,
+                member,
+                held,
+                &mut rebuilt,
             )?;
         }
         Ok(rebuilt)
