@@ -4,3 +4,4 @@ pub mod MoveLemmas
 pub mod BytesLemmas
 pub mod RebuildLemmas
 pub mod ClashLemmas
+pub mod MemberLemmas

@@ -1,6 +1,7 @@
 //! The kept path itself.
-ghost use Rattle.std.specs.Prelude.{◌≡◌, ◌+◌, ◌*◌, ◌≤◌, [], Some, None, IfOk, OnOk, OnErr, IfSome, Contains, length, is_some, if◌then◌else◌};
+ghost use Rattle.std.specs.Prelude.{◌≡◌, ◌+◌, ◌*◌, ◌≤◌, [], Some, None, IfOk, OnOk, OnErr, IfSome, IsSome, Contains, length, is_some, if◌then◌else◌};
 ghost use Rattle.std.specs.Option.{option_copied};
+ghost use Rattle.member_slots.specs.Members.{member_at, with_member};
 ghost use Rattle.access_path.specs.KeptEntries.{entry_with, image_key, kept};
 ghost use Rattle.access_path.specs.Rebuilding.{member_slots, TakesAll};
 ghost use Rattle.access_path.specs.Clash.{least_other};
@@ -9,8 +10,9 @@ ghost use Rattle.access_path.specs.Moves.{opposite, without_key, with_key, moved
 use crate::clash;
 use crate::entrant::Entrant;
 use crate::prepared::Prepared;
-use crate::rebuilding::add_formats;
+use crate::rebuilding::{add_formats, add_formats_with};
 use key_pages::{Entry, EntryRef, Key, Pages};
+use member_slots::member::Member;
 use member_slots::members::Members;
 use std::alloc::{AllocError, Global};
 use std::marker::Model;
@@ -69,6 +71,26 @@ impl Path {
     {
         let mut pages = Pages::new(self.alloc, self.falling);
         add_formats(self.alloc, &mut pages, by, members)?;
+        self.pages = pages;
+        Ok(())
+    }
+
+    /// Makes the path anew, as `rebuild` does, of the members with this one in the place of the member of the number.
+    pub fn rebuild_with<E: Entrant>(
+        &mut self,
+        by: &E,
+        members: &Members,
+        number: u32,
+        member: &Member,
+    ) -> Result<(), AllocError>
+        requires there { IsSome (member_at number members.now.members) }
+        requires taken { TakesAll (E.takes by.now) 0 (member_slots (E.members by.now) (with_member number member.now.state members.now.members)) }
+        ensures entries { OnOk result (self.new.entries ≡ kept (E.keys by.now) self.old.falling (member_slots (E.members by.now) (with_member number member.now.state members.now.members))) }
+        ensures falling { self.new.falling ≡ self.old.falling }
+        ensures unchanged { OnErr result (self.new ≡ self.old) }
+    {
+        let mut pages = Pages::new(self.alloc, self.falling);
+        add_formats_with(self.alloc, &mut pages, by, members, number, member)?;
         self.pages = pages;
         Ok(())
     }

@@ -1,6 +1,6 @@
 //! The entries of members, put into a path one after another.
-ghost use Rattle.std.specs.Prelude.{◌≡◌, ◌+◌, ◌≤◌, [], All, Contains, OnOk, length, slice_index, ◌<◌};
-ghost use Rattle.member_slots.specs.Members.{member_of};
+ghost use Rattle.std.specs.Prelude.{◌≡◌, ◌+◌, ◌≤◌, [], All, Contains, IsSome, OnOk, length, slice_index, ◌<◌};
+ghost use Rattle.member_slots.specs.Members.{member_at, member_of, with_member};
 ghost use Rattle.key_pages.specs.EntryList.{with_entry};
 ghost use Rattle.access_path.specs.KeptEntries.{slot_key, entries_at, entries_in, entries_from, entry_with};
 ghost use Rattle.access_path.specs.Rebuilding.{member_slots, TakesSlot, TakesAll, added, IsBefore};
@@ -28,6 +28,52 @@ pub(crate) fn add_formats<E: Entrant>(
         add_format(alloc, pages, by, format, members)?;
     }
     Ok(())
+}
+
+/// Adds the entries of all formats, with another state of the member of a number.
+pub(crate) fn add_formats_with<E: Entrant>(
+    alloc: Global,
+    pages: &mut Pages,
+    by: &E,
+    members: &Members,
+    number: u32,
+    member: &Member,
+) -> Result<(), AllocError>
+    requires empty { pages.old.entries ≡ [] }
+    requires there { IsSome (member_at number members.now.members) }
+    requires taken { TakesAll (E.takes by.now) 0 (member_slots (E.members by.now) (with_member number member.now.state members.now.members)) }
+    ensures entries { OnOk result (pages.new.entries ≡ added pages.old.falling (entries_from (E.keys by.now) 0 (member_slots (E.members by.now) (with_member number member.now.state members.now.members))) []) }
+    ensures falling { pages.new.falling ≡ pages.old.falling }
+{
+    for format in 0..by.formats() {
+        add_format_with(alloc, pages, by, format, members, number, member)?;
+    }
+    Ok(())
+}
+
+/// Adds the entries of a format, with another state of the member of a number.
+fn add_format_with<E: Entrant>(
+    alloc: Global,
+    pages: &mut Pages,
+    by: &E,
+    format: u16,
+    members: &Members,
+    number: u32,
+    member: &Member,
+) -> Result<(), AllocError>
+    requires format { format < length (E.members by.now) }
+    requires before { All (IsBefore format 1) pages.old.entries }
+    requires there { IsSome (member_at number members.now.members) }
+    requires taken { All (TakesSlot (E.takes by.now format)) (member_of (slice_index (E.members by.now) format) (with_member number member.now.state members.now.members)).slots }
+    ensures entries { OnOk result (pages.new.entries ≡ added pages.old.falling (entries_in (E.keys by.now) format 1 (member_of (slice_index (E.members by.now) format) (with_member number member.now.state members.now.members)).slots) pages.old.entries) }
+    ensures before { OnOk result (All (IsBefore (format + 1) 1) pages.new.entries) }
+    ensures falling { pages.new.falling ≡ pages.old.falling }
+{
+    if by.member(format) == number {
+        add_slots(alloc, pages, by, format, member)
+    } else {
+        add_format(alloc, pages, by, format, members)
+    }
 }
 
 /// Adds the entries of a format.

@@ -40,7 +40,7 @@ some-lesser None b = refl
 some-lesser (Some n) None = refl
 some-lesser (Some n) (Some m) = refl
 
-lesser-swap : (a b c : Option ℕ) → lesser a (lesser b c) ≡ lesser b (lesser a c)
+pub lesser-swap : (a b c : Option ℕ) → lesser a (lesser b c) ≡ lesser b (lesser a c)
 lesser-swap None b c = refl
 lesser-swap (Some n) None c = refl
 lesser-swap (Some n) (Some m) None = ap (λ (i : ℕ). Some i) (let e : min n m ≡ min m n = omega arith in e)
@@ -68,7 +68,7 @@ least_of all (x ∷ xs) = lesser (cond (has_other all x) (Some x.rrn) None) (lea
 
 module _ (formats : List PathFormat) (parts : List KeyPart) (own : parts_of formats 0 ≡ parts) where
   -- an entry of the first format, whose key is one of its
-  abbrev IsGood : PathEntry → Type 0
+  abbrev pub IsGood : PathEntry → Type 0
   IsGood e = (e.format ≡ 0) × AreFit parts e.key
 
   same-bytes : (x e : PathEntry) → IsGood x → IsGood e → key_cmp (in_bytes formats e).key (in_bytes formats x).key ≡ compare_keys e.key x.key
@@ -136,7 +136,7 @@ module _ (compare : PathEntry → PathEntry → Ordering) where
 
 -- ---- arrival order
 
-abbrev Rises : List PathEntry → Type 0
+abbrev pub Rises : List PathEntry → Type 0
 Rises [] = Unit {0}
 Rises (x ∷ xs) = AllByRecursion (λ y. x.rrn < y.rrn) xs × Rises xs
 
@@ -257,7 +257,7 @@ low-from number format n m (Live image ∷ slots) le = by (selects format.rules 
     by true rest = (le, rest)
     by false rest = rest
 
-rises-from : (number : ℕ) (format : PathFormat) (m : ℕ) (slots : List Slot) → Rises (map (entry_of number format) (filter (λ pair. selects format.rules pair.1) (records_from m slots)))
+pub rises-from : (number : ℕ) (format : PathFormat) (m : ℕ) (slots : List Slot) → Rises (map (entry_of number format) (filter (λ pair. selects format.rules pair.1) (records_from m slots)))
 rises-from number format m [] = tt
 rises-from number format m (Deleted ∷ slots) = rises-from number format (m + 1) slots
 rises-from number format m (Live image ∷ slots) =
@@ -273,7 +273,7 @@ rises-from number format m (Live image ∷ slots) =
     by true low rest = (low, rest)
     by false low rest = rest
 
-good-from : (formats : List PathFormat) (format : PathFormat) (own : parts_of formats 0 ≡ format.key) (members : NumberedMembers) → ShowsBytes members format
+pub good-from : (formats : List PathFormat) (format : PathFormat) (own : parts_of formats 0 ≡ format.key) (members : NumberedMembers) → ShowsBytes members format
     → AllByRecursion (IsGood formats format.key own) (entries_of 0 format members)
 good-from formats format own members shown =
     all-map (IsGood formats format.key own) (entry_of 0 format) (selected_of format (member_of format.member members).slots)

@@ -1,3 +1,4 @@
+pub mod NumberedLemmas
 pub mod PlaceLemmas
 pub mod SearchLemmas
 pub mod OrderLemmas
@@ -7,3 +8,11 @@ pub mod PrepareLemmas
 pub mod ShareLemmas
 pub mod AttachLemmas
 pub mod RecordLemmas
+pub mod MemberStepLemmas
+pub mod RoomLemmas
+pub mod ManyLemmas
+pub mod UndoLemmas
+pub mod RebuildLemmas
+pub mod ManyPrepareLemmas
+pub mod ClashLemmas
+pub mod KeptRoomLemmas

@@ -43,7 +43,7 @@ pub paths_after-cons : (m : PathMove) (moves : List PathMove) (paths : NumberedP
 paths_after-cons m moves [] = refl
 paths_after-cons m moves (path ∷ paths) = ap (λ (w : NumberedPaths). path_after (m ∷ moves) path ∷ w) (paths_after-cons m moves paths)
 
-some-after : (id : ℕ) (moves : List PathMove) (paths : NumberedPaths) → IsSome (item_at id paths) → IsSome (item_at id (paths_after moves paths))
+pub some-after : (id : ℕ) (moves : List PathMove) (paths : NumberedPaths) → IsSome (item_at id paths) → IsSome (item_at id (paths_after moves paths))
 some-after id moves [] there = there
 some-after id moves (path ∷ paths) there = by (path.number == id) there (some-after id moves paths)
   where

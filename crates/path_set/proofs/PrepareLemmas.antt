@@ -172,53 +172,53 @@ prepare-step c changes value items place kept new moves more h same low read wid
     entry = found items items (paths_of items) kept.id place kept refl h refl (IsPlace-at items place kept h low read) read
 
 -- what is prepared in the paths before this place
-pub record IsGathering (start : KeptPaths) (c : RecordChange) (changes place : ℕ) (moves : List PathMove) (items : List Kept) : Type 0 where
+pub record IsGathering (start : KeptPaths) (begun : List PathMove) (c : RecordChange) (changes place : ℕ) (moves : List PathMove) (items : List Kept) : Type 0 where
   pub kept : AreKept items
   pub same : map (numbered path_of) items ≡ start.paths
-  pub moves_left : moves ++ moves_in c (drop place start.paths) ≡ moves_in c start.paths
+  pub moves_left : moves ++ moves_in c (drop place start.paths) ≡ begun ++ moves_in c start.paths
   pub rooms : (id : ℕ) → spare_of id start ≤ spare_of id (paths_of items)
   pub room : (k : ℕ) (d : Kept) → k < place → HasRoomAt c.member changes (get_or items k d)
 
-pub gathering-first : (start : KeptPaths) (c : RecordChange) (changes : ℕ) (moves : List PathMove) (items : List Kept) → paths_of items ≡ start → AreKept items → moves ≡ []
-    → IsGathering start c changes 0 moves items
-gathering-first start c changes moves items view h none = record {
+pub gathering-first : (start : KeptPaths) (begun : List PathMove) (c : RecordChange) (changes : ℕ) (items : List Kept) → paths_of items ≡ start → AreKept items
+    → IsGathering start begun c changes 0 begun items
+gathering-first start begun c changes items view h = record {
   kept = h;
   same = ap (λ (v : KeptPaths). v.paths) view;
-  moves_left = ap (λ (w : List PathMove). w ++ moves_in c start.paths) none;
+  moves_left = refl;
   rooms = λ id. subst (λ (v : KeptPaths). spare_of id v ≤ spare_of id (paths_of items)) view (omega arith);
   room = λ k d low. absurd (omega arith);
 }
 
-pub gathering-takes : (start : KeptPaths) (c : RecordChange) (changes place : ℕ) (moves : List PathMove) (items : List Kept) (kept : Kept) (member : ℕ) (image : Option (List ℕ))
-    → IsGathering start c changes place moves items → place < length items → kept ≡ get_or items place kept → TakeImage member image start.paths → TakesImage member image kept.by
-gathering-takes start c changes place moves items kept member image g low read takes =
+pub gathering-takes : (start : KeptPaths) (begun : List PathMove) (c : RecordChange) (changes place : ℕ) (moves : List PathMove) (items : List Kept) (kept : Kept) (member : ℕ) (image : Option (List ℕ))
+    → IsGathering start begun c changes place moves items → place < length items → kept ≡ get_or items place kept → TakeImage member image start.paths → TakesImage member image kept.by
+gathering-takes start begun c changes place moves items kept member image g low read takes =
     found-each (λ (path : Numbered KeptPath). TakesImage member image path.item.spec) items place kept low read
     (subst (λ (w : NumberedPaths). TakeImage member image w) (sym g.same) takes)
 
 -- the path at this place has more room
-pub gathering-wider : (start : KeptPaths) (c : RecordChange) (changes place : ℕ) (moves : List PathMove) (items : List Kept) (kept new : Kept)
-    → IsGathering start c changes place moves items → place < length items → kept ≡ get_or items place kept → HasMoreRoom kept new → IsStepped c changes start items place kept new moves moves
-gathering-wider start c changes place moves items kept new g low read wider = prepare-step c changes start items place kept new moves moves g.kept g.same low read wider
+pub gathering-wider : (start : KeptPaths) (begun : List PathMove) (c : RecordChange) (changes place : ℕ) (moves : List PathMove) (items : List Kept) (kept new : Kept)
+    → IsGathering start begun c changes place moves items → place < length items → kept ≡ get_or items place kept → HasMoreRoom kept new → IsStepped c changes start items place kept new moves moves
+gathering-wider start begun c changes place moves items kept new g low read wider = prepare-step c changes start items place kept new moves moves g.kept g.same low read wider
 
-pub gathering-next : (start : KeptPaths) (c : RecordChange) (changes place : ℕ) (moves more : List PathMove) (items : List Kept) (kept new : Kept)
-    → IsGathering start c changes place moves items → place < length items → kept ≡ get_or items place kept → HasMoreRoom kept new
+pub gathering-next : (start : KeptPaths) (begun : List PathMove) (c : RecordChange) (changes place : ℕ) (moves more : List PathMove) (items : List Kept) (kept new : Kept)
+    → IsGathering start begun c changes place moves items → place < length items → kept ≡ get_or items place kept → HasMoreRoom kept new
     → more ≡ moves ++ in_path kept.id (moves_of c kept.by)
     → ((k : ℕ) → k < length (members_of kept.by.formats) → get_or (members_of kept.by.formats) k 0 ≡ c.member → changes * length (members_of kept.by.formats) ≤ new.path.spare)
-    → IsGathering start c changes (place + 1) more (set items place new)
-gathering-next start c changes place moves more items kept new g low read wider is room =
+    → IsGathering start begun c changes (place + 1) more (set items place new)
+gathering-next start begun c changes place moves more items kept new g low read wider is room =
     let step = prepare-step c changes start items place kept new moves more g.kept g.same low read wider in
     record {
       kept = step.kept_after;
       same = step.same;
-      moves_left = step.moves_after (moves_in c start.paths) is g.moves_left;
+      moves_left = step.moves_after (begun ++ moves_in c start.paths) is g.moves_left;
       rooms = step.rooms g.rooms;
       room = step.room g.room (subst (λ (s : PathSpec). (k : ℕ) → k < length (members_of s.formats) → get_or (members_of s.formats) k 0 ≡ c.member
           → changes * length (members_of s.formats) ≤ new.path.spare) (sym wider.by) room);
     }
 
-pub gathering-end : (start : KeptPaths) (c : RecordChange) (changes place : ℕ) (moves : List PathMove) (items : List Kept) → IsGathering start c changes place moves items → length items ≤ place
-    → moves ≡ moves_in c start.paths
-gathering-end start c changes place moves items g high =
+pub gathering-end : (start : KeptPaths) (begun : List PathMove) (c : RecordChange) (changes place : ℕ) (moves : List PathMove) (items : List Kept) → IsGathering start begun c changes place moves items → length items ≤ place
+    → moves ≡ begun ++ moves_in c start.paths
+gathering-end start begun c changes place moves items g high =
     let longer : length start.paths ≤ place = rw (← g.same) (rw length-map high) in
     sym (append-none moves) ∙ ap (λ (w : NumberedPaths). moves ++ moves_in c w) (sym (drop-all start.paths place longer)) ∙ g.moves_left
 
@@ -253,6 +253,6 @@ prepare-room member changes items h room k d within any = by items h room within
 pub view-length : (items : List Kept) (value : KeptPaths) → paths_of items ≡ value → length value.paths ≡ length items
 view-length items value view = ap (λ (v : KeptPaths). length v.paths) (sym view) ∙ length-map items (numbered path_of)
 
-pub gathering-length : (start : KeptPaths) (c : RecordChange) (changes place : ℕ) (moves : List PathMove) (items : List Kept) → IsGathering start c changes place moves items
+pub gathering-length : (start : KeptPaths) (begun : List PathMove) (c : RecordChange) (changes place : ℕ) (moves : List PathMove) (items : List Kept) → IsGathering start begun c changes place moves items
     → length items ≡ length start.paths
-gathering-length start c changes place moves items g = sym (length-map items (numbered path_of)) ∙ ap length g.same
+gathering-length start begun c changes place moves items g = sym (length-map items (numbered path_of)) ∙ ap length g.same

@@ -201,11 +201,11 @@ module _ (falling : Bool) (id : ℕ) where
     other-fit other moves (cond (other == id) (moved falling m entries) entries) differs,
   )
 
-  after-append : (xs ys : List PathMove) (entries : List Entry) → entries_after falling id (xs ++ ys) entries ≡ entries_after falling id ys (entries_after falling id xs entries)
+  pub after-append : (xs ys : List PathMove) (entries : List Entry) → entries_after falling id (xs ++ ys) entries ≡ entries_after falling id ys (entries_after falling id xs entries)
   after-append [] ys entries = refl
   after-append (x ∷ xs) ys entries = after-append xs ys (cond (x.id == id) (moved falling x.change entries) entries)
 
-  fit-append : (xs ys : List PathMove) (entries : List Entry) → FitEntries falling id xs entries → FitEntries falling id ys (entries_after falling id xs entries)
+  pub fit-append : (xs ys : List PathMove) (entries : List Entry) → FitEntries falling id xs entries → FitEntries falling id ys (entries_after falling id xs entries)
       → FitEntries falling id (xs ++ ys) entries
   fit-append [] ys entries first second = second
   fit-append (x ∷ xs) ys entries first second = (first.0, fit-append xs ys (cond (x.id == id) (moved falling x.change entries) entries) first.1 second)
@@ -227,11 +227,11 @@ module _ (falling : Bool) (id : ℕ) where
 
 -- ---- paths apart
 
-abbrev Ascend : NumberedPaths → Type 0
+abbrev pub Ascend : NumberedPaths → Type 0
 Ascend [] = Unit {0}
 Ascend (path ∷ paths) = AllByRecursion (λ (later : Numbered KeptPath). path.number < later.number) paths × Ascend paths
 
-ascend-from : (paths : NumberedPaths) → AllPairs (λ (former later : Numbered KeptPath). former.number < later.number) paths → Ascend paths
+pub ascend-from : (paths : NumberedPaths) → AllPairs (λ (former later : Numbered KeptPath). former.number < later.number) paths → Ascend paths
 ascend-from [] h = tt
 ascend-from (path ∷ paths) h = (
   recursion_from_All (λ (later : Numbered KeptPath). path.number < later.number) paths (λ k d low. h zero (suc k) d (omega arith) (omega arith)),
@@ -243,7 +243,7 @@ abbrev AreEach : (P : Numbered KeptPath → NumberedPaths → NumberedPaths → 
 AreEach P front [] = Unit {0}
 AreEach P front (path ∷ paths) = P path front paths × AreEach P (front ++ path ∷ []) paths
 
-weaken : (P Q : Numbered KeptPath → Type 0) → ((path : Numbered KeptPath) → P path → Q path) → (paths : NumberedPaths) → AllByRecursion P paths → AllByRecursion Q paths
+pub weaken : (P Q : Numbered KeptPath → Type 0) → ((path : Numbered KeptPath) → P path → Q path) → (paths : NumberedPaths) → AllByRecursion P paths → AllByRecursion Q paths
 weaken P Q f [] all = tt
 weaken P Q f (path ∷ paths) all = (f path all.0, weaken P Q f paths all.1)
 
@@ -252,7 +252,7 @@ both P [] ys first second = second
 both P (x ∷ xs) ys first second = (first.0, both P xs ys first.1 second)
 
 -- a fact that follows where all others have another number holds of each
-each-apart : (P : Numbered KeptPath → Type 0) (whole : NumberedPaths)
+pub each-apart : (P : Numbered KeptPath → Type 0) (whole : NumberedPaths)
     → ((front : NumberedPaths) (path : Numbered KeptPath) (back : NumberedPaths) → whole ≡ front ++ path ∷ back → AllByRecursion (λ (other : Numbered KeptPath). other.number ≢ path.number) front
     → AllByRecursion (λ (other : Numbered KeptPath). other.number ≢ path.number) back → P path)
     → Ascend whole → AllByRecursion P whole
@@ -341,7 +341,7 @@ some-at (first ∷ front) path back = by (first.number == path.number) (some-at 
     by true rest = refl
     by false rest = rest
 
-both-moves : (P : PathMove → Type 0) (xs ys : List PathMove) → AllByRecursion P xs → AllByRecursion P ys → AllByRecursion P (xs ++ ys)
+pub both-moves : (P : PathMove → Type 0) (xs ys : List PathMove) → AllByRecursion P xs → AllByRecursion P ys → AllByRecursion P (xs ++ ys)
 both-moves P [] ys first second = second
 both-moves P (x ∷ xs) ys first second = (first.0, both-moves P xs ys first.1 second)
 
@@ -362,7 +362,7 @@ length-parts : (xs ys : List PathMove) → length (xs ++ ys) ≡ length xs + len
 length-parts [] ys = omega arith
 length-parts (x ∷ xs) ys = let e = length-parts xs ys in omega (arith, e)
 
-count-append : (id : ℕ) (xs ys : List PathMove) → count_in id (xs ++ ys) ≡ count_in id xs + count_in id ys
+pub count-append : (id : ℕ) (xs ys : List PathMove) → count_in id (xs ++ ys) ≡ count_in id xs + count_in id ys
 count-append id [] ys = omega arith
 count-append id (x ∷ xs) ys = by (x.id == id) (count-append id xs ys)
   where
@@ -372,14 +372,14 @@ count-append id (x ∷ xs) ys = by (x.id == id) (count-append id xs ys)
     by true e = omega (arith, e)
     by false e = e
 
-count-other : (id other : ℕ) (moves : List Move) → other ≢ id → count_in id (in_path other moves) ≡ 0
+pub count-other : (id other : ℕ) (moves : List Move) → other ≢ id → count_in id (in_path other moves) ≡ 0
 count-other id other [] differs = refl
 count-other id other (m ∷ moves) differs =
     ap length (cond-false (other == id) (record { id = other; change = m } ∷ filter (λ (x : PathMove). x.id == id) (in_path other moves)) (filter (λ (x : PathMove). x.id == id) (in_path other moves))
     (let e : (other == id) ≡ false = grind (arith, nat_tests) in e))
     ∙ count-other id other moves differs
 
-count-few : (id other : ℕ) (moves : List Move) → count_in id (in_path other moves) ≤ length moves
+pub count-few : (id other : ℕ) (moves : List Move) → count_in id (in_path other moves) ≤ length moves
 count-few id other [] = omega arith
 count-few id other (m ∷ moves) = by (other == id) (count-few id other moves)
   where
@@ -394,7 +394,7 @@ pub record AreFew (keys : KeyOf) (c : RecordChange) (format : ℕ) (formats : Li
   pub few : length (moves_from keys c format (members_of formats)) ≤ length formats
   pub none : (length (moves_from keys c format (members_of formats)) ≡ 0) ⊎ Any (λ (f : PathFormat). f.member ≡ c.member) formats
 
-are-few : (keys : KeyOf) (c : RecordChange) (format : ℕ) (formats : List PathFormat) → AreFew keys c format formats
+pub are-few : (keys : KeyOf) (c : RecordChange) (format : ℕ) (formats : List PathFormat) → AreFew keys c format formats
 are-few keys c format [] = record { few = omega arith; none = inl refl }
 are-few keys c format (f ∷ formats) = by (f.member == c.member) refl (are-few keys c (format + 1) formats)
   where
@@ -461,36 +461,43 @@ counts id spare c (path ∷ paths) ascend room =
         let z = count-other id path.number (moves_of c path.item.spec) other in
         omega (arith, e, z, rest)
 
+pub paths-there : (c : RecordChange) (paths : NumberedPaths) → AreShared paths → AllByRecursion (λ (m : PathMove). IsSome (item_at m.id paths)) (moves_in c paths)
+paths-there c paths shared =
+    there-all c paths paths (each-apart (λ (path : Numbered KeptPath). IsSome (item_at path.number paths)) paths
+    (λ front path back is first second. subst (λ (w : NumberedPaths). IsSome (item_at path.number w)) (sym is) (some-at front path back)) (ascend-from paths shared.ascend))
+
+pub paths-fit : (c : RecordChange) (before after : NumberedMembers) (paths : NumberedPaths) → IsRecordChange c before after → AreShared paths → AreOver before paths
+    → AllByRecursion (λ (path : Numbered KeptPath). FitEntries (is_falling path.item.spec.ties) path.number (moves_in c paths) path.item.entries) paths
+paths-fit c before after paths changes shared over =
+    join paths (recursion_from_All (λ (path : Numbered KeptPath). path.item.entries ≡ entries_of path.item.spec before) paths over)
+    (each-apart (λ (path : Numbered KeptPath). (entries : List Entry) → FitAll (is_falling path.item.spec.ties) (moves_of c path.item.spec) entries
+    → FitEntries (is_falling path.item.spec.ties) path.number (moves_in c paths) entries) paths
+    (λ front path back is first second entries fit. one-fit c paths front back path is first second entries fit) (ascend-from paths shared.ascend))
+  where
+    join : (rest : NumberedPaths) → AllByRecursion (λ (path : Numbered KeptPath). path.item.entries ≡ entries_of path.item.spec before) rest
+        → AllByRecursion (λ (path : Numbered KeptPath). (entries : List Entry) → FitAll (is_falling path.item.spec.ties) (moves_of c path.item.spec) entries
+        → FitEntries (is_falling path.item.spec.ties) path.number (moves_in c paths) entries) rest
+        → AllByRecursion (λ (path : Numbered KeptPath). FitEntries (is_falling path.item.spec.ties) path.number (moves_in c paths) path.item.entries) rest
+    join [] was fits = tt
+    join (path ∷ rest) was fits = (
+      fits.0 path.item.entries
+          (subst (FitAll (is_falling path.item.spec.ties) (moves_of c path.item.spec)) (sym was.0) (led-path c before after changes path.item.spec).fits),
+      join rest was.1 fits.1,
+    )
+
 pub paths-made : (c : RecordChange) (before after : NumberedMembers) (kept : KeptPaths) → AreReady c before after kept → CanBeMade (moves_in c kept.paths) kept
 paths-made c before after kept ready =
     let paths = kept.paths in
-    let ascend = ascend-from paths ready.shared.ascend in
     record {
-      there = All-from_recursion (λ (m : PathMove). IsSome (item_at m.id paths)) (moves_in c paths)
-          (there-all c paths paths (each-apart (λ (path : Numbered KeptPath). IsSome (item_at path.number paths)) paths
-          (λ front path back is first second. subst (λ (w : NumberedPaths). IsSome (item_at path.number w)) (sym is) (some-at front path back)) ascend));
+      there = All-from_recursion (λ (m : PathMove). IsSome (item_at m.id paths)) (moves_in c paths) (paths-there c paths ready.shared);
       fit = All-from_recursion (λ (path : Numbered KeptPath). FitEntries (is_falling path.item.spec.ties) path.number (moves_in c paths) path.item.entries) paths
-          (join paths (recursion_from_All (λ (path : Numbered KeptPath). path.item.entries ≡ entries_of path.item.spec before) paths ready.over)
-          (each-apart (λ (path : Numbered KeptPath). (entries : List Entry) → FitAll (is_falling path.item.spec.ties) (moves_of c path.item.spec) entries
-          → FitEntries (is_falling path.item.spec.ties) path.number (moves_in c paths) entries) paths
-          (λ front path back is first second entries fit. one-fit c paths front back path is first second entries fit) ascend));
+          (paths-fit c before after paths ready.changes ready.shared ready.over);
       room = λ id.
-          counts id (spare_of id kept) c paths ascend
+          counts id (spare_of id kept) c paths (ascend-from paths ready.shared.ascend)
           (each-room id paths (recursion_from_All (λ (path : Numbered KeptPath). Any (λ (f : PathFormat). f.member ≡ c.member) path.item.spec.formats
           → 1 * length path.item.spec.formats ≤ spare_of path.number kept) paths ready.room));
     }
   where
-    join : (rest : NumberedPaths) → AllByRecursion (λ (path : Numbered KeptPath). path.item.entries ≡ entries_of path.item.spec before) rest
-        → AllByRecursion (λ (path : Numbered KeptPath). (entries : List Entry) → FitAll (is_falling path.item.spec.ties) (moves_of c path.item.spec) entries
-        → FitEntries (is_falling path.item.spec.ties) path.number (moves_in c kept.paths) entries) rest
-        → AllByRecursion (λ (path : Numbered KeptPath). FitEntries (is_falling path.item.spec.ties) path.number (moves_in c kept.paths) path.item.entries) rest
-    join [] was fits = tt
-    join (path ∷ rest) was fits = (
-      fits.0 path.item.entries
-          (subst (FitAll (is_falling path.item.spec.ties) (moves_of c path.item.spec)) (sym was.0) (led-path c before after ready.changes path.item.spec).fits),
-      join rest was.1 fits.1,
-    )
-
     each-room : (id : ℕ) (rest : NumberedPaths)
         → AllByRecursion (λ (path : Numbered KeptPath). Any (λ (f : PathFormat). f.member ≡ c.member) path.item.spec.formats → 1 * length path.item.spec.formats ≤ spare_of path.number kept) rest
         → AllByRecursion (λ (path : Numbered KeptPath). path.number ≡ id → count_in id (in_path path.number (moves_of c path.item.spec)) ≤ spare_of id kept) rest

@@ -21,6 +21,7 @@ use Rattle.path_set.specs.declared.kept.TheConstants.{MOST_PATHS}
 use Rattle.path_set.specs.KeptPaths.{KeptPath, PathRoom, KeptPaths, NumberedPaths, entries_of, spare_of}
 use Rattle.path_set.specs.Sharing.{IsNew, IsLeastFree, one_fewer, IsShared, detached}
 use Rattle.path_set.specs.Entries.{AreKept, IsKept, IsPlace, IsGap, IsFirstFree, paths_of, numbered, path_of, room_of, with_files}
+use Rattle.path_set.proofs.NumberedLemmas.{at-put_same, at-put_other, at-without_same, at-without_other}
 use Rattle.path_set.proofs.PlaceLemmas.{item_at-place, item_at-gap, put_item-gap}
 use Rattle.path_set.proofs.OrderLemmas.{AreKept-insert, IsGap-free}
 use Rattle.path_set.proofs.FoundLemmas.{IsFound, found, IsPlace-at}
@@ -58,14 +59,6 @@ counted spec items slice value place kept view h shown is read = record {
     entry = found items items value kept.id place kept view h refl (IsPlace-at items place kept h at.0 read) read
 
 -- ---- a path more
-
-at-put_same : {A : Type 0} (number : ℕ) (item : A) (entries : List (Numbered A)) → item_at number (put_item number item entries) ≡ Some item
-at-put_same number item [] = grind (arith, nat_tests)
-at-put_same number item (entry ∷ entries) = grind (arith, nat_tests, at-put_same number item entries)
-
-at-put_other : {A : Type 0} (number : ℕ) (item : A) (entries : List (Numbered A)) (other : ℕ) → other ≢ number → item_at other (put_item number item entries) ≡ item_at other entries
-at-put_other number item [] other differs = grind (arith, nat_tests)
-at-put_other number item (entry ∷ entries) other differs = grind (arith, nat_tests, at-put_other number item entries other differs)
 
 pub record IsAdded (items : List Kept) (value : KeptPaths) (place : ℕ) (new : Kept) : Type 0 where
   pub number : IsLeastFree place value.paths
@@ -153,14 +146,6 @@ detached-fewer id path paths at more =
 pub detached-last : (id : ℕ) (path : KeptPath) (paths : NumberedPaths) → item_at id paths ≡ Some path → path.files ≤ 1 → without_item id paths ≡ detached id paths
 detached-last id path paths at few =
     rw at (sym (cond-false (nat_lt 1 path.files) (with_item id (one_fewer path) paths) (without_item id paths) (let e : nat_lt 1 path.files ≡ false = grind (arith, nat_tests) in e)))
-
-at-without_same : {A : Type 0} (number : ℕ) (entries : List (Numbered A)) → item_at number (without_item number entries) ≡ None
-at-without_same number [] = refl
-at-without_same number (entry ∷ entries) = grind (arith, nat_tests, at-without_same number entries)
-
-at-without_other : {A : Type 0} (number : ℕ) (entries : List (Numbered A)) (other : ℕ) → other ≢ number → item_at other (without_item number entries) ≡ item_at other entries
-at-without_other number [] other differs = refl
-at-without_other number (entry ∷ entries) other differs = grind (arith, nat_tests, at-without_other number entries other differs)
 
 pub spare-same : (id : ℕ) (v w : KeptPaths) → v.rooms ≡ w.rooms → spare_of id v ≡ spare_of id w
 spare-same id v w same = ap (λ (r : List (Numbered PathRoom)). unwrap_or (option_map (λ (x : PathRoom). x.spare) (item_at id r)) 0) same

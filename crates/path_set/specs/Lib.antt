@@ -3,3 +3,7 @@ pub mod RecordChanges
 pub mod Sharing
 pub mod Entries
 pub mod MemberChanges
+pub mod MemberSteps
+pub mod RebuiltPaths
+pub mod ManyChanges
+pub mod EqualKeys

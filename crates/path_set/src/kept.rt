@@ -119,7 +119,7 @@ pub(crate) fn path_over(
     Ok(path)
 }
 
-fn is_falling(ties: Ties) -> bool
+pub(crate) fn is_falling(ties: Ties) -> bool
     ensures { result ≡ is_falling ties }
 {
     match ties {
@@ -129,7 +129,7 @@ fn is_falling(ties: Ties) -> bool
 }
 
 /// The inserts that so many changes make in so many formats.
-fn inserts(changes: u32, formats: u16) -> Result<u32, AllocError>
+pub(crate) fn inserts(changes: u32, formats: u16) -> Result<u32, AllocError>
     ensures { IfOk result (λ more. more ≡ changes * formats) }
 {
     match changes.checked_mul(u32::from(formats)) {

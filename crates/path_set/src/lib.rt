@@ -4,7 +4,13 @@
 
 pub mod faults;
 mod kept;
+pub mod key_laws;
 pub mod laws;
+mod many;
+pub mod many_laws;
+pub mod member_laws;
 pub mod moves;
+pub mod rebuilding;
+pub mod repeated;
 pub mod set;
 mod tests;

@@ -1,4 +1,4 @@
-//! A change of one record in all paths, prepared.
+//! Changes of records in all paths, prepared.
 ghost use Rattle.std.specs.Prelude.{◌≡◌, [], ◌∷◌, ◌++◌, OnOk};
 
 use access_path::prepared::Prepared;
@@ -14,7 +14,17 @@ pub struct PathMove {
     pub(crate) change: Prepared,
 }
 
-/// A prepared change of one record in each path that has it. Contracts see the moves in order.
+/// A change of one of several records of a member: the image before it and after it, none where the record isn't live.
+#[derive(Clone, Copy)]
+pub struct ImageChange<'a> {
+    /// The relative record number.
+    pub rrn: u32,
+    pub old: Option<&'a [u8]>,
+    pub new: Option<&'a [u8]>,
+}
+
+/// A prepared change of one record, or several one after another, in each path that has them. Contracts see the moves in
+/// order.
 #[derive(Drop)]
 pub struct Moves {
     pub(crate) items: VecDeque<PathMove>,

@@ -1,5 +1,6 @@
-//! The paths that a library keeps. A single one is in `kept.rt`, a prepared change in `moves.rt`.
-ghost use Rattle.std.specs.Prelude.{◌≡◌, ◌+◌, ◌*◌, ◌≤◌, ◌⊎◌, ℕ, [], ◌∷◌, Some, None, IsSome, IfSome, IfOk, OnOk, OnErr, MatchOption, MatchResult, IsErrOf, is_some, length, if◌then◌else◌};
+//! The paths that a library keeps. A single one is in `kept.rt`, a prepared change in `moves.rt`; several changes are in
+//! `many.rt`, paths made anew in `rebuilding.rt`, equal keys in `repeated.rt`.
+ghost use Rattle.std.specs.Prelude.{◌≡◌, ◌+◌, ◌*◌, ◌≤◌, ◌⊎◌, ℕ, [], ◌∷◌, ◌++◌, Some, None, IsSome, IfSome, IfOk, OnOk, OnErr, MatchOption, MatchResult, IsErrOf, is_some, length, if◌then◌else◌};
 ghost use Rattle.std.specs.Option.{option_copied};
 ghost use Rattle.member_slots.specs.Members.{item_at, put_item};
 ghost use Rattle.file_model.specs.Paths.{repeated_in};
@@ -9,6 +10,8 @@ ghost use Rattle.path_entrants.specs.Formats.{CanBeAsked, keys_of};
 ghost use Rattle.path_entrants.specs.Repeated.{least_repeated, TellsRepeated};
 ghost use Rattle.path_set.specs.KeptPaths.{KeptPath, AreShared, spare_of, pages_at, entries_of};
 ghost use Rattle.path_set.specs.RecordChanges.{TakeImage, moves_in, opposites, paths_after, CanBeMade, HaveRoom, count_in};
+ghost use Rattle.path_set.specs.Entries.{change_of};
+ghost use Rattle.path_set.specs.RebuiltPaths.{HaveRooms};
 ghost use Rattle.path_set.specs.Sharing.{CanBeKept, IsNew, IsShared, IsPut, IsLeastFree, detached};
 
 use crate::faults::PathFault;
@@ -31,8 +34,8 @@ use std::marker::Model;
 /// Paths by their numbers, each once. Beside them, contracts see the room of each.
 #[derive(Drop)]
 pub struct PathSet {
-    alloc: Global,
-    paths: Vec<Kept>,
+    pub(crate) alloc: Global,
+    pub(crate) paths: Vec<Kept>,
 }
 
 impl Model for PathSet {
@@ -61,6 +64,7 @@ impl PathSet {
     pub fn kept(&self) -> u32
         ensures count { result ≡ length self.now.paths }
         ensures shared { AreShared self.now.paths }
+        ensures rooms { HaveRooms self.now }
     {
         self.paths.len() as u32
     }
@@ -181,10 +185,27 @@ impl PathSet {
             new,
             held,
         };
-        for place in 0..self.paths.len() {
-            self.paths[place].prepare(asked, &mut moves)?;
-        }
+        self.prepare_more(asked, &mut moves)?;
         Ok(moves)
+    }
+
+    /// Prepares a change in each path of the member, as `prepare` does, behind other moves.
+    pub(crate) fn prepare_more(
+        &mut self,
+        asked: Asked<'_>,
+        moves: &mut Moves,
+    ) -> Result<(), AllocError>
+        requires old { TakeImage asked.member (option_copied asked.old) self.old.paths }
+        requires new { TakeImage asked.member (option_copied asked.new) self.old.paths }
+        ensures moves { OnOk result (moves.new ≡ moves.old ++ moves_in (change_of asked.entry) self.old.paths) }
+        ensures room { OnOk result (HaveRoom asked.entry.member (asked.entry.held + 2) self.new) }
+        ensures paths { self.new.paths ≡ self.old.paths }
+        ensures rooms { (id : ℕ) → spare_of id self.old ≤ spare_of id self.new }
+    {
+        for place in 0..self.paths.len() {
+            self.paths[place].prepare(asked, moves)?;
+        }
+        Ok(())
     }
 
     /// Does a prepared change and gives the opposite. It takes no memory.
@@ -204,7 +225,7 @@ impl PathSet {
     }
 
     /// Does a prepared change in one path and gives the opposite.
-    fn change_path(&mut self, id: u64, change: Prepared) -> Prepared
+    pub(crate) fn change_path(&mut self, id: u64, change: Prepared) -> Prepared
         requires there { IsSome (item_at id self.old.paths) }
         requires fits { IfSome (item_at id self.old.paths) (λ path. FitsIn (is_falling path.spec.ties) change path.entries) }
         requires spare { 1 ≤ spare_of id self.old }
@@ -248,7 +269,7 @@ impl Paths for PathSet {
 }
 
 /// The least record that has an equal later one, where the path may have none.
-fn equal_keys(by: &SpecEntrant, path: &Path) -> Option<u32>
+pub(crate) fn equal_keys(by: &SpecEntrant, path: &Path) -> Option<u32>
     ensures { result ≡ (if by.now.unique then least_repeated path.now.entries path.now.entries else None) }
 {
     if by.spec().unique {
