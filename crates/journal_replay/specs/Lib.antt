@@ -1,0 +1,4 @@
+pub mod SoFar
+pub mod Standing
+pub mod Left
+pub mod Tests

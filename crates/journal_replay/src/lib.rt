@@ -1,0 +1,4 @@
+//! What a journal's entries leave, read one after another.
+#![tactic(auto)]
+
+pub mod laws;
