@@ -3,3 +3,6 @@ pub mod SoFarLemmas
 pub mod KindLemmas
 pub mod LeftLemmas
 pub mod TestLemmas
+pub mod LimitLemmas
+pub mod WholeLemmas
+pub mod EmptyLemmas

@@ -24,7 +24,7 @@ use Rattle.journal_model.specs.Pairs.{Pair, OfUpdate, OfUndo, pair_begun, pair_e
 use Rattle.journal_model.specs.Catalogue.{Catalogue, CatalogFile, CatalogMember, Descriptions, MayEnterBy, MayCreate, MayDelete, MayAddMember, IsNextMember, MakesMember, IsOfMember, file_named, member_numbered, members_of, depends_on}
 use Rattle.journal_model.specs.Images.{images_of, AreRecords, AreRecordsOf, HasRecords}
 use Rattle.journal_model.specs.Rollback.{MemberChange, of_member, named}
-use Rattle.journal_model.proofs.PlaceLemmas.{is_same_slot-itself}
+use Rattle.journal_model.proofs.PlaceLemmas.{is_same_slot-itself, is_same_slot-same}
 use Rattle.journal_model.proofs.ReplayLemmas.{CanReplay-test}
 use Rattle.journal_replay.specs.Standing.{HeldMember, Standing, catalogue_in, state_in, slots_at, MayStandNext}
 use Rattle.journal_replay.specs.Tests.{is_next_member, makes_member, may_create, may_delete, is_physical, is_physical_file, may_add_member, is_of_member, may_enter, is_touched, frees_deleted, is_of_record, first_before, is_back, is_restored_in, are_restored, is_apart, fits_slot, member_act, may_act, follows_by, names_open, is_pair, is_same_job, is_one_change, one_change, ends_pair, are_records, are_records_of, may_stand_next}
@@ -480,11 +480,11 @@ first_back n member place (c ∷ undos) found slot = at (λ next. first_back n m
 
 back_is : (o : Option Slot) (slot : Slot) → unwrap_or o slot ≡ slot → is_back o slot ≡ true
 back_is None slot h = refl
-back_is (Some before) slot h = subst (λ (t : Slot). is_same_slot t slot ≡ true) (sym h) (is_same_slot-itself slot)
+back_is (Some before) slot h = subst (λ (t : Slot). is_same_slot slot t ≡ true) (sym h) (is_same_slot-itself slot)
 
 is_back_to : (o : Option Slot) (slot : Slot) → is_back o slot ≡ true → is_same_slot (unwrap_or o slot) slot ≡ true
 is_back_to None slot h = is_same_slot-itself slot
-is_back_to (Some before) slot h = h
+is_back_to (Some before) slot h = subst (λ (t : Slot). is_same_slot before t ≡ true) (sym (is_same_slot-same slot before h)) (is_same_slot-itself before)
 
 restored_each : (n : ℕ) (s : Standing) (undos : List MemberChange) → ((member place : ℕ) → back place (filter (is_in n) (of_member member s.undos)) (slot_of (slots_at member s.members) place) ≡ slot_of (slots_at member s.members) place)
     → list_all (is_restored_in n s.undos s.members) undos ≡ true

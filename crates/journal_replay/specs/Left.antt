@@ -5,7 +5,7 @@ use Rattle.std.specs.List.{list_any, AllByRecursion}
 use Rattle.entry_codec.specs.declared.entries.Entry.{Entry}
 use Rattle.journal_model.specs.Acts.{act, entry_before}
 use Rattle.journal_model.specs.Rollback.{undos_of, of_member}
-use Rattle.journal_model.specs.Catalogue.{Descriptions}
+use Rattle.journal_model.specs.Catalogue.{Descriptions, empty_catalogue}
 use Rattle.journal_model.specs.Journal.{Journal, entries, last_sequence, state_of, open_cycles, catalogue_of}
 use Rattle.journal_replay.specs.SoFar.{CanReplaySoFar}
 use Rattle.journal_replay.specs.Standing.{Standing, HeldMember, catalogue_in, begun_by, break_by}
@@ -37,3 +37,12 @@ pub record IsLeft (d : Descriptions) (breaks : ℕ → ℕ) (j : Journal) (s : S
   pub numbered : AllByRecursion (λ (m : HeldMember). m.number < s.next_member) s.members
   pub fresh : (number : ℕ) → s.next_member ≤ number → ((state_of j number).slots ≡ []) × (last_break_of breaks j number ≡ 0)
   pub owned : (number : ℕ) → is_held number s.members ≡ false → of_member number s.undos ≡ []
+
+-- ---- at the beginning
+
+-- the journal of a store that was formatted just now
+abbrev pub empty_journal : Journal
+empty_journal = record { checkpoint = 0; catalogue = empty_catalogue; members = []; receiver = 1; kept = []; later = [] }
+
+abbrev pub empty_standing : Standing
+empty_standing = record { next = 1; begun = None; files = []; members = []; next_member = 1; cycles = []; undos = [] }

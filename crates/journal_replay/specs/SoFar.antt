@@ -5,12 +5,13 @@ use Rattle.std.specs.Prelude.{ℕ, ◌+◌, ◌≡◌, List, [], ◌∷◌, ◌+
 use Rattle.std.specs.List.{AllByRecursion}
 use Rattle.entry_codec.specs.declared.entries.Entry.{Entry}
 use Rattle.entry_codec.specs.declared.kinds.EntryKind.TheVariants.{FileDeleted, CommitCycleStarted}
+use Rattle.member_slots.specs.Member.{IsMember}
 use Rattle.journal_model.specs.Acts.{act, entry_before}
 use Rattle.journal_model.specs.Replayable.{CanReplay, MayFollow, IsFree, IsOpen}
 use Rattle.journal_model.specs.Pairs.{EndsPair, BeginsNoPair}
 use Rattle.journal_model.specs.Catalogue.{Catalogue, CatalogMember, Descriptions, MayEnterAll, MayEnterBy, members_of, member_numbered, catalogue_by}
 use Rattle.journal_model.specs.Images.{HasRecords, AllHaveRecords}
-use Rattle.journal_model.specs.Journal.{Journal, entries, last_sequence, start_of, acts_after, state_of, open_cycles, catalogue_of, AreNumbered, NamesOpen, DeletesFree, HasPlaceIn}
+use Rattle.journal_model.specs.Journal.{Journal, entries, last_sequence, start_of, acts_after, state_of, open_cycles, catalogue_of, record_length, AreNumbered, NamesOpen, DeletesFree, HasPlaceIn}
 
 -- each pair that begins among the entries ends with the next one, where there is a next one
 abbrev pub ArePairsSoFar : Option Entry → List Entry → Type 0
@@ -42,6 +43,12 @@ EndsWhole j = BeginsNoPair (entry_before None (entries j))
 -- the journal with this entry more
 abbrev pub with_entry : Entry → Journal → Journal
 with_entry e j = record j { later = j.later ++ e ∷ [] }
+
+-- each member that the catalogue has is within its limits
+abbrev pub AreWithinLimits : Descriptions → Journal → Type 0
+AreWithinLimits d j =
+    (member : CatalogMember) → member_numbered (Some member.number) (catalogue_of j) ≡ Some member
+    → IsMember (record { record_length = record_length d (catalogue_of j) member; slots = (state_of j member.number).slots })
 
 -- the entry may stand next in the journal
 pub record MayComeNext (d : Descriptions) (j : Journal) (e : Entry) : Type 0 where

@@ -124,7 +124,7 @@ first_before cycle member place (c ∷ undos) found = first_before cycle member 
 
 abbrev pub is_back : Option Slot → Slot → Bool
 is_back None slot = true
-is_back (Some before) slot = is_same_slot before slot
+is_back (Some before) slot = is_same_slot slot before
 
 abbrev pub is_restored_in : ℕ → List MemberChange → List HeldMember → MemberChange → Bool
 is_restored_in n undos members c = not (is_in n c.change) || is_back (first_before n c.member c.change.place undos None) (slot_of (slots_at c.member members) c.change.place)
