@@ -2,6 +2,7 @@
 use Rattle.std.proofs.Common.{◌≡◌, ◌≢◌, ◌⊎◌, inl, inr, ℕ, ◌+◌, ◌-◌, ◌≤◌, ◌<◌, Bool, true, false, List, [], ◌∷◌, ◌++◌, length, take, refl, sym, ◌∙◌, ap, subst, arith, append_assoc, length-append}
 use Rattle.std.proofs.lemmas.List.{append-nil, take_all, take_at}
 use Rattle.store_model.specs.Disk.{Areas, Disk, Leaves}
+use Rattle.store_model.specs.Faults.{Rose}
 use Rattle.store_model.proofs.Runs.{leaves_less, leaves_then}
 use Rattle.entry_codec.specs.declared.entries.Entry.{Entry}
 use Rattle.entry_codec.specs.declared.kinds.EntryKind.{EntryKind}
@@ -10,12 +11,15 @@ use Rattle.entry_codec.specs.Spelling.{IsSpelled, body, spelling}
 use Rattle.entry_codec.proofs.FieldLemmas.{length-number4}
 use Rattle.entry_codec.proofs.Lengths.{length-content, length-spelling}
 use Rattle.receiver_chain.specs.Receivers.{AreChained, Kept, Receiver, deposited, switched, with_block}
-use Rattle.receiver_chain.specs.Chain.{ChainState, IsSwitching, attached_of}
+use Rattle.receiver_chain.specs.declared.numbers.TheConstants.{MAX_RECEIVER}
+use Rattle.receiver_chain.specs.Chain.{ChainState, IsSwitch, IsSwitching, attached_of}
+use Rattle.receiver_chain.proofs.Chaining.{logs_length}
 use Rattle.journal_model.specs.Journal.{AreNumbered}
 use Rattle.journal_book.specs.Book.{BookState, GoesOn, Holds, Keeps, next_of}
 use Rattle.journal_book.specs.Entries.{AreBlocks, AreReceivers, HasBegun, HoldsEntries, IsAttached, IsBlock, IsEnded, all_groups, first_sequence, flat}
 use Rattle.journal_book.specs.Kept.{IsKept, SpellEntries}
-use Rattle.journal_book.proofs.Deposits.{numbered-push}
+use Rattle.journal_book.specs.Switch.{AreTieBlocks, AreTies}
+use Rattle.journal_book.proofs.Deposits.{keeps_same, numbered-push}
 use Rattle.journal_book.proofs.Forcing.{begins-push, blocks-push, flat-append}
 
 -- ---- lists
@@ -59,15 +63,6 @@ has_begun true number last tail is goes = goes.0
 has_begun false number last tail is goes = absurd (Rattle.std.proofs.lemmas.Bool.false≢true is)
 
 -- ---- the two entries
-
--- they belong to the book, whose entries are all on the disk
-pub record AreTies (book : BookState) (nr pr : Entry) : Type 0 where
-  pub nr_spelled : IsSpelled nr
-  pub pr_spelled : IsSpelled pr
-  pub ends : nr.kind ≡ NextReceiver (attached_of book.chain + 1)
-  pub begins : pr.kind ≡ PreviousReceiver (attached_of book.chain)
-  pub nr_sequence : nr.sequence ≡ next_of book
-  pub pr_sequence : pr.sequence ≡ next_of book + 1
 
 module _ (book : BookState) (kept : Kept) (entries : List Entry) (keeps : Keeps book kept entries) (none : book.waiting ≡ 0) (begun : book.begun ≡ true) (number : attached_of book.chain ≡ book.chain.first + length kept.earlier) (least : 1 ≤ book.chain.first) (nr pr : Entry) (ties : AreTies book nr pr) where
   tail_is : keeps.tail ≡ []
@@ -202,6 +197,79 @@ kept_more receiver fewest forced entries more c less kept = record {
   at_most = omega (arith, kept.at_most, length-append entries more);
   spells = subst (λ (l : List Entry). SpellEntries receiver l c) (sym (Rattle.std.proofs.lemmas.List.take-append-le kept.count entries more kept.at_most)) kept.spells;
 }
+
+-- the entries of a call that goes no further
+pub leaves_more : (receiver fewest forced : ℕ) (entries more : List Entry) (old new : Disk) → fewest ≤ forced → Leaves old new (IsKept receiver forced entries) → Leaves old new (IsKept receiver fewest (entries ++ more))
+leaves_more receiver fewest forced entries more old new less leaves =
+    leaves_less old new (IsKept receiver forced entries) (IsKept receiver fewest (entries ++ more)) leaves (λ c kept. kept_more receiver fewest forced entries more c less kept)
+
+-- where fewer were forced
+pub leaves_fewer : (receiver fewest forced : ℕ) (entries : List Entry) (old new : Disk) → fewest ≤ forced → Leaves old new (IsKept receiver forced entries) → Leaves old new (IsKept receiver fewest entries)
+leaves_fewer receiver fewest forced entries old new less leaves =
+    leaves_less old new (IsKept receiver forced entries) (IsKept receiver fewest entries) leaves
+    (λ c kept. record { count = kept.count; at_least = omega (arith, less, kept.at_least); at_most = kept.at_most; spells = kept.spells })
+
+-- all are forced, and then the two follow
+pub switch_moments : (old middle : BookState) (entries more : List Entry) (a b c : Disk) → middle.chain.first ≡ old.chain.first → middle.forced ≡ old.forced + old.waiting → Leaves a b (IsKept old.chain.first old.forced entries)
+    → Leaves b c (IsKept middle.chain.first middle.forced (entries ++ more)) → Leaves a c (IsKept old.chain.first old.forced (entries ++ more))
+switch_moments old middle entries more a b c first all forces attaches =
+    leaves_then a b c (IsKept old.chain.first old.forced (entries ++ more)) (leaves_more old.chain.first old.forced old.forced entries more a b (omega arith) forces)
+    (leaves_fewer old.chain.first old.forced middle.forced (entries ++ more) b c (omega (arith, all)) (subst (λ (n : ℕ). Leaves b c (IsKept n middle.forced (entries ++ more))) first attaches))
+
+-- a count that rises after it stood or rose
+pub rose_after : (a b c : ℕ) → a ≤ b → Rose b c → Rose a c
+rose_after a b c upto rose = omega (arith, upto, rose)
+
+-- ---- the blocks of the two
+
+abbrev pub switch_of : (book : BookState) (nr pr : Entry) (ending beginning : List ℕ) → AreTieBlocks book nr pr ending beginning → attached_of book.chain + 1 ≤ MAX_RECEIVER → IsSwitch (attached_of book.chain) ending beginning
+switch_of book nr pr ending beginning blocks made = record {
+  before = next_of book;
+  ending = spelling nr;
+  beginning = spelling pr;
+  link = record { entry = nr; spelled = blocks.ties.nr_spelled; names = blocks.ties.ends; sequence = blocks.ties.nr_sequence; whole = refl; made = made };
+  start = record { entry = pr; spelled = blocks.ties.pr_spelled; names = blocks.ties.begins; sequence = blocks.ties.pr_sequence; whole = refl };
+  framed_ending = blocks.framed_ending;
+  framed_beginning = blocks.framed_beginning;
+}
+
+-- all are forced, and nothing waits
+pub ties_forced : (old new : BookState) (nr pr : Entry) → new.forced ≡ old.forced + old.waiting → new.waiting ≡ 0 → new.first ≡ old.first → attached_of new.chain ≡ attached_of old.chain → IsSpelled nr → IsSpelled pr
+    → nr.kind ≡ NextReceiver (attached_of old.chain + 1) → pr.kind ≡ PreviousReceiver (attached_of old.chain) → nr.sequence ≡ next_of old → pr.sequence ≡ next_of old + 1 → AreTies new nr pr
+ties_forced old new nr pr all none first number nr_spelled pr_spelled ends begins nr_sequence pr_sequence = record {
+  nr_spelled = nr_spelled;
+  pr_spelled = pr_spelled;
+  ends = ends ∙ ap (λ (n : ℕ). NextReceiver (n + 1)) (sym number);
+  begins = begins ∙ ap PreviousReceiver (sym number);
+  nr_sequence = omega (arith, nr_sequence, all, none, first);
+  pr_sequence = omega (arith, pr_sequence, all, none, first);
+}
+
+-- ---- the book on its disk
+
+module _ (book : BookState) (entries : List Entry) (disk : Disk) (holds : Holds book entries disk) (least : 1 ≤ book.chain.first) where
+  number_of : attached_of book.chain ≡ book.chain.first + length holds.kept.earlier
+  number_of = omega (arith, logs_length book.chain.first book.chain.earlier holds.kept.earlier disk holds.chain.leads.logs_of)
+
+  -- the next receiver was not attached
+  pub attach_none : (new : Disk) (chain : ChainState) → chain.first ≡ book.chain.first → attached_of chain ≡ attached_of book.chain → Rattle.receiver_chain.specs.Chain.Holds chain holds.kept new → Holds (record book { chain = chain }) entries new
+  attach_none new chain first number same = record {
+    kept = holds.kept;
+    chain = same;
+    keeps = keeps_same book (record book { chain = chain }) holds.kept entries first number refl refl refl refl refl holds.keeps;
+  }
+
+  module _ (none : book.waiting ≡ 0) (begun : book.begun ≡ true) (nr pr : Entry) (ties : AreTies book nr pr) where
+    pub attach_moment : (new : Disk) → Leaves disk new (IsSwitching book.chain.first holds.kept (next_of book) (spelling nr) (spelling pr)) → Leaves disk new (IsKept book.chain.first book.forced (entries ++ nr ∷ pr ∷ []))
+    attach_moment new leaves = switch_moment book holds.kept entries holds.keeps none begun number_of least nr pr ties disk new leaves
+
+    pub attach_holds : (new : Disk) (chain : ChainState) → chain.first ≡ book.chain.first → attached_of chain ≡ attached_of book.chain + 1
+        → Rattle.receiver_chain.specs.Chain.Holds chain (deposited (spelling pr) (switched (spelling nr) (next_of book + 1) holds.kept)) new → Holds (record book { chain = chain; forced = book.forced + 2 }) (entries ++ nr ∷ pr ∷ []) new
+    attach_holds new chain first next whole = record {
+      kept = deposited (spelling pr) (switched (spelling nr) (next_of book + 1) holds.kept);
+      chain = whole;
+      keeps = switch_keeps book holds.kept entries holds.keeps none begun number_of least nr pr ties chain first next;
+    }
 
 -- the two entries are short
 pub tie_length : (e : Entry) (number : ℕ) → (e.kind ≡ NextReceiver number) ⊎ (e.kind ≡ PreviousReceiver number) → length (spelling e) ≤ 64

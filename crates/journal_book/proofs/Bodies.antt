@@ -15,6 +15,7 @@ use Rattle.receiver_chain.proofs.LinkLemmas.{filled}
 use Rattle.journal_model.specs.Journal.{AreNumbered}
 use Rattle.journal_book.specs.Entries.{IsInside, spelled}
 use Rattle.journal_book.specs.Bodies.{HasNoNext, IsBody, IsNext, ties}
+use Rattle.journal_book.proofs.Numbering.{number_at}
 use Rattle.journal_book.proofs.Reading.{some_bytes}
 use Rattle.journal_book.proofs.Deposits.{all-push, block-push, numbered-push}
 
@@ -145,10 +146,6 @@ split_spelled (x ∷ xs) (y ∷ ys) rest all each same =
 all_at : (P : Entry → Type 0) (xs : List Entry) (e : Entry) (ys : List Entry) → AllByRecursion P (xs ++ e ∷ ys) → P e
 all_at P [] e ys all = all.0
 all_at P (x ∷ xs) e ys all = all_at P xs e ys all.1
-
-pub number_at : (n : ℕ) (xs : List Entry) (e : Entry) (ys : List Entry) → AreNumbered n (xs ++ e ∷ ys) → e.sequence ≡ n + length xs
-number_at n [] e ys are = omega (arith, are.0)
-number_at n (x ∷ xs) e ys are = omega (arith, number_at (n + 1) xs e ys are.1)
 
 fault_by : (block : List ℕ) (last at reached : ℕ) (entries others more : List Entry) → reached ≡ last + length entries → at < length block → HasNoNext reached (drop at block) → IsBody last others block → others ≡ entries ++ more → drop at block ≡ spelled more → ⊥
 fault_by block last at reached entries others [] count short none body same rest = omega (arith, short, ap length rest, length-drop at block)

@@ -13,7 +13,8 @@ use Rattle.receiver_chain.proofs.LinkLemmas.{no_bytes}
 use Rattle.journal_book.specs.Entries.{IsAttached, IsEnded, first_sequence}
 use Rattle.journal_book.specs.Openings.{HasNoRead, HasRead, HaveNoRead, HaveRead}
 use Rattle.journal_book.proofs.Endings.{link_at}
-use Rattle.journal_book.proofs.Walking.{IsWalk, first_is, receivers_at, walk_done, walk_fault, walk_further, walk_last_fault}
+use Rattle.journal_book.proofs.FirstLog.{first_is}
+use Rattle.journal_book.proofs.Walking.{IsWalk, receivers_at, walk_done, walk_fault, walk_further, walk_last_fault}
 
 pub log_attached : (chain : ChainState) → log_at chain (attached_of chain) ≡ chain.attached
 log_attached chain = get_or_past chain.earlier (attached_of chain - chain.first) chain.attached (omega arith)

@@ -12,10 +12,10 @@ use Rattle.receiver_chain.proofs.LinkLemmas.{start_no_link}
 use Rattle.journal_model.specs.Journal.{AreNumbered}
 use Rattle.journal_book.specs.Entries.{AreBlocks, BeginsWith, HasBegun, IsBlock, IsEnded, flat}
 use Rattle.journal_book.specs.Openings.{HasBodies, HasNoBodies, HasNoFront, HasNoRead, HasRead, IsFront, IsRead}
-use Rattle.journal_book.proofs.Bodies.{number_at}
+use Rattle.journal_book.proofs.Numbering.{number_at, numbered_front}
 use Rattle.journal_book.proofs.Deposits.{numbered-push}
 use Rattle.journal_book.proofs.Forcing.{begins-push, blocks-push, flat-append}
-use Rattle.journal_book.proofs.Openings.{begun_first, begun_later, block_start, first_bodies, later_bodies, numbered_front}
+use Rattle.journal_book.proofs.Openings.{begun_first, begun_later, block_start, first_bodies, later_bodies}
 use Rattle.journal_book.proofs.Reading.{one_blocks}
 
 -- the blocks of a receiver but its last one, and that one

@@ -3,7 +3,10 @@ pub mod Bodies
 pub mod Chains
 pub mod Deposits
 pub mod Endings
+pub mod FirstLog
 pub mod Forcing
+pub mod GivenUp
+pub mod Numbering
 pub mod Openings
 pub mod Reading
 pub mod Walking

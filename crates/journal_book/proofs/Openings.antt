@@ -14,6 +14,7 @@ use Rattle.journal_model.specs.Journal.{AreNumbered}
 use Rattle.journal_book.specs.Entries.{AreBlocks, AreInside, BeginsWith, HasBegun, IsAttached, IsBlock, IsEnded, IsInside, flat}
 use Rattle.journal_book.specs.Bodies.{IsBody}
 use Rattle.journal_book.specs.Openings.{AreBodies, HasBodies, HasNoBodies, HasNoFront, HasNoRead, HasRead, IsFront, IsRead}
+use Rattle.journal_book.proofs.Numbering.{numbered-append, numbered_back, numbered_front}
 use Rattle.journal_book.proofs.Reading.{one_block}
 use Rattle.journal_book.proofs.Deposits.{numbered-push}
 use Rattle.journal_book.proofs.Forcing.{blocks-push, flat-append}
@@ -76,18 +77,6 @@ bodies_inside last [] [] are = tt
 bodies_inside last [] (g ∷ groups) are = absurd are
 bodies_inside last (b ∷ blocks) [] are = absurd are
 bodies_inside last (b ∷ blocks) (g ∷ groups) are = (are.0.inside, bodies_inside (last + length g) blocks groups are.1)
-
-pub numbered-append : (n m : ℕ) (xs ys : List Entry) → m ≡ n + length xs → AreNumbered n xs → AreNumbered m ys → AreNumbered n (xs ++ ys)
-numbered-append n m [] ys is are more = subst (λ (k : ℕ). AreNumbered k ys) (omega (arith, is)) more
-numbered-append n m (x ∷ xs) ys is are more = (are.0, numbered-append (n + 1) m xs ys (omega (arith, is)) are.1 more)
-
-pub numbered_front : (n : ℕ) (xs ys : List Entry) → AreNumbered n (xs ++ ys) → AreNumbered n xs
-numbered_front n [] ys are = tt
-numbered_front n (x ∷ xs) ys are = (are.0, numbered_front (n + 1) xs ys are.1)
-
-pub numbered_back : (n m : ℕ) (xs ys : List Entry) → m ≡ n + length xs → AreNumbered n (xs ++ ys) → AreNumbered m ys
-numbered_back n m [] ys is are = subst (λ (k : ℕ). AreNumbered k ys) (omega (arith, is)) are
-numbered_back n m (x ∷ xs) ys is are = numbered_back (n + 1) m xs ys (omega (arith, is)) are.1
 
 bodies_numbered : (last : ℕ) (blocks : List (List ℕ)) (groups : List (List Entry)) → AreBodies last blocks groups → AreNumbered (last + 1) (flat groups)
 bodies_numbered last [] [] are = tt

@@ -5,7 +5,6 @@ use Rattle.std.proofs.Math.Numerals.{suc-eq-add-one}
 use Rattle.std.proofs.lemmas.List.{append-nil, drop_all, length-map}
 use Rattle.store_model.specs.Disk.{Areas, Disk}
 use Rattle.entry_codec.specs.declared.entries.Entry.{Entry}
-use Rattle.gated_log.specs.Log.{LogState}
 use Rattle.receiver_chain.specs.Receivers.{AreChained, Kept, Receiver}
 use Rattle.receiver_chain.specs.Chain.{ChainState, attached_of}
 use Rattle.receiver_chain.proofs.ReadingLaws.{one_chain}
@@ -17,7 +16,7 @@ use Rattle.journal_book.specs.Entries.{AreBlocks, AreReceivers, BeginsWith, HasB
 use Rattle.journal_book.specs.Kept.{SpellEntries}
 use Rattle.journal_book.specs.Openings.{AreRead, HasNoRead, HasRead, HaveNoRead, HaveRead, IsRead}
 use Rattle.journal_book.proofs.Forcing.{flat-append}
-use Rattle.journal_book.proofs.Openings.{numbered-append, numbered_back}
+use Rattle.journal_book.proofs.Numbering.{numbered-append, numbered_back, numbered_front}
 use Rattle.journal_book.proofs.Reading.{one_blocks}
 
 -- what was read of the receivers, and what is still to be read
@@ -57,7 +56,7 @@ no_one n reached r rest attached (g ∷ more) final none read =
     none g (record {
       spelled = read.receivers.0;
       stands = read.receivers.1;
-      numbered = Rattle.journal_book.proofs.Openings.numbered_front (reached + 1) (flat g) (flat (all_groups more final)) (subst (λ (l : List Entry). AreNumbered (reached + 1) l) (all_flat g more final) read.numbered);
+      numbered = numbered_front (reached + 1) (flat g) (flat (all_groups more final)) (subst (λ (l : List Entry). AreNumbered (reached + 1) l) (all_flat g more final) read.numbered);
     })
 
 no_last : (n reached : ℕ) (attached : Receiver) (earlier : List (List (List Entry))) (final : List (List Entry)) → HasNoRead (IsAttached n) reached attached.blocks → AreRead n reached [] attached earlier final → ⊥
@@ -169,13 +168,3 @@ open_zero chain kept disk holds zero entries areas same spells =
     let kept_is = one_chain chain.first spells.kept kept areas spells.chained (chained_same chain.first chain.room chain.earlier chain.attached kept disk holds areas (λ m from below. same _) (same _)) in
     let there : HoldsEntries chain.first kept entries = subst (λ (k : Kept). HoldsEntries chain.first k entries) kept_is spells.holds in
     omega (arith, zero, there.counted)
-
--- the first sequence is that of the first log
-pub first_is : (chain : ChainState) (kept : Kept) (disk : Disk) → Rattle.receiver_chain.specs.Chain.Holds chain kept disk → first_sequence kept ≡ (get_or chain.earlier 0 chain.attached).first
-first_is chain kept disk holds = first_by chain.first chain.earlier chain.attached kept.earlier kept.attached holds.leads.logs_of (sym holds.leads.log_of.first)
-  where
-    first_by : (n : ℕ) (logs : List LogState) (log : LogState) (rs : List Receiver) (r : Receiver) → Rattle.receiver_chain.specs.Chain.AreLogsOf n logs rs disk → r.first ≡ log.first → first_sequence (record { earlier = rs; attached = r }) ≡ (get_or logs 0 log).first
-    first_by n [] log [] r are same = same
-    first_by n [] log (x ∷ rs) r are same = absurd are
-    first_by n (l ∷ logs) log [] r are same = absurd are
-    first_by n (l ∷ logs) log (x ∷ rs) r are same = sym are.0.first

@@ -42,6 +42,10 @@ with_entry e bytes book = record book { waiting = book.waiting + 1; buffered = b
 abbrev pub with_block : ChainState → ℕ → BookState → BookState
 with_block chain bytes book = record book { chain = chain; forced = book.forced + book.waiting; waiting = 0; begun = true; buffered = []; bytes = bytes }
 
+-- it begins with this sequence, and so many entries are forced
+abbrev pub from_sequence : ℕ → ℕ → BookState → BookState
+from_sequence first forced book = record book { first = first; forced = forced }
+
 -- new is old with no less room
 pub record HasMoreRoom (old new : BookState) : Type 0 where
   pub receiver : new.chain.first ≡ old.chain.first

@@ -3,3 +3,4 @@ pub mod Book
 pub mod Entries
 pub mod Kept
 pub mod Openings
+pub mod Switch

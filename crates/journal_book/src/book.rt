@@ -183,6 +183,7 @@ impl Book {
         ensures number { attached_of self.new.chain ≡ attached_of self.old.chain }
         ensures room { self.old.bytes ≤ self.new.bytes }
         ensures less_places { OnOk result (self.old.chain.room ≤ self.new.chain.room + 1) }
+        ensures faults { (S.disk store.old).faults ≤ (S.disk store.new).faults }
         ensures cause { IsErr result → Rose (S.disk store.old).faults (S.disk store.new).faults }
     {
         if self.waiting == 0 {
@@ -210,6 +211,7 @@ impl Book {
         ensures number { attached_of self.new.chain ≡ attached_of self.old.chain }
         ensures room { self.old.bytes ≤ self.new.bytes }
         ensures less_places { OnOk result (self.new.chain.room + 1 ≡ self.old.chain.room) }
+        ensures faults { (S.disk store.old).faults ≤ (S.disk store.new).faults }
         ensures cause { IsErr result → Rose (S.disk store.old).faults (S.disk store.new).faults }
     {
         close(&mut self.framed);
@@ -239,7 +241,7 @@ pub(crate) fn empty_block(alloc: Global) -> Result<Vec<u8>, AllocError>
 
 /// Puts the frame round the block that stands behind the room of its length.
 #[tactic(auto, using(crate::proofs::Forcing::between_push))]
-fn close(buffer: &mut Vec<u8>)
+pub(crate) fn close(buffer: &mut Vec<u8>)
     requires long { LENGTH ≤ length buffer.old.items }
     requires room { vec_len buffer.old + 1 ≤ vec_capacity buffer.old }
     requires small { length (drop 4 buffer.old.items) ≤ MAX_BLOCK }

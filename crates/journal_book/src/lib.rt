@@ -3,9 +3,11 @@
 #![tactic(auto)]
 
 mod book;
+mod dropping;
 mod grammar;
 mod laws;
 mod opening;
+mod switching;
 
 pub use book::Book;
 pub use laws::one_reading;

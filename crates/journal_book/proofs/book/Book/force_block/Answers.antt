@@ -61,3 +61,9 @@ returns-clause-forced g c = λ tells entries holds.
     let all = force_holds book entries (g.S.Store.disk c.args.store.now) here some (g.S.Store.disk c.deposit_block-deposited.new.store) chain room first number (c.in_ok-deposited.ensures.deposited tells here.kept (drop 4 bytes) framed here.chain) in
     let none : drop 4 c.truncate.new.self.items ≡ [] = ap (λ (l : List ℕ). drop 4 l) c.truncate.ensures.items ∙ emptied _ in
     subst (λ (l : List ℕ). Holds (record { chain = chain; first = inside.first; forced = inside.forced + inside.waiting; waiting = 0; begun = true; buffered = l; bytes = room }) entries (g.S.Store.disk c.deposit_block-deposited.new.store)) (sym none) all
+
+pub returns-in_err-deposited-clause-faults : goal.returns-in_err-deposited-clause-faults
+returns-in_err-deposited-clause-faults g c = c.deposit_block-deposited.ensures.apart.later.faults
+
+pub returns-clause-faults : goal.returns-clause-faults
+returns-clause-faults g c = c.deposit_block-deposited.ensures.apart.later.faults

@@ -1,0 +1,97 @@
+use Rattle.std.proofs.Common.{◌≡◌, inl, inr, ℕ, ◌+◌, Err, IsErrOf, [], ◌∷◌, ap, ◌∙◌, arith}
+use Rattle.std.proofs.Math.Logic.{∥∥₁_map}
+use Rattle.std.proofs.lemmas.Result.{err_from_is_err_and}
+use Rattle.receiver_chain.specs.declared.fault.ChainFault.{ChainFault}
+use Rattle.receiver_chain.specs.declared.fault.ChainFault.TheVariants.{NoMemory, StoreFault}
+use Rattle.receiver_chain.specs.Chain.{attached_of}
+use Rattle.journal_book.specs.Switch.{AreTieBlocks}
+use Rattle.journal_book.proofs.Attaching.{leaves_more, rose_after, switch_moments, ties_forced}
+use Rattle.journal_book.proofs.Forcing.{none_moment}
+use Rattle.journal_book.proofs.book.Book.switch_by.Goals as goal
+
+pub framed_entry-requires-clause-tie : goal.framed_entry-requires-clause-tie
+framed_entry-requires-clause-tie g c = (attached_of c.args.self.now.chain + 1, inl c.requires.ends)
+
+pub framed_entry-requires-2-clause-tie : goal.framed_entry-requires-2-clause-tie
+framed_entry-requires-2-clause-tie g c = (attached_of c.args.self.now.chain, inr c.requires.begins)
+
+pub returns-in_err-ending-clause-moments : goal.returns-in_err-ending-clause-moments
+returns-in_err-ending-clause-moments g c = λ tells entries holds.
+    let disk = g.S.Store.disk c.args.store.now in
+    leaves_more c.args.self.now.chain.first c.args.self.now.forced c.args.self.now.forced entries (c.args.nr.now ∷ c.args.pr.now ∷ []) disk disk (omega arith) (none_moment c.args.self.now entries disk holds)
+
+pub returns-in_err-beginning-clause-moments : goal.returns-in_err-beginning-clause-moments
+returns-in_err-beginning-clause-moments g c = λ tells entries holds.
+    let disk = g.S.Store.disk c.args.store.now in
+    leaves_more c.args.self.now.chain.first c.args.self.now.forced c.args.self.now.forced entries (c.args.nr.now ∷ c.args.pr.now ∷ []) disk disk (omega arith) (none_moment c.args.self.now entries disk holds)
+
+pub returns-in_err-force-clause-moments : goal.returns-in_err-force-clause-moments
+returns-in_err-force-clause-moments g c = λ tells entries holds.
+    leaves_more c.args.self.now.chain.first c.args.self.now.forced c.args.self.now.forced entries (c.args.nr.now ∷ c.args.pr.now ∷ []) (g.S.Store.disk c.args.store.now) (g.S.Store.disk c.force.new.store) (omega arith)
+    (c.force.ensures.moments tells entries holds)
+
+pub attach-requires-clause-held : goal.attach-requires-clause-held
+attach-requires-clause-held g c = λ tells. ∥∥₁_map (c.requires.held tells) (λ has. (has.0, c.in_ok-force.ensures.forced tells has.0 has.1))
+
+pub attach-requires-clause-blocks : goal.attach-requires-clause-blocks
+attach-requires-clause-blocks g c = (
+  c.args.nr.now,
+  c.args.pr.now,
+  record {
+    ties = ties_forced c.args.self.now c.force.new.self c.args.nr.now c.args.pr.now c.in_ok-force.ensures.all c.in_ok-force.ensures.nothing_waits c.force.ensures.first c.force.ensures.number c.in_ok-ending.ensures.spelled c.in_ok-beginning.ensures.spelled
+        c.requires.ends c.requires.begins c.requires.nr_sequence c.requires.pr_sequence;
+    framed_ending = c.deref.ensures.value ∙ c.in_ok-ending.ensures.framed;
+    framed_beginning = c.deref-2.ensures.value ∙ c.in_ok-beginning.ensures.framed;
+  },
+)
+
+pub returns-in_err-receiver-clause-moments : goal.returns-in_err-receiver-clause-moments
+returns-in_err-receiver-clause-moments g c = λ tells entries holds.
+    let nr = c.args.nr.now in
+    let pr = c.args.pr.now in
+    let blocks : AreTieBlocks c.force.new.self nr pr c.deref.result.now c.deref-2.result.now = record {
+      ties = ties_forced c.args.self.now c.force.new.self nr pr c.in_ok-force.ensures.all c.in_ok-force.ensures.nothing_waits c.force.ensures.first c.force.ensures.number c.in_ok-ending.ensures.spelled c.in_ok-beginning.ensures.spelled
+          c.requires.ends c.requires.begins c.requires.nr_sequence c.requires.pr_sequence;
+      framed_ending = c.deref.ensures.value ∙ c.in_ok-ending.ensures.framed;
+      framed_beginning = c.deref-2.ensures.value ∙ c.in_ok-beginning.ensures.framed;
+    } in
+    switch_moments c.args.self.now c.force.new.self entries (nr ∷ pr ∷ []) (g.S.Store.disk c.args.store.now) (g.S.Store.disk c.force.new.store) (g.S.Store.disk c.attach.new.store) c.force.ensures.receiver c.in_ok-force.ensures.all
+    (c.force.ensures.moments tells entries holds) (c.attach.ensures.moments tells entries nr pr blocks (c.in_ok-force.ensures.forced tells entries holds))
+
+pub returns-in_err-receiver-clause-no_memory : goal.returns-in_err-receiver-clause-no_memory
+returns-in_err-receiver-clause-no_memory g c = λ is tells entries holds.
+    let p = err_from_is_err_and c.from_residual-in_err-receiver.result c.from_residual-in_err-receiver.ensures.1 in
+    let same : c.in_err-receiver.field-0.0 ≡ NoMemory = cc (p.1, p.2, is) in
+    let named : IsErrOf {T = ℕ} (Err c.in_err-receiver.field-0.0) NoMemory = ap (λ (e : ChainFault). Err e) same in
+    c.in_err-receiver.ensures.no_memory named tells entries (c.in_ok-force.ensures.forced tells entries holds)
+
+pub returns-clause-moments : goal.returns-clause-moments
+returns-clause-moments g c = λ tells entries holds.
+    let nr = c.args.nr.now in
+    let pr = c.args.pr.now in
+    let blocks : AreTieBlocks c.force.new.self nr pr c.deref.result.now c.deref-2.result.now = record {
+      ties = ties_forced c.args.self.now c.force.new.self nr pr c.in_ok-force.ensures.all c.in_ok-force.ensures.nothing_waits c.force.ensures.first c.force.ensures.number c.in_ok-ending.ensures.spelled c.in_ok-beginning.ensures.spelled
+          c.requires.ends c.requires.begins c.requires.nr_sequence c.requires.pr_sequence;
+      framed_ending = c.deref.ensures.value ∙ c.in_ok-ending.ensures.framed;
+      framed_beginning = c.deref-2.ensures.value ∙ c.in_ok-beginning.ensures.framed;
+    } in
+    switch_moments c.args.self.now c.force.new.self entries (nr ∷ pr ∷ []) (g.S.Store.disk c.args.store.now) (g.S.Store.disk c.force.new.store) (g.S.Store.disk c.attach.new.store) c.force.ensures.receiver c.in_ok-force.ensures.all
+    (c.force.ensures.moments tells entries holds) (c.attach.ensures.moments tells entries nr pr blocks (c.in_ok-force.ensures.forced tells entries holds))
+
+pub returns-clause-switched : goal.returns-clause-switched
+returns-clause-switched g c = λ tells entries holds.
+    let nr = c.args.nr.now in
+    let pr = c.args.pr.now in
+    let blocks : AreTieBlocks c.force.new.self nr pr c.deref.result.now c.deref-2.result.now = record {
+      ties = ties_forced c.args.self.now c.force.new.self nr pr c.in_ok-force.ensures.all c.in_ok-force.ensures.nothing_waits c.force.ensures.first c.force.ensures.number c.in_ok-ending.ensures.spelled c.in_ok-beginning.ensures.spelled
+          c.requires.ends c.requires.begins c.requires.nr_sequence c.requires.pr_sequence;
+      framed_ending = c.deref.ensures.value ∙ c.in_ok-ending.ensures.framed;
+      framed_beginning = c.deref-2.ensures.value ∙ c.in_ok-beginning.ensures.framed;
+    } in
+    c.in_ok-receiver.ensures.switched tells entries nr pr blocks (c.in_ok-force.ensures.forced tells entries holds)
+
+pub returns-in_err-receiver-clause-cause : goal.returns-in_err-receiver-clause-cause
+returns-in_err-receiver-clause-cause g c = λ is.
+    let p = err_from_is_err_and c.from_residual-in_err-receiver.result c.from_residual-in_err-receiver.ensures.1 in
+    let same : c.in_err-receiver.field-0.0 ≡ StoreFault = cc (p.1, p.2, is) in
+    rose_after _ _ _ c.force.ensures.faults (c.in_err-receiver.ensures.cause (ap (λ (e : ChainFault). Err e) same))
