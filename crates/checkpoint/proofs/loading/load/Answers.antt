@@ -20,7 +20,7 @@ returns-then-root-eq0-clause-same g c = λ tells state saved. none_same c.args.r
 
 pub returns-in_err-block-clause-damaged : goal.returns-in_err-block-clause-damaged
 returns-in_err-block-clause-damaged g c = λ area at is.
-    let p = err_from_is_err_and c.from_residual-in_err-block.result c.from_residual-in_err-block.ensures.1 in
+    let p = err_from_is_err_and c.from_residual.result c.from_residual.ensures.1 in
     let same : c.in_err-block.field-0.0 ≡ Damaged area at = cc (p.1, p.2, is) in
     let named : IsErrOf {T = Vec ℕ} (Err c.in_err-block.field-0.0) (Damaged area at) = ap (λ (e : LogFault). Err e) same in
     let told = c.in_err-block.ensures.damaged area at named in

@@ -42,12 +42,12 @@ returns-then-as_slice-root-clause-damaged g c = λ area at is.
 
 pub returns-then-count-gt1-clause-damaged : goal.returns-then-count-gt1-clause-damaged
 returns-then-count-gt1-clause-damaged g c = λ area at is.
-    let parts = damaged_is {T = Vec ℕ} c.args.root.area (c.place.result - 1) area at is in (
+    let parts = damaged_is {T = Vec ℕ} c.args.root.area (c.place-at.result - 1) area at is in (
       parts.0,
       λ tells.
-          not_one_before c.args.root.area c.args.root.length at (c.place.result - 1) (g.S.Store.disk c.args.store.now) (g.S.Store.disk c.«open».new.store) c.«open».ensures.stays parts.1
+          not_one_before c.args.root.area c.args.root.length at (c.place-at.result - 1) (g.S.Store.disk c.args.store.now) (g.S.Store.disk c.«open».new.store) c.«open».ensures.stays parts.1
           (more_there c.in_ok-log.log c.args.root.area c.args.root.length (g.S.Store.disk c.«open».new.store) c.requires.ranges.area c.in_ok-log.ensures.area (c.in_ok-log.ensures.opened tells) c.in_ok-block.block.items
-          (λ blocks settled. c.in_ok-block.ensures.block tells blocks settled) (c.place.result - 1) (omega (arith, c.count-2.ensures.count, c.if-count-gt1.true)) (omega (arith, ap (λ (l : List ℕ). length l) c.as_slice.ensures.value, c.if-as_slice-root.false)) (ap (λ (n : ℕ). n - 1) c.place.ensures.place)),
+          (λ blocks settled. c.in_ok-block.ensures.block tells blocks settled) (c.place-at.result - 1) (omega (arith, c.count-2.ensures.count, c.if-count-gt1.true)) (omega (arith, ap (λ (l : List ℕ). length l) c.as_slice.ensures.value, c.if-as_slice-root.false)) (ap (λ (n : ℕ). n - 1) c.place-at.ensures.place)),
     )
 
 pub returns-clause-spells : goal.returns-clause-spells

@@ -13,7 +13,7 @@ use Rattle.checkpoint.proofs.opening.open_roots.Goals as goal
 
 pub returns-in_err-log-clause-damaged : goal.returns-in_err-log-clause-damaged
 returns-in_err-log-clause-damaged g c = λ area at is.
-    let p = err_from_is_err_and c.from_residual-in_err-log.result c.from_residual-in_err-log.ensures.1 in
+    let p = err_from_is_err_and c.from_residual.result c.from_residual.ensures.1 in
     let same : c.in_err-log.field-0.0 ≡ Damaged area at = cc (p.1, p.2, is) in
     let named : IsErrOf {T = LogState} (Err c.in_err-log.field-0.0) (Damaged area at) = ap (λ (e : LogFault). Err e) same in
     let told = c.in_err-log.ensures.damaged area at named in

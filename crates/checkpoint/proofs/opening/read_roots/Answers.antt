@@ -9,12 +9,12 @@ use Rattle.checkpoint.specs.Roots.{IsRootsDamagedAt}
 use Rattle.checkpoint.proofs.Readings.{first_fault, next_fault, read_all, read_first, read_next}
 use Rattle.checkpoint.proofs.opening.read_roots.Goals as goal
 
-pub read_root-last-requires-clause-settled : goal.read_root-last-requires-clause-settled
-read_root-last-requires-clause-settled g c = λ tells. ∣ c.requires.settled tells ∣₁
+pub read_root-requires-clause-settled : goal.read_root-requires-clause-settled
+read_root-requires-clause-settled g c = λ tells. ∣ c.requires.settled tells ∣₁
 
 pub returns-in_err-last-clause-damaged : goal.returns-in_err-last-clause-damaged
 returns-in_err-last-clause-damaged g c = λ area at is.
-    let p = err_from_is_err_and c.from_residual-in_err-last.result c.from_residual-in_err-last.ensures.1 in
+    let p = err_from_is_err_and c.from_residual.result c.from_residual.ensures.1 in
     let same : c.in_err-last.field-0.0 ≡ Damaged area at = cc (p.1, p.2, is) in
     let named : IsErrOf {T = Root} (Err c.in_err-last.field-0.0) (Damaged area at) = ap (λ (e : LogFault). Err e) same in
     let told = c.in_err-last.ensures.damaged area at named in
@@ -22,21 +22,21 @@ returns-in_err-last-clause-damaged g c = λ area at is.
 
 pub loop-n-init : goal.loop-n-init
 loop-n-init g c = record {
-  stays = c.read_root-last.ensures.stays;
+  stays = c.read_root.ensures.stays;
   ranges = c.in_ok-last.ensures.ranges;
   read = λ tells.
-      read_first c.args.log.now c.in_ok-last.last (g.S.Store.disk c.args.store.now) (g.S.Store.disk c.read_root-last.new.store) c.read_root-last.ensures.stays (c.requires.settled tells) c.in_ok-last.ensures.ranges c.requires.some (c.in_ok-last.ensures.root tells);
+      read_first c.args.log.now c.in_ok-last.last (g.S.Store.disk c.args.store.now) (g.S.Store.disk c.read_root.new.store) c.read_root.ensures.stays (c.requires.settled tells) c.in_ok-last.ensures.ranges c.requires.some (c.in_ok-last.ensures.root tells);
 }
 
-pub read_root-requires-clause-settled : goal.read_root-requires-clause-settled
-read_root-requires-clause-settled g c = λ tells. let read = c.loop-n.invariant.read tells in ∣ (read.blocks, read.settled) ∣₁
+pub read_root-requires-in-loop-n-clause-settled : goal.read_root-requires-in-loop-n-clause-settled
+read_root-requires-in-loop-n-clause-settled g c = λ tells. let read = c.loop-n.invariant.read tells in ∣ (read.blocks, read.settled) ∣₁
 
-pub returns-in_err-read_root-clause-damaged : goal.returns-in_err-read_root-clause-damaged
-returns-in_err-read_root-clause-damaged g c = λ area at is.
-    let p = err_from_is_err_and c.from_residual-in_err-read_root.result c.from_residual-in_err-read_root.ensures.1 in
-    let same : c.in_err-read_root.field-0.0 ≡ Damaged area at = cc (p.1, p.2, is) in
-    let named : IsErrOf {T = Root} (Err c.in_err-read_root.field-0.0) (Damaged area at) = ap (λ (e : LogFault). Err e) same in
-    let told = c.in_err-read_root.ensures.damaged area at named in
+pub returns-in_err-last-2-clause-damaged : goal.returns-in_err-last-2-clause-damaged
+returns-in_err-last-2-clause-damaged g c = λ area at is.
+    let p = err_from_is_err_and c.from_residual-in_err-last-2.result c.from_residual-in_err-last-2.ensures.1 in
+    let same : c.in_err-last-2.field-0.0 ≡ Damaged area at = cc (p.1, p.2, is) in
+    let named : IsErrOf {T = Root} (Err c.in_err-last-2.field-0.0) (Damaged area at) = ap (λ (e : LogFault). Err e) same in
+    let told = c.in_err-last-2.ensures.damaged area at named in
     let below : c.loop-n.n < length c.args.log.now.lengths = omega (arith, c.loop-n-test.true, c.count-count.ensures.count) in (
       told.0,
       λ tells.
@@ -48,11 +48,11 @@ pub loop-n-preserved : goal.loop-n-preserved
 loop-n-preserved g c =
     let below : c.loop-n.n < length c.args.log.now.lengths = omega (arith, c.loop-n-test.true, c.count-count.ensures.count) in
     record {
-      stays = stays_trans _ _ _ c.loop-n.invariant.stays c.read_root.ensures.stays;
-      ranges = c.in_ok-read_root.ensures.ranges;
+      stays = stays_trans _ _ _ c.loop-n.invariant.stays c.read_root-in-loop-n.ensures.stays;
+      ranges = c.in_ok-last-2.ensures.ranges;
       read = λ tells.
-          read_next c.args.log.now c.loop-n.n c.loop-n.last c.in_ok-read_root.value (g.S.Store.disk c.loop-n.store) (g.S.Store.disk c.read_root.new.store) c.read_root.ensures.stays (c.loop-n.invariant.read tells) c.in_ok-read_root.ensures.ranges below
-          (c.in_ok-read_root.ensures.root tells);
+          read_next c.args.log.now c.loop-n.n c.loop-n.last c.in_ok-last-2.last (g.S.Store.disk c.loop-n.store) (g.S.Store.disk c.read_root-in-loop-n.new.store) c.read_root-in-loop-n.ensures.stays (c.loop-n.invariant.read tells) c.in_ok-last-2.ensures.ranges below
+          (c.in_ok-last-2.ensures.root tells);
     }
 
 pub returns-clause-read : goal.returns-clause-read

@@ -13,6 +13,6 @@ returns-else-is_root c =
     no_root c.args.block.now (record { area = c.read_u32.result; sequence = c.read_u64.result; length = c.read_u64-2.result; first_receiver = c.read_u32-2.result; next_member = c.read_u32-3.result })
     c.read_u32.ensures c.read_u64.ensures c.read_u64-2.ensures c.read_u32-2.ensures c.read_u32-3.ensures
     (elim c.else-is_root.branch [
-      | else-is_root-via-then-is_root+else-eq w ↦ λ is same. false≢true (sym w.if-eq.false ∙ w.eq.ensures ∙ (bytes_eq-Decides c.args.block.now w.bytes_of.result).1 (same ∙ sym w.bytes_of.ensures))
+      | else-is_root-via-then-is_root+else-eq w ↦ λ is same. false≢true (sym w.if-eq.false ∙ w.eq.ensures ∙ (bytes_eq-Decides c.args.block.now w.as_slice.result.now).1 (same ∙ sym w.bytes_of.ensures ∙ sym w.as_slice.ensures))
       | else-is_root-via-else-is_root w ↦ λ is same. false≢true (sym w.if-is_root.false ∙ c.is_root.ensures.1 is)
     ])

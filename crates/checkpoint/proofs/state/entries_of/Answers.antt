@@ -1,4 +1,4 @@
-use Rattle.std.proofs.Common.{◌≡◌, ◌+◌, ◌-◌, ◌≤◌, ◌<◌, ℕ, List, length, take, drop, Option, IfSome, ap, sym, arith, subst, rules, length-drop}
+use Rattle.std.proofs.Common.{◌≡◌, ◌+◌, ◌-◌, ◌≤◌, ◌<◌, ◌++◌, ◌∷◌, [], ◌∙◌, ℕ, List, length, take, drop, Option, IfSome, ap, sym, arith, subst, rules, length-drop}
 use Rattle.std.specs.Global.{Vec}
 use Rattle.std.specs.Prelude.{IfNone}
 use Rattle.std.proofs.lemmas.List.{take_all}
@@ -22,11 +22,11 @@ loop-at-preserved c =
     let e = c.in-Some.entry in
     let count = c.in-Some.count in
     let rest : take (length block - at) (drop at block) ≡ drop at block = take_all (length block - at) (drop at block) (omega (arith, length-drop at block)) in
-    let told = subst (λ (o : Option (Entry × ℕ)). IfSome o (λ x. Begins (take (length block - at) (drop at block)) x.0 x.1)) c.in-Some.is c.in_ok-read_entry.ensures.found in
+    let told = subst (λ (o : Option (Entry × ℕ)). IfSome o (λ x. Begins (take (length block - at) (drop at block)) x.0 x.1)) c.in-Some.is c.in_ok-entry.ensures.found in
     let begins : Begins (drop at block) e count = subst (λ (l : List ℕ). Begins l e count) rest told in
     record {
       inside = omega (arith, begins.within, length-drop at block, c.loop-at.invariant.inside);
-      read = read_further block at count c.loop-at.entries.items c.push_reserved.new.self.items e c.loop-at.invariant.read begins c.push_reserved.ensures.items;
+      read = read_further block at count c.loop-at.entries.items c.push_reserved.new.self.items e c.loop-at.invariant.read begins (c.push_reserved.ensures.items ∙ ap (λ (l : List Entry). l ++ e ∷ []) c.reserve.ensures.items);
     }
 
 pub returns-in_default-clause-damaged : goal.returns-in_default-clause-damaged
@@ -35,7 +35,7 @@ returns-in_default-clause-damaged c = λ a place is.
     let at = c.loop-at.at in
     let short : at < length block = search rules in
     let rest : take (length block - at) (drop at block) ≡ drop at block = take_all (length block - at) (drop at block) (omega (arith, length-drop at block)) in
-    let none = subst (λ (o : Option (Entry × ℕ)). IfNone o (HasNoEntry (take (length block - at) (drop at block)))) c.in_default.is c.in_ok-read_entry.ensures.none in
+    let none = subst (λ (o : Option (Entry × ℕ)). IfNone o (HasNoEntry (take (length block - at) (drop at block)))) c.in_default.is c.in_ok-entry.ensures.none in
     let parts = damaged_is {T = Vec Entry} c.args.area (37 + at) a place is in
     (parts.0, read_fault block at place c.loop-at.entries.items c.loop-at.invariant.read short (subst (λ (l : List ℕ). HasNoEntry l) rest none) parts.1)
 
