@@ -1,5 +1,5 @@
 -- What a stop leaves while area 0 gets its first root.
-use Rattle.std.proofs.Common.{◌≡◌, inl, inr, ℕ, ◌+◌, ◌≤◌, max, List, [], ◌∷◌, ◌++◌, length, refl, sym, ◌∙◌, ap, subst, arith, length-append}
+use Rattle.std.proofs.Common.{◌≡◌, inl, inr, ℕ, ◌≤◌, List, [], ◌∷◌, ◌++◌, length, refl, ◌∙◌, ap, subst, arith, length-append}
 use Rattle.store_model.specs.Disk.{Disk, Does, IsDurable, Stays}
 use Rattle.store_model.proofs.Runs.{stays_does, then_does, weaken}
 use Rattle.gated_log.specs.Blocks.{Opens, Spells, header, block_bytes}

@@ -1,8 +1,8 @@
 -- What keeps roots held, and a state kept: for crates that hold roots.
-use Rattle.std.proofs.Common.{◌≡◌, ◌≢◌, inl, inr, ℕ, ◌≤◌, ◌<◌, List, [], ◌∷◌, ◌++◌, refl, sym, ◌∙◌, ap, subst, arith}
+use Rattle.std.proofs.Common.{◌≡◌, ◌≢◌, inl, inr, ℕ, ◌≤◌, List, [], ◌∷◌, ◌++◌, refl, sym, ◌∙◌, subst, arith}
 use Rattle.std.proofs.Math.Logic.{∥∥₁_map}
 use Rattle.store_model.specs.Disk.{Areas, Disk, Does, IsDurable, May, Stays}
-use Rattle.store_model.proofs.Runs.{later_trans, now, stays_durable}
+use Rattle.store_model.proofs.Runs.{later_trans, now}
 use Rattle.entry_codec.specs.declared.entries.Entry.{Entry}
 use Rattle.gated_log.specs.Blocks.{Spells}
 use Rattle.gated_log.specs.Log.{LogState, Settled}
@@ -10,7 +10,7 @@ use Rattle.gated_log.proofs.Kept.{settled_apart, settled_same, settled_stays}
 use Rattle.checkpoint.specs.declared.layout.TheConstants.{ROOT_AREA, VERSION}
 use Rattle.checkpoint.specs.declared.root.Root.{Root}
 use Rattle.checkpoint.specs.declared.root.TheConstants.{LAST_STATE_AREA}
-use Rattle.checkpoint.specs.Roots.{AreRoots, IsRoot, root_blocks}
+use Rattle.checkpoint.specs.Roots.{AreRoots, root_blocks}
 use Rattle.checkpoint.specs.States.{IsSaved, IsStateIn}
 use Rattle.checkpoint.specs.Holding.{HasMoreRoom, Holds, IsBlank, IsHeld, IsKept, LeavesReceivers, RootsState}
 

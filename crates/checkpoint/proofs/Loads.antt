@@ -6,12 +6,11 @@ use Rattle.std.proofs.lemmas.List.{append-nil, length-map, nil_from_length, take
 use Rattle.store_model.specs.Disk.{Areas, Disk, IsDurable, Stays}
 use Rattle.entry_codec.specs.declared.entries.Entry.{Entry}
 use Rattle.entry_codec.specs.Spelling.{Begins, IsSpelled, spelling}
-use Rattle.entry_codec.proofs.Lengths.{length-spelling}
 use Rattle.gated_log.specs.Blocks.{IsDamagedAt, Spells, extent, sizes}
 use Rattle.gated_log.specs.Log.{HasBlocks, LogState, Settled}
 use Rattle.checkpoint.specs.declared.layout.TheConstants.{FIRST_BLOCK, FIRST_BYTE, FIRST_GATE, VERSION}
 use Rattle.checkpoint.specs.declared.root.Root.{Root}
-use Rattle.checkpoint.specs.States.{BreaksAtEntry, HasNoEntry, IsNotOneAt, IsSaved, IsStateDamagedAt, IsStateIn, spelled}
+use Rattle.checkpoint.specs.States.{BreaksAtEntry, HasNoEntry, IsNotOneAt, IsSaved, IsStateDamagedAt, spelled}
 use Rattle.checkpoint.specs.Holding.{IsKept}
 use Rattle.checkpoint.proofs.RootLaws.{all-push, no_cons}
 use Rattle.checkpoint.proofs.StateLaws.{one_state}

@@ -1,15 +1,15 @@
 -- What one root more makes of the roots.
-use Rattle.std.proofs.Common.{◌≡◌, inl, inr, ℕ, ◌≤◌, List, [], ◌∷◌, ◌++◌, length, sym, ◌∙◌, ap, subst, arith}
+use Rattle.std.proofs.Common.{◌≡◌, inl, inr, ℕ, List, [], ◌∷◌, ◌++◌, sym, ◌∙◌, subst, arith}
 use Rattle.std.specs.List.{AllByRecursion}
 use Rattle.std.proofs.lemmas.List.{map-append}
 use Rattle.store_model.specs.Disk.{Disk, Does}
 use Rattle.store_model.proofs.Runs.{weaken}
 use Rattle.gated_log.specs.Blocks.{Spells}
 use Rattle.gated_log.specs.Log.{IsWithOrWithout, LogState, Settled}
-use Rattle.checkpoint.specs.declared.layout.TheConstants.{ROOT_AREA, VERSION}
+use Rattle.checkpoint.specs.declared.layout.TheConstants.{ROOT_AREA}
 use Rattle.checkpoint.specs.declared.root.Root.{Root}
 use Rattle.checkpoint.specs.Roots.{AreRoots, IsPutting, IsRoot, root_blocks, root_bytes}
-use Rattle.checkpoint.specs.Holding.{Holds, RootsState}
+use Rattle.checkpoint.specs.Holding.{Holds}
 use Rattle.checkpoint.proofs.RootLaws.{all-push}
 use Rattle.checkpoint.proofs.Kept.{plain}
 

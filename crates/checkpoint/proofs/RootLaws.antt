@@ -1,7 +1,7 @@
 -- An area's bytes are one list of roots, or are damaged at one place, and never both.
-use Rattle.std.proofs.Common.{◌≡◌, ◌≢◌, ◌⊎◌, inl, inr, ℕ, ◌+◌, List, [], ◌∷◌, ◌++◌, length, map, refl, sym, ◌∙◌, ap, subst}
+use Rattle.std.proofs.Common.{◌≡◌, inl, inr, ℕ, ◌+◌, List, [], ◌∷◌, ◌++◌, refl, sym, ◌∙◌, ap, subst}
 use Rattle.std.specs.List.{AllByRecursion}
-use Rattle.gated_log.specs.Blocks.{Spells, extent, sizes}
+use Rattle.gated_log.specs.Blocks.{extent, sizes}
 use Rattle.gated_log.proofs.Unique.{one_list as one_list_in, one_damage as one_damage_in, never_both as never_both_in}
 use Rattle.checkpoint.specs.declared.layout.TheConstants.{ROOT_AREA, VERSION, FIRST_BLOCK}
 use Rattle.checkpoint.specs.declared.root.Root.{Root}

@@ -1,19 +1,19 @@
 -- What a stop leaves while a state is saved beside the old one.
-use Rattle.std.proofs.Common.{◌≡◌, ◌≢◌, inl, inr, ℕ, ◌^◌, ◌<◌, ◌≤◌, List, [], ◌∷◌, ◌++◌, length, refl, sym, ◌∙◌, ap, subst, arith}
+use Rattle.std.proofs.Common.{◌≡◌, ◌≢◌, inl, inr, ℕ, ◌^◌, ◌<◌, ◌≤◌, List, [], ◌∷◌, length, sym, ◌∙◌, ap, subst, arith}
 use Rattle.std.specs.List.{AllByRecursion}
 use Rattle.std.proofs.lemmas.Bool.Decides.{nat_tests}
-use Rattle.store_model.specs.Disk.{Areas, Disk, Does, IsDurable, Leaves, May, Only}
+use Rattle.store_model.specs.Disk.{Disk, Does, IsDurable, Leaves}
 use Rattle.store_model.proofs.Runs.{leaves_does, leaves_stays, leaves_then}
 use Rattle.entry_codec.specs.declared.entries.Entry.{Entry}
 use Rattle.entry_codec.specs.Spelling.{IsSpelled}
 use Rattle.gated_log.specs.Blocks.{Spells}
-use Rattle.gated_log.specs.Log.{Anything, LogState}
+use Rattle.gated_log.specs.Log.{Anything}
 use Rattle.checkpoint.specs.declared.layout.TheConstants.{ROOT_AREA, VERSION}
 use Rattle.checkpoint.specs.declared.root.Root.{Root}
 use Rattle.checkpoint.specs.declared.root.TheConstants.{FIRST_MEMBER, LAST_STATE_AREA, MAX_NEXT_MEMBER}
 use Rattle.checkpoint.specs.Roots.{AreRoots, IsPutting, IsRoot}
-use Rattle.checkpoint.specs.States.{IsSaved, IsStateIn, spelled}
-use Rattle.checkpoint.specs.Holding.{Holds, HoldsState, IsKept, IsSaving, LeavesReceivers, RootsState, other_area, root_beside, root_of_state}
+use Rattle.checkpoint.specs.States.{spelled}
+use Rattle.checkpoint.specs.Holding.{Holds, IsKept, IsSaving, LeavesReceivers, RootsState, other_area, root_beside, root_of_state}
 use Rattle.checkpoint.proofs.Formats.{stays_here}
 use Rattle.checkpoint.proofs.Kept.{holds_apart, kept_apart, kept_durable, left_roots, receivers_does, receivers_then, saved_same}
 

@@ -1,5 +1,5 @@
 -- The area of a state holds one list of entries, or is damaged at one place, and never both.
-use Rattle.std.proofs.Common.{◌≡◌, ◌≢◌, ◌⊎◌, inl, inr, ℕ, ◌+◌, ◌≤◌, List, [], ◌∷◌, ◌++◌, length, refl, sym, ◌∙◌, ap, subst, arith, append_assoc, length-append}
+use Rattle.std.proofs.Common.{◌≡◌, inl, inr, ℕ, ◌+◌, List, [], ◌∷◌, ◌++◌, length, refl, sym, ◌∙◌, ap, subst, arith, append_assoc, length-append}
 use Rattle.std.specs.List.{AllByRecursion}
 use Rattle.std.proofs.lemmas.List.{append-nil}
 use Rattle.store_model.specs.Disk.{Areas}
@@ -7,7 +7,6 @@ use Rattle.entry_codec.specs.declared.entries.Entry.{Entry}
 use Rattle.entry_codec.specs.Spelling.{IsSpelled, spelling}
 use Rattle.entry_codec.proofs.EntryLaws.{one_spelling}
 use Rattle.entry_codec.proofs.Lengths.{length-spelling}
-use Rattle.gated_log.specs.Blocks.{Spells}
 use Rattle.gated_log.proofs.Unique.{one_list as one_list_in, one_damage as one_damage_in, never_both as never_both_in}
 use Rattle.checkpoint.specs.declared.layout.TheConstants.{VERSION, FIRST_BYTE}
 use Rattle.checkpoint.specs.declared.root.Root.{Root}

@@ -1,7 +1,6 @@
-use Rattle.std.proofs.Common.{ℕ, ◌≡◌, ◌≤◌, List, [], ◌∷◌, length, ap, ◌∙◌, subst, arith}
+use Rattle.std.proofs.Common.{ℕ, List, [], length, ap, ◌∙◌, subst, arith}
 use Rattle.store_model.specs.Disk.{IsDurable}
 use Rattle.gated_log.proofs.Numbers.{length-frame}
-use Rattle.checkpoint.specs.declared.layout.TheConstants.{ROOT_AREA}
 use Rattle.checkpoint.specs.Roots.{first_root, root_bytes}
 use Rattle.checkpoint.proofs.RootBytes.{length-root_bytes}
 use Rattle.checkpoint.proofs.Formats.{blank_moment, first_moment, formatted, none_moment, stays_here}

@@ -1,7 +1,6 @@
-use Rattle.std.proofs.Common.{◌≡◌, ◌≢◌, inl, inr, ◌+◌, ◌-◌, ◌<◌, ◌≤◌, ℕ, List, [], ◌∷◌, length, take, ap, sym, subst, ◌∙◌, arith, Err, IsErrOf}
+use Rattle.std.proofs.Common.{◌≡◌, ℕ, List, [], ◌∷◌, ap, sym, subst, ◌∙◌, Err, IsErrOf}
 use Rattle.std.specs.Global.{Vec}
 use Rattle.std.proofs.lemmas.Result.{err_from_is_err_and}
-use Rattle.store_model.proofs.Runs.{stays_trans}
 use Rattle.entry_codec.specs.declared.entries.Entry.{Entry}
 use Rattle.gated_log.specs.Blocks.{Spells}
 use Rattle.gated_log.specs.declared.fault.LogFault.{LogFault}

@@ -1,4 +1,4 @@
-use Rattle.std.proofs.Common.{◌≡◌, ◌≢◌, inl, ◌+◌, ◌-◌, ◌<◌, ◌≤◌, ℕ, List, [], ◌∷◌, length, take, ap, sym, subst, ◌∙◌, arith, Err, IsErrOf}
+use Rattle.std.proofs.Common.{◌≡◌, inl, ◌-◌, ◌<◌, ℕ, List, [], ◌∷◌, length, ap, sym, subst, arith, Err, IsErrOf}
 use Rattle.std.specs.Global.{Vec}
 use Rattle.std.proofs.lemmas.Result.{err_from_is_err_and}
 use Rattle.store_model.specs.Disk.{IsDurable}

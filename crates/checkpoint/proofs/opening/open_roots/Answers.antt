@@ -1,4 +1,4 @@
-use Rattle.std.proofs.Common.{◌≡◌, inl, ℕ, List, ap, sym, subst, ◌∙◌, arith, Err, IsErrOf}
+use Rattle.std.proofs.Common.{◌≡◌, inl, ℕ, List, ap, sym, subst, arith, Err, IsErrOf}
 use Rattle.std.proofs.lemmas.Result.{err_from_is_err_and}
 use Rattle.gated_log.specs.Log.{LogState}
 use Rattle.gated_log.specs.declared.fault.LogFault.{LogFault}

@@ -1,4 +1,4 @@
-use Rattle.std.proofs.Common.{◌≡◌, ℕ, ◌-◌, List, length, ap, arith}
+use Rattle.std.proofs.Common.{ℕ, List, length, ap, arith}
 use Rattle.gated_log.proofs.Numbers.{length-frame}
 use Rattle.checkpoint.proofs.saving.block_size.Goals as goal
 

@@ -1,6 +1,6 @@
-use Rattle.std.proofs.Common.{◌≡◌, ◌++◌, ◌≤◌, ℕ, List, length, drop, ap, arith, ◌∙◌}
+use Rattle.std.proofs.Common.{◌++◌, ℕ, List, ap}
 use Rattle.checkpoint.specs.States.{spelled}
-use Rattle.checkpoint.proofs.Spellings.{each_all, each_next, four, spelled_all, spelled_frame, spelled_next, spelled_size}
+use Rattle.checkpoint.proofs.Spellings.{each_next, four, spelled_next}
 use Rattle.checkpoint.proofs.state.framed_state.Goals as goal
 
 pub loop-entry-init : goal.loop-entry-init

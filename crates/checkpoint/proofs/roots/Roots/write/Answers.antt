@@ -1,8 +1,6 @@
 use Rattle.std.proofs.Common.{◌≡◌, ◌≢◌, ◌∙◌, ℕ, ◌≤◌, List, [], ◌∷◌, ◌++◌, length, refl, ap, sym, subst, arith}
-use Rattle.std.proofs.Math.Logic.{∥∥₁_map}
 use Rattle.gated_log.specs.Blocks.{frame}
 use Rattle.gated_log.proofs.Numbers.{length-frame}
-use Rattle.entry_codec.specs.declared.entries.Entry.{Entry}
 use Rattle.checkpoint.specs.declared.root.Root.{Root}
 use Rattle.checkpoint.specs.declared.root.TheConstants.{LAST_STATE_AREA}
 use Rattle.checkpoint.specs.declared.layout.TheConstants.{ROOT_AREA}
