@@ -1,11 +1,11 @@
 -- Writes that follow one another on the log's area.
-use Rattle.std.proofs.Common.{◌≡◌, ℕ, ◌+◌, ◌≤◌, min, List, [], ◌∷◌, ◌++◌, length, take, drop, sym, ◌∙◌, ap, arith, append_assoc}
+use Rattle.std.proofs.Common.{◌≡◌, ℕ, ◌+◌, ◌≤◌, min, max, List, [], ◌∷◌, ◌++◌, length, take, drop, sym, ◌∙◌, ap, arith, append_assoc, length-take}
 use Rattle.std.proofs.lemmas.List.{take-take}
-use Rattle.store_model.specs.Disk.{Disk, Does, Torn, written}
+use Rattle.store_model.specs.Disk.{Cut, Disk, Does, Torn, written}
 use Rattle.store_model.proofs.Runs.{weaken, then_does}
 use Rattle.gated_log.specs.Log.{Anything}
 use Rattle.gated_log.specs.Blocks.{block_bytes, frame}
-use Rattle.gated_log.specs.Steps.{KeepsFront, IsStaged}
+use Rattle.gated_log.specs.Steps.{IsNoLonger, IsStaged, KeepsFront}
 
 torn_keeps : (at place n : ℕ) (old new : List ℕ) → at ≤ place → Torn place n old new → KeepsFront at old new
 torn_keeps at place n old new le torn = λ within.
@@ -33,6 +33,16 @@ any_first area P a b does = weaken area P a b does (λ _. Unit {0}) Anything (λ
 pub any_more : (area : ℕ) (P : List ℕ → List ℕ → Type 0) (a b c : Disk) → Does area Anything a b → Does area P b c → Does area Anything a c
 any_more area P a b c first next =
     then_does area Anything a b first P c (λ _. Unit {0}) Anything next (λ d may. tt) (λ old new p. tt) (λ old mid new p w q. tt)
+
+-- a cut makes nothing longer, nor does a write of so many bytes at the front
+pub cut_no_longer : (area n : ℕ) (a b : Disk) → Does area (Cut n) a b → Does area IsNoLonger a b
+cut_no_longer area n a b does =
+    weaken area (Cut n) a b does (λ _. Unit {0}) IsNoLonger (λ d may. tt) (λ old new w cut. omega (arith, ap length cut.front, length-take (length new) old))
+
+pub write_no_longer : (area n : ℕ) (a b c : Disk) → n ≤ 33 → Does area IsNoLonger a b → Does area (Torn 0 n) b c → Does area IsNoLonger a c
+write_no_longer area n a b c small first next =
+    then_does area IsNoLonger a b first (Torn 0 n) c (λ _. Unit {0}) IsNoLonger next (λ d may. tt) (λ old new short. short)
+    (λ old mid new short w torn. omega (arith, short, torn.no_longer, small))
 
 -- a block in its frame
 pub staged : (at : ℕ) (block framed old new : List ℕ) → framed ≡ frame block → new ≡ written at framed old → IsStaged at block old new

@@ -5,7 +5,7 @@ ghost use Rattle.store_model.specs.Disk.{Does, Stays, IsDurable, Torn};
 ghost use Rattle.store_model.specs.Faults.{Rose};
 ghost use Rattle.gated_log.specs.Blocks.{Spells, MayBegin, IsFramed, StandsAt, extent, frame, sizes};
 ghost use Rattle.gated_log.specs.Log.{Settled, IsSettled, IsWithOrWithout, Anything};
-ghost use Rattle.gated_log.specs.Steps.{KeepsFront, IsStaged};
+ghost use Rattle.gated_log.specs.Steps.{IsNoLonger, IsStaged, KeepsFront};
 
 use crate::layout::{FRAME, HEADER, Head, LENGTH, MAX_BLOCK, OPEN, empty_log};
 use crate::{LogFault, StoreFault};
@@ -56,6 +56,7 @@ pub fn format<S: Store>(
     ensures formatted { OnOk result (S.tells → Spells area first version [] ((S.disk store.new).seen area)) }
     ensures durable { OnOk result (S.tells → IsDurable area (S.disk store.new)) }
     ensures any_moment { Does area Anything (S.disk store.old) (S.disk store.new) }
+    ensures short { Does area IsNoLonger (S.disk store.old) (S.disk store.new) }
     ensures cause { IsErr result → Rose (S.disk store.old).faults (S.disk store.new).faults }
 {
     store.cut(area, 0)?;
@@ -79,15 +80,23 @@ pub fn create<S: Store>(
     ensures cause { IsErr result → Rose (S.disk store.old).faults (S.disk store.new).faults }
 {
     format(store, area, first, version)?;
-    Ok(Log {
-        area,
-        head: Head { first, version },
-        places: Vec::new(alloc),
-        end: HEADER as u64,
-    })
+    Ok(Log::empty(alloc, area, first, version))
 }
 
 impl Log {
+    /// The log of no block, for an area that `format` makes so: where room for blocks is to be made before anything is
+    /// written.
+    pub fn empty(alloc: Global, area: u32, first: u64, version: u32) -> Log
+        ensures { result ≡ record { area = area; first = first; version = version; lengths = []; room = 0 } }
+    {
+        Log {
+            area,
+            head: Head { first, version },
+            places: Vec::new(alloc),
+            end: HEADER as u64,
+        }
+    }
+
     /// How many blocks it has.
     pub fn count(&self) -> u64
         ensures count { result ≡ length self.now.lengths }

@@ -1,10 +1,8 @@
-use Rattle.std.proofs.Common.{ap}
-use Rattle.gated_log.specs.Places.{lengths_of}
+use Rattle.std.proofs.Common.{[], refl, sym, subst}
+use Rattle.gated_log.specs.Log.{LogState, Settled}
 use Rattle.gated_log.proofs.log.create.Goals as goal
 
 pub returns-clause-created : goal.returns-clause-created
-returns-clause-created g c = λ tells. record {
-  spells = c.in_ok-format.ensures.formatted tells;
-  lengths = ap lengths_of c.new.ensures.items;
-  durable = c.in_ok-format.ensures.durable tells;
-}
+returns-clause-created g c = λ tells.
+    subst (λ (l : LogState). Settled l [] (g.S.Store.disk c.format.new.store)) (sym c.empty.ensures)
+    (record { spells = c.in_ok-format.ensures.formatted tells; lengths = refl; durable = c.in_ok-format.ensures.durable tells })

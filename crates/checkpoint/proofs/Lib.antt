@@ -1,0 +1,10 @@
+pub mod RootBytes
+pub mod RootLaws
+pub mod StateLaws
+pub mod Kept
+pub mod Puttings
+pub mod Formats
+pub mod Readings
+pub mod Loads
+pub mod Savings
+pub mod Spellings

@@ -1,0 +1,3 @@
+pub mod Holding
+pub mod Roots
+pub mod States
