@@ -1,9 +1,7 @@
-//! Tests of the stores in memory, of the log and of the roots.
+//! Tests of the stores in memory and of the log.
 #![tactic(auto)]
 
 #[cfg(test)]
 mod logs;
 #[cfg(test)]
 mod outside;
-#[cfg(test)]
-mod roots;
