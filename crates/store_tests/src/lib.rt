@@ -1,7 +1,9 @@
-//! Tests of the stores in memory and of the log.
+//! Tests of the stores in memory, of the log and of the roots.
 #![tactic(auto)]
 
 #[cfg(test)]
 mod logs;
 #[cfg(test)]
 mod outside;
+#[cfg(test)]
+mod roots;
