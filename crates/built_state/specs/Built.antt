@@ -1,4 +1,4 @@
--- What stands in a library as long as keyed files aren't built. (Our own.)
+-- What stands in a library as long as keyed and logical files aren't built. (Our own.)
 use Rattle.library_steps.specs.State.{State}
 use Rattle.built_state.specs.Unkeyed.{AreUnkeyed}
 

@@ -1,9 +1,10 @@
--- Files without a key, and sources that describe no other: no file with a key stands in a library until keyed files are built.
+-- Files without a key, and sources that describe no other: no file with a key and no logical file stands in a library until they are built.
 -- (DDS for Physical and Logical Files, key field level.)
 use Rattle.std.specs.Prelude.{◌≡◌, ℕ, false, Option, Ok, List, []}
 use Rattle.std.specs.List.{AllByRecursion}
 use Rattle.record_fmt.specs.declared.formats.Format.{Format}
 use Rattle.dds_physical.specs.declared.physical_files.PhysicalSpec.{PhysicalSpec}
+use Rattle.logical_model.specs.Bases.{FileSpec, PhysicalFile, LogicalFile}
 use Rattle.library_model.specs.declared.sources.NamedSource.{NamedSource}
 use Rattle.library_model.specs.Named.{Named}
 use Rattle.library_steps.specs.State.{FileState}
@@ -13,8 +14,13 @@ pub record IsUnkeyed (spec : PhysicalSpec) : Type 0 where
   pub parts : spec.keys.parts ≡ []
   pub unique : spec.keys.unique ≡ false
 
+-- a physical file without a key
+abbrev pub IsPlain : FileSpec → Type 0
+IsPlain (PhysicalFile spec) = IsUnkeyed spec
+IsPlain (LogicalFile spec) = ⊥
+
 abbrev pub AreUnkeyed : Named FileState → Type 0
-AreUnkeyed files = AllByRecursion (λ entry. IsUnkeyed entry.1.spec) files
+AreUnkeyed files = AllByRecursion (λ entry. IsPlain entry.1.spec) files
 
 -- whatever files it may refer to, the text describes a file without a key, if any
 abbrev pub IsUnkeyedText : List ℕ → Type 0

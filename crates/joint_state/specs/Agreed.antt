@@ -1,7 +1,7 @@
 -- What the journal's entries tell of the records of a library is so: those of a record follow one from the other, and the last of them leaves it as
 -- it stands. Of a member that isn't journaled they tell nothing that still holds, and none is changed under commitment control.
 -- (Journal Management, "Before-images and after-images"; Commitment Control.)
-use Rattle.std.specs.Prelude.{◌≡◌, ℕ, true, Bool, None, is_some}
+use Rattle.std.specs.Prelude.{◌≡◌, ℕ, true, Bool, None, is_some, List}
 use Rattle.std.specs.List.{AllByRecursion}
 use Rattle.std.specs.Option.{option_and_then}
 use Rattle.member_slots.specs.Members.{member_at, member_of}
@@ -22,9 +22,13 @@ pub record IsAsTold (s : State) (member place : ℕ) : Type 0 where
 abbrev pub is_journaled : ℕ → Named FileState → Bool
 is_journaled number files = is_some (option_and_then (λ status. status.images) (status_among number files))
 
+-- so it is of all these members
+abbrev pub AreAllJournaled : Named FileState → List ℕ → Type 0
+AreAllJournaled files members = AllByRecursion (λ member. is_journaled member files ≡ true) members
+
 -- so it is of each member that a job has open under commitment control or that its open commit cycle changed
 pub record StaysJournaled (files : Named FileState) (job : JobState) : Type 0 where
-  pub opens : AllByRecursion (λ entry. entry.1.commit ≡ true → is_journaled entry.1.member files ≡ true) job.opens
+  pub opens : AllByRecursion (λ entry. entry.1.commit ≡ true → AreAllJournaled files entry.1.members) job.opens
   pub changes : AllByRecursion (λ undo. is_journaled undo.member files ≡ true) (changes_in job.cycle)
 
 pub record Agrees (s : State) : Type 0 where

@@ -34,4 +34,4 @@ HasBegun m job = IfSome job.cycle (λ cycle. cycle.sequence ≤ m.last_entry)
 
 -- the members of the job's opens under commitment are journaled, so that each commit cycle begins with an entry
 abbrev pub AreJournaled : Memory → JobState → Type 0
-AreJournaled m job = AllByRecursion (λ entry. entry.1.commit ≡ true → IsSome (images_of entry.1.member m)) job.opens
+AreJournaled m job = AllByRecursion (λ entry. entry.1.commit ≡ true → AllByRecursion (λ member. IsSome (images_of member m)) entry.1.members) job.opens

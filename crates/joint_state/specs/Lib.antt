@@ -6,4 +6,5 @@ pub mod Told
 pub mod Limits
 pub mod Joint
 pub mod Agreed
+pub mod Views
 pub mod Sound

@@ -15,6 +15,7 @@ use Rattle.library_parts.specs.Lawful.{IsLibrary}
 use Rattle.joint_state.specs.Limits.{AreFormats, AreWithin}
 use Rattle.joint_state.specs.Joint.{IsJoint}
 use Rattle.joint_state.specs.Agreed.{Agrees}
+use Rattle.joint_state.specs.Views.{AreMapped, HaveDefaults}
 
 pub record IsSound (s : State) : Type 0 where
   pub library : IsLibrary s
@@ -24,6 +25,8 @@ pub record IsSound (s : State) : Type 0 where
   -- no sequence of the journal is left out
   pub numbered : AreNumbered (s.gone + 1) s.entries
   pub formats : AreFormats s.files
+  pub views : AreMapped s.files
+  pub defaults : HaveDefaults s.files
   pub within : AreWithin s.members
   pub joint : IsJoint s
   pub agreed : Agrees s

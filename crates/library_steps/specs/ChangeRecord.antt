@@ -3,17 +3,18 @@
 use Rattle.std.specs.Prelude.{ℕ, ◌==◌, ◌&&◌, ◌||◌, Bool, not, None, Result, Ok, if◌then◌else◌, unwrap_or}
 use Rattle.std.specs.List.{list_any}
 use Rattle.member_slots.specs.declared.slot.Slot.TheVariants.{Live, Deleted}
-use Rattle.record_fmt.specs.Records.{record_given}
 use Rattle.lock_table.specs.declared.levels.Call.TheVariants.{Update, Delete, Unlock}
 use Rattle.lock_table.specs.Lock.{is_of_open_on, is_of_group_on}
 use Rattle.library_model.specs.declared.requests.OpenName.{OpenName}
 use Rattle.library_model.specs.declared.requests.UpdateRecord.{UpdateRecord}
 use Rattle.library_model.specs.declared.replies.Reply.{Reply}
 use Rattle.library_model.specs.declared.replies.Reply.TheVariants.{WrongOpen, NoCurrentRecord, HeldToBoundary, Done}
-use Rattle.library_steps.specs.State.{Memory, OpenState, fields_of, with_job, with_opens}
+use Rattle.library_steps.specs.State.{Memory, OpenState, with_job, with_opens}
 use Rattle.library_steps.specs.Change.{Change, unjournaled, does}
 use Rattle.library_steps.specs.Refusals.{◌>>=◌, found, refuse_if, sequences_left, opened_file}
 use Rattle.library_steps.specs.Locking.{holder_of, record_of, locks_left, with_locks}
+use Rattle.logical_model.specs.Formats.{given_in}
+use Rattle.library_steps.specs.LogicalFiles.{bases_of}
 use Rattle.library_steps.specs.Records.{live_record, slot_there}
 use Rattle.library_steps.specs.UniqueKeys.{keys_free}
 use Rattle.library_steps.specs.SlotChange.{NewSlot, not_held, few_changes, slot_change}
@@ -28,7 +29,7 @@ update_plan m job args = do
   its ← opened_file args.open_id job m
   _ ← refuse_if (is_input its.opened.option) WrongOpen
   rrn ← found its.opened.current NoCurrentRecord
-  image ← packed (record_given (fields_of its.file) args.values (live_record its.opened.member rrn m))
+  image ← packed (given_in (bases_of m) its.file.spec its.opened.format args.values (live_record its.opened.member rrn m))
   _ ← not_held job its.opened rrn m
   _ ← keys_free job its.opened.commit its.opened.member rrn (slot_there its.opened.member rrn m) image m
   _ ← few_changes its.opened.commit (slot_there its.opened.member rrn m) (Live image) m

@@ -5,11 +5,12 @@ use Rattle.std.specs.Option.{is_none, option_map, option_map_or}
 use Rattle.entry_codec.specs.declared.entries.Entry.{Entry}
 use Rattle.entry_codec.specs.declared.kinds.Images.{Images}
 use Rattle.entry_codec.specs.declared.kinds.Images.TheVariants.{After}
-use Rattle.entry_codec.specs.declared.kinds.FileKind.TheVariants.{Physical}
+use Rattle.entry_codec.specs.declared.kinds.FileKind.TheVariants.{Physical, Logical}
 use Rattle.entry_codec.specs.declared.kinds.EntryKind.{EntryKind}
 use Rattle.entry_codec.specs.declared.kinds.EntryKind.TheVariants.{FileCreated, MemberAdded, JournalingStarted, InitialSlot, JournalingEnded}
 use Rattle.member_slots.specs.Member.{records}
 use Rattle.member_slots.specs.Members.{member_of}
+use Rattle.logical_model.specs.Bases.{FileSpec, PhysicalFile, LogicalFile}
 use Rattle.library_model.specs.declared.replies.Reply.{Reply}
 use Rattle.library_model.specs.declared.replies.Reply.TheVariants.{PendingChanges, NotJournaled, LimitReached, Sequence}
 use Rattle.library_model.specs.declared.replies.LimitKind.TheVariants.{BlockBytes}
@@ -49,8 +50,15 @@ abbrev pub saved_names : List ℕ → FileState → Named MemberStatus → List 
 saved_names file it [] = []
 saved_names file it (entry ∷ members) = saved 0 (Some entry.1.number) None (FileCreated Physical file it.source) ∷ saved_others file members
 
+abbrev pub saved_physical : Memory → List ℕ × FileState → List Entry
+saved_physical m entry = saved_names entry.0 entry.1 entry.1.members ++ flat_map (λ member. saved_member m member.1) entry.1.members
+
+abbrev pub saved_by : FileSpec → Memory → List ℕ × FileState → List Entry
+saved_by (PhysicalFile spec) m entry = saved_physical m entry
+saved_by (LogicalFile spec) m entry = saved 0 None None (FileCreated Logical entry.0 entry.1.source) ∷ []
+
 abbrev pub saved_file : Memory → List ℕ × FileState → List Entry
-saved_file m entry = saved_names entry.0 entry.1 entry.1.members ++ flat_map (λ member. saved_member m member.1) entry.1.members
+saved_file m entry = saved_by entry.1.spec m entry
 
 -- by the order in which the files were made
 abbrev pub saved_state : Memory → List Entry

@@ -12,6 +12,7 @@ use Rattle.dds_source.specs.declared.specifications.Source.{Source}
 use Rattle.dds_source.specs.Reading.{source_of}
 use Rattle.dds_physical.specs.declared.physical_files.PhysicalSpec.{PhysicalSpec}
 use Rattle.dds_physical.specs.Physical.{physical_of}
+use Rattle.logical_model.specs.Bases.{PhysicalFile}
 use Rattle.library_model.specs.declared.limits.TheConstants.{MOST_FILES, LAST_MEMBER}
 use Rattle.library_model.specs.declared.requests.CreatePhysicalFile.{CreatePhysicalFile}
 use Rattle.library_model.specs.declared.sources.NamedSource.{NamedSource}
@@ -19,7 +20,7 @@ use Rattle.library_model.specs.declared.replies.Reply.{Reply}
 use Rattle.library_model.specs.declared.replies.Reply.TheVariants.{NameExists, LimitReached, Done, DdsFault as DdsFaultReply}
 use Rattle.library_model.specs.declared.replies.LimitKind.TheVariants.{Files, MemberNumbers}
 use Rattle.library_model.specs.SourceList.{text_of}
-use Rattle.library_steps.specs.State.{Memory, FileState, MemberStatus, file_named, fields_of}
+use Rattle.library_steps.specs.State.{Memory, FileState, MemberStatus, file_named, fields_of, physical_spec}
 use Rattle.library_steps.specs.Change.{Change, journaled, does}
 use Rattle.library_steps.specs.Refusals.{◌>>=◌, refuse_if, named_or_refused, sequences_left}
 use Rattle.library_steps.specs.Drafts.{author_of, member_draft}
@@ -29,9 +30,9 @@ pub record NewFile : Type 0 where
   pub source : List ℕ
   pub spec : PhysicalSpec
 
--- the record formats that a source may refer to: those of the files that are there
+-- the record formats that a source may refer to: those of the physical files that are there
 abbrev pub formats_of : Memory → List ℕ → Option Format
-formats_of m name = option_map (λ file. file.spec.format) (file_named name m)
+formats_of m name = option_map (λ spec. spec.format) (physical_spec name m)
 
 -- what a source that was read describes, or the first fault
 abbrev pub described_by : (List ℕ → Option Format) → Result Source DdsFault → Result PhysicalSpec DdsFault
@@ -62,7 +63,7 @@ new_status number = record { number = number; images = None; changed = false; re
 
 -- the file, with a member of its name
 abbrev pub new_file : List ℕ → ℕ → NewFile → FileState
-new_file name number plan = record { source = plan.source; spec = plan.spec; members = (name, new_status number) ∷ [] }
+new_file name number plan = record { source = plan.source; spec = PhysicalFile plan.spec; members = (name, new_status number) ∷ [] }
 
 -- one file more, whose first member has the next number
 abbrev pub with_file : List ℕ → FileState → Memory → Memory

@@ -4,10 +4,12 @@ pub mod Refusals
 pub mod Uses
 pub mod Drafts
 pub mod Locking
+pub mod LogicalFiles
 pub mod Records
 pub mod UniqueKeys
 pub mod SlotChange
 pub mod CreatePhysicalFile
+pub mod CreateLogicalFile
 pub mod DeleteFile
 pub mod MemberCommands
 pub mod Journaling

@@ -14,7 +14,7 @@ use Rattle.library_model.specs.declared.replies.Reply.TheVariants.{NameExists, L
 use Rattle.library_model.specs.declared.replies.LimitKind.TheVariants.{Members, MemberNumbers}
 use Rattle.library_model.specs.Named.{Named, named, same_name}
 use Rattle.library_steps.specs.declared.limits.TheConstants.{MOST_MEMBERS}
-use Rattle.library_steps.specs.State.{Memory, FileState, MemberStatus, file_named, fields_of, with_status}
+use Rattle.library_steps.specs.State.{Memory, FileState, MemberStatus, physical_named, fields_of, with_status}
 use Rattle.library_steps.specs.Change.{Change, journaled, does}
 use Rattle.library_steps.specs.Refusals.{◌>>=◌, refuse_if, named_or_refused, sequences_left, member_of_file}
 use Rattle.library_steps.specs.Uses.{user_of, unused}
@@ -27,7 +27,7 @@ use Rattle.library_steps.specs.CreatePhysicalFile.{new_status}
 unfoldable pub add_plan : Memory → FileMember → Result FileState Reply
 add_plan m args = do
   _ ← sequences_left m
-  file ← named_or_refused args.file (file_named args.file m)
+  file ← named_or_refused args.file (physical_named args.file m)
   _ ← refuse_if (is_some (named args.member file.members)) (NameExists args.member)
   _ ← refuse_if (nat_le MOST_MEMBERS (length file.members)) (LimitReached Members MOST_MEMBERS)
   _ ← refuse_if (nat_lt LAST_MEMBER m.next_member) (LimitReached MemberNumbers LAST_MEMBER)

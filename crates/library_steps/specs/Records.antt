@@ -1,30 +1,29 @@
 -- What an open reads: the records of its member, by the file's key or in arrival order; and the positions that requests set.
 -- (Database Programming, "Reading database records" and "Setting a position in the file".)
-use Rattle.std.specs.Prelude.{ℕ, ◌+◌, ◌&&◌, nat_lt, Bool, true, false, Option, Some, None, Result, Ok, Err, List, [], ◌∷◌, length, unwrap_or, if◌then◌else◌}
+use Rattle.std.specs.Prelude.{ℕ, ◌+◌, ◌&&◌, ◌||◌, nat_lt, Bool, true, false, not, Option, Some, None, Result, Ok, Err, List, [], ◌∷◌, length, unwrap_or, if◌then◌else◌}
 use Rattle.field_types.specs.declared.values.Value.{Value}
 use Rattle.field_types.specs.declared.faults.ValueFault.{ValueFault}
 use Rattle.field_types.specs.declared.faults.ValueFault.TheVariants.{WrongKind}
 use Rattle.field_types.specs.declared.faults.RecordFault.{RecordFault}
 use Rattle.field_types.specs.declared.faults.RecordFault.TheVariants.{Count, BadField}
 use Rattle.field_values.specs.FieldBytes.{fault_of}
-use Rattle.record_fmt.specs.declared.formats.Field.{Field}
-use Rattle.record_fmt.specs.Records.{record_held}
 use Rattle.key_spec.specs.declared.KeyPart.{KeyPart}
 use Rattle.key_spec.specs.declared.KeyPart.TheVariants as parts
 use Rattle.member_slots.specs.declared.slot.Slot.{Slot}
 use Rattle.member_slots.specs.declared.slot.Slot.TheVariants.{Live, Deleted}
 use Rattle.member_slots.specs.Member.{slot_at}
 use Rattle.member_slots.specs.Members.{member_of}
-use Rattle.file_model.specs.FilePaths.{physical_path}
 use Rattle.file_model.specs.KeyOrder.{KeyValue, given_key}
-use Rattle.file_model.specs.Paths.{PathEntry, path}
-use Rattle.file_model.specs.Positions.{Reading, path_reading, arrival_reading}
+use Rattle.file_model.specs.Paths.{PathEntry}
+use Rattle.file_model.specs.Positions.{Reading}
+use Rattle.logical_model.specs.Formats.{parts_in, has_key}
+use Rattle.logical_model.specs.Readings.{reading_in, has_numbers}
 use Rattle.library_model.specs.declared.requests.AccessPath.{AccessPath}
 use Rattle.library_model.specs.declared.requests.AccessPath.TheVariants.{File, Arrival}
-use Rattle.library_model.specs.declared.replies.RecordRead.{RecordRead}
 use Rattle.library_model.specs.declared.replies.Reply.{Reply}
 use Rattle.library_model.specs.declared.replies.Reply.TheVariants.{WrongOpen, BadValue}
-use Rattle.library_steps.specs.State.{Memory, FileState, OpenState, fields_of}
+use Rattle.library_steps.specs.State.{Memory, FileState, OpenState}
+use Rattle.library_steps.specs.LogicalFiles.{bases_of}
 
 -- the record that stands in a slot
 abbrev pub record_in : Option Slot → Option (List ℕ)
@@ -39,29 +38,17 @@ live_record member rrn m = record_in (slot_at (member_of member m.members) rrn)
 abbrev pub slot_there : (member rrn : ℕ) → Memory → Slot
 slot_there member rrn m = unwrap_or (slot_at (member_of member m.members) rrn) Deleted
 
--- the values that a record shows; each record of a library has one in each field
-abbrev pub values_shown : List Field → List ℕ → List Value
-values_shown fields image = unwrap_or (record_held fields image) []
-
-abbrev pub record_shown : FileState → (rrn : ℕ) → Option (List ℕ) → RecordRead
-record_shown file rrn image = record { format = file.spec.format.name; rrn = rrn; values = values_shown (fields_of file) (unwrap_or image []) }
-
 abbrev pub is_file_path : AccessPath → Bool
 is_file_path File = true
 is_file_path Arrival = false
 
 -- the open reads by the file's key
 abbrev pub is_keyed : FileState → OpenState → Bool
-is_keyed file opened = is_file_path opened.access_path && nat_lt 0 (length file.spec.keys.parts)
-
-abbrev pub reading_by : Bool → FileState → OpenState → Memory → Reading PathEntry
-reading_by true file opened m =
-    path_reading file.spec.keys.ties (path (physical_path opened.member (fields_of file) file.spec.keys) m.members)
-reading_by false file opened m = arrival_reading (member_of opened.member m.members)
+is_keyed file opened = is_file_path opened.access_path && has_key file.spec
 
 -- what the open reads, in its order
 abbrev pub reading_of : FileState → OpenState → Memory → Reading PathEntry
-reading_of file opened m = reading_by (is_keyed file opened) file opened m
+reading_of file opened m = reading_in (bases_of m) file.spec (is_keyed file opened) opened.member m.members
 
 -- ---- the key that a request gives
 
@@ -90,8 +77,8 @@ key_or_fault parts values None = Ok (given_key parts values)
 -- the key of a request through this open: WrongOpen where the open has none, BadValue where a value is none of it
 abbrev pub key_asked : FileState → OpenState → List Value → Result (List KeyValue) Reply
 key_asked file opened values =
-    if is_keyed file opened then key_or_fault file.spec.keys.parts values (key_fault file.spec.keys.parts values) else Err WrongOpen
+    if is_keyed file opened then key_or_fault (parts_in file.spec) values (key_fault (parts_in file.spec) values) else Err WrongOpen
 
--- a relative record number is WrongOpen where the open reads by a key
+-- a relative record number is WrongOpen where the open reads by a key, or where it says nothing
 abbrev pub number_asked : FileState → OpenState → ℕ → Result ℕ Reply
-number_asked file opened rrn = if is_keyed file opened then Err WrongOpen else Ok rrn
+number_asked file opened rrn = if is_keyed file opened || not (has_numbers file.spec) then Err WrongOpen else Ok rrn

@@ -6,7 +6,7 @@ use Rattle.library_model.specs.declared.replies.Missing.TheVariants.{Name}
 use Rattle.library_model.specs.declared.replies.LimitKind.TheVariants.{Sequences}
 use Rattle.library_model.specs.Named.{named}
 use Rattle.library_steps.specs.declared.limits.TheConstants.{LAST_SEQUENCE}
-use Rattle.library_steps.specs.State.{Memory, FileState, MemberStatus, OpenState, file_named, open_named}
+use Rattle.library_steps.specs.State.{Memory, FileState, MemberStatus, OpenState, file_named, physical_named, open_named}
 
 infixl 10 ◌>>=◌
 -- go on with what was found, or stay with the refusal
@@ -37,14 +37,14 @@ named_or_refused name thing = found thing (NoSuchName (Name name))
 abbrev pub sequences_left : Memory → Result Bool Reply
 sequences_left m = refuse_if (nat_lt LAST_SEQUENCE m.last_entry) (LimitReached Sequences LAST_SEQUENCE)
 
--- a member that a request names, and its file
+-- a member that a request names, and its file, which is a physical one
 pub record FoundMember : Type 0 where
   pub file : FileState
   pub status : MemberStatus
 
 abbrev pub member_of_file : (file member : List ℕ) → Memory → Result FoundMember Reply
 member_of_file file_name member_name m = do
-  file ← named_or_refused file_name (file_named file_name m)
+  file ← named_or_refused file_name (physical_named file_name m)
   status ← named_or_refused member_name (named member_name file.members)
   Ok (record { file = file; status = status })
 

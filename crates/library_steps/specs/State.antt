@@ -1,14 +1,20 @@
 -- What a library is: its files in order of creation, its members by number, its journal, its record locks, and the jobs that have begun.
 -- (Database Programming, "Setting up physical files" and "Opening a database file"; Journal Management; Commitment Control.)
 use Rattle.std.specs.Prelude.{ℕ, zero, suc, ◌+◌, ◌-◌, Bool, false, if◌then◌else◌, ◌==◌, Option, Some, None, List, [], ◌∷◌, ◌++◌, length, map, drop, slice_get}
+use Rattle.std.specs.Option.{option_and_then}
 use Rattle.commit_level.specs.declared.Level.{Level}
 use Rattle.entry_codec.specs.declared.entries.Entry.{Entry}
 use Rattle.entry_codec.specs.declared.kinds.Images.{Images}
 use Rattle.record_fmt.specs.declared.formats.Field.{Field}
+use Rattle.record_fmt.specs.declared.formats.Format.{Format}
 use Rattle.dds_physical.specs.declared.physical_files.PhysicalSpec.{PhysicalSpec}
 use Rattle.member_slots.specs.Members.{NumberedMembers}
 use Rattle.lock_table.specs.declared.lock.Lock.{Lock}
+use Rattle.key_spec.specs.declared.KeySpec.{KeySpec}
+use Rattle.key_spec.specs.declared.Ties.TheVariants.{Rising}
+use Rattle.logical_model.specs.Bases.{FileSpec, PhysicalFile, LogicalFile}
 use Rattle.file_model.specs.Paths.{PathEntry}
+use Rattle.file_model.specs.Joins.{RowPlace}
 use Rattle.file_model.specs.Positions.{Position}
 use Rattle.journal_model.specs.Rollback.{MemberChange}
 use Rattle.library_model.specs.declared.requests.OpenOption.{OpenOption}
@@ -27,10 +33,10 @@ pub record MemberStatus : Type 0 where
   -- the sequence at which its journaling last began or ended, or its records lost their numbers; 0 for none
   pub last_break : ℕ
 
--- a physical file: the data description from which it was made, the record format and key that it describes, and its members
+-- a file: the data description from which it was made, what that describes, and its members; a logical file has none of its own
 pub record FileState : Type 0 where
   pub source : List ℕ
-  pub spec : PhysicalSpec
+  pub spec : FileSpec
   pub members : Named MemberStatus
 
 -- an open of a job
@@ -38,12 +44,18 @@ pub record OpenState : Type 0 where
   -- among all opens of the job, from 1
   pub number : ℕ
   pub file : List ℕ
+  -- the members that it is over, in the order of the file's formats, or of a join's files
+  pub members : List ℕ
+  -- the format of the record that was read last, counted from 0, and the member of that record; before any read the first
+  pub format : ℕ
   pub member : ℕ
   pub option : OpenOption
   pub access_path : AccessPath
   -- under commitment control
   pub commit : Bool
   pub position : Position PathEntry
+  -- where it stands among the rows of a join file; Start for any other file
+  pub rows : Position RowPlace
   -- the record that may be changed: that of the last read, which was one for update
   pub current : Option ℕ
   pub last_read : Option ℕ
@@ -149,13 +161,41 @@ new_job name = record { name = name; ended = false; level = None; cycle = None; 
 abbrev pub begun : State → List (List ℕ) → State
 begun s names = record s { jobs = s.jobs ++ map new_job names }
 
--- the fields of a file's records
+abbrev pub physical_in : FileSpec → Option PhysicalSpec
+physical_in (PhysicalFile spec) = Some spec
+physical_in (LogicalFile spec) = None
+
+-- the record format and the key of a physical file; a logical file has no records of its own
+abbrev pub format_in : FileSpec → Format
+format_in (PhysicalFile spec) = spec.format
+format_in (LogicalFile spec) = record { name = []; fields = [] }
+
+abbrev pub keys_in : FileSpec → KeySpec
+keys_in (PhysicalFile spec) = spec.keys
+keys_in (LogicalFile spec) = record { parts = []; unique = false; ties = Rising }
+
+-- the fields of a physical file's records
 abbrev pub fields_of : FileState → List Field
-fields_of file = file.spec.format.fields
+fields_of file = (format_in file.spec).fields
 
 -- the file of this name
 abbrev pub file_named : List ℕ → Memory → Option FileState
 file_named name m = named name m.files
+
+-- what the physical file of this name is
+abbrev pub physical_spec : List ℕ → Memory → Option PhysicalSpec
+physical_spec name m = option_and_then (λ file. physical_in file.spec) (file_named name m)
+
+-- the physical file of this name; a logical file isn't one
+abbrev pub if_physical : FileSpec → FileState → Option FileState
+if_physical (PhysicalFile spec) file = Some file
+if_physical (LogicalFile spec) file = None
+
+abbrev pub physical_among : List ℕ → Named FileState → Option FileState
+physical_among name files = option_and_then (λ file. if_physical file.spec file) (named name files)
+
+abbrev pub physical_named : List ℕ → Memory → Option FileState
+physical_named name m = physical_among name m.files
 
 -- the job with this number
 abbrev pub job_at : ℕ → List JobState → Option JobState

@@ -1,6 +1,5 @@
 -- One step of the library: from its state and a job's request at a time to the state after it and the reply. It has no choice.
--- CRTLF has no step yet.
-use Rattle.std.specs.Prelude.{◌≡◌, ℕ, ◌⊎◌, IsTrue, Result, Err, List}
+use Rattle.std.specs.Prelude.{◌≡◌, ℕ, ◌⊎◌, IsTrue, Result, List}
 use Rattle.entry_codec.specs.declared.entries.Entry.{Entry}
 use Rattle.library_model.specs.declared.requests.Request.{Request}
 use Rattle.library_model.specs.declared.requests.Request.TheVariants.{CreatePhysicalFile, CreateLogicalFile, DeleteFile, AddMember, ClearMember, ReorganizeMember, StartJournaling, EndJournaling, ChangeJournal, DeleteReceiver, Checkpoint, DisplayJournal, ApplyChanges, RemoveChanges, StartCommitment, EndCommitment, Commit, Rollback, OpenFile, CloseFile, SetLowerLimit, SetGreaterThan, Read, ReadPrior, ReadEqual, ReadPriorEqual, Chain, Write, Update, Delete, Unlock, EndJob}
@@ -11,6 +10,7 @@ use Rattle.library_model.specs.NeedsMemory.{needs_memory}
 use Rattle.library_steps.specs.State.{Memory, State, memory_of}
 use Rattle.library_steps.specs.Change.{Change, changed}
 use Rattle.library_steps.specs.CreatePhysicalFile.{create_physical_file}
+use Rattle.library_steps.specs.CreateLogicalFile.{create_logical_file}
 use Rattle.library_steps.specs.DeleteFile.{delete_file}
 use Rattle.library_steps.specs.MemberCommands.{add_member, clear_member, reorganize_member}
 use Rattle.library_steps.specs.Journaling.{start_journaling, end_journaling}
@@ -28,7 +28,7 @@ use Rattle.library_steps.specs.EndJob.{end_job}
 -- what a request of a job at a time does to the memory, or its refusal; the entries are for those that read the journal
 unfoldable pub change : List NamedSource → List Entry → Memory → ℕ → ℕ → Request → Result Change Reply
 change sources entries m job timestamp (CreatePhysicalFile args) = create_physical_file sources m job timestamp args
-change sources entries m job timestamp (CreateLogicalFile args) = Err NoMemory
+change sources entries m job timestamp (CreateLogicalFile args) = create_logical_file sources m job timestamp args
 change sources entries m job timestamp (DeleteFile args) = delete_file m job timestamp args
 change sources entries m job timestamp (AddMember args) = add_member m job timestamp args
 change sources entries m job timestamp (ClearMember args) = clear_member m job timestamp args

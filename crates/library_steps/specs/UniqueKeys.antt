@@ -1,22 +1,27 @@
 -- Which keys a record may not have: those of other records of a unique path, and those that an open commit cycle keeps to itself.
 -- (DDS for Physical and Logical Files, "UNIQUE"; Database Programming. That a commit cycle reserves the keys that it took away is our own.)
-use Rattle.std.specs.Prelude.{ℕ, ◌+◌, ◌==◌, ◌&&◌, nat_lt, Bool, true, false, not, Option, Some, None, Result, Ok, List, [], ◌∷◌, ◌++◌, flat_map, filter, if◌then◌else◌}
+use Rattle.std.specs.Prelude.{ℕ, ◌+◌, ◌==◌, ◌&&◌, nat_lt, Bool, true, false, not, Option, Some, None, Result, Ok, List, [], ◌∷◌, ◌++◌, map, flat_map, filter, if◌then◌else◌}
 use Rattle.std.specs.List.{filter_map, find}
 use Rattle.std.specs.Option.{option_map, is_some}
 use Rattle.std.specs.Ordering.{is_eq}
 use Rattle.member_slots.specs.declared.slot.Slot.{Slot}
 use Rattle.member_slots.specs.declared.slot.Slot.TheVariants.{Live, Deleted}
+use Rattle.dds_physical.specs.declared.physical_files.PhysicalSpec.{PhysicalSpec}
+use Rattle.dds_logical.specs.declared.views.LogicalSpec.{LogicalSpec}
 use Rattle.file_model.specs.declared.paths.PathFormat.{PathFormat}
 use Rattle.file_model.specs.declared.paths.PathSpec.{PathSpec}
 use Rattle.file_model.specs.FilePaths.{physical_path}
 use Rattle.file_model.specs.KeyOrder.{KeyValue, compare_keys}
 use Rattle.file_model.specs.Paths.{path_key, entries_of, other_with_key, repeated_in}
 use Rattle.file_model.specs.Selection.{selects}
+use Rattle.logical_model.specs.Bases.{FileSpec, PhysicalFile, LogicalFile}
+use Rattle.logical_model.specs.FilePaths.{is_over, logical_paths}
 use Rattle.journal_model.specs.Rollback.{MemberChange}
 use Rattle.library_model.specs.declared.replies.Reply.{Reply}
 use Rattle.library_model.specs.declared.replies.Reply.TheVariants.{RecordInUse, HeldByGroup, DuplicateKey}
 use Rattle.library_model.specs.Named.{Named}
-use Rattle.library_steps.specs.State.{Memory, FileState, MemberStatus, JobState, fields_of}
+use Rattle.library_steps.specs.State.{Memory, FileState, MemberStatus, JobState}
+use Rattle.library_steps.specs.LogicalFiles.{bases_of}
 use Rattle.library_steps.specs.Refusals.{◌>>=◌, refuse_with}
 use Rattle.library_steps.specs.Uses.{changes_in}
 
@@ -31,14 +36,23 @@ abbrev pub has_member : ℕ → Named MemberStatus → Bool
 has_member number members = is_some (find (λ entry. entry.1.number == number) members)
 
 -- the unique path of a physical file over one of its members
-abbrev pub own_unique : ℕ → List ℕ × FileState → List UniquePath
-own_unique member entry =
-    if entry.1.spec.keys.unique && has_member member entry.1.members
-    then record { file = entry.0; path = physical_path member (fields_of entry.1) entry.1.spec.keys } ∷ [] else []
+abbrev pub own_unique : (file : List ℕ) → (member : ℕ) → PhysicalSpec → Named MemberStatus → List UniquePath
+own_unique file member spec members =
+    if spec.keys.unique && has_member member members
+    then record { file = file; path = physical_path member spec.format.fields spec.keys } ∷ [] else []
+
+-- the unique path of a logical file, where it is over the member
+abbrev pub view_unique : Memory → (file : List ℕ) → (member : ℕ) → LogicalSpec → List UniquePath
+view_unique m file member spec =
+    map (λ path. record { file = file; path = path }) (filter (λ path. path.unique && is_over member path) (logical_paths (bases_of m) spec))
+
+abbrev pub uniques_by : FileSpec → Memory → ℕ → List ℕ × FileState → List UniquePath
+uniques_by (PhysicalFile spec) m member entry = own_unique entry.0 member spec entry.1.members
+uniques_by (LogicalFile spec) m member entry = view_unique m entry.0 member spec
 
 -- by the order in which their files were made
 abbrev pub unique_paths : ℕ → Memory → List UniquePath
-unique_paths member m = flat_map (own_unique member) m.files
+unique_paths member m = flat_map (λ entry. uniques_by entry.1.spec m member entry) m.files
 
 -- ---- the key that a record would have anew
 

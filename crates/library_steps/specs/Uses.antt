@@ -7,7 +7,7 @@ use Rattle.lock_table.specs.Lock.{is_boundary_in}
 use Rattle.journal_model.specs.Rollback.{MemberChange}
 use Rattle.library_model.specs.declared.replies.Reply.{Reply}
 use Rattle.library_model.specs.declared.replies.Reply.TheVariants.{InUse}
-use Rattle.library_model.specs.Named.{Named}
+use Rattle.library_model.specs.Named.{Named, same_name}
 use Rattle.library_steps.specs.State.{Memory, MemberStatus, CycleState, JobState}
 use Rattle.library_steps.specs.Refusals.{refuse_with}
 
@@ -25,7 +25,7 @@ changes_in None = []
 changes_in (Some cycle) = cycle.undos
 
 abbrev pub has_open_over : ℕ → JobState → Bool
-has_open_over member job = list_any (λ entry. entry.1.member == member) job.opens
+has_open_over member job = list_any (λ entry. list_any (λ base. base == member) entry.1.members) job.opens
 
 -- the job's open commit cycle has a change of the member
 abbrev pub has_changed : ℕ → JobState → Bool
@@ -44,6 +44,17 @@ user_of member m = least_job (uses member m.locks) m
 -- the least job that uses one of the members
 abbrev pub user_of_any : Named MemberStatus → Memory → Option ℕ
 user_of_any members m = least_job (λ number job. list_any (λ entry. uses entry.1.number m.locks number job) members) m
+
+-- the least job whose open commit cycle has a change of one of the members
+abbrev pub changer_of_any : List ℕ → Memory → Option ℕ
+changer_of_any members m = least_job (λ number job. list_any (λ member. has_changed member job) members) m
+
+abbrev pub has_open_of : (file : List ℕ) → JobState → Bool
+has_open_of file job = list_any (λ entry. same_name file entry.1.file) job.opens
+
+-- the least job that has an open of a logical file, or has changed a record of its base members in an open commit cycle
+abbrev pub user_of_logical : (file : List ℕ) → List ℕ → Memory → Option ℕ
+user_of_logical file members m = least_job (λ number job. has_open_of file job || list_any (λ member. has_changed member job) members) m
 
 abbrev pub unused : Option ℕ → Result Bool Reply
 unused user = refuse_with InUse user

@@ -5,31 +5,32 @@ use Rattle.member_slots.specs.declared.slot.Slot.TheVariants.{Live, Deleted}
 use Rattle.member_slots.specs.Member.{is_full}
 use Rattle.member_slots.specs.Members.{member_of}
 use Rattle.field_types.specs.declared.faults.RecordFault.{RecordFault}
-use Rattle.record_fmt.specs.Records.{record_given}
 use Rattle.lock_table.specs.declared.levels.Call.{Call}
 use Rattle.lock_table.specs.declared.levels.Call.TheVariants.{Write, WriteAt}
 use Rattle.library_model.specs.declared.requests.WriteRecord.{WriteRecord}
 use Rattle.library_model.specs.declared.requests.OpenOption.{OpenOption}
 use Rattle.library_model.specs.declared.requests.OpenOption.TheVariants.{Input, All}
 use Rattle.library_model.specs.declared.replies.Reply.{Reply}
-use Rattle.library_model.specs.declared.replies.Reply.TheVariants.{NoSuchName, WrongOpen, BadValue, NotFound, PlaceInUse, MemberFull, LimitReached, Added}
-use Rattle.library_model.specs.declared.replies.Missing.TheVariants.{Name}
+use Rattle.library_model.specs.declared.replies.Reply.TheVariants.{WrongOpen, BadValue, NotFound, PlaceInUse, MemberFull, LimitReached, Added}
 use Rattle.library_model.specs.declared.replies.LimitKind.TheVariants.{LibraryBytes}
-use Rattle.library_model.specs.Named.{same_name}
 use Rattle.library_steps.specs.declared.limits.TheConstants.{MOST_LIBRARY_BYTES}
-use Rattle.library_steps.specs.State.{Memory, OpenState, fields_of}
+use Rattle.library_steps.specs.State.{Memory, OpenState}
 use Rattle.library_steps.specs.Change.{Change, does}
-use Rattle.library_steps.specs.Refusals.{◌>>=◌, refuse_if, sequences_left, opened_file}
+use Rattle.library_steps.specs.Refusals.{◌>>=◌, refuse_if, named_or_refused, sequences_left, opened_file}
 use Rattle.library_steps.specs.Locking.{locks_left, with_locks, not_locked, few_locks}
+use Rattle.logical_model.specs.Bases.{FileSpec}
+use Rattle.logical_model.specs.Formats.{format_number, given_in}
+use Rattle.library_steps.specs.LogicalFiles.{bases_of}
 use Rattle.library_steps.specs.Records.{live_record}
+use Rattle.library_steps.specs.Reads.{at_format}
 use Rattle.library_steps.specs.UniqueKeys.{keys_free}
 use Rattle.library_steps.specs.Ranges.{library_bytes}
 use Rattle.library_steps.specs.SlotChange.{NewSlot, not_held, few_changes, is_behind_last, slot_change}
 
--- the format that is named is the file's; None names the file's own
-abbrev pub format_or_refused : Option (List ℕ) → List ℕ → Result Bool Reply
-format_or_refused None name = Ok true
-format_or_refused (Some format) name = refuse_if (not (same_name format name)) (NoSuchName (Name format))
+-- the number of the format that is named, counted from 0; the first where none is
+abbrev pub format_asked : Option (List ℕ) → FileSpec → Result ℕ Reply
+format_asked None spec = Ok 0
+format_asked (Some name) spec = named_or_refused name (format_number name spec)
 
 abbrev pub is_input : OpenOption → Bool
 is_input Input = true
@@ -65,20 +66,25 @@ abbrev pub write_call : Option ℕ → Call
 write_call None = Write
 write_call (Some rrn) = WriteAt
 
+-- an image to add through an open, where it is at the format that is written
+unfoldable pub place_plan : Memory → ℕ → OpenState → Option ℕ → (image : List ℕ) → Result NewSlot Reply
+place_plan m job opened record_number image = do
+  rrn ← place_asked job opened record_number m
+  _ ← has_room (is_behind_last opened.member rrn m) opened.member m
+  _ ← keys_free job opened.commit opened.member rrn Deleted image m
+  _ ← few_locks (write_call record_number) job opened rrn m
+  _ ← few_changes opened.commit Deleted (Live image) m
+  Ok (record { opened = opened; rrn = rrn; slot = Live image })
+
 -- a record to add: the open, its place, and the call by which locks are asked
 unfoldable pub write_plan : Memory → ℕ → WriteRecord → Result NewSlot Reply
 write_plan m job args = do
   _ ← sequences_left m
   its ← opened_file args.open_id job m
-  _ ← format_or_refused args.format its.file.spec.format.name
+  format ← format_asked args.format its.file.spec
   _ ← refuse_if (is_input its.opened.option) WrongOpen
-  image ← packed (record_given (fields_of its.file) args.values None)
-  rrn ← place_asked job its.opened args.record_number m
-  _ ← has_room (is_behind_last its.opened.member rrn m) its.opened.member m
-  _ ← keys_free job its.opened.commit its.opened.member rrn Deleted image m
-  _ ← few_locks (write_call args.record_number) job its.opened rrn m
-  _ ← few_changes its.opened.commit Deleted (Live image) m
-  Ok (record { opened = its.opened; rrn = rrn; slot = Live image })
+  image ← packed (given_in (bases_of m) its.file.spec format args.values None)
+  place_plan m job (at_format format its.opened) args.record_number image
 
 abbrev pub write_change : Memory → ℕ → (timestamp : ℕ) → Call → NewSlot → Change
 write_change m job timestamp call new =

@@ -23,3 +23,6 @@ pub const MOST_GROUP_BYTES: u64 = 268_435_456;
 
 /// The most bytes of the entries of an APYJRNCHG, an RMVJRNCHG or a checkpoint.
 pub const MOST_BLOCK_BYTES: u64 = 534_773_760;
+
+/// The most different access paths over one member.
+pub const MOST_PATHS: usize = 32;
