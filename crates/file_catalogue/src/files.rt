@@ -29,11 +29,12 @@ pub struct File {
 }
 
 impl Model for File {
+    ghost use Rattle.logical_model.specs.Bases.{PhysicalFile};
     ghost use Rattle.library_steps.specs.State.{FileState};
 
     ghost Value = { FileState };
 
-    ghost view = { λ f. record { source = f.described.source; spec = f.described.spec; members = f.members } };
+    ghost view = { λ f. record { source = f.described.source; spec = PhysicalFile f.described.spec; members = f.members } };
 }
 
 impl File {

@@ -30,6 +30,8 @@ pub struct Open {
 }
 
 impl Model for Open {
+    ghost use Rattle.std.specs.Prelude.{[], ◌∷◌};
+    ghost use Rattle.file_model.specs.Positions.{Start};
     ghost use Rattle.library_steps.specs.State.{OpenState};
     ghost use Rattle.job_table.specs.Arrival.{arrival_position};
 
@@ -38,11 +40,14 @@ impl Model for Open {
     ghost view = { λ o. record {
       number = o.number;
       file = o.file;
+      members = o.member ∷ [];
+      format = 0;
       member = o.member;
       option = o.option;
       access_path = o.access_path;
       commit = o.commit;
       position = arrival_position o.position;
+      rows = Start;
       current = o.current;
       last_read = o.last_read;
       boundary = arrival_position o.boundary;
