@@ -6,6 +6,7 @@ use Rattle.member_slots.specs.Member.{MemberState, empty_member, cleared, reorga
 use Rattle.member_slots.specs.Members.{Numbered, NumberedMembers, member_at, member_of, put_member, with_member, without_member}
 use Rattle.record_fmt.specs.declared.formats.Field.{Field}
 use Rattle.record_fmt.specs.Layout.{record_length}
+use Rattle.logical_model.specs.Bases.{FileSpec, PhysicalFile, LogicalFile}
 use Rattle.library_model.specs.declared.requests.FileMember.{FileMember}
 use Rattle.library_model.specs.Named.{Named, named}
 use Rattle.library_steps.specs.CreateLogicalFile.{NewLogical, logical_file, with_logical}
@@ -99,13 +100,18 @@ bytes-without_members (entry ∷ gone) members =
     let first = bytes-filter (λ (e : Numbered MemberState). not (e.number == entry.1.number)) members in
     omega (arith, rest, first)
 
+-- who uses a file doesn't read the journal
+user-bare : (s : State) (spec : FileSpec) (name : List ℕ) (file : FileState) → user_by spec name file (memory_of s) ≡ None → user_by spec name file (memory_of (bare (memory_of s))) ≡ None
+user-bare s (PhysicalFile spec) name file unused = unused
+user-bare s (LogicalFile spec) name file unused = unused
+
 pub deleted-stands : (s : State) (name : List ℕ) (file : FileState) → IsSound s → named name s.files ≡ Some file → first_dependent name s.files ≡ None
     → user_by file.spec name file (memory_of s) ≡ None → Stands (record (memory_of s) { files = without_file name s.files; members = without_members file.members s.members })
 deleted-stands s name file sound there alone unused =
     let m = memory_of s in
     let stands = Stands-memory_of s sound in record {
       library = (AreOne-deleted (bare m) (library_bytes s.members) (library_bytes (without_members file.members s.members)) name file (one-of (bare m) stands.library) sound.apart
-          (free-independent name s.files alone) there unused refl (bytes-without_members file.members s.members)).lawful;
+          (free-independent name s.files alone) there (user-bare s file.spec name file unused) refl (bytes-without_members file.members s.members)).lawful;
       within = within-without file.members s.members sound.within;
     }
 

@@ -227,7 +227,9 @@ module _ (s : State) (job timestamp : ℕ) (new : NewSlot) (sound : IsSound s) (
   write-stands call = Stands-last _ _ (locked-stands call)
 
   pub update-stands : Stands (update_change (memory_of s) job timestamp new).memory
-  update-stands = Stands-last _ _ (Stands-open _ job new.opened without_current (locked-stands Update) (λ o holds. OpenHolds-alike s.files o (without_current o) refl refl refl refl holds))
+  update-stands =
+      let locked = with_locks (locks_left Update job new.opened new.rrn (memory_of s)) (slot_changed job new (memory_of s)) in
+      Stands-last _ _ (Stands-open locked job new.opened without_current (locked-stands Update) (λ o holds. OpenHolds-alike locked.files o (without_current o) refl refl refl refl holds))
 
   pub delete-stands : Stands (delete_change (memory_of s) job timestamp new).memory
   delete-stands =

@@ -1,5 +1,5 @@
 -- The default value of each field that a source describes may stand in it.
-use Rattle.std.proofs.Common.{◌≡◌, ℕ, zero, ◌+◌, ◌*◌, ◌^◌, ◌<◌, ◌&&◌, ◌==◌, not, nat_lt, nat_le, pos, cond, if◌then◌else◌, codes, Bool, true, false, Option, Some, None, is_some, length, Result, Ok, Err, List, [], ◌∷◌, ◌++◌, refl, sym, ◌∙◌, ap, subst, arith}
+use Rattle.std.proofs.Common.{◌≡◌, ℕ, zero, ◌+◌, ◌*◌, ◌^◌, ◌<◌, ◌≤◌, ◌/◌, ◌%◌, ◌&&◌, ◌==◌, not, nat_lt, nat_le, pos, cond, if◌then◌else◌, codes, Bool, true, false, Option, Some, None, is_some, length, Result, Ok, Err, List, [], ◌∷◌, ◌++◌, refl, sym, ◌∙◌, ap, subst, arith}
 use Rattle.std.proofs.lemmas.Bool.{and_parts, eqb-true}
 use Rattle.std.proofs.lemmas.Bool.Decides.{nat_tests}
 use Rattle.std.proofs.Math.Nat.{one-le-pow}
@@ -12,7 +12,9 @@ use Rattle.field_types.specs.declared.values.Value.{Value}
 use Rattle.field_types.specs.declared.faults.ValueFault.{ValueFault}
 use Rattle.field_types.specs.declared.faults.ValueFault.TheVariants.{TooManyDecimals, TooWide, BadDate}
 use Rattle.field_values.specs.FieldTypes.{IsFieldType, is_allowed, width}
-use Rattle.field_values.specs.FieldBytes.{fault_of, number_fault, text_fault, is_too_wide, units_at}
+use Rattle.field_values.specs.Digits.{is_negative, signed}
+use Rattle.field_values.specs.FieldBytes.{fault_of, number_fault, text_fault, is_too_wide}
+use Rattle.ebc_text.specs.CodePage.{ebcdic_of}
 use Rattle.record_fmt.specs.declared.formats.Field.{Field}
 use Rattle.record_fmt.specs.declared.formats.Format.{Format}
 use Rattle.dds_source.specs.Entries.{when}
@@ -43,13 +45,16 @@ many-none : (digits : ℕ) → nat_le (10 ^ digits) 0 ≡ false
 many-none digits = let some : 1 ≤ 10 ^ digits = one-le-pow digits 10 (omega arith) in grind (arith, nat_tests, some)
 
 zero-fits : (digits decimals : ℕ) → number_fault digits decimals (record { units = pos 0; scale = 0 }) ≡ None
-zero-fits digits decimals = ap (λ (b : Bool). if b then Some TooWide else None) (many-none digits)
+zero-fits digits decimals =
+    let none : 0 * 10 ^ decimals ≡ 0 = omega arith in
+    subst (λ (k : ℕ). (if not (k % 10 ^ 0 == 0) then Some TooManyDecimals else (if is_too_wide digits (signed (is_negative (pos 0)) (k / 10 ^ 0)) then Some TooWide else None)) ≡ None) (sym none)
+    (ap (λ (b : Bool). if b then Some TooWide else None) (many-none digits))
 
 none-wide : (n : ℕ) → nat_lt n 0 ≡ false
 none-wide n = grind (arith, nat_tests)
 
 unspecified-fits : (t : FieldType) → IsFieldType t → fault_of t (unspecified t.kind) ≡ None
-unfolding fault_of
+unfolding fault_of ebcdic_of
 unspecified-fits t is = by t.kind t.length t.decimals is
   where
     by : (kind : Kind) (n d : ℕ) → is_allowed kind n d ≡ true → fault_of (record { kind = kind; length = n; decimals = d }) (unspecified kind) ≡ None

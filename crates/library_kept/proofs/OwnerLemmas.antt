@@ -3,6 +3,7 @@ use Rattle.std.proofs.Common.{◌≡◌, ℕ, zero, suc, ◌-◌, ◌==◌, nat_
 use Rattle.std.proofs.lemmas.Option.{slice_get-map}
 use Rattle.std.specs.List.{AllByRecursion, position, position_or_len}
 use Rattle.std.specs.Option.{option_map}
+use Rattle.std.specs.Str.{bytes_eq}
 use Rattle.field_types.specs.declared.values.Value.{Value}
 use Rattle.field_types.specs.declared.faults.RecordFault.{RecordFault}
 use Rattle.record_fmt.specs.declared.formats.Field.{Field}
@@ -166,13 +167,13 @@ module _ (bases : Bases) (values : List (Option Value)) (image : List ℕ) where
       → IsSome (slice_get (base_names spec) number)
   names-some (Simple view) None number h e = subst (λ (n : ℕ). IsSome (slice_get (view.base ∷ []) n)) (ok-number 0 number h) refl
   names-some (Simple view) (Some name) number h e =
-      subst (λ (n : ℕ). IsSome (slice_get (view.base ∷ []) n)) (position-one _ view.format.name number (found-is (format_number name (LogicalFile (Simple view))) _ number h)) refl
+      subst (λ (n : ℕ). IsSome (slice_get (view.base ∷ []) n)) (position-one (bytes_eq name) view.format.name number (found-is (format_number name (LogicalFile (Simple view))) _ number h)) refl
   names-some (Multi views) asked number h e = some-mapped (λ (view : View). view.base) views number (given-there bases (slice_get views number) values image e)
   names-some (Join view) asked number h e = absurd cc
 
   physical-number : (spec : PhysicalSpec) (asked : Option (List ℕ)) (number : ℕ) → format_asked asked (PhysicalFile spec) ≡ Ok number → 0 ≡ number
   physical-number spec None number h = ok-number 0 number h
-  physical-number spec (Some name) number h = position-one _ spec.format.name number (found-is (format_number name (PhysicalFile spec)) _ number h)
+  physical-number spec (Some name) number h = position-one (bytes_eq name) spec.format.name number (found-is (format_number name (PhysicalFile spec)) _ number h)
 
   -- so it has a member among those of the open
   format-some : (files : Named FileState) (opened : OpenState) (members : Named MemberStatus) (spec : FileSpec) (asked : Option (List ℕ)) (number : ℕ) → OpensBy files opened members spec
