@@ -2,3 +2,4 @@ pub mod ListLemmas
 pub mod SameLemmas
 pub mod FoundLemmas
 pub mod GivenLemmas
+pub mod MappedLemmas
