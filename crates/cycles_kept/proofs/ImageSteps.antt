@@ -44,12 +44,12 @@ use Rattle.library_steps.specs.WriteRecord.{write_call, write_change, write_plan
 use Rattle.library_parts.specs.Lawful.{OpenHolds}
 use Rattle.library_parts.proofs.BackLemmas.{neither}
 use Rattle.joint_state.specs.Sound.{IsSound}
+use Rattle.joint_state.proofs.OpenLemmas.{HasOwner, open-stands, opens-at, owned-below}
 use Rattle.cycles_kept.proofs.BoundarySteps.{taken_back-files, taken_back-jobs}
 use Rattle.cycles_kept.proofs.FileSteps.{Deletes, deletes, first_job-none}
 use Rattle.cycles_kept.proofs.HoldLemmas.{Holds, bind-holds, does-holds, effect-holds, found-there, if-not, then-holds, wider-holds, with-none}
 use Rattle.cycles_kept.proofs.ImageLemmas.{images_in, among-map, among-without, images-changed, images-more, images-named, status_in-push}
 use Rattle.cycles_kept.proofs.JobLemmas.{was_there}
-use Rattle.cycles_kept.proofs.OpenLemmas.{HasOwner, open-stands, opens-at, owned-below}
 use Rattle.cycles_kept.proofs.PutLemmas.{put_cycle, jobs-noted, jobs-put}
 use Rattle.cycles_kept.proofs.RecordSteps.{files-put}
 

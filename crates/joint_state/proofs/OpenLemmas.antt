@@ -1,14 +1,16 @@
 -- The members of an open: each is a member of a physical file that is there, and that of the record read last is one of them.
-use Rattle.std.proofs.Common.{◌≡◌, ◌∙◌, ℕ, zero, suc, ◌+◌, ◌<◌, true, false, List, [], ◌∷◌, map, slice_get, Option, Some, None, is_some, IsSome, unwrap_or, subst, refl, sym, ap, rules}
+use Rattle.std.proofs.Common.{◌≡◌, ◌∙◌, ℕ, zero, suc, ◌+◌, ◌-◌, ◌<◌, ◌==◌, ◌||◌, if◌then◌else◌, true, false, cond, List, [], ◌∷◌, map, slice_get, Option, Some, None, is_some, IsSome, unwrap_or, subst, refl, sym, ap, arith, rules}
 use Rattle.std.specs.List.{AllByRecursion}
 use Rattle.std.specs.Option.{option_and_then, option_map_or}
+use Rattle.std.proofs.lemmas.Bool.Decides.{nat_tests}
 use Rattle.dds_physical.specs.declared.physical_files.PhysicalSpec.{PhysicalSpec}
 use Rattle.logical_model.specs.Bases.{FileSpec, PhysicalFile, LogicalFile, base_names}
 use Rattle.member_slots.specs.Members.{member_at}
 use Rattle.file_catalogue.specs.Owners.{Owns, has_number}
 use Rattle.file_catalogue.proofs.NameLemmas.{some-equal}
-use Rattle.library_model.specs.Named.{Named, named}
-use Rattle.library_steps.specs.State.{State, FileState, MemberStatus, OpenState, JobState, memory_of, fields_of, if_physical, job_of, open_named, physical_among}
+use Rattle.file_catalogue.proofs.StatusLemmas.{has_number-cons}
+use Rattle.library_model.specs.Named.{Named, named, same_name}
+use Rattle.library_steps.specs.State.{State, FileState, MemberStatus, OpenState, JobState, memory_of, fields_of, if_physical, job_of, open_named, or_new, physical_among}
 use Rattle.library_steps.specs.DeleteFile.{user_by}
 use Rattle.library_steps.specs.LogicalFiles.{base_in, bases_in}
 use Rattle.library_steps.specs.Reads.{at_format}
@@ -16,8 +18,6 @@ use Rattle.library_steps.specs.Uses.{first_job, user_of_any}
 use Rattle.library_parts.specs.Lawful.{AreBased, IsBased, IsLibrary, OpenHolds, OpensBy, OpensFile, OpensHold}
 use Rattle.library_parts.proofs.FileLemmas.{Owns-below}
 use Rattle.library_parts.proofs.MemberLemmas.{IsThere-is_some}
-use Rattle.cycles_kept.proofs.ImageLemmas.{named-number}
-use Rattle.cycles_kept.proofs.JobLemmas.{IsAsking, named-each}
 
 -- ---- physical files
 
@@ -55,6 +55,16 @@ owned-there s number lawful its = IsThere-is_some (fields_of its.file) (member_a
 pub owned-below : (s : State) (number : ℕ) → IsLibrary s → HasOwner s number → number < s.next_member
 owned-below s number lawful its = Owns-below s its.name its.file number lawful its.owns
 
+-- a member that is found by its name has its number
+pub number-named : (name : List ℕ) (members : Named MemberStatus) (status : MemberStatus) → named name members ≡ Some status → has_number status.number members ≡ true
+number-named name [] status found = absurd cc
+number-named name (first ∷ members) status found =
+    has_number-cons status.number first members ∙
+    elim (same_name name first.0) as (λ b. cond b (Some first.1) (named name members) ≡ Some status → ((first.1.number == status.number) || has_number status.number members) ≡ true) [
+      | true ↦ λ here. let e : first.1 ≡ status = cc in subst (λ (other : MemberStatus). ((first.1.number == other.number) || has_number other.number members) ≡ true) e (grind (arith, nat_tests))
+      | false ↦ λ later. let rest = number-named name members status later in grind (arith, nat_tests, rest)
+    ] found
+
 -- the member of the file's own name
 own-number : (o : Option MemberStatus) (members : Named MemberStatus) → ((status : MemberStatus) → o ≡ Some status → has_number status.number members ≡ true) → IsSome o
     → has_number (option_map_or (λ (status : MemberStatus). status.number) o 0) members ≡ true
@@ -72,7 +82,7 @@ base-owned s name based some = by (physical_among name s.files) (physical-there 
         record {
           name = name;
           file = file;
-          owns = record { there = its.there; has = own-number (named name file.members) file.members (named-number name file.members) own };
+          owns = record { there = its.there; has = own-number (named name file.members) file.members (number-named name file.members) own };
         }
 
 bases-owned : (s : State) (names : List (List ℕ)) → AreBased s.files → AllByRecursion (λ name. IsSome (physical_among name s.files)) names
@@ -132,11 +142,29 @@ opens-at files [] place job all here = absurd cc
 opens-at files (first ∷ jobs) zero job all here = let same : first ≡ job = cc in subst (OpensHold files) same all.0
 opens-at files (first ∷ jobs) (suc place) job all here = opens-at files jobs place job all.1 here
 
--- those of the job that asks
-pub asked-stands : (s : State) (job : ℕ) (name : List ℕ) (opened : OpenState) → IsLibrary s → IsAsking s job → open_named name job (memory_of s) ≡ Some opened → OpenStands s opened
-asked-stands s job name opened lawful asks found =
-    open-stands s opened lawful
-    (named-each (OpenHolds s.files) name (job_of job (memory_of s)).opens opened (opens-at s.files s.jobs _ (job_of job (memory_of s)) lawful.opens asks.there) found)
+opens-of : (s : State) (job : ℕ) → IsLibrary s → OpensHold s.files (job_of job (memory_of s))
+opens-of s job lawful =
+    elim (job == 0) as (λ b. OpensHold s.files (or_new (if b then None else slice_get s.jobs (job - 1)))) [
+      | true ↦ tt
+      | false ↦ by (slice_get s.jobs (job - 1)) (λ its is. opens-at s.files s.jobs (job - 1) its lawful.opens is)
+    ]
+  where
+    by : (o : Option JobState) → ((its : JobState) → o ≡ Some its → OpensHold s.files its) → OpensHold s.files (or_new o)
+    by None each = tt
+    by (Some its) each = each its refl
+
+named-open : (files : Named FileState) (name : List ℕ) (opens : Named OpenState) (opened : OpenState) → AllByRecursion (λ (e : List ℕ × OpenState). OpenHolds files e.1) opens
+    → named name opens ≡ Some opened → OpenHolds files opened
+named-open files name [] opened all found = absurd cc
+named-open files name (first ∷ opens) opened all found =
+    elim (same_name name first.0) as (λ b. cond b (Some first.1) (named name opens) ≡ Some opened → OpenHolds files opened) [
+      | true ↦ λ here. let same : first.1 ≡ opened = cc in subst (OpenHolds files) same all.0
+      | false ↦ λ later. named-open files name opens opened all.1 later
+    ] found
+
+-- those of each job
+pub opened-stands : (s : State) (job : ℕ) (name : List ℕ) (opened : OpenState) → IsLibrary s → open_named name job (memory_of s) ≡ Some opened → OpenStands s opened
+opened-stands s job name opened lawful found = open-stands s opened lawful (named-open s.files name (job_of job (memory_of s)).opens opened (opens-of s job lawful) found)
 
 -- ---- a file that goes
 
