@@ -1,7 +1,7 @@
 //! One open of a job.
 ghost use Rattle.std.specs.Prelude.{◌≡◌};
 ghost use Rattle.library_steps.specs.Opens.{new_open};
-ghost use Rattle.library_steps.specs.Reads.{current_after};
+ghost use Rattle.library_steps.specs.Reads.{at_format, current_after};
 ghost use Rattle.library_steps.specs.ChangeRecord.{without_record};
 ghost use Rattle.library_steps.specs.Commitment.{committed_open, rolled_back_open};
 ghost use Rattle.job_table.specs.Arrival.{arrival_position};
@@ -92,6 +92,13 @@ impl Open {
         ensures { result ≡ self.now.member }
     {
         self.member
+    }
+
+    /// It is over the one member, through one format.
+    pub fn has_one_format(&self)
+        ensures { at_format 0 self.now ≡ self.now }
+    {
+        let _ = &self.member;
     }
 
     /// What it may do.
