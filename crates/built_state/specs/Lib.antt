@@ -1,2 +1,3 @@
 pub mod Unkeyed
+pub mod Plain
 pub mod Built

@@ -5,11 +5,13 @@ use Rattle.std.specs.List.{AllByRecursion, IsDistinct, find}
 use Rattle.std.specs.Option.{is_some, option_map}
 use Rattle.std.specs.Map.{keys_of}
 use Rattle.library_model.specs.Named.{Named, named, same_name}
-use Rattle.library_steps.specs.State.{FileState, MemberStatus}
+use Rattle.logical_model.specs.Bases.{FileSpec, PhysicalFile, LogicalFile}
+use Rattle.library_steps.specs.State.{Memory, FileState, MemberStatus}
 use Rattle.library_steps.specs.CreatePhysicalFile.{NewFile, new_file}
 use Rattle.library_steps.specs.SlotChange.{status_among}
-use Rattle.library_steps.specs.UniqueKeys.{has_member, own_unique}
+use Rattle.library_steps.specs.UniqueKeys.{UniquePath, has_member, uniques_by}
 use Rattle.file_catalogue.specs.Owners.{has_number, numbers_of, owner, Owns, AreApart}
+use Rattle.file_catalogue.specs.Physical.{IsPhysical, AllArePhysical}
 use Rattle.file_catalogue.proofs.NameLemmas.{same_name-self, some-equal}
 use Rattle.file_catalogue.proofs.OwnerLemmas.{owns-behind, owns-first, Unowned, unowned-status, IsOnly, owner-owns}
 use Rattle.file_catalogue.proofs.ChangeLemmas.{behind-first}
@@ -31,50 +33,55 @@ has_member-number number members =
       | Some e ↦ refl
     ]
 
-lacks-unique : (number : ℕ) (entry : List ℕ × FileState) → has_number number entry.1.members ≡ false → own_unique number entry ≡ []
-lacks-unique number entry lacks = rw (has_member-number number entry.1.members ∙ lacks, and-false entry.1.spec.keys.unique) refl
+-- the unique paths of a file that are over a member
+abbrev pub uniques_in : Memory → ℕ → List ℕ × FileState → List UniquePath
+uniques_in m number entry = uniques_by entry.1.spec m number entry
 
--- a member that nobody owns has no unique path
-pub unique-none : (number : ℕ) (files : Named FileState) → owner number files ≡ None → flat_map (own_unique number) files ≡ []
-unique-none number [] none = refl
-unique-none number (entry ∷ files) none =
+lacks-unique : (m : Memory) (number : ℕ) (spec : FileSpec) (entry : List ℕ × FileState) → IsPhysical spec → has_number number entry.1.members ≡ false → uniques_by spec m number entry ≡ []
+lacks-unique m number (PhysicalFile spec) entry is lacks = rw (has_member-number number entry.1.members ∙ lacks, and-false spec.keys.unique) refl
+lacks-unique m number (LogicalFile spec) entry is lacks = absurd is
+
+-- among physical files a member that nobody owns has no unique path
+pub unique-none : (m : Memory) (number : ℕ) (files : Named FileState) → AllArePhysical files → owner number files ≡ None → flat_map (uniques_in m number) files ≡ []
+unique-none m number [] all none = refl
+unique-none m number (entry ∷ files) all none =
     elim (has_number number entry.1.members) as (λ b. has_number number entry.1.members ≡ b → cond b (Some entry.0) (owner number files) ≡ None
-    → own_unique number entry ++ flat_map (own_unique number) files ≡ []) [
+    → uniques_in m number entry ++ flat_map (uniques_in m number) files ≡ []) [
       | true ↦ λ has e. absurd cc
-      | false ↦ λ lacks e. rw (lacks-unique number entry lacks) (unique-none number files e)
+      | false ↦ λ lacks e. rw (lacks-unique m number entry.1.spec entry all.0 lacks) (unique-none m number files all.1 e)
     ] refl none
 
-unique-only : (number : ℕ) (name : List ℕ) (file : FileState) (files : Named FileState) → IsDistinct same_name (keys_of files) → Owns files name file number → IsOnly files number name
-    → flat_map (own_unique number) files ≡ own_unique number (name, file)
+unique-only : (m : Memory) (number : ℕ) (name : List ℕ) (file : FileState) (files : Named FileState) → AllArePhysical files → IsDistinct same_name (keys_of files) → Owns files name file number → IsOnly files number name
+    → flat_map (uniques_in m number) files ≡ uniques_in m number (name, file)
 unfolding IsDistinct
-unique-only number name file [] distinct owns only = let e : None ≡ Some file = owns.there in absurd cc
-unique-only number name file (entry ∷ files) distinct owns only =
-    elim (has_number number entry.1.members) as (λ b. has_number number entry.1.members ≡ b → own_unique number entry ++ flat_map (own_unique number) files ≡ own_unique number (name, file)) [
+unique-only m number name file [] all distinct owns only = let e : None ≡ Some file = owns.there in absurd cc
+unique-only m number name file (entry ∷ files) all distinct owns only =
+    elim (has_number number entry.1.members) as (λ b. has_number number entry.1.members ≡ b → uniques_in m number entry ++ flat_map (uniques_in m number) files ≡ uniques_in m number (name, file)) [
       | true ↦ λ has. here has
-      | false ↦ λ lacks. behind lacks (λ f. unique-only number name file files distinct.1 (record { there = f; has = owns.has }) (λ other another o. only other another (owns-behind distinct.0 o)))
+      | false ↦ λ lacks. behind lacks (λ f. unique-only m number name file files all.1 distinct.1 (record { there = f; has = owns.has }) (λ other another o. only other another (owns-behind distinct.0 o)))
     ] refl
   where
-    here : has_number number entry.1.members ≡ true → own_unique number entry ++ flat_map (own_unique number) files ≡ own_unique number (name, file)
+    here : has_number number entry.1.members ≡ true → uniques_in m number entry ++ flat_map (uniques_in m number) files ≡ uniques_in m number (name, file)
     here has =
         let same : name ≡ entry.0 = only entry.0 entry.1 (owns-first entry files number has) in
         let found : Some entry.1 ≡ Some file = sym (rw (same_name-self entry.0) refl) ∙ ap (λ n. named n (entry ∷ files)) (sym same) ∙ owns.there in
         let none : Unowned files number = behind-first number entry files distinct.0 (subst (λ (n : List ℕ). IsOnly (entry ∷ files) number n) same only) in
-        rw (unique-none number files (unowned-status number files distinct.1 none).1)
-        (append-nil (own_unique number entry) ∙ (λ i. own_unique number (sym same i, some-equal found i)))
+        rw (unique-none m number files all.1 (unowned-status number files distinct.1 none).1)
+        (append-nil (uniques_in m number entry) ∙ (λ i. uniques_in m number (sym same i, some-equal found i)))
 
-    behind : has_number number entry.1.members ≡ false → (named name files ≡ Some file → flat_map (own_unique number) files ≡ own_unique number (name, file))
-        → own_unique number entry ++ flat_map (own_unique number) files ≡ own_unique number (name, file)
+    behind : has_number number entry.1.members ≡ false → (named name files ≡ Some file → flat_map (uniques_in m number) files ≡ uniques_in m number (name, file))
+        → uniques_in m number entry ++ flat_map (uniques_in m number) files ≡ uniques_in m number (name, file)
     behind lacks rest =
-        rw (lacks-unique number entry lacks)
-        (elim (same_name name entry.0) as (λ b. cond b (Some entry.1) (named name files) ≡ Some file → flat_map (own_unique number) files ≡ own_unique number (name, file)) [
+        rw (lacks-unique m number entry.1.spec entry all.0 lacks)
+        (elim (same_name name entry.0) as (λ b. cond b (Some entry.1) (named name files) ≡ Some file → flat_map (uniques_in m number) files ≡ uniques_in m number (name, file)) [
           | true ↦ λ f. let g : has_number number entry.1.members ≡ true = subst (λ (x : FileState). has_number number x.members ≡ true) (some-equal (sym f)) owns.has in absurd cc
           | false ↦ rest
         ] owns.there)
 
--- the unique paths of a member are its file's
-pub unique-owner : (number : ℕ) (name : List ℕ) (file : FileState) (files : Named FileState) → IsDistinct same_name (keys_of files) → AreApart files
-    → owner number files ≡ Some name → named name files ≡ Some file → flat_map (own_unique number) files ≡ own_unique number (name, file)
-unique-owner number name file files distinct apart at there =
+-- where all files are physical, the unique paths of a member are its file's
+pub unique-owner : (m : Memory) (number : ℕ) (name : List ℕ) (file : FileState) (files : Named FileState) → AllArePhysical files → IsDistinct same_name (keys_of files) → AreApart files
+    → owner number files ≡ Some name → named name files ≡ Some file → flat_map (uniques_in m number) files ≡ uniques_in m number (name, file)
+unique-owner m number name file files all distinct apart at there =
     let it = owner-owns number name files distinct at in
     let owns : Owns files name file number = record { there = there; has = ap (λ (x : FileState). has_number number x.members) (some-equal (sym there ∙ it.1.there)) ∙ it.1.has } in
-    unique-only number name file files distinct owns (λ other another o. apart.apart name other file another number owns o)
+    unique-only m number name file files all distinct owns (λ other another o. apart.apart name other file another number owns o)

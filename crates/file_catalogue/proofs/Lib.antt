@@ -3,4 +3,5 @@ pub mod MapLemmas
 pub mod StatusLemmas
 pub mod OwnerLemmas
 pub mod ChangeLemmas
+pub mod PhysicalLemmas
 pub mod CallerLemmas

@@ -2,3 +2,4 @@ pub mod Statuses
 pub mod Described
 pub mod Parts
 pub mod Owners
+pub mod Physical

@@ -1,0 +1,12 @@
+-- Files of which each is a physical one: a catalogue keeps no others yet. (DDS for Physical and Logical Files.)
+use Rattle.std.specs.List.{AllByRecursion}
+use Rattle.logical_model.specs.Bases.{FileSpec, PhysicalFile, LogicalFile}
+use Rattle.library_model.specs.Named.{Named}
+use Rattle.library_steps.specs.State.{FileState}
+
+abbrev pub IsPhysical : FileSpec → Type 0
+IsPhysical (PhysicalFile spec) = Unit {0}
+IsPhysical (LogicalFile spec) = ⊥
+
+abbrev pub AllArePhysical : Named FileState → Type 0
+AllArePhysical files = AllByRecursion (λ entry. IsPhysical entry.1.spec) files
