@@ -76,6 +76,7 @@ pub(crate) fn image_over(
     ensures long { IfOk result (λ image. length image ≡ record_length (fields_of file.now)) }
     ensures held { IfOk result (λ image. is_some (record_held (fields_of file.now) image) ≡ true) }
 {
-    let _number = opened.number();
+    // A file without a key has one format, whichever the open read last.
+    let _ = opened;
     changed_image(contents.alloc(), file.format(), given, old)
 }
