@@ -6,13 +6,14 @@ ghost use Rattle.std.specs.Map.Iter.{ShowsInOrder, deref_pair};
 ghost use Rattle.std.specs.Option.{option_map, option_and_then};
 ghost use Rattle.library_model.specs.Named.{named, same_name};
 ghost use Rattle.library_steps.specs.declared.limits.TheConstants.{MOST_MEMBERS};
-ghost use Rattle.library_steps.specs.State.{FileState, status_changed};
+ghost use Rattle.library_steps.specs.State.{FileState, physical_in, status_changed};
 ghost use Rattle.library_steps.specs.DeleteFile.{first_dependent, without_file};
 ghost use Rattle.library_steps.specs.MemberCommands.{file_changed, with_member_name, renumbered};
 ghost use Rattle.library_steps.specs.Journaling.{journaled_from, no_longer_journaled};
 ghost use Rattle.library_steps.specs.SlotChange.{status_among, touched};
 ghost use Rattle.file_catalogue.specs.Statuses.{after};
 ghost use Rattle.file_catalogue.specs.Owners.{AreApart, numbers_of, owner, status_of};
+ghost use Rattle.file_catalogue.specs.Physical.{AllArePhysical};
 
 use crate::changes::StatusChange;
 use crate::files::File;
@@ -40,12 +41,13 @@ impl Model for Catalogue {
     ghost use Rattle.indexmap.specs.IndexMap.{get, spare};
     ghost use Rattle.file_catalogue.specs.Parts.{Files};
     ghost use Rattle.file_catalogue.specs.Owners.{IsOwned};
+    ghost use Rattle.file_catalogue.specs.Physical.{AllArePhysical};
 
     ghost Value = { Files };
 
     ghost view = { λ c. record { files = c.files.entries; room = spare c.files; member_room = spare c.owners } };
 
-    ghost invariant = { λ c. IsOwned c.files.entries (get nat_eq c.owners) };
+    ghost invariant = { λ c. IsOwned c.files.entries (get nat_eq c.owners) × AllArePhysical c.files.entries };
 }
 
 impl Catalogue {
@@ -59,11 +61,12 @@ impl Catalogue {
         }
     }
 
-    /// How many files there are. No two of them have one name, and no two members one number.
+    /// How many files there are. No two of them have one name, no two members one number, and all are physical files.
     pub fn len(&self) -> usize
         ensures value { result ≡ length self.now.files }
         ensures unique { IsDistinct same_name (keys_of self.now.files) }
         ensures apart { AreApart self.now.files }
+        ensures physical { AllArePhysical self.now.files }
     {
         self.files.len()
     }
@@ -168,6 +171,8 @@ impl Catalogue {
         requires member_room { length file.members ≤ self.old.member_room }
         ensures { self.new.files ≡ self.old.files ++ (name, file) ∷ [] }
     {
+        // It is a physical file.
+        let _format = file.format();
         add_owned(&mut self.owners, name, file.members());
         let _replaced = self.files.insert(name, file).unwrap();
     }
@@ -241,7 +246,7 @@ impl Catalogue {
 }
 
 impl Refs for Catalogue {
-    ghost formats = { λ c name. option_map (λ file. file.spec.format) (named name c.files) };
+    ghost formats = { λ c name. option_map (λ spec. spec.format) (option_and_then (λ file. physical_in file.spec) (named name c.files)) };
 
     fn format_of(&self, file: &Name) -> Option<&Format> {
         match self.named(file) {

@@ -1,13 +1,15 @@
 //! A physical file: its data description, and its members.
-ghost use Rattle.std.specs.Prelude.{◌≡◌, ◌<◌, length, IfOk};
+ghost use Rattle.std.specs.Prelude.{◌≡◌, ◌<◌, Some, length, IfOk};
+ghost use Rattle.std.specs.Option.{option_map};
 ghost use Rattle.record_fmt.specs.Layout.{IsLaidOut};
 ghost use Rattle.library_model.specs.Named.{named};
 ghost use Rattle.library_steps.specs.declared.limits.TheConstants.{MOST_MEMBERS};
-ghost use Rattle.library_steps.specs.State.{fields_of, status_changed};
+ghost use Rattle.library_steps.specs.State.{format_in, keys_in, fields_of, physical_in, status_changed};
 ghost use Rattle.library_steps.specs.CreatePhysicalFile.{new_file};
 ghost use Rattle.library_steps.specs.DeleteFile.{file_refers};
 ghost use Rattle.library_steps.specs.MemberCommands.{with_member_name};
 ghost use Rattle.library_steps.specs.SlotChange.{status_in};
+ghost use Rattle.file_catalogue.specs.Physical.{IsPhysical};
 ghost use Rattle.file_catalogue.specs.Statuses.{after};
 
 use crate::changes::StatusChange;
@@ -58,17 +60,19 @@ impl File {
         self.described.source()
     }
 
-    /// The record format, whose fields lie one behind the other.
+    /// The record format of the file, which is a physical one; its fields lie one behind the other.
     pub fn format(&self) -> &Format
-        ensures format { result.now ≡ self.now.spec.format }
+        ensures format { result.now ≡ format_in self.now.spec }
         ensures laid_out { IsLaidOut (fields_of self.now) }
+        ensures physical { IsPhysical self.now.spec }
+        ensures only { option_map (λ spec. spec.format) (physical_in self.now.spec) ≡ Some result.now }
     {
         self.described.format()
     }
 
     /// The key.
     pub fn keys(&self) -> &KeySpec
-        ensures { result.now ≡ self.now.spec.keys }
+        ensures { result.now ≡ keys_in self.now.spec }
     {
         self.described.keys()
     }

@@ -83,9 +83,10 @@ impl FoundRecord {
         self.rrn
     }
 
-    /// The position on it.
+    /// The position on it, which is of the first format, as there is no other.
     pub(crate) fn place(&self) -> ArrivalPosition
-        ensures { arrival_position result ≡ On self.now }
+        ensures place { arrival_position result ≡ On self.now }
+        ensures format { self.now.format ≡ 0 }
     {
         ArrivalPosition::On(self.rrn)
     }

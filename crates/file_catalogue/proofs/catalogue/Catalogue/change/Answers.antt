@@ -10,6 +10,7 @@ use Rattle.file_catalogue.proofs.NameLemmas.{some-equal}
 use Rattle.file_catalogue.proofs.StatusLemmas.{after-number}
 use Rattle.file_catalogue.proofs.OwnerLemmas.{owner-owns}
 use Rattle.file_catalogue.proofs.ChangeLemmas.{each_changed, each_changed-no_owner, set_value-each_changed, owned-each_changed}
+use Rattle.file_catalogue.proofs.PhysicalLemmas.{physical-each_changed}
 use Rattle.file_catalogue.proofs.catalogue.Catalogue.change.Goals as goal
 
 pub returns-in_default-clause-files : goal.returns-in_default-clause-files
@@ -25,15 +26,18 @@ files : (c : goal.After-self-1) → (c.get_mut.follows.lender c.change.new.self)
 files c =
     let entries = c.self.inside.files.entries in
     let it = owner-owns c.args.number c.in-Some.owner entries c.get_mut.ensures.unique (sym (rw (← c.self.view_is) at c.owner.ensures.value) ∙ c.in-Some.is) in
-    let mine = c.self.invariant.owned c.in-Some.owner it.0 c.args.number it.1 in
+    let mine = c.self.invariant.0.owned c.in-Some.owner it.0 c.args.number it.1 in
     (c.get_mut.follows.holds c.change.new.self).0 ∙ ap (set_value (same_name c.in-Some.owner) entries) c.change.ensures
     ∙ set_value-each_changed c.args.number (after c.args.change) c.in-Some.owner c.unwrap.result.now entries c.get_mut.ensures.unique
     (sym c.get_mut.ensures.value ∙ ap option_copied_mut c.unwrap.ensures)
-    (λ other another o. some-equal (sym mine ∙ c.self.invariant.owned other another c.args.number o))
+    (λ other another o. some-equal (sym mine ∙ c.self.invariant.0.owned other another c.args.number o))
 
 pub invariant_of-self : goal.invariant_of-self
 invariant_of-self c =
-    rw (files c) (owned-each_changed c.args.number (after c.args.change) c.self.inside.files.entries (get nat_eq c.self.inside.owners) (after-number c.args.change) c.self.invariant)
+    rw (files c) (
+      owned-each_changed c.args.number (after c.args.change) c.self.inside.files.entries (get nat_eq c.self.inside.owners) (after-number c.args.change) c.self.invariant.0,
+      physical-each_changed c.args.number (after c.args.change) c.self.inside.files.entries c.self.invariant.1,
+    )
 
 pub returns-clause-files : goal.returns-clause-files
 returns-clause-files c = rw (← c.self.view_is) (files c)
