@@ -1,5 +1,5 @@
 -- What the definition makes of a WRITE through an open of a file without a key, once that may be written.
-use Rattle.std.proofs.Common.{◌≡◌, ℕ, Bool, true, None, Result, Ok, List, ◌∙◌, ap}
+use Rattle.std.proofs.Common.{◌≡◌, ℕ, Bool, true, None, Result, Ok, List, [], ◌∷◌, unwrap_or, slice_get, ◌∙◌, sym, ap}
 use Rattle.field_types.specs.declared.faults.RecordFault.{RecordFault}
 use Rattle.logical_model.specs.Formats.{given_in}
 use Rattle.library_model.specs.declared.requests.WriteRecord.{WriteRecord}
@@ -14,6 +14,12 @@ use Rattle.library_steps.specs.Reads.{at_format}
 use Rattle.built_state.specs.Unkeyed.{IsPlain}
 use Rattle.record_changes.specs.Plans.{opened_with, given_plan}
 use Rattle.built_state.proofs.UnkeyedLemmas.{given_in-plain}
+
+-- an open that is over its one member, by its one format
+pub at_format-only : (opened : OpenState) → opened.members ≡ opened.member ∷ [] → opened.format ≡ 0 → at_format 0 opened ≡ opened
+at_format-only opened only format =
+    ap (λ (members : List ℕ). record opened { format = 0; member = unwrap_or (slice_get members 0) opened.member }) only
+    ∙ ap (λ (n : ℕ). record opened { format = n }) (sym format)
 
 pub write-given : (m : Memory) (job : ℕ) (opened : OpenState) (file : FileState) (args : WriteRecord) (number : ℕ) → IsPlain file.spec → sequences_left m ≡ Ok true
     → opened_file args.open_id job m ≡ Ok (opened_with opened file) → format_asked args.format file.spec ≡ Ok number → refuse_if (is_input opened.option) WrongOpen ≡ Ok true

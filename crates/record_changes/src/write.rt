@@ -60,7 +60,7 @@ fn plan_write(contents: &Contents, job: u32, args: &WriteRecord) -> Result<Plann
     may_deposit(contents)?;
     let OpenFound { opened, file } = contents.opened_file(job, &args.open_id)?;
     let _number = format_asked(file, args.format)?;
-    opened.has_one_format();
+    let _member = opened.only_member();
     may_change(opened)?;
     plan_given(contents, job, opened, file, args)
 }

@@ -1,5 +1,5 @@
 -- What the definitions make of a request through an open of a file without a key, once the open is found.
-use Rattle.std.proofs.Common.{◌≡◌, ℕ, Bool, if◌then◌else◌, Option, Some, None, Result, Ok, Err, List, [], unwrap_or, refl, ◌∙◌, ap}
+use Rattle.std.proofs.Common.{◌≡◌, ℕ, Bool, if◌then◌else◌, Option, Some, None, Result, Ok, Err, List, [], ◌∷◌, unwrap_or, slice_get, refl, sym, ◌∙◌, ap}
 use Rattle.std.specs.Option.{option_map}
 use Rattle.field_types.specs.declared.values.Value.{Value}
 use Rattle.member_slots.specs.Members.{member_of}
@@ -33,6 +33,12 @@ use Rattle.built_state.specs.Unkeyed.{IsPlain, AreUnkeyed}
 use Rattle.record_reads.specs.Plans.{opened_with, plain_change, record_read}
 use Rattle.job_table.specs.Arrival.{entry_numbered}
 use Rattle.built_state.proofs.UnkeyedLemmas.{IsPlain-named, is_keyed-unkeyed, key_asked-unkeyed, number_asked-unkeyed, find_in-plain, join_in-plain, shown_in-plain}
+
+-- an open that is over its one member, by its one format
+pub at_format-only : (opened : OpenState) → opened.members ≡ opened.member ∷ [] → opened.format ≡ 0 → at_format 0 opened ≡ opened
+at_format-only opened only format =
+    ap (λ (members : List ℕ). record opened { format = 0; member = unwrap_or (slice_get members 0) opened.member }) only
+    ∙ ap (λ (n : ℕ). record opened { format = n }) (sym format)
 
 -- without a key only a relative record number bounds a position
 abbrev pub bound_by_number : (Bound → Position PathEntry) → Limit → Result (Position PathEntry) Reply

@@ -111,7 +111,7 @@ fn plan_read(
     ensures lockable { IfOk result (MayLock (memory_of contents.now.state) job) }
 {
     let OpenFound { opened, file } = contents.opened_file(job, &args.open_id)?;
-    opened.has_one_format();
+    let _member = opened.only_member();
     let Some(rrn) = found_from(contents, opened, direction) else {
         return Err(Stop::Refused(direction.nothing_found()));
     };
@@ -139,7 +139,7 @@ fn plan_chain(contents: &Contents, job: u32, args: &ChainRecord) -> Result<Plann
     ensures lockable { IfOk result (MayLock (memory_of contents.now.state) job) }
 {
     let OpenFound { opened, file } = contents.opened_file(job, &args.open_id)?;
-    opened.has_one_format();
+    let _member = opened.only_member();
     match &args.to {
         ChainTo::Key(_) => Err(Stop::Refused(Reply::WrongOpen)),
         ChainTo::RecordNumber(rrn) => {

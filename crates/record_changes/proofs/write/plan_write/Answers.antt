@@ -1,6 +1,6 @@
 use Rattle.library_steps.specs.State.{memory_of}
 use Rattle.built_state.proofs.UnkeyedLemmas.{IsPlain-named}
-use Rattle.record_changes.proofs.WriteLemmas.{write-given}
+use Rattle.record_changes.proofs.WriteLemmas.{at_format-only, write-given}
 use Rattle.record_changes.proofs.write.plan_write.Goals as goal
 
 pub format_asked-requires-clause-plain : goal.format_asked-requires-clause-plain
@@ -11,6 +11,6 @@ returns-clause-plan c =
     let plain = IsPlain-named _ _ _ c.requires.unkeyed c.in_ok-opened.ensures.there.owns.there in
     let planned =
     write-given (memory_of c.args.contents.now.state) c.args.job c.in_ok-opened.field-0.opened.now c.in_ok-opened.field-0.file.now c.args.args.now _ plain c.in_ok-may_deposit.ensures
-    c.in_ok-opened.ensures.found c.in_ok-_number.ensures.asked c.in_ok-may_change.ensures c.in_ok-_number.ensures.first c.has_one_format.ensures
+    c.in_ok-opened.ensures.found c.in_ok-_number.ensures.asked c.in_ok-may_change.ensures c.in_ok-_number.ensures.first (at_format-only _ c.only_member-member.ensures.only c.only_member-member.ensures.format)
     in
     rw planned c.plan_given.ensures.plan
