@@ -11,7 +11,8 @@ pub returns-clause-few : goal.returns-clause-few
 returns-clause-few c =
     let memory = memory_of c.args.contents.now.state in
     let opened = c.args.opened.now in
-    rw c.of.ensures (subst (λ (slot : Slot). few_changes opened.commit slot (Live c.in_ok-image.image) memory ≡ Ok true) (sym c.in_ok-rrn.ensures.empty) (rw c.commit.ensures at c.in_ok-few_changes.ensures))
+    rw c.of.ensures
+    (subst (λ (slot : Slot). few_changes opened.commit slot (Live c.in_ok-image.image) memory ≡ Ok true) (sym c.in_ok-rrn.ensures.empty) (rw c.commit.ensures at c.in_ok-few_changes.ensures))
 
 pub returns-clause-locks : goal.returns-clause-locks
 returns-clause-locks c = rw c.of.ensures (record { unlocked = c.in_ok-rrn.ensures.unlocked; few = few-of MOST_LOCKS _ _ (rw c.write_call.ensures.call at c.in_ok-few_locks_to_write.ensures) })
