@@ -13,6 +13,8 @@ use Rattle.journal_model.specs.Rollback.{MemberChange}
 use Rattle.library_model.specs.Named.{Named}
 use Rattle.library_model.specs.declared.replies.Reply.TheVariants as replies
 use Rattle.library_model.specs.declared.replies.LimitKind.TheVariants.{LibraryBytes, BlockBytes}
+use Rattle.library_model.specs.declared.replies.Missing.TheVariants.{Name}
+use Rattle.library_model.specs.declared.requests.CreateLogicalFile.{CreateLogicalFile}
 use Rattle.library_model.specs.declared.requests.CreatePhysicalFile.{CreatePhysicalFile}
 use Rattle.library_model.specs.declared.requests.DeleteFile.{DeleteFile}
 use Rattle.library_model.specs.declared.requests.DeleteReceiver.{DeleteReceiver}
@@ -26,8 +28,9 @@ use Rattle.library_steps.specs.declared.limits.TheConstants.{MOST_LIBRARY_BYTES,
 use Rattle.library_steps.specs.State.{State, Memory, FileState, MemberStatus, CycleState, JobState, memory_of, file_named}
 use Rattle.library_steps.specs.Change.{Change, deposited}
 use Rattle.library_steps.specs.Checkpoint.{save}
+use Rattle.library_steps.specs.CreateLogicalFile.{create_logical_change, create_logical_file, create_logical_plan}
 use Rattle.library_steps.specs.CreatePhysicalFile.{create_change, create_physical_file, create_plan}
-use Rattle.library_steps.specs.DeleteFile.{delete_change, delete_file, delete_plan, first_dependent, without_members}
+use Rattle.library_steps.specs.DeleteFile.{delete_change, delete_file, delete_plan, first_dependent, user_by, without_members}
 use Rattle.library_steps.specs.Drafts.{author_of}
 use Rattle.library_steps.specs.EntrySizes.{entry_bytes}
 use Rattle.library_steps.specs.Journaling.{end_journaling, start_journaling}
@@ -43,8 +46,9 @@ use Rattle.library_parts.proofs.BackLemmas.{neither, unused-unchanged}
 use Rattle.library_parts.proofs.FileLemmas.{number-below}
 use Rattle.library_parts.proofs.MemberLemmas.{item_at-put_item_other, item_at-without_item_other}
 use Rattle.joint_state.specs.Sound.{IsSound}
+use Rattle.joint_state.proofs.OpenLemmas.{unused-members}
 use Rattle.cycles_kept.proofs.CycleLemmas.{HaveCycles, elsewhere, untouched}
-use Rattle.cycles_kept.proofs.HoldLemmas.{Holds, bind-holds, does-holds, effect-holds, then-holds, wider-holds, with-none}
+use Rattle.cycles_kept.proofs.HoldLemmas.{Holds, bind-holds, does-holds, effect-holds, found-there, then-holds, wider-holds, with-none}
 use Rattle.cycles_kept.proofs.PlaceLemmas.{record_at, record-with_other}
 use Rattle.cycles_kept.proofs.StandLemmas.{Alike}
 
@@ -161,14 +165,20 @@ module _ (s : State) (job timestamp : ℕ) (args : FileMember) where
 
 -- ---- DLTF
 
-delete-unused : (m : Memory) (args : DeleteFile) → Holds (delete_plan m args) (λ file. user_of_any file.members m ≡ None)
+pub record Deletes (m : Memory) (args : DeleteFile) (file : FileState) : Type 0 where
+  pub there : file_named args.file m ≡ Some file
+  pub free : user_of_any file.members m ≡ None
+
+pub deletes : (s : State) (args : DeleteFile) → IsSound s → Holds (delete_plan (memory_of s) args) (Deletes (memory_of s) args)
 unfolding delete_plan
-delete-unused m args =
-    then-holds (sequences_left m) _ _ (λ few.
-    then-holds (named_or_refused args.file (file_named args.file m)) _ _ (λ file.
-    then-holds (refuse_with replies.Dependents (first_dependent args.file m.files)) _ _ (λ alone.
-    bind-holds (unused (user_of_any file.members m)) (λ free. user_of_any file.members m ≡ None) _ _ (with-none replies.InUse (user_of_any file.members m)) (λ free none.
-    record { holds = none }))))
+deletes s args sound =
+    then-holds (sequences_left (memory_of s)) _ _ (λ few.
+    bind-holds (named_or_refused args.file (file_named args.file (memory_of s))) (λ file. file_named args.file (memory_of s) ≡ Some file) _ _
+    (found-there (file_named args.file (memory_of s)) (replies.NoSuchName (Name args.file))) (λ file there.
+    then-holds (refuse_with replies.Dependents (first_dependent args.file s.files)) _ _ (λ alone.
+    bind-holds (unused (user_by file.spec args.file file (memory_of s))) (λ free. user_by file.spec args.file file (memory_of s) ≡ None) _ _
+    (with-none replies.InUse (user_by file.spec args.file file (memory_of s))) (λ free none.
+    record { holds = record { there = there; free = unused-members s args.file file sound.library there none } }))))
 
 without-alike : (members : Named MemberStatus) (all : NumberedMembers) (member place : ℕ) → AllByRecursion (λ entry. member ≢ entry.1.number) members
     → record_at member place (without_members members all) ≡ record_at member place all
@@ -201,10 +211,10 @@ all-without members all [] differ = tt
 all-without members all (undo ∷ undos) differ =
     (without-alike members all undo.member undo.change.place (first-differs members undo undos differ), all-without members all undos (others-differ members undo undos differ))
 
-pub delete_file-cycles : (s : State) (job timestamp : ℕ) (args : DeleteFile) → Holds (delete_file (memory_of s) job timestamp args) (HaveCycles s)
-delete_file-cycles s job timestamp args =
+pub delete_file-cycles : (s : State) (job timestamp : ℕ) (args : DeleteFile) → IsSound s → Holds (delete_file (memory_of s) job timestamp args) (HaveCycles s)
+delete_file-cycles s job timestamp args sound =
     does-holds (delete_change (memory_of s) job timestamp args) (delete_plan (memory_of s) args) (HaveCycles s)
-    (wider-holds (delete_plan (memory_of s) args) (λ (file : FileState). user_of_any file.members (memory_of s) ≡ None) _ (λ file none. with-file file none) (delete-unused (memory_of s) args))
+    (wider-holds (delete_plan (memory_of s) args) (Deletes (memory_of s) args) _ (λ file its. with-file file its.free) (deletes s args sound))
   where
     with-file : (file : FileState) → user_of_any file.members (memory_of s) ≡ None → HaveCycles s (delete_change (memory_of s) job timestamp args file)
     with-file file none =
@@ -265,6 +275,12 @@ module _ (s : State) (job timestamp : ℕ) (args : JournaledChanges) where
       (remove-unused s.entries (memory_of s) job timestamp args))
 
 -- ---- no member at all
+
+pub create_logical-cycles : (s : State) (sources : List NamedSource) (job timestamp : ℕ) (args : CreateLogicalFile)
+    → Holds (create_logical_file sources (memory_of s) job timestamp args) (HaveCycles s)
+create_logical-cycles s sources job timestamp args =
+    effect-holds (create_logical_change (memory_of s) job timestamp args) (create_logical_plan sources (memory_of s) args) (HaveCycles s)
+    (λ new. untouched s (create_logical_change (memory_of s) job timestamp args new) refl refl refl)
 
 pub start_journaling-cycles : (s : State) (job timestamp : ℕ) (args : StartJournaling) → Holds (start_journaling (memory_of s) job timestamp args) (HaveCycles s)
 start_journaling-cycles s job timestamp args = effect-holds _ _ (HaveCycles s) (λ status. untouched s _ refl refl refl)

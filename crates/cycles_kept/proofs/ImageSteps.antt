@@ -4,6 +4,13 @@ use Rattle.std.specs.List.{AllByRecursion, list_any}
 use Rattle.std.specs.Option.{is_none, option_and_then}
 use Rattle.std.proofs.lemmas.Bool.Decides.{nat_tests}
 use Rattle.journal_model.specs.Rollback.{MemberChange}
+use Rattle.lock_table.specs.declared.levels.Call.{Call}
+use Rattle.dds_logical.specs.declared.join_views.JoinView.{JoinView}
+use Rattle.file_model.specs.Joins.{RowPlace}
+use Rattle.file_model.specs.Paths.{PathEntry}
+use Rattle.file_model.specs.Positions.{Position}
+use Rattle.logical_model.specs.Bases.{FileSpec, PhysicalFile, LogicalFile, base_members}
+use Rattle.logical_model.specs.Readings.{join_in}
 use Rattle.file_catalogue.specs.Owners.{has_number}
 use Rattle.file_catalogue.proofs.StatusLemmas.{has_number-cons}
 use Rattle.library_model.specs.Named.{Named, named, same_name}
@@ -21,32 +28,37 @@ use Rattle.library_steps.specs.State.{State, Memory, FileState, MemberStatus, Op
 use Rattle.library_steps.specs.Change.{Change}
 use Rattle.library_steps.specs.ChangeRecord.{delete_change, delete_plan, is_current, unlock_change, unlock_plan, update_change, update_plan, without_current, without_record}
 use Rattle.library_steps.specs.Commitment.{at_boundary, changes_of, committed_open, rolled_back_open, with_level, without_cycle}
-use Rattle.library_steps.specs.DeleteFile.{delete_change as file_deleted, delete_file, delete_plan as delete_file_plan, first_dependent}
+use Rattle.library_steps.specs.DeleteFile.{delete_change as file_deleted, delete_file, delete_plan as delete_file_plan}
 use Rattle.library_steps.specs.EndJob.{ended_job}
 use Rattle.library_steps.specs.Journaling.{end_change, end_journaling, end_plan, journaled_from}
 use Rattle.library_steps.specs.MemberCommands.{renumbered, with_member_name}
-use Rattle.library_steps.specs.Opens.{may_commit, open_file, open_plan, with_open, without_open}
-use Rattle.library_steps.specs.Reads.{has_read, open_changed, position_change, positioned, read_change}
-use Rattle.library_steps.specs.Refusals.{FoundMember, found, member_of_file, named_or_refused, refuse_if, refuse_with, sequences_left}
-use Rattle.library_steps.specs.SlotChange.{NewSlot, change_made, cycle_for, status_in, touched}
+use Rattle.library_steps.specs.LogicalFiles.{bases_of}
+use Rattle.library_steps.specs.Opens.{first_unjournaled, may_commit, may_commit_all, may_not, members_by, open_file, open_plan, with_open, without_open}
+use Rattle.library_steps.specs.Reads.{Found, FoundEntry, NewPosition, at_format, has_read, open_changed, position_change, positioned, read_change, stands_on}
+use Rattle.library_steps.specs.Refusals.{found, member_of_file, named_or_refused, refuse_if, refuse_with, sequences_left}
+use Rattle.library_steps.specs.SlotChange.{NewSlot, change_made, cycle_for, images_of, status_in, touched}
 use Rattle.library_steps.specs.Step.{change}
-use Rattle.library_steps.specs.Uses.{has_changed, has_open_over, unused, user_of, user_of_any, uses}
+use Rattle.library_steps.specs.Uses.{has_changed, has_open_over, unused, user_of, uses}
 use Rattle.library_steps.specs.Uses.{has_boundary_lock}
 use Rattle.library_steps.specs.WriteRecord.{write_call, write_change, write_plan}
-use Rattle.library_parts.specs.Lawful.{OpenHolds, OpensHold, OpensMember}
+use Rattle.library_parts.specs.Lawful.{OpenHolds}
 use Rattle.library_parts.proofs.BackLemmas.{neither}
-use Rattle.library_parts.proofs.FileLemmas.{Owns-below}
+use Rattle.library_parts.proofs.FindLemmas.{IsMember}
 use Rattle.joint_state.specs.Sound.{IsSound}
+use Rattle.joint_state.proofs.OpenLemmas.{member-below, open-stands, opens-at}
 use Rattle.cycles_kept.proofs.BoundarySteps.{taken_back-files, taken_back-jobs}
-use Rattle.cycles_kept.proofs.FileSteps.{first_job-none}
+use Rattle.cycles_kept.proofs.FileSteps.{Deletes, deletes, first_job-none}
 use Rattle.cycles_kept.proofs.HoldLemmas.{Holds, bind-holds, does-holds, effect-holds, found-there, if-not, then-holds, wider-holds, with-none}
 use Rattle.cycles_kept.proofs.ImageLemmas.{images_in, among-map, among-without, images-changed, images-more, images-named, status_in-push}
 use Rattle.cycles_kept.proofs.JobLemmas.{was_there}
 use Rattle.cycles_kept.proofs.PutLemmas.{put_cycle, jobs-noted, jobs-put}
 use Rattle.cycles_kept.proofs.RecordSteps.{files-put}
 
+abbrev pub AllHaveImages : Named FileState → List ℕ → Type 0
+AllHaveImages files members = AllByRecursion (λ member. IsSome (images_in member files)) members
+
 abbrev IsJournaledBy : Named FileState → OpenState → Type 0
-IsJournaledBy files opened = opened.commit ≡ true → IsSome (images_in opened.member files)
+IsJournaledBy files opened = opened.commit ≡ true → AllHaveImages files opened.members
 
 -- those of a job's opens
 abbrev pub AreJournaledBy : Named FileState → Named OpenState → Type 0
@@ -57,6 +69,18 @@ WereJournaled s = (place : ℕ) (old : JobState) → slice_get s.jobs place ≡ 
 
 pub record StayJournaled (s : State) (c : Change) : Type 0 where
   pub stay : (place : ℕ) (new : JobState) → slice_get c.memory.jobs place ≡ Some new → AreJournaledBy c.memory.files new.opens
+
+-- ---- members of an open
+
+-- what holds of each of them, from two others
+each-member : (P Q R : ℕ → Type 0) (members : List ℕ) → ((member : ℕ) → P member → Q member → R member) → AllByRecursion P members → AllByRecursion Q members → AllByRecursion R members
+each-member P Q R [] each first second = tt
+each-member P Q R (member ∷ members) each first second = (each member first.0 second.0, each-member P Q R members each first.1 second.1)
+
+images-all : (files later : Named FileState) (members : List ℕ) → ((number : ℕ) → IsSome (images_in number files) → IsSome (images_in number later)) → AllHaveImages files members
+    → AllHaveImages later members
+images-all files later members each all =
+    each-member (λ member. IsSome (images_in member files)) (λ member. IsSome (images_in member files)) (λ member. IsSome (images_in member later)) members (λ member h other. each member h) all all
 
 -- ---- opens changed
 
@@ -103,7 +127,9 @@ one-at : (s : State) (c : Change) (place : ℕ) (f : JobState → JobState) → 
     → AreJournaledBy c.memory.files new.opens
 one-at s c place f were jobs images each at new here =
     let was = was_there place f s.jobs at new (subst (λ (js : List JobState). slice_get js at ≡ Some new) jobs here) in
-    by was.old (opens-each (IsJournaledBy s.files) (IsJournaledBy c.memory.files) was.old.opens (λ opened holds commit. images opened.member (holds commit)) (were at was.old was.there)) was.which
+    by was.old
+    (opens-each (IsJournaledBy s.files) (IsJournaledBy c.memory.files) was.old.opens (λ opened holds commit. images-all s.files c.memory.files opened.members images (holds commit))
+    (were at was.old was.there)) was.which
   where
     by : (old : JobState) → AreJournaledBy c.memory.files old.opens → ((at ≡ place) × (new ≡ f old)) ⊎ ((at ≢ place) × (new ≡ old)) → AreJournaledBy c.memory.files new.opens
     by old all (inl its) = subst (λ (j : JobState). AreJournaledBy c.memory.files j.opens) (sym its.1) (each old all)
@@ -128,7 +154,8 @@ no-job s c jobs each = record { stay = λ at new here. each at new (subst (λ (j
 images-stay : (s : State) (c : Change) → WereJournaled s → c.memory.jobs ≡ s.jobs → ImagesStay s c → StayJournaled s c
 images-stay s c were jobs images =
     no-job s c jobs
-    (λ place old there. opens-each (IsJournaledBy s.files) (IsJournaledBy c.memory.files) old.opens (λ opened holds commit. images opened.member (holds commit)) (were place old there))
+    (λ place old there. opens-each (IsJournaledBy s.files) (IsJournaledBy c.memory.files) old.opens
+    (λ opened holds commit. images-all s.files c.memory.files opened.members images (holds commit)) (were place old there))
 
 -- the status of one member changed, and some images left
 status-stays : (s : State) (c : Change) (number : ℕ) (change : MemberStatus → MemberStatus) → WereJournaled s → c.memory.jobs ≡ s.jobs
@@ -148,17 +175,6 @@ renumbered-images sequence status some =
 
 -- ---- OPNDBF
 
-record FindsMember (file_name member_name : List ℕ) (m : Memory) (it : FoundMember) : Type 0 where
-  file : file_named file_name m ≡ Some it.file
-  member : named member_name it.file.members ≡ Some it.status
-
-member_of_file-finds : (file_name member_name : List ℕ) (m : Memory) → Holds (member_of_file file_name member_name m) (FindsMember file_name member_name m)
-member_of_file-finds file_name member_name m =
-    bind-holds (named_or_refused file_name (file_named file_name m)) (λ file. file_named file_name m ≡ Some file) _ _
-    (found-there (file_named file_name m) (replies.NoSuchName (Name file_name))) (λ file there.
-    bind-holds (named_or_refused member_name (named member_name file.members)) (λ status. named member_name file.members ≡ Some status) _ _
-    (found-there (named member_name file.members) (replies.NoSuchName (Name member_name))) (λ status is. record { holds = record { file = there; member = is } }))
-
 some-left : {A : Type 0} (o : Option A) → is_none o ≡ false → IsSome o
 some-left None lacks = absurd cc
 some-left (Some a) lacks = search rules
@@ -170,21 +186,52 @@ commits-journaled true status job =
     wider-holds (refuse_if (is_none status.images) (replies.NotJournaled status.number)) (λ ok. is_none status.images ≡ false) _ (λ ok some e. some-left status.images some)
     (if-not (is_none status.images) (replies.NotJournaled status.number)))
 
-opens-journaled : (s : State) (job : ℕ) (args : OpenFile) → IsSound s → Holds (open_plan (memory_of s) job args) (λ status. args.commit ≡ true → IsSome (images_in status.number s.files))
+none-unjournaled : (members : List ℕ) (m : Memory) → first_unjournaled members m ≡ None → AllHaveImages m.files members
+none-unjournaled [] m none = tt
+none-unjournaled (member ∷ members) m none =
+    elim (is_none (images_of member m)) as (λ b. is_none (images_of member m) ≡ b → cond b (Some member) (first_unjournaled members m) ≡ None → AllHaveImages m.files (member ∷ members)) [
+      | true ↦ λ lacks h. absurd cc
+      | false ↦ λ has h. (some-left (images_of member m) has, none-unjournaled members m h)
+    ] refl none
+
+all-journaled : (commit : Bool) (members : List ℕ) (job : JobState) (m : Memory) → Holds (may_commit_all commit members job m) (λ ok. commit ≡ true → AllHaveImages m.files members)
+all-journaled false members job m = record { holds = λ e. absurd cc }
+all-journaled true members job m =
+    then-holds (found job.level replies.NoDefinition) _ _ (λ level.
+    wider-holds (refuse_with replies.NotJournaled (first_unjournaled members m)) (λ ok. first_unjournaled members m ≡ None) _ (λ ok none e. none-unjournaled members m none)
+    (with-none replies.NotJournaled (first_unjournaled members m)))
+
+-- by what the file is
+members-journaled : (s : State) (job : ℕ) (args : OpenFile) (file : FileState) (spec : FileSpec) → IsSound s → file_named args.file (memory_of s) ≡ Some file
+    → Holds (members_by spec (memory_of s) job args file) (λ members. args.commit ≡ true → AllHaveImages s.files members)
+members-journaled s job args file (PhysicalFile spec) sound there =
+    bind-holds (named_or_refused args.member (named args.member file.members)) (λ status. named args.member file.members ≡ Some status) _ _
+    (found-there (named args.member file.members) (replies.NoSuchName (Name args.member))) (λ status is.
+    bind-holds (may_commit args.commit status (job_of job (memory_of s))) (λ ok. args.commit ≡ true → IsSome status.images) _ _
+    (commits-journaled args.commit status (job_of job (memory_of s))) (λ ok images.
+    record { holds = λ commit. (subst IsSome (sym (images-named args.file args.member file status s.files sound.names sound.apart there is)) (images commit), tt) }))
+members-journaled s job args file (LogicalFile spec) sound there =
+    let members : List ℕ = base_members (bases_of (memory_of s)) spec in
+    then-holds (refuse_if (not (same_name args.member args.file)) (replies.NoSuchName (Name args.member))) _ _ (λ named.
+    then-holds (refuse_if (may_not spec args) replies.WrongOpen) _ _ (λ may.
+    bind-holds (may_commit_all args.commit members (job_of job (memory_of s)) (memory_of s)) (λ ok. args.commit ≡ true → AllHaveImages s.files members) _ _
+    (all-journaled args.commit members (job_of job (memory_of s)) (memory_of s)) (λ ok journaled.
+    record { holds = journaled })))
+
+opens-journaled : (s : State) (job : ℕ) (args : OpenFile) → IsSound s → Holds (open_plan (memory_of s) job args) (λ members. args.commit ≡ true → AllHaveImages s.files members)
 unfolding open_plan
 opens-journaled s job args sound =
     then-holds (refuse_if (is_some (open_named args.open_id job (memory_of s))) (replies.NameExists args.open_id)) _ _ (λ absent.
     then-holds (refuse_if (nat_le MOST_OPENS (length (job_of job (memory_of s)).opens)) (replies.LimitReached Opens MOST_OPENS)) _ _ (λ few.
-    bind-holds (member_of_file args.file args.member (memory_of s)) (FindsMember args.file args.member (memory_of s)) _ _ (member_of_file-finds args.file args.member (memory_of s)) (λ it finds.
-    bind-holds (may_commit args.commit it.status (job_of job (memory_of s))) (λ ok. args.commit ≡ true → IsSome it.status.images) _ _
-    (commits-journaled args.commit it.status (job_of job (memory_of s))) (λ ok images.
-    record { holds = λ commit. subst IsSome (sym (images-named args.file args.member it.file it.status s.files sound.names sound.apart finds.file finds.member)) (images commit) }))))
+    bind-holds (named_or_refused args.file (file_named args.file (memory_of s))) (λ file. file_named args.file (memory_of s) ≡ Some file) _ _
+    (found-there (file_named args.file (memory_of s)) (replies.NoSuchName (Name args.file))) (λ file there.
+    members-journaled s job args file file.spec sound there)))
 
 open_file-journaled : (s : State) (job : ℕ) (args : OpenFile) → IsSound s → WereJournaled s → Holds (open_file (memory_of s) job args) (StayJournaled s)
 open_file-journaled s job args sound were =
     does-holds _ (open_plan (memory_of s) job args) (StayJournaled s)
-    (wider-holds (open_plan (memory_of s) job args) (λ (status : MemberStatus). args.commit ≡ true → IsSome (images_in status.number s.files)) _
-    (λ status journaled. one-open s _ (job - 1) (with_open args status.number) were refl refl (λ j all. opens-push (IsJournaledBy s.files) j.opens args.open_id _ all journaled))
+    (wider-holds (open_plan (memory_of s) job args) (λ (members : List ℕ). args.commit ≡ true → AllHaveImages s.files members) _
+    (λ members journaled. one-open s _ (job - 1) (with_open args members) were refl refl (λ j all. opens-push (IsJournaledBy s.files) j.opens args.open_id _ all journaled))
     (opens-journaled s job args sound))
 
 -- ---- members that no job uses
@@ -194,12 +241,23 @@ over-none : (number : ℕ) (locks : _) (n : ℕ) (job : JobState) → uses numbe
 over-none number locks n job free =
     (neither (has_open_over number job) (has_changed number job) (neither (has_open_over number job || has_changed number job) (has_boundary_lock number n locks) free).0).0
 
-differ-all : (number : ℕ) (opens : Named OpenState) → list_any (λ entry. entry.1.member == number) opens ≡ false → AllByRecursion (λ (e : List ℕ × OpenState). e.1.member ≢ number) opens
+-- none of these is the one
+abbrev AreOthers : ℕ → List ℕ → Type 0
+AreOthers number members = AllByRecursion (λ member. member ≢ number) members
+
+others-all : (number : ℕ) (members : List ℕ) → list_any (λ base. base == number) members ≡ false → AreOthers number members
+others-all number [] none = tt
+others-all number (member ∷ members) none =
+    let parts = neither (member == number) (list_any (λ base. base == number) members) none in
+    let test = parts.0 in
+    (grind (arith, nat_tests, test), others-all number members parts.1)
+
+differ-all : (number : ℕ) (opens : Named OpenState) → list_any (λ entry. list_any (λ base. base == number) entry.1.members) opens ≡ false
+    → AllByRecursion (λ (e : List ℕ × OpenState). AreOthers number e.1.members) opens
 differ-all number [] none = tt
 differ-all number (entry ∷ opens) none =
-    let parts = neither (entry.1.member == number) (list_any (λ (e : List ℕ × OpenState). e.1.member == number) opens) none in
-    let test = parts.0 in
-    (grind (arith, nat_tests, test), differ-all number opens parts.1)
+    let parts = neither (list_any (λ base. base == number) entry.1.members) (list_any (λ (e : List ℕ × OpenState). list_any (λ base. base == number) e.1.members) opens) none in
+    (others-all number entry.1.members parts.0, differ-all number opens parts.1)
 
 both-each : (P Q R : OpenState → Type 0) (opens : Named OpenState) → ((opened : OpenState) → P opened → Q opened → R opened) → AllByRecursion (λ (e : List ℕ × OpenState). P e.1) opens
     → AllByRecursion (λ (e : List ℕ × OpenState). Q e.1) opens → AllByRecursion (λ (e : List ℕ × OpenState). R e.1) opens
@@ -224,29 +282,22 @@ end_journaling-journaled s job timestamp args were =
         no-job s (end_change (memory_of s) job timestamp status) refl
         (λ place old there.
         let free = first_job-none (uses status.number s.locks) 1 s.jobs place old none there in
-        both-each (λ opened. opened.member ≢ status.number) (IsJournaledBy s.files) (IsJournaledBy (end_change (memory_of s) job timestamp status).memory.files) old.opens
-        (λ opened differ holds commit. images-changed opened.member status.number _ s.files (λ st. refl) (λ same st h. absurd (differ same)) (holds commit))
+        both-each (λ opened. AreOthers status.number opened.members) (IsJournaledBy s.files) (IsJournaledBy (end_change (memory_of s) job timestamp status).memory.files) old.opens
+        (λ opened differ holds commit. each-member (λ member. member ≢ status.number) (λ member. IsSome (images_in member s.files))
+        (λ member. IsSome (images_in member (end_change (memory_of s) job timestamp status).memory.files)) opened.members
+        (λ member other some. images-changed member status.number _ s.files (λ st. refl) (λ same st h. absurd (other same)) some) differ (holds commit))
         (differ-all status.number old.opens (over-none status.number s.locks free.0 old free.1)) (were place old there))
 
 -- ---- DLTF
 
-record Deletes (m : Memory) (args : DeleteFile) (file : FileState) : Type 0 where
-  there : file_named args.file m ≡ Some file
-  free : user_of_any file.members m ≡ None
-
-deletes : (m : Memory) (args : DeleteFile) → Holds (delete_file_plan m args) (Deletes m args)
-unfolding delete_file_plan
-deletes m args =
-    then-holds (sequences_left m) _ _ (λ few.
-    bind-holds (named_or_refused args.file (file_named args.file m)) (λ file. file_named args.file m ≡ Some file) _ _
-    (found-there (file_named args.file m) (replies.NoSuchName (Name args.file))) (λ file there.
-    then-holds (refuse_with replies.Dependents (first_dependent args.file m.files)) _ _ (λ alone.
-    bind-holds (unused (user_of_any file.members m)) (λ free. user_of_any file.members m ≡ None) _ _ (with-none replies.InUse (user_of_any file.members m)) (λ free none.
-    record { holds = record { there = there; free = none } }))))
-
 -- no open is over one of the members
 abbrev AreNotOver : Named OpenState → Named MemberStatus → Type 0
-AreNotOver opens members = AllByRecursion (λ (entry : List ℕ × MemberStatus). list_any (λ (e : List ℕ × OpenState). e.1.member == entry.1.number) opens ≡ false) members
+AreNotOver opens members =
+    AllByRecursion (λ (entry : List ℕ × MemberStatus). list_any (λ (e : List ℕ × OpenState). list_any (λ base. base == entry.1.number) e.1.members) opens ≡ false) members
+
+-- nor is this one
+abbrev IsNotOver : List ℕ → Named MemberStatus → Type 0
+IsNotOver bases members = AllByRecursion (λ (entry : List ℕ × MemberStatus). list_any (λ base. base == entry.1.number) bases ≡ false) members
 
 none-over : (members : Named MemberStatus) (locks : _) (n : ℕ) (job : JobState) → list_any (λ (entry : List ℕ × MemberStatus). uses entry.1.number locks n job) members ≡ false
     → AreNotOver job.opens members
@@ -255,51 +306,60 @@ none-over (entry ∷ members) locks n job none =
     let parts = neither (uses entry.1.number locks n job) (list_any (λ (e : List ℕ × MemberStatus). uses e.1.number locks n job) members) none in
     (over-none entry.1.number locks n job parts.0, none-over members locks n job parts.1)
 
-first-lacks : (opened : List ℕ × OpenState) (opens : Named OpenState) (members : Named MemberStatus) → AreNotOver (opened ∷ opens) members → has_number opened.1.member members ≡ false
-first-lacks opened opens [] all = refl
-first-lacks opened opens (entry ∷ members) all =
-    let parts = neither (opened.1.member == entry.1.number) (list_any (λ (e : List ℕ × OpenState). e.1.member == entry.1.number) opens) all.0 in
+-- the first open's members, and those of the others
+over-parts : (opened : List ℕ × OpenState) (opens : Named OpenState) (members : Named MemberStatus) → AreNotOver (opened ∷ opens) members
+    → IsNotOver opened.1.members members × AreNotOver opens members
+over-parts opened opens [] all = (tt, tt)
+over-parts opened opens (entry ∷ members) all =
+    let parts = neither (list_any (λ base. base == entry.1.number) opened.1.members) (list_any (λ (e : List ℕ × OpenState). list_any (λ base. base == entry.1.number) e.1.members) opens) all.0 in
+    let rest = over-parts opened opens members all.1 in
+    ((parts.0, rest.0), (parts.1, rest.1))
+
+first-lacks : (base : ℕ) (bases : List ℕ) (members : Named MemberStatus) → IsNotOver (base ∷ bases) members → has_number base members ≡ false
+first-lacks base bases [] all = refl
+first-lacks base bases (entry ∷ members) all =
+    let parts = neither (base == entry.1.number) (list_any (λ b. b == entry.1.number) bases) all.0 in
     let differ = parts.0 in
-    let other : (entry.1.number == opened.1.member) ≡ false = grind (arith, nat_tests, differ) in
-    has_number-cons opened.1.member entry members ∙ rw other (first-lacks opened opens members all.1)
+    let other : (entry.1.number == base) ≡ false = grind (arith, nat_tests, differ) in
+    has_number-cons base entry members ∙ rw other (first-lacks base bases members all.1)
 
-rest-over : (opened : List ℕ × OpenState) (opens : Named OpenState) (members : Named MemberStatus) → AreNotOver (opened ∷ opens) members → AreNotOver opens members
-rest-over opened opens [] all = tt
-rest-over opened opens (entry ∷ members) all =
-    ((neither (opened.1.member == entry.1.number) (list_any (λ (e : List ℕ × OpenState). e.1.member == entry.1.number) opens) all.0).1, rest-over opened opens members all.1)
+rest-over : (base : ℕ) (bases : List ℕ) (members : Named MemberStatus) → IsNotOver (base ∷ bases) members → IsNotOver bases members
+rest-over base bases [] all = tt
+rest-over base bases (entry ∷ members) all =
+    ((neither (base == entry.1.number) (list_any (λ b. b == entry.1.number) bases) all.0).1, rest-over base bases members all.1)
 
-all-lack : (opens : Named OpenState) (members : Named MemberStatus) → AreNotOver opens members → AllByRecursion (λ (e : List ℕ × OpenState). has_number e.1.member members ≡ false) opens
+-- none of these numbers is one of theirs
+abbrev AreLacked : List ℕ → Named MemberStatus → Type 0
+AreLacked bases members = AllByRecursion (λ base. has_number base members ≡ false) bases
+
+bases-lack : (bases : List ℕ) (members : Named MemberStatus) → IsNotOver bases members → AreLacked bases members
+bases-lack [] members all = tt
+bases-lack (base ∷ bases) members all = (first-lacks base bases members all, bases-lack bases members (rest-over base bases members all))
+
+all-lack : (opens : Named OpenState) (members : Named MemberStatus) → AreNotOver opens members → AllByRecursion (λ (e : List ℕ × OpenState). AreLacked e.1.members members) opens
 all-lack [] members all = tt
-all-lack (opened ∷ opens) members all = (first-lacks opened opens members all, all-lack opens members (rest-over opened opens members all))
+all-lack (opened ∷ opens) members all =
+    let parts = over-parts opened opens members all in
+    (bases-lack opened.1.members members parts.0, all-lack opens members parts.1)
 
 delete_file-journaled : (s : State) (job timestamp : ℕ) (args : DeleteFile) → IsSound s → WereJournaled s → Holds (delete_file (memory_of s) job timestamp args) (StayJournaled s)
 delete_file-journaled s job timestamp args sound were =
     does-holds (file_deleted (memory_of s) job timestamp args) (delete_file_plan (memory_of s) args) (StayJournaled s)
-    (wider-holds (delete_file_plan (memory_of s) args) (Deletes (memory_of s) args) _ with-file (deletes (memory_of s) args))
+    (wider-holds (delete_file_plan (memory_of s) args) (Deletes (memory_of s) args) _ with-file (deletes s args sound))
   where
     with-file : (file : FileState) → Deletes (memory_of s) args file → StayJournaled s (file_deleted (memory_of s) job timestamp args file)
     with-file file its =
         no-job s (file_deleted (memory_of s) job timestamp args file) refl
         (λ place old there.
         let free = first_job-none (λ number j. list_any (λ (entry : List ℕ × MemberStatus). uses entry.1.number s.locks number j) file.members) 1 s.jobs place old its.free there in
-        both-each (λ opened. has_number opened.member file.members ≡ false) (IsJournaledBy s.files) (IsJournaledBy (file_deleted (memory_of s) job timestamp args file).memory.files) old.opens
-        (λ opened lacks holds commit. subst (λ (o : Option MemberStatus). IsSome (option_and_then (λ (st : MemberStatus). st.images) o))
-        (sym (among-without opened.member args.file file s.files sound.names its.there lacks)) (holds commit))
+        both-each (λ opened. AreLacked opened.members file.members) (IsJournaledBy s.files) (IsJournaledBy (file_deleted (memory_of s) job timestamp args file).memory.files) old.opens
+        (λ opened lacks holds commit. each-member (λ member. has_number member file.members ≡ false) (λ member. IsSome (images_in member s.files))
+        (λ member. IsSome (images_in member (file_deleted (memory_of s) job timestamp args file).memory.files)) opened.members
+        (λ member lack some. subst (λ (o : Option MemberStatus). IsSome (option_and_then (λ (st : MemberStatus). st.images) o))
+        (sym (among-without member args.file file s.files sound.names its.there lack)) some) lacks (holds commit))
         (all-lack old.opens file.members (none-over file.members s.locks free.0 old free.1)) (were place old there))
 
 -- ---- ADDPFM
-
-opened-below : (s : State) (opened : OpenState) → IsSound s → OpenHolds s.files opened → opened.member < s.next_member
-opened-below s opened sound holds = by (named opened.file s.files) (λ file is. is) holds
-  where
-    by : (o : Option FileState) → ((file : FileState) → o ≡ Some file → named opened.file s.files ≡ Some file) → OpensMember opened.member o → opened.member < s.next_member
-    by None found h = absurd h
-    by (Some file) found h = Owns-below s opened.file file opened.member sound.library (record { there = found file refl; has = h })
-
-opens-at : (files : Named FileState) (jobs : List JobState) (place : ℕ) (job : JobState) → AllByRecursion (OpensHold files) jobs → slice_get jobs place ≡ Some job → OpensHold files job
-opens-at files [] place job all here = absurd cc
-opens-at files (first ∷ jobs) zero job all here = let same : first ≡ job = cc in subst (OpensHold files) same all.0
-opens-at files (first ∷ jobs) (suc place) job all here = opens-at files jobs place job all.1 here
 
 added-status : (s : State) (args : FileMember) (number : ℕ) → number ≢ s.next_member → (entry : List ℕ × FileState)
     → status_in number (if same_name args.file entry.0 then with_member_name args.member s.next_member entry.1 else entry.1).members ≡ status_in number entry.1.members
@@ -314,11 +374,13 @@ added-stay : (s : State) (c : Change) (args : FileMember) → IsSound s → Were
 added-stay s c args sound were jobs files =
     no-job s c jobs
     (λ place old there. both-each (OpenHolds s.files) (IsJournaledBy s.files) (IsJournaledBy c.memory.files) old.opens (λ opened opens holds commit.
-    let below = opened-below s opened sound opens in
-    subst (λ (fs : Named FileState). IsSome (images_in opened.member fs)) (sym files)
+    each-member (IsMember s) (λ member. IsSome (images_in member s.files)) (λ member. IsSome (images_in member c.memory.files)) opened.members (λ member its some.
+    let below = member-below s member sound.library its in
+    subst (λ (fs : Named FileState). IsSome (images_in member fs)) (sym files)
     (subst (λ (o : Option MemberStatus). IsSome (option_and_then (λ (st : MemberStatus). st.images) o))
-    (sym (among-map opened.member (λ entry. if same_name args.file entry.0 then with_member_name args.member s.next_member entry.1 else entry.1) s.files
-    (added-status s args opened.member (omega (arith, below))))) (holds commit)))
+    (sym (among-map member (λ entry. if same_name args.file entry.0 then with_member_name args.member s.next_member entry.1 else entry.1) s.files
+    (added-status s args member (omega (arith, below))))) some))
+    (open-stands s opened sound.library opens).members (holds commit))
     (opens-at s.files s.jobs place old sound.library.opens there) (were place old there))
 
 -- ---- changes of a record
@@ -367,6 +429,27 @@ module _ (s : State) (sources : List NamedSource) (job timestamp : ℕ) (sound :
         | false ↦ holds
       ]
 
+  -- a read leaves the open's members, and so does a position that is set
+  read-all : (call : Call) (it : Found) (opened : OpenState) → IsJournaledBy s.files opened → IsJournaledBy s.files (has_read call it opened)
+  read-all call it opened holds = by it.row
+    where
+      by : (row : Option RowPlace) → (stands_on it.entry row (at_format it.entry.format opened)).commit ≡ true
+          → AllHaveImages s.files (stands_on it.entry row (at_format it.entry.format opened)).members
+      by None = holds
+      by (Some place) = holds
+
+  position-all : (join : Option JoinView) (position : Position PathEntry) (opened : OpenState) → IsJournaledBy s.files opened → IsJournaledBy s.files (positioned join position opened)
+  position-all None position opened holds = holds
+  position-all (Some view) position opened holds = holds
+
+  with-position : (new : NewPosition) → StayJournaled s (position_change (memory_of s) job new)
+  with-position new =
+      with-open (position_change (memory_of s) job new) new.its.opened.number (positioned (join_in new.its.file.spec) new.position) refl refl
+      (position-all (join_in new.its.file.spec) new.position)
+
+  with-read : (it : FoundEntry) → StayJournaled s (read_change (memory_of s) job it)
+  with-read it = with-open (read_change (memory_of s) job it) it.opened.number (has_read it.call it.found) refl refl (read-all it.call it.found)
+
   without-all : (files : Named FileState) (member rrn : ℕ) (opened : OpenState) → IsJournaledBy files opened → IsJournaledBy files (without_record member rrn opened)
   without-all files member rrn opened holds =
       elim (is_current member rrn opened) as (λ b. IsJournaledBy files (if b then without_current opened else opened)) [ true ↦ holds | false ↦ holds ]
@@ -378,7 +461,7 @@ module _ (s : State) (sources : List NamedSource) (job timestamp : ℕ) (sound :
   pub change-stays : (r : Request) → Holds (change sources s.entries (memory_of s) job timestamp r) (StayJournaled s)
   unfolding change
   change-stays (request.CreatePhysicalFile args) = effect-holds _ _ (StayJournaled s) (λ new. images-stay s _ were refl (λ number some. images-more number s.files _ some))
-  change-stays (request.CreateLogicalFile args) = record { holds = tt }
+  change-stays (request.CreateLogicalFile args) = effect-holds _ _ (StayJournaled s) (λ new. images-stay s _ were refl (λ number some. images-more number s.files _ some))
   change-stays (request.DeleteFile args) = delete_file-journaled s job timestamp args sound were
   change-stays (request.AddMember args) = effect-holds _ _ (StayJournaled s) (λ file. added-stay s _ args sound were refl refl)
   change-stays (request.ClearMember args) =
@@ -410,22 +493,13 @@ module _ (s : State) (sources : List NamedSource) (job timestamp : ℕ) (sound :
   change-stays (request.CloseFile args) =
       effect-holds _ _ (StayJournaled s)
       (λ opened. one-open s _ (job - 1) (without_open args.open_id) were refl refl (λ j all. opens-filter (IsJournaledBy s.files) (λ entry. not (same_name args.open_id entry.0)) j.opens all))
-  change-stays (request.SetLowerLimit args) =
-      effect-holds (position_change (memory_of s) job) _ (StayJournaled s)
-      (λ new. with-open (position_change (memory_of s) job new) new.opened.number (positioned new.position) refl refl (λ o h. h))
-  change-stays (request.SetGreaterThan args) =
-      effect-holds (position_change (memory_of s) job) _ (StayJournaled s)
-      (λ new. with-open (position_change (memory_of s) job new) new.opened.number (positioned new.position) refl refl (λ o h. h))
-  change-stays (request.Read args) =
-      effect-holds (read_change (memory_of s) job) _ (StayJournaled s) (λ it. with-open (read_change (memory_of s) job it) it.its.opened.number (has_read it.call it.entry) refl refl (λ o h. h))
-  change-stays (request.ReadPrior args) =
-      effect-holds (read_change (memory_of s) job) _ (StayJournaled s) (λ it. with-open (read_change (memory_of s) job it) it.its.opened.number (has_read it.call it.entry) refl refl (λ o h. h))
-  change-stays (request.ReadEqual args) =
-      effect-holds (read_change (memory_of s) job) _ (StayJournaled s) (λ it. with-open (read_change (memory_of s) job it) it.its.opened.number (has_read it.call it.entry) refl refl (λ o h. h))
-  change-stays (request.ReadPriorEqual args) =
-      effect-holds (read_change (memory_of s) job) _ (StayJournaled s) (λ it. with-open (read_change (memory_of s) job it) it.its.opened.number (has_read it.call it.entry) refl refl (λ o h. h))
-  change-stays (request.Chain args) =
-      effect-holds (read_change (memory_of s) job) _ (StayJournaled s) (λ it. with-open (read_change (memory_of s) job it) it.its.opened.number (has_read it.call it.entry) refl refl (λ o h. h))
+  change-stays (request.SetLowerLimit args) = effect-holds (position_change (memory_of s) job) _ (StayJournaled s) with-position
+  change-stays (request.SetGreaterThan args) = effect-holds (position_change (memory_of s) job) _ (StayJournaled s) with-position
+  change-stays (request.Read args) = effect-holds (read_change (memory_of s) job) _ (StayJournaled s) with-read
+  change-stays (request.ReadPrior args) = effect-holds (read_change (memory_of s) job) _ (StayJournaled s) with-read
+  change-stays (request.ReadEqual args) = effect-holds (read_change (memory_of s) job) _ (StayJournaled s) with-read
+  change-stays (request.ReadPriorEqual args) = effect-holds (read_change (memory_of s) job) _ (StayJournaled s) with-read
+  change-stays (request.Chain args) = effect-holds (read_change (memory_of s) job) _ (StayJournaled s) with-read
   change-stays (request.Write args) =
       effect-holds (write_change (memory_of s) job timestamp (write_call args.record_number)) (write_plan (memory_of s) job args) (StayJournaled s)
       (λ new. record-journaled s job new were (write_change (memory_of s) job timestamp (write_call args.record_number) new) (λ j. j) (files-put s job timestamp new)

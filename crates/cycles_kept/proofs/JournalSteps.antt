@@ -44,7 +44,7 @@ module _ (s : State) (sources : List NamedSource) (job timestamp : ℕ) (sound :
   pub change-journaled : (r : Request) → Holds (change sources s.entries (memory_of s) job timestamp r) (IsJournaled s)
   unfolding change
   change-journaled (request.CreatePhysicalFile args) = effect-holds _ _ (IsJournaled s) (λ new. deposits s _ refl (refl, tt))
-  change-journaled (request.CreateLogicalFile args) = record { holds = tt }
+  change-journaled (request.CreateLogicalFile args) = effect-holds _ _ (IsJournaled s) (λ new. deposits s _ refl (refl, tt))
   change-journaled (request.DeleteFile args) = effect-holds _ _ (IsJournaled s) (λ file. deposits s _ refl (refl, tt))
   change-journaled (request.AddMember args) = effect-holds _ _ (IsJournaled s) (λ file. deposits s _ refl (refl, tt))
   change-journaled (request.ClearMember args) = effect-holds _ _ (IsJournaled s)

@@ -10,6 +10,7 @@ use Rattle.library_model.specs.SourceList.{text_of}
 use Rattle.library_model.specs.declared.limits.TheConstants.{MOST_FILES, LAST_MEMBER}
 use Rattle.library_model.specs.declared.replies.LimitKind.TheVariants.{Files, MemberNumbers}
 use Rattle.library_model.specs.declared.replies.Reply.TheVariants.{LimitReached, NameExists}
+use Rattle.library_model.specs.declared.requests.CreateLogicalFile.{CreateLogicalFile}
 use Rattle.library_model.specs.declared.requests.CreatePhysicalFile.{CreatePhysicalFile}
 use Rattle.library_model.specs.declared.requests.Request.{Request}
 use Rattle.library_model.specs.declared.requests.Request.TheVariants as request
@@ -18,13 +19,14 @@ use Rattle.library_steps.specs.State.{State, FileState, memory_of, file_named, j
 use Rattle.library_steps.specs.Change.{Change}
 use Rattle.library_steps.specs.ChangeRecord.{delete_change, delete_plan, unlock_change, unlock_plan, update_change, update_plan}
 use Rattle.library_steps.specs.Commitment.{changes_of}
+use Rattle.library_steps.specs.CreateLogicalFile.{create_logical_change, create_logical_file, create_logical_plan, logical_file}
 use Rattle.library_steps.specs.CreatePhysicalFile.{create_change, create_physical_file, create_plan, described, formats_of, new_file, spec_or_refused}
 use Rattle.library_steps.specs.Reads.{position_change, read_change}
 use Rattle.library_steps.specs.Refusals.{named_or_refused, refuse_if, sequences_left}
 use Rattle.library_steps.specs.Step.{change}
 use Rattle.library_steps.specs.WriteRecord.{write_call, write_change, write_plan}
 use Rattle.cycles_kept.proofs.BoundarySteps.{taken_back-files}
-use Rattle.cycles_kept.proofs.HoldLemmas.{Holds, bind-holds, does-holds, effect-holds, if-not, then-holds, wider-holds}
+use Rattle.cycles_kept.proofs.HoldLemmas.{Holds, bind-holds, does-holds, each-holds, effect-holds, if-not, then-holds, wider-holds}
 use Rattle.cycles_kept.proofs.RecordSteps.{files-put}
 
 -- the names stay apart where they were
@@ -77,13 +79,32 @@ create-names s sources job timestamp args =
     })
     (new-name s sources args))
 
+-- CRTLF
+new-logical : (s : State) (sources : List NamedSource) (args : CreateLogicalFile) → Holds (create_logical_plan sources (memory_of s) args) (λ new. is_some (file_named args.file (memory_of s)) ≡ false)
+unfolding create_logical_plan
+new-logical s sources args =
+    then-holds (sequences_left (memory_of s)) _ _ (λ few.
+    bind-holds (refuse_if (is_some (file_named args.file (memory_of s))) (NameExists args.file)) (λ absent. is_some (file_named args.file (memory_of s)) ≡ false) _ _
+    (if-not (is_some (file_named args.file (memory_of s))) (NameExists args.file)) (λ ok absent.
+    each-holds _ _ (λ new. absent)))
+
+create_logical-names : (s : State) (sources : List NamedSource) (job timestamp : ℕ) (args : CreateLogicalFile) → Holds (create_logical_file sources (memory_of s) job timestamp args) (NamesStay s)
+create_logical-names s sources job timestamp args =
+    does-holds (create_logical_change (memory_of s) job timestamp args) (create_logical_plan sources (memory_of s) args) (NamesStay s)
+    (wider-holds (create_logical_plan sources (memory_of s) args) (λ new. is_some (file_named args.file (memory_of s)) ≡ false) _
+    (λ new absent. record {
+      names = λ distinct. subst (IsDistinct same_name) (sym (keys-append s.files args.file (logical_file new)))
+          (IsDistinct-push nat_list_eq_equiv (keys_of s.files) args.file distinct (absent-key args.file s.files absent));
+    })
+    (new-logical s sources args))
+
 -- ---- each request
 
 module _ (s : State) (sources : List NamedSource) (job timestamp : ℕ) where
   pub change-names : (r : Request) → Holds (change sources s.entries (memory_of s) job timestamp r) (NamesStay s)
   unfolding change
   change-names (request.CreatePhysicalFile args) = create-names s sources job timestamp args
-  change-names (request.CreateLogicalFile args) = record { holds = tt }
+  change-names (request.CreateLogicalFile args) = create_logical-names s sources job timestamp args
   change-names (request.DeleteFile args) =
       effect-holds _ _ (NamesStay s) (λ file. record { names = λ distinct. IsDistinct-keys_filter same_name (λ entry. not (same_name args.file entry.0)) s.files distinct })
   change-names (request.AddMember args) = effect-holds _ _ (NamesStay s) (λ file. mapped-names s _ _ refl)

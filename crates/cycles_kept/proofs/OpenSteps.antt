@@ -1,8 +1,10 @@
 -- What the requests through an open leave of the open commit cycles that change no record: OPNDBF and CLOF, UNLOCK, positions and reads.
 use Rattle.std.proofs.Common.{ℕ, ◌-◌, Option, List, Result, refl}
 use Rattle.file_model.specs.KeyOrder.{KeyValue}
+use Rattle.file_model.specs.Joins.{RowPlace}
 use Rattle.file_model.specs.Paths.{PathEntry}
 use Rattle.file_model.specs.Positions.{Position, Reading, next_from, prior_from, next_equal, prior_equal}
+use Rattle.logical_model.specs.Readings.{join_in}
 use Rattle.lock_table.specs.declared.levels.Call.{Call}
 use Rattle.lock_table.specs.declared.levels.Call.TheVariants.{Close, Position as PositionCall, Unlock}
 use Rattle.lock_table.specs.Table.{HoldsChange}
@@ -18,12 +20,12 @@ use Rattle.library_model.specs.declared.requests.OpenOption.TheVariants.{Input, 
 use Rattle.library_model.specs.declared.requests.ReadEqual.{ReadEqual}
 use Rattle.library_model.specs.declared.requests.ReadRecord.{ReadRecord}
 use Rattle.library_model.specs.declared.requests.SetPosition.{SetPosition}
-use Rattle.library_steps.specs.State.{State, Memory, OpenState, memory_of, job_of}
+use Rattle.library_steps.specs.State.{State, Memory, FileState, OpenState, memory_of, job_of}
 use Rattle.library_steps.specs.ChangeRecord.{unlock, unlock_change, unlock_plan, without_current}
 use Rattle.library_steps.specs.Locking.{few_locks, holder_of, is_committed, level_of, locks_left, not_locked, record_of}
 use Rattle.library_steps.specs.Opens.{close_file, open_file, open_plan, with_open, without_open}
-use Rattle.library_steps.specs.Reads.{FoundEntry, NewPosition, chain, chain_plan, chained, default_read, has_read, if_lockable, open_changed, position_change, positioned, read, read_call, read_change, read_equal, read_equal_plan, read_plan, read_prior, read_prior_equal, set_greater_than, set_lower_limit}
-use Rattle.library_steps.specs.Records.{key_asked, reading_of}
+use Rattle.library_steps.specs.Reads.{Found, FoundEntry, NewPosition, at_format, chain, chain_plan, chained, default_read, find_in, has_read, if_lockable, lockable, open_changed, position_change, positioned, read, read_call, read_change, read_equal, read_equal_plan, read_plan, read_prior, read_prior_equal, set_greater_than, set_lower_limit}
+use Rattle.library_steps.specs.Records.{key_asked}
 use Rattle.library_steps.specs.Refusals.{OpenedFile, found, opened_file}
 use Rattle.library_parts.specs.Locks.{IsOfOpen}
 use Rattle.cycles_kept.proofs.CycleLemmas.{HaveCycles, besides}
@@ -40,7 +42,7 @@ left-keeps s call job opened rrn number of at holds =
 
 pub open_file-cycles : (s : State) (job : ℕ) (args : OpenFile) → Holds (open_file (memory_of s) job args) (HaveCycles s)
 open_file-cycles s job args =
-    effect-holds _ (open_plan (memory_of s) job args) (HaveCycles s) (λ status. besides s _ (job - 1) (with_open args status.number) refl (λ j. refl) refl (λ number at holds. holds))
+    effect-holds _ (open_plan (memory_of s) job args) (HaveCycles s) (λ members. besides s _ (job - 1) (with_open args members) refl (λ j. refl) refl (λ number at holds. holds))
 
 pub close_file-cycles : (s : State) (job : ℕ) (args : OpenName) → Holds (close_file (memory_of s) job args) (HaveCycles s)
 close_file-cycles s job args =
@@ -56,8 +58,8 @@ unlock-cycles s job args =
 
 position-cycles : (s : State) (job : ℕ) (new : NewPosition) → HaveCycles s (position_change (memory_of s) job new)
 position-cycles s job new =
-    besides s (position_change (memory_of s) job new) (job - 1) (open_changed new.opened.number (positioned new.position)) refl (λ j. refl) refl
-    (λ number. left-keeps s PositionCall job new.opened 0 number tt)
+    besides s (position_change (memory_of s) job new) (job - 1) (open_changed new.its.opened.number (positioned (join_in new.its.file.spec) new.position)) refl (λ j. refl) refl
+    (λ number. left-keeps s PositionCall job new.its.opened 0 number tt)
 
 pub set_lower_limit-cycles : (s : State) (job : ℕ) (args : SetPosition) → Holds (set_lower_limit (memory_of s) job args) (HaveCycles s)
 set_lower_limit-cycles s job args = effect-holds (position_change (memory_of s) job) _ (HaveCycles s) (position-cycles s job)
@@ -78,60 +80,65 @@ reads Default opened = by opened.option
     by All = tt
 reads No opened = tt
 
-lockable-reads : (job : ℕ) (m : Memory) (its : OpenedFile) (lock : LockOption) (entry : PathEntry) → Holds (if_lockable job m its lock entry) IsRead
-lockable-reads job m its lock entry =
-    then-holds (not_locked (read_call lock its.opened) job its.opened entry.rrn m) _ _ (λ free.
-    then-holds (few_locks (read_call lock its.opened) job its.opened entry.rrn m) _ _ (λ few.
-    record { holds = reads lock its.opened }))
+-- through the open where it is at the format of what was found
+lockable-reads : (job : ℕ) (m : Memory) (file : FileState) (opened : OpenState) (lock : LockOption) (it : Found) → Holds (lockable job m file opened lock it) IsRead
+lockable-reads job m file opened lock it =
+    then-holds (not_locked (read_call lock opened) job opened it.entry.rrn m) _ _ (λ free.
+    then-holds (few_locks (read_call lock opened) job opened it.entry.rrn m) _ _ (λ few.
+    record { holds = reads lock opened }))
 
-plan-reads : (find_from : Reading PathEntry → Position PathEntry → Option PathEntry) (nothing : Reply) (m : Memory) (job : ℕ) (args : ReadRecord)
-    → Holds (read_plan find_from nothing m job args) IsRead
+format-reads : (job : ℕ) (m : Memory) (its : OpenedFile) (lock : LockOption) (it : Found) → Holds (if_lockable job m its lock it) IsRead
+format-reads job m its lock it = lockable-reads job m its.file (at_format it.entry.format its.opened) lock it
+
+plan-reads : (entry_from : Reading PathEntry → Position PathEntry → Option PathEntry) (row_from : Reading RowPlace → Position RowPlace → Option RowPlace) (nothing : Reply) (m : Memory) (job : ℕ)
+    (args : ReadRecord) → Holds (read_plan entry_from row_from nothing m job args) IsRead
 unfolding read_plan
-plan-reads find_from nothing m job args =
+plan-reads entry_from row_from nothing m job args =
     then-holds (opened_file args.open_id job m) _ _ (λ its.
-    then-holds (found (find_from (reading_of its.file its.opened m) its.opened.position) nothing) _ _ (λ entry. lockable-reads job m its args.lock entry))
+    then-holds (found (find_in its m (λ reading. entry_from reading its.opened.position) (λ reading. row_from reading its.opened.rows)) nothing) _ _ (λ it. format-reads job m its args.lock it))
 
-equal-reads : (find_from : Reading PathEntry → List KeyValue → Position PathEntry → Option PathEntry) (nothing : Reply) (m : Memory) (job : ℕ) (args : ReadEqual)
-    → Holds (read_equal_plan find_from nothing m job args) IsRead
+equal-reads : (entry_from : Reading PathEntry → List KeyValue → Position PathEntry → Option PathEntry) (row_from : Reading RowPlace → List KeyValue → Position RowPlace → Option RowPlace)
+    (nothing : Reply) (m : Memory) (job : ℕ) (args : ReadEqual) → Holds (read_equal_plan entry_from row_from nothing m job args) IsRead
 unfolding read_equal_plan
-equal-reads find_from nothing m job args =
+equal-reads entry_from row_from nothing m job args =
     then-holds (opened_file args.open_id job m) _ _ (λ its.
     then-holds (key_asked its.file its.opened args.key) _ _ (λ key.
-    then-holds (found (find_from (reading_of its.file its.opened m) key its.opened.position) nothing) _ _ (λ entry. lockable-reads job m its args.lock entry)))
+    then-holds (found (find_in its m (λ reading. entry_from reading key its.opened.position) (λ reading. row_from reading key its.opened.rows)) nothing) _ _
+    (λ it. format-reads job m its args.lock it)))
 
 chain-reads : (m : Memory) (job : ℕ) (args : ChainRecord) → Holds (chain_plan m job args) IsRead
 unfolding chain_plan
 chain-reads m job args =
     then-holds (opened_file args.open_id job m) _ _ (λ its.
     then-holds (chained its m args.to) _ _ (λ item.
-    then-holds (found item NotFound) _ _ (λ entry. lockable-reads job m its args.lock entry)))
+    then-holds (found item NotFound) _ _ (λ it. format-reads job m its args.lock it)))
 
 reading-cycles : (s : State) (job : ℕ) (plan : Result FoundEntry Reply) → Holds plan IsRead → Holds plan (λ it. HaveCycles s (read_change (memory_of s) job it))
 reading-cycles s job plan is =
     wider-holds plan IsRead _
-    (λ it of. besides s (read_change (memory_of s) job it) (job - 1) (open_changed it.its.opened.number (has_read it.call it.entry)) refl (λ j. refl) refl
-    (λ number. left-keeps s it.call job it.its.opened it.entry.rrn number of)) is
+    (λ it of. besides s (read_change (memory_of s) job it) (job - 1) (open_changed it.opened.number (has_read it.call it.found)) refl (λ j. refl) refl
+    (λ number. left-keeps s it.call job it.opened it.found.entry.rrn number of)) is
 
 module _ (s : State) (job : ℕ) where
   pub read-cycles : (args : ReadRecord) → Holds (read (memory_of s) job args) (HaveCycles s)
   read-cycles args =
       does-holds (read_change (memory_of s) job) _ (HaveCycles s)
-      (reading-cycles s job (read_plan next_from EndOfFile (memory_of s) job args) (plan-reads next_from EndOfFile (memory_of s) job args))
+      (reading-cycles s job (read_plan next_from next_from EndOfFile (memory_of s) job args) (plan-reads next_from next_from EndOfFile (memory_of s) job args))
 
   pub read_prior-cycles : (args : ReadRecord) → Holds (read_prior (memory_of s) job args) (HaveCycles s)
   read_prior-cycles args =
       does-holds (read_change (memory_of s) job) _ (HaveCycles s)
-      (reading-cycles s job (read_plan prior_from BeginOfFile (memory_of s) job args) (plan-reads prior_from BeginOfFile (memory_of s) job args))
+      (reading-cycles s job (read_plan prior_from prior_from BeginOfFile (memory_of s) job args) (plan-reads prior_from prior_from BeginOfFile (memory_of s) job args))
 
   pub read_equal-cycles : (args : ReadEqual) → Holds (read_equal (memory_of s) job args) (HaveCycles s)
   read_equal-cycles args =
       does-holds (read_change (memory_of s) job) _ (HaveCycles s)
-      (reading-cycles s job (read_equal_plan next_equal EndOfFile (memory_of s) job args) (equal-reads next_equal EndOfFile (memory_of s) job args))
+      (reading-cycles s job (read_equal_plan next_equal next_equal EndOfFile (memory_of s) job args) (equal-reads next_equal next_equal EndOfFile (memory_of s) job args))
 
   pub read_prior_equal-cycles : (args : ReadEqual) → Holds (read_prior_equal (memory_of s) job args) (HaveCycles s)
   read_prior_equal-cycles args =
       does-holds (read_change (memory_of s) job) _ (HaveCycles s)
-      (reading-cycles s job (read_equal_plan prior_equal BeginOfFile (memory_of s) job args) (equal-reads prior_equal BeginOfFile (memory_of s) job args))
+      (reading-cycles s job (read_equal_plan prior_equal prior_equal BeginOfFile (memory_of s) job args) (equal-reads prior_equal prior_equal BeginOfFile (memory_of s) job args))
 
   pub chain-cycles : (args : ChainRecord) → Holds (chain (memory_of s) job args) (HaveCycles s)
   chain-cycles args = does-holds (read_change (memory_of s) job) _ (HaveCycles s) (reading-cycles s job (chain_plan (memory_of s) job args) (chain-reads (memory_of s) job args))

@@ -21,6 +21,7 @@ use Rattle.library_steps.specs.Records.{slot_there}
 use Rattle.library_steps.specs.SlotChange.{NewSlot, change_made, cycle_for, drafts_of, images_of, noted, with_cycle, with_slot, with_undo}
 use Rattle.library_steps.specs.Uses.{changes_in}
 use Rattle.joint_state.specs.Sound.{IsSound, after}
+use Rattle.joint_state.proofs.OpenLemmas.{IsAmong, each-among}
 use Rattle.cycles_kept.proofs.CycleLemmas.{changed_record, id_of, LocksStay, CycleAfter, HasCycle, HaveCycles}
 use Rattle.cycles_kept.proofs.JobLemmas.{IsAsking, was_there, named-each, job_changed-twice, job_changed-none}
 use Rattle.cycles_kept.proofs.JournalLemmas.{IsJournaled, last-after}
@@ -36,7 +37,11 @@ IsNotOf member rrn undo = undo.member ≡ member → undo.change.place + 1 ≡ r
 -- job itself where it changes it outside its commit cycle
 pub record MayPut (s : State) (job : ℕ) (new : NewSlot) : Type 0 where
   pub name : List ℕ
-  pub found : open_named name job (memory_of s) ≡ Some new.opened
+  -- the open as the job has it, one of whose members is changed
+  pub opened : OpenState
+  pub found : open_named name job (memory_of s) ≡ Some opened
+  pub commit : new.opened.commit ≡ opened.commit
+  pub among : IsAmong opened.members new.opened.member
   pub counted : 1 ≤ new.rrn
   pub there : is_some (member_at new.opened.member s.members) ≡ true
   pub place : IsPlaceFor (member_of new.opened.member s.members) new.rrn new.slot
@@ -145,7 +150,7 @@ module _ (s : State) (c : Change) (job : ℕ) (call : Call) (new : NewSlot) (sou
   under : new.opened.commit ≡ true → level_of mine new.opened ≡ None → ⊥
   under commit none =
       let level : mine.level ≡ None = sym (ap (λ b. if b then mine.level else None) commit) ∙ none in
-      let outside : new.opened.commit ≡ false = named-each (λ (opened : OpenState). opened.commit ≡ false) may.name mine.opens new.opened (asks.stands.control.opens level) may.found in
+      let outside : new.opened.commit ≡ false = may.commit ∙ named-each (λ (opened : OpenState). opened.commit ≡ false) may.name mine.opens may.opened (asks.stands.control.opens level) may.found in
       absurd cc
 
   locked-made : new.opened.commit ≡ true → HoldsChange job (changed_record undo_made) c.memory.locks
@@ -161,7 +166,10 @@ module _ (s : State) (c : Change) (job : ℕ) (call : Call) (new : NewSlot) (sou
       let more = last-after s c journal in
       let count = puts.entries in
       let images : IsSome (images_of new.opened.member (memory_of s)) =
-      named-each (λ (opened : OpenState). opened.commit ≡ true → IsSome (images_of opened.member (memory_of s))) may.name mine.opens new.opened asks.stands.journaled may.found commit in
+      each-among (λ (member : ℕ). IsSome (images_of member (memory_of s))) may.opened.members new.opened.member
+      (named-each (λ (opened : OpenState). opened.commit ≡ true → AllByRecursion (λ (member : ℕ). IsSome (images_of member (memory_of s))) opened.members) may.name mine.opens may.opened
+      asks.stands.journaled may.found (sym may.commit ∙ commit))
+      may.among in
       begun-for mine.cycle (s.gone + length s.entries) (memory_of (after s c)).last_entry (omega (arith, more)) asks.stands.begun
       (λ none. let one = begins puts.author mine new (images_of new.opened.member (memory_of s)) (memory_of s) commit images none in omega (arith, more, count, one))
 

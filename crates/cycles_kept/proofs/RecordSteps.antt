@@ -13,28 +13,29 @@ use Rattle.member_slots.specs.Member.{MemberState, slot_at}
 use Rattle.member_slots.specs.Members.{member_at, member_of}
 use Rattle.journal_model.specs.Journal.{AreNumbered}
 use Rattle.journal_model.specs.Rollback.{MemberChange, numbered_from}
-use Rattle.record_fmt.specs.Records.{record_given}
+use Rattle.logical_model.specs.Formats.{given_in}
 use Rattle.library_model.specs.declared.replies.Reply.TheVariants.{NoSuchName, WrongOpen, NoCurrentRecord, NotFound, PlaceInUse, HeldByGroup, RecordInUse}
 use Rattle.library_model.specs.declared.replies.Missing.TheVariants.{Name}
 use Rattle.library_model.specs.declared.requests.OpenName.{OpenName}
 use Rattle.library_model.specs.declared.requests.UpdateRecord.{UpdateRecord}
 use Rattle.library_model.specs.declared.requests.WriteRecord.{WriteRecord}
-use Rattle.library_steps.specs.State.{State, Memory, OpenState, memory_of, fields_of, file_named, job_of, open_named, status_changed, with_opens, with_status}
+use Rattle.library_steps.specs.State.{State, Memory, OpenState, memory_of, file_named, job_of, open_named, status_changed, with_opens, with_status}
 use Rattle.library_steps.specs.ChangeRecord.{update_plan, update_change, update_record, without_current, without_record, delete_plan, delete_change, delete_record}
 use Rattle.library_steps.specs.Drafts.{author_of}
 use Rattle.library_steps.specs.Locking.{clashing, few_locks, level_of, not_locked, record_of}
-use Rattle.library_steps.specs.Reads.{open_changed}
+use Rattle.library_steps.specs.LogicalFiles.{bases_of}
+use Rattle.library_steps.specs.Reads.{at_format, open_changed}
 use Rattle.library_steps.specs.Records.{live_record, record_in, slot_there}
 use Rattle.library_steps.specs.Refusals.{OpenedFile, found, named_or_refused, opened_file, refuse_if, sequences_left}
 use Rattle.library_steps.specs.SlotChange.{NewSlot, change_made, cycle_for, drafts_of, few_changes, has_changed_record, images_of, is_behind_last, not_held, slot_changed, touched, with_slot}
 use Rattle.library_steps.specs.UniqueKeys.{keys_free}
 use Rattle.library_steps.specs.Uses.{changes_in}
-use Rattle.library_steps.specs.WriteRecord.{format_or_refused, has_room, is_input, next_place, packed, place_asked, write_call, write_plan, write_change, write_record}
+use Rattle.library_steps.specs.WriteRecord.{format_asked, has_room, is_input, next_place, packed, place_asked, place_plan, write_call, write_plan, write_change, write_record}
 use Rattle.library_parts.proofs.BackLemmas.{neither}
-use Rattle.library_parts.proofs.FindLemmas.{opened-there}
-use Rattle.library_parts.proofs.MemberLemmas.{IsThere-is_some}
+use Rattle.library_parts.proofs.FindLemmas.{IsMember}
 use Rattle.joint_state.specs.CurrentRecords.{CurrentStands}
 use Rattle.joint_state.specs.Sound.{IsSound}
+use Rattle.joint_state.proofs.OpenLemmas.{IsAmong, OpenStands, among-format, each-among, member-there, opened-stands}
 use Rattle.cycles_kept.proofs.CycleLemmas.{changed_record, HaveCycles}
 use Rattle.cycles_kept.proofs.HoldLemmas.{Holds, bind-holds, does-holds, found-there, if-not, then-holds, wider-holds, with-none}
 use Rattle.cycles_kept.proofs.JobLemmas.{IsAsking, named-each}
@@ -55,10 +56,9 @@ opened_file-finds name job m =
     bind-holds (named_or_refused opened.file (file_named opened.file m)) (λ file. file_named opened.file m ≡ Some file) _ _
     (found-there (file_named opened.file m) (NoSuchName (Name opened.file))) (λ file named. record { holds = record { opened = there; file = named } }))
 
-member-is : (s : State) (name : List ℕ) (job : ℕ) (its : OpenedFile) → IsSound s → Finds name job (memory_of s) its → is_some (member_at its.opened.member s.members) ≡ true
-member-is s name job its sound finds =
-    let has = opened-there s job name its.opened its.file sound.library finds.opened finds.file in
-    IsThere-is_some (fields_of its.file) (member_at its.opened.member s.members) has.there
+-- each of the open's members is there
+member-is : (s : State) (opened : OpenState) (member : ℕ) → IsSound s → OpenStands s opened → IsAmong opened.members member → is_some (member_at member s.members) ≡ true
+member-is s opened member sound stands among = member-there s member (each-among (IsMember s) opened.members member stands.members among)
 
 -- ---- what the job's own commit cycle has not changed
 
@@ -103,11 +103,15 @@ current-may s job name its rrn slot sound asks finds current free =
     named-each (λ (opened : OpenState). (r : ℕ) → opened.current ≡ Some r → CurrentStands (memory_of s) job opened r) name
     (job_of job (memory_of s)).opens its.opened asks.stands.current finds.opened rrn current in
     let place = live-place (member_of its.opened.member s.members) rrn stands.live in
+    let its-open = opened-stands s job name its.opened sound.library finds.opened in
     record {
       name = name;
+      opened = its.opened;
       found = finds.opened;
+      commit = refl;
+      among = its-open.among;
       counted = place.0;
-      there = member-is s name job its sound finds;
+      there = member-is s its.opened its.opened.member sound its-open its-open.among;
       place = inl place.1;
       alone = λ other differ holds. current_alone s.locks its.opened.commit job its.opened rrn other sound.joint.compatible differ stands.locked holds;
       own = own-free s job its.opened rrn free;
@@ -120,7 +124,7 @@ update-may s job args sound asks =
     bind-holds (opened_file args.open_id job (memory_of s)) (Finds args.open_id job (memory_of s)) _ _ (opened_file-finds args.open_id job (memory_of s)) (λ its finds.
     then-holds (refuse_if (is_input its.opened.option) WrongOpen) _ _ (λ writes.
     bind-holds (found its.opened.current NoCurrentRecord) (λ rrn. its.opened.current ≡ Some rrn) _ _ (found-there its.opened.current NoCurrentRecord) (λ rrn current.
-    then-holds (packed (record_given (fields_of its.file) args.values (live_record its.opened.member rrn (memory_of s)))) _ _ (λ image.
+    then-holds (packed (given_in (bases_of (memory_of s)) its.file.spec its.opened.format args.values (live_record its.opened.member rrn (memory_of s)))) _ _ (λ image.
     bind-holds (not_held job its.opened rrn (memory_of s)) (λ ok. (not its.opened.commit && has_changed_record its.opened.member rrn (job_of job (memory_of s))) ≡ false) _ _
     (if-not _ (HeldByGroup rrn)) (λ ok free.
     then-holds (keys_free job its.opened.commit its.opened.member rrn (slot_there its.opened.member rrn (memory_of s)) image (memory_of s)) _ _ (λ keys.
@@ -207,30 +211,41 @@ place-for member rrn image within =
       | inr differ ↦ inl (omega (arith, within, differ))
     ]
 
+-- through the open of the name, where it is at the format that is written
+place-may : (s : State) (job : ℕ) (name : List ℕ) (opened through : OpenState) (asked : Option ℕ) (image : List ℕ) → IsSound s → IsAsking s job → open_named name job (memory_of s) ≡ Some opened
+    → through.commit ≡ opened.commit → IsAmong opened.members through.member → Holds (place_plan (memory_of s) job through asked image) (MayPut s job)
+unfolding place_plan
+place-may s job name opened through asked image sound asks found commit among =
+    bind-holds (place_asked job through asked (memory_of s)) (IsFreePlace s job through) _ _ (place-free s job through asked sound asks) (λ rrn free.
+    then-holds (has_room (is_behind_last through.member rrn (memory_of s)) through.member (memory_of s)) _ _ (λ room.
+    then-holds (keys_free job through.commit through.member rrn Deleted image (memory_of s)) _ _ (λ keys.
+    then-holds (few_locks (write_call asked) job through rrn (memory_of s)) _ _ (λ locks.
+    then-holds (few_changes through.commit Deleted (Live image) (memory_of s)) _ _ (λ count.
+    record {
+      holds = record {
+        name = name;
+        opened = opened;
+        found = found;
+        commit = commit;
+        among = among;
+        counted = free.counted;
+        there = member-is s opened through.member sound (opened-stands s job name opened sound.library found) among;
+        place = place-for (member_of through.member s.members) rrn image free.within;
+        alone = free.alone;
+        own = free.own;
+      };
+    })))))
+
 pub write-may : (s : State) (job : ℕ) (args : WriteRecord) → IsSound s → IsAsking s job → Holds (write_plan (memory_of s) job args) (MayPut s job)
 unfolding write_plan
 write-may s job args sound asks =
     then-holds (sequences_left (memory_of s)) _ _ (λ few.
     bind-holds (opened_file args.open_id job (memory_of s)) (Finds args.open_id job (memory_of s)) _ _ (opened_file-finds args.open_id job (memory_of s)) (λ its finds.
-    then-holds (format_or_refused args.format its.file.spec.format.name) _ _ (λ format.
+    then-holds (format_asked args.format its.file.spec) _ _ (λ format.
     then-holds (refuse_if (is_input its.opened.option) WrongOpen) _ _ (λ writes.
-    then-holds (packed (record_given (fields_of its.file) args.values None)) _ _ (λ image.
-    bind-holds (place_asked job its.opened args.record_number (memory_of s)) (IsFreePlace s job its.opened) _ _ (place-free s job its.opened args.record_number sound asks) (λ rrn free.
-    then-holds (has_room (is_behind_last its.opened.member rrn (memory_of s)) its.opened.member (memory_of s)) _ _ (λ room.
-    then-holds (keys_free job its.opened.commit its.opened.member rrn Deleted image (memory_of s)) _ _ (λ keys.
-    then-holds (few_locks (write_call args.record_number) job its.opened rrn (memory_of s)) _ _ (λ locks.
-    then-holds (few_changes its.opened.commit Deleted (Live image) (memory_of s)) _ _ (λ count.
-    record {
-      holds = record {
-        name = args.open_id;
-        found = finds.opened;
-        counted = free.counted;
-        there = member-is s args.open_id job its sound finds;
-        place = place-for (member_of its.opened.member s.members) rrn image free.within;
-        alone = free.alone;
-        own = free.own;
-      };
-    }))))))))))
+    then-holds (packed (given_in (bases_of (memory_of s)) its.file.spec format args.values None)) _ _ (λ image.
+    place-may s job args.open_id its.opened (at_format format its.opened) args.record_number image sound asks finds.opened refl
+    (among-format format its.opened (opened-stands s job args.open_id its.opened sound.library finds.opened).among))))))
 
 -- ---- what they change
 

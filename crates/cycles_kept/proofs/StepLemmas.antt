@@ -15,7 +15,7 @@ use Rattle.joint_state.specs.Cycles.{AreJournaled, ChangesAreLocked, HasBegun, S
 use Rattle.joint_state.specs.Sound.{Does, IsKept, IsSound}
 use Rattle.cycles_kept.proofs.BoundarySteps.{commit-cycles, end_commitment-cycles, end_job-cycles, rollback-cycles, start_commitment-cycles}
 use Rattle.cycles_kept.proofs.CycleLemmas.{HaveCycles, begun-after, locked-after, made-after}
-use Rattle.cycles_kept.proofs.FileSteps.{add_member-cycles, apply-cycles, change_journal-cycles, clear_member-cycles, create-cycles, delete_file-cycles, delete_receiver-cycles, display_journal-cycles, end_journaling-cycles, remove-cycles, reorganize_member-cycles, save-cycles, start_journaling-cycles}
+use Rattle.cycles_kept.proofs.FileSteps.{add_member-cycles, apply-cycles, change_journal-cycles, clear_member-cycles, create-cycles, create_logical-cycles, delete_file-cycles, delete_receiver-cycles, display_journal-cycles, end_journaling-cycles, remove-cycles, reorganize_member-cycles, save-cycles, start_journaling-cycles}
 use Rattle.cycles_kept.proofs.HoldLemmas.{Holds, holds-done}
 use Rattle.cycles_kept.proofs.ImageSteps.{StayJournaled, change-stays}
 use Rattle.cycles_kept.proofs.JobLemmas.{IsAsking, asking}
@@ -29,8 +29,8 @@ module _ (s : State) (sources : List NamedSource) (job timestamp : ℕ) (sound :
   change-cycles : (r : Request) → Holds (change sources s.entries (memory_of s) job timestamp r) (HaveCycles s)
   unfolding change
   change-cycles (request.CreatePhysicalFile args) = create-cycles s sources job timestamp args sound
-  change-cycles (request.CreateLogicalFile args) = record { holds = tt }
-  change-cycles (request.DeleteFile args) = delete_file-cycles s job timestamp args
+  change-cycles (request.CreateLogicalFile args) = create_logical-cycles s sources job timestamp args
+  change-cycles (request.DeleteFile args) = delete_file-cycles s job timestamp args sound
   change-cycles (request.AddMember args) = add_member-cycles s job timestamp args sound
   change-cycles (request.ClearMember args) = clear_member-cycles s job timestamp args
   change-cycles (request.ReorganizeMember args) = reorganize_member-cycles s job timestamp args

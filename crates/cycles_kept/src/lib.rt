@@ -26,7 +26,7 @@ pub fn entries_stay_numbered()
     ensures kept { IsKept (λ s. AreNumbered (s.gone + 1) s.entries) }
 {}
 
-/// The member of each open under commitment is journaled. A job that begins has none.
+/// All members of each open under commitment are journaled. A job that begins has no open.
 pub fn opens_stay_journaled()
     ensures new { (m : Memory) (name : List ℕ) → AreJournaled m (new_job name) }
     ensures kept { IsKept (λ s. (place : ℕ) (job : JobState) → slice_get s.jobs place ≡ Some job → AreJournaled (memory_of s) job) }

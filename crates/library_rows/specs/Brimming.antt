@@ -104,7 +104,7 @@ four_bytes_left s = record s {
 
 -- an open for everything
 abbrev pub an_open : OpenState
-an_open = new_open (record { file = cust; option = All; member = cust; open_id = cust; commit = false; access_path = File }) 1 1
+an_open = new_open (record { file = cust; option = All; member = cust; open_id = cust; commit = false; access_path = File }) 1 (1 ∷ [])
 
 -- J1 has the open CUST, and others of the name O behind it
 abbrev pub more_opens : ℕ → State

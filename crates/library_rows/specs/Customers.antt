@@ -14,6 +14,7 @@ use Rattle.member_slots.specs.declared.slot.Slot.{Slot}
 use Rattle.member_slots.specs.declared.slot.Slot.TheVariants.{Live}
 use Rattle.record_fmt.specs.declared.formats.Field.{Field}
 use Rattle.record_fmt.specs.declared.formats.Format.{Format}
+use Rattle.logical_model.specs.Bases.{PhysicalFile}
 use Rattle.library_steps.specs.State.{State, FileState, new_job}
 use Rattle.library_steps.specs.CreatePhysicalFile.{new_status}
 
@@ -37,7 +38,7 @@ abbrev pub by_name : KeySpec
 by_name = record { parts = KeyField name_type 0 false false ∷ []; unique = true; ties = Rising }
 
 abbrev pub customers : KeySpec → FileState
-customers keys = record { source = []; spec = record { format = cust_format; keys = keys }; members = (cust, new_status 1) ∷ [] }
+customers keys = record { source = []; spec = PhysicalFile (record { format = cust_format; keys = keys }); members = (cust, new_status 1) ∷ [] }
 
 abbrev pub creation : Entry
 creation = record { sequence = 1; job = Some (codes "J1"); moment = 0; group = None; member = Some 1; rrn = None; kind = FileCreated Physical cust [] }

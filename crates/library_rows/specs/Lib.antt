@@ -8,3 +8,5 @@ pub mod KeyedCalls
 pub mod MemberCalls
 pub mod Brimming
 pub mod RefusedCalls
+pub mod Views
+pub mod ViewCalls

@@ -73,6 +73,15 @@ abbrev pub first_repeated : List PathSpec → Memory → Option ℕ
 first_repeated [] m = None
 first_repeated (path ∷ paths) m = repeated_in path m.members
 
+-- what is refused of a file that a source describes, because of the members that it stands over
+abbrev pub over_members : Memory → CreateLogicalFile → (text : List ℕ) → LogicalSpec → Result NewLogical Reply
+over_members m args text spec = do
+  _ ← refuse_if (list_any (has_many (logical_paths (bases_of m) spec) m) (base_members (bases_of m) spec)) (LimitReached Paths MOST_PATHS)
+  _ ← unused (changer_of_any (base_members (bases_of m) spec) m)
+  _ ← refuse_with NotJournaled (if is_unique (logical_paths (bases_of m) spec) then first_undone m (base_members (bases_of m) spec) else None)
+  _ ← refuse_with (DuplicateKey args.file) (first_repeated (logical_paths (bases_of m) spec) m)
+  Ok (record { source = text; spec = spec })
+
 unfoldable pub create_logical_plan : List NamedSource → Memory → CreateLogicalFile → Result NewLogical Reply
 create_logical_plan sources m args = do
   _ ← sequences_left m
@@ -80,11 +89,7 @@ create_logical_plan sources m args = do
   _ ← refuse_if (nat_le MOST_FILES (length m.files)) (LimitReached Files MOST_FILES)
   text ← named_or_refused args.source (text_of sources args.source)
   spec ← logical_or_refused (logical_described m text)
-  _ ← refuse_if (list_any (has_many (logical_paths (bases_of m) spec) m) (base_members (bases_of m) spec)) (LimitReached Paths MOST_PATHS)
-  _ ← unused (changer_of_any (base_members (bases_of m) spec) m)
-  _ ← refuse_with NotJournaled (if is_unique (logical_paths (bases_of m) spec) then first_undone m (base_members (bases_of m) spec) else None)
-  _ ← refuse_with (DuplicateKey args.file) (first_repeated (logical_paths (bases_of m) spec) m)
-  Ok (record { source = text; spec = spec })
+  over_members m args text spec
 
 abbrev pub logical_file : NewLogical → FileState
 logical_file plan = record { source = plan.source; spec = LogicalFile plan.spec; members = [] }

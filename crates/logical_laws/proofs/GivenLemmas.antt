@@ -6,7 +6,6 @@ use Rattle.std.proofs.Math.Seq.{take-append_seam, drop-append_seam}
 use Rattle.field_types.specs.declared.kinds.Kind.{Kind}
 use Rattle.field_types.specs.declared.kinds.Kind.TheVariants.{Char}
 use Rattle.field_types.specs.declared.kinds.FieldType.{FieldType}
-use Rattle.field_types.specs.declared.values.Dec.{Dec}
 use Rattle.field_types.specs.declared.values.Value.{Value}
 use Rattle.field_types.specs.declared.values.Value.TheVariants.{Chars, Number}
 use Rattle.field_types.specs.declared.faults.ValueFault.{ValueFault}
@@ -14,7 +13,7 @@ use Rattle.field_types.specs.declared.faults.ValueFault.TheVariants.{ReadOnlyFie
 use Rattle.field_types.specs.declared.faults.RecordFault.{RecordFault}
 use Rattle.field_types.specs.declared.faults.RecordFault.TheVariants.{Count}
 use Rattle.field_values.specs.FieldTypes.{IsFieldType, width}
-use Rattle.field_values.specs.FieldBytes.{held, written, fault_of, units_at}
+use Rattle.field_values.specs.FieldBytes.{held, written, fault_of}
 use Rattle.field_values.proofs.FieldLemmas.{field, held-char}
 use Rattle.field_laws.proofs.WrittenLemmas.{stands-written}
 use Rattle.record_fmt.specs.declared.formats.Field.{Field}

@@ -1,5 +1,5 @@
 -- What a data description describes stores in whole fields of its base files, which are there.
-use Rattle.std.proofs.Common.{◌≡◌, ℕ, suc, ◌+◌, ◌<◌, ◌==◌, nat_eq, nat_le, nat_lt, ◌∙◌, refl, sym, ap, subst, arith, inl, inr, Bool, true, false, not, cond, ◌&&◌, ◌||◌, codes, Option, Some, None, is_some, is_none, IfSome, IsSome, Result, Ok, Err, List, [], ◌∷◌, ◌++◌, length, map, flat_map, drop, Contains}
+use Rattle.std.proofs.Common.{◌≡◌, ℕ, suc, ◌+◌, ◌==◌, nat_eq, nat_le, ◌∙◌, refl, sym, ap, subst, arith, inl, inr, Bool, true, false, not, cond, ◌&&◌, ◌||◌, codes, Option, Some, None, is_some, is_none, IfSome, IsSome, Result, Ok, Err, List, [], ◌∷◌, ◌++◌, length, map, flat_map, drop, Contains}
 use Rattle.std.specs.List.{AllByRecursion, list_all, list_any, filter_map, cons_option}
 use Rattle.std.specs.Cmp.Lexicographic.{same_text}
 use Rattle.std.proofs.lemmas.Bool.{cases_Bool, and_parts, cond_both, cond-true, cond-false, eqb-true}
@@ -24,7 +24,6 @@ use Rattle.dds_physical.specs.Attributes.{attributes}
 use Rattle.dds_physical.specs.Physical.{name_or_none}
 use Rattle.dds_physical.specs.References.{file_of, file_of_keyword}
 use Rattle.dds_physical.proofs.FaultLemmas.{nothing_noted}
-use Rattle.file_model.specs.declared.views.Piece.{Piece}
 use Rattle.file_model.specs.declared.views.FieldSource.{FieldSource}
 use Rattle.file_model.specs.declared.views.FieldSource.TheVariants.{Copied, Converted, Concatenated, Substring}
 use Rattle.dds_logical.specs.declared.join_views.JoinedFile.{JoinedFile}
@@ -32,12 +31,12 @@ use Rattle.dds_logical.specs.declared.keyword_places.KeywordPlace.TheVariants as
 use Rattle.dds_logical.specs.declared.limits.TheConstants.{MOST_JOINED}
 use Rattle.dds_logical.specs.declared.views.View.{View}
 use Rattle.dds_logical.specs.declared.views.LogicalSpec.{LogicalSpec}
-use Rattle.dds_logical.specs.declared.views.LogicalSpec.TheVariants.{Simple, Multi, Join}
+use Rattle.dds_logical.specs.declared.views.LogicalSpec.TheVariants.{Join}
 use Rattle.dds_logical.specs.Bases.{fields_of_base, fields_of_name}
 use Rattle.dds_logical.specs.Complete.{IsComplete, AreComplete}
 use Rattle.dds_logical.specs.Fields.{kind_letter, is_same_type, source_at, typed_field, field_over, field_of_line, field_as_it_is, named_fields, mapping_of, is_read_only_mapping, says_read_only}
 use Rattle.dds_logical.specs.FormatLines.{FormatLines, formats_in, field_lines, join_lines, based_on, is_join_keyword, is_join_file, is_multi_format}
-use Rattle.dds_logical.specs.JoinLines.{Link, link_of, lines_to, joined_by_first, joined_from}
+use Rattle.dds_logical.specs.JoinLines.{lines_to, joined_by_first, joined_from}
 use Rattle.dds_logical.specs.JoinViews.{files_joined, fields_joined, first_file, join_described, join_faults}
 use Rattle.dds_logical.specs.KeywordArguments.{names_among, is_file_or_field, are_names, fit_logical_keyword, takes_its_arguments}
 use Rattle.dds_logical.specs.KeywordRules.{stands_at, unknown_faults, argument_faults, twice_faults, logical_keyword_faults}
@@ -127,7 +126,8 @@ one-more f fs (Some g) here = (suc here.0, omega (arith, here.1), here.2)
 field-there : (name : List ℕ) (base : List Field) → IfSome (field_named name base) (Contains base)
 field-there name [] = tt
 field-there name (f ∷ fs) =
-    cond_both (pointwise nat_eq f.name name) (Some f) (field_named name fs) (λ o. IfSome o (Contains (f ∷ fs))) (λ _. (0, omega arith, refl)) (λ _. one-more f fs (field_named name fs) (field-there name fs))
+    cond_both (pointwise nat_eq f.name name) (Some f) (field_named name fs) (λ o. IfSome o (Contains (f ∷ fs)))
+    (λ _. (0, omega arith, refl)) (λ _. one-more f fs (field_named name fs) (field-there name fs))
 
 fields-there : (base : List Field) (names : List (List ℕ)) → AllByRecursion (Contains base) (fields_of_names base names)
 fields-there base names = each-filter_map (Contains base) (λ name. field_named name base) (λ name. field-there name base) names
@@ -275,14 +275,16 @@ head-keywords described is_join s h =
 view-head : (described : List ℕ → Option PhysicalSpec) (last_line : ℕ) (is_multi : Bool) (f : FormatLines) → view_faults described last_line is_multi f ≡ [] → head_faults described false f.head ≡ []
 view-head described last_line is_multi f h = (nothing-in (head_faults described false f.head) _ (nothing-in _ _ (nothing-in _ _ (nothing-in _ _ h).0).0).0).0
 
-format-over : (described : List ℕ → Option PhysicalSpec) (last_line : ℕ) (is_multi : Bool) (f : FormatLines) → view_faults described last_line is_multi f ≡ [] → IsComplete described f → IsOver described f
+format-over : (described : List ℕ → Option PhysicalSpec) (last_line : ℕ) (is_multi : Bool) (f : FormatLines) → view_faults described last_line is_multi f ≡ []
+    → IsComplete described f → IsOver described f
 format-over described last_line is_multi f h complete =
     let found = what-is (base_name f) complete.based in
-    let faults : base_faults described (first_named (codes "PFILE") f.head.keywords) ≡ [] = head-bases described false f.head (view-head described last_line is_multi f h) in
+    let said : Option Keyword = first_named (codes "PFILE") f.head.keywords in
+    let faults : base_faults described said ≡ [] = head-bases described false f.head (view-head described last_line is_multi f h) in
     record {
       name = found.0;
       is = found.1;
-      there = named-there (λ name. IsSome (described name)) (first_named (codes "PFILE") f.head.keywords) found.0 found.1 (keyword-there described (first_named (codes "PFILE") f.head.keywords) faults);
+      there = named-there (λ name. IsSome (described name)) said found.0 found.1 (keyword-there described said faults);
     }
 
 formats-over : (described : List ℕ → Option PhysicalSpec) (last_line : ℕ) (is_multi : Bool) (fs : List FormatLines) → AllByRecursion (λ f. view_faults described last_line is_multi f ≡ []) fs
@@ -359,16 +361,17 @@ is-joining (k ∷ ks) none based =
         names = files-fit k h (takes-them (takes_its_arguments k) (subst (λ (b : Bool). ((b || has_name (codes "TEXT") k) && not (takes_its_arguments k)) ≡ false) h takes));
       }
       | inr h ↦
-        let text : has_name (codes "TEXT") k ≡ true = or-else (has_name (codes "JFILE") k) (has_name (codes "TEXT") k) stands h in
-        let other : has_name (codes "PFILE") k ≡ false = named-so (codes "TEXT") (codes "PFILE") k text in
-        let skipped : (has_name (codes "PFILE") k || has_name (codes "JFILE") k) ≡ false = ap (λ (b : Bool). b || has_name (codes "JFILE") k) other ∙ h in
-        let rest : is_join_keyword (based_on ks) ≡ true = ap is_join_keyword (sym (cond-false (has_name (codes "PFILE") k || has_name (codes "JFILE") k) (Some k) (based_on ks) skipped)) ∙ based in
-        let found = is-joining ks more.1 rest in
-        record { keyword = found.keyword; is = cond-false (has_name (codes "JFILE") k) (Some k) (first_named (codes "JFILE") ks) h ∙ found.is; names = found.names }
+          let text : has_name (codes "TEXT") k ≡ true = or-else (has_name (codes "JFILE") k) (has_name (codes "TEXT") k) stands h in
+          let other : has_name (codes "PFILE") k ≡ false = named-so (codes "TEXT") (codes "PFILE") k text in
+          let skipped : (has_name (codes "PFILE") k || has_name (codes "JFILE") k) ≡ false = ap (λ (b : Bool). b || has_name (codes "JFILE") k) other ∙ h in
+          let rest : is_join_keyword (based_on ks) ≡ true = ap is_join_keyword (sym (cond-false (has_name (codes "PFILE") k || has_name (codes "JFILE") k) (Some k) (based_on ks) skipped)) ∙ based in
+          let found = is-joining ks more.1 rest in
+          record { keyword = found.keyword; is = cond-false (has_name (codes "JFILE") k) (Some k) (first_named (codes "JFILE") ks) h ∙ found.is; names = found.names }
     ]
 
 -- the first of some names, and each behind it
-first-there : (P : List ℕ → Type 0) (a : Argument) (args : List Argument) (o : Option (List ℕ)) → is_some o ≡ true → AllByRecursion P (cons_option o (names_among args)) → P (first_file (cons_option o (names_among args)))
+first-there : (P : List ℕ → Type 0) (a : Argument) (args : List Argument) (o : Option (List ℕ)) → is_some o ≡ true
+    → AllByRecursion P (cons_option o (names_among args)) → P (first_file (cons_option o (names_among args)))
 first-there P a args None some all = absurd cc
 first-there P a args (Some name) some all = all.0
 
@@ -398,8 +401,8 @@ join-head : (described : List ℕ → Option PhysicalSpec) (last_line : ℕ) (f 
 join-head described last_line f h =
     (nothing-in (head_faults described true f.head) _ (nothing-in _ _ (nothing-in _ _ (nothing-in _ _ (nothing-in _ _ (nothing-in _ _ h).0).0).0).0).0).0
 
-join-there : (described : List ℕ → Option PhysicalSpec) (last_line : ℕ) (ks : List Keyword) (f : FormatLines) → join_faults described last_line f ≡ [] → is_join_keyword (based_on f.head.keywords) ≡ true
-    → AllByRecursion (λ name. IsSome (described name)) (base_names (Join (join_described described ks f)))
+join-there : (described : List ℕ → Option PhysicalSpec) (last_line : ℕ) (ks : List Keyword) (f : FormatLines) → join_faults described last_line f ≡ []
+    → is_join_keyword (based_on f.head.keywords) ≡ true → AllByRecursion (λ name. IsSome (described name)) (base_names (Join (join_described described ks f)))
 join-there described last_line ks f none based =
     let P : List ℕ → Type 0 = λ name. IsSome (described name) in
     let head : head_faults described true f.head ≡ [] = join-head described last_line f none in
@@ -407,9 +410,11 @@ join-there described last_line ks f none based =
     let all : AllByRecursion P (files_joined f) = keyword-there described (first_named (codes "JFILE") f.head.keywords) (head-bases described true f.head head) in
     let files : files_joined f ≡ names_among (arguments_of joining.keyword) = ap keyword_names joining.is in
     let first : P (first_file (files_joined f)) =
-    subst (λ (names : List (List ℕ)). P (first_file names)) (sym files) (some-first P (arguments_of joining.keyword) joining.names (subst (AllByRecursion P) files all)) in
-    (first, each-map P (λ joined. joined.file) (joined_from (files_joined f) (fields_joined described f) (join_lines f) 1 (drop 1 (files_joined f)))
-    (joined-there P (files_joined f) (fields_joined described f) (join_lines f) 1 (drop 1 (files_joined f)) (each-drop P (files_joined f) all)))
+    subst (λ (names : List (List ℕ)). P (first_file names)) (sym files) (some-first P (arguments_of joining.keyword) joining.names (subst (AllByRecursion P) files all)) in (
+      first,
+      each-map P (λ joined. joined.file) (joined_from (files_joined f) (fields_joined described f) (join_lines f) 1 (drop 1 (files_joined f)))
+          (joined-there P (files_joined f) (fields_joined described f) (join_lines f) 1 (drop 1 (files_joined f)) (each-drop P (files_joined f) all)),
+    )
 
 -- ---- a file
 
