@@ -26,7 +26,7 @@ use Rattle.logical_model.specs.Formats.{given_in}
 use Rattle.library_steps.specs.LogicalFiles.{bases_of}
 use Rattle.library_steps.specs.Reads.{at_format}
 use Rattle.library_steps.specs.Records.{live_record, record_in, slot_there}
-use Rattle.library_steps.specs.Refusals.{found, refuse_if, sequences_left, OpenedFile, opened_file}
+use Rattle.library_steps.specs.Refusals.{found, refuse_if, sequences_left, opened_file}
 use Rattle.library_steps.specs.SlotChange.{NewSlot, change_made, cycle_for, few_changes, is_behind_last, not_held, noted, slot_changed, touched, with_cycle, with_slot, with_undo}
 use Rattle.library_steps.specs.State.{State, Memory, FileState, CycleState, OpenState, JobState, memory_of, job_at, job_changed, job_of, open_named, with_job, with_opens, with_status, fields_of}
 use Rattle.library_steps.specs.UniqueKeys.{keys_free}

@@ -1,17 +1,14 @@
 -- The default value of each field that a source describes may stand in it.
-use Rattle.std.proofs.Common.{◌≡◌, ℕ, zero, ◌+◌, ◌*◌, ◌^◌, ◌<◌, ◌≤◌, ◌/◌, ◌%◌, ◌&&◌, ◌==◌, not, nat_lt, nat_le, pos, cond, if◌then◌else◌, codes, Bool, true, false, Option, Some, None, is_some, length, Result, Ok, Err, List, [], ◌∷◌, ◌++◌, refl, sym, ◌∙◌, ap, subst, arith}
+use Rattle.std.proofs.Common.{◌≡◌, ℕ, ◌*◌, ◌^◌, ◌≤◌, ◌/◌, ◌%◌, ◌==◌, not, nat_lt, nat_le, pos, if◌then◌else◌, codes, Bool, true, false, Option, Some, None, is_some, length, Result, Ok, Err, List, [], ◌∷◌, ◌++◌, refl, sym, ap, subst, arith}
 use Rattle.std.proofs.lemmas.Bool.{and_parts, eqb-true}
 use Rattle.std.proofs.lemmas.Bool.Decides.{nat_tests}
 use Rattle.std.proofs.Math.Nat.{one-le-pow}
-use Rattle.std.specs.List.{AllByRecursion}
 use Rattle.field_types.specs.declared.kinds.Kind.{Kind}
 use Rattle.field_types.specs.declared.kinds.Kind.TheVariants.{Char, Zoned, Packed, Binary, Date, Time, Stamp}
 use Rattle.field_types.specs.declared.kinds.FieldType.{FieldType}
-use Rattle.field_types.specs.declared.values.Dec.{Dec}
 use Rattle.field_types.specs.declared.values.Value.{Value}
-use Rattle.field_types.specs.declared.faults.ValueFault.{ValueFault}
-use Rattle.field_types.specs.declared.faults.ValueFault.TheVariants.{TooManyDecimals, TooWide, BadDate}
-use Rattle.field_values.specs.FieldTypes.{IsFieldType, is_allowed, width}
+use Rattle.field_types.specs.declared.faults.ValueFault.TheVariants.{TooManyDecimals, TooWide}
+use Rattle.field_values.specs.FieldTypes.{IsFieldType, is_allowed}
 use Rattle.field_values.specs.Digits.{is_negative, signed}
 use Rattle.field_values.specs.FieldBytes.{fault_of, number_fault, text_fault, is_too_wide}
 use Rattle.ebc_text.specs.CodePage.{ebcdic_of}
@@ -33,7 +30,7 @@ use Rattle.dds_physical.specs.Names.{name_of}
 use Rattle.dds_physical.specs.Lines.{described, described_of, line_faults, line_faults_of, lines_described, lines_faults, or_those, type_faults, unless_faulty, with_field, with_named_field, with_key}
 use Rattle.dds_physical.specs.Physical.{draft_of, faults_of, finished, physical_of, specification}
 use Rattle.dds_physical.specs.References.{reference_file, typed}
-use Rattle.dds_physical.specs.WholeFile.{file_faults, whole_faults}
+use Rattle.dds_physical.specs.WholeFile.{whole_faults}
 use Rattle.dds_physical.proofs.FaultLemmas.{nothing_noted}
 use Rattle.logical_laws.specs.Mapped.{HoldDefaults}
 use Rattle.library_kept.proofs.FieldLemmas.{typed-allowed, unless-ok}

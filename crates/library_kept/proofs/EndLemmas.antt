@@ -40,8 +40,7 @@ rolled-holds : (files : Named FileState) (job : JobState) → OpensHold files jo
 rolled-holds files job all =
     opens-map files rolled_back_open
     (λ opened holds. elim opened.commit as
-    (λ b. OpenHolds files (if b then record opened { position = opened.boundary; current = None; last_read = None } else record opened { current = None; last_read = None }))
-    [
+    (λ b. OpenHolds files (if b then record opened { position = opened.boundary; current = None; last_read = None } else record opened { current = None; last_read = None })) [
       | true ↦ OpenHolds-alike files opened (record opened { position = opened.boundary; current = None; last_read = None }) refl refl refl refl holds
       | false ↦ OpenHolds-alike files opened (record opened { current = None; last_read = None }) refl refl refl refl holds
     ]) job.opens all

@@ -1,18 +1,17 @@
 -- Whose records an open reads and writes: a physical file's own, or those of the base file of a format.
-use Rattle.std.proofs.Common.{◌≡◌, ℕ, zero, suc, ◌-◌, ◌==◌, nat_lt, cond, if◌then◌else◌, Bool, true, false, Option, Some, None, is_some, IsSome, IfSome, slice_get, unwrap_or, Result, Ok, Err, List, [], ◌∷◌, map, length, refl, sym, ◌∙◌, ap, subst}
+use Rattle.std.proofs.Common.{◌≡◌, ℕ, zero, suc, Bool, true, false, Option, Some, None, is_some, IsSome, IfSome, slice_get, unwrap_or, Result, Ok, List, [], ◌∷◌, map, refl, sym, ◌∙◌, ap, subst}
 use Rattle.std.proofs.lemmas.Option.{slice_get-map}
-use Rattle.std.specs.List.{AllByRecursion, position, position_or_len}
+use Rattle.std.specs.List.{AllByRecursion, position}
 use Rattle.std.specs.Option.{option_map}
 use Rattle.std.specs.Str.{bytes_eq}
 use Rattle.field_types.specs.declared.values.Value.{Value}
-use Rattle.field_types.specs.declared.faults.RecordFault.{RecordFault}
 use Rattle.record_fmt.specs.declared.formats.Field.{Field}
 use Rattle.record_fmt.specs.Records.{record_given, record_held}
 use Rattle.dds_physical.specs.declared.physical_files.PhysicalSpec.{PhysicalSpec}
 use Rattle.dds_logical.specs.declared.views.View.{View}
 use Rattle.dds_logical.specs.declared.views.LogicalSpec.{LogicalSpec}
 use Rattle.dds_logical.specs.declared.views.LogicalSpec.TheVariants.{Simple, Multi, Join}
-use Rattle.logical_model.specs.Bases.{Base, Bases, FileSpec, PhysicalFile, LogicalFile, base_names, base_members}
+use Rattle.logical_model.specs.Bases.{Base, Bases, FileSpec, PhysicalFile, LogicalFile, base_names}
 use Rattle.logical_model.specs.Formats.{format_number, given_by, given_in}
 use Rattle.logical_laws.specs.Mapped.{HoldDefaults}
 use Rattle.logical_laws.specs.Found.{HoldsRecord}
@@ -20,7 +19,7 @@ use Rattle.logical_laws.proofs.GivenLemmas.{given-makes}
 use Rattle.library_model.specs.Named.{Named, named}
 use Rattle.library_model.specs.declared.replies.Reply.{Reply}
 use Rattle.library_steps.specs.LogicalFiles.{bases_in, bases_of}
-use Rattle.library_steps.specs.Refusals.{OpenedFile, opened_file, named_or_refused}
+use Rattle.library_steps.specs.Refusals.{OpenedFile, opened_file}
 use Rattle.library_steps.specs.Reads.{at_format}
 use Rattle.library_steps.specs.State.{State, FileState, MemberStatus, OpenState, memory_of, fields_of, format_in, physical_among}
 use Rattle.library_steps.specs.WriteRecord.{format_asked}

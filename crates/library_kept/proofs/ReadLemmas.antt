@@ -1,8 +1,7 @@
 -- A read finds an entry of a format of its open, which still is over the same members.
-use Rattle.std.proofs.Common.{◌≡◌, ℕ, zero, suc, ◌-◌, ◌==◌, ◌<◌, if◌then◌else◌, IsTrue, Bool, true, false, Option, Some, None, is_some, IsSome, IfSome, slice_get, Result, Ok, Err, List, [], ◌∷◌, map, Contains, refl, sym, ◌∙◌, ap, subst, arith}
+use Rattle.std.proofs.Common.{◌≡◌, ℕ, zero, suc, ◌-◌, ◌<◌, if◌then◌else◌, IsTrue, Bool, true, false, Option, Some, None, is_some, IsSome, IfSome, slice_get, Ok, List, [], ◌∷◌, map, Contains, refl, sym, ◌∙◌, ap, subst, arith}
 use Rattle.std.proofs.lemmas.List.Elements.{All-contains_itself, recursion_from_All}
 use Rattle.std.specs.List.{AllByRecursion}
-use Rattle.std.specs.Option.{option_map}
 use Rattle.dds_physical.specs.declared.physical_files.PhysicalSpec.{PhysicalSpec}
 use Rattle.dds_logical.specs.declared.views.LogicalSpec.{LogicalSpec}
 use Rattle.dds_logical.specs.declared.views.LogicalSpec.TheVariants.{Simple, Multi, Join}
@@ -34,15 +33,15 @@ use Rattle.library_steps.specs.LogicalFiles.{bases_in}
 use Rattle.library_steps.specs.Reads.{Found, FoundEntry, at_format, chain_plan, chained, entry_found, find_by, find_in, has_read, if_lockable, read_call, read_equal_plan, read_plan, row_found, with_opened}
 use Rattle.library_steps.specs.Records.{is_keyed, key_asked, number_asked, reading_of}
 use Rattle.library_steps.specs.Refusals.{OpenedFile, found, opened_file}
-use Rattle.library_steps.specs.State.{State, Memory, FileState, MemberStatus, OpenState, JobState, memory_of, job_at, job_of, open_named}
+use Rattle.library_steps.specs.State.{State, OpenState, JobState, memory_of, job_at, job_of}
 use Rattle.library_parts.specs.Lawful.{IsOfMember, IsOverBases, OpenHolds, OpensBy}
 use Rattle.library_parts.proofs.BaseLemmas.{OpenHolds-has_read}
-use Rattle.library_parts.proofs.FindLemmas.{found-is, open-holds}
+use Rattle.library_parts.proofs.FindLemmas.{found-is}
 use Rattle.library_parts.proofs.LawfulLemmas.{KeepsOpens}
 use Rattle.joint_state.specs.Opens.{AreToldApart, IsBefore}
 use Rattle.joint_state.specs.Sound.{IsSound}
 use Rattle.library_kept.proofs.FindLemmas.{if-some, chain_key-holds, chain_number-holds}
-use Rattle.library_kept.proofs.ListLemmas.{each-append, each-map, each-weaker}
+use Rattle.library_kept.proofs.ListLemmas.{each-append, each-weaker}
 use Rattle.library_kept.proofs.OwnerLemmas.{mapped-from, open-over}
 use Rattle.library_kept.proofs.PlanLemmas.{job-there, named-each, opened-is}
 use Rattle.library_kept.proofs.ResultLemmas.{bind-ok, ok-equal}
@@ -211,14 +210,15 @@ only-open name opened (first ∷ opens) apart there =
     elim (same_name name first.0) as (λ b. (if b then Some first.1 else named name opens) ≡ Some opened → AllByRecursion (λ entry. entry.1.number ≡ opened.number → entry.1 ≡ opened) (first ∷ opens)) [
       | true ↦ λ here. (
           let same : first.1 ≡ opened = cc in
-          let number : first.1.number ≡ opened.number = ap (λ (o : OpenState). o.number) same in
-          (λ e. same,
+          let number : first.1.number ≡ opened.number = ap (λ (o : OpenState). o.number) same in (
+            λ e. same,
             each-weaker (IsBefore first) (λ (entry : List ℕ × OpenState). entry.1.number ≡ opened.number → entry.1 ≡ opened) opens
-                (λ entry before e. absurd (let less = before.numbers in omega (arith, less, number, e))) apart.0))
+                (λ entry before e. absurd (let less = before.numbers in omega (arith, less, number, e))) apart.0,
+          ))
       | false ↦ λ later. (
           let before : first.1.number < opened.number =
-              named-each (λ (o : OpenState). first.1.number < o.number) name opens opened
-              (each-weaker (IsBefore first) (λ (entry : List ℕ × OpenState). first.1.number < entry.1.number) opens (λ entry b. b.numbers) apart.0) later in
+          named-each (λ (o : OpenState). first.1.number < o.number) name opens opened
+          (each-weaker (IsBefore first) (λ (entry : List ℕ × OpenState). first.1.number < entry.1.number) opens (λ entry b. b.numbers) apart.0) later in
           (λ e. absurd (omega (arith, before, e)), only-open name opened opens apart.1 later))
     ] there
 

@@ -1,5 +1,5 @@
 -- Whatever request is done leaves a library, with members within their limits.
-use Rattle.std.proofs.Common.{◌≡◌, ℕ, ◌+◌, nat_le, nat_lt, not, length, IsTrue, true, Option, Some, None, IsSome, Result, Ok, List, [], ◌∷◌, slice_get, refl, sym, subst}
+use Rattle.std.proofs.Common.{◌≡◌, ℕ, ◌+◌, nat_le, nat_lt, not, length, IsTrue, true, Some, None, IsSome, Result, Ok, List, [], ◌∷◌, slice_get, refl, sym, subst}
 use Rattle.std.specs.Option.{is_some, is_none}
 use Rattle.file_catalogue.specs.declared.changes.StatusChange.TheVariants.{Journaled, Unjournaled}
 use Rattle.file_model.specs.Positions.{Before, Past, next_from, prior_from, next_equal, prior_equal}

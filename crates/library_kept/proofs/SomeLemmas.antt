@@ -1,20 +1,17 @@
 -- A logical file that a source describes has a format.
-use Rattle.std.proofs.Common.{◌≡◌, ℕ, zero, Bool, true, false, if◌then◌else◌, Option, Some, None, IsSome, slice_get, Result, Ok, Err, List, [], ◌∷◌, ◌++◌, map, refl, subst}
-use Rattle.dds_source.specs.Entries.{when}
+use Rattle.std.proofs.Common.{◌≡◌, ℕ, Bool, true, false, if◌then◌else◌, Option, Some, None, IsSome, slice_get, Ok, List, [], ◌∷◌, map, refl, subst}
 use Rattle.dds_source.specs.Faults.{first_after}
 use Rattle.dds_source.specs.declared.faults.DdsFault.{DdsFault}
-use Rattle.dds_source.specs.declared.faults.DdsCause.TheVariants.{NoFormat}
 use Rattle.dds_source.specs.declared.specifications.Source.{Source}
 use Rattle.dds_physical.specs.declared.physical_files.PhysicalSpec.{PhysicalSpec}
-use Rattle.dds_physical.specs.WholeFile.{fault_of_file}
 use Rattle.dds_physical.proofs.FaultLemmas.{nothing_noted}
 use Rattle.dds_logical.specs.declared.views.View.{View}
 use Rattle.dds_logical.specs.declared.views.LogicalSpec.{LogicalSpec}
 use Rattle.dds_logical.specs.FormatLines.{FormatLines, formats_in, is_join_file, is_multi_format}
-use Rattle.dds_logical.specs.Logical.{described_by, faults_over, join_described_by, logical_faults, logical_of, logical_specification, most_parts, one_or_several, unless_fault, view_described}
-use Rattle.dds_logical.specs.WholeFile.{format_missing_faults, lacks_format}
+use Rattle.dds_logical.specs.Logical.{described_by, join_described_by, logical_faults, logical_of, logical_specification, most_parts, one_or_several, unless_fault, view_described}
+use Rattle.dds_logical.specs.WholeFile.{format_missing_faults}
 use Rattle.logical_model.specs.Bases.{base_names}
-use Rattle.library_kept.proofs.DefaultLemmas.{none-right, not-said}
+use Rattle.library_kept.proofs.DefaultLemmas.{none-right}
 
 abbrev HasFormat : LogicalSpec → Type 0
 HasFormat spec = IsSome (slice_get (base_names spec) 0)

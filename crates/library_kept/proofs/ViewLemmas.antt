@@ -1,5 +1,5 @@
 -- What a logical file stores still lies in whole fields of its base files, where these stay.
-use Rattle.std.proofs.Common.{◌≡◌, ℕ, IsSome, Some, List, ◌∷◌, [], ◌++◌, map, refl, sym, subst}
+use Rattle.std.proofs.Common.{◌≡◌, ℕ, IsSome, Some, List, refl, sym, subst}
 use Rattle.std.specs.List.{AllByRecursion}
 use Rattle.dds_logical.specs.declared.views.LogicalSpec.{LogicalSpec}
 use Rattle.logical_model.specs.Bases.{FileSpec, PhysicalFile, LogicalFile, base_names}
