@@ -1,22 +1,15 @@
 -- The access path of a logical file that may have no equal keys is the file's own, and has one format.
-use Rattle.std.proofs.Common.{◌≡◌, inl, inr, ◌∙◌, true, List, [], ◌∷◌, map, refl, sym, ap}
-use Rattle.std.specs.List.{AllByRecursion}
+use Rattle.std.proofs.Common.{◌≡◌, inl, inr, ◌∙◌, true, [], ◌∷◌, map, refl, sym, ap}
 use Rattle.std.proofs.lemmas.Bool.{true≢false}
-use Rattle.key_spec.specs.declared.Ties.{Ties}
-use Rattle.dds_logical.specs.declared.views.View.{View}
 use Rattle.dds_logical.specs.declared.views.LogicalSpec.{LogicalSpec}
 use Rattle.dds_logical.specs.declared.views.LogicalSpec.TheVariants.{Simple, Multi, Join}
-use Rattle.dds_logical.specs.declared.join_views.JoinedFile.{JoinedFile}
-use Rattle.file_model.specs.declared.joins.Secondary.{Secondary}
 use Rattle.file_model.specs.declared.paths.PathFormat.{PathFormat}
 use Rattle.file_model.specs.declared.paths.PathSpec.{PathSpec}
 use Rattle.file_model.specs.FilePaths.{every_record, path_format}
 use Rattle.file_model.specs.Joins.{secondary_path}
 use Rattle.file_model.specs.Paths.{repeated_in}
-use Rattle.file_model.specs.Views.{default_image}
-use Rattle.logical_model.specs.Bases.{Base, Bases, base_members}
-use Rattle.logical_model.specs.FilePaths.{logical_paths, secondary_of, ties_of_views, view_format}
-use Rattle.logical_laws.specs.Mapped.{AreSameBases}
+use Rattle.logical_model.specs.Bases.{Bases, base_members}
+use Rattle.logical_model.specs.FilePaths.{logical_paths, secondary_of, view_format}
 use Rattle.library_steps.specs.State.{Memory}
 use Rattle.library_steps.specs.CreateLogicalFile.{first_repeated as own_repeated}
 use Rattle.key_state.proofs.ListLemmas.{IsIn, in-map}
