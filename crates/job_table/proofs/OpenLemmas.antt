@@ -1,10 +1,10 @@
 -- What a change of each open makes of the list of opens, and that their numbers stay in order.
-use Rattle.std.proofs.Common.{◌≡◌, ℕ, ◌<◌, ◌≤◌, ◌==◌, Bool, true, false, if◌then◌else◌, List, length, map, filter, get_or, refl, arith}
+use Rattle.std.proofs.Common.{◌≡◌, ℕ, ◌<◌, ◌≤◌, ◌==◌, Bool, true, false, if◌then◌else◌, None, List, length, map, filter, get_or, refl, arith}
 use Rattle.std.proofs.lemmas.List.{length-map, get_or-map}
 use Rattle.std.proofs.lemmas.List.Elements.{All-filter}
 use Rattle.std.proofs.lemmas.List.Kept.{AllPairs-filter}
 use Rattle.library_steps.specs.State.{OpenState}
-use Rattle.library_steps.specs.Reads.{positioned, has_read}
+use Rattle.library_steps.specs.Reads.{positioned, has_read, entry_found}
 use Rattle.library_steps.specs.ChangeRecord.{is_current, without_current}
 use Rattle.job_table.specs.declared.opens.OpenChange.{OpenChange}
 use Rattle.job_table.specs.declared.opens.OpenChange.TheVariants.{Positioned, HasRead, WithoutCurrent, WithoutRecord, Committed, RolledBack}
@@ -22,8 +22,8 @@ number-either false one other number first second = second
 
 -- no change gives an open another number
 pub number-open_after : (change : OpenChange) (opened : OpenState) → (open_after change opened).number ≡ opened.number
-number-open_after (Positioned number position) opened = number-either (opened.number == number) (positioned position opened) opened opened.number refl refl
-number-open_after (HasRead number call entry) opened = number-either (opened.number == number) (has_read call entry opened) opened opened.number refl refl
+number-open_after (Positioned number position) opened = number-either (opened.number == number) (positioned None position opened) opened opened.number refl refl
+number-open_after (HasRead number call entry) opened = number-either (opened.number == number) (has_read call (entry_found entry) opened) opened opened.number refl refl
 number-open_after (WithoutCurrent number) opened = number-either (opened.number == number) (without_current opened) opened opened.number refl refl
 number-open_after (WithoutRecord member rrn) opened = number-either (is_current member rrn opened) (without_current opened) opened opened.number refl refl
 number-open_after Committed opened = number-either opened.commit _ opened opened.number refl refl

@@ -1,5 +1,6 @@
 -- What a job's opens are asked: which of them are over a member, and which are under commitment control. (Our own.)
 use Rattle.std.specs.Prelude.{ℕ, ◌<◌, ◌≤◌, ◌==◌, ◌&&◌, Bool, List, All, AllPairs}
+use Rattle.std.specs.List.{list_any}
 use Rattle.library_model.specs.declared.limits.TheConstants.{MOST_OPENS}
 use Rattle.library_model.specs.Named.{Named}
 use Rattle.library_steps.specs.State.{OpenState}
@@ -9,8 +10,9 @@ pub record HasRoomForAll (count room : ℕ) : Type 0 where
   pub few : count ≤ MOST_OPENS
   pub room_for_all : MOST_OPENS ≤ room
 
+-- over one of its members
 abbrev pub is_over : ℕ → List ℕ × OpenState → Bool
-is_over member entry = entry.1.member == member
+is_over member entry = list_any (λ base. base == member) entry.1.members
 
 abbrev pub has_committed : List ℕ × OpenState → Bool
 has_committed entry = entry.1.commit

@@ -1,5 +1,5 @@
 //! A job that has begun.
-ghost use Rattle.std.specs.Prelude.{◌≡◌, ◌+◌, ◌<◌, ◌≤◌, length, IfOk, OnOk};
+ghost use Rattle.std.specs.Prelude.{◌≡◌, ◌+◌, ◌<◌, ◌≤◌, [], ◌∷◌, length, IfOk, OnOk};
 ghost use Rattle.library_model.specs.declared.limits.TheConstants.{MOST_OPENS};
 ghost use Rattle.library_steps.specs.declared.limits.TheConstants.{MOST_GROUP_BYTES};
 ghost use Rattle.library_steps.specs.State.{new_job, with_opens};
@@ -108,7 +108,7 @@ impl Job {
     pub fn add_open(&mut self, args: &OpenFile, member: u32)
         requires few { length self.old.state.opens < MOST_OPENS }
         requires numbered { self.old.state.opened < LAST_OPEN }
-        ensures { self.new ≡ record self.old { state = with_open args.now member self.old.state } }
+        ensures { self.new ≡ record self.old { state = with_open args.now (member ∷ []) self.old.state } }
     {
         self.opened += 1;
         self.opens

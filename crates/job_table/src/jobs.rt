@@ -7,7 +7,7 @@ ghost use Rattle.library_steps.specs.declared.limits.TheConstants.{MOST_GROUP_CH
 ghost use Rattle.library_steps.specs.State.{new_job, job_at, job_changed, with_opens};
 ghost use Rattle.library_steps.specs.History.{is_running};
 ghost use Rattle.library_steps.specs.Opens.{with_open, without_open};
-ghost use Rattle.library_steps.specs.Reads.{open_changed, positioned, has_read};
+ghost use Rattle.library_steps.specs.Reads.{open_changed, positioned, has_read, entry_found};
 ghost use Rattle.library_steps.specs.ChangeRecord.{without_current, without_record};
 ghost use Rattle.library_steps.specs.Commitment.{with_level, without_cycle, committed_open, rolled_back_open, has_committed_open};
 ghost use Rattle.library_steps.specs.EndJob.{ended_job};
@@ -202,7 +202,7 @@ impl Jobs {
         requires running { IsTrue (is_running (job_at number self.old.jobs)) }
         requires few { length (job_of_number number self.old.jobs).opens < MOST_OPENS }
         requires numbered { (job_of_number number self.old.jobs).opened < LAST_OPEN }
-        ensures { self.new ≡ record self.old { jobs = job_changed (number - 1) (with_open args.now member) self.old.jobs } }
+        ensures { self.new ≡ record self.old { jobs = job_changed (number - 1) (with_open args.now (member ∷ [])) self.old.jobs } }
     {
         let job = &mut self.jobs[number as usize - 1];
         job.add_open(args, member);
@@ -220,7 +220,7 @@ impl Jobs {
     /// Sets the position of its open with that number.
     pub fn set_position(&mut self, number: u32, opened: u32, position: FilePosition)
         requires { IsTrue (is_running (job_at number self.old.jobs)) }
-        ensures { self.new ≡ record self.old { jobs = job_changed (number - 1) (open_changed opened (positioned position)) self.old.jobs } }
+        ensures { self.new ≡ record self.old { jobs = job_changed (number - 1) (open_changed opened (positioned None position)) self.old.jobs } }
     {
         self.change_opens(number, &OpenChange::Positioned(opened, position));
     }
@@ -228,7 +228,7 @@ impl Jobs {
     /// Notes what its open with that number has read.
     pub fn note_read(&mut self, number: u32, opened: u32, call: Call, entry: FoundRecord)
         requires { IsTrue (is_running (job_at number self.old.jobs)) }
-        ensures { self.new ≡ record self.old { jobs = job_changed (number - 1) (open_changed opened (has_read call entry)) self.old.jobs } }
+        ensures { self.new ≡ record self.old { jobs = job_changed (number - 1) (open_changed opened (has_read call (entry_found entry))) self.old.jobs } }
     {
         self.change_opens(number, &OpenChange::HasRead(opened, call, entry));
     }

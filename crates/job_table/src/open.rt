@@ -1,5 +1,7 @@
 //! One open of a job.
-ghost use Rattle.std.specs.Prelude.{◌≡◌};
+ghost use Rattle.std.specs.Prelude.{◌≡◌, ◌==◌, [], ◌∷◌};
+ghost use Rattle.std.specs.List.{list_any};
+ghost use Rattle.file_model.specs.Positions.{Start};
 ghost use Rattle.library_steps.specs.Opens.{new_open};
 ghost use Rattle.library_steps.specs.Reads.{current_after};
 ghost use Rattle.library_steps.specs.ChangeRecord.{without_record};
@@ -57,7 +59,7 @@ impl Model for Open {
 impl Open {
     /// An open that has read nothing.
     pub fn new(args: &OpenFile, number: u32, member: u32) -> Open
-        ensures { result ≡ new_open args.now number member }
+        ensures { result ≡ new_open args.now number (member ∷ []) }
     {
         Open {
             number,
@@ -92,6 +94,23 @@ impl Open {
         ensures { result ≡ self.now.member }
     {
         self.member
+    }
+
+    /// The number of its one member. It is over no other, has read by the one format of a physical file, and reads no rows.
+    pub fn only_member(&self) -> u32
+        ensures member { result ≡ self.now.member }
+        ensures only { self.now.members ≡ self.now.member ∷ [] }
+        ensures format { self.now.format ≡ 0 }
+        ensures rows { self.now.rows ≡ Start }
+    {
+        self.member
+    }
+
+    /// Whether it is over the member.
+    pub fn is_over(&self, member: u32) -> bool
+        ensures { result ≡ list_any (λ base. base == member) self.now.members }
+    {
+        self.member == member
     }
 
     /// What it may do.

@@ -123,7 +123,7 @@ impl Opens {
         ensures { result ≡ list_any (is_over member) self.now }
     {
         for entry in &self.opens {
-            if entry.1.member() == member {
+            if entry.1.is_over(member) {
                 return true;
             }
         }
