@@ -32,9 +32,10 @@ use Rattle.library_steps.specs.UniqueKeys.{keys_free}
 use Rattle.library_steps.specs.Uses.{changes_in}
 use Rattle.library_steps.specs.WriteRecord.{format_asked, has_room, is_input, next_place, packed, place_asked, place_plan, write_call, write_plan, write_change, write_record}
 use Rattle.library_parts.proofs.BackLemmas.{neither}
+use Rattle.library_parts.proofs.FindLemmas.{IsMember}
 use Rattle.joint_state.specs.CurrentRecords.{CurrentStands}
 use Rattle.joint_state.specs.Sound.{IsSound}
-use Rattle.joint_state.proofs.OpenLemmas.{HasOwner, IsAmong, OpenStands, among-format, opened-stands, each-among, owned-there}
+use Rattle.joint_state.proofs.OpenLemmas.{IsAmong, OpenStands, among-format, each-among, member-there, opened-stands}
 use Rattle.cycles_kept.proofs.CycleLemmas.{changed_record, HaveCycles}
 use Rattle.cycles_kept.proofs.HoldLemmas.{Holds, bind-holds, does-holds, found-there, if-not, then-holds, wider-holds, with-none}
 use Rattle.cycles_kept.proofs.JobLemmas.{IsAsking, named-each}
@@ -57,7 +58,7 @@ opened_file-finds name job m =
 
 -- each of the open's members is there
 member-is : (s : State) (opened : OpenState) (member : ℕ) → IsSound s → OpenStands s opened → IsAmong opened.members member → is_some (member_at member s.members) ≡ true
-member-is s opened member sound stands among = owned-there s member sound.library (each-among (HasOwner s) opened.members member stands.owned among)
+member-is s opened member sound stands among = member-there s member (each-among (IsMember s) opened.members member stands.members among)
 
 -- ---- what the job's own commit cycle has not changed
 

@@ -1,94 +1,26 @@
 -- The members of an open: each is a member of a physical file that is there, and that of the record read last is one of them.
-use Rattle.std.proofs.Common.{◌≡◌, ◌∙◌, ℕ, zero, suc, ◌+◌, ◌-◌, ◌<◌, ◌==◌, ◌||◌, if◌then◌else◌, true, false, cond, List, [], ◌∷◌, map, slice_get, Option, Some, None, is_some, IsSome, unwrap_or, subst, refl, sym, ap, arith, rules}
+use Rattle.std.proofs.Common.{◌≡◌, ℕ, zero, suc, ◌+◌, ◌<◌, true, false, List, [], ◌∷◌, slice_get, Option, Some, None, is_some, unwrap_or, subst, refl, sym, ap}
 use Rattle.std.specs.List.{AllByRecursion}
-use Rattle.std.specs.Option.{option_and_then, option_map_or}
-use Rattle.std.proofs.lemmas.Bool.Decides.{nat_tests}
-use Rattle.dds_physical.specs.declared.physical_files.PhysicalSpec.{PhysicalSpec}
-use Rattle.logical_model.specs.Bases.{FileSpec, PhysicalFile, LogicalFile, base_names}
+use Rattle.logical_model.specs.Bases.{FileSpec, PhysicalFile, LogicalFile}
 use Rattle.member_slots.specs.Members.{member_at}
-use Rattle.file_catalogue.specs.Owners.{Owns, has_number}
-use Rattle.file_catalogue.proofs.NameLemmas.{some-equal}
-use Rattle.file_catalogue.proofs.StatusLemmas.{has_number-cons}
-use Rattle.library_model.specs.Named.{Named, named, same_name}
-use Rattle.library_steps.specs.State.{State, FileState, MemberStatus, OpenState, JobState, memory_of, fields_of, if_physical, job_of, open_named, or_new, physical_among}
+use Rattle.library_model.specs.Named.{Named, named}
+use Rattle.library_steps.specs.State.{State, FileState, MemberStatus, OpenState, JobState, memory_of, fields_of, open_named}
 use Rattle.library_steps.specs.DeleteFile.{user_by}
-use Rattle.library_steps.specs.LogicalFiles.{base_in, bases_in}
 use Rattle.library_steps.specs.Reads.{at_format}
 use Rattle.library_steps.specs.Uses.{first_job, user_of_any}
-use Rattle.library_parts.specs.Lawful.{AreBased, IsBased, IsLibrary, OpenHolds, OpensBy, OpensFile, OpensHold}
+use Rattle.library_parts.specs.Lawful.{IsBased, IsLibrary, OpenHolds, OpensBy, OpensFile, OpensHold}
 use Rattle.library_parts.proofs.FileLemmas.{Owns-below}
+use Rattle.library_parts.proofs.FindLemmas.{IsMember, members-of-open, open-holds}
 use Rattle.library_parts.proofs.MemberLemmas.{IsThere-is_some}
-
--- ---- physical files
-
-pub record IsPhysicalAt (name : List ℕ) (files : Named FileState) (file : FileState) : Type 0 where
-  pub there : named name files ≡ Some file
-  pub spec : PhysicalSpec
-  pub physical : file.spec ≡ PhysicalFile spec
-
-if-physical : (name : List ℕ) (files : Named FileState) (spec : FileSpec) (other file : FileState) → named name files ≡ Some other → other.spec ≡ spec → if_physical spec other ≡ Some file
-    → IsPhysicalAt name files file
-if-physical name files (PhysicalFile spec) other file there is found =
-    let same : other ≡ file = some-equal found in
-    subst (IsPhysicalAt name files) same (record { there = there; spec = spec; physical = is })
-if-physical name files (LogicalFile spec) other file there is found = absurd cc
-
-pub physical-there : (name : List ℕ) (files : Named FileState) (file : FileState) → physical_among name files ≡ Some file → IsPhysicalAt name files file
-physical-there name files file found = by (named name files) (λ other is. is) found
-  where
-    by : (o : Option FileState) → ((other : FileState) → o ≡ Some other → named name files ≡ Some other) → option_and_then (λ (f : FileState). if_physical f.spec f) o ≡ Some file
-        → IsPhysicalAt name files file
-    by None there h = absurd cc
-    by (Some other) there h = if-physical name files other.spec other file (there other refl) refl h
 
 -- ---- members that files have
 
-pub record HasOwner (s : State) (number : ℕ) : Type 0 where
-  pub name : List ℕ
-  pub file : FileState
-  pub owns : Owns s.files name file number
+pub member-there : (s : State) (number : ℕ) → IsMember s number → is_some (member_at number s.members) ≡ true
+member-there s number its = IsThere-is_some (fields_of its.file) (member_at number s.members) its.has.there
 
--- it is there, and was made
-pub owned-there : (s : State) (number : ℕ) → IsLibrary s → HasOwner s number → is_some (member_at number s.members) ≡ true
-owned-there s number lawful its = IsThere-is_some (fields_of its.file) (member_at number s.members) (lawful.members its.name its.file number its.owns)
-
-pub owned-below : (s : State) (number : ℕ) → IsLibrary s → HasOwner s number → number < s.next_member
-owned-below s number lawful its = Owns-below s its.name its.file number lawful its.owns
-
--- a member that is found by its name has its number
-pub number-named : (name : List ℕ) (members : Named MemberStatus) (status : MemberStatus) → named name members ≡ Some status → has_number status.number members ≡ true
-number-named name [] status found = absurd cc
-number-named name (first ∷ members) status found =
-    has_number-cons status.number first members ∙
-    elim (same_name name first.0) as (λ b. cond b (Some first.1) (named name members) ≡ Some status → ((first.1.number == status.number) || has_number status.number members) ≡ true) [
-      | true ↦ λ here. let e : first.1 ≡ status = cc in subst (λ (other : MemberStatus). ((first.1.number == other.number) || has_number other.number members) ≡ true) e (grind (arith, nat_tests))
-      | false ↦ λ later. let rest = number-named name members status later in grind (arith, nat_tests, rest)
-    ] found
-
--- the member of the file's own name
-own-number : (o : Option MemberStatus) (members : Named MemberStatus) → ((status : MemberStatus) → o ≡ Some status → has_number status.number members ≡ true) → IsSome o
-    → has_number (option_map_or (λ (status : MemberStatus). status.number) o 0) members ≡ true
-own-number None members each some = absurd (search rules)
-own-number (Some status) members each some = each status refl
-
-base-owned : (s : State) (name : List ℕ) → AreBased s.files → IsSome (physical_among name s.files) → HasOwner s (base_in name (physical_among name s.files)).member
-base-owned s name based some = by (physical_among name s.files) (physical-there name s.files) some
-  where
-    by : (o : Option FileState) → ((file : FileState) → o ≡ Some file → IsPhysicalAt name s.files file) → IsSome o → HasOwner s (base_in name o).member
-    by None there h = absurd (search rules)
-    by (Some file) there h =
-        let its = there file refl in
-        let own : IsSome (named name file.members) = subst (IsBased s.files name file.members) its.physical (based name file its.there) in
-        record {
-          name = name;
-          file = file;
-          owns = record { there = its.there; has = own-number (named name file.members) file.members (number-named name file.members) own };
-        }
-
-bases-owned : (s : State) (names : List (List ℕ)) → AreBased s.files → AllByRecursion (λ name. IsSome (physical_among name s.files)) names
-    → AllByRecursion (HasOwner s) (map (λ name. (bases_in s.files name).member) names)
-bases-owned s [] based all = tt
-bases-owned s (name ∷ names) based all = (base-owned s name based all.0, bases-owned s names based all.1)
+-- the next one is none of them
+pub member-below : (s : State) (number : ℕ) → IsLibrary s → IsMember s number → number < s.next_member
+member-below s number lawful its = Owns-below s its.name its.file number lawful its.has.owns
 
 -- ---- opens
 
@@ -113,58 +45,33 @@ among-format number opened among = by (slice_get opened.members number) refl
     by None is = among
     by (Some member) is = record { place = number; is = is }
 
+among-open : (files : Named FileState) (opened : OpenState) → OpenHolds files opened → IsAmong opened.members opened.member
+among-open files opened holds = by (named opened.file files) holds
+  where
+    kind : (members : Named MemberStatus) (spec : FileSpec) → OpensBy files opened members spec → IsAmong opened.members opened.member
+    kind members (PhysicalFile spec) own = record { place = 0; is = ap (λ (ms : List ℕ). slice_get ms 0) own.only }
+    kind members (LogicalFile spec) over = record { place = opened.format; is = over.read }
+
+    by : (o : Option FileState) → OpensFile files opened o → IsAmong opened.members opened.member
+    by None h = absurd h
+    by (Some file) h = kind file.members file.spec h
+
 pub record OpenStands (s : State) (opened : OpenState) : Type 0 where
-  pub owned : AllByRecursion (HasOwner s) opened.members
+  pub members : AllByRecursion (IsMember s) opened.members
   pub among : IsAmong opened.members opened.member
 
-stands-by : (s : State) (opened : OpenState) (file : FileState) (spec : FileSpec) → IsLibrary s → named opened.file s.files ≡ Some file → file.spec ≡ spec
-    → OpensBy s.files opened file.members spec → OpenStands s opened
-stands-by s opened file (PhysicalFile spec) lawful there is holds = record {
-  owned = subst (AllByRecursion (HasOwner s)) (sym holds.only) (record { name = opened.file; file = file; owns = record { there = there; has = holds.has } }, tt);
-  among = record { place = 0; is = ap (λ (ms : List ℕ). slice_get ms 0) holds.only };
-}
-stands-by s opened file (LogicalFile spec) lawful there is holds =
-    let based : IsBased s.files opened.file file.members (LogicalFile spec) = subst (IsBased s.files opened.file file.members) is (lawful.bases opened.file file there) in
-    record {
-      owned = subst (AllByRecursion (HasOwner s)) (sym holds.all) (bases-owned s (base_names spec) lawful.bases based.bases);
-      among = record { place = opened.format; is = holds.read };
-    }
-
 pub open-stands : (s : State) (opened : OpenState) → IsLibrary s → OpenHolds s.files opened → OpenStands s opened
-open-stands s opened lawful holds = by (named opened.file s.files) (λ file is. is) holds
-  where
-    by : (o : Option FileState) → ((file : FileState) → o ≡ Some file → named opened.file s.files ≡ Some file) → OpensFile s.files opened o → OpenStands s opened
-    by None there h = absurd h
-    by (Some file) there h = stands-by s opened file file.spec lawful (there file refl) refl h
+open-stands s opened lawful holds = record { members = members-of-open s opened lawful holds; among = among-open s.files opened holds }
 
+-- that of a name
+pub opened-stands : (s : State) (job : ℕ) (name : List ℕ) (opened : OpenState) → IsLibrary s → open_named name job (memory_of s) ≡ Some opened → OpenStands s opened
+opened-stands s job name opened lawful found = open-stands s opened lawful (open-holds s job name opened lawful found)
+
+-- those of the job at a place
 pub opens-at : (files : Named FileState) (jobs : List JobState) (place : ℕ) (job : JobState) → AllByRecursion (OpensHold files) jobs → slice_get jobs place ≡ Some job → OpensHold files job
 opens-at files [] place job all here = absurd cc
 opens-at files (first ∷ jobs) zero job all here = let same : first ≡ job = cc in subst (OpensHold files) same all.0
 opens-at files (first ∷ jobs) (suc place) job all here = opens-at files jobs place job all.1 here
-
-opens-of : (s : State) (job : ℕ) → IsLibrary s → OpensHold s.files (job_of job (memory_of s))
-opens-of s job lawful =
-    elim (job == 0) as (λ b. OpensHold s.files (or_new (if b then None else slice_get s.jobs (job - 1)))) [
-      | true ↦ tt
-      | false ↦ by (slice_get s.jobs (job - 1)) (λ its is. opens-at s.files s.jobs (job - 1) its lawful.opens is)
-    ]
-  where
-    by : (o : Option JobState) → ((its : JobState) → o ≡ Some its → OpensHold s.files its) → OpensHold s.files (or_new o)
-    by None each = tt
-    by (Some its) each = each its refl
-
-named-open : (files : Named FileState) (name : List ℕ) (opens : Named OpenState) (opened : OpenState) → AllByRecursion (λ (e : List ℕ × OpenState). OpenHolds files e.1) opens
-    → named name opens ≡ Some opened → OpenHolds files opened
-named-open files name [] opened all found = absurd cc
-named-open files name (first ∷ opens) opened all found =
-    elim (same_name name first.0) as (λ b. cond b (Some first.1) (named name opens) ≡ Some opened → OpenHolds files opened) [
-      | true ↦ λ here. let same : first.1 ≡ opened = cc in subst (OpenHolds files) same all.0
-      | false ↦ λ later. named-open files name opens opened all.1 later
-    ] found
-
--- those of each job
-pub opened-stands : (s : State) (job : ℕ) (name : List ℕ) (opened : OpenState) → IsLibrary s → open_named name job (memory_of s) ≡ Some opened → OpenStands s opened
-opened-stands s job name opened lawful found = open-stands s opened lawful (named-open s.files name (job_of job (memory_of s)).opens opened (opens-of s job lawful) found)
 
 -- ---- a file that goes
 

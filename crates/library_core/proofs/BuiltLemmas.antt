@@ -1,4 +1,4 @@
--- What stays so of files without a key.
+-- What stays so of physical files without a key.
 use Rattle.std.proofs.Common.{ℕ, Bool, true, false, cond, filter, if◌then◌else◌, List, [], ◌∷◌, ◌++◌, map, Some, IfSome}
 use Rattle.std.specs.List.{AllByRecursion}
 use Rattle.library_model.specs.declared.sources.NamedSource.{NamedSource}
@@ -6,7 +6,7 @@ use Rattle.library_model.specs.Named.{Named, same_name}
 use Rattle.library_model.specs.SourceList.{text_of}
 use Rattle.library_steps.specs.State.{FileState, MemberStatus, status_changed}
 use Rattle.library_steps.specs.MemberCommands.{file_changed, with_member_name}
-use Rattle.built_state.specs.Unkeyed.{IsUnkeyed, AreUnkeyed, IsUnkeyedText, AreUnkeyedSources}
+use Rattle.built_state.specs.Unkeyed.{IsPlain, AreUnkeyed, IsUnkeyedText, AreUnkeyedSources}
 
 pub all-append : {X : Type 0} (P : X → Type 0) (xs ys : List X) → AllByRecursion P xs → AllByRecursion P ys → AllByRecursion P (xs ++ ys)
 all-append P [] ys all more = more
@@ -32,7 +32,7 @@ AreUnkeyed-status number change (entry ∷ files) all = (all.0, AreUnkeyed-statu
 pub AreUnkeyed-member : (file member : List ℕ) (number : ℕ) (files : Named FileState) → AreUnkeyed files → AreUnkeyed (file_changed file (with_member_name member number) files)
 AreUnkeyed-member file member number [] all = tt
 AreUnkeyed-member file member number (entry ∷ files) all =
-    (elim (same_name file entry.0) as (λ b. IsUnkeyed (if b then with_member_name member number entry.1 else entry.1).spec) [ true ↦ all.0 | false ↦ all.0 ], AreUnkeyed-member file member number files all.1)
+    (elim (same_name file entry.0) as (λ b. IsPlain (if b then with_member_name member number entry.1 else entry.1).spec) [ true ↦ all.0 | false ↦ all.0 ], AreUnkeyed-member file member number files all.1)
 
 -- the text of each name describes no file with a key
 pub text-unkeyed : (sources : List NamedSource) (name : List ℕ) → AreUnkeyedSources sources → IfSome (text_of sources name) IsUnkeyedText

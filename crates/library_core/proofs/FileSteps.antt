@@ -24,7 +24,7 @@ use Rattle.library_steps.specs.CreatePhysicalFile.{NewFile, formats_of, describe
 use Rattle.library_steps.specs.DeleteFile.{delete_plan, delete_change, delete_file, without_file}
 use Rattle.library_steps.specs.MemberCommands.{file_changed, with_member_name, renumbered, renumbering, empty_plan, add_member, clear_member, reorganize_member}
 use Rattle.library_steps.specs.Journaling.{journaled_from, start_journaling, end_journaling}
-use Rattle.built_state.specs.Unkeyed.{IsUnkeyed, IsUnkeyedText, AreUnkeyedSources}
+use Rattle.built_state.specs.Unkeyed.{IsUnkeyed, IsPlain, IsUnkeyedText, AreUnkeyedSources}
 use Rattle.library_core.proofs.ResultLemmas.{Holds, wider-holds, each-holds, found-holds, then-holds, bind-holds, does-holds}
 use Rattle.library_core.proofs.BuiltLemmas.{all-append, all-filter, AreUnkeyed-status, AreUnkeyed-member, text-unkeyed}
 use Rattle.library_core.proofs.SpareLemmas.{Spares, SparesIn, spares-files}
@@ -55,14 +55,14 @@ create_physical_file-spares sources m job timestamp args unkeyed =
     does-holds (create_change m job timestamp args) (create_plan sources m args) (SparesIn m) (wider-holds (create_plan sources m args) (λ (new : NewFile). IsUnkeyed new.spec) _ (λ new is. with_new new is) (unkeyed-file sources m args unkeyed))
   where
     with_new : (new : NewFile) → IsUnkeyed new.spec → SparesIn m (create_change m job timestamp args new)
-    with_new new is = spares-files m.files _ m.jobs (λ all. all-append (λ (entry : List ℕ × FileState). IsUnkeyed entry.1.spec) m.files ((args.file, new_file args.file m.next_member new) ∷ []) all (is, tt))
+    with_new new is = spares-files m.files _ m.jobs (λ all. all-append (λ (entry : List ℕ × FileState). IsPlain entry.1.spec) m.files ((args.file, new_file args.file m.next_member new) ∷ []) all (is, tt))
 
 -- ---- DLTF
 
 pub delete_file-spares : (m : Memory) (job timestamp : ℕ) (args : DeleteFile) → Holds (delete_file m job timestamp args) (SparesIn m)
 delete_file-spares m job timestamp args =
     does-holds (delete_change m job timestamp args) (delete_plan m args) (SparesIn m)
-    (each-holds (delete_plan m args) _ (λ file. spares-files m.files (without_file args.file m.files) m.jobs (λ all. all-filter (λ (entry : List ℕ × FileState). IsUnkeyed entry.1.spec) (λ entry. not (same_name args.file entry.0)) m.files all)))
+    (each-holds (delete_plan m args) _ (λ file. spares-files m.files (without_file args.file m.files) m.jobs (λ all. all-filter (λ (entry : List ℕ × FileState). IsPlain entry.1.spec) (λ entry. not (same_name args.file entry.0)) m.files all)))
 
 -- ---- members
 

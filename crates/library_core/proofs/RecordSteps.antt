@@ -1,6 +1,7 @@
 -- What the requests through an open leave: OPNDBF and CLOF, WRITE, UPDATE, DELETE and UNLOCK, and the reads.
 use Rattle.std.proofs.Common.{◌≡◌, ℕ, ◌-◌, Bool, true, false, Result, refl}
 use Rattle.journal_model.specs.Rollback.{MemberChange}
+use Rattle.logical_model.specs.Readings.{join_in}
 use Rattle.library_model.specs.declared.replies.Reply.{Reply}
 use Rattle.library_model.specs.declared.requests.OpenFile.{OpenFile}
 use Rattle.library_model.specs.declared.requests.OpenName.{OpenName}
@@ -24,7 +25,7 @@ use Rattle.library_core.proofs.SpareLemmas.{Spares, SparesIn, spares-files, spar
 
 pub open_file-spares : (m : Memory) (job : ℕ) (args : OpenFile) → Holds (open_file m job args) (SparesIn m)
 open_file-spares m job args =
-    does-holds _ (open_plan m job args) (SparesIn m) (each-holds (open_plan m job args) _ (λ status. spares-job m.files job (with_open args status.number) m.jobs (λ j. refl)))
+    does-holds _ (open_plan m job args) (SparesIn m) (each-holds (open_plan m job args) _ (λ members. spares-job m.files job (with_open args members) m.jobs (λ j. refl)))
 
 pub close_file-spares : (m : Memory) (job : ℕ) (args : OpenName) → Holds (close_file m job args) (SparesIn m)
 close_file-spares m job args = does-holds _ _ (SparesIn m) (each-holds _ _ (λ opened. spares-job m.files job (without_open args.open_id) m.jobs (λ j. refl)))
@@ -75,7 +76,7 @@ pub unlock-spares : (m : Memory) (job : ℕ) (args : OpenName) → Holds (unlock
 unlock-spares m job args = does-holds (unlock_change m job) (unlock_plan m job args) (SparesIn m) (each-holds _ _ (λ it. open-changes m job it.opened.number without_current))
 
 position-spares : (m : Memory) (job : ℕ) (plan : Result NewPosition Reply) → Holds plan (λ new. SparesIn m (position_change m job new))
-position-spares m job plan = each-holds plan _ (λ new. open-changes m job new.opened.number (positioned new.position))
+position-spares m job plan = each-holds plan _ (λ new. open-changes m job new.its.opened.number (positioned (join_in new.its.file.spec) new.position))
 
 pub set_lower_limit-spares : (m : Memory) (job : ℕ) (args : SetPosition) → Holds (set_lower_limit m job args) (SparesIn m)
 set_lower_limit-spares m job args = does-holds (position_change m job) _ (SparesIn m) (position-spares m job _)
@@ -84,7 +85,7 @@ pub set_greater_than-spares : (m : Memory) (job : ℕ) (args : SetPosition) → 
 set_greater_than-spares m job args = does-holds (position_change m job) _ (SparesIn m) (position-spares m job _)
 
 reading-spares : (m : Memory) (job : ℕ) (plan : Result FoundEntry Reply) → Holds plan (λ it. SparesIn m (read_change m job it))
-reading-spares m job plan = each-holds plan _ (λ it. open-changes m job it.its.opened.number (has_read it.call it.entry))
+reading-spares m job plan = each-holds plan _ (λ it. open-changes m job it.opened.number (has_read it.call it.found))
 
 pub read-spares : (m : Memory) (job : ℕ) (args : ReadRecord) → Holds (read m job args) (SparesIn m)
 read-spares m job args = does-holds (read_change m job) _ (SparesIn m) (reading-spares m job _)

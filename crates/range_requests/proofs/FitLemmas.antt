@@ -4,7 +4,7 @@ use Rattle.std.specs.List.{AllByRecursion}
 use Rattle.record_fmt.specs.declared.formats.Format.{Format}
 use Rattle.library_model.specs.Named.{Named, named}
 use Rattle.file_catalogue.specs.Owners.{AreApart, Owns}
-use Rattle.library_steps.specs.State.{State, FileState, fields_of}
+use Rattle.library_steps.specs.State.{State, FileState, fields_of, format_in}
 use Rattle.range_images.specs.declared.slot_given.SlotGiven.{SlotGiven}
 use Rattle.range_requests.specs.declared.found.Found.{Found}
 use Rattle.range_requests.specs.declared.walks.Walk.{Walk}
@@ -19,7 +19,7 @@ same-file files name other file another number apart one two =
     ap (λ (o : Option FileState). unwrap_or o file) (sym one.there ∙ ap (λ (n : List ℕ). named n files) same ∙ two.there)
 
 pub fit-walk : {T E : Type 0} (s : State) (found : Found) (walk : Walk) (r : Result T E) → AreApart s.files → IsKept s found → AddRecords walk.given.items (slots_of s found.member) → (format : Format) (given : List SlotGiven)
-    → format ≡ found.file.now.spec.format → given ≡ walk.given.items → OnOk r (AllByRecursion (IsFit format.fields) given) → OnOk r (IsFitWalk s found walk)
+    → format ≡ format_in found.file.now.spec → given ≡ walk.given.items → OnOk r (AllByRecursion (IsFit format.fields) given) → OnOk r (IsFitWalk s found walk)
 fit-walk s found walk (Err e) apart kept records format given is_format is_given fit = tt
 fit-walk s found walk (Ok x) apart kept records format given is_format is_given fit =
     let here : AllByRecursion (IsFit (fields_of found.file.now)) walk.given.items = subst (λ (gs : List SlotGiven). AllByRecursion (IsFit (fields_of found.file.now)) gs) is_given

@@ -33,7 +33,7 @@ use Rattle.library_steps.specs.Drafts.{Author, author_of}
 use Rattle.library_steps.specs.EntrySizes.{entry_bytes, entry_size, body_size}
 use Rattle.library_steps.specs.Refusals.{◌>>=◌, refuse_if}
 use Rattle.library_steps.specs.Ranges.{Range, RangeWork, Given, allowed, apply_plan, done_or_refused, given_forward, given_back, library_bytes, range_between, range_named, remove_plan, slots_now, told, with_range, work_of}
-use Rattle.library_steps.specs.UniqueKeys.{UniquePath, all_apart, own_unique, unique_paths}
+use Rattle.library_steps.specs.UniqueKeys.{all_apart, unique_paths}
 use Rattle.library_parts.specs.declared.stop.Stop.{Stop}
 use Rattle.library_parts.specs.declared.stop.Stop.TheVariants.{NoMemory, Refused}
 use Rattle.library_parts.specs.Answers.{Allows}
@@ -52,6 +52,7 @@ use Rattle.range_requests.specs.Walks.{IsWalked, Walks, as_given}
 use Rattle.range_requests.specs.Puts.{IsGivable, MayGive, given_to, members_given}
 use Rattle.range_requests.proofs.PutLemmas.{grows}
 use Rattle.range_requests.specs.Plans.{Finds, GivesPlan, IsKept, IsPlanOf}
+use Rattle.built_state.proofs.UniqueLemmas.{all_apart-unkeyed}
 use Rattle.range_requests.specs.Steps.{IsFitWalk, IsToldBy, IsWithin, limits, slots_of}
 
 -- ---- the steps of a plan
@@ -98,15 +99,8 @@ entry_bytes-numbered n [] = refl
 entry_bytes-numbered n (d ∷ drafts) =
     sum_by-cons entry_size (numbered d n) (numbered_from (n + 1) drafts) ∙ ap (λ (k : ℕ). 49 + body_size d.kind + k) (entry_bytes-numbered (n + 1) drafts) ∙ sym (sum_by-cons draft_size d drafts)
 
-own-none : (member : ℕ) (entry : List ℕ × FileState) → entry.1.spec.keys.unique ≡ false → own_unique member entry ≡ []
-own-none member entry none = rw none refl
-
-unique-none : (member : ℕ) (files : Named FileState) → AreUnkeyed files → flat_map (own_unique member) files ≡ []
-unique-none member [] all = refl
-unique-none member (entry ∷ files) all = (λ i. own-none member entry all.0.unique i ++ unique-none member files all.1 i)
-
 paths-none : (member : ℕ) (m after : Memory) → AreUnkeyed m.files → all_apart (unique_paths member m) after ≡ Ok true
-paths-none member m after all = ap (λ (paths : List UniquePath). all_apart paths after) (unique-none member m.files all)
+paths-none member m after all = all_apart-unkeyed member m after all
 
 refusals-join : (a b : Bool) (r q : Reply) (work : RangeWork) → (refuse_if a r >>= λ t. refuse_if b q >>= λ u. Ok work) ≡ ((refuse_if a r >>= λ t. refuse_if b q) >>= λ u. Ok work)
 refusals-join true b r q work = refl

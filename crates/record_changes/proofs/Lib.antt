@@ -3,3 +3,4 @@ mod ChangeLemmas
 mod FindLemmas
 mod LockLemmas
 mod PlaceLemmas
+mod WriteLemmas

@@ -12,11 +12,14 @@ abbrev pub through : (number member : ℕ) → (commit : Bool) → OpenState
 through number member commit = record {
   number = number;
   file = [];
+  members = [];
+  format = 0;
   member = member;
   option = All;
   access_path = Arrival;
   commit = commit;
   position = Start;
+  rows = Start;
   current = None;
   last_read = None;
   boundary = Start;

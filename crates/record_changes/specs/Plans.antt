@@ -1,7 +1,12 @@
 -- How a plan answers for a slot to change or a record to unlock: with it, the refusal, or out of memory. (Our own.)
-use Rattle.std.specs.Prelude.{◌≡◌, Result, Ok, Err}
+use Rattle.std.specs.Prelude.{◌≡◌, ℕ, None, Result, Ok, Err}
+use Rattle.record_fmt.specs.Records.{record_given}
+use Rattle.library_model.specs.declared.requests.WriteRecord.{WriteRecord}
 use Rattle.library_model.specs.declared.replies.Reply.{Reply}
+use Rattle.library_steps.specs.State.{Memory, FileState, OpenState, fields_of}
+use Rattle.library_steps.specs.Refusals.{◌>>=◌, OpenedFile}
 use Rattle.library_steps.specs.SlotChange.{NewSlot}
+use Rattle.library_steps.specs.WriteRecord.{packed, place_plan}
 use Rattle.library_steps.specs.ChangeRecord.{LastRead}
 use Rattle.library_parts.specs.declared.stop.Stop.{Stop}
 use Rattle.library_parts.specs.declared.stop.Stop.TheVariants.{NoMemory, Refused}
@@ -14,6 +19,14 @@ new_slot planned = record { opened = planned.opened; rrn = planned.rrn; slot = p
 
 abbrev pub last_read : LockedRead → LastRead
 last_read read = record { opened = read.opened; rrn = read.rrn }
+
+abbrev pub opened_with : OpenState → FileState → OpenedFile
+opened_with opened file = record { opened = opened; file = file }
+
+-- a record to add through an open of a file without a key, from the values on
+abbrev pub given_plan : Memory → (job : ℕ) → OpenedFile → WriteRecord → Result NewSlot Reply
+given_plan m job its args =
+    packed (record_given (fields_of its.file) args.values None) >>= λ image. place_plan m job its.opened args.record_number image
 
 -- the wanted one, or its refusal, as the effect reads it
 abbrev pub as_read : {A : Type 0} → (A → A) → Result A Reply → Result A Reply

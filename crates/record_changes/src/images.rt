@@ -2,13 +2,19 @@
 ghost use Rattle.std.specs.Prelude.{◌≡◌, true, None, Some, is_some, length, IfOk};
 ghost use Rattle.record_fmt.specs.Layout.{record_length};
 ghost use Rattle.record_fmt.specs.Records.{record_given, record_held};
+ghost use Rattle.logical_model.specs.Formats.{given_in};
+ghost use Rattle.library_steps.specs.State.{fields_of, memory_of};
+ghost use Rattle.library_steps.specs.LogicalFiles.{bases_of};
 ghost use Rattle.library_steps.specs.WriteRecord.{packed};
+ghost use Rattle.built_state.specs.Unkeyed.{IsPlain};
 ghost use Rattle.library_parts.specs.Answers.{Gives};
 
 use field_types::texts::Image;
 use field_types::values::Value;
+use file_catalogue::File;
+use job_table::Open;
 use library_model::replies::Reply;
-use library_parts::Stop;
+use library_parts::{Contents, Stop};
 use record_fmt::formats::{Format, PackFault};
 use record_laws::{changed_record_holds, new_record_holds};
 use std::alloc::Global;
@@ -53,4 +59,24 @@ pub(crate) fn changed_image(
         Err(PackFault::NoMemory) => Err(Stop::NoMemory),
         Err(PackFault::Refused(fault)) => Err(Stop::Refused(Reply::BadValue(fault))),
     }
+}
+
+/// The image of a record that is changed through an open of a file without a key.
+pub(crate) fn image_over(
+    contents: &Contents,
+    file: &File,
+    opened: &Open,
+    given: &[Option<Value>],
+    old: &[u8],
+) -> Result<Image, Stop>
+    requires plain { IsPlain file.now.spec }
+    requires long { length old.now ≡ record_length (fields_of file.now) }
+    requires held { is_some (record_held (fields_of file.now) old.now) ≡ true }
+    ensures packed { Gives result (packed (given_in (bases_of (memory_of contents.now.state)) file.now.spec opened.now.format given.now (Some old.now))) }
+    ensures long { IfOk result (λ image. length image ≡ record_length (fields_of file.now)) }
+    ensures held { IfOk result (λ image. is_some (record_held (fields_of file.now) image) ≡ true) }
+{
+    // A file without a key has one format, whichever the open read last.
+    let _ = opened;
+    changed_image(contents.alloc(), file.format(), given, old)
 }

@@ -1,4 +1,5 @@
 //! What refuses a change of a record, beside what the library refuses to all requests.
+ghost use Rattle.std.specs.Prelude.{◌≡◌, IfOk};
 ghost use Rattle.member_slots.specs.declared.slot.Slot.TheVariants.{Deleted};
 ghost use Rattle.library_model.specs.declared.replies.Reply.TheVariants.{WrongOpen, NoCurrentRecord};
 ghost use Rattle.library_steps.specs.State.{memory_of};
@@ -6,26 +7,38 @@ ghost use Rattle.library_steps.specs.Records.{slot_there};
 ghost use Rattle.library_steps.specs.Refusals.{found, refuse_if};
 ghost use Rattle.library_steps.specs.SlotChange.{few_changes};
 ghost use Rattle.library_steps.specs.UniqueKeys.{keys_free};
-ghost use Rattle.library_steps.specs.WriteRecord.{format_or_refused, is_input};
-ghost use Rattle.built_state.specs.Unkeyed.{AreUnkeyed};
+ghost use Rattle.library_steps.specs.WriteRecord.{format_asked, is_input};
+ghost use Rattle.built_state.specs.Unkeyed.{IsPlain, AreUnkeyed};
+ghost use Rattle.built_state.specs.Plain.{format_named};
 ghost use Rattle.library_parts.specs.Answers.{Allows, Gives};
 
 use built_state::laws::unkeyed_files_have_no_unique_keys;
 use field_types::names::Name;
 use field_types::texts::Image;
+use file_catalogue::File;
 use job_table::Open;
 use library_model::replies::Reply;
 use library_model::requests::OpenOption;
 use library_parts::{Contents, Stop, no_such_name};
 use member_slots::slot::Slot;
 
-/// A format that is named has to be the file's.
-pub(crate) fn is_format(named: Option<Name>, format: &Name) -> Result<(), Stop>
-    ensures { Allows result (format_or_refused named format.now) }
+/// The number of the format that is named, counted from 0. A file without a key has one.
+pub(crate) fn format_asked(file: &File, named: Option<Name>) -> Result<u32, Stop>
+    requires plain { IsPlain file.now.spec }
+    ensures asked { Gives result (format_asked named file.now.spec) }
+    ensures first { IfOk result (λ number. number ≡ 0) }
+{
+    format_named(named, &file.format().name)
+}
+
+/// A format that is named has to be the file's one.
+fn format_named(named: Option<Name>, format: &Name) -> Result<u32, Stop>
+    ensures asked { Gives result (format_named named format.now) }
+    ensures first { IfOk result (λ number. number ≡ 0) }
 {
     match named {
         Some(name) if name != *format => Err(no_such_name(name)),
-        Some(_) | None => Ok(()),
+        Some(_) | None => Ok(0),
     }
 }
 

@@ -13,7 +13,7 @@ ghost use Rattle.record_changes.specs.Places.{AreFewChanges, IsReady, MayChange}
 ghost use Rattle.record_changes.specs.Plans.{PlansSlot, new_slot};
 
 use crate::change_slot::change_slot;
-use crate::images::changed_image;
+use crate::images::image_over;
 use crate::locks::{leave_locks, may_lock};
 use crate::planned::{PlannedSlot, Prepared, Through};
 use crate::prepare::prepare_change;
@@ -61,7 +61,7 @@ fn plan_update(contents: &Contents, job: u32, args: &UpdateRecord) -> Result<Pla
     let Some(old) = contents.live_image(opened.member(), rrn) else {
         return Err(Stop::NoMemory);
     };
-    let image = changed_image(contents.alloc(), file.format(), args.values.as_slice(), old)?;
+    let image = image_over(contents, file, opened, args.values.as_slice(), old)?;
     contents.not_held(job, opened, rrn)?;
     keys_free(contents, job, opened, rrn, &image)?;
     let slot = Slot::Live(image);

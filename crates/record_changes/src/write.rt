@@ -9,18 +9,20 @@ ghost use Rattle.library_steps.specs.Records.{slot_there};
 ghost use Rattle.library_steps.specs.WriteRecord.{next_place, place_asked, write_call, write_change, write_plan, write_record};
 ghost use Rattle.built_state.specs.Unkeyed.{AreUnkeyed};
 ghost use Rattle.library_parts.specs.Answers.{Answers, Gives};
+ghost use Rattle.library_parts.specs.Finds.{HasMember};
 ghost use Rattle.library_parts.specs.Locks.{HasLockRoom, IsWrite};
 ghost use Rattle.record_changes.specs.Locks.{MayLock};
 ghost use Rattle.record_changes.specs.Places.{AreFewChanges, IsReady, MayChange};
-ghost use Rattle.record_changes.specs.Plans.{PlansSlot, new_slot};
+ghost use Rattle.record_changes.specs.Plans.{PlansSlot, given_plan, new_slot, opened_with};
 
 use crate::change_slot::change_slot;
 use crate::images::new_image;
 use crate::locks::leave_locks;
 use crate::planned::{PlannedSlot, Prepared, Through};
 use crate::prepare::prepare_change;
-use crate::refusals::{is_format, keys_free, may_change};
+use crate::refusals::{format_asked, keys_free, may_change};
 use draft_list::may_deposit;
+use file_catalogue::File;
 use job_table::Open;
 use library_model::replies::Reply;
 use library_model::requests::WriteRecord;
@@ -55,12 +57,33 @@ fn plan_write(contents: &Contents, job: u32, args: &WriteRecord) -> Result<Plann
     ensures locks { IfOk result (λ planned. MayLock (write_call args.now.record_number) job planned.opened planned.rrn (memory_of contents.now.state)) }
     ensures may { IfOk result (λ planned. MayChange contents.now.state planned) }
 {
-    // No two members have one number.
-    let _counts = contents.counts();
     may_deposit(contents)?;
     let OpenFound { opened, file } = contents.opened_file(job, &args.open_id)?;
-    is_format(args.format, &file.format().name)?;
+    let _number = format_asked(file, args.format)?;
+    let _member = opened.only_member();
     may_change(opened)?;
+    plan_given(contents, job, opened, file, args)
+}
+
+/// The record that the values make, and its place.
+#[tactic(auto, unfolding(library_steps::specs::WriteRecord::place_plan))]
+fn plan_given(
+    contents: &Contents,
+    job: u32,
+    opened: &Open,
+    file: &File,
+    args: &WriteRecord,
+) -> Result<PlannedSlot, Stop>
+    requires running { IsTrue (is_running (job_at job contents.now.state.jobs)) }
+    requires unkeyed { AreUnkeyed contents.now.state.files }
+    requires there { HasMember contents.now.state opened.now.file file.now opened.now.member }
+    ensures plan { PlansSlot result (given_plan (memory_of contents.now.state) job (opened_with opened.now file.now) args.now) }
+    ensures few { IfOk result (λ planned. AreFewChanges planned (memory_of contents.now.state)) }
+    ensures locks { IfOk result (λ planned. MayLock (write_call args.now.record_number) job planned.opened planned.rrn (memory_of contents.now.state)) }
+    ensures may { IfOk result (λ planned. MayChange contents.now.state planned) }
+{
+    // No two members have one number.
+    let _counts = contents.counts();
     let image = new_image(contents.alloc(), file.format(), args.values.as_slice())?;
     let rrn = place_asked(contents, job, opened, args.record_number)?;
     contents.has_room(

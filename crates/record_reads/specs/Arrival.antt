@@ -1,7 +1,6 @@
 -- Which records a member has, and in which direction a read goes among them. (Database Programming, "Arrival sequence access path".)
 use Rattle.std.specs.Prelude.{◌≡◌, ℕ, true, Option, is_some, List, map}
 use Rattle.member_slots.specs.Member.{MemberState, records, slot_at}
-use Rattle.file_model.specs.Paths.{PathEntry}
 use Rattle.file_model.specs.Positions.{Position, Reading, next_from, prior_from}
 use Rattle.library_model.specs.declared.replies.Reply.{Reply}
 use Rattle.library_model.specs.declared.replies.Reply.TheVariants.{EndOfFile, BeginOfFile}
@@ -17,7 +16,7 @@ numbers member = map (λ pair. pair.0) (records member)
 abbrev pub HasRecord : MemberState → ℕ → Type 0
 HasRecord member rrn = is_some (record_in (slot_at member rrn)) ≡ true
 
-abbrev pub find_from : Direction → Reading PathEntry → Position PathEntry → Option PathEntry
+abbrev pub find_from : {A : Type 0} → Direction → Reading A → Position A → Option A
 find_from Next = next_from
 find_from Prior = prior_from
 

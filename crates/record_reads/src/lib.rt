@@ -1,5 +1,5 @@
 //! The requests that set positions and read records: SETLL, SETGT, READ, READP, READE, READPE and CHAIN, through opens of
-//! files without a key. Begin with `reads.rt`.
+//! physical files without a key. Begin with `reads.rt`.
 #![tactic(auto)]
 
 mod arrival;

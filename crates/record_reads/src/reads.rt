@@ -111,6 +111,7 @@ fn plan_read(
     ensures lockable { IfOk result (MayLock (memory_of contents.now.state) job) }
 {
     let OpenFound { opened, file } = contents.opened_file(job, &args.open_id)?;
+    let _member = opened.only_member();
     let Some(rrn) = found_from(contents, opened, direction) else {
         return Err(Stop::Refused(direction.nothing_found()));
     };
@@ -138,6 +139,7 @@ fn plan_chain(contents: &Contents, job: u32, args: &ChainRecord) -> Result<Plann
     ensures lockable { IfOk result (MayLock (memory_of contents.now.state) job) }
 {
     let OpenFound { opened, file } = contents.opened_file(job, &args.open_id)?;
+    let _member = opened.only_member();
     match &args.to {
         ChainTo::Key(_) => Err(Stop::Refused(Reply::WrongOpen)),
         ChainTo::RecordNumber(rrn) => {
@@ -181,7 +183,7 @@ fn plan_record(
     let call = read_call(lock, opened);
     contents.not_locked(call, job, opened, rrn)?;
     contents.few_locks_to_read(call, job, opened, rrn)?;
-    let shown = record_shown(contents, file, opened.member(), rrn)?;
+    let shown = record_shown(contents, file, opened, rrn)?;
     Ok(PlannedRead {
         used: used_open(contents, job, opened),
         call,

@@ -1,17 +1,17 @@
-use Rattle.std.proofs.Common.{◌≡◌, Ok, true, subst, sym}
-use Rattle.member_slots.specs.declared.slot.Slot.{Slot}
-use Rattle.member_slots.specs.declared.slot.Slot.TheVariants.{Live}
-use Rattle.lock_table.specs.declared.table.TheConstants.{MOST_LOCKS}
 use Rattle.library_steps.specs.State.{memory_of}
-use Rattle.library_steps.specs.SlotChange.{few_changes}
-use Rattle.record_changes.proofs.ChangeLemmas.{few-of}
+use Rattle.built_state.proofs.UnkeyedLemmas.{IsPlain-named}
+use Rattle.record_changes.proofs.WriteLemmas.{at_format-only, write-given}
 use Rattle.record_changes.proofs.write.plan_write.Goals as goal
 
-pub returns-clause-few : goal.returns-clause-few
-returns-clause-few c =
-    let memory = memory_of c.args.contents.now.state in
-    let opened = c.in_ok-opened.field-0.opened.now in
-    rw c.of.ensures (subst (λ (slot : Slot). few_changes opened.commit slot (Live c.in_ok-image.image) memory ≡ Ok true) (sym c.in_ok-rrn.ensures.empty) (rw c.commit.ensures at c.in_ok-few_changes.ensures))
+pub format_asked-requires-clause-plain : goal.format_asked-requires-clause-plain
+format_asked-requires-clause-plain c = IsPlain-named _ _ _ c.requires.unkeyed c.in_ok-opened.ensures.there.owns.there
 
-pub returns-clause-locks : goal.returns-clause-locks
-returns-clause-locks c = rw c.of.ensures (record { unlocked = c.in_ok-rrn.ensures.unlocked; few = few-of MOST_LOCKS _ _ (rw c.write_call.ensures.call at c.in_ok-few_locks_to_write.ensures) })
+pub returns-clause-plan : goal.returns-clause-plan
+returns-clause-plan c =
+    let plain = IsPlain-named _ _ _ c.requires.unkeyed c.in_ok-opened.ensures.there.owns.there in
+    let planned =
+    write-given (memory_of c.args.contents.now.state) c.args.job c.in_ok-opened.field-0.opened.now c.in_ok-opened.field-0.file.now c.args.args.now _ plain c.in_ok-may_deposit.ensures
+    c.in_ok-opened.ensures.found c.in_ok-_number.ensures.asked c.in_ok-may_change.ensures c.in_ok-_number.ensures.first
+    (at_format-only _ c.only_member-member.ensures.only c.only_member-member.ensures.format)
+    in
+    rw planned c.plan_given.ensures.plan
