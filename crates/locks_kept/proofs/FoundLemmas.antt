@@ -1,35 +1,34 @@
--- What a read finds is a record that stands in its member.
-use Rattle.std.proofs.Common.{◌≡◌, ℕ, zero, suc, ◌+◌, ◌-◌, ◌≤◌, ◌==◌, Bool, true, false, cond, if◌then◌else◌, map, flat_map, List, [], ◌∷◌, reverse, Option, Some, None, IsSome, IfSome, slice_get, refl, sym, ◌∙◌, ap, subst, arith}
+-- What a read finds is a record that stands in the member of its entry's format.
+use Rattle.std.proofs.Common.{◌≡◌, ℕ, zero, suc, ◌+◌, ◌-◌, ◌≤◌, ◌==◌, Bool, true, false, cond, if◌then◌else◌, List, [], ◌∷◌, ◌++◌, reverse, Option, Some, None, IsSome, IfSome, slice_get, Contains, refl, sym, subst, arith}
 use Rattle.std.specs.List.{AllByRecursion, find}
 use Rattle.std.specs.Ordering.{is_gt, is_lt}
 use Rattle.std.specs.declared.cmp.Ordering.{Ordering}
 use Rattle.std.proofs.lemmas.Bool.Decides.{nat_tests}
 use Rattle.std.proofs.lemmas.List.{reverse-append}
+use Rattle.std.proofs.lemmas.List.Elements.{All-contains_itself}
 use Rattle.member_slots.specs.declared.slot.Slot.{Slot}
 use Rattle.member_slots.specs.declared.slot.Slot.TheVariants.{Live, Deleted}
 use Rattle.member_slots.specs.Member.{MemberState, records_from, slot_at}
-use Rattle.member_slots.specs.Members.{NumberedMembers, member_of}
+use Rattle.member_slots.specs.Members.{member_of}
 use Rattle.dds_physical.specs.declared.physical_files.PhysicalSpec.{PhysicalSpec}
-use Rattle.dds_logical.specs.declared.views.View.{View}
 use Rattle.dds_logical.specs.declared.views.LogicalSpec.{LogicalSpec}
-use Rattle.dds_logical.specs.declared.views.LogicalSpec.TheVariants.{Simple, Multi, Join}
+use Rattle.dds_logical.specs.declared.views.LogicalSpec.TheVariants.{Join}
 use Rattle.dds_logical.specs.declared.join_views.JoinView.{JoinView}
-use Rattle.file_model.specs.declared.joins.Secondary.{Secondary}
 use Rattle.file_model.specs.declared.paths.PathFormat.{PathFormat}
-use Rattle.file_model.specs.declared.paths.PathSpec.{PathSpec}
 use Rattle.file_model.specs.KeyOrder.{KeyValue, begins_with}
-use Rattle.file_model.specs.Joins.{RowPlace, JoinRow, Matched, joined_rows, matches_of, or_missing, primary_records, primary_row, row_with, rows_of}
-use Rattle.file_model.specs.Paths.{PathEntry, compare_entries, entry_of, entries_of, entries_from, path, selected_of}
-use Rattle.file_model.specs.FilePaths.{physical_path}
+use Rattle.file_model.specs.Joins.{RowPlace}
+use Rattle.file_model.specs.Paths.{PathEntry, compare_entries, entry_of, entries_of, selected_of}
+use Rattle.file_model.specs.FilePaths.{every_record, own_fields, path_format}
 use Rattle.file_model.specs.Selection.{selects}
 use Rattle.file_model.specs.Sorting.{put_in_order, in_order}
 use Rattle.file_model.specs.Positions.{Reading, Position, arrival_entry, side_of, next_from, prior_from, next_equal, prior_equal, where_equal, chain_key, chain_number}
 use Rattle.logical_model.specs.Bases.{Bases, base_members}
-use Rattle.logical_model.specs.FilePaths.{view_format, views_path, primary_path, join_of}
 use Rattle.logical_model.specs.Readings.{physical_reading, logical_reading, rows_reading}
+use Rattle.logical_laws.specs.Found.{StandsIn}
+use Rattle.logical_laws.proofs.FoundLemmas.{entry-stands, row-stands}
 use Rattle.library_steps.specs.State.{Memory}
 use Rattle.library_steps.specs.Records.{live_record, record_in}
-use Rattle.locks_kept.proofs.ListLemmas.{all-append, all-each, all-filter, all-map, all-weaker}
+use Rattle.locks_kept.proofs.ListLemmas.{all-append, all-filter, all-from, all-map, all-weaker}
 
 -- ---- the records of a list of slots
 
@@ -96,52 +95,30 @@ selected-live format m =
     all-filter (λ (pair : ℕ × List ℕ). Stands format.member m pair.0) (λ pair. Stands format.member m pair.0) (λ pair. selects format.rules pair.1)
     (records_from 1 (member_of format.member m.members).slots) (λ pair passed stands. stands) (records-live format.member m)
 
-abbrev members_of : List PathFormat → List ℕ
-members_of formats = map (λ format. format.member) formats
-
--- the same of formats of which the first has this number
-record IsFrom (first : ℕ) (formats : List PathFormat) (m : Memory) (entry : PathEntry) : Type 0 where
-  after : first ≤ entry.format
-  member : ℕ
-  at : slice_get (members_of formats) (entry.format - first) ≡ Some member
-  stands : Stands member m entry.rrn
-
-entries-stand : (first : ℕ) (formats : List PathFormat) (m : Memory) → AllByRecursion (IsFrom first formats m) (entries_from first formats m.members)
-entries-stand first [] m = tt
-entries-stand first (format ∷ formats) m =
-    all-append (IsFrom first (format ∷ formats) m) (entries_of first format m.members) (entries_from (first + 1) formats m.members)
-    (all-map (λ (pair : ℕ × List ℕ). Stands format.member m pair.0) (IsFrom first (format ∷ formats) m) (entry_of first format) (selected_of format (member_of format.member m.members).slots)
-    (λ pair stands. record { after = omega arith; member = format.member; at = here; stands = stands }) (selected-live format m))
-    (all-weaker (IsFrom (first + 1) formats m) (IsFrom first (format ∷ formats) m) (entries_from (first + 1) formats m.members) behind (entries-stand (first + 1) formats m))
-  where
-    here : slice_get (members_of (format ∷ formats)) (first - first) ≡ Some format.member
-    here = let none : (first - first) ≡ 0 = omega arith in ap (slice_get (members_of (format ∷ formats))) none
-
-    behind : (entry : PathEntry) → IsFrom (first + 1) formats m entry → IsFrom first (format ∷ formats) m entry
-    behind entry is =
-        let above = is.after in
-        let place : (entry.format - first) ≡ suc (entry.format - (first + 1)) = omega (arith, above) in
-        record { after = omega (arith, above); member = is.member; at = ap (slice_get (members_of (format ∷ formats))) place ∙ is.at; stands = is.stands }
-
-path-stands : (spec : PathSpec) (m : Memory) → AllByRecursion (IsIn (members_of spec.formats) m) (path spec m.members)
-path-stands spec m =
-    all-in_order (IsIn (members_of spec.formats) m) (compare_entries spec.ties) (entries_from 0 spec.formats m.members)
-    (all-weaker (IsFrom 0 spec.formats m) (IsIn (members_of spec.formats) m) (entries_from 0 spec.formats m.members)
-    (λ entry is. (
-    let same : entry.format ≡ (entry.format - 0) = omega arith in
-    record { member = is.member; at = ap (slice_get (members_of spec.formats)) same ∙ is.at; stands = is.stands })) (entries-stand 0 spec.formats m))
-
 -- ---- what an open reads
 
 pub physical-stands : (keyed : Bool) (spec : PhysicalSpec) (member : ℕ) (m : Memory) → AllByRecursion (IsIn (member ∷ []) m) (physical_reading keyed spec member m.members).items
-physical-stands true spec member m = path-stands (physical_path member spec.format.fields spec.keys) m
+physical-stands true spec member m =
+    let format : PathFormat = path_format member every_record (own_fields spec.format.fields) spec.keys.parts in
+    all-in_order (IsIn (member ∷ []) m) (compare_entries spec.keys.ties) (entries_of 0 format m.members ++ [])
+    (all-append (IsIn (member ∷ []) m) (entries_of 0 format m.members) []
+    (all-map (λ (pair : ℕ × List ℕ). Stands member m pair.0) (IsIn (member ∷ []) m) (entry_of 0 format) (selected_of format (member_of member m.members).slots)
+    (λ pair stands. record { member = member; at = refl; stands = stands }) (selected-live format m)) tt)
 physical-stands false spec member m =
     all-map (λ (pair : ℕ × List ℕ). Stands member m pair.0) (IsIn (member ∷ []) m) arrival_entry (records_from 1 (member_of member m.members).slots)
     (λ pair stands. record { member = member; at = refl; stands = stands }) (records-live member m)
 
-views-members : (bases : Bases) (views : List View) → members_of (map (view_format bases) views) ≡ map (λ name. (bases name).member) (map (λ view. view.base) views)
-views-members bases [] = refl
-views-members bases (view ∷ views) = ap (λ members. (bases view.base).member ∷ members) (views-members bases views)
+-- what holds of each item that a list has holds of all
+all-contained : {A : Type 0} (P : A → Type 0) (xs : List A) → ((x : A) → Contains xs x → P x) → AllByRecursion P xs
+all-contained P xs each = all-weaker (Contains xs) P xs each (all-from (Contains xs) xs (All-contains_itself xs))
+
+in-standing : (base : List ℕ) (m : Memory) (entry : PathEntry) → StandsIn base m.members entry → IsIn base m entry
+in-standing base m entry is = record { member = is.member; at = is.is; stands = subst (λ slot. IsSome (record_in slot)) (sym is.live) refl }
+
+pub logical-stands : (bases : Bases) (spec : LogicalSpec) (m : Memory) → AllByRecursion (IsIn (base_members bases spec) m) (logical_reading bases spec m.members).items
+logical-stands bases spec m =
+    all-contained (IsIn (base_members bases spec) m) (logical_reading bases spec m.members).items
+    (λ entry among. in-standing (base_members bases spec) m entry (entry-stands bases spec m.members entry among))
 
 -- the first of the members, where there are more
 in-more : (member : ℕ) (others : List ℕ) (m : Memory) (entry : PathEntry) → IsIn (member ∷ []) m entry → IsIn (member ∷ others) m entry
@@ -151,44 +128,11 @@ in-more member others m entry is = record { member = is.member; at = by entry.fo
     by zero at = at
     by (suc n) at = absurd cc
 
-primary-stands : (bases : Bases) (view : JoinView) (m : Memory) → AllByRecursion (IsIn (base_members bases (Join view)) m) (path (primary_path bases view) m.members)
-primary-stands bases view m =
-    all-weaker (IsIn ((bases view.primary).member ∷ []) m) (IsIn (base_members bases (Join view)) m) (path (primary_path bases view) m.members)
-    (λ entry is. in-more (bases view.primary).member _ m entry is) (path-stands (primary_path bases view) m)
-
-pub logical-stands : (bases : Bases) (spec : LogicalSpec) (m : Memory) → AllByRecursion (IsIn (base_members bases spec) m) (logical_reading bases spec m.members).items
-logical-stands bases (Simple view) m = path-stands (views_path bases view.keys.unique (view ∷ [])) m
-logical-stands bases (Multi views) m =
-    subst (λ base. AllByRecursion (IsIn base m) (path (views_path bases false views) m.members)) (views-members bases views) (path-stands (views_path bases false views) m)
-logical-stands bases (Join view) m = primary-stands bases view m
-
--- ---- the rows of a join
-
-all-flat_map : {X Y : Type 0} (P : X → Type 0) (Q : Y → Type 0) (f : X → List Y) (xs : List X) → ((x : X) → P x → AllByRecursion Q (f x)) → AllByRecursion P xs → AllByRecursion Q (flat_map f xs)
-all-flat_map P Q f [] each all = tt
-all-flat_map P Q f (x ∷ xs) each all = all-append Q (f x) (flat_map f xs) (each x all.0) (all-flat_map P Q f xs each all.1)
-
--- the rows that a row becomes have its primary
-joined-primary : (keeps_missing : Bool) (files : List Secondary) (members : NumberedMembers) (row : JoinRow)
-    → AllByRecursion (λ joined. joined.place.primary ≡ row.place.primary) (joined_rows keeps_missing files members row)
-joined-primary keeps_missing [] members row = (refl, tt)
-joined-primary keeps_missing (file ∷ files) members row =
-    all-flat_map (λ (found : Matched). Unit {0}) (λ joined. joined.place.primary ≡ row.place.primary) (λ found. joined_rows keeps_missing files members (row_with row found))
-    (or_missing keeps_missing file (matches_of file members row)) (λ found any. joined-primary keeps_missing files members (row_with row found))
-    (all-each (λ (found : Matched). Unit {0}) (or_missing keeps_missing file (matches_of file members row)) (λ found. tt))
-
 pub rows-stand : (bases : Bases) (view : JoinView) (m : Memory) → AllByRecursion (λ row. IsIn (base_members bases (Join view)) m row.primary) (rows_reading bases view m.members).items
 rows-stand bases view m =
-    all-map (λ (row : JoinRow). IsIn (base_members bases (Join view)) m row.place.primary) (λ (row : RowPlace). IsIn (base_members bases (Join view)) m row.primary) (λ row. row.place)
-    (rows_of (join_of bases view) m.members) (λ row is. is)
-    (all-flat_map (IsIn (base_members bases (Join view)) m) (λ (row : JoinRow). IsIn (base_members bases (Join view)) m row.place.primary) becomes (path (primary_path bases view) m.members)
-    (λ entry is. all-weaker (λ (row : JoinRow). row.place.primary ≡ entry) (λ row. IsIn (base_members bases (Join view)) m row.place.primary) (becomes entry)
-    (λ row same. subst (IsIn (base_members bases (Join view)) m) (sym same) is)
-    (joined-primary view.keeps_missing (join_of bases view).secondaries m.members (primary_row (primary_records (primary_path bases view).formats m.members) entry)))
-    (primary-stands bases view m))
-  where
-    becomes : PathEntry → List JoinRow
-    becomes entry = joined_rows view.keeps_missing (join_of bases view).secondaries m.members (primary_row (primary_records (primary_path bases view).formats m.members) entry)
+    all-contained (λ (row : RowPlace). IsIn (base_members bases (Join view)) m row.primary) (rows_reading bases view m.members).items
+    (λ row among. in-more (bases view.primary).member _ m row.primary
+    (in-standing ((bases view.primary).member ∷ []) m row.primary (row-stands bases view m.members row among)))
 
 -- ---- what is found among items that are all so, is so
 

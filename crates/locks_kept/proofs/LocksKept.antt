@@ -1,5 +1,5 @@
 -- Each lock stands on a place of its member, through an open of its job or kept by a job under commitment control, after whatever is done.
-use Rattle.std.proofs.Common.{◌≡◌, ◌≢◌, ◌⊎◌, inl, inr, ℕ, ◌+◌, ◌-◌, ◌≤◌, ◌==◌, ◌&&◌, ◌||◌, not, Bool, true, false, cond, if◌then◌else◌, IsSome, IfSome, filter, map, length, List, [], ◌∷◌, ◌++◌, Option, Some, None, is_some, refl, sym, ◌∙◌, ap, subst, arith}
+use Rattle.std.proofs.Common.{◌≡◌, ◌≢◌, ◌⊎◌, inl, inr, ℕ, ◌+◌, ◌-◌, ◌≤◌, ◌==◌, ◌&&◌, ◌||◌, not, Bool, true, false, cond, if◌then◌else◌, IsSome, IfSome, filter, map, length, List, [], ◌∷◌, ◌++◌, Option, Some, None, is_some, slice_get, unwrap_or, refl, sym, ◌∙◌, ap, subst, arith}
 use Rattle.std.specs.List.{AllByRecursion, list_any}
 use Rattle.std.proofs.lemmas.Bool.{cases_eq}
 use Rattle.std.proofs.lemmas.Bool.Decides.{nat_tests}
@@ -20,7 +20,7 @@ use Rattle.lock_table.specs.Lock.{is_open, is_by, is_of_open, is_of_job, is_of_g
 use Rattle.lock_table.specs.Levels.{asked, gained, released}
 use Rattle.lock_table.proofs.Rules.{gained-asked}
 use Rattle.library_model.specs.Named.{Named, named, same_name}
-use Rattle.library_steps.specs.State.{State, Memory, OpenState, JobState, job_at, job_of, job_changed, memory_of, with_entries, open_named, or_new, with_opens}
+use Rattle.library_steps.specs.State.{State, Memory, fields_of, OpenState, JobState, job_at, job_of, job_changed, memory_of, with_entries, open_named, or_new, with_opens}
 use Rattle.library_steps.specs.Change.{Change}
 use Rattle.library_steps.specs.Locking.{level_of, holder_of, record_of, is_committed, locks_left}
 use Rattle.library_steps.specs.Opens.{with_open, without_open}
@@ -30,8 +30,9 @@ use Rattle.library_steps.specs.ChangeRecord.{without_record}
 use Rattle.library_steps.specs.Commitment.{boundary_locks, taken_back, committed_open, rolled_back_open, without_cycle, with_level, changes_of}
 use Rattle.library_steps.specs.EndJob.{ended_job}
 use Rattle.library_steps.specs.Uses.{user_of}
-use Rattle.library_parts.specs.Lawful.{OpenHolds}
 use Rattle.library_parts.specs.Locks.{IsRead, IsWrite, AsksNone}
+use Rattle.library_parts.proofs.FindLemmas.{IsMember, opened-there as member_there, opened-members}
+use Rattle.library_parts.proofs.MemberLemmas.{IsThere-is_some}
 use Rattle.joint_state.specs.Locks.{LockStands, HasOpenOf, is_through}
 use Rattle.joint_state.specs.Sound.{IsSound, Does, after}
 use Rattle.locks_kept.proofs.AllEffects.{effect-of}
@@ -43,10 +44,9 @@ use Rattle.locks_kept.proofs.JobsKept.{Goes, alike-if, changing-goes, same-unrea
 use Rattle.locks_kept.proofs.LockLists.{is_freed, after-all}
 use Rattle.locks_kept.proofs.OpenEffects.{asks-nothing}
 use Rattle.locks_kept.proofs.OpenLemmas.{named-holds, same-named}
-use Rattle.locks_kept.proofs.OpenedMembers.{format-there, opens-held}
 use Rattle.locks_kept.proofs.UserLemmas.{used-by}
 use Rattle.locks_kept.proofs.SlotLemmas.{live-within, put-grows, put-behind, taken_back-grows}
-use Rattle.locks_kept.proofs.ListLemmas.{all-both, all-from, all-weaker, each-there}
+use Rattle.locks_kept.proofs.ListLemmas.{all-both, all-from, all-weaker, at-place, each-there}
 use Rattle.locks_kept.proofs.OptionLemmas.{some-both, some-each}
 use Rattle.locks_kept.proofs.TestLemmas.{differ-false, number-is, number-same, or_true}
 
@@ -364,8 +364,15 @@ module _ (s : State) (new : Memory) (job : ℕ) (sound : IsSound s) (runs : Runs
 
   -- the member of an open is there, at any format
   opened-there : (name : List ℕ) (opened : OpenState) (format : ℕ) → open_named name job m ≡ Some opened → is_some (member_at (at_format format opened).member m.members) ≡ true
-  opened-there name opened format named =
-      format-there s sound.library format opened (named-holds (OpenHolds m.files) name its.opens opened named (opens-held m job sound.library.opens))
+  opened-there name opened format called =
+      by (slice_get opened.members format) refl
+    where
+      is-there : (number : ℕ) → IsMember s number → is_some (member_at number m.members) ≡ true
+      is-there number is = IsThere-is_some (fields_of is.file) (member_at number m.members) is.has.there
+
+      by : (found : Option ℕ) → slice_get opened.members format ≡ found → is_some (member_at (unwrap_or found opened.member) m.members) ≡ true
+      by None is = is-there opened.member (member_there s job name opened sound.library called)
+      by (Some member) is = is-there member (at-place (IsMember s) opened.members format member is (opened-members s job name opened sound.library called))
 
   -- ---- an open that is used: a read moves it, and frees what it held before
 

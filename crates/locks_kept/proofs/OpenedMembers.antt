@@ -1,29 +1,25 @@
--- Over which members an open stands: its own is one of them, each of them is there, and what it reads lies in that of the format.
-use Rattle.std.proofs.Common.{◌≡◌, ℕ, zero, suc, ◌-◌, ◌==◌, ◌||◌, if◌then◌else◌, Bool, true, false, cond, map, List, [], ◌∷◌, Option, Some, None, IsSome, IfSome, is_some, unwrap_or, slice_get, refl, sym, ◌∙◌, ap, subst}
+-- Over which members an open stands: its own is one of them, and what it reads lies in that of the format.
+use Rattle.std.proofs.Common.{◌≡◌, ℕ, zero, suc, ◌-◌, ◌==◌, ◌||◌, if◌then◌else◌, Bool, true, false, List, [], ◌∷◌, Option, Some, None, IfSome, unwrap_or, slice_get, refl, sym, ◌∙◌, ap, subst}
 use Rattle.std.specs.List.{AllByRecursion, list_any}
-use Rattle.std.specs.Option.{option_and_then, option_map, option_map_or}
+use Rattle.std.specs.Option.{option_map}
 use Rattle.dds_logical.specs.declared.join_views.JoinView.{JoinView}
 use Rattle.dds_logical.specs.declared.views.LogicalSpec.TheVariants.{Simple, Multi, Join}
-use Rattle.member_slots.specs.Members.{member_at}
 use Rattle.file_model.specs.Joins.{RowPlace}
 use Rattle.file_model.specs.Paths.{PathEntry}
 use Rattle.file_model.specs.Positions.{Reading}
-use Rattle.logical_model.specs.Bases.{FileSpec, PhysicalFile, LogicalFile, base_names, base_members}
+use Rattle.logical_model.specs.Bases.{FileSpec, PhysicalFile, LogicalFile, base_members}
 use Rattle.logical_model.specs.Readings.{join_in, reading_in, rows_reading}
-use Rattle.file_catalogue.specs.Owners.{Owns, has_number}
-use Rattle.file_catalogue.proofs.StatusLemmas.{has_number-cons}
-use Rattle.library_model.specs.Named.{Named, named, same_name}
-use Rattle.library_steps.specs.State.{State, Memory, FileState, MemberStatus, OpenState, JobState, fields_of, file_named, if_physical, job_of, or_new, open_named, physical_among}
-use Rattle.library_steps.specs.LogicalFiles.{base_in, bases_in, bases_of}
+use Rattle.library_model.specs.Named.{Named, named}
+use Rattle.library_steps.specs.State.{Memory, FileState, MemberStatus, OpenState, JobState, file_named, job_of, or_new, open_named}
+use Rattle.library_steps.specs.LogicalFiles.{bases_of}
 use Rattle.library_steps.specs.Records.{is_keyed, reading_of}
 use Rattle.library_steps.specs.Reads.{Found, at_format, entry_found, find_by, find_in, row_found}
 use Rattle.library_steps.specs.Refusals.{OpenedFile}
-use Rattle.library_parts.specs.Lawful.{IsBased, IsLibrary, OpenHolds, OpensBy, OpensFile, OpensHold}
-use Rattle.library_parts.proofs.MemberLemmas.{IsThere-is_some}
+use Rattle.library_parts.specs.Lawful.{OpenHolds, OpensBy, OpensFile, OpensHold}
 use Rattle.locks_kept.proofs.FoundLemmas.{IsIn, Stands, logical-stands, physical-stands, rows-stand}
-use Rattle.locks_kept.proofs.ListLemmas.{all-weaker, at-place, witness}
+use Rattle.locks_kept.proofs.ListLemmas.{all-weaker, at-place}
 use Rattle.locks_kept.proofs.OpenLemmas.{named-holds}
-use Rattle.locks_kept.proofs.TestLemmas.{number-is, number-same, or_true}
+use Rattle.locks_kept.proofs.TestLemmas.{number-same, or_true}
 
 -- ---- its own member
 
@@ -141,76 +137,3 @@ find_in-fits m its opens find_entry find_row finds_entry finds_row = by (join_in
     by (Some view) joins =
         map-holds row_found (λ (it : Found). FitsOpen m its.opened it.entry) (find_row (rows_reading (bases_of m) view m.members))
         (finds_row its.opened (rows_reading (bases_of m) view m.members) (rows-fit m its opens view joins))
-
--- ---- its members are there
-
-number-there : (name : List ℕ) (members : Named MemberStatus) (status : MemberStatus) → named name members ≡ Some status → has_number status.number members ≡ true
-number-there name [] status is = absurd cc
-number-there name (entry ∷ members) status is =
-    elim (same_name name entry.0) as (λ b. cond b (Some entry.1) (named name members) ≡ Some status → has_number status.number (entry ∷ members) ≡ true) [
-      | true ↦ λ e. (
-          let same : status ≡ entry.1 = cc in
-          has_number-cons status.number entry members
-          ∙ ap (λ b. b || has_number status.number members) (number-same entry.1.number status.number (ap (λ (s : MemberStatus). s.number) (sym same))))
-      | false ↦ λ e. has_number-cons status.number entry members
-          ∙ or_true (entry.1.number == status.number) (has_number status.number members) (number-there name members status e)
-    ] is
-
-module _ (s : State) (library : IsLibrary s) where
-  abbrev IsThere : ℕ → Type 0
-  IsThere number = is_some (member_at number s.members) ≡ true
-
-  owned-there : (name : List ℕ) (file : FileState) (number : ℕ) → Owns s.files name file number → IsThere number
-  owned-there name file number owns = IsThere-is_some (fields_of file) (member_at number s.members) (library.members name file number owns)
-
-  -- a physical file's member of its own name
-  own-there : (name : List ℕ) (file : FileState) → named name s.files ≡ Some file → (found : Option MemberStatus) → named name file.members ≡ found → IsSome found
-      → IsThere (base_in name (Some file)).member
-  own-there name file is None there some = absurd cc
-  own-there name file is (Some status) there some =
-      let number : (base_in name (Some file)).member ≡ status.number = ap (λ (o : Option MemberStatus). option_map_or (λ found. found.number) o 0) there in
-      subst IsThere (sym number) (owned-there name file status.number (record { there = is; has = number-there name file.members status there }))
-
-  base-there : (name : List ℕ) → IsSome (physical_among name s.files) → IsThere (bases_in s.files name).member
-  base-there name there = by (named name s.files) refl there
-    where
-      of : (file : FileState) → named name s.files ≡ Some file → (spec : FileSpec) → IsBased s.files name file.members spec → IsSome (if_physical spec file)
-          → IsThere (base_in name (if_physical spec file)).member
-      of file is (PhysicalFile spec) based some = own-there name file is (named name file.members) refl based
-      of file is (LogicalFile spec) based some = absurd cc
-
-      by : (found : Option FileState) → named name s.files ≡ found → IsSome (option_and_then (λ file. if_physical file.spec file) found)
-          → IsThere (base_in name (option_and_then (λ file. if_physical file.spec file) found)).member
-      by None is some = absurd cc
-      by (Some file) is some = of file is file.spec (library.bases name file is) some
-
-  bases-there : (names : List (List ℕ)) → AllByRecursion (λ name. IsSome (physical_among name s.files)) names → AllByRecursion IsThere (map (λ name. (bases_in s.files name).member) names)
-  bases-there [] all = tt
-  bases-there (name ∷ names) all = (base-there name all.0, bases-there names all.1)
-
-  pub members-there : (opened : OpenState) → OpenHolds s.files opened → AllByRecursion IsThere opened.members
-  members-there opened holds = by (named opened.file s.files) refl holds
-    where
-      of : (file : FileState) → named opened.file s.files ≡ Some file → (spec : FileSpec) → IsBased s.files opened.file file.members spec → OpensBy s.files opened file.members spec
-          → AllByRecursion IsThere opened.members
-      of file is (PhysicalFile spec) based opens =
-          subst (AllByRecursion IsThere) (sym opens.only) (owned-there opened.file file opened.member (record { there = is; has = opens.has }), tt)
-      of file is (LogicalFile spec) based opens = subst (AllByRecursion IsThere) (sym opens.all) (bases-there (base_names spec) based.bases)
-
-      by : (found : Option FileState) → named opened.file s.files ≡ found → OpensFile s.files opened found → AllByRecursion IsThere opened.members
-      by None is opens = absurd opens
-      by (Some file) is opens = of file is file.spec (library.bases opened.file file is) opens
-
-  -- that of a format too, whatever its number
-  pub format-there : (format : ℕ) (opened : OpenState) → OpenHolds s.files opened → IsThere (at_format format opened).member
-  format-there format opened holds = by (slice_get opened.members format) refl
-    where
-      all : AllByRecursion IsThere opened.members
-      all = members-there opened holds
-
-      own : (n : ℕ) × ((n == opened.member) ≡ true) × IsThere n → IsThere opened.member
-      own found = subst IsThere (number-is found.0 opened.member found.1) found.2
-
-      by : (found : Option ℕ) → slice_get opened.members format ≡ found → IsThere (unwrap_or found opened.member)
-      by None is = own (witness (λ base. base == opened.member) IsThere opened.members (covered s.files opened holds) all)
-      by (Some n) is = at-place IsThere opened.members format n is all
