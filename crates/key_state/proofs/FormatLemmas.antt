@@ -10,13 +10,14 @@ use Rattle.file_model.specs.FilePaths.{every_record, own_fields, path_format, ph
 use Rattle.logical_model.specs.Bases.{Bases, FileSpec, PhysicalFile, LogicalFile}
 use Rattle.logical_model.specs.FilePaths.{is_over, logical_paths}
 use Rattle.logical_laws.specs.Mapped.{AreSameBases}
+use Rattle.logical_laws.proofs.SameLemmas.{same-paths}
 use Rattle.library_model.specs.Named.{Named}
 use Rattle.library_steps.specs.State.{Memory, FileState, MemberStatus}
 use Rattle.library_steps.specs.LogicalFiles.{bases_in, bases_of}
 use Rattle.library_steps.specs.UniqueKeys.{UniquePath, has_member, unique_paths, uniques_by}
 use Rattle.key_state.specs.Keys.{EachUnique}
 use Rattle.key_state.proofs.ListLemmas.{IsIn, all-in, in-all, in-append, in-filter, in-flat, in-map, filter-in, filter-passes, flat-in, map-in}
-use Rattle.key_state.proofs.PathLemmas.{paths-same, unique-own}
+use Rattle.key_state.proofs.PathLemmas.{unique-own}
 
 -- ---- files and their formats
 
@@ -175,7 +176,7 @@ has-before later bases now members more (PhysicalFile spec) format same had its 
       | inr new ↦ inr new
     ]
 has-before later bases now members more (LogicalFile spec) format same had its =
-    inl (record { path = its.path; among = subst (IsIn its.path) (paths-same later bases spec same) its.among; unique = its.unique; alone = its.alone })
+    inl (record { path = its.path; among = subst (IsIn its.path) (same-paths later bases spec same) its.among; unique = its.unique; alone = its.alone })
 
 -- the files with a change of each that keeps its description: the members that it has are those that it had, and some more
 pub over-map : (change : List ℕ × FileState → List ℕ × FileState) (more : ℕ → Type 0) (files : Named FileState) (format : PathFormat)

@@ -182,9 +182,9 @@ module _ (s : State) (job timestamp : ℕ) (args : CreateLogicalFile) (plan : Ne
         changes = λ other. inl refl;
         formats = λ format over. elim (over-append s.files (args.file, logical_file plan) format
             (λ entry its. all-before (bases_in (s.files ++ (args.file, logical_file plan) ∷ [])) (bases_in s.files) same entry.1.spec) over) [
-          | inl old ↦ inl (old, λ place. refl)
-          | inr its ↦ view-stays format (subst (λ (bases : Bases). IsViewFormat bases plan.spec format) (λ i name. same name i) its)
-        ];
+              | inl old ↦ inl (old, λ place. refl)
+              | inr its ↦ view-stays format (subst (λ (bases : Bases). IsViewFormat bases plan.spec format) (λ i name. same name i) its)
+            ];
       })
     where
       same : (name : List ℕ) → bases_in (s.files ++ (args.file, logical_file plan) ∷ []) name ≡ bases_in s.files name
