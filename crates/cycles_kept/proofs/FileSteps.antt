@@ -46,9 +46,9 @@ use Rattle.library_parts.proofs.BackLemmas.{neither, unused-unchanged}
 use Rattle.library_parts.proofs.FileLemmas.{number-below}
 use Rattle.library_parts.proofs.MemberLemmas.{item_at-put_item_other, item_at-without_item_other}
 use Rattle.joint_state.specs.Sound.{IsSound}
+use Rattle.joint_state.proofs.OpenLemmas.{unused-members}
 use Rattle.cycles_kept.proofs.CycleLemmas.{HaveCycles, elsewhere, untouched}
 use Rattle.cycles_kept.proofs.HoldLemmas.{Holds, bind-holds, does-holds, effect-holds, found-there, then-holds, wider-holds, with-none}
-use Rattle.cycles_kept.proofs.OpenLemmas.{unused-members}
 use Rattle.cycles_kept.proofs.PlaceLemmas.{record_at, record-with_other}
 use Rattle.cycles_kept.proofs.StandLemmas.{Alike}
 

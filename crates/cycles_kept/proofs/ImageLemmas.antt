@@ -159,7 +159,7 @@ differs first number (entry ∷ members) all has =
       | false ↦ λ differ h. differs first number members all.1 h
     ] refl (sym (has_number-cons number entry members) ∙ has)
 
-pub named-number : (name : List ℕ) (members : Named MemberStatus) (status : MemberStatus) → named name members ≡ Some status → has_number status.number members ≡ true
+named-number : (name : List ℕ) (members : Named MemberStatus) (status : MemberStatus) → named name members ≡ Some status → has_number status.number members ≡ true
 named-number name [] status found = absurd cc
 named-number name (first ∷ members) status found =
     has_number-cons status.number first members ∙

@@ -43,13 +43,14 @@ use Rattle.library_steps.specs.Uses.{has_boundary_lock}
 use Rattle.library_steps.specs.WriteRecord.{write_call, write_change, write_plan}
 use Rattle.library_parts.specs.Lawful.{OpenHolds}
 use Rattle.library_parts.proofs.BackLemmas.{neither}
+use Rattle.library_parts.proofs.FindLemmas.{IsMember}
 use Rattle.joint_state.specs.Sound.{IsSound}
+use Rattle.joint_state.proofs.OpenLemmas.{member-below, open-stands, opens-at}
 use Rattle.cycles_kept.proofs.BoundarySteps.{taken_back-files, taken_back-jobs}
 use Rattle.cycles_kept.proofs.FileSteps.{Deletes, deletes, first_job-none}
 use Rattle.cycles_kept.proofs.HoldLemmas.{Holds, bind-holds, does-holds, effect-holds, found-there, if-not, then-holds, wider-holds, with-none}
 use Rattle.cycles_kept.proofs.ImageLemmas.{images_in, among-map, among-without, images-changed, images-more, images-named, status_in-push}
 use Rattle.cycles_kept.proofs.JobLemmas.{was_there}
-use Rattle.cycles_kept.proofs.OpenLemmas.{HasOwner, open-stands, opens-at, owned-below}
 use Rattle.cycles_kept.proofs.PutLemmas.{put_cycle, jobs-noted, jobs-put}
 use Rattle.cycles_kept.proofs.RecordSteps.{files-put}
 
@@ -373,13 +374,13 @@ added-stay : (s : State) (c : Change) (args : FileMember) → IsSound s → Were
 added-stay s c args sound were jobs files =
     no-job s c jobs
     (λ place old there. both-each (OpenHolds s.files) (IsJournaledBy s.files) (IsJournaledBy c.memory.files) old.opens (λ opened opens holds commit.
-    each-member (HasOwner s) (λ member. IsSome (images_in member s.files)) (λ member. IsSome (images_in member c.memory.files)) opened.members (λ member owned some.
-    let below = owned-below s member sound.library owned in
+    each-member (IsMember s) (λ member. IsSome (images_in member s.files)) (λ member. IsSome (images_in member c.memory.files)) opened.members (λ member its some.
+    let below = member-below s member sound.library its in
     subst (λ (fs : Named FileState). IsSome (images_in member fs)) (sym files)
     (subst (λ (o : Option MemberStatus). IsSome (option_and_then (λ (st : MemberStatus). st.images) o))
     (sym (among-map member (λ entry. if same_name args.file entry.0 then with_member_name args.member s.next_member entry.1 else entry.1) s.files
     (added-status s args member (omega (arith, below))))) some))
-    (open-stands s opened sound.library opens).owned (holds commit))
+    (open-stands s opened sound.library opens).members (holds commit))
     (opens-at s.files s.jobs place old sound.library.opens there) (were place old there))
 
 -- ---- changes of a record

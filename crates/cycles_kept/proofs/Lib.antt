@@ -9,7 +9,6 @@ pub mod JournalLemmas
 pub mod JournalSteps
 pub mod LockLemmas
 pub mod NameSteps
-pub mod OpenLemmas
 pub mod OpenSteps
 pub mod PlaceLemmas
 pub mod PutLemmas

@@ -21,11 +21,11 @@ use Rattle.library_steps.specs.Records.{slot_there}
 use Rattle.library_steps.specs.SlotChange.{NewSlot, change_made, cycle_for, drafts_of, images_of, noted, with_cycle, with_slot, with_undo}
 use Rattle.library_steps.specs.Uses.{changes_in}
 use Rattle.joint_state.specs.Sound.{IsSound, after}
+use Rattle.joint_state.proofs.OpenLemmas.{IsAmong, each-among}
 use Rattle.cycles_kept.proofs.CycleLemmas.{changed_record, id_of, LocksStay, CycleAfter, HasCycle, HaveCycles}
 use Rattle.cycles_kept.proofs.JobLemmas.{IsAsking, was_there, named-each, job_changed-twice, job_changed-none}
 use Rattle.cycles_kept.proofs.JournalLemmas.{IsJournaled, last-after}
 use Rattle.cycles_kept.proofs.LockLemmas.{IsChange, change-locks, change-open, held_place, open-keeps}
-use Rattle.cycles_kept.proofs.OpenLemmas.{IsAmong, each-among}
 use Rattle.cycles_kept.proofs.PlaceLemmas.{record_at, IsPlaceFor, get-within, slot_of-get, record-put_other, record-put_same}
 use Rattle.cycles_kept.proofs.StandLemmas.{Alike, IsOfOne, one_or_two, back, back-other, back-same}
 

@@ -32,14 +32,15 @@ use Rattle.library_steps.specs.UniqueKeys.{keys_free}
 use Rattle.library_steps.specs.Uses.{changes_in}
 use Rattle.library_steps.specs.WriteRecord.{format_asked, has_room, is_input, next_place, packed, place_asked, place_plan, write_call, write_plan, write_change, write_record}
 use Rattle.library_parts.proofs.BackLemmas.{neither}
+use Rattle.library_parts.proofs.FindLemmas.{IsMember}
 use Rattle.joint_state.specs.CurrentRecords.{CurrentStands}
 use Rattle.joint_state.specs.Sound.{IsSound}
+use Rattle.joint_state.proofs.OpenLemmas.{IsAmong, OpenStands, among-format, each-among, member-there, opened-stands}
 use Rattle.cycles_kept.proofs.CycleLemmas.{changed_record, HaveCycles}
 use Rattle.cycles_kept.proofs.HoldLemmas.{Holds, bind-holds, does-holds, found-there, if-not, then-holds, wider-holds, with-none}
 use Rattle.cycles_kept.proofs.JobLemmas.{IsAsking, named-each}
 use Rattle.cycles_kept.proofs.JournalLemmas.{IsJournaled, deposits, numbered-behind}
 use Rattle.cycles_kept.proofs.LockLemmas.{IsChange, asked_write, current_alone, held_place, unblocked_alone}
-use Rattle.cycles_kept.proofs.OpenLemmas.{HasOwner, IsAmong, OpenStands, among-format, asked-stands, each-among, owned-there}
 use Rattle.cycles_kept.proofs.PlaceLemmas.{IsPlaceFor}
 use Rattle.cycles_kept.proofs.PutLemmas.{IsNotOf, MayPut, Puts, files-noted, gone-noted, jobs-noted, jobs-put, last-noted, length-numbered, members-noted, put-cycles}
 
@@ -57,7 +58,7 @@ opened_file-finds name job m =
 
 -- each of the open's members is there
 member-is : (s : State) (opened : OpenState) (member : ℕ) → IsSound s → OpenStands s opened → IsAmong opened.members member → is_some (member_at member s.members) ≡ true
-member-is s opened member sound stands among = owned-there s member sound.library (each-among (HasOwner s) opened.members member stands.owned among)
+member-is s opened member sound stands among = member-there s member (each-among (IsMember s) opened.members member stands.members among)
 
 -- ---- what the job's own commit cycle has not changed
 
@@ -102,7 +103,7 @@ current-may s job name its rrn slot sound asks finds current free =
     named-each (λ (opened : OpenState). (r : ℕ) → opened.current ≡ Some r → CurrentStands (memory_of s) job opened r) name
     (job_of job (memory_of s)).opens its.opened asks.stands.current finds.opened rrn current in
     let place = live-place (member_of its.opened.member s.members) rrn stands.live in
-    let its-open = asked-stands s job name its.opened sound.library asks finds.opened in
+    let its-open = opened-stands s job name its.opened sound.library finds.opened in
     record {
       name = name;
       opened = its.opened;
@@ -228,7 +229,7 @@ place-may s job name opened through asked image sound asks found commit among =
         commit = commit;
         among = among;
         counted = free.counted;
-        there = member-is s opened through.member sound (asked-stands s job name opened sound.library asks found) among;
+        there = member-is s opened through.member sound (opened-stands s job name opened sound.library found) among;
         place = place-for (member_of through.member s.members) rrn image free.within;
         alone = free.alone;
         own = free.own;
@@ -244,7 +245,7 @@ write-may s job args sound asks =
     then-holds (refuse_if (is_input its.opened.option) WrongOpen) _ _ (λ writes.
     then-holds (packed (given_in (bases_of (memory_of s)) its.file.spec format args.values None)) _ _ (λ image.
     place-may s job args.open_id its.opened (at_format format its.opened) args.record_number image sound asks finds.opened refl
-    (among-format format its.opened (asked-stands s job args.open_id its.opened sound.library asks finds.opened).among))))))
+    (among-format format its.opened (opened-stands s job args.open_id its.opened sound.library finds.opened).among))))))
 
 -- ---- what they change
 

@@ -83,7 +83,16 @@ impl FoundRecord {
         self.rrn
     }
 
-    /// The position on it, which is of the first format, as there is no other.
+    /// The number of its format, which is the first of its path, as there is no other.
+    pub fn format(&self) -> u32
+        ensures number { result ≡ self.now.format }
+        ensures first { self.now.format ≡ 0 }
+    {
+        let _ = &self.rrn;
+        0
+    }
+
+    /// The position on it.
     pub(crate) fn place(&self) -> ArrivalPosition
         ensures place { arrival_position result ≡ On self.now }
         ensures format { self.now.format ≡ 0 }

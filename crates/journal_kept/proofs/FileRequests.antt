@@ -1,4 +1,4 @@
--- CRTPF, ADDPFM and DLTF: members that are new, of which the journal tells nothing yet, and members that go.
+-- CRTPF, CRTLF, ADDPFM and DLTF: members that are new, of which the journal tells nothing yet, and members that go.
 use Rattle.std.proofs.Common.{◌≡◌, ◌≢◌, ℕ, ◌+◌, ◌<◌, ◌==◌, ◌||◌, Bool, true, false, cond, List, [], ◌∷◌, ◌++◌, Option, Some, None, IfSome, Ok, refl, sym, ap, ◌∙◌, subst, arith, inl, inr}
 use Rattle.std.specs.List.{AllByRecursion, IsDistinct, list_any}
 use Rattle.std.specs.Option.{is_some}
@@ -7,7 +7,7 @@ use Rattle.std.proofs.lemmas.Bool.{cases_eq, eq-eqb, ne_eqb, or_parts}
 use Rattle.std.proofs.lemmas.Bool.Decides.{nat_tests}
 use Rattle.entry_codec.specs.declared.entries.Entry.{Entry}
 use Rattle.entry_codec.specs.declared.entries.Draft.{Draft}
-use Rattle.entry_codec.specs.declared.kinds.FileKind.TheVariants.{Physical}
+use Rattle.entry_codec.specs.declared.kinds.FileKind.TheVariants.{Logical, Physical}
 use Rattle.entry_codec.specs.declared.kinds.EntryKind.TheVariants.{FileCreated, FileDeleted, MemberAdded}
 use Rattle.member_slots.specs.Member.{MemberState, empty_member}
 use Rattle.member_slots.specs.Members.{Numbered, NumberedMembers, item_at, member_at, put_member, without_item, without_member}
@@ -16,6 +16,7 @@ use Rattle.journal_model.specs.Acts.{acts, is_number}
 use Rattle.journal_model.specs.Rollback.{MemberChange}
 use Rattle.library_model.specs.Named.{Named, named, same_name}
 use Rattle.library_model.specs.declared.replies.Reply.TheVariants.{Dependents, Done}
+use Rattle.library_model.specs.declared.requests.CreateLogicalFile.{CreateLogicalFile}
 use Rattle.library_model.specs.declared.requests.CreatePhysicalFile.{CreatePhysicalFile}
 use Rattle.library_model.specs.declared.requests.DeleteFile.{DeleteFile}
 use Rattle.library_model.specs.declared.requests.FileMember.{FileMember}
@@ -29,16 +30,18 @@ use Rattle.library_steps.specs.Change.{Change, journaled}
 use Rattle.library_steps.specs.Refusals.{named_or_refused, refuse_with, sequences_left}
 use Rattle.library_steps.specs.Uses.{changes_in, has_boundary_lock, has_changed, has_open_over, unused, user_of_any, uses}
 use Rattle.library_steps.specs.Drafts.{author_of, library_draft, member_draft}
+use Rattle.library_steps.specs.CreateLogicalFile.{create_logical_change, create_logical_file, create_logical_plan, logical_file, with_logical}
 use Rattle.library_steps.specs.CreatePhysicalFile.{create_change, create_physical_file, create_plan, new_file}
 use Rattle.library_steps.specs.MemberCommands.{add_member, add_plan, file_changed, with_member_name}
-use Rattle.library_steps.specs.DeleteFile.{delete_change, delete_file, delete_plan, deleted, first_dependent, without_file, without_members}
+use Rattle.library_steps.specs.DeleteFile.{delete_change, delete_file, delete_plan, deleted, first_dependent, user_by, without_file, without_members}
 use Rattle.library_parts.proofs.MemberLemmas.{IsThere-is_some, item_at-put_item_other, item_at-without_item_other}
-use Rattle.joint_state.specs.Agreed.{Agrees, StaysJournaled, is_journaled}
+use Rattle.joint_state.specs.Agreed.{Agrees, AreAllJournaled, StaysJournaled, is_journaled}
 use Rattle.joint_state.specs.Sound.{IsSound, after}
+use Rattle.joint_state.proofs.OpenLemmas.{unused-members}
 use Rattle.range_histories.proofs.ResultLemmas.{bind-ok, found-ok, unused-ok}
 use Rattle.journal_kept.proofs.KnownLemmas.{IsQuiet, leads-quiet, quiet-nothing}
 use Rattle.journal_kept.proofs.DraftLemmas.{DraftsLead, IsSilent, act-elsewhere, drafts-silent}
-use Rattle.journal_kept.proofs.StatusLemmas.{journaled-added, journaled-member_added, journaled-owned, journaled-without}
+use Rattle.journal_kept.proofs.StatusLemmas.{journaled-added, journaled-member_added, journaled-memberless, journaled-owned, journaled-without}
 use Rattle.journal_kept.proofs.StepLemmas.{IsFollowed, broken-followed, kept-journaled, known_of, stays-followed, wider-jobs}
 use Rattle.journal_kept.proofs.JobLemmas.{AreChangesJournaled, AreOpensJournaled}
 use Rattle.journal_kept.proofs.JobRequests.{does-each}
@@ -96,6 +99,19 @@ module _ (s : State) (sound : IsSound s) (job timestamp : ℕ) where
       new-kept (member_draft (author_of (memory_of s) job timestamp) s.next_member (FileCreated Physical args.file plan.source) ∷ []) (λ member. (inr (λ prior e. quiet-nothing), tt))
       (s.files ++ (args.file, file) ∷ []) (empty_member (record_length (fields_of file)))
       (λ n differs. journaled-added n s.next_member args.file args.file file s.files refl))
+
+  -- a file more, without members
+  pub create_logical_file-kept : (sources : List NamedSource) (args : CreateLogicalFile) (done : Change) → create_logical_file sources (memory_of s) job timestamp args ≡ Ok done
+      → Agrees (after s done)
+  create_logical_file-kept sources args done h =
+      does-each (create_logical_change (memory_of s) job timestamp args) (create_logical_plan sources (memory_of s) args) done (λ c. Agrees (after s c)) h
+      (λ plan is.
+      let drafts = library_draft (author_of (memory_of s) job timestamp) (FileCreated Logical args.file plan.source) ∷ [] in
+      let files = s.files ++ (args.file, logical_file plan) ∷ [] in
+      let same = λ (n : ℕ). journaled-memberless n args.file (logical_file plan) s.files refl in
+      kept-journaled s drafts true Done (with_logical args.file plan (memory_of s)) sound.agreed refl
+      (λ member place. stays-followed s drafts s.members files member place sound.agreed (inr (λ prior e. quiet-nothing), tt) (λ at. refl) (λ at off. sym (same member) ∙ off))
+      (wider-jobs s.files files s.jobs (λ n on. same n ∙ on) sound.agreed.committed))
 
   pub add_member-kept : (args : FileMember) (done : Change) → add_member (memory_of s) job timestamp args ≡ Ok done → Agrees (after s done)
   add_member-kept args done h =
@@ -178,12 +194,22 @@ module _ (files later : Named FileState) (statuses : Named MemberStatus) (wider 
     by false e = refl
     by true e = let p = or_parts (n == n) rest (none e) in let q : (n == n) ≡ true = eq-eqb n n refl in let r = p.0 in absurd cc
 
-  opens-left : (entries : Named OpenState) → ((n : ℕ) → has_number n statuses ≡ true → list_any (λ (entry : List ℕ × OpenState). entry.1.member == n) entries ≡ false) → AreOpensJournaled files entries
+  members-left : (bases : List ℕ) → ((n : ℕ) → has_number n statuses ≡ true → list_any (λ base. base == n) bases ≡ false) → AreAllJournaled files bases → AreAllJournaled later bases
+  members-left [] none each = tt
+  members-left (base ∷ bases) none each = (
+    wider base (used base (list_any (λ b. b == base) bases) (none base)) each.0,
+    members-left bases (λ n has. (or_parts (base == n) (list_any (λ b. b == n) bases) (none n has)).1) each.1,
+  )
+
+  opens-left : (entries : Named OpenState)
+      → ((n : ℕ) → has_number n statuses ≡ true → list_any (λ (entry : List ℕ × OpenState). list_any (λ base. base == n) entry.1.members) entries ≡ false) → AreOpensJournaled files entries
       → AreOpensJournaled later entries
   opens-left [] none each = tt
   opens-left (entry ∷ entries) none each = (
-    (λ c. wider entry.1.member (used entry.1.member (list_any (λ (e : List ℕ × OpenState). e.1.member == entry.1.member) entries) (none entry.1.member)) (each.0 c)),
-    opens-left entries (λ n has. (or_parts (entry.1.member == n) (list_any (λ (e : List ℕ × OpenState). e.1.member == n) entries) (none n has)).1) each.1,
+    (λ c. members-left entry.1.members
+        (λ n has. (or_parts (list_any (λ base. base == n) entry.1.members) (list_any (λ (e : List ℕ × OpenState). list_any (λ base. base == n) e.1.members) entries) (none n has)).0) (each.0 c)),
+    opens-left entries
+        (λ n has. (or_parts (list_any (λ base. base == n) entry.1.members) (list_any (λ (e : List ℕ × OpenState). list_any (λ base. base == n) e.1.members) entries) (none n has)).1) each.1,
   )
 
   changes-left : (undos : List MemberChange) → ((n : ℕ) → has_number n statuses ≡ true → list_any (λ (undo : MemberChange). undo.member == n) undos ≡ false) → AreChangesJournaled files undos
@@ -212,10 +238,11 @@ module _ (s : State) (sound : IsSound s) (job timestamp : ℕ) where
       let a = bind-ok (sequences_left m) _ file h in
       let b = bind-ok (named_or_refused args.file (file_named args.file m)) _ file a.2 in
       let c = bind-ok (refuse_with Dependents (first_dependent args.file m.files)) _ file b.2 in
-      let d = bind-ok (unused (user_of_any b.0.members m)) _ file c.2 in
+      let d = bind-ok (unused (user_by b.0.spec args.file b.0 m)) _ file c.2 in
       let last = d.2 in
       let e : b.0 ≡ file = cc in
-      subst (IsGoing args.file) e (record { there = found-ok (named args.file s.files) _ b.0 b.1; unused = unused-ok (user_of_any b.0.members m) d.0 d.1 })
+      let there : named args.file s.files ≡ Some b.0 = found-ok (named args.file s.files) _ b.0 b.1 in
+      subst (IsGoing args.file) e (record { there = there; unused = unused-members s args.file b.0 sound.library there (unused-ok (user_by b.0.spec args.file b.0 m) d.0 d.1) })
 
   deleted-kept : (args : DeleteFile) (file : FileState) → IsGoing args.file file → Agrees (after s (delete_change (memory_of s) job timestamp args file))
   deleted-kept args file going =

@@ -7,14 +7,14 @@ use Rattle.library_steps.specs.State.{FileState, OpenState, CycleState, JobState
 use Rattle.library_steps.specs.Uses.{changes_in}
 use Rattle.library_steps.specs.SlotChange.{cycle_for, noted}
 use Rattle.library_steps.specs.Opens.{without_open}
-use Rattle.joint_state.specs.Agreed.{StaysJournaled, is_journaled}
+use Rattle.joint_state.specs.Agreed.{AreAllJournaled, StaysJournaled, is_journaled}
 
--- an open under commitment is of a journaled member
+-- an open under commitment is of journaled members
 abbrev pub IsOpenJournaled : Named FileState → OpenState → Type 0
-IsOpenJournaled files opened = opened.commit ≡ true → is_journaled opened.member files ≡ true
+IsOpenJournaled files opened = opened.commit ≡ true → AreAllJournaled files opened.members
 
 abbrev pub AreOpensJournaled : Named FileState → Named OpenState → Type 0
-AreOpensJournaled files opens = AllByRecursion (λ (entry : List ℕ × OpenState). entry.1.commit ≡ true → is_journaled entry.1.member files ≡ true) opens
+AreOpensJournaled files opens = AllByRecursion (λ (entry : List ℕ × OpenState). entry.1.commit ≡ true → AreAllJournaled files entry.1.members) opens
 
 abbrev pub AreChangesJournaled : Named FileState → List MemberChange → Type 0
 AreChangesJournaled files undos = AllByRecursion (λ (undo : MemberChange). is_journaled undo.member files ≡ true) undos
@@ -81,7 +81,7 @@ module _ (files : Named FileState) where
 
   pub job-without_open : (name : List ℕ) (job : JobState) → StaysJournaled files job → StaysJournaled files (without_open name job)
   job-without_open name job are = record {
-    opens = all-filter (λ (entry : List ℕ × OpenState). entry.1.commit ≡ true → is_journaled entry.1.member files ≡ true)
+    opens = all-filter (λ (entry : List ℕ × OpenState). entry.1.commit ≡ true → AreAllJournaled files entry.1.members)
         (λ (entry : List ℕ × OpenState). not (same_name name entry.0)) job.opens are.opens;
     changes = are.changes;
   }

@@ -1,39 +1,50 @@
 -- Requests that leave files, members and the entries of members alone: reads, opens, locks, commitment control, receivers that are attached.
-use Rattle.std.proofs.Common.{◌≡◌, ℕ, ◌+◌, nat_le, length, Bool, true, false, cond, List, [], ◌∷◌, Option, Some, None, Result, Ok, Err, refl, sym, ◌∙◌, subst, inr}
+use Rattle.std.proofs.Common.{◌≡◌, ℕ, ◌+◌, nat_le, length, Bool, true, false, cond, not, List, [], ◌∷◌, Option, Some, None, Result, Ok, Err, refl, sym, ap, ◌∙◌, subst, inr}
 use Rattle.std.specs.List.{AllByRecursion}
 use Rattle.std.specs.Option.{is_none, is_some}
+use Rattle.dds_logical.specs.declared.join_views.JoinView.{JoinView}
 use Rattle.entry_codec.specs.declared.entries.Draft.{Draft}
+use Rattle.entry_codec.specs.declared.kinds.Images.{Images}
 use Rattle.entry_codec.specs.declared.kinds.EntryKind.TheVariants.{CommitmentEnded, CommitmentStarted, NextReceiver, PreviousReceiver}
 use Rattle.lock_table.specs.declared.lock.Lock.{Lock}
+use Rattle.lock_table.specs.declared.levels.Call.{Call}
 use Rattle.lock_table.specs.declared.levels.Call.TheVariants.{EndCommitment, Unlock}
 use Rattle.lock_table.specs.declared.levels.Call.TheVariants as calls
 use Rattle.member_slots.specs.Members.{NumberedMembers}
 use Rattle.commit_level.specs.declared.Level.{Level}
 use Rattle.journal_model.specs.Acts.{cycle_of}
-use Rattle.library_model.specs.Named.{Named}
+use Rattle.file_model.specs.Joins.{RowPlace}
+use Rattle.file_model.specs.Paths.{PathEntry}
+use Rattle.file_model.specs.Positions.{Position}
+use Rattle.logical_model.specs.Bases.{FileSpec, PhysicalFile, LogicalFile, base_members}
+use Rattle.logical_model.specs.Readings.{join_in}
+use Rattle.library_model.specs.Named.{Named, named, same_name}
 use Rattle.library_model.specs.declared.replies.Reply.{Reply}
-use Rattle.library_model.specs.declared.replies.Reply.TheVariants.{NoDefinition, NotJournaled, Done, NameExists, LimitReached}
+use Rattle.library_model.specs.declared.replies.Reply.TheVariants.{NoDefinition, NoSuchName, NotJournaled, WrongOpen, Done, NameExists, LimitReached}
+use Rattle.library_model.specs.declared.replies.Missing.TheVariants.{Name}
 use Rattle.library_model.specs.declared.replies.LimitKind.TheVariants.{Opens}
 use Rattle.library_model.specs.declared.requests.OpenFile.{OpenFile}
 use Rattle.library_model.specs.declared.requests.OpenName.{OpenName}
 use Rattle.library_model.specs.declared.requests.StartCommitment.{StartCommitment}
 use Rattle.library_model.specs.declared.requests.DisplayJournal.{DisplayJournal}
-use Rattle.library_steps.specs.State.{State, Memory, FileState, MemberStatus, OpenState, CycleState, JobState, job_of, memory_of, open_named, with_job, with_opens}
+use Rattle.library_steps.specs.State.{State, Memory, FileState, MemberStatus, OpenState, CycleState, JobState, file_named, job_of, memory_of, open_named, with_job, with_opens}
 use Rattle.library_steps.specs.Change.{Change, does, journaled, unjournaled}
-use Rattle.library_steps.specs.Refusals.{found, member_of_file, refuse_if, named_or_refused}
+use Rattle.library_steps.specs.Refusals.{found, refuse_if, named_or_refused}
 use Rattle.library_steps.specs.Drafts.{Author, author_of, library_draft}
 use Rattle.library_model.specs.declared.limits.TheConstants.{MOST_OPENS}
 use Rattle.library_steps.specs.Locking.{locks_left, with_locks}
-use Rattle.library_steps.specs.Opens.{close_file, may_commit, new_open, open_file, open_plan, with_open, without_open}
-use Rattle.library_steps.specs.Reads.{FoundEntry, NewPosition, has_read, open_changed, position_change, positioned, read_change}
+use Rattle.library_steps.specs.LogicalFiles.{bases_of}
+use Rattle.library_steps.specs.Opens.{close_file, first_unjournaled, may_commit, may_commit_all, may_not, members_by, new_open, open_file, open_plan, with_open, without_open}
+use Rattle.library_steps.specs.Reads.{Found, FoundEntry, NewPosition, at_format, has_read, open_changed, position_change, positioned, read_change, stands_on}
+use Rattle.library_steps.specs.SlotChange.{images_of}
 use Rattle.library_steps.specs.ChangeRecord.{unlock, unlock_change, unlock_plan, without_current}
 use Rattle.library_steps.specs.Commitment.{boundary_locks, commit, commit_change, committed_open, end_commitment, end_drafts, end_plan, start_commitment, start_plan, with_level, without_cycle, at_boundary}
 use Rattle.library_steps.specs.Receivers.{attached, attach_change, attach_plan, change_journal}
 use Rattle.library_steps.specs.Checkpoint.{save, save_change, save_plan}
 use Rattle.library_steps.specs.JournalReads.{display_journal, display_plan}
-use Rattle.joint_state.specs.Agreed.{Agrees, StaysJournaled, is_journaled}
+use Rattle.joint_state.specs.Agreed.{Agrees, AreAllJournaled, StaysJournaled}
 use Rattle.joint_state.specs.Sound.{IsSound, after}
-use Rattle.range_histories.proofs.ResultLemmas.{bind-ok, refuse_if-ok, member_of_file-ok}
+use Rattle.range_histories.proofs.ResultLemmas.{bind-ok, found-ok, ok-same, refuse_if-ok, refuse_with-ok}
 use Rattle.journal_kept.proofs.KnownLemmas.{quiet-nothing, quiet-committed}
 use Rattle.journal_kept.proofs.DraftLemmas.{IsSilent, all-append}
 use Rattle.journal_kept.proofs.StatusLemmas.{journaled-found}
@@ -112,28 +123,59 @@ module _ (s : State) (sound : IsSound s) where
       by None e = absurd cc
       by (Some image) e = refl
 
-  opened-journaled : (job : ℕ) (args : OpenFile) (status : MemberStatus) → open_plan (memory_of s) job args ≡ Ok status → args.commit ≡ true → is_journaled status.number s.files ≡ true
+  -- none of these isn't journaled
+  all-found : (members : List ℕ) → first_unjournaled members (memory_of s) ≡ None → AreAllJournaled s.files members
+  all-found [] none = tt
+  all-found (member ∷ members) none = by (images_of member (memory_of s)) refl none (λ rest. all-found members rest)
+    where
+      by : (o : Option Images) → images_of member (memory_of s) ≡ o → cond (is_none o) (Some member) (first_unjournaled members (memory_of s)) ≡ None
+          → (first_unjournaled members (memory_of s) ≡ None → AreAllJournaled s.files members) → AreAllJournaled s.files (member ∷ members)
+      by None is h more = absurd cc
+      by (Some images) is h more = (ap is_some is, more h)
+
+  may_commit_all-ok : (commit : Bool) (members : List ℕ) (job : JobState) (x : Bool) → may_commit_all commit members job (memory_of s) ≡ Ok x → commit ≡ true → AreAllJournaled s.files members
+  may_commit_all-ok false members job x h on = absurd cc
+  may_commit_all-ok true members job x h on =
+      let a = bind-ok (found job.level NoDefinition) _ x h in
+      all-found members (refuse_with-ok NotJournaled (first_unjournaled members (memory_of s)) x a.2)
+
+  -- by what the file is
+  members-journaled : (job : ℕ) (args : OpenFile) (file : FileState) (spec : FileSpec) (members : List ℕ) → named args.file s.files ≡ Some file
+      → members_by spec (memory_of s) job args file ≡ Ok members → args.commit ≡ true → AreAllJournaled s.files members
+  members-journaled job args file (PhysicalFile spec) members there h on =
+      let c = bind-ok (named_or_refused args.member (named args.member file.members)) _ members h in
+      let d = bind-ok (may_commit args.commit c.0 (job_of job (memory_of s))) _ members c.2 in
+      let has : named args.member file.members ≡ Some c.0 = found-ok (named args.member file.members) _ c.0 c.1 in
+      let same : c.0.number ∷ [] ≡ members = ok-same (Ok (c.0.number ∷ [])) (c.0.number ∷ []) members refl d.2 in
+      subst (AreAllJournaled s.files) same (
+        journaled-found s.files args.file args.member file c.0 sound.names sound.apart there has ∙ may_commit-ok args.commit c.0 (job_of job (memory_of s)) d.0 d.1 on,
+        tt,
+      )
+  members-journaled job args file (LogicalFile spec) members there h on =
+      let bases : List ℕ = base_members (bases_of (memory_of s)) spec in
+      let c = bind-ok (refuse_if (not (same_name args.member args.file)) (NoSuchName (Name args.member))) _ members h in
+      let d = bind-ok (refuse_if (may_not spec args) WrongOpen) _ members c.2 in
+      let e = bind-ok (may_commit_all args.commit bases (job_of job (memory_of s)) (memory_of s)) _ members d.2 in
+      let same : bases ≡ members = ok-same (Ok bases) bases members refl e.2 in
+      subst (AreAllJournaled s.files) same (may_commit_all-ok args.commit bases (job_of job (memory_of s)) e.0 e.1 on)
+
+  opened-journaled : (job : ℕ) (args : OpenFile) (members : List ℕ) → open_plan (memory_of s) job args ≡ Ok members → args.commit ≡ true → AreAllJournaled s.files members
   unfolding open_plan
-  opened-journaled job args status h on =
+  opened-journaled job args members h on =
       let m = memory_of s in
-      let a = bind-ok (refuse_if (is_some (open_named args.open_id job m)) (NameExists args.open_id)) _ status h in
-      let b = bind-ok (refuse_if (nat_le MOST_OPENS (length (job_of job m).opens)) (LimitReached Opens MOST_OPENS)) _ status a.2 in
-      let c = bind-ok (member_of_file args.file args.member (memory_of s)) _ status b.2 in
-      let d = bind-ok (may_commit args.commit c.0.status (job_of job (memory_of s))) _ status c.2 in
-      let it = member_of_file-ok args.file args.member (memory_of s) c.0 c.1 in
-      let last = d.2 in
-      let same : c.0.status ≡ status = cc in
-      subst (λ (st : MemberStatus). is_journaled st.number s.files ≡ true) same
-      (journaled-found s.files args.file args.member c.0.file c.0.status sound.names sound.apart it.0 it.1 ∙ may_commit-ok args.commit c.0.status (job_of job (memory_of s)) d.0 d.1 on)
+      let a = bind-ok (refuse_if (is_some (open_named args.open_id job m)) (NameExists args.open_id)) _ members h in
+      let b = bind-ok (refuse_if (nat_le MOST_OPENS (length (job_of job m).opens)) (LimitReached Opens MOST_OPENS)) _ members a.2 in
+      let c = bind-ok (named_or_refused args.file (file_named args.file m)) _ members b.2 in
+      members-journaled job args c.0 c.0.spec members (found-ok (named args.file s.files) _ c.0 c.1) c.2 on
 
   pub open_file-kept : (job : ℕ) (args : OpenFile) (done : Change) → open_file (memory_of s) job args ≡ Ok done → Agrees (after s done)
   open_file-kept job args done h =
       does-each _ (open_plan (memory_of s) job args) done (λ c. Agrees (after s c)) h
-      (λ status is. job-kept [] false Done s.locks job (with_open args status.number) nothing
+      (λ members is. job-kept [] false Done s.locks job (with_open args members) nothing
       (λ j are. record {
-        opens = all-append (λ (entry : List ℕ × OpenState). entry.1.commit ≡ true → is_journaled entry.1.member s.files ≡ true) j.opens
-            ((args.open_id, new_open args (j.opened + 1) status.number) ∷ []) are.opens
-            ((λ on. opened-journaled job args status is on), tt);
+        opens = all-append (λ (entry : List ℕ × OpenState). entry.1.commit ≡ true → AreAllJournaled s.files entry.1.members) j.opens
+            ((args.open_id, new_open args (j.opened + 1) members) ∷ []) are.opens
+            ((λ on. opened-journaled job args members is on), tt);
         changes = are.changes;
       }))
 
@@ -149,15 +191,29 @@ module _ (s : State) (sound : IsSound s) where
       → Agrees (after s (unjournaled reply (with_job job (open_changed number change) (with_locks locks (memory_of s)))))
   opened-kept reply locks job number change each = job-kept [] false reply locks job (open_changed number change) nothing (job-opened s.files number change each)
 
+  -- a position that is set leaves the open's members, and so does a read
+  position-journaled : (join : Option JoinView) (position : Position PathEntry) (opened : OpenState) → IsOpenJournaled s.files opened → IsOpenJournaled s.files (positioned join position opened)
+  position-journaled None position opened holds = holds
+  position-journaled (Some view) position opened holds = holds
+
+  read-journaled : (call : Call) (it : Found) (opened : OpenState) → IsOpenJournaled s.files opened → IsOpenJournaled s.files (has_read call it opened)
+  read-journaled call it opened holds = by it.row
+    where
+      by : (row : Option RowPlace) → (stands_on it.entry row (at_format it.entry.format opened)).commit ≡ true
+          → AreAllJournaled s.files (stands_on it.entry row (at_format it.entry.format opened)).members
+      by None = holds
+      by (Some place) = holds
+
   pub position-kept : (plan : Result NewPosition Reply) (job : ℕ) (done : Change) → does (position_change (memory_of s) job) plan ≡ Ok done → Agrees (after s done)
   position-kept plan job done h =
       does-each (position_change (memory_of s) job) plan done (λ c. Agrees (after s c)) h
-      (λ new is. opened-kept Done (locks_left calls.Position job new.opened 0 (memory_of s)) job new.opened.number (positioned new.position) (λ opened holds. holds))
+      (λ new is. opened-kept Done (locks_left calls.Position job new.its.opened 0 (memory_of s)) job new.its.opened.number (positioned (join_in new.its.file.spec) new.position)
+      (position-journaled (join_in new.its.file.spec) new.position))
 
   pub read-kept : (plan : Result FoundEntry Reply) (job : ℕ) (done : Change) → does (read_change (memory_of s) job) plan ≡ Ok done → Agrees (after s done)
   read-kept plan job done h =
       does-each (read_change (memory_of s) job) plan done (λ c. Agrees (after s c)) h
-      (λ it is. opened-kept Done (locks_left it.call job it.its.opened it.entry.rrn (memory_of s)) job it.its.opened.number (has_read it.call it.entry) (λ opened holds. holds))
+      (λ it is. opened-kept Done (locks_left it.call job it.opened it.found.entry.rrn (memory_of s)) job it.opened.number (has_read it.call it.found) (read-journaled it.call it.found))
 
   pub unlock-kept : (job : ℕ) (args : OpenName) (done : Change) → unlock (memory_of s) job args ≡ Ok done → Agrees (after s done)
   unlock-kept job args done h =

@@ -13,13 +13,13 @@ use Rattle.journal_kept.proofs.ReceiverRequests.{delete_receiver-kept}
 use Rattle.journal_kept.proofs.SlotRequests.{delete_record-kept, update_record-kept, write_record-kept}
 use Rattle.journal_kept.proofs.BackRequests.{end_job-kept, rollback-kept}
 use Rattle.journal_kept.proofs.MemberRequests.{apply_changes-kept, clear_member-kept, end_journaling-kept, remove_changes-kept, reorganize_member-kept, start_journaling-kept}
-use Rattle.journal_kept.proofs.FileRequests.{add_member-kept, create_physical_file-kept, delete_file-kept}
+use Rattle.journal_kept.proofs.FileRequests.{add_member-kept, create_logical_file-kept, create_physical_file-kept, delete_file-kept}
 
 by_request : (s : State) → IsSound s → (sources : List NamedSource) (job timestamp : ℕ) (request : Request) (done : Change)
     → change sources s.entries (memory_of s) job timestamp request ≡ Ok done → Agrees (after s done)
 unfolding change
 by_request s sound sources job timestamp (CreatePhysicalFile args) done h = create_physical_file-kept s sound job timestamp sources args done h
-by_request s sound sources job timestamp (CreateLogicalFile args) done h = absurd cc
+by_request s sound sources job timestamp (CreateLogicalFile args) done h = create_logical_file-kept s sound job timestamp sources args done h
 by_request s sound sources job timestamp (DeleteFile args) done h = delete_file-kept s sound job timestamp args done h
 by_request s sound sources job timestamp (AddMember args) done h = add_member-kept s sound job timestamp args done h
 by_request s sound sources job timestamp (ClearMember args) done h = clear_member-kept s sound job timestamp args done h

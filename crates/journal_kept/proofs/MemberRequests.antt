@@ -36,7 +36,7 @@ use Rattle.library_steps.specs.MemberCommands.{clear_member, empty_plan, if_jour
 use Rattle.library_steps.specs.Journaling.{end_change, end_journaling, end_plan, journaled_from, no_longer_journaled, start_change, start_journaling, start_plan}
 use Rattle.library_steps.specs.Ranges.{Given, RangeWork, before_or_deleted, given_back, given_drafts, given_forward, range_change, slots_now, told}
 use Rattle.library_parts.proofs.MemberLemmas.{item_at-with_item_other, member_of-with}
-use Rattle.joint_state.specs.Agreed.{Agrees, StaysJournaled, is_journaled}
+use Rattle.joint_state.specs.Agreed.{Agrees, AreAllJournaled, StaysJournaled, is_journaled}
 use Rattle.joint_state.specs.Sound.{IsSound, after}
 use Rattle.range_histories.specs.Ranges.{IsDone}
 use Rattle.range_histories.proofs.ResultLemmas.{bind-ok, member_of_file-ok, unused-ok}
@@ -137,11 +137,18 @@ unused-jobs files later member (job ∷ jobs) alone wider all =
     differs : (n : ℕ) → (n == member) ≡ false → n ≢ member
     differs n e = eqb-false n member e
 
-    opens : (entries : Named OpenState) → list_any (λ (entry : List ℕ × OpenState). entry.1.member == member) entries ≡ false → AreOpensJournaled files entries → AreOpensJournaled later entries
+    numbers : (bases : List ℕ) → list_any (λ base. base == member) bases ≡ false → AreAllJournaled files bases → AreAllJournaled later bases
+    numbers [] none each = tt
+    numbers (base ∷ bases) none each =
+        let p = or_parts (base == member) (list_any (λ b. b == member) bases) none in
+        (wider base (differs base p.0) each.0, numbers bases p.1 each.1)
+
+    opens : (entries : Named OpenState) → list_any (λ (entry : List ℕ × OpenState). list_any (λ base. base == member) entry.1.members) entries ≡ false → AreOpensJournaled files entries
+        → AreOpensJournaled later entries
     opens [] none each = tt
     opens (entry ∷ entries) none each =
-        let p = or_parts (entry.1.member == member) (list_any (λ (e : List ℕ × OpenState). e.1.member == member) entries) none in
-        ((λ c. wider entry.1.member (differs entry.1.member p.0) (each.0 c)), opens entries p.1 each.1)
+        let p = or_parts (list_any (λ base. base == member) entry.1.members) (list_any (λ (e : List ℕ × OpenState). list_any (λ base. base == member) e.1.members) entries) none in
+        ((λ c. numbers entry.1.members p.0 (each.0 c)), opens entries p.1 each.1)
 
     changes : (undos : List MemberChange) → list_any (λ (undo : MemberChange). undo.member == member) undos ≡ false → AreChangesJournaled files undos → AreChangesJournaled later undos
     changes [] none each = tt

@@ -13,7 +13,7 @@ use Rattle.journal_model.specs.Acts.{cycle_of}
 use Rattle.journal_model.specs.AtSequence.{IsSo}
 use Rattle.journal_model.specs.Places.{slot_of}
 use Rattle.journal_model.specs.Rollback.{MemberChange}
-use Rattle.record_fmt.specs.Records.{record_given}
+use Rattle.logical_model.specs.Formats.{given_in}
 use Rattle.lock_table.specs.declared.levels.Call.TheVariants.{WriteAt}
 use Rattle.lock_table.specs.declared.levels.Call.TheVariants as calls
 use Rattle.library_model.specs.Named.{Named, named}
@@ -22,22 +22,24 @@ use Rattle.library_model.specs.declared.replies.Reply.TheVariants.{Added, Done, 
 use Rattle.library_model.specs.declared.requests.OpenName.{OpenName}
 use Rattle.library_model.specs.declared.requests.UpdateRecord.{UpdateRecord}
 use Rattle.library_model.specs.declared.requests.WriteRecord.{WriteRecord}
-use Rattle.library_steps.specs.State.{State, Memory, FileState, OpenState, CycleState, JobState, fields_of, job_of, memory_of, open_named, with_job, with_opens}
+use Rattle.library_steps.specs.State.{State, Memory, FileState, OpenState, CycleState, JobState, job_of, memory_of, open_named, with_job, with_opens}
 use Rattle.library_steps.specs.Change.{Change, journaled}
 use Rattle.library_steps.specs.Refusals.{OpenedFile, found, opened_file, named_or_refused, refuse_if, sequences_left}
 use Rattle.library_steps.specs.Drafts.{Author, author_of, slot_drafts}
 use Rattle.library_steps.specs.Records.{live_record, slot_there}
-use Rattle.library_steps.specs.Reads.{open_changed, with_opened}
+use Rattle.library_steps.specs.LogicalFiles.{bases_of}
+use Rattle.library_steps.specs.Reads.{at_format, open_changed, with_opened}
 use Rattle.library_steps.specs.SlotChange.{NewSlot, are_both, begins_cycle, change_made, cycle_for, cycle_number, drafts_of, few_changes, images_of, is_behind_last, not_held, noted, slot_change, slot_changed, slot_put, touched, with_cycle, with_undo}
 use Rattle.library_steps.specs.UniqueKeys.{keys_free}
 use Rattle.library_steps.specs.Locking.{few_locks, locks_left, not_locked, with_locks}
-use Rattle.library_steps.specs.WriteRecord.{format_or_refused, has_room, is_input, next_place, packed, place_asked, write_call, write_change, write_plan, write_record}
+use Rattle.library_steps.specs.WriteRecord.{format_asked, has_room, is_input, next_place, packed, place_asked, place_plan, write_call, write_change, write_plan, write_record}
 use Rattle.library_steps.specs.ChangeRecord.{delete_change, delete_plan, delete_record, is_current, update_change, update_plan, update_record, without_current, without_record}
-use Rattle.library_parts.specs.Lawful.{OpenHolds, OpensHold, OpensMember}
-use Rattle.library_parts.proofs.MemberLemmas.{IsThere-is_some, item_at-with_item_other, member_of-with}
-use Rattle.joint_state.specs.Agreed.{Agrees, StaysJournaled, is_journaled}
+use Rattle.library_parts.proofs.FindLemmas.{IsMember}
+use Rattle.library_parts.proofs.MemberLemmas.{item_at-with_item_other, member_of-with}
+use Rattle.joint_state.specs.Agreed.{Agrees, AreAllJournaled, StaysJournaled, is_journaled}
 use Rattle.joint_state.specs.CurrentRecords.{CurrentStands}
 use Rattle.joint_state.specs.Sound.{IsSound, after}
+use Rattle.joint_state.proofs.OpenLemmas.{IsAmong, among-format, each-among, member-there, opened-stands}
 use Rattle.range_histories.proofs.ResultLemmas.{bind-ok, found-ok, ok-same, refuse_if-ok}
 use Rattle.journal_kept.proofs.KnownLemmas.{quiet-began}
 use Rattle.journal_kept.proofs.DraftLemmas.{IsSilent, all-append, drafts-none, of-others, slot_drafts-lead, slot_drafts-of, slots-append, slots-silent}
@@ -157,11 +159,10 @@ module _ (job : ℕ) (undo : MemberChange) (cycle : CycleState) (m : Memory) whe
 
 -- ---- the open
 
--- an open of the job, which is a member that is there
+-- an open of the job, at a member that is there
 pub record IsOpen (s : State) (job : ℕ) (opened : OpenState) : Type 0 where
   pub there : is_some (member_at opened.member s.members) ≡ true
   pub journaled : opened.commit ≡ true → is_journaled opened.member s.files ≡ true
-  pub current : (rrn : ℕ) → opened.current ≡ Some rrn → IsSome (live_record opened.member rrn (memory_of s))
 
 pub all-indexed : (P : JobState → Type 0) (jobs : List JobState) → ((place : ℕ) (job : JobState) → slice_get jobs place ≡ Some job → P job) → AllByRecursion P jobs
 all-indexed P [] each = tt
@@ -177,20 +178,31 @@ all-live : (s : State) (number : ℕ) (opens : Named OpenState)
 all-live s number [] all = tt
 all-live s number (entry ∷ opens) all = ((λ rrn at. (all.0 rrn at).live), all-live s number opens all.1)
 
+-- through one of its members
+open-among : (s : State) → IsSound s → (job : ℕ) (name : List ℕ) (opened through : OpenState) → open_named name job (memory_of s) ≡ Some opened → through.commit ≡ opened.commit
+    → IsAmong opened.members through.member → IsOpen s job through
+open-among s sound job name opened through h commit among = record {
+  there = member-there s through.member (each-among (IsMember s) opened.members through.member (opened-stands s job name opened sound.library h).members among);
+  journaled = λ on. each-among (λ (member : ℕ). is_journaled member s.files ≡ true) opened.members through.member
+      (all-named (λ (entry : List ℕ × OpenState). entry.1.commit ≡ true → AreAllJournaled s.files entry.1.members) (IsOpenJournaled s.files) name (job_of job (memory_of s)).opens opened (λ entry p. p)
+      (job-of (StaysJournaled s.files) s job sound.agreed.committed (none-open s.files)).opens h (sym commit ∙ on)) among;
+}
+
+-- at the member of the record read last, and at each format
 open-named : (s : State) → IsSound s → (job : ℕ) (name : List ℕ) (opened : OpenState) → open_named name job (memory_of s) ≡ Some opened → IsOpen s job opened
-open-named s sound job name opened h = record {
-  there = opens (named opened.file s.files) refl (all-named (λ (entry : List ℕ × OpenState). OpenHolds s.files entry.1) (OpenHolds s.files) name (job_of job (memory_of s)).opens opened (λ entry p. p)
-      (job-of (OpensHold s.files) s job sound.library.opens tt) h);
-  journaled = all-named (λ (entry : List ℕ × OpenState). entry.1.commit ≡ true → is_journaled entry.1.member s.files ≡ true) (IsOpenJournaled s.files) name
-      (job_of job (memory_of s)).opens opened (λ entry p. p)
-      (job-of (StaysJournaled s.files) s job sound.agreed.committed (none-open s.files)).opens h;
-  current = all-named (λ (entry : List ℕ × OpenState). (rrn : ℕ) → entry.1.current ≡ Some rrn → IsSome (live_record entry.1.member rrn (memory_of s)))
-      (λ (o : OpenState). (rrn : ℕ) → o.current ≡ Some rrn → IsSome (live_record o.member rrn (memory_of s))) name (job_of job (memory_of s)).opens opened (λ entry p. p)
-      (job-of (LiveOpens s) s job (all-indexed (LiveOpens s) s.jobs (λ place j at. all-live s (place + 1) j.opens (sound.joint.jobs place j at).current)) tt) h;
-} where
-  opens : (o : Option FileState) → named opened.file s.files ≡ o → OpensMember opened.member o → is_some (member_at opened.member s.members) ≡ true
-  opens None at holds = absurd holds
-  opens (Some file) at holds = IsThere-is_some (fields_of file) (member_at opened.member s.members) (sound.library.members opened.file file opened.member (record { there = at; has = holds }))
+open-named s sound job name opened h = open-among s sound job name opened opened h refl (opened-stands s job name opened sound.library h).among
+
+open-format : (s : State) → IsSound s → (job : ℕ) (name : List ℕ) (opened : OpenState) (number : ℕ) → open_named name job (memory_of s) ≡ Some opened → IsOpen s job (at_format number opened)
+open-format s sound job name opened number h =
+    open-among s sound job name opened (at_format number opened) h refl (among-format number opened (opened-stands s job name opened sound.library h).among)
+
+-- its current record stands
+open-current : (s : State) → IsSound s → (job : ℕ) (name : List ℕ) (opened : OpenState) → open_named name job (memory_of s) ≡ Some opened → (rrn : ℕ) → opened.current ≡ Some rrn
+    → IsSome (live_record opened.member rrn (memory_of s))
+open-current s sound job name opened h =
+    all-named (λ (entry : List ℕ × OpenState). (rrn : ℕ) → entry.1.current ≡ Some rrn → IsSome (live_record entry.1.member rrn (memory_of s)))
+    (λ (o : OpenState). (rrn : ℕ) → o.current ≡ Some rrn → IsSome (live_record o.member rrn (memory_of s))) name (job_of job (memory_of s)).opens opened (λ entry p. p)
+    (job-of (LiveOpens s) s job (all-indexed (LiveOpens s) s.jobs (λ place j at. all-live s (place + 1) j.opens (sound.joint.jobs place j at).current)) tt) h
 
 -- ---- plans
 
@@ -239,27 +251,29 @@ may-live member rrn image (inl within) = inl within
 may-live member rrn image (inr behind) = inr (behind, refl)
 
 module _ (s : State) (sound : IsSound s) (job : ℕ) where
+  place_plan-ok : (opened : OpenState) (asked : Option ℕ) (image : List ℕ) (new : NewSlot) → IsOpen s job opened → place_plan (memory_of s) job opened asked image ≡ Ok new → IsPlaced s job new
+  unfolding place_plan
+  place_plan-ok opened asked image new is h =
+      let m = memory_of s in
+      let f = bind-ok (place_asked job opened asked m) _ new h in
+      let g = bind-ok (has_room (is_behind_last opened.member f.0 m) opened.member m) _ new f.2 in
+      let i = bind-ok (keys_free job opened.commit opened.member f.0 Deleted image m) _ new g.2 in
+      let k = bind-ok (few_locks (write_call asked) job opened f.0 m) _ new i.2 in
+      let l = bind-ok (few_changes opened.commit Deleted (Live image) m) _ new k.2 in
+      let made : record { opened = opened; rrn = f.0; slot = Live image } ≡ new = ok-same (Ok (record { opened = opened; rrn = f.0; slot = Live image })) _ new refl l.2 in
+      let place = place_asked-ok job opened asked m f.0 f.1 in
+      subst (IsPlaced s job) made (record { open_is = is; counted = place.0; may = may-live (member_of opened.member s.members) f.0 image place.1 })
+
   write_plan-ok : (args : WriteRecord) (new : NewSlot) → write_plan (memory_of s) job args ≡ Ok new → IsPlaced s job new
   unfolding write_plan
   write_plan-ok args new h =
       let m = memory_of s in
       let a = bind-ok (sequences_left m) _ new h in
       let b = bind-ok (opened_file args.open_id job m) _ new a.2 in
-      let c = bind-ok (format_or_refused args.format b.0.file.spec.format.name) _ new b.2 in
+      let c = bind-ok (format_asked args.format b.0.file.spec) _ new b.2 in
       let d = bind-ok (refuse_if (is_input b.0.opened.option) WrongOpen) _ new c.2 in
-      let e = bind-ok (packed (record_given (fields_of b.0.file) args.values None)) _ new d.2 in
-      let f = bind-ok (place_asked job b.0.opened args.record_number m) _ new e.2 in
-      let g = bind-ok (has_room (is_behind_last b.0.opened.member f.0 m) b.0.opened.member m) _ new f.2 in
-      let i = bind-ok (keys_free job b.0.opened.commit b.0.opened.member f.0 Deleted e.0 m) _ new g.2 in
-      let k = bind-ok (few_locks (write_call args.record_number) job b.0.opened f.0 m) _ new i.2 in
-      let l = bind-ok (few_changes b.0.opened.commit Deleted (Live e.0) m) _ new k.2 in
-      let made : record { opened = b.0.opened; rrn = f.0; slot = Live e.0 } ≡ new = ok-same (Ok (record { opened = b.0.opened; rrn = f.0; slot = Live e.0 })) _ new refl l.2 in
-      let place = place_asked-ok job b.0.opened args.record_number m f.0 f.1 in
-      subst (IsPlaced s job) made (record {
-        open_is = open-named s sound job args.open_id b.0.opened (opened_file-ok args.open_id job m b.0 b.1);
-        counted = place.0;
-        may = may-live (member_of b.0.opened.member s.members) f.0 e.0 place.1;
-      })
+      let e = bind-ok (packed (given_in (bases_of m) b.0.file.spec c.0 args.values None)) _ new d.2 in
+      place_plan-ok (at_format c.0 b.0.opened) args.record_number e.0 new (open-format s sound job args.open_id b.0.opened c.0 (opened_file-ok args.open_id job m b.0 b.1)) e.2
 
   update_plan-ok : (args : UpdateRecord) (new : NewSlot) → update_plan (memory_of s) job args ≡ Ok new → IsPlaced s job new
   unfolding update_plan
@@ -269,13 +283,14 @@ module _ (s : State) (sound : IsSound s) (job : ℕ) where
       let b = bind-ok (opened_file args.open_id job m) _ new a.2 in
       let c = bind-ok (refuse_if (is_input b.0.opened.option) WrongOpen) _ new b.2 in
       let d = bind-ok (found b.0.opened.current NoCurrentRecord) _ new c.2 in
-      let e = bind-ok (packed (record_given (fields_of b.0.file) args.values (live_record b.0.opened.member d.0 m))) _ new d.2 in
+      let e = bind-ok (packed (given_in (bases_of m) b.0.file.spec b.0.opened.format args.values (live_record b.0.opened.member d.0 m))) _ new d.2 in
       let f = bind-ok (not_held job b.0.opened d.0 m) _ new e.2 in
       let g = bind-ok (keys_free job b.0.opened.commit b.0.opened.member d.0 (slot_there b.0.opened.member d.0 m) e.0 m) _ new f.2 in
       let i = bind-ok (few_changes b.0.opened.commit (slot_there b.0.opened.member d.0 m) (Live e.0) m) _ new g.2 in
       let made : record { opened = b.0.opened; rrn = d.0; slot = Live e.0 } ≡ new = ok-same (Ok (record { opened = b.0.opened; rrn = d.0; slot = Live e.0 })) _ new refl i.2 in
       let it = open-named s sound job args.open_id b.0.opened (opened_file-ok args.open_id job m b.0 b.1) in
-      let place = live-within b.0.opened.member d.0 m (it.current d.0 (found-ok b.0.opened.current NoCurrentRecord d.0 d.1)) in
+      let current = open-current s sound job args.open_id b.0.opened (opened_file-ok args.open_id job m b.0 b.1) d.0 (found-ok b.0.opened.current NoCurrentRecord d.0 d.1) in
+      let place = live-within b.0.opened.member d.0 m current in
       subst (IsPlaced s job) made (record { open_is = it; counted = place.0; may = inl place.1 })
 
   delete_plan-ok : (args : OpenName) (new : NewSlot) → delete_plan (memory_of s) job args ≡ Ok new → IsPlaced s job new
@@ -290,7 +305,8 @@ module _ (s : State) (sound : IsSound s) (job : ℕ) where
       let i = bind-ok (few_changes b.0.opened.commit (slot_there b.0.opened.member d.0 m) Deleted m) _ new f.2 in
       let made : record { opened = b.0.opened; rrn = d.0; slot = Deleted } ≡ new = ok-same (Ok (record { opened = b.0.opened; rrn = d.0; slot = Deleted })) _ new refl i.2 in
       let it = open-named s sound job args.open_id b.0.opened (opened_file-ok args.open_id job m b.0 b.1) in
-      let place = live-within b.0.opened.member d.0 m (it.current d.0 (found-ok b.0.opened.current NoCurrentRecord d.0 d.1)) in
+      let current = open-current s sound job args.open_id b.0.opened (opened_file-ok args.open_id job m b.0 b.1) d.0 (found-ok b.0.opened.current NoCurrentRecord d.0 d.1) in
+      let place = live-within b.0.opened.member d.0 m current in
       subst (IsPlaced s job) made (record { open_is = it; counted = place.0; may = inl place.1 })
 
   -- ---- the three requests

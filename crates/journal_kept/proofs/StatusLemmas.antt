@@ -195,6 +195,17 @@ journaled-added n number name member file (entry ∷ files) is = at (status_in n
   at None more = more
   at (Some status) more = refl
 
+-- a file without members
+pub journaled-memberless : (n : ℕ) (name : List ℕ) (file : FileState) (files : Named FileState) → file.members ≡ [] → is_journaled n (files ++ (name, file) ∷ []) ≡ is_journaled n files
+journaled-memberless n name file [] is =
+    ap (λ (ms : Named MemberStatus). is_some (option_and_then (λ (s : MemberStatus). s.images) (cond (is_some (status_in n ms)) (status_in n ms) None))) is
+journaled-memberless n name file (entry ∷ files) is = at (status_in n entry.1.members) (journaled-memberless n name file files is) where
+  at : (o : Option MemberStatus) → is_journaled n (files ++ (name, file) ∷ []) ≡ is_journaled n files
+      → is_some (option_and_then (λ (s : MemberStatus). s.images) (cond (is_some o) o (status_among n (files ++ (name, file) ∷ []))))
+      ≡ is_some (option_and_then (λ (s : MemberStatus). s.images) (cond (is_some o) o (status_among n files)))
+  at None more = more
+  at (Some status) more = refl
+
 status_in-push : (n number : ℕ) (name : List ℕ) (members : Named MemberStatus) → n ≢ number → status_in n (members ++ (name, new_status number) ∷ []) ≡ status_in n members
 status_in-push n number name [] differs =
     status_in-cons n (name, new_status number) [] ∙ ap (λ (b : Bool). cond b (Some (new_status number)) None) (ne_eqb number n (λ e. differs (sym e)))

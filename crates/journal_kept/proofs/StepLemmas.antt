@@ -18,7 +18,7 @@ use Rattle.library_steps.specs.State.{State, Memory, FileState, OpenState, JobSt
 use Rattle.library_steps.specs.Uses.{changes_in}
 use Rattle.library_steps.specs.Change.{journaled}
 use Rattle.library_steps.specs.SlotChange.{images_of}
-use Rattle.joint_state.specs.Agreed.{Agrees, StaysJournaled, is_journaled}
+use Rattle.joint_state.specs.Agreed.{Agrees, AreAllJournaled, StaysJournaled, is_journaled}
 use Rattle.joint_state.specs.Sound.{after}
 use Rattle.range_histories.proofs.HistoryLemmas.{drop-none}
 use Rattle.journal_kept.proofs.KnownLemmas.{known_after-append, IsChained-append}
@@ -120,10 +120,14 @@ wider-jobs files later [] wider all = tt
 wider-jobs files later (job ∷ jobs) wider all =
     (record { opens = opens job.opens all.0.opens; changes = changes (changes_in job.cycle) all.0.changes }, wider-jobs files later jobs wider all.1)
   where
-    opens : (entries : Named OpenState) → AllByRecursion (λ (entry : List ℕ × OpenState). entry.1.commit ≡ true → is_journaled entry.1.member files ≡ true) entries
-        → AllByRecursion (λ (entry : List ℕ × OpenState). entry.1.commit ≡ true → is_journaled entry.1.member later ≡ true) entries
+    members : (numbers : List ℕ) → AreAllJournaled files numbers → AreAllJournaled later numbers
+    members [] each = tt
+    members (number ∷ numbers) each = (wider number each.0, members numbers each.1)
+
+    opens : (entries : Named OpenState) → AllByRecursion (λ (entry : List ℕ × OpenState). entry.1.commit ≡ true → AreAllJournaled files entry.1.members) entries
+        → AllByRecursion (λ (entry : List ℕ × OpenState). entry.1.commit ≡ true → AreAllJournaled later entry.1.members) entries
     opens [] each = tt
-    opens (entry ∷ entries) each = ((λ c. wider entry.1.member (each.0 c)), opens entries each.1)
+    opens (entry ∷ entries) each = ((λ c. members entry.1.members (each.0 c)), opens entries each.1)
 
     changes : (undos : List MemberChange) → AllByRecursion (λ (undo : MemberChange). is_journaled undo.member files ≡ true) undos
         → AllByRecursion (λ (undo : MemberChange). is_journaled undo.member later ≡ true) undos

@@ -71,6 +71,62 @@ in-map f y [] its = absurd its
 in-map f y (x ∷ xs) (inl same) = record { from = x; among = inl refl; is = same }
 in-map f y (x ∷ xs) (inr later) = let rest = in-map f y xs later in record { from = rest.from; among = inr rest.among; is = rest.is }
 
+-- ---- where an item comes to stand
+
+pub left-in : {X : Type 0} (x : X) (xs ys : List X) → IsIn x xs → IsIn x (xs ++ ys)
+left-in x [] ys its = absurd its
+left-in x (y ∷ xs) ys (inl same) = inl same
+left-in x (y ∷ xs) ys (inr later) = inr (left-in x xs ys later)
+
+pub right-in : {X : Type 0} (x : X) (xs ys : List X) → IsIn x ys → IsIn x (xs ++ ys)
+right-in x [] ys its = its
+right-in x (y ∷ xs) ys its = inr (right-in x xs ys its)
+
+pub map-in : {X Y : Type 0} (f : X → Y) (x : X) (xs : List X) → IsIn x xs → IsIn (f x) (map f xs)
+map-in f x [] its = absurd its
+map-in f x (y ∷ xs) (inl same) = inl (ap f same)
+map-in f x (y ∷ xs) (inr later) = inr (map-in f x xs later)
+
+pub filter-in : {X : Type 0} (test : X → Bool) (x : X) (xs : List X) → IsIn x xs → test x ≡ true → IsIn x (filter test xs)
+filter-in test x [] its passes = absurd its
+filter-in test x (y ∷ xs) (inl same) passes = subst (λ b. IsIn x (cond b (y ∷ filter test xs) (filter test xs))) (sym (ap test same ∙ passes)) (inl same)
+filter-in test x (y ∷ xs) (inr later) passes =
+    elim (test y) as (λ b. IsIn x (cond b (y ∷ filter test xs) (filter test xs))) [
+      | true ↦ inr (filter-in test x xs later passes)
+      | false ↦ filter-in test x xs later passes
+    ]
+
+pub filter-passes : {X : Type 0} (test : X → Bool) (x : X) (xs : List X) → IsIn x (filter test xs) → test x ≡ true
+filter-passes test x [] its = absurd its
+filter-passes test x (y ∷ xs) its =
+    elim (test y) as (λ b. test y ≡ b → IsIn x (cond b (y ∷ filter test xs) (filter test xs)) → test x ≡ true) [
+      | true ↦ λ e h. by e (λ later. filter-passes test x xs later) h
+      | false ↦ λ e h. filter-passes test x xs h
+    ] refl its
+  where
+    by : test y ≡ true → (IsIn x (filter test xs) → test x ≡ true) → (y ≡ x) ⊎ IsIn x (filter test xs) → test x ≡ true
+    by e rest (inl same) = ap test (sym same) ∙ e
+    by e rest (inr later) = rest later
+
+pub flat-in : {X Y : Type 0} (f : X → List Y) (x : X) (y : Y) (xs : List X) → IsIn x xs → IsIn y (f x) → IsIn y (flat_map f xs)
+flat-in f x y [] its within = absurd its
+flat-in f x y (z ∷ xs) (inl same) within = left-in y (f z) (flat_map f xs) (subst (λ w. IsIn y (f w)) (sym same) within)
+flat-in f x y (z ∷ xs) (inr later) within = right-in y (f z) (flat_map f xs) (flat-in f x y xs later within)
+
+-- the item of the list of an item
+pub record WasWithin {X Y : Type 0} (f : X → List Y) (xs : List X) (y : Y) : Type 0 where
+  pub from : X
+  pub among : IsIn from xs
+  pub within : IsIn y (f from)
+
+pub in-flat : {X Y : Type 0} (f : X → List Y) (y : Y) (xs : List X) → IsIn y (flat_map f xs) → WasWithin f xs y
+in-flat f y [] its = absurd its
+in-flat f y (x ∷ xs) its =
+    elim (in-append y (f x) (flat_map f xs) its) [
+      | inl here ↦ record { from = x; among = inl refl; within = here }
+      | inr later ↦ let rest = in-flat f y xs later in record { from = rest.from; among = inr rest.among; within = rest.within }
+    ]
+
 -- ---- tests
 
 pub any-in : {X : Type 0} (test : X → Bool) (x : X) (xs : List X) → IsIn x xs → test x ≡ true → list_any test xs ≡ true

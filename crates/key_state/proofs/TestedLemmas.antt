@@ -1,5 +1,5 @@
 -- The test for equal keys that requests make finds none exactly where no unique path has two records with one key.
-use Rattle.std.proofs.Common.{◌≡◌, inl, inr, ◌∙◌, ℕ, zero, suc, ◌+◌, cond, if◌then◌else◌, true, false, List, [], ◌∷◌, ◌++◌, map, Option, Some, None, Result, Ok, subst, refl, sym, ap, arith}
+use Rattle.std.proofs.Common.{◌≡◌, inl, inr, ◌∙◌, ℕ, zero, suc, ◌+◌, cond, if◌then◌else◌, true, false, List, [], ◌∷◌, map, Option, Some, None, Ok, subst, refl, sym, ap, arith}
 use Rattle.std.specs.List.{AllByRecursion, list_any}
 use Rattle.std.specs.declared.cmp.Ordering.{Ordering}
 use Rattle.std.specs.declared.cmp.Ordering.TheVariants.{Less, Equal, Greater}
@@ -11,16 +11,17 @@ use Rattle.member_slots.specs.declared.slot.Slot.TheVariants.{Live, Deleted}
 use Rattle.member_slots.specs.Members.{member_of}
 use Rattle.file_model.specs.declared.paths.PathFormat.{PathFormat}
 use Rattle.file_model.specs.KeyOrder.{KeyValue, compare_keys}
-use Rattle.file_model.specs.Paths.{PathEntry, entry_of, first_repeated, has_equal_key, path_key, repeated_in}
+use Rattle.file_model.specs.Paths.{entries_from, entry_of, first_repeated, has_equal_key, path_key, repeated_in}
 use Rattle.file_model.specs.Selection.{selects}
 use Rattle.file_model.proofs.OrderLemmas.{compare_keys-total}
 use Rattle.journal_model.specs.Places.{slot_of}
 use Rattle.library_model.specs.declared.replies.Reply.TheVariants.{DuplicateKey}
-use Rattle.library_steps.specs.State.{Memory, FileState}
+use Rattle.library_steps.specs.State.{Memory}
 use Rattle.library_steps.specs.Refusals.{◌>>=◌, refuse_with}
 use Rattle.library_steps.specs.UniqueKeys.{UniquePath, all_apart, has_key, unique_paths}
 use Rattle.key_state.specs.Keys.{AreUnique, HasOwnKeys}
-use Rattle.key_state.proofs.FormatLemmas.{HasPath, IsOver, each-over, each-path, over-each, own_format, own_path, path-each}
+use Rattle.key_state.proofs.FormatLemmas.{IsOver, each-over, each-path, over-each, path-over}
+use Rattle.key_state.proofs.ListLemmas.{IsIn, all-in}
 use Rattle.key_state.proofs.KeyLemmas.{selected, shown, unrepeated-unique}
 use Rattle.key_state.proofs.UniqueLemmas.{IsUnique, Shows}
 
@@ -92,31 +93,36 @@ ok-apart (unique ∷ paths) m ok =
       | Some rrn ↦ λ h. absurd cc
     ] ok
 
--- of the path that a file has over a member
-module _ (m : Memory) (number : ℕ) (entry : List ℕ × FileState) (path : HasPath m.files number entry) where
-  abbrev entries_of_path : List PathEntry
-  entries_of_path = shown (own_format number entry) 1 (member_of number m.members).slots
+-- of a path of one format
+module _ (m : Memory) (unique : UniquePath) (format : PathFormat) (alone : unique.path.formats ≡ format ∷ []) (is : unique.path.unique ≡ true) where
+  one-repeated : repeated_in unique.path m.members ≡ first_repeated (shown format 1 (member_of format.member m.members).slots)
+  one-repeated =
+      ap (λ b. if b then first_repeated (entries_from 0 unique.path.formats m.members) else None) is
+      ∙ ap (λ (formats : List PathFormat). first_repeated (entries_from 0 formats m.members)) alone
+      ∙ ap first_repeated (append-nil (shown format 1 (member_of format.member m.members).slots))
 
-  path-unrepeated : IsUnique (own_format number entry) (λ place. slot_of (member_of number m.members).slots place) → repeated_in (own_path number entry).path m.members ≡ None
-  path-unrepeated unique =
-      ap (λ b. if b then first_repeated (entries_of_path ++ []) else None) path.unique ∙ ap first_repeated (append-nil entries_of_path)
-      ∙ unique-unrepeated (own_format number entry) (member_of number m.members).slots 1 unique
+  pub path-unrepeated : IsUnique format (λ place. slot_of (member_of format.member m.members).slots place) → repeated_in unique.path m.members ≡ None
+  path-unrepeated own = one-repeated ∙ unique-unrepeated format (member_of format.member m.members).slots 1 own
 
-  path-unique : repeated_in (own_path number entry).path m.members ≡ None → IsUnique (own_format number entry) (λ place. slot_of (member_of number m.members).slots place)
-  path-unique none =
-      unrepeated-unique (own_format number entry) (member_of number m.members).slots
-      (ap first_repeated (sym (append-nil entries_of_path)) ∙ subst (λ b. (if b then first_repeated (entries_of_path ++ []) else None) ≡ None) path.unique none)
+  pub path-unique : repeated_in unique.path m.members ≡ None → IsUnique format (λ place. slot_of (member_of format.member m.members).slots place)
+  path-unique none = unrepeated-unique format (member_of format.member m.members).slots (sym one-repeated ∙ none)
 
 pub unique-tested : (m : Memory) → AreUnique m m.members → (member : ℕ) → all_apart (unique_paths member m) m ≡ Ok true
 unique-tested m unique member =
     apart-ok (unique_paths member m) m
-    (each-path (λ (u : UniquePath). repeated_in u.path m.members ≡ None) member m.files
-    (λ entry path. path-unrepeated m member entry path
-    (each-over m (HasOwnKeys m.members) unique (own_format member entry) (record { number = member; entry = entry; path = path; is = refl }))))
+    (each-path m (λ (u : UniquePath). repeated_in u.path m.members ≡ None) member
+    (λ u format alone is over. path-unrepeated m u format alone is (each-over m (HasOwnKeys m.members) unique format over)))
+
+-- where the paths over a member passed the test
+pub apart-own : (m n : Memory) (number : ℕ) → AllByRecursion (λ unique. repeated_in unique.path n.members ≡ None) (unique_paths number m) → (format : PathFormat) → IsOver m.files format
+    → format.member ≡ number → IsUnique format (λ place. slot_of (member_of format.member n.members).slots place)
+apart-own m n number apart format over is =
+    let its = path-over m format over in
+    path-unique n its.unique format its.alone its.is
+    (all-in (λ (u : UniquePath). repeated_in u.path n.members ≡ None) its.unique (unique_paths number m) apart
+    (subst (λ (k : ℕ). IsIn its.unique (unique_paths k m)) is its.among))
 
 pub tested-unique : (m : Memory) → ((member : ℕ) → all_apart (unique_paths member m) m ≡ Ok true) → AreUnique m m.members
 tested-unique m tested =
     over-each m (HasOwnKeys m.members)
-    (λ format over. subst (HasOwnKeys m.members) over.is
-    (path-unique m over.number over.entry over.path
-    (path-each (λ (u : UniquePath). repeated_in u.path m.members ≡ None) over.number m.files over.entry over.path (ok-apart (unique_paths over.number m) m (tested over.number)))))
+    (λ format over. apart-own m m format.member (ok-apart (unique_paths format.member m) m (tested format.member)) format over refl)

@@ -1,5 +1,6 @@
 -- What the requests on files, members and the journal leave of the keys.
-use Rattle.std.proofs.Common.{◌≡◌, ◌⊎◌, inl, inr, ◌∙◌, ℕ, ◌+◌, ◌==◌, if◌then◌else◌, cond, not, true, false, List, [], ◌∷◌, length, slice_get, Option, Some, None, is_some, unwrap_or, refl, sym, ap}
+use Rattle.std.proofs.Common.{◌≡◌, ◌⊎◌, inl, inr, ◌∙◌, ℕ, ◌+◌, ◌==◌, nat_le, if◌then◌else◌, cond, not, true, false, List, [], ◌∷◌, ◌++◌, length, slice_get, Option, Some, None, is_some, unwrap_or, subst, refl, sym, ap}
+use Rattle.std.specs.List.{list_any}
 use Rattle.std.proofs.lemmas.Bool.{true≢false, cases_eq}
 use Rattle.entry_codec.specs.declared.kinds.EntryKind.{EntryKind}
 use Rattle.entry_codec.specs.declared.kinds.EntryKind.TheVariants.{MemberCleared, MemberReorganized}
@@ -10,7 +11,14 @@ use Rattle.member_slots.specs.Members.{NumberedMembers, item_at, member_of, put_
 use Rattle.record_fmt.specs.Layout.{record_length}
 use Rattle.file_model.specs.declared.paths.PathFormat.{PathFormat}
 use Rattle.journal_model.specs.Places.{slot_of}
+use Rattle.logical_model.specs.Bases.{Bases, base_members}
+use Rattle.logical_model.specs.FilePaths.{logical_paths}
 use Rattle.library_model.specs.Named.{Named, same_name}
+use Rattle.library_model.specs.SourceList.{text_of}
+use Rattle.library_model.specs.declared.limits.TheConstants.{MOST_FILES}
+use Rattle.library_model.specs.declared.replies.LimitKind.TheVariants.{Files, Paths}
+use Rattle.library_model.specs.declared.replies.Reply.TheVariants.{Dependents, DuplicateKey, InUse, LimitReached, NameExists, NotJournaled}
+use Rattle.library_model.specs.declared.requests.CreateLogicalFile.{CreateLogicalFile}
 use Rattle.library_model.specs.declared.requests.CreatePhysicalFile.{CreatePhysicalFile}
 use Rattle.library_model.specs.declared.requests.DeleteFile.{DeleteFile}
 use Rattle.library_model.specs.declared.requests.DeleteReceiver.{DeleteReceiver}
@@ -18,25 +26,34 @@ use Rattle.library_model.specs.declared.requests.DisplayJournal.{DisplayJournal}
 use Rattle.library_model.specs.declared.requests.FileMember.{FileMember}
 use Rattle.library_model.specs.declared.requests.StartJournaling.{StartJournaling}
 use Rattle.library_model.specs.declared.sources.NamedSource.{NamedSource}
-use Rattle.library_steps.specs.State.{State, Memory, FileState, MemberStatus, memory_of, fields_of}
+use Rattle.library_steps.specs.declared.limits.TheConstants.{MOST_PATHS}
+use Rattle.library_steps.specs.State.{State, Memory, FileState, MemberStatus, memory_of, fields_of, file_named}
 use Rattle.library_steps.specs.Checkpoint.{save}
+use Rattle.library_steps.specs.CreateLogicalFile.{NewLogical, create_logical_change, create_logical_file, create_logical_plan, first_repeated as own_repeated, first_undone, has_many, is_unique, logical_described, logical_file, logical_or_refused}
 use Rattle.library_steps.specs.CreatePhysicalFile.{create_change, create_physical_file, create_plan, new_file, new_status}
-use Rattle.library_steps.specs.DeleteFile.{delete_change, delete_file, delete_plan, without_members}
+use Rattle.library_steps.specs.DeleteFile.{delete_change, delete_file, delete_plan, first_dependent, user_by, without_members}
 use Rattle.library_steps.specs.Journaling.{end_change, end_journaling, journaled_from, no_longer_journaled, start_change, start_journaling}
 use Rattle.library_steps.specs.JournalReads.{display_journal}
-use Rattle.library_steps.specs.MemberCommands.{add_member, add_plan, clear_member, empty_plan, reorganize_member, renumbered, renumbering, with_member_name}
+use Rattle.library_steps.specs.LogicalFiles.{bases_in, bases_of}
+use Rattle.library_steps.specs.MemberCommands.{add_member, add_plan, clear_member, empty_plan, file_changed, reorganize_member, renumbered, renumbering, with_member_name}
 use Rattle.library_steps.specs.Receivers.{change_journal, delete_receiver}
+use Rattle.library_steps.specs.Refusals.{named_or_refused, refuse_if, refuse_with, sequences_left}
 use Rattle.library_steps.specs.UniqueKeys.{has_member}
-use Rattle.library_steps.specs.Uses.{user_of}
+use Rattle.library_steps.specs.Uses.{changer_of_any, unused, user_of}
 use Rattle.library_parts.proofs.MemberLemmas.{item_at-put_item_other, item_at-put_item_same, item_at-without_item_other}
-use Rattle.key_state.proofs.FormatLemmas.{IsOver, has-append, over-append, over-filter, over-map, over-status}
+use Rattle.joint_state.specs.Sound.{IsSound}
+use Rattle.key_state.proofs.FormatLemmas.{IsOver, IsViewFormat, has-append, over-append, over-filter, over-map}
 use Rattle.key_state.proofs.KeyLemmas.{unique-reorganized}
+use Rattle.key_state.proofs.ListLemmas.{IsIn}
+use Rattle.key_state.proofs.PathLemmas.{unique-own}
+use Rattle.key_state.proofs.TestedLemmas.{path-unique}
 use Rattle.key_state.proofs.UniqueLemmas.{unique-same}
 use Rattle.cycles_kept.proofs.FileSteps.{empty-unused}
-use Rattle.cycles_kept.proofs.HoldLemmas.{Holds, does-holds, effect-holds, wider-holds}
+use Rattle.cycles_kept.proofs.HoldLemmas.{Holds, bind-holds, does-holds, effect-holds, then-holds, wider-holds, with-none}
 use Rattle.cycles_kept.proofs.PlaceLemmas.{record_at, slot_of-get}
+use Rattle.keys_kept.proofs.BaseLemmas.{all-before, bases-logical, bases-member, file-before, over-status, without-before}
 use Rattle.keys_kept.proofs.EffectLemmas.{FormatStays, quiet-stands, slots_for}
-use Rattle.keys_kept.proofs.QuietLemmas.{AreUniqueSlots, KeysStay, KeysStayIn, changes-same, empty-stays, files-stay, member-stays}
+use Rattle.keys_kept.proofs.QuietLemmas.{AreUniqueSlots, KeysStay, KeysStayIn, changes-same, empty-stays, files-stay, member-stays, unchanged-untouched}
 use Rattle.keys_kept.proofs.StateLemmas.{HasPlaces, keys-back, slot_in}
 
 -- the slot at a place, by what stands there
@@ -83,11 +100,16 @@ one-member name member number has =
       | inr same ↦ same
     ]
 
-pub create-keys : (s : State) (sources : List NamedSource) (job timestamp : ℕ) (args : CreatePhysicalFile) → Holds (create_physical_file sources (memory_of s) job timestamp args) (KeysStay s)
-create-keys s sources job timestamp args =
+pub create-keys : (s : State) (sources : List NamedSource) (job timestamp : ℕ) (sound : IsSound s) (args : CreatePhysicalFile)
+    → Holds (create_physical_file sources (memory_of s) job timestamp args) (KeysStay s)
+create-keys s sources job timestamp sound args =
     effect-holds (create_change (memory_of s) job timestamp args) (create_plan sources (memory_of s) args) (KeysStay s)
-    (λ plan. new-stays s _ (record_length (fields_of (new_file args.file s.next_member plan))) refl refl
-    (λ format over. over-append s.files (args.file, new_file args.file s.next_member plan) s.next_member format (one-member args.file s.next_member) over))
+    (λ plan. new-stays s _ (record_length (fields_of (new_file args.file s.next_member plan))) refl refl (λ format over.
+    elim (over-append s.files (args.file, new_file args.file s.next_member plan) format
+    (file-before s.files (args.file, new_file args.file s.next_member plan) sound.library.bases sound.names) over) [
+      | inl old ↦ inl old
+      | inr its ↦ inr (one-member args.file s.next_member format.member its.has)
+    ]))
 
 named-member : (name member : List ℕ) (number : ℕ) (entry : List ℕ × FileState) (other : ℕ)
     → has_member other (if same_name name entry.0 then with_member_name member number entry.1 else entry.1).members ≡ true → (has_member other entry.1.members ≡ true) ⊎ (other ≡ number)
@@ -105,12 +127,75 @@ named-spec name member number entry =
       | false ↦ refl
     ]
 
-pub add_member-keys : (s : State) (job timestamp : ℕ) (args : FileMember) → Holds (add_member (memory_of s) job timestamp args) (KeysStay s)
-add_member-keys s job timestamp args =
+pub add_member-keys : (s : State) (job timestamp : ℕ) (sound : IsSound s) (args : FileMember) → Holds (add_member (memory_of s) job timestamp args) (KeysStay s)
+add_member-keys s job timestamp sound args =
     effect-holds _ (add_plan (memory_of s) args) (KeysStay s)
     (λ (file : FileState). new-stays s _ (record_length (fields_of file)) refl refl
     (λ format over. over-map (λ (entry : List ℕ × FileState). (entry.0, if same_name args.file entry.0 then with_member_name args.member s.next_member entry.1 else entry.1))
-    (λ (n : ℕ). n ≡ s.next_member) s.files format (named-spec args.file args.member s.next_member) (named-member args.file args.member s.next_member) over))
+    (λ (n : ℕ). n ≡ s.next_member) s.files format
+    (λ entry. all-before (bases_in (file_changed args.file (with_member_name args.member s.next_member) s.files)) (bases_in s.files)
+    (bases-member args.file args.member s.next_member s.files sound.library.bases) entry.1.spec)
+    (named-spec args.file args.member s.next_member) (named-member args.file args.member s.next_member) over))
+
+-- ---- CRTLF
+
+-- what may be made: no open commit cycle has changed its base members, and its own path has no equal keys
+record MayStand (m : Memory) (plan : NewLogical) : Type 0 where
+  unchanged : changer_of_any (base_members (bases_of m) plan.spec) m ≡ None
+  unrepeated : own_repeated (logical_paths (bases_of m) plan.spec) m ≡ None
+
+logical-may : (sources : List NamedSource) (m : Memory) (args : CreateLogicalFile) → Holds (create_logical_plan sources m args) (MayStand m)
+unfolding create_logical_plan
+logical-may sources m args =
+    then-holds (sequences_left m) _ _ (λ few.
+    then-holds (refuse_if (is_some (file_named args.file m)) (NameExists args.file)) _ _ (λ named_new.
+    then-holds (refuse_if (nat_le MOST_FILES (length m.files)) (LimitReached Files MOST_FILES)) _ _ (λ room.
+    then-holds (named_or_refused args.source (text_of sources args.source)) _ _ (λ text.
+    then-holds (logical_or_refused (logical_described m text)) _ _ (λ spec.
+    then-holds (refuse_if (list_any (has_many (logical_paths (bases_of m) spec) m) (base_members (bases_of m) spec)) (LimitReached Paths MOST_PATHS)) _ _ (λ paths.
+    bind-holds (unused (changer_of_any (base_members (bases_of m) spec) m)) (λ ok. changer_of_any (base_members (bases_of m) spec) m ≡ None) _ _
+    (with-none InUse (changer_of_any (base_members (bases_of m) spec) m)) (λ free unchanged.
+    then-holds (refuse_with NotJournaled (if is_unique (logical_paths (bases_of m) spec) then first_undone m (base_members (bases_of m) spec) else None)) _ _ (λ done.
+    bind-holds (refuse_with (DuplicateKey args.file) (own_repeated (logical_paths (bases_of m) spec) m)) (λ ok. own_repeated (logical_paths (bases_of m) spec) m ≡ None) _ _
+    (with-none (DuplicateKey args.file) (own_repeated (logical_paths (bases_of m) spec) m)) (λ apart unrepeated.
+    record { holds = record { unchanged = unchanged; unrepeated = unrepeated } })))))))))
+
+module _ (s : State) (job timestamp : ℕ) (args : CreateLogicalFile) (plan : NewLogical) (may : MayStand (memory_of s) plan) where
+  abbrev made : Memory
+  made = (create_logical_change (memory_of s) job timestamp args plan).memory
+
+  -- a format of its own unique path
+  view-stays : (format : PathFormat) → IsViewFormat (bases_in s.files) plan.spec format → FormatStays (memory_of s) made format
+  view-stays format its =
+      let own = unique-own (bases_in s.files) plan.spec its.path its.among its.unique in
+      let lists : own.format ∷ [] ≡ format ∷ [] = sym own.alone ∙ its.alone in
+      let same : own.format ≡ format = cc in
+      inr (
+        unchanged-untouched s (base_members (bases_in s.files) plan.spec) format.member may.unchanged
+            (subst (λ (f : PathFormat). IsIn f.member (base_members (bases_in s.files) plan.spec)) same own.over),
+        path-unique (memory_of s) (record { file = args.file; path = its.path }) format its.alone its.unique (sym (own.repeated (memory_of s)) ∙ may.unrepeated),
+      )
+
+  logical-stays : KeysStay s (create_logical_change (memory_of s) job timestamp args plan)
+  logical-stays has places stand =
+      quiet-stands (memory_of s) made has places stand (record {
+        changes = λ other. inl refl;
+        formats = λ format over. elim (over-append s.files (args.file, logical_file plan) format
+            (λ entry its. all-before (bases_in (s.files ++ (args.file, logical_file plan) ∷ [])) (bases_in s.files) same entry.1.spec) over) [
+              | inl old ↦ inl (old, λ place. refl)
+              | inr its ↦ view-stays format (subst (λ (bases : Bases). IsViewFormat bases plan.spec format) (λ i name. same name i) its)
+            ];
+      })
+    where
+      same : (name : List ℕ) → bases_in (s.files ++ (args.file, logical_file plan) ∷ []) name ≡ bases_in s.files name
+      same = bases-logical args.file (logical_file plan) refl s.files
+
+pub create_logical-keys : (s : State) (sources : List NamedSource) (job timestamp : ℕ) (args : CreateLogicalFile)
+    → Holds (create_logical_file sources (memory_of s) job timestamp args) (KeysStay s)
+create_logical-keys s sources job timestamp args =
+    does-holds (create_logical_change (memory_of s) job timestamp args) (create_logical_plan sources (memory_of s) args) (KeysStay s)
+    (wider-holds (create_logical_plan sources (memory_of s) args) (MayStand (memory_of s)) _ (λ plan may. logical-stays s job timestamp args plan may)
+    (logical-may sources (memory_of s) args))
 
 -- ---- DLTF
 
@@ -137,14 +222,26 @@ gone_or_same (entry ∷ others) members member =
       ]
     ]
 
+-- no file stands over it
+delete-none : (m : Memory) (args : DeleteFile) → Holds (delete_plan m args) (λ file. first_dependent args.file m.files ≡ None)
+unfolding delete_plan
+delete-none m args =
+    then-holds (sequences_left m) _ _ (λ few.
+    then-holds (named_or_refused args.file (file_named args.file m)) _ _ (λ file.
+    bind-holds (refuse_with Dependents (first_dependent args.file m.files)) (λ ok. first_dependent args.file m.files ≡ None) _ _
+    (with-none Dependents (first_dependent args.file m.files)) (λ ok none.
+    then-holds (unused (user_by file.spec args.file file m)) _ _ (λ free. record { holds = none }))))
+
 pub delete_file-keys : (s : State) (job timestamp : ℕ) (args : DeleteFile) → Holds (delete_file (memory_of s) job timestamp args) (KeysStay s)
 delete_file-keys s job timestamp args =
-    effect-holds (delete_change (memory_of s) job timestamp args) (delete_plan (memory_of s) args) (KeysStay s)
-    (λ file has places stand.
+    does-holds (delete_change (memory_of s) job timestamp args) (delete_plan (memory_of s) args) (KeysStay s)
+    (wider-holds (delete_plan (memory_of s) args) (λ (file : FileState). first_dependent args.file s.files ≡ None) _
+    (λ file none has places stand.
     quiet-stands (memory_of s) (delete_change (memory_of s) job timestamp args file).memory has places stand (record {
       changes = λ other. inl refl;
-      formats = λ format over. by file places format (over-filter (λ (entry : List ℕ × FileState). not (same_name args.file entry.0)) s.files format over);
-    }))
+      formats = λ format over. by file places format
+          (over-filter (λ (entry : List ℕ × FileState). not (same_name args.file entry.0)) s.files format (without-before args.file s.files none) over);
+    })) (delete-none (memory_of s) args))
   where
     by : (file : FileState) → HasPlaces (delete_change (memory_of s) job timestamp args file).memory → (format : PathFormat) → IsOver s.files format
         → FormatStays (memory_of s) (delete_change (memory_of s) job timestamp args file).memory format

@@ -15,15 +15,15 @@ use Rattle.journal_model.specs.Places.{slot_of}
 use Rattle.journal_model.specs.Replay.{before_of}
 use Rattle.journal_model.specs.Rollback.{MemberChange}
 use Rattle.library_model.specs.declared.replies.Reply.TheVariants.{RecordInUse, HeldByGroup, DuplicateKey}
-use Rattle.library_steps.specs.State.{Memory, FileState, JobState, job_at, new_job, or_new}
+use Rattle.library_steps.specs.State.{Memory, JobState, job_at, new_job, or_new}
 use Rattle.library_steps.specs.Refusals.{refuse_with}
 use Rattle.library_steps.specs.UniqueKeys.{NewKey, Reservation, UniquePath, has_key, if_new, key_in, key_of_slot, keys_free, least, lesser, new_key_in, new_keys, none_repeated, none_reserved, not_reserved, other_record, own_reservation, reservation_of_others, reservations, reserved_by, takes_key, unique_paths}
 use Rattle.library_steps.specs.Uses.{changes_in}
 use Rattle.key_state.specs.Keys.{changes_by}
 use Rattle.cycles_kept.proofs.HoldLemmas.{Holds, bind-holds, wider-holds, with-none}
-use Rattle.key_state.proofs.FormatLemmas.{HasPath, IsOver, own_format, path-each}
+use Rattle.key_state.proofs.FormatLemmas.{HasPath, IsOver, path-over}
 use Rattle.key_state.proofs.KeyLemmas.{has-back, has-equal, other-none}
-use Rattle.key_state.proofs.ListLemmas.{filter-none, flat-each}
+use Rattle.key_state.proofs.ListLemmas.{all-in, filter-none, flat-each}
 use Rattle.key_state.proofs.RestoredLemmas.{takes-from, takes-parts}
 use Rattle.key_state.proofs.UniqueLemmas.{MayShow, Shows}
 
@@ -154,15 +154,16 @@ cons-some : (P : NewKey → Type 0) (o : Option NewKey) (new : NewKey) → o ≡
 cons-some P o new is all = let here : AllByRecursion P (new ∷ []) = subst (λ (p : Option NewKey). AllByRecursion P (cons_option p [])) is all in here.0
 
 -- what holds of all keys that come in holds of the one that comes into a path
-new-key : (P : NewKey → Type 0) (member : ℕ) (old : Slot) (image : List ℕ) (m : Memory) (entry : List ℕ × FileState) (key : List KeyValue) → HasPath m.files member entry
-    → key_in (own_format member entry) image ≡ Some key → has_key (key_of_slot (own_format member entry) old) key ≡ false → AllByRecursion P (new_keys member old image m)
-    → P (record { file = entry.0; format = own_format member entry; key = key })
-new-key P member old image m entry key path shows fresh all =
-    cons-some P (new_key_in entry.0 old image (own_format member entry)) (record { file = entry.0; format = own_format member entry; key = key })
-    (ap (λ (o : Option (List KeyValue)). option_map (λ (k : List KeyValue). record { file = entry.0; format = own_format member entry; key = k }) (if_new (key_of_slot (own_format member entry) old) o)) shows
-    ∙ ap (λ b. option_map (λ (k : List KeyValue). record { file = entry.0; format = own_format member entry; key = k }) (if b then None else Some key)) fresh)
-    (path-each (λ (u : UniquePath). AllByRecursion P (filter_map (new_key_in u.file old image) u.path.formats)) member m.files entry path
-    (flat-each P (λ (u : UniquePath). filter_map (new_key_in u.file old image) u.path.formats) (unique_paths member m) all))
+new-key : (P : NewKey → Type 0) (old : Slot) (image : List ℕ) (m : Memory) (format : PathFormat) (path : HasPath m format) (key : List KeyValue)
+    → key_in format image ≡ Some key → has_key (key_of_slot format old) key ≡ false → AllByRecursion P (new_keys format.member old image m)
+    → P (record { file = path.unique.file; format = format; key = key })
+new-key P old image m format path key shows fresh all =
+    cons-some P (new_key_in path.unique.file old image format) (record { file = path.unique.file; format = format; key = key })
+    (ap (λ (o : Option (List KeyValue)). option_map (λ (k : List KeyValue). record { file = path.unique.file; format = format; key = k }) (if_new (key_of_slot format old) o)) shows
+    ∙ ap (λ b. option_map (λ (k : List KeyValue). record { file = path.unique.file; format = format; key = k }) (if b then None else Some key)) fresh)
+    (subst (λ (formats : List PathFormat). AllByRecursion P (filter_map (new_key_in path.unique.file old image) formats)) path.alone
+    (all-in (λ (u : UniquePath). AllByRecursion P (filter_map (new_key_in u.file old image) u.path.formats)) path.unique (unique_paths format.member m)
+    (flat-each P (λ (u : UniquePath). filter_map (new_key_in u.file old image) u.path.formats) (unique_paths format.member m) all) path.among))
 
 any-wider : {X : Type 0} (test other : X → Bool) (xs : List X) → ((x : X) → test x ≡ true → other x ≡ true) → list_any test xs ≡ true → list_any other xs ≡ true
 any-wider test other [] wider some = absurd (true≢false (sym some))
@@ -173,65 +174,65 @@ any-wider test other (x ∷ xs) wider some =
     ]
 
 -- a record may have its keys in the format of a path over its member
-module _ (job : ℕ) (commit : Bool) (member place : ℕ) (old : Slot) (image : List ℕ) (m : Memory)
-    (was : (old ≡ slot_of (member_of member m.members).slots place) ⊎ (old ≡ Deleted))
-    (free : AreFree job commit (place + 1) m (new_keys member old image m)) where
+module _ (job : ℕ) (commit : Bool) (format : PathFormat) (place : ℕ) (old : Slot) (image : List ℕ) (m : Memory)
+    (was : (old ≡ slot_of (member_of format.member m.members).slots place) ⊎ (old ≡ Deleted))
+    (free : AreFree job commit (place + 1) m (new_keys format.member old image m)) where
   -- a key of the slot before it
-  kept : (entry : List ℕ × FileState) (key : List KeyValue) → Shows (own_format member entry) key old → Shows (own_format member entry) key (slot_of (member_of member m.members).slots place)
-  kept entry key has =
+  kept : (key : List KeyValue) → Shows format key old → Shows format key (slot_of (member_of format.member m.members).slots place)
+  kept key has =
       elim was [
-        | inl same ↦ subst (Shows (own_format member entry) key) same has
-        | inr deleted ↦ absurd (true≢false (sym (subst (Shows (own_format member entry) key) deleted has)))
+        | inl same ↦ subst (Shows format key) same has
+        | inr deleted ↦ absurd (true≢false (sym (subst (Shows format key) deleted has)))
       ]
 
-  one-may : (entry : List ℕ × FileState) → HasPath m.files member entry → (number : ℕ) → Stands job commit number
-      → MayShow (own_format member entry) place (Live image) (λ p. slot_of (member_of member m.members).slots p) (changes_by number m)
-  one-may entry path number stands key shows =
-      elim (key_in (own_format member entry) image) as
-      (λ o. key_in (own_format member entry) image ≡ o → has_key o key ≡ true
-      → Shows (own_format member entry) key (slot_of (member_of member m.members).slots place)
-      ⊎ (((other : ℕ) → other ≢ place → Shows (own_format member entry) key (slot_of (member_of member m.members).slots other) → ⊥)
-      × (list_any (takes_key (own_format member entry) key) (changes_by number m) ≡ true → ⊥))) [
+  pub one-may : HasPath m format → (number : ℕ) → Stands job commit number
+      → MayShow format place (Live image) (λ p. slot_of (member_of format.member m.members).slots p) (changes_by number m)
+  one-may path number stands key shows =
+      elim (key_in format image) as
+      (λ o. key_in format image ≡ o → has_key o key ≡ true
+      → Shows format key (slot_of (member_of format.member m.members).slots place)
+      ⊎ (((other : ℕ) → other ≢ place → Shows format key (slot_of (member_of format.member m.members).slots other) → ⊥)
+      × (list_any (takes_key format key) (changes_by number m) ≡ true → ⊥))) [
         | None ↦ λ e h. absurd (true≢false (sym h))
         | Some new ↦ λ e h. by new e h
       ] refl shows
     where
-      fresh : (new : List KeyValue) → key_in (own_format member entry) image ≡ Some new → is_eq (compare_keys new key) ≡ true
-          → has_key (key_of_slot (own_format member entry) old) new ≡ false
-          → ((other : ℕ) → other ≢ place → Shows (own_format member entry) key (slot_of (member_of member m.members).slots other) → ⊥)
-          × (list_any (takes_key (own_format member entry) key) (changes_by number m) ≡ true → ⊥)
+      fresh : (new : List KeyValue) → key_in format image ≡ Some new → is_eq (compare_keys new key) ≡ true
+          → has_key (key_of_slot format old) new ≡ false
+          → ((other : ℕ) → other ≢ place → Shows format key (slot_of (member_of format.member m.members).slots other) → ⊥)
+          × (list_any (takes_key format key) (changes_by number m) ≡ true → ⊥)
       fresh new e same hasnt =
-          let none = new-key (λ (n : NewKey). other_record n (place + 1) m ≡ None) member old image m entry new path e hasnt free.unrepeated in
-          let unreserved = new-key (IsUnreserved job commit m) member old image m entry new path e hasnt free.unreserved in
-          let untaken = unreserved-by job commit m (record { file = entry.0; format = own_format member entry; key = new }) unreserved number stands in (
+          let none = new-key (λ (n : NewKey). other_record n (place + 1) m ≡ None) old image m format path new e hasnt free.unrepeated in
+          let unreserved = new-key (IsUnreserved job commit m) old image m format path new e hasnt free.unreserved in
+          let untaken = unreserved-by job commit m (record { file = path.unique.file; format = format; key = new }) unreserved number stands in (
             λ other differ its.
-                let at = other-none (own_format member entry) new (place + 1) (member_of member m.members).slots none other
-                (has-back (key_of_slot (own_format member entry) (slot_of (member_of member m.members).slots other)) new key same its) in
+                let at = other-none format new (place + 1) (member_of format.member m.members).slots none other
+                (has-back (key_of_slot format (slot_of (member_of format.member m.members).slots other)) new key same its) in
                 differ (omega (arith, at)),
-            λ some. true≢false (sym (any-wider (takes_key (own_format member entry) key) (takes_key (own_format member entry) new) (changes_by number m)
+            λ some. true≢false (sym (any-wider (takes_key format key) (takes_key format new) (changes_by number m)
                 (λ undo takes.
-                let parts = takes-parts (own_format member entry) key undo takes in
-                takes-from (own_format member entry) new undo parts.0 (has-back (key_of_slot (own_format member entry) (before_of undo.change)) new key same parts.1)) some) ∙ untaken),
+                let parts = takes-parts format key undo takes in
+                takes-from format new undo parts.0 (has-back (key_of_slot format (before_of undo.change)) new key same parts.1)) some) ∙ untaken),
           )
 
-      by : (new : List KeyValue) → key_in (own_format member entry) image ≡ Some new → is_eq (compare_keys new key) ≡ true
-          → Shows (own_format member entry) key (slot_of (member_of member m.members).slots place)
-          ⊎ (((other : ℕ) → other ≢ place → Shows (own_format member entry) key (slot_of (member_of member m.members).slots other) → ⊥)
-          × (list_any (takes_key (own_format member entry) key) (changes_by number m) ≡ true → ⊥))
+      by : (new : List KeyValue) → key_in format image ≡ Some new → is_eq (compare_keys new key) ≡ true
+          → Shows format key (slot_of (member_of format.member m.members).slots place)
+          ⊎ (((other : ℕ) → other ≢ place → Shows format key (slot_of (member_of format.member m.members).slots other) → ⊥)
+          × (list_any (takes_key format key) (changes_by number m) ≡ true → ⊥))
       by new e same =
-          elim (has_key (key_of_slot (own_format member entry) old) new) as
-          (λ b. has_key (key_of_slot (own_format member entry) old) new ≡ b
-          → Shows (own_format member entry) key (slot_of (member_of member m.members).slots place)
-          ⊎ (((other : ℕ) → other ≢ place → Shows (own_format member entry) key (slot_of (member_of member m.members).slots other) → ⊥)
-          × (list_any (takes_key (own_format member entry) key) (changes_by number m) ≡ true → ⊥))) [
-            | true ↦ λ has. inl (kept entry key (has-equal (key_of_slot (own_format member entry) old) new key same has))
+          elim (has_key (key_of_slot format old) new) as
+          (λ b. has_key (key_of_slot format old) new ≡ b
+          → Shows format key (slot_of (member_of format.member m.members).slots place)
+          ⊎ (((other : ℕ) → other ≢ place → Shows format key (slot_of (member_of format.member m.members).slots other) → ⊥)
+          × (list_any (takes_key format key) (changes_by number m) ≡ true → ⊥))) [
+            | true ↦ λ has. inl (kept key (has-equal (key_of_slot format old) new key same has))
             | false ↦ λ hasnt. inr (fresh new e same hasnt)
           ] refl
 
-  pub image-may : (format : PathFormat) → IsOver m.files format → format.member ≡ member → (number : ℕ) → Stands job commit number
-      → MayShow format place (Live image) (λ p. slot_of (member_of format.member m.members).slots p) (changes_by number m)
-  image-may format over of number stands =
-      let at : over.number ≡ member = ap (λ (f : PathFormat). f.member) over.is ∙ of in
-      let path : HasPath m.files member over.entry = subst (λ (n : ℕ). HasPath m.files n over.entry) at over.path in
-      let is : own_format member over.entry ≡ format = subst (λ (n : ℕ). own_format n over.entry ≡ format) at over.is in
-      subst (λ (f : PathFormat). MayShow f place (Live image) (λ p. slot_of (member_of f.member m.members).slots p) (changes_by number m)) is (one-may over.entry path number stands)
+pub image-may : (job : ℕ) (commit : Bool) (member place : ℕ) (old : Slot) (image : List ℕ) (m : Memory) → (old ≡ slot_of (member_of member m.members).slots place) ⊎ (old ≡ Deleted)
+    → AreFree job commit (place + 1) m (new_keys member old image m) → (format : PathFormat) → IsOver m.files format → format.member ≡ member → (number : ℕ) → Stands job commit number
+    → MayShow format place (Live image) (λ p. slot_of (member_of format.member m.members).slots p) (changes_by number m)
+image-may job commit member place old image m was free format over of =
+    one-may job commit format place old image m
+    (subst (λ (n : ℕ). (old ≡ slot_of (member_of n m.members).slots place) ⊎ (old ≡ Deleted)) (sym of) was)
+    (subst (λ (n : ℕ). AreFree job commit (place + 1) m (new_keys n old image m)) (sym of) free) (path-over m format over)

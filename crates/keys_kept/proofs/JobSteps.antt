@@ -1,6 +1,7 @@
 -- What the requests through an open and those of commitment control leave of the keys.
 use Rattle.std.proofs.Common.{◌≡◌, inl, inr, ◌∙◌, ℕ, ◌-◌, List, [], Some, None, refl, subst, ap}
 use Rattle.file_model.specs.Positions.{next_from, prior_from, next_equal, prior_equal}
+use Rattle.logical_model.specs.Readings.{join_in}
 use Rattle.journal_model.specs.Rollback.{MemberChange}
 use Rattle.member_slots.specs.Members.{NumberedMembers}
 use Rattle.library_model.specs.Named.{Named}
@@ -34,7 +35,7 @@ module _ (s : State) (job : ℕ) (asks : IsAsking s job) where
   -- ---- opens
 
   pub open_file-keys : (args : OpenFile) → Holds (open_file (memory_of s) job args) (KeysStay s)
-  open_file-keys args = effect-holds _ (open_plan (memory_of s) job args) (KeysStay s) (λ status. job-stays s _ job (with_open args status.number) asks refl (inl refl) refl refl)
+  open_file-keys args = effect-holds _ (open_plan (memory_of s) job args) (KeysStay s) (λ members. job-stays s _ job (with_open args members) asks refl (inl refl) refl refl)
 
   pub close_file-keys : (args : OpenName) → Holds (close_file (memory_of s) job args) (KeysStay s)
   close_file-keys args = effect-holds _ _ (KeysStay s) (λ opened. job-stays s _ job (without_open args.open_id) asks refl (inl refl) refl refl)
@@ -47,7 +48,7 @@ module _ (s : State) (job : ℕ) (asks : IsAsking s job) where
   -- ---- positions and reads
 
   position-keys : (new : NewPosition) → KeysStay s (position_change (memory_of s) job new)
-  position-keys new = job-stays s _ job (open_changed new.opened.number (positioned new.position)) asks refl (inl refl) refl refl
+  position-keys new = job-stays s _ job (open_changed new.its.opened.number (positioned (join_in new.its.file.spec) new.position)) asks refl (inl refl) refl refl
 
   pub set_lower_limit-keys : (args : SetPosition) → Holds (set_lower_limit (memory_of s) job args) (KeysStay s)
   set_lower_limit-keys args = effect-holds (position_change (memory_of s) job) _ (KeysStay s) position-keys
@@ -56,19 +57,19 @@ module _ (s : State) (job : ℕ) (asks : IsAsking s job) where
   set_greater_than-keys args = effect-holds (position_change (memory_of s) job) _ (KeysStay s) position-keys
 
   found-keys : (it : FoundEntry) → KeysStay s (read_change (memory_of s) job it)
-  found-keys it = job-stays s _ job (open_changed it.its.opened.number (has_read it.call it.entry)) asks refl (inl refl) refl refl
+  found-keys it = job-stays s _ job (open_changed it.opened.number (has_read it.call it.found)) asks refl (inl refl) refl refl
 
   pub read-keys : (args : ReadRecord) → Holds (read (memory_of s) job args) (KeysStay s)
-  read-keys args = effect-holds (read_change (memory_of s) job) (read_plan next_from EndOfFile (memory_of s) job args) (KeysStay s) found-keys
+  read-keys args = effect-holds (read_change (memory_of s) job) (read_plan next_from next_from EndOfFile (memory_of s) job args) (KeysStay s) found-keys
 
   pub read_prior-keys : (args : ReadRecord) → Holds (read_prior (memory_of s) job args) (KeysStay s)
-  read_prior-keys args = effect-holds (read_change (memory_of s) job) (read_plan prior_from BeginOfFile (memory_of s) job args) (KeysStay s) found-keys
+  read_prior-keys args = effect-holds (read_change (memory_of s) job) (read_plan prior_from prior_from BeginOfFile (memory_of s) job args) (KeysStay s) found-keys
 
   pub read_equal-keys : (args : ReadEqual) → Holds (read_equal (memory_of s) job args) (KeysStay s)
-  read_equal-keys args = effect-holds (read_change (memory_of s) job) (read_equal_plan next_equal EndOfFile (memory_of s) job args) (KeysStay s) found-keys
+  read_equal-keys args = effect-holds (read_change (memory_of s) job) (read_equal_plan next_equal next_equal EndOfFile (memory_of s) job args) (KeysStay s) found-keys
 
   pub read_prior_equal-keys : (args : ReadEqual) → Holds (read_prior_equal (memory_of s) job args) (KeysStay s)
-  read_prior_equal-keys args = effect-holds (read_change (memory_of s) job) (read_equal_plan prior_equal BeginOfFile (memory_of s) job args) (KeysStay s) found-keys
+  read_prior_equal-keys args = effect-holds (read_change (memory_of s) job) (read_equal_plan prior_equal prior_equal BeginOfFile (memory_of s) job args) (KeysStay s) found-keys
 
   pub chain-keys : (args : ChainRecord) → Holds (chain (memory_of s) job args) (KeysStay s)
   chain-keys args = effect-holds (read_change (memory_of s) job) (chain_plan (memory_of s) job args) (KeysStay s) found-keys

@@ -1,3 +1,4 @@
+pub mod BaseLemmas
 pub mod EffectLemmas
 pub mod FileSteps
 pub mod FreeLemmas

@@ -13,10 +13,11 @@ use Rattle.journal_model.specs.Rollback.{MemberChange}
 use Rattle.library_model.specs.Named.{Named}
 use Rattle.library_steps.specs.State.{State, Memory, FileState, JobState, memory_of, job_at, job_changed, job_of, or_new}
 use Rattle.library_steps.specs.Change.{Change}
-use Rattle.library_steps.specs.Uses.{changes_in, user_of, uses}
+use Rattle.library_steps.specs.Uses.{changer_of_any, changes_in, has_changed, user_of, uses}
 use Rattle.library_parts.proofs.BackLemmas.{unused-unchanged}
 use Rattle.key_state.specs.Keys.{KeysStand, changes_by}
 use Rattle.key_state.proofs.FormatLemmas.{IsOver}
+use Rattle.key_state.proofs.ListLemmas.{IsIn, any-in}
 use Rattle.key_state.proofs.RestoredLemmas.{is_here, touches, here-parts}
 use Rattle.key_state.proofs.UniqueLemmas.{IsUnique, Shows}
 use Rattle.cycles_kept.proofs.FileSteps.{first_job-none}
@@ -98,6 +99,16 @@ unused-untouched s member none job place =
     (λ at j here.
     let free = first_job-none (uses member s.locks) 1 s.jobs at j none here in
     unmoved member place (changes_in j.cycle) (unused-unchanged member free.0 s.locks j free.1)) job
+
+-- nor is one of members that no open commit cycle has changed
+pub unchanged-untouched : (s : State) (members : List ℕ) (member : ℕ) → changer_of_any members (memory_of s) ≡ None → IsIn member members → (job place : ℕ)
+    → touches member place (changes_by job (memory_of s)) ≡ false
+unchanged-untouched s members member none its job place =
+    job-each (λ number j. touches member place (changes_in j.cycle) ≡ false) s.jobs (λ number. refl)
+    (λ at j here.
+    let free = first_job-none (λ number k. list_any (λ base. has_changed base k) members) 1 s.jobs at j none here in
+    unmoved member place (changes_in j.cycle)
+    (false_from_ne_true (has_changed member j) (λ changed. true≢false (sym (any-in (λ base. has_changed base j) member members its changed) ∙ free.1)))) job
 
 -- a member that gets other slots has these, where it is there
 replaced-slot : (number place : ℕ) (member : MemberState) (members : NumberedMembers)

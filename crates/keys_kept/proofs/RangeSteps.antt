@@ -1,19 +1,17 @@
 -- What APYJRNCHG and RMVJRNCHG leave of the keys: they ask that no unique path of the member has equal keys, and that no job uses it.
-use Rattle.std.proofs.Common.{◌≡◌, ◌∙◌, ℕ, ◌+◌, nat_lt, if◌then◌else◌, List, [], ◌∷◌, ◌++◌, length, None, refl, sym, subst, ap}
+use Rattle.std.proofs.Common.{◌≡◌, ℕ, nat_lt, List, [], ◌∷◌, length, None, refl, subst, ap}
 use Rattle.std.specs.List.{AllByRecursion}
-use Rattle.std.proofs.lemmas.List.{append-nil}
 use Rattle.entry_codec.specs.declared.entries.Entry.{Entry}
 use Rattle.entry_codec.specs.declared.kinds.EntryKind.TheVariants.{ChangesApplied, ChangesRemoved}
 use Rattle.member_slots.specs.Members.{member_of}
-use Rattle.file_model.specs.declared.paths.PathFormat.{PathFormat}
-use Rattle.file_model.specs.Paths.{first_repeated, repeated_in}
+use Rattle.file_model.specs.Paths.{repeated_in}
 use Rattle.journal_model.specs.Places.{slot_of}
 use Rattle.journal_model.specs.Ranges.{apply_range, remove_range}
 use Rattle.library_model.specs.declared.replies.Reply.TheVariants as replies
 use Rattle.library_model.specs.declared.replies.LimitKind.TheVariants.{LibraryBytes, BlockBytes}
 use Rattle.library_model.specs.declared.requests.JournaledChanges.{JournaledChanges}
 use Rattle.library_steps.specs.declared.limits.TheConstants.{MOST_LIBRARY_BYTES, MOST_BLOCK_BYTES}
-use Rattle.library_steps.specs.State.{State, Memory, FileState, memory_of}
+use Rattle.library_steps.specs.State.{State, Memory, memory_of}
 use Rattle.library_steps.specs.Change.{deposited}
 use Rattle.library_steps.specs.Drafts.{author_of}
 use Rattle.library_steps.specs.EntrySizes.{entry_bytes}
@@ -21,8 +19,7 @@ use Rattle.library_steps.specs.Ranges.{Range, RangeWork, allowed, apply_changes,
 use Rattle.library_steps.specs.Refusals.{refuse_if, refuse_with}
 use Rattle.library_steps.specs.UniqueKeys.{UniquePath, all_apart, unique_paths}
 use Rattle.library_steps.specs.Uses.{user_of}
-use Rattle.key_state.proofs.FormatLemmas.{HasPath, IsOver, own_format, path-each}
-use Rattle.key_state.proofs.KeyLemmas.{shown, unrepeated-unique}
+use Rattle.key_state.proofs.TestedLemmas.{apart-own}
 use Rattle.key_state.proofs.UniqueLemmas.{IsUnique, unique-same}
 use Rattle.cycles_kept.proofs.FileSteps.{named-unused}
 use Rattle.cycles_kept.proofs.HoldLemmas.{Holds, bind-holds, does-holds, then-holds, wider-holds, with-none}
@@ -38,22 +35,6 @@ apart-all (unique ∷ paths) m =
     bind-holds (refuse_with (λ (rrn : ℕ). replies.DuplicateKey unique.file rrn) (repeated_in unique.path m.members)) (λ ok. repeated_in unique.path m.members ≡ None) _ _
     (with-none (λ (rrn : ℕ). replies.DuplicateKey unique.file rrn) (repeated_in unique.path m.members)) (λ ok this.
     wider-holds (all_apart paths m) (λ done. AllByRecursion (λ (u : UniquePath). repeated_in u.path m.members ≡ None) paths) _ (λ done rest. (this, rest)) (apart-all paths m))
-
--- the slots of a member of which no unique path has equal keys
-module _ (s : State) (number : ℕ) (later : Memory) (apart : AllByRecursion (λ unique. repeated_in unique.path later.members ≡ None) (unique_paths number (memory_of s))) where
-  one-apart : (entry : List ℕ × FileState) → HasPath s.files number entry → IsUnique (own_format number entry) (λ place. slot_of (member_of number later.members).slots place)
-  one-apart entry path =
-      unrepeated-unique (own_format number entry) (member_of number later.members).slots
-      (ap first_repeated (sym (append-nil (shown (own_format number entry) 1 (member_of number later.members).slots)))
-      ∙ subst (λ b. (if b then first_repeated (shown (own_format number entry) 1 (member_of number later.members).slots ++ []) else None) ≡ None) path.unique
-      (path-each (λ (unique : UniquePath). repeated_in unique.path later.members ≡ None) number s.files entry path apart))
-
-  apart-unique : (format : PathFormat) → IsOver s.files format → format.member ≡ number → IsUnique format (λ place. slot_of (member_of number later.members).slots place)
-  apart-unique format over is =
-      let at : over.number ≡ number = ap (λ (f : PathFormat). f.member) over.is ∙ is in
-      subst (λ (f : PathFormat). IsUnique f (λ place. slot_of (member_of number later.members).slots place))
-      (subst (λ (n : ℕ). own_format n over.entry ≡ format) at over.is)
-      (one-apart over.entry (subst (λ (n : ℕ). HasPath s.files n over.entry) at over.path))
 
 -- ---- the plans
 
@@ -91,7 +72,8 @@ range-keys s work allows =
     (λ has stand format over is.
     unique-same format (λ place. slot_of (member_of work.range.status.number (with_range work.range work.done (memory_of s)).members).slots place)
     (slots_for (range_change (memory_of s) work).memory format) (λ place. ap (λ (n : ℕ). slot_in (with_range work.range work.done (memory_of s)).members n place) is)
-    (apart-unique s work.range.status.number (with_range work.range work.done (memory_of s)) allows.apart format over is))
+    (subst (λ (n : ℕ). IsUnique format (λ place. slot_of (member_of n (with_range work.range work.done (memory_of s)).members).slots place)) is
+    (apart-own (memory_of s) (with_range work.range work.done (memory_of s)) work.range.status.number allows.apart format over is)))
 
 module _ (s : State) (job timestamp : ℕ) (args : JournaledChanges) where
   pub apply-keys : Holds (apply_changes s.entries (memory_of s) job timestamp args) (KeysStay s)

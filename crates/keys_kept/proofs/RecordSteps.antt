@@ -1,5 +1,5 @@
 -- What WRITE, UPDATE and DELETE leave of the keys: they ask that the new keys are free, and change no record that another job has changed.
-use Rattle.std.proofs.Common.{◌≡◌, ◌≢◌, ◌⊎◌, inl, inr, ◌∙◌, ℕ, ◌+◌, ◌-◌, ◌≤◌, ◌==◌, if◌then◌else◌, Bool, true, false, List, [], ◌∷◌, map, slice_get, Option, None, Result, Ok, Err, unwrap_or, subst, refl, sym, ap, arith}
+use Rattle.std.proofs.Common.{◌≡◌, ◌⊎◌, inl, inr, ◌∙◌, ℕ, ◌+◌, ◌-◌, ◌≤◌, ◌==◌, if◌then◌else◌, Bool, true, false, List, [], ◌∷◌, map, slice_get, Option, None, Result, Ok, Err, unwrap_or, subst, refl, sym, ap, arith}
 use Rattle.std.specs.List.{AllByRecursion}
 use Rattle.std.proofs.lemmas.Bool.{true≢false, false_from_ne_true, or_from}
 use Rattle.std.proofs.lemmas.Bool.Decides.{nat_tests}
@@ -9,29 +9,31 @@ use Rattle.lock_table.specs.Table.{HoldsChange}
 use Rattle.member_slots.specs.declared.slot.Slot.{Slot}
 use Rattle.member_slots.specs.declared.slot.Slot.TheVariants.{Live, Deleted}
 use Rattle.member_slots.specs.Members.{member_of}
-use Rattle.record_fmt.specs.Records.{record_given}
 use Rattle.file_model.specs.declared.paths.PathFormat.{PathFormat}
 use Rattle.journal_model.specs.Places.{slot_of}
 use Rattle.journal_model.specs.Rollback.{MemberChange}
+use Rattle.logical_model.specs.Formats.{given_in}
 use Rattle.library_model.specs.Named.{Named}
 use Rattle.library_model.specs.declared.replies.Reply.{Reply}
 use Rattle.library_model.specs.declared.replies.Reply.TheVariants.{NoCurrentRecord, WrongOpen}
 use Rattle.library_model.specs.declared.requests.OpenName.{OpenName}
 use Rattle.library_model.specs.declared.requests.UpdateRecord.{UpdateRecord}
 use Rattle.library_model.specs.declared.requests.WriteRecord.{WriteRecord}
-use Rattle.library_steps.specs.State.{State, Memory, FileState, CycleState, JobState, memory_of, fields_of, job_of, status_changed}
+use Rattle.library_steps.specs.State.{State, Memory, FileState, OpenState, CycleState, JobState, memory_of, job_of, status_changed}
 use Rattle.library_steps.specs.Change.{Change}
 use Rattle.library_steps.specs.ChangeRecord.{update_plan, update_change, update_record, delete_plan, delete_change, delete_record}
+use Rattle.library_steps.specs.LogicalFiles.{bases_of}
 use Rattle.library_steps.specs.Locking.{few_locks}
 use Rattle.library_steps.specs.Records.{live_record, slot_there}
+use Rattle.library_steps.specs.Reads.{at_format}
 use Rattle.library_steps.specs.Refusals.{found, opened_file, refuse_if, sequences_left}
 use Rattle.library_steps.specs.SlotChange.{NewSlot, change_made, cycle_for, few_changes, is_behind_last, not_held, touched}
 use Rattle.library_steps.specs.UniqueKeys.{keys_free, new_keys}
 use Rattle.library_steps.specs.Uses.{changes_in}
-use Rattle.library_steps.specs.WriteRecord.{format_or_refused, has_room, is_input, packed, place_asked, write_call, write_plan, write_change, write_record}
+use Rattle.library_steps.specs.WriteRecord.{format_asked, has_room, is_input, packed, place_asked, place_plan, write_call, write_plan, write_change, write_record}
 use Rattle.joint_state.specs.Sound.{IsSound}
 use Rattle.key_state.specs.Keys.{changes_by}
-use Rattle.key_state.proofs.FormatLemmas.{IsOver, over-status}
+use Rattle.key_state.proofs.FormatLemmas.{IsOver}
 use Rattle.key_state.proofs.RestoredLemmas.{is_here, touches, here-parts}
 use Rattle.key_state.proofs.UniqueLemmas.{MayShow, Shows}
 use Rattle.cycles_kept.proofs.CycleLemmas.{id_of}
@@ -40,6 +42,7 @@ use Rattle.cycles_kept.proofs.JobLemmas.{IsAsking}
 use Rattle.cycles_kept.proofs.PlaceLemmas.{record_at, record-put_other, record-put_same, slot_of-get}
 use Rattle.cycles_kept.proofs.PutLemmas.{IsNotOf, MayPut, Puts, put_cycle, undos-for}
 use Rattle.cycles_kept.proofs.RecordSteps.{delete-may, delete-puts, files-put, update-may, update-puts, write-may, write-puts, write_call-change}
+use Rattle.keys_kept.proofs.BaseLemmas.{over-status}
 use Rattle.keys_kept.proofs.EffectLemmas.{put-stands, slots_for}
 use Rattle.keys_kept.proofs.FreeLemmas.{AreFree, Stands, image-may, keys_free-are}
 use Rattle.keys_kept.proofs.JobLemmas.{changes-others, changes-own}
@@ -115,7 +118,7 @@ update-keyed m job args =
     then-holds (opened_file args.open_id job m) _ _ (λ its.
     then-holds (refuse_if (is_input its.opened.option) WrongOpen) _ _ (λ writes.
     then-holds (found its.opened.current NoCurrentRecord) _ _ (λ rrn.
-    then-holds (packed (record_given (fields_of its.file) args.values (live_record its.opened.member rrn m))) _ _ (λ image.
+    then-holds (packed (given_in (bases_of m) its.file.spec its.opened.format args.values (live_record its.opened.member rrn m))) _ _ (λ image.
     then-holds (not_held job its.opened rrn m) _ _ (λ held.
     bind-holds (keys_free job its.opened.commit its.opened.member rrn (slot_there its.opened.member rrn m) image m)
     (λ ok. AreFree job its.opened.commit rrn m (new_keys its.opened.member (slot_there its.opened.member rrn m) image m)) _ _
@@ -134,21 +137,26 @@ delete-keyed m job args =
     then-holds (few_changes its.opened.commit (slot_there its.opened.member rrn m) Deleted m) _ _ (λ count.
     record { holds = inl refl }))))))
 
+place-keyed : (m : Memory) (job : ℕ) (opened : OpenState) (record_number : Option ℕ) (image : List ℕ) → Holds (place_plan m job opened record_number image) (HasKeys m job)
+unfolding place_plan
+place-keyed m job opened record_number image =
+    then-holds (place_asked job opened record_number m) _ _ (λ rrn.
+    then-holds (has_room (is_behind_last opened.member rrn m) opened.member m) _ _ (λ room.
+    bind-holds (keys_free job opened.commit opened.member rrn Deleted image m) (λ ok. AreFree job opened.commit rrn m (new_keys opened.member Deleted image m)) _ _
+    (keys_free-are job opened.commit opened.member rrn Deleted image m) (λ ok free.
+    then-holds (few_locks (write_call record_number) job opened rrn m) _ _ (λ locks.
+    then-holds (few_changes opened.commit Deleted (Live image) m) _ _ (λ count.
+    record { holds = inr (Deleted, image, inr refl, record { slot = refl; free = free }) })))))
+
 write-keyed : (m : Memory) (job : ℕ) (args : WriteRecord) → Holds (write_plan m job args) (HasKeys m job)
 unfolding write_plan
 write-keyed m job args =
     then-holds (sequences_left m) _ _ (λ few.
     then-holds (opened_file args.open_id job m) _ _ (λ its.
-    then-holds (format_or_refused args.format its.file.spec.format.name) _ _ (λ format.
+    then-holds (format_asked args.format its.file.spec) _ _ (λ format.
     then-holds (refuse_if (is_input its.opened.option) WrongOpen) _ _ (λ writes.
-    then-holds (packed (record_given (fields_of its.file) args.values None)) _ _ (λ image.
-    then-holds (place_asked job its.opened args.record_number m) _ _ (λ rrn.
-    then-holds (has_room (is_behind_last its.opened.member rrn m) its.opened.member m) _ _ (λ room.
-    bind-holds (keys_free job its.opened.commit its.opened.member rrn Deleted image m) (λ ok. AreFree job its.opened.commit rrn m (new_keys its.opened.member Deleted image m)) _ _
-    (keys_free-are job its.opened.commit its.opened.member rrn Deleted image m) (λ ok free.
-    then-holds (few_locks (write_call args.record_number) job its.opened rrn m) _ _ (λ locks.
-    then-holds (few_changes its.opened.commit Deleted (Live image) m) _ _ (λ count.
-    record { holds = inr (Deleted, image, inr refl, record { slot = refl; free = free }) }))))))))))
+    then-holds (packed (given_in (bases_of m) its.file.spec format args.values None)) _ _ (λ image.
+    place-keyed m job (at_format format its.opened) args.record_number image)))))
 
 -- what two laws say of a plan
 both-hold : {A : Type 0} (r : Result A Reply) (P Q : A → Type 0) → Holds r P → Holds r Q → Holds r (λ x. P x × Q x)

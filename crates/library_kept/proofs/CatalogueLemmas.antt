@@ -6,20 +6,22 @@ use Rattle.member_slots.specs.Member.{MemberState, empty_member, cleared, reorga
 use Rattle.member_slots.specs.Members.{Numbered, NumberedMembers, member_at, member_of, put_member, with_member, without_member}
 use Rattle.record_fmt.specs.declared.formats.Field.{Field}
 use Rattle.record_fmt.specs.Layout.{record_length}
+use Rattle.logical_model.specs.Bases.{FileSpec, PhysicalFile, LogicalFile}
 use Rattle.library_model.specs.declared.requests.FileMember.{FileMember}
 use Rattle.library_model.specs.Named.{Named, named}
-use Rattle.library_steps.specs.CreatePhysicalFile.{NewFile, new_file, with_file}
-use Rattle.library_steps.specs.DeleteFile.{without_file, without_members}
+use Rattle.library_steps.specs.CreateLogicalFile.{NewLogical, logical_file, with_logical}
+use Rattle.library_steps.specs.CreatePhysicalFile.{NewFile, new_file, new_status, with_file}
+use Rattle.library_steps.specs.DeleteFile.{first_dependent, user_by, without_file, without_members}
 use Rattle.library_steps.specs.MemberCommands.{member_added, renumbered, with_slots}
 use Rattle.library_steps.specs.Ranges.{library_bytes}
-use Rattle.library_steps.specs.State.{State, Memory, FileState, MemberStatus, memory_of, with_status, fields_of}
-use Rattle.library_steps.specs.Uses.{user_of, user_of_any}
-use Rattle.library_parts.specs.Lawful.{HasRecords}
+use Rattle.library_steps.specs.State.{State, Memory, FileState, MemberStatus, memory_of, with_status, fields_of, physical_among}
+use Rattle.library_steps.specs.Uses.{user_of}
+use Rattle.library_parts.specs.Lawful.{HasRecords, StandsOver}
 use Rattle.library_parts.specs.Slots.{weight}
 use Rattle.library_parts.proofs.AddLemmas.{AreOne-member_added}
 use Rattle.library_parts.proofs.BoundaryLemmas.{is_some-there}
-use Rattle.library_parts.proofs.DeleteLemmas.{AreOne-deleted}
-use Rattle.library_parts.proofs.FileLemmas.{AreOne-with_file}
+use Rattle.library_parts.proofs.DeleteLemmas.{AreOne-deleted, free-independent}
+use Rattle.library_parts.proofs.FileLemmas.{AreOne-with_file, AreOne-with_logical, based-first}
 use Rattle.library_parts.proofs.LawfulLemmas.{AreOne-slots}
 use Rattle.library_parts.proofs.LockLemmas.{length-filter}
 use Rattle.library_parts.proofs.MemberLemmas.{HasRecords-cleared, HasRecords-reorganized, at-member_of, library_bytes-cons, library_bytes-with, weight-cleared, weight-reorganized}
@@ -48,11 +50,18 @@ within-put (entry ∷ members) number long all =
 
 pub with_file-stands : (m : Memory) (name : List ℕ) (plan : NewFile) → Stands m → Stands (with_file name (new_file name m.next_member plan) m)
 with_file-stands m name plan stands = record {
-  library = (AreOne-with_file (bare m) (library_bytes m.members) name name (new_file name m.next_member plan) (one-of (bare m) stands.library) refl).lawful;
+  library = (AreOne-with_file (bare m) (library_bytes m.members) name name (new_file name m.next_member plan) (one-of (bare m) stands.library)
+      (based-first (bare m) name (new_file name m.next_member plan) plan.spec (new_status m.next_member) refl refl) refl).lawful;
   within = within-put m.members m.next_member (record_length (fields_of (new_file name m.next_member plan))) stands.within;
 }
 
-pub member_added-stands : (m : Memory) (args : FileMember) (file : FileState) → Stands m → named args.file m.files ≡ Some file → Stands (member_added args file m)
+pub with_logical-stands : (m : Memory) (name : List ℕ) (plan : NewLogical) → Stands m → StandsOver m.files [] plan.spec → Stands (with_logical name plan m)
+with_logical-stands m name plan stands over = record {
+  library = (AreOne-with_logical (bare m) (library_bytes m.members) name (logical_file plan) (one-of (bare m) stands.library) over refl).lawful;
+  within = stands.within;
+}
+
+pub member_added-stands : (m : Memory) (args : FileMember) (file : FileState) → Stands m → physical_among args.file m.files ≡ Some file → Stands (member_added args file m)
 member_added-stands m args file stands there = record {
   library = (AreOne-member_added (bare m) (library_bytes m.members) args.file args.member file (one-of (bare m) stands.library) there).lawful;
   within = within-put m.members m.next_member (record_length (fields_of file)) stands.within;
@@ -91,13 +100,18 @@ bytes-without_members (entry ∷ gone) members =
     let first = bytes-filter (λ (e : Numbered MemberState). not (e.number == entry.1.number)) members in
     omega (arith, rest, first)
 
-pub deleted-stands : (s : State) (name : List ℕ) (file : FileState) → IsSound s → named name s.files ≡ Some file → user_of_any file.members (memory_of s) ≡ None
-    → Stands (record (memory_of s) { files = without_file name s.files; members = without_members file.members s.members })
-deleted-stands s name file sound there unused =
+-- who uses a file doesn't read the journal
+user-bare : (s : State) (spec : FileSpec) (name : List ℕ) (file : FileState) → user_by spec name file (memory_of s) ≡ None → user_by spec name file (memory_of (bare (memory_of s))) ≡ None
+user-bare s (PhysicalFile spec) name file unused = unused
+user-bare s (LogicalFile spec) name file unused = unused
+
+pub deleted-stands : (s : State) (name : List ℕ) (file : FileState) → IsSound s → named name s.files ≡ Some file → first_dependent name s.files ≡ None
+    → user_by file.spec name file (memory_of s) ≡ None → Stands (record (memory_of s) { files = without_file name s.files; members = without_members file.members s.members })
+deleted-stands s name file sound there alone unused =
     let m = memory_of s in
     let stands = Stands-memory_of s sound in record {
-      library = (AreOne-deleted (bare m) (library_bytes s.members) (library_bytes (without_members file.members s.members)) name file (one-of (bare m) stands.library) sound.apart there unused refl
-          (bytes-without_members file.members s.members)).lawful;
+      library = (AreOne-deleted (bare m) (library_bytes s.members) (library_bytes (without_members file.members s.members)) name file (one-of (bare m) stands.library) sound.apart
+          (free-independent name s.files alone) there (user-bare s file.spec name file unused) refl (bytes-without_members file.members s.members)).lawful;
       within = within-without file.members s.members sound.within;
     }
 

@@ -11,7 +11,7 @@ use Rattle.member_slots.specs.declared.slot.Slot.{Slot}
 use Rattle.member_slots.specs.declared.slot.Slot.TheVariants.{Live, Deleted}
 use Rattle.member_slots.specs.Member.{is_full, slot_at}
 use Rattle.member_slots.specs.Members.{member_at, member_of}
-use Rattle.record_fmt.specs.Records.{record_given, record_held}
+use Rattle.record_fmt.specs.Records.{record_held}
 use Rattle.journal_model.specs.Rollback.{MemberChange}
 use Rattle.library_model.specs.declared.replies.Reply.TheVariants.{NotFound, PlaceInUse, MemberFull, WrongOpen, NoCurrentRecord}
 use Rattle.library_model.specs.declared.requests.OpenName.{OpenName}
@@ -22,22 +22,26 @@ use Rattle.library_steps.specs.ChangeRecord.{update_plan, update_change, delete_
 use Rattle.library_steps.specs.History.{is_running}
 use Rattle.library_steps.specs.Locking.{locks_left, with_locks, not_locked, few_locks}
 use Rattle.library_steps.specs.Ranges.{library_bytes}
+use Rattle.logical_model.specs.Formats.{given_in}
+use Rattle.library_steps.specs.LogicalFiles.{bases_of}
+use Rattle.library_steps.specs.Reads.{at_format}
 use Rattle.library_steps.specs.Records.{live_record, record_in, slot_there}
-use Rattle.library_steps.specs.Refusals.{found, refuse_if, sequences_left, OpenedFile, opened_file}
+use Rattle.library_steps.specs.Refusals.{found, refuse_if, sequences_left, opened_file}
 use Rattle.library_steps.specs.SlotChange.{NewSlot, change_made, cycle_for, few_changes, is_behind_last, not_held, noted, slot_changed, touched, with_cycle, with_slot, with_undo}
 use Rattle.library_steps.specs.State.{State, Memory, FileState, CycleState, OpenState, JobState, memory_of, job_at, job_changed, job_of, open_named, with_job, with_opens, with_status, fields_of}
 use Rattle.library_steps.specs.UniqueKeys.{keys_free}
-use Rattle.library_steps.specs.WriteRecord.{write_plan, write_change, write_call, format_or_refused, is_input, packed, next_place, place_asked, has_room}
+use Rattle.library_steps.specs.WriteRecord.{write_plan, place_plan, write_change, write_call, format_asked, is_input, packed, next_place, place_asked, has_room}
 use Rattle.library_parts.specs.Finds.{HasMember}
 use Rattle.library_parts.specs.Lawful.{HasRecords}
 use Rattle.library_parts.specs.Slots.{MayStand}
+use Rattle.library_parts.proofs.BaseLemmas.{OpenHolds-alike}
 use Rattle.library_parts.proofs.FindLemmas.{found-is}
 use Rattle.library_parts.proofs.LawfulLemmas.{AreOfJobs-more, AreOne-without_record}
 use Rattle.library_parts.proofs.MemberLemmas.{HoldsValues-at, IsThere-is_some, is_some-IsSome}
 use Rattle.joint_state.specs.CurrentRecords.{CurrentStands}
 use Rattle.joint_state.specs.Sound.{IsSound}
-use Rattle.library_kept.proofs.FieldLemmas.{given-held}
-use Rattle.library_kept.proofs.PlanLemmas.{live-within, named-each, opened-is, opened-member, packed-is, running-job, same-file, same-number}
+use Rattle.library_kept.proofs.OwnerLemmas.{opened-base, written-base}
+use Rattle.library_kept.proofs.PlanLemmas.{live-within, named-each, opened-is, packed-is, running-job, same-file, same-number}
 use Rattle.library_kept.proofs.ResultLemmas.{ok-equal, bind-ok, not-refused}
 use Rattle.library_kept.proofs.SlotLemmas.{HasRoom, MayTake, Stands-changed, its-records}
 use Rattle.library_kept.proofs.StandLemmas.{bare, Stands, one-of, Stands-memory_of, Stands-last, Stands-locks, Stands-open, begun-left}
@@ -78,39 +82,38 @@ room-by m member image x true is h =
     }
 room-by m member image x false is h = absurd cc
 
-module _ (s : State) (its : OpenedFile) (has : HasMember s its.opened.file its.file its.opened.member) (sound : IsSound s) where
+module _ (s : State) (name : List ℕ) (file : FileState) (member : ℕ) (has : HasMember s name file member) (sound : IsSound s) where
   -- a record of its fields may stand in the member
-  may-stand : (image : List ℕ) → is_some (record_held (fields_of its.file) image) ≡ true → MayStand (bare (memory_of s)) its.opened.member (Live image)
-  may-stand image held name file owns =
+  may-stand : (image : List ℕ) → is_some (record_held (fields_of file) image) ≡ true → MayStand (bare (memory_of s)) member (Live image)
+  may-stand image held other another owns =
       subst (λ (f : FileState). is_some (record_held (fields_of f) image) ≡ true)
-      (same-file s.files its.opened.file name its.file file its.opened.member sound.apart has.owns (record { there = owns.there; has = owns.has })) held
+      (same-file s.files name other file another member sound.apart has.owns (record { there = owns.there; has = owns.has })) held
 
-  there : is_some (member_at its.opened.member s.members) ≡ true
-  there = IsThere-is_some (fields_of its.file) (member_at its.opened.member s.members) has.there
+  there : is_some (member_at member s.members) ≡ true
+  there = IsThere-is_some (fields_of file) (member_at member s.members) has.there
 
-  its-records_of : HasRecords (fields_of its.file) (member_of its.opened.member s.members)
-  its-records_of = its-records (memory_of s) its.opened.file its.file its.opened.member 0 (Stands-memory_of s sound) has.owns
+  its-records_of : HasRecords (fields_of file) (member_of member s.members)
+  its-records_of = its-records (memory_of s) name file member 0 (Stands-memory_of s sound) has.owns
 
-  live-values : (rrn : ℕ) → IfSome (live_record its.opened.member rrn (memory_of s)) (λ bytes. is_some (record_held (fields_of its.file) bytes) ≡ true)
-  live-values rrn = by (slot_at (member_of its.opened.member s.members) rrn) refl
+  live-values : (rrn : ℕ) → IfSome (live_record member rrn (memory_of s)) (λ bytes. is_some (record_held (fields_of file) bytes) ≡ true)
+  live-values rrn = by (slot_at (member_of member s.members) rrn) refl
     where
-      by : (o : Option Slot) → slot_at (member_of its.opened.member s.members) rrn ≡ o → IfSome (record_in o) (λ bytes. is_some (record_held (fields_of its.file) bytes) ≡ true)
+      by : (o : Option Slot) → slot_at (member_of member s.members) rrn ≡ o → IfSome (record_in o) (λ bytes. is_some (record_held (fields_of file) bytes) ≡ true)
       by None is = tt
       by (Some Deleted) is = tt
-      by (Some (Live image)) is = HoldsValues-at (fields_of its.file) (member_of its.opened.member s.members) rrn (Live image) its-records_of is
+      by (Some (Live image)) is = HoldsValues-at (fields_of file) (member_of member s.members) rrn (Live image) its-records_of is
 
   -- a place where a record stands is there
-  may-replace : (rrn : ℕ) (slot : Slot) → MayStand (bare (memory_of s)) its.opened.member slot → IsSome (live_record its.opened.member rrn (memory_of s))
-      → MayChange s (record { opened = its.opened; rrn = rrn; slot = slot })
-  may-replace rrn slot values live =
-      let place = live-within (member_of its.opened.member s.members) rrn (is_some-IsSome _ live) in
+  replace-may : (rrn : ℕ) (slot : Slot) → MayStand (bare (memory_of s)) member slot → IsSome (live_record member rrn (memory_of s)) → MayTake (memory_of s) member rrn slot
+  replace-may rrn slot values live =
+      let place = live-within (member_of member s.members) rrn (is_some-IsSome _ live) in
       let within = place.1 in
-      record {
-        name = its.opened.file;
-        file = its.file;
-        owns = has.owns;
-        may = record { there = there; values = values; first = place.0; near = omega (arith, within); added = λ behind. absurd (omega (arith, within, behind)) };
-      }
+      record { there = there; values = values; first = place.0; near = omega (arith, within); added = λ behind. absurd (omega (arith, within, behind)) }
+
+may-replace : (s : State) (opened : OpenState) (rrn : ℕ) (slot : Slot) (name : List ℕ) (file : FileState) → HasMember s name file opened.member → IsSound s
+    → MayStand (bare (memory_of s)) opened.member slot → IsSome (live_record opened.member rrn (memory_of s)) → MayChange s (record { opened = opened; rrn = rrn; slot = slot })
+may-replace s opened rrn slot name file has sound values live =
+    record { name = name; file = file; owns = has.owns; may = replace-may s name file opened.member has sound rrn slot values live }
 
 -- the current record of an open stands
 current-stands : (s : State) (job : ℕ) (name : List ℕ) (opened : OpenState) (rrn : ℕ) → IsSound s → IsTrue (is_running (job_at job s.jobs)) → open_named name job (memory_of s) ≡ Some opened
@@ -119,36 +122,44 @@ current-stands s job name opened rrn sound running found current =
     (named-each (λ (o : OpenState). (n : ℕ) → o.current ≡ Some n → CurrentStands (memory_of s) job o n) name (job_of job (memory_of s)).opens opened
     (running-job s job running sound.joint).current found rrn current).live
 
+-- a record may be added through an open that is at its format
+place-may : (s : State) (job : ℕ) (opened : OpenState) (asked : Option ℕ) (image : List ℕ) (new : NewSlot) → IsSound s → (name : List ℕ) (file : FileState)
+    → HasMember s name file opened.member → is_some (record_held (fields_of file) image) ≡ true → place_plan (memory_of s) job opened asked image ≡ Ok new → MayChange s new
+unfolding place_plan
+place-may s job opened asked image new sound name file has held h =
+    let m = memory_of s in
+    let rrn = bind-ok (place_asked job opened asked m) _ new h in
+    let room = bind-ok (has_room (is_behind_last opened.member rrn.0 m) opened.member m) _ new rrn.2 in
+    let keys = bind-ok (keys_free job opened.commit opened.member rrn.0 Deleted image m) _ new room.2 in
+    let locks = bind-ok (few_locks (write_call asked) job opened rrn.0 m) _ new keys.2 in
+    let few = bind-ok (few_changes opened.commit Deleted (Live image) m) _ new locks.2 in
+    let near = asked-near job opened m asked rrn.0 rrn.1 in
+    let planned : NewSlot = record { opened = opened; rrn = rrn.0; slot = Live image } in
+    subst (MayChange s) (ok-equal planned new few.2) (record {
+      name = name;
+      file = file;
+      owns = has.owns;
+      may = record {
+        there = there s name file opened.member has sound;
+        values = may-stand s name file opened.member has sound image held;
+        first = near.0;
+        near = near.1;
+        added = λ behind. room-by m opened.member image room.0 (is_behind_last opened.member rrn.0 m) (same-number rrn.0 (next_place opened.member m) behind) room.1;
+      };
+    })
+
 pub write-may : (s : State) (job : ℕ) (args : WriteRecord) (new : NewSlot) → IsSound s → write_plan (memory_of s) job args ≡ Ok new → MayChange s new
 unfolding write_plan
 write-may s job args new sound h =
     let m = memory_of s in
     let left = bind-ok (sequences_left m) _ new h in
     let its = bind-ok (opened_file args.open_id job m) _ new left.2 in
-    let format = bind-ok (format_or_refused args.format its.0.file.spec.format.name) _ new its.2 in
+    let format = bind-ok (format_asked args.format its.0.file.spec) _ new its.2 in
     let option = bind-ok (refuse_if (is_input its.0.opened.option) WrongOpen) _ new format.2 in
-    let image = bind-ok (packed (record_given (fields_of its.0.file) args.values None)) _ new option.2 in
-    let rrn = bind-ok (place_asked job its.0.opened args.record_number m) _ new image.2 in
-    let room = bind-ok (has_room (is_behind_last its.0.opened.member rrn.0 m) its.0.opened.member m) _ new rrn.2 in
-    let keys = bind-ok (keys_free job its.0.opened.commit its.0.opened.member rrn.0 Deleted image.0 m) _ new room.2 in
-    let locks = bind-ok (few_locks (write_call args.record_number) job its.0.opened rrn.0 m) _ new keys.2 in
-    let few = bind-ok (few_changes its.0.opened.commit Deleted (Live image.0) m) _ new locks.2 in
-    let has = opened-member s job args.open_id its.0 sound its.1 in
-    let near = asked-near job its.0.opened m args.record_number rrn.0 rrn.1 in
-    let held = given-held (fields_of its.0.file) args.values None image.0 (sound.formats its.0.opened.file its.0.file has.owns.there) tt (packed-is _ image.0 image.1) in
-    let planned : NewSlot = record { opened = its.0.opened; rrn = rrn.0; slot = Live image.0 } in
-    subst (MayChange s) (ok-equal planned new few.2) (record {
-      name = its.0.opened.file;
-      file = its.0.file;
-      owns = has.owns;
-      may = record {
-        there = there s its.0 has sound;
-        values = may-stand s its.0 has sound image.0 held;
-        first = near.0;
-        near = near.1;
-        added = λ behind. room-by m its.0.opened.member image.0 room.0 (is_behind_last its.0.opened.member rrn.0 m) (same-number rrn.0 (next_place its.0.opened.member m) behind) room.1;
-      };
-    })
+    let image = bind-ok (packed (given_in (bases_of m) its.0.file.spec format.0 args.values None)) _ new option.2 in
+    let given = packed-is _ image.0 image.1 in
+    let base = written-base s job args.open_id its.0 args.format format.0 args.values image.0 sound its.1 format.1 given in
+    place-may s job (at_format format.0 its.0.opened) args.record_number image.0 new sound base.name base.file base.has (base.given args.values None image.0 tt given) image.2
 
 pub update-may : (s : State) (job : ℕ) (args : UpdateRecord) (new : NewSlot) → IsSound s → IsTrue (is_running (job_at job s.jobs)) → update_plan (memory_of s) job args ≡ Ok new → MayChange s new
 unfolding update_plan
@@ -158,17 +169,18 @@ update-may s job args new sound running h =
     let its = bind-ok (opened_file args.open_id job m) _ new left.2 in
     let option = bind-ok (refuse_if (is_input its.0.opened.option) WrongOpen) _ new its.2 in
     let rrn = bind-ok (found its.0.opened.current NoCurrentRecord) _ new option.2 in
-    let image = bind-ok (packed (record_given (fields_of its.0.file) args.values (live_record its.0.opened.member rrn.0 m))) _ new rrn.2 in
+    let image = bind-ok (packed (given_in (bases_of m) its.0.file.spec its.0.opened.format args.values (live_record its.0.opened.member rrn.0 m))) _ new rrn.2 in
     let held = bind-ok (not_held job its.0.opened rrn.0 m) _ new image.2 in
     let keys = bind-ok (keys_free job its.0.opened.commit its.0.opened.member rrn.0 (slot_there its.0.opened.member rrn.0 m) image.0 m) _ new held.2 in
     let few = bind-ok (few_changes its.0.opened.commit (slot_there its.0.opened.member rrn.0 m) (Live image.0) m) _ new keys.2 in
-    let has = opened-member s job args.open_id its.0 sound its.1 in
+    let base = opened-base s job args.open_id its.0 sound its.1 in
+    let member = its.0.opened.member in
     let current = found-is its.0.opened.current _ rrn.0 rrn.1 in
     let live = current-stands s job args.open_id its.0.opened rrn.0 sound running (opened-is args.open_id job m its.0 its.1).0 current in
-    let values = given-held (fields_of its.0.file) args.values (live_record its.0.opened.member rrn.0 m) image.0 (sound.formats its.0.opened.file its.0.file has.owns.there)
-    (live-values s its.0 has sound rrn.0) (packed-is _ image.0 image.1) in
+    let values = base.given args.values (live_record member rrn.0 m) image.0 (live-values s base.name base.file member base.has sound rrn.0) (packed-is _ image.0 image.1) in
     let planned : NewSlot = record { opened = its.0.opened; rrn = rrn.0; slot = Live image.0 } in
-    subst (MayChange s) (ok-equal planned new few.2) (may-replace s its.0 has sound rrn.0 (Live image.0) (may-stand s its.0 has sound image.0 values) live)
+    subst (MayChange s) (ok-equal planned new few.2)
+    (may-replace s its.0.opened rrn.0 (Live image.0) base.name base.file base.has sound (may-stand s base.name base.file member base.has sound image.0 values) live)
 
 pub delete-may : (s : State) (job : ℕ) (args : OpenName) (new : NewSlot) → IsSound s → IsTrue (is_running (job_at job s.jobs)) → delete_plan (memory_of s) job args ≡ Ok new → MayChange s new
 unfolding delete_plan
@@ -180,11 +192,11 @@ delete-may s job args new sound running h =
     let rrn = bind-ok (found its.0.opened.current NoCurrentRecord) _ new option.2 in
     let held = bind-ok (not_held job its.0.opened rrn.0 m) _ new rrn.2 in
     let few = bind-ok (few_changes its.0.opened.commit (slot_there its.0.opened.member rrn.0 m) Deleted m) _ new held.2 in
-    let has = opened-member s job args.open_id its.0 sound its.1 in
+    let base = opened-base s job args.open_id its.0 sound its.1 in
     let current = found-is its.0.opened.current _ rrn.0 rrn.1 in
     let live = current-stands s job args.open_id its.0.opened rrn.0 sound running (opened-is args.open_id job m its.0 its.1).0 current in
     let planned : NewSlot = record { opened = its.0.opened; rrn = rrn.0; slot = Deleted } in
-    subst (MayChange s) (ok-equal planned new few.2) (may-replace s its.0 has sound rrn.0 Deleted (λ name file owns. tt) live)
+    subst (MayChange s) (ok-equal planned new few.2) (may-replace s its.0.opened rrn.0 Deleted base.name base.file base.has sound (λ name file owns. tt) live)
 
 -- ---- what they leave
 
@@ -215,7 +227,9 @@ module _ (s : State) (job timestamp : ℕ) (new : NewSlot) (sound : IsSound s) (
   write-stands call = Stands-last _ _ (locked-stands call)
 
   pub update-stands : Stands (update_change (memory_of s) job timestamp new).memory
-  update-stands = Stands-last _ _ (Stands-open _ job new.opened without_current (locked-stands Update) (λ o holds. holds))
+  update-stands =
+      let locked = with_locks (locks_left Update job new.opened new.rrn (memory_of s)) (slot_changed job new (memory_of s)) in
+      Stands-last _ _ (Stands-open locked job new.opened without_current (locked-stands Update) (λ o holds. OpenHolds-alike locked.files o (without_current o) refl refl refl refl holds))
 
   pub delete-stands : Stands (delete_change (memory_of s) job timestamp new).memory
   delete-stands =

@@ -46,6 +46,7 @@ pub begun-sound : (names : List (List ℕ)) → IsSound (begun empty_library nam
 begun-sound names = record {
   library = record {
     members = λ name file number owns. absurd (let there = owns.there in cc);
+    bases = λ name file there. absurd cc;
     opens = opens-new [] names;
     changes = back-new [] [] names;
     numbers = tt;
@@ -59,6 +60,8 @@ begun-sound names = record {
   names = distinct-none;
   numbered = tt;
   formats = λ name file there. absurd cc;
+  views = λ name file there. absurd cc;
+  defaults = λ name file there. absurd cc;
   within = tt;
   joint = record {
     compatible = λ k d lt. absurd (omega arith);

@@ -1,5 +1,5 @@
 -- COMMIT, ROLLBACK, the beginning and the end of commitment control, and the end of a job leave a library.
-use Rattle.std.proofs.Common.{◌≡◌, ℕ, ◌+◌, ◌-◌, IsTrue, true, false, if◌then◌else◌, List, [], ◌∷◌, Option, None, sym, subst}
+use Rattle.std.proofs.Common.{◌≡◌, ℕ, ◌+◌, ◌-◌, IsTrue, true, false, if◌then◌else◌, List, [], ◌∷◌, Option, None, refl, sym, subst}
 use Rattle.commit_level.specs.declared.Level.{Level}
 use Rattle.lock_table.specs.declared.levels.Call.{Call}
 use Rattle.lock_table.specs.declared.levels.Call.TheVariants.{Commit, Rollback, EndCommitment, EndJob, Close}
@@ -11,15 +11,16 @@ use Rattle.library_steps.specs.Commitment.{boundary_locks, changes_of, taken_bac
 use Rattle.library_steps.specs.EndJob.{ended_job, job_ended}
 use Rattle.library_steps.specs.History.{is_running}
 use Rattle.library_steps.specs.Locking.{locks_left, with_locks}
-use Rattle.library_steps.specs.Opens.{with_open, without_open}
+use Rattle.library_steps.specs.Opens.{new_open, with_open, without_open}
 use Rattle.library_steps.specs.Ranges.{library_bytes}
 use Rattle.library_steps.specs.State.{Memory, FileState, OpenState, JobState, job_at, job_of, with_job, with_opens}
 use Rattle.library_steps.specs.Uses.{changes_in}
 use Rattle.library_model.specs.declared.requests.OpenFile.{OpenFile}
-use Rattle.library_model.specs.Named.{Named, named}
+use Rattle.library_model.specs.Named.{Named}
 use Rattle.library_parts.specs.Boundaries.{member_back, members_back}
-use Rattle.library_parts.specs.Lawful.{OpensMember, OpenHolds, OpensHold, CycleGoesBack}
+use Rattle.library_parts.specs.Lawful.{OpenHolds, OpensHold, CycleGoesBack}
 use Rattle.library_parts.proofs.BackLemmas.{CycleGoesBack-of}
+use Rattle.library_parts.proofs.BaseLemmas.{OpenHolds-alike}
 use Rattle.library_parts.proofs.BoundaryLemmas.{cycle_back-is, AreOne-cycle_back}
 use Rattle.library_parts.proofs.LawfulLemmas.{AreOne-with_open, AreOne-without_open, opens-map}
 use Rattle.joint_state.specs.Limits.{AreWithin}
@@ -30,14 +31,19 @@ use Rattle.library_kept.proofs.StandLemmas.{bare, Stands, one-of, Stands-job, St
 
 committed-holds : (files : Named FileState) (job : JobState) → OpensHold files job → OpensHold files (with_opens committed_open (without_cycle job))
 committed-holds files job all =
-    opens-map files committed_open (λ opened holds. elim opened.commit as (λ b. OpenHolds files (if b then at_boundary opened else opened)) [ true ↦ holds | false ↦ holds ]) job.opens all
+    opens-map files committed_open (λ opened holds. elim opened.commit as (λ b. OpenHolds files (if b then at_boundary opened else opened)) [
+      | true ↦ OpenHolds-alike files opened (at_boundary opened) refl refl refl refl holds
+      | false ↦ holds
+    ]) job.opens all
 
 rolled-holds : (files : Named FileState) (job : JobState) → OpensHold files job → OpensHold files (with_opens rolled_back_open (without_cycle job))
 rolled-holds files job all =
     opens-map files rolled_back_open
     (λ opened holds. elim opened.commit as
-    (λ b. OpenHolds files (if b then record opened { position = opened.boundary; current = None; last_read = None } else record opened { current = None; last_read = None }))
-    [ true ↦ holds | false ↦ holds ]) job.opens all
+    (λ b. OpenHolds files (if b then record opened { position = opened.boundary; current = None; last_read = None } else record opened { current = None; last_read = None })) [
+      | true ↦ OpenHolds-alike files opened (record opened { position = opened.boundary; current = None; last_read = None }) refl refl refl refl holds
+      | false ↦ OpenHolds-alike files opened (record opened { current = None; last_read = None }) refl refl refl refl holds
+    ]) job.opens all
 
 -- ---- changes taken back
 
@@ -93,9 +99,9 @@ module _ (m : Memory) (job : ℕ) (running : IsTrue (is_running (job_at job m.jo
 
   -- ---- opens
 
-  pub open-stands : (args : OpenFile) (member : ℕ) → OpensMember member (named args.file m.files) → Stands (with_job job (with_open args member) m)
-  open-stands args member holds = record {
-    library = (AreOne-with_open (bare m) (library_bytes m.members) (job - 1) args member (one-of (bare m) stands.library) holds).lawful;
+  pub open-stands : (args : OpenFile) (members : List ℕ) → OpenHolds m.files (new_open args 0 members) → Stands (with_job job (with_open args members) m)
+  open-stands args members holds = record {
+    library = (AreOne-with_open (bare m) (library_bytes m.members) (job - 1) args members (one-of (bare m) stands.library) holds).lawful;
     within = stands.within;
   }
 

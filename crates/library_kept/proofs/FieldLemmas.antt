@@ -104,7 +104,7 @@ typed_by-allowed : (s : Specification) (r : Result FieldType DdsFault) (t : Fiel
 typed_by-allowed s (Ok u) t h = attributes-allowed s (Some u) t h
 typed_by-allowed s (Err fault) t h = absurd cc
 
-typed-allowed : (formats : List ℕ → Option Format) (file : Option (List ℕ)) (own : List Field) (s : Specification) (t : FieldType) → typed formats file own s ≡ Ok t → IsFieldType t
+pub typed-allowed : (formats : List ℕ → Option Format) (file : Option (List ℕ)) (own : List Field) (s : Specification) (t : FieldType) → typed formats file own s ≡ Ok t → IsFieldType t
 typed-allowed formats file own s t h =
     elim s.columns.reference as (λ b. cond b (typed_by s (referenced formats file own s)) (attributes s None) ≡ Ok t → IsFieldType t) [
       | true ↦ λ e. typed_by-allowed s (referenced formats file own s) t e
@@ -176,7 +176,7 @@ narrow-of formats source none =
     by true f more last e = absurd cc
     by false f more last e = refl
 
-unless-ok : (spec wanted : PhysicalSpec) (fault : Option DdsFault) → specification_unless spec fault ≡ Ok wanted → (fault ≡ None) × (spec ≡ wanted)
+pub unless-ok : (spec wanted : PhysicalSpec) (fault : Option DdsFault) → specification_unless spec fault ≡ Ok wanted → (fault ≡ None) × (spec ≡ wanted)
 unless-ok spec wanted None h = (refl, let e : spec ≡ wanted = cc in e)
 unless-ok spec wanted (Some fault) h = absurd cc
 

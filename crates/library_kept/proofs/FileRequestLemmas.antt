@@ -14,6 +14,7 @@ use Rattle.library_steps.specs.Change.{Change}
 use Rattle.library_steps.specs.ChangeRecord.{unlock_plan, unlock_change, update_plan, update_change, delete_plan, delete_change}
 use Rattle.library_steps.specs.Checkpoint.{save_plan, save_change}
 use Rattle.library_steps.specs.Commitment.{start_plan, end_plan, changes_of, taken_back}
+use Rattle.library_steps.specs.CreateLogicalFile.{create_logical_plan, create_logical_change}
 use Rattle.library_steps.specs.CreatePhysicalFile.{create_plan, create_change}
 use Rattle.library_steps.specs.DeleteFile.{delete_plan as delete_file_plan, delete_change as delete_file_change}
 use Rattle.library_steps.specs.EndJob.{end_change}
@@ -30,8 +31,8 @@ use Rattle.library_steps.specs.State.{State, Memory, CycleState, memory_of, job_
 use Rattle.library_steps.specs.Step.{change}
 use Rattle.library_steps.specs.WriteRecord.{write_plan, write_change, write_call}
 use Rattle.joint_state.specs.Sound.{IsSound}
-use Rattle.library_kept.proofs.FileKeepLemmas.{KeepsFiles, keeps-same, keeps-status, keeps-fewer, keeps-more, keeps-wider, plan-laid}
-use Rattle.library_kept.proofs.RequestLemmas.{changes-equal}
+use Rattle.library_kept.proofs.FileKeepLemmas.{KeepsFiles, keeps-same, keeps-status, keeps-fewer, keeps-more, keeps-view, keeps-wider, plan-good, plan-over}
+use Rattle.library_kept.proofs.RequestLemmas.{add-file, changes-equal, delete-file}
 use Rattle.library_kept.proofs.ResultLemmas.{does-each}
 
 -- the commit cycle of a change, and changes taken back, are nothing to the files
@@ -74,11 +75,13 @@ module _ (s : State) (job timestamp : ℕ) (sound : IsSound s) where
   pub files-kept : (sources : List NamedSource) (done : Change) (request : Request) → change sources s.entries m job timestamp request ≡ Ok done → KeepsFiles s done.memory.files
   unfolding change
   files-kept sources done (requests.CreatePhysicalFile args) h =
-      does-each (create_change m job timestamp args) (create_plan sources m args) done Kept h (λ plan is. keeps-more s sound args.file plan (plan-laid sources m args plan is))
-  files-kept sources done (requests.CreateLogicalFile args) h = absurd cc
+      does-each (create_change m job timestamp args) (create_plan sources m args) done Kept h (λ plan is. let good = plan-good sources m args plan is in keeps-more s sound args.file plan good.laid good.defaults)
+  files-kept sources done (requests.CreateLogicalFile args) h =
+      does-each (create_logical_change m job timestamp args) (create_logical_plan sources m args) done Kept h
+      (λ plan is. let its = plan-over sources m args plan is in keeps-view s sound args.file plan its.over its.view)
   files-kept sources done (requests.DeleteFile args) h =
-      does-each (delete_file_change m job timestamp args) (delete_file_plan m args) done Kept h (λ file is. keeps-fewer s sound args.file)
-  files-kept sources done (requests.AddMember args) h = does-each _ (add_plan m args) done Kept h (λ file is. keeps-wider s sound args.file args.member)
+      does-each (delete_file_change m job timestamp args) (delete_file_plan m args) done Kept h (λ file is. keeps-fewer s sound args.file (delete-file s args file is).1)
+  files-kept sources done (requests.AddMember args) h = does-each _ (add_plan m args) done Kept h (λ file is. keeps-wider s sound args.file args.member file (add-file s args file is))
   files-kept sources done (requests.ClearMember args) h =
       does-each _ (empty_plan m args) done Kept h (λ status is. keeps-status s sound status.number (Renumbered (m.last_entry + 1)))
   files-kept sources done (requests.ReorganizeMember args) h =
@@ -102,10 +105,10 @@ module _ (s : State) (job timestamp : ℕ) (sound : IsSound s) where
   files-kept sources done (requests.CloseFile args) h = does-each _ (named_or_refused args.open_id (open_named args.open_id job m)) done Kept h (λ opened is. same)
   files-kept sources done (requests.SetLowerLimit args) h = does-each (position_change m job) (position_plan Before m job args) done Kept h (λ new is. same)
   files-kept sources done (requests.SetGreaterThan args) h = does-each (position_change m job) (position_plan Past m job args) done Kept h (λ new is. same)
-  files-kept sources done (requests.Read args) h = does-each (read_change m job) (read_plan next_from EndOfFile m job args) done Kept h (λ it is. same)
-  files-kept sources done (requests.ReadPrior args) h = does-each (read_change m job) (read_plan prior_from BeginOfFile m job args) done Kept h (λ it is. same)
-  files-kept sources done (requests.ReadEqual args) h = does-each (read_change m job) (read_equal_plan next_equal EndOfFile m job args) done Kept h (λ it is. same)
-  files-kept sources done (requests.ReadPriorEqual args) h = does-each (read_change m job) (read_equal_plan prior_equal BeginOfFile m job args) done Kept h (λ it is. same)
+  files-kept sources done (requests.Read args) h = does-each (read_change m job) (read_plan next_from next_from EndOfFile m job args) done Kept h (λ it is. same)
+  files-kept sources done (requests.ReadPrior args) h = does-each (read_change m job) (read_plan prior_from prior_from BeginOfFile m job args) done Kept h (λ it is. same)
+  files-kept sources done (requests.ReadEqual args) h = does-each (read_change m job) (read_equal_plan next_equal next_equal EndOfFile m job args) done Kept h (λ it is. same)
+  files-kept sources done (requests.ReadPriorEqual args) h = does-each (read_change m job) (read_equal_plan prior_equal prior_equal BeginOfFile m job args) done Kept h (λ it is. same)
   files-kept sources done (requests.Chain args) h = does-each (read_change m job) (chain_plan m job args) done Kept h (λ it is. same)
   files-kept sources done (requests.Write args) h =
       does-each (write_change m job timestamp (write_call args.record_number)) (write_plan m job args) done Kept h (λ new is. slot-kept new)

@@ -2,7 +2,13 @@ pub mod ResultLemmas
 pub mod ListLemmas
 pub mod StandLemmas
 pub mod FieldLemmas
+pub mod DefaultLemmas
+pub mod SomeLemmas
+pub mod ViewLemmas
 pub mod PlanLemmas
+pub mod OwnerLemmas
+pub mod FindLemmas
+pub mod ReadLemmas
 pub mod SlotLemmas
 pub mod ChangeLemmas
 pub mod EndLemmas
@@ -10,8 +16,8 @@ pub mod CatalogueLemmas
 pub mod DraftLemmas
 pub mod RangeLemmas
 pub mod WorkLemmas
-pub mod RequestLemmas
 pub mod FileKeepLemmas
+pub mod RequestLemmas
 pub mod FileRequestLemmas
 pub mod ToldLemmas
 pub mod ToldRequestLemmas

@@ -11,10 +11,11 @@ use Rattle.library_model.specs.Named.{Named, named, same_name}
 use Rattle.library_steps.specs.History.{is_running}
 use Rattle.library_steps.specs.Records.{record_in}
 use Rattle.library_steps.specs.Refusals.{found, named_or_refused, FoundMember, member_of_file, OpenedFile, opened_file}
-use Rattle.library_steps.specs.State.{State, Memory, FileState, JobState, memory_of, file_named, open_named, job_at, job_of, or_new}
+use Rattle.library_steps.specs.State.{State, Memory, FileState, JobState, memory_of, file_named, physical_named, open_named, job_at, job_of, or_new}
 use Rattle.library_steps.specs.WriteRecord.{packed}
 use Rattle.library_parts.specs.Finds.{HasMember}
-use Rattle.library_parts.proofs.FindLemmas.{found-is, member-there, opened-there}
+use Rattle.library_parts.proofs.BaseLemmas.{physical-found}
+use Rattle.library_parts.proofs.FindLemmas.{found-is, member-there}
 use Rattle.joint_state.specs.Joint.{IsJoint, JobStands}
 use Rattle.joint_state.specs.Sound.{IsSound}
 use Rattle.library_kept.proofs.ResultLemmas.{ok-equal, bind-ok}
@@ -32,15 +33,12 @@ opened-is name job m its h =
 pub member-is : (file member : List ℕ) (m : Memory) (it : FoundMember) → member_of_file file member m ≡ Ok it
     → (named file m.files ≡ Some it.file) × (named member it.file.members ≡ Some it.status)
 member-is file member m it h =
-    let a = bind-ok (named_or_refused file (file_named file m)) _ it h in
+    let a = bind-ok (named_or_refused file (physical_named file m)) _ it h in
     let b = bind-ok (named_or_refused member (named member a.0.members)) _ it a.2 in
     subst (λ (i : FoundMember). (named file m.files ≡ Some i.file) × (named member i.file.members ≡ Some i.status)) (ok-equal _ it b.2)
-    (found-is (file_named file m) _ a.0 a.1, found-is (named member a.0.members) _ b.0 b.1)
+    ((physical-found file m.files a.0 (found-is (physical_named file m) _ a.0 a.1)).0, found-is (named member a.0.members) _ b.0 b.1)
 
--- the file that was opened has the member, and so for a member that is named
-pub opened-member : (s : State) (job : ℕ) (name : List ℕ) (its : OpenedFile) → IsSound s → opened_file name job (memory_of s) ≡ Ok its → HasMember s its.opened.file its.file its.opened.member
-opened-member s job name its sound h = let is = opened-is name job (memory_of s) its h in opened-there s job name its.opened its.file sound.library is.0 is.1
-
+-- a file has the member that is named
 pub named-member : (s : State) (file member : List ℕ) (it : FoundMember) → IsSound s → member_of_file file member (memory_of s) ≡ Ok it → HasMember s file it.file it.status.number
 named-member s file member it sound h = let is = member-is file member (memory_of s) it h in member-there s file member it.file it.status sound.library is.0 is.1
 
@@ -77,6 +75,18 @@ running-job s job running joint = at (job == 0) refl running
     at : (b : Bool) → (job == 0) ≡ b → IsTrue (is_running (if b then None else slice_get s.jobs (job - 1))) → JobStands s job (or_new (if b then None else slice_get s.jobs (job - 1)))
     at true is runs = absurd cc
     at false is runs = there (slice_get s.jobs (job - 1)) refl runs (let other = eqb-false job 0 is in grind (arith, nat_tests))
+
+-- and is the one of its number
+pub job-there : (jobs : List JobState) (job : ℕ) → IsTrue (is_running (job_at job jobs)) → slice_get jobs (job - 1) ≡ Some (or_new (job_at job jobs))
+job-there jobs job running = at (job == 0) running
+  where
+    there : (o : Option JobState) → IsTrue (is_running o) → o ≡ Some (or_new o)
+    there None runs = absurd cc
+    there (Some j) runs = refl
+
+    at : (b : Bool) → IsTrue (is_running (if b then None else slice_get jobs (job - 1))) → slice_get jobs (job - 1) ≡ Some (or_new (if b then None else slice_get jobs (job - 1)))
+    at true runs = absurd cc
+    at false runs = there (slice_get jobs (job - 1)) runs
 
 -- ---- places
 

@@ -1,5 +1,5 @@
 -- A library stays one where only its journal, its locks, a job or the status of a member is another.
-use Rattle.std.proofs.Common.{ℕ, ◌-◌, ◌==◌, ◌++◌, if◌then◌else◌, IsTrue, true, false, List, [], ◌∷◌, length, drop, Some, unwrap_or, refl, arith}
+use Rattle.std.proofs.Common.{◌≡◌, ℕ, ◌-◌, ◌==◌, ◌++◌, if◌then◌else◌, IsTrue, true, false, List, [], ◌∷◌, length, drop, slice_get, Some, unwrap_or, refl, arith}
 use Rattle.member_slots.specs.Member.{MemberState, empty_member}
 use Rattle.member_slots.specs.Members.{NumberedMembers, item_at, member_of, with_member}
 use Rattle.file_catalogue.specs.Statuses.{after as status_after}
@@ -15,7 +15,7 @@ use Rattle.library_steps.specs.Ranges.{library_bytes}
 use Rattle.library_steps.specs.Reads.{with_opened}
 use Rattle.library_steps.specs.State.{State, Memory, Receivers, OpenState, JobState, memory_of, with_entries, job_at, job_of, with_job, with_status}
 use Rattle.library_parts.specs.Lawful.{OpenHolds, OpensHold, CycleGoesBack, IsLibrary, AreOne}
-use Rattle.library_parts.proofs.LawfulLemmas.{AreOne-journal, AreOne-job_changed, AreOne-locks, AreOne-open_changed, AreOne-status}
+use Rattle.library_parts.proofs.LawfulLemmas.{KeepsOpens, AreOne-journal, AreOne-job_changed, AreOne-locks, AreOne-open_at, AreOne-open_changed, AreOne-status}
 use Rattle.library_parts.proofs.LockLemmas.{running-HasBegun, All-locks_after}
 use Rattle.joint_state.specs.Limits.{IsWithin, AreWithin}
 use Rattle.joint_state.specs.Sound.{IsSound, after}
@@ -82,6 +82,14 @@ pub Stands-open : (m : Memory) (job : ℕ) (opened : OpenState) (change : OpenSt
     → Stands (with_opened job opened change m)
 Stands-open m job opened change stands each = record {
   library = (AreOne-open_changed (bare m) (library_bytes m.members) (job - 1) opened.number change (one-of (bare m) stands.library) each).lawful;
+  within = stands.within;
+}
+
+-- the same, where each open of its number that the job has stays over its members
+pub Stands-open_at : (m : Memory) (job : ℕ) (opened : OpenState) (change : OpenState → OpenState) → Stands m
+    → ((j : JobState) → slice_get m.jobs (job - 1) ≡ Some j → KeepsOpens m.files opened.number change j.opens) → Stands (with_opened job opened change m)
+Stands-open_at m job opened change stands each = record {
+  library = (AreOne-open_at (bare m) (library_bytes m.members) (job - 1) opened.number change (one-of (bare m) stands.library) each).lawful;
   within = stands.within;
 }
 

@@ -3,7 +3,7 @@ use Rattle.std.proofs.Common.{◌≡◌, ℕ, ◌+◌, ◌<◌, length, IsTrue, 
 use Rattle.std.specs.List.{AllByRecursion}
 use Rattle.entry_codec.specs.declared.entries.Draft.{Draft}
 use Rattle.entry_codec.specs.declared.kinds.EntryKind.TheVariants.{FileCreated, FileDeleted, MemberAdded, MemberCleared, MemberReorganized, JournalingStarted, JournalingEnded, NextReceiver, PreviousReceiver, CommitmentStarted, CommitmentEnded}
-use Rattle.entry_codec.specs.declared.kinds.FileKind.TheVariants.{Physical}
+use Rattle.entry_codec.specs.declared.kinds.FileKind.TheVariants.{Physical, Logical}
 use Rattle.file_model.specs.Positions.{Before, Past, next_from, prior_from, next_equal, prior_equal}
 use Rattle.library_model.specs.declared.replies.Reply.TheVariants.{EndOfFile, BeginOfFile}
 use Rattle.library_model.specs.declared.requests.Request.{Request}
@@ -13,6 +13,7 @@ use Rattle.library_steps.specs.Change.{Change}
 use Rattle.library_steps.specs.ChangeRecord.{unlock_plan, unlock_change, update_plan, update_change, delete_plan, delete_change}
 use Rattle.library_steps.specs.Checkpoint.{save_plan, save_change}
 use Rattle.library_steps.specs.Commitment.{start_plan, end_plan, changes_of, taken_back, end_drafts, undo_entries}
+use Rattle.library_steps.specs.CreateLogicalFile.{create_logical_plan, create_logical_change}
 use Rattle.library_steps.specs.CreatePhysicalFile.{create_plan, create_change}
 use Rattle.library_steps.specs.DeleteFile.{delete_plan as delete_file_plan, delete_change as delete_file_change}
 use Rattle.library_steps.specs.Drafts.{Author, author_of, initial_drafts, library_draft, member_draft}
@@ -98,7 +99,9 @@ module _ (s : State) (job timestamp : ℕ) (sound : IsSound s) (running : IsTrue
       does-each (create_change m job timestamp args) (create_plan sources m args) done Told h
       (λ new is keeps. plain-new s _ (m.last_entry + 1) (member_draft author s.next_member (FileCreated Physical args.file new.source) ∷ []) (omega arith) refl
       (record { member = omega arith; images = refl; place = refl }, tt))
-  request-told sources done (requests.CreateLogicalFile args) h = absurd cc
+  request-told sources done (requests.CreateLogicalFile args) h =
+      does-each (create_logical_change m job timestamp args) (create_logical_plan sources m args) done Told h
+      (λ new is keeps. plain _ (library_draft author (FileCreated Logical args.file new.source) ∷ []) refl refl (library-plain _ author (FileCreated Logical args.file new.source) refl refl, tt))
   request-told sources done (requests.DeleteFile args) h =
       does-each (delete_file_change m job timestamp args) (delete_file_plan m args) done Told h
       (λ file is keeps. plain _ (library_draft author (FileDeleted args.file) ∷ []) refl refl (library-plain _ author (FileDeleted args.file) refl refl, tt))
@@ -157,10 +160,10 @@ module _ (s : State) (job timestamp : ℕ) (sound : IsSound s) (running : IsTrue
   request-told sources done (requests.CloseFile args) h = does-each _ (named_or_refused args.open_id (open_named args.open_id job m)) done Told h (λ opened is keeps. silent _ refl refl)
   request-told sources done (requests.SetLowerLimit args) h = does-each (position_change m job) (position_plan Before m job args) done Told h (λ new is keeps. silent _ refl refl)
   request-told sources done (requests.SetGreaterThan args) h = does-each (position_change m job) (position_plan Past m job args) done Told h (λ new is keeps. silent _ refl refl)
-  request-told sources done (requests.Read args) h = does-each (read_change m job) (read_plan next_from EndOfFile m job args) done Told h (λ it is keeps. silent _ refl refl)
-  request-told sources done (requests.ReadPrior args) h = does-each (read_change m job) (read_plan prior_from BeginOfFile m job args) done Told h (λ it is keeps. silent _ refl refl)
-  request-told sources done (requests.ReadEqual args) h = does-each (read_change m job) (read_equal_plan next_equal EndOfFile m job args) done Told h (λ it is keeps. silent _ refl refl)
-  request-told sources done (requests.ReadPriorEqual args) h = does-each (read_change m job) (read_equal_plan prior_equal BeginOfFile m job args) done Told h (λ it is keeps. silent _ refl refl)
+  request-told sources done (requests.Read args) h = does-each (read_change m job) (read_plan next_from next_from EndOfFile m job args) done Told h (λ it is keeps. silent _ refl refl)
+  request-told sources done (requests.ReadPrior args) h = does-each (read_change m job) (read_plan prior_from prior_from BeginOfFile m job args) done Told h (λ it is keeps. silent _ refl refl)
+  request-told sources done (requests.ReadEqual args) h = does-each (read_change m job) (read_equal_plan next_equal next_equal EndOfFile m job args) done Told h (λ it is keeps. silent _ refl refl)
+  request-told sources done (requests.ReadPriorEqual args) h = does-each (read_change m job) (read_equal_plan prior_equal prior_equal BeginOfFile m job args) done Told h (λ it is keeps. silent _ refl refl)
   request-told sources done (requests.Chain args) h = does-each (read_change m job) (chain_plan m job args) done Told h (λ it is keeps. silent _ refl refl)
   request-told sources done (requests.Write args) h =
       does-each (write_change m job timestamp (write_call args.record_number)) (write_plan m job args) done Told h

@@ -9,12 +9,15 @@ ghost use Rattle.library_parts.specs.Lawful.{IsLibrary};
 ghost use Rattle.joint_state.specs.Limits.{AreFormats, AreWithin};
 ghost use Rattle.joint_state.specs.Told.{AreTold};
 ghost use Rattle.joint_state.specs.Sound.{IsKept, IsSound};
+ghost use Rattle.joint_state.specs.Views.{AreMapped, HaveDefaults};
 
 /// It has the members that its files and opens name, with values in their records, and what open commit cycles changed can be taken back.
 pub fn library_is_kept()
     ensures library { IsKept IsLibrary }
     ensures apart { IsKept (λ s. AreApart s.files) }
     ensures formats { IsKept (λ s. AreFormats s.files) }
+    ensures views { IsKept (λ s. AreMapped s.files) }
+    ensures defaults { IsKept (λ s. HaveDefaults s.files) }
     ensures within { IsKept (λ s. AreWithin s.members) }
 {}
 

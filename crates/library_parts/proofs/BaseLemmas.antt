@@ -11,6 +11,7 @@ use Rattle.file_model.specs.Positions.{Position}
 use Rattle.lock_table.specs.declared.levels.Call.{Call}
 use Rattle.logical_model.specs.Bases.{FileSpec, PhysicalFile, LogicalFile, base_names}
 use Rattle.file_catalogue.specs.Owners.{has_number}
+use Rattle.file_catalogue.specs.Physical.{IsPhysical}
 use Rattle.file_catalogue.proofs.ChangeLemmas.{changed-from, named-each_changed, named-file_changed}
 use Rattle.file_catalogue.proofs.NameLemmas.{named-append, same_name-equal, same_name-self, some-equal}
 use Rattle.file_catalogue.proofs.StatusLemmas.{changed_in, has_number-changed_in, has_number-push}
@@ -49,10 +50,6 @@ pub named-only : {A : Type 0} (name : List ℕ) (thing : A) → named name ((nam
 named-only name thing = rw (same_name-self name) refl
 
 -- ---- physical files
-
-abbrev pub IsPhysical : FileSpec → Type 0
-IsPhysical (PhysicalFile spec) = Unit {0}
-IsPhysical (LogicalFile spec) = ⊥
 
 -- a physical file that is there is found among them
 pub physical-here : (name : List ℕ) (files : Named FileState) (file : FileState) → named name files ≡ Some file → IsPhysical file.spec → physical_among name files ≡ Some file

@@ -12,18 +12,20 @@ use Rattle.logical_model.specs.Bases.{FileSpec, PhysicalFile, LogicalFile, base_
 use Rattle.member_slots.specs.Member.{MemberState, empty_member}
 use Rattle.member_slots.specs.Members.{Numbered, NumberedMembers, AreMembers, member_at, member_of, without_member}
 use Rattle.file_catalogue.specs.Owners.{Owns, AreApart, has_number}
+use Rattle.file_catalogue.specs.Physical.{IsPhysical, AllArePhysical}
+use Rattle.file_catalogue.proofs.PhysicalLemmas.{physical-named}
 use Rattle.file_catalogue.proofs.NameLemmas.{same_name-equal, same_name-self, some-equal, named-without, named-without_other}
 use Rattle.file_catalogue.proofs.StatusLemmas.{has_number-cons}
 use Rattle.library_model.specs.Named.{Named, named, same_name}
-use Rattle.library_steps.specs.State.{State, FileState, MemberStatus, OpenState, JobState, memory_of, fields_of, if_physical, physical_among}
+use Rattle.library_steps.specs.State.{State, Memory, FileState, MemberStatus, OpenState, JobState, memory_of, fields_of, if_physical, physical_among}
 use Rattle.library_steps.specs.DeleteFile.{depends_by, file_refers, first_dependent, user_by, without_file, without_members}
 use Rattle.library_steps.specs.LogicalFiles.{base_in, bases_in}
 use Rattle.library_steps.specs.Ranges.{library_bytes}
-use Rattle.library_steps.specs.Uses.{first_job, changes_in, has_open_of, has_open_over, has_changed, has_boundary_lock, uses}
+use Rattle.library_steps.specs.Uses.{first_job, changes_in, has_open_of, has_open_over, has_changed, has_boundary_lock, uses, user_of_any}
 use Rattle.library_parts.specs.Lawful.{AreBased, IsBased, IsThere, OpenHolds, OpensBy, OpensFile, OpensHold, GoesBack, AllGoBack, StandsOver, AreOne}
 use Rattle.library_parts.specs.Slots.{weight}
 use Rattle.library_parts.proofs.MemberLemmas.{item_at-without_item_other, library_bytes-cons}
-use Rattle.library_parts.proofs.BaseLemmas.{IsOverBases-stays, IsPhysical, StandsOver-stays, Stays}
+use Rattle.library_parts.proofs.BaseLemmas.{IsOverBases-stays, StandsOver-stays, Stays}
 use Rattle.library_parts.proofs.BackLemmas.{FitsPlace-same, AllGoBack-each, AllGoBack-kept, neither, unused-unchanged}
 
 -- ---- a member less
@@ -224,11 +226,19 @@ free-independent gone (first ∷ files) none name file found =
     ] refl none
 
 -- there are no logical files at all
-pub free-physical : (gone : List ℕ) (files : Named FileState) → ((name : List ℕ) (file : FileState) → named name files ≡ Some file → IsPhysical file.spec) → AreFree gone files
-free-physical gone files physical name file found = by file.spec (physical name file found)
+pub free-physical : (gone : List ℕ) (files : Named FileState) → AllArePhysical files → AreFree gone files
+free-physical gone files all name file found = by file.spec (physical-named name file files all found)
   where
     by : (spec : FileSpec) → IsPhysical spec → IsFree gone spec
     by (PhysicalFile spec) is = tt
+    by (LogicalFile spec) is = absurd is
+
+-- a physical file's users are those of its members
+pub user-physical : (name : List ℕ) (file : FileState) (m : Memory) → IsPhysical file.spec → user_by file.spec name file m ≡ user_of_any file.members m
+user-physical name file m is = by file.spec is
+  where
+    by : (spec : FileSpec) → IsPhysical spec → user_by spec name file m ≡ user_of_any file.members m
+    by (PhysicalFile spec) is = refl
     by (LogicalFile spec) is = absurd is
 
 physical-without : (gone : List ℕ) (files : Named FileState) (name : List ℕ) → same_name gone name ≡ false → physical_among name (without_file gone files) ≡ physical_among name files

@@ -1,5 +1,5 @@
 -- A library stays lawful with one file more.
-use Rattle.std.proofs.Common.{◌≡◌, ◌≢◌, ◌⊎◌, inl, inr, ℕ, ◌+◌, ◌*◌, ◌<◌, nat_lt, nat_eq, true, List, [], ◌∷◌, ◌++◌, Some, None, is_some, subst, refl, sym, ◌∙◌, ap, arith}
+use Rattle.std.proofs.Common.{◌≡◌, ◌≢◌, ◌⊎◌, inl, inr, ℕ, ◌+◌, ◌*◌, ◌<◌, nat_lt, nat_eq, true, List, [], ◌∷◌, ◌++◌, Some, None, is_some, IsSome, subst, refl, sym, ◌∙◌, ap, arith}
 use Rattle.std.specs.List.{AllByRecursion, IsDistinct}
 use Rattle.std.specs.Map.{keys_of}
 use Rattle.std.proofs.lemmas.Bool.Decides.{nat_tests}
@@ -7,8 +7,9 @@ use Rattle.member_slots.specs.Member.{MemberState, empty_member}
 use Rattle.member_slots.specs.Members.{NumberedMembers, member_at, put_member}
 use Rattle.record_fmt.specs.Layout.{record_length}
 use Rattle.dds_physical.specs.declared.physical_files.PhysicalSpec.{PhysicalSpec}
-use Rattle.logical_model.specs.Bases.{PhysicalFile}
+use Rattle.logical_model.specs.Bases.{FileSpec, PhysicalFile, LogicalFile}
 use Rattle.file_catalogue.specs.Owners.{Owns, has_number}
+use Rattle.file_catalogue.specs.Physical.{IsPhysical}
 use Rattle.file_catalogue.proofs.NameLemmas.{named-append}
 use Rattle.file_catalogue.proofs.OwnerLemmas.{unowned-status}
 use Rattle.library_model.specs.Named.{Named, named, same_name}
@@ -125,11 +126,18 @@ module _ (s : State) (bytes : ℕ) (name member : List ℕ) (file : FileState) (
   }
 
 -- a physical file is based on its first member
+pub based-physical : (files : Named FileState) (name : List ℕ) (file : FileState) (status : MemberStatus) → IsPhysical file.spec → file.members ≡ (name, status) ∷ []
+    → IsBased files name file.members file.spec
+based-physical files name file status physical first =
+    by file.spec physical (some-is (ap (λ (members : Named MemberStatus). named name members) first ∙ named-only name status))
+  where
+    by : (spec : FileSpec) → IsPhysical spec → IsSome (named name file.members) → IsBased files name file.members spec
+    by (PhysicalFile spec) is has = has
+    by (LogicalFile spec) is has = absurd is
+
 pub based-first : (s : State) (name : List ℕ) (file : FileState) (spec : PhysicalSpec) (status : MemberStatus) → file.spec ≡ PhysicalFile spec → file.members ≡ (name, status) ∷ []
     → IsBased s.files name file.members file.spec
-based-first s name file spec status is first =
-    let found : named name file.members ≡ Some status = ap (λ (members : Named MemberStatus). named name members) first ∙ named-only name status in
-    subst (IsBased s.files name file.members) (sym is) (some-is found)
+based-first s name file spec status is first = based-physical s.files name file status (subst IsPhysical (sym is) tt) first
 
 -- ---- a file more that has no members, as a logical file
 

@@ -4,15 +4,22 @@ use Rattle.std.specs.List.{AllByRecursion}
 use Rattle.std.proofs.lemmas.Bool.Decides.{nat_tests}
 use Rattle.logical_model.specs.Bases.{Base, FileSpec, PhysicalFile, LogicalFile, base_names}
 use Rattle.file_catalogue.specs.Owners.{Owns, has_number}
+use Rattle.file_catalogue.specs.Physical.{IsPhysical, AllArePhysical}
+use Rattle.file_catalogue.proofs.PhysicalLemmas.{physical-named}
 use Rattle.file_catalogue.proofs.StatusLemmas.{has_number-cons}
+use Rattle.file_model.specs.Paths.{PathEntry}
+use Rattle.lock_table.specs.declared.levels.Call.{Call}
+use Rattle.library_model.specs.declared.requests.OpenFile.{OpenFile}
 use Rattle.library_model.specs.declared.replies.Reply.{Reply}
 use Rattle.library_model.specs.Named.{Named, named, same_name}
 use Rattle.library_steps.specs.Refusals.{found}
 use Rattle.library_steps.specs.LogicalFiles.{bases_in}
+use Rattle.library_steps.specs.Opens.{new_open}
+use Rattle.library_steps.specs.Reads.{has_read, entry_found}
 use Rattle.library_steps.specs.State.{State, FileState, MemberStatus, OpenState, JobState, memory_of, open_named, job_at, or_new, physical_among}
-use Rattle.library_parts.specs.Finds.{HasMember}
+use Rattle.library_parts.specs.Finds.{HasMember, OpensMember}
 use Rattle.library_parts.specs.Lawful.{IsBased, OpenHolds, OpensBy, OpensFile, OpensHold, StandsOver, IsLibrary}
-use Rattle.library_parts.proofs.BaseLemmas.{IsPhysical, base-is, physical-found, physical-member, some-of}
+use Rattle.library_parts.proofs.BaseLemmas.{OpenHolds-has_read, base-is, physical-found, physical-member, some-is, some-of}
 use Rattle.library_parts.proofs.MemberLemmas.{AllByRecursion-get}
 
 -- what a look-up has found is there
@@ -143,3 +150,30 @@ opened-members s job name opened lawful found = members-of-open s opened lawful 
 pub opened-physical : (s : State) (job : ℕ) (name : List ℕ) (opened : OpenState) (file : FileState) → IsLibrary s → open_named name job (memory_of s) ≡ Some opened
     → named opened.file s.files ≡ Some file → IsPhysical file.spec → HasMember s opened.file file opened.member
 opened-physical s job name opened file lawful found here physical = physical-opened s opened file lawful (open-holds s job name opened lawful found) here physical
+
+-- ---- where all files are physical ones
+
+-- an open of a member that its file has
+pub opens-member : (files : Named FileState) (args : OpenFile) (member : ℕ) → AllArePhysical files → OpensMember member (named args.file files) → OpenHolds files (new_open args 0 (member ∷ []))
+opens-member files args member all opens = by (named args.file files) refl opens
+  where
+    kind : (its : Named MemberStatus) (spec : FileSpec) → IsPhysical spec → has_number member its ≡ true → OpensBy files (new_open args 0 (member ∷ [])) its spec
+    kind its (PhysicalFile spec) is has = record { only = refl; format = refl; has = has }
+    kind its (LogicalFile spec) is has = absurd is
+
+    by : (o : Option FileState) → named args.file files ≡ o → OpensMember member o → OpensFile files (new_open args 0 (member ∷ [])) o
+    by None is h = absurd h
+    by (Some file) is h = kind file.members file.spec (physical-named args.file file files all is) h
+
+-- a read of the first format
+pub OpenHolds-first_read : (files : Named FileState) (call : Call) (entry : PathEntry) (opened : OpenState) → AllArePhysical files → entry.format ≡ 0 → OpenHolds files opened
+    → OpenHolds files (has_read call (entry_found entry) opened)
+OpenHolds-first_read files call entry opened all first holds = OpenHolds-has_read files call (entry_found entry) opened (by (named opened.file files) refl holds) holds
+  where
+    kind : (its : Named MemberStatus) (spec : FileSpec) → IsPhysical spec → OpensBy files opened its spec → IsSome (slice_get opened.members entry.format)
+    kind its (PhysicalFile spec) is own = some-is (λ i. slice_get (own.only i) (first i))
+    kind its (LogicalFile spec) is own = absurd is
+
+    by : (o : Option FileState) → named opened.file files ≡ o → OpensFile files opened o → IsSome (slice_get opened.members entry.format)
+    by None is h = absurd h
+    by (Some file) is h = kind file.members file.spec (physical-named opened.file file files all is) h

@@ -1,5 +1,6 @@
 -- Each request that is done is of one of these kinds.
 use Rattle.std.proofs.Common.{◌≡◌, ℕ, ◌+◌, ◌-◌, List, [], ◌∷◌, None, false, refl, ap}
+use Rattle.std.specs.List.{AllByRecursion}
 use Rattle.std.proofs.lemmas.Result.{IfOk-at_ok}
 use Rattle.entry_codec.specs.declared.entries.Entry.{Entry}
 use Rattle.journal_model.specs.Replay.{before_of}
@@ -16,8 +17,9 @@ use Rattle.library_steps.specs.Refusals.{found, refuse_if, refuse_with}
 use Rattle.library_steps.specs.SlotChange.{with_slot}
 use Rattle.library_steps.specs.Commitment.{start_plan, start_commitment, end_plan, end_commitment, commit, rollback, has_committed_open, taken_back, changes_of, rolled_back_open, without_cycle}
 use Rattle.library_steps.specs.EndJob.{ended_job, end_job}
+use Rattle.library_parts.specs.Lawful.{AreBased, OpensHold}
 use Rattle.joint_state.specs.Sound.{Does}
-use Rattle.locks_kept.proofs.AroundEffects.{Leaves, AreBelow, start_journaling-effect, end_journaling-effect, change_journal-effect, delete_receiver-effect, save-effect, display_journal-effect, clear_member-effect, reorganize_member-effect, apply_changes-effect, remove_changes-effect, delete_file-effect, create_physical_file-effect, add_member-effect}
+use Rattle.locks_kept.proofs.AroundEffects.{Leaves, AreBelow, create_logical_file-effect, start_journaling-effect, end_journaling-effect, change_journal-effect, delete_receiver-effect, save-effect, display_journal-effect, clear_member-effect, reorganize_member-effect, apply_changes-effect, remove_changes-effect, delete_file-effect, create_physical_file-effect, add_member-effect}
 use Rattle.locks_kept.proofs.ChangeEffects.{write_record-effect, update_record-effect, delete_record-effect}
 use Rattle.locks_kept.proofs.Effects.{Effect, Start, End, Committing, RollingBack, EndingJob}
 use Rattle.locks_kept.proofs.OpenEffects.{open_file-effect, close_file-effect, set_lower_limit-effect, set_greater_than-effect, unlock-effect, read-does, read_prior-does, read_equal-does, read_prior_equal-does, chain-does}
@@ -75,41 +77,50 @@ end_job-effect m job timestamp = record {
 
 -- ---- all requests
 
-change-effect : (sources : List NamedSource) (entries : List Entry) (m : Memory) (job timestamp : ℕ) (r : Request) → AreBelow m → Holds (change sources entries m job timestamp r) (Leaves m job)
+-- what the effects need of a library
+pub record IsLawful (m : Memory) : Type 0 where
+  pub below : AreBelow m
+  pub based : AreBased m.files
+  pub opens : AllByRecursion (OpensHold m.files) m.jobs
+
+change-effect : (sources : List NamedSource) (entries : List Entry) (m : Memory) (job timestamp : ℕ) (r : Request) → IsLawful m → Holds (change sources entries m job timestamp r) (Leaves m job)
 unfolding change
-change-effect sources entries m job timestamp (request.CreatePhysicalFile args) below = create_physical_file-effect sources m job timestamp args below
-change-effect sources entries m job timestamp (request.CreateLogicalFile args) below = record { holds = tt }
-change-effect sources entries m job timestamp (request.DeleteFile args) below = delete_file-effect m job timestamp args
-change-effect sources entries m job timestamp (request.AddMember args) below = add_member-effect m job timestamp args below
-change-effect sources entries m job timestamp (request.ClearMember args) below = clear_member-effect m job timestamp args
-change-effect sources entries m job timestamp (request.ReorganizeMember args) below = reorganize_member-effect m job timestamp args
-change-effect sources entries m job timestamp (request.StartJournaling args) below = start_journaling-effect m job timestamp args
-change-effect sources entries m job timestamp (request.EndJournaling args) below = end_journaling-effect m job timestamp args
-change-effect sources entries m job timestamp request.ChangeJournal below = change_journal-effect m job timestamp
-change-effect sources entries m job timestamp (request.DeleteReceiver args) below = delete_receiver-effect entries m job args
-change-effect sources entries m job timestamp request.Checkpoint below = save-effect m job
-change-effect sources entries m job timestamp (request.DisplayJournal args) below = display_journal-effect entries m job args
-change-effect sources entries m job timestamp (request.ApplyChanges args) below = apply_changes-effect entries m job timestamp args
-change-effect sources entries m job timestamp (request.RemoveChanges args) below = remove_changes-effect entries m job timestamp args
-change-effect sources entries m job timestamp (request.StartCommitment args) below = start_commitment-effect m job timestamp args
-change-effect sources entries m job timestamp request.EndCommitment below = end_commitment-effect m job timestamp
-change-effect sources entries m job timestamp request.Commit below = commit-effect m job timestamp
-change-effect sources entries m job timestamp request.Rollback below = rollback-effect m job timestamp
-change-effect sources entries m job timestamp (request.OpenFile args) below = open_file-effect m job args
-change-effect sources entries m job timestamp (request.CloseFile args) below = close_file-effect m job args
-change-effect sources entries m job timestamp (request.SetLowerLimit args) below = set_lower_limit-effect m job args
-change-effect sources entries m job timestamp (request.SetGreaterThan args) below = set_greater_than-effect m job args
-change-effect sources entries m job timestamp (request.Read args) below = read-does m job args
-change-effect sources entries m job timestamp (request.ReadPrior args) below = read_prior-does m job args
-change-effect sources entries m job timestamp (request.ReadEqual args) below = read_equal-does m job args
-change-effect sources entries m job timestamp (request.ReadPriorEqual args) below = read_prior_equal-does m job args
-change-effect sources entries m job timestamp (request.Chain args) below = chain-does m job args
-change-effect sources entries m job timestamp (request.Write args) below = write_record-effect m job timestamp args
-change-effect sources entries m job timestamp (request.Update args) below = update_record-effect m job timestamp args
-change-effect sources entries m job timestamp (request.Delete args) below = delete_record-effect m job timestamp args
-change-effect sources entries m job timestamp (request.Unlock args) below = unlock-effect m job args
-change-effect sources entries m job timestamp (request.EndJob args) below = end_job-effect m job timestamp
+change-effect sources entries m job timestamp (request.CreatePhysicalFile args) lawful = create_physical_file-effect sources m job timestamp args lawful.below
+change-effect sources entries m job timestamp (request.CreateLogicalFile args) lawful = create_logical_file-effect sources m job timestamp args
+change-effect sources entries m job timestamp (request.DeleteFile args) lawful = delete_file-effect m job timestamp args lawful.based
+change-effect sources entries m job timestamp (request.AddMember args) lawful = add_member-effect m job timestamp args lawful.below
+change-effect sources entries m job timestamp (request.ClearMember args) lawful = clear_member-effect m job timestamp args
+change-effect sources entries m job timestamp (request.ReorganizeMember args) lawful = reorganize_member-effect m job timestamp args
+change-effect sources entries m job timestamp (request.StartJournaling args) lawful = start_journaling-effect m job timestamp args
+change-effect sources entries m job timestamp (request.EndJournaling args) lawful = end_journaling-effect m job timestamp args
+change-effect sources entries m job timestamp request.ChangeJournal lawful = change_journal-effect m job timestamp
+change-effect sources entries m job timestamp (request.DeleteReceiver args) lawful = delete_receiver-effect entries m job args
+change-effect sources entries m job timestamp request.Checkpoint lawful = save-effect m job
+change-effect sources entries m job timestamp (request.DisplayJournal args) lawful = display_journal-effect entries m job args
+change-effect sources entries m job timestamp (request.ApplyChanges args) lawful = apply_changes-effect entries m job timestamp args
+change-effect sources entries m job timestamp (request.RemoveChanges args) lawful = remove_changes-effect entries m job timestamp args
+change-effect sources entries m job timestamp (request.StartCommitment args) lawful = start_commitment-effect m job timestamp args
+change-effect sources entries m job timestamp request.EndCommitment lawful = end_commitment-effect m job timestamp
+change-effect sources entries m job timestamp request.Commit lawful = commit-effect m job timestamp
+change-effect sources entries m job timestamp request.Rollback lawful = rollback-effect m job timestamp
+change-effect sources entries m job timestamp (request.OpenFile args) lawful = open_file-effect m job args
+change-effect sources entries m job timestamp (request.CloseFile args) lawful = close_file-effect m job args
+change-effect sources entries m job timestamp (request.SetLowerLimit args) lawful = set_lower_limit-effect m job args
+change-effect sources entries m job timestamp (request.SetGreaterThan args) lawful = set_greater_than-effect m job args
+change-effect sources entries m job timestamp (request.Read args) lawful = read-does m job args lawful.opens
+change-effect sources entries m job timestamp (request.ReadPrior args) lawful = read_prior-does m job args lawful.opens
+change-effect sources entries m job timestamp (request.ReadEqual args) lawful = read_equal-does m job args lawful.opens
+change-effect sources entries m job timestamp (request.ReadPriorEqual args) lawful = read_prior_equal-does m job args lawful.opens
+change-effect sources entries m job timestamp (request.Chain args) lawful = chain-does m job args lawful.opens
+change-effect sources entries m job timestamp (request.Write args) lawful = write_record-effect m job timestamp args
+change-effect sources entries m job timestamp (request.Update args) lawful = update_record-effect m job timestamp args
+change-effect sources entries m job timestamp (request.Delete args) lawful = delete_record-effect m job timestamp args
+change-effect sources entries m job timestamp (request.Unlock args) lawful = unlock-effect m job args
+change-effect sources entries m job timestamp (request.EndJob args) lawful = end_job-effect m job timestamp
 
 pub effect-of : (s : State) (done : Change) (does : Does s done) → Effect (memory_of s) does.job done.memory
 effect-of s done does =
-    IfOk-at_ok (Leaves (memory_of s) does.job) does.does (change-effect does.sources s.entries (memory_of s) does.job does.timestamp does.request does.sound.library.numbers).holds
+    IfOk-at_ok (Leaves (memory_of s) does.job) does.does (change-effect does.sources s.entries (memory_of s) does.job does.timestamp does.request lawful).holds
+  where
+    lawful : IsLawful (memory_of s)
+    lawful = record { below = does.sound.library.numbers; based = does.sound.library.bases; opens = does.sound.library.opens }

@@ -11,8 +11,10 @@ use Rattle.member_slots.specs.Member.{MemberState, empty_member, cleared, reorga
 use Rattle.member_slots.specs.Members.{NumberedMembers, item_at, member_of, with_member, put_member, without_member}
 use Rattle.journal_model.specs.Ranges.{apply_range, remove_range}
 use Rattle.library_model.specs.Named.{Named}
+use Rattle.logical_model.specs.Bases.{FileSpec, PhysicalFile, LogicalFile}
 use Rattle.library_model.specs.declared.replies.Reply.TheVariants as replies
 use Rattle.library_model.specs.declared.replies.LimitKind.TheVariants.{LibraryBytes, BlockBytes}
+use Rattle.library_model.specs.declared.requests.CreateLogicalFile.{CreateLogicalFile}
 use Rattle.library_model.specs.declared.requests.CreatePhysicalFile.{CreatePhysicalFile}
 use Rattle.library_model.specs.declared.requests.DeleteFile.{DeleteFile}
 use Rattle.library_model.specs.declared.requests.DeleteReceiver.{DeleteReceiver}
@@ -23,13 +25,14 @@ use Rattle.library_model.specs.declared.requests.RangeEnd.{RangeEnd}
 use Rattle.library_model.specs.declared.requests.StartJournaling.{StartJournaling}
 use Rattle.library_model.specs.declared.sources.NamedSource.{NamedSource}
 use Rattle.library_steps.specs.declared.limits.TheConstants.{MOST_LIBRARY_BYTES, MOST_BLOCK_BYTES}
-use Rattle.library_steps.specs.State.{Memory, MemberStatus, JobState, file_named}
+use Rattle.library_steps.specs.State.{Memory, MemberStatus, FileState, JobState, file_named}
 use Rattle.library_steps.specs.Change.{Change, deposited}
 use Rattle.library_steps.specs.Drafts.{author_of}
 use Rattle.library_steps.specs.Refusals.{refuse_if, refuse_with, named_or_refused, sequences_left, member_of_file}
 use Rattle.library_steps.specs.Uses.{first_job, uses, user_of, user_of_any, unused}
 use Rattle.library_steps.specs.CreatePhysicalFile.{create_plan, create_change, create_physical_file}
-use Rattle.library_steps.specs.DeleteFile.{delete_plan, delete_change, delete_file, first_dependent, without_members}
+use Rattle.library_steps.specs.CreateLogicalFile.{create_logical_plan, create_logical_change, create_logical_file}
+use Rattle.library_steps.specs.DeleteFile.{delete_plan, delete_change, delete_file, first_dependent, user_by, without_members}
 use Rattle.library_steps.specs.MemberCommands.{add_plan, add_member, empty_plan, renumbering, clear_member, reorganize_member}
 use Rattle.library_steps.specs.Journaling.{start_journaling, end_journaling}
 use Rattle.library_steps.specs.JournalReads.{are_there, are_kept, display_journal}
@@ -38,9 +41,10 @@ use Rattle.library_steps.specs.Checkpoint.{save}
 use Rattle.library_steps.specs.UniqueKeys.{unique_paths, all_apart}
 use Rattle.library_steps.specs.EntrySizes.{entry_bytes}
 use Rattle.library_steps.specs.Ranges.{RangeWork, end_named, range_named, done_or_refused, slots_now, work_of, given_forward, given_back, allowed, library_bytes, with_range, range_change, apply_plan, remove_plan, apply_changes, remove_changes}
+use Rattle.library_parts.specs.Lawful.{AreBased, IsBased}
 use Rattle.library_parts.proofs.MemberLemmas.{item_at-put_item_other, item_at-put_item_same, item_at-with_item_other, item_at-without_item_other}
 use Rattle.locks_kept.proofs.Effects.{IsAround, Effect, Around, slots_of}
-use Rattle.locks_kept.proofs.RefusalLemmas.{Holds, each-holds, refuse_with-holds, then-holds, bind-holds, does-holds, wider-holds}
+use Rattle.locks_kept.proofs.RefusalLemmas.{Holds, each-holds, found-holds, refuse_with-holds, then-holds, bind-holds, does-holds, wider-holds}
 use Rattle.locks_kept.proofs.TestLemmas.{or_true}
 
 abbrev pub Leaves : Memory → ℕ → Change → Type 0
@@ -189,19 +193,42 @@ others-slots m (entry ∷ entries) members number free =
       ])
     ]
 
-delete_plan-free : (m : Memory) (args : DeleteFile) → Holds (delete_plan m args) (λ file. user_of_any file.members m ≡ None)
+-- the file that goes is there, and nobody uses it
+pub record MayGo (m : Memory) (name : List ℕ) (file : FileState) : Type 0 where
+  pub named : file_named name m ≡ Some file
+  pub free : user_by file.spec name file m ≡ None
+
+delete_plan-free : (m : Memory) (args : DeleteFile) → Holds (delete_plan m args) (MayGo m args.file)
 unfolding delete_plan
 delete_plan-free m args =
     then-holds (sequences_left m) _ _ (λ few.
-    then-holds (named_or_refused args.file (file_named args.file m)) _ _ (λ file.
+    bind-holds (named_or_refused args.file (file_named args.file m)) (λ file. file_named args.file m ≡ Some file) _ _ (found-holds _ _) (λ file is.
     then-holds (refuse_with replies.Dependents (first_dependent args.file m.files)) _ _ (λ alone.
-    bind-holds (unused (user_of_any file.members m)) _ _ _ (refuse_with-holds replies.InUse (user_of_any file.members m)) (λ passed free. record { holds = free }))))
+    bind-holds (unused (user_by file.spec args.file file m)) _ _ (MayGo m args.file) (refuse_with-holds replies.InUse (user_by file.spec args.file file m))
+    (λ passed free. record { holds = record { named = is; free = free } }))))
 
-pub delete_file-effect : (m : Memory) (job timestamp : ℕ) (args : DeleteFile) → Holds (delete_file m job timestamp args) (Leaves m job)
-delete_file-effect m job timestamp args =
+-- a logical file has no members
+gone-free : (m : Memory) (name : List ℕ) (file : FileState) (spec : FileSpec) → IsBased m.files name file.members spec → user_by spec name file m ≡ None
+    → AllByRecursion (λ e. user_of e.1.number m ≡ None) file.members
+gone-free m name file (PhysicalFile spec) based free = members-free m file.members free
+gone-free m name file (LogicalFile spec) based free = subst (AllByRecursion (λ e. user_of e.1.number m ≡ None)) (sym based.none) tt
+
+pub delete_file-effect : (m : Memory) (job timestamp : ℕ) (args : DeleteFile) → AreBased m.files → Holds (delete_file m job timestamp args) (Leaves m job)
+delete_file-effect m job timestamp args based =
     does-holds (delete_change m job timestamp args) (delete_plan m args) (Leaves m job)
-    (wider-holds (delete_plan m args) _ _ (λ file free.
-    Around (record { jobs = refl; locks = refl; slots = λ number. others-slots m file.members m.members number (members-free m file.members free) })) (delete_plan-free m args))
+    (wider-holds (delete_plan m args) (MayGo m args.file) _ (λ file may.
+    Around (record {
+      jobs = refl;
+      locks = refl;
+      slots = λ number. others-slots m file.members m.members number (gone-free m args.file file file.spec (based args.file file may.named) may.free);
+    })) (delete_plan-free m args))
+
+-- ---- a logical file more, without members
+
+pub create_logical_file-effect : (sources : List NamedSource) (m : Memory) (job timestamp : ℕ) (args : CreateLogicalFile) → Holds (create_logical_file sources m job timestamp args) (Leaves m job)
+create_logical_file-effect sources m job timestamp args =
+    does-holds (create_logical_change m job timestamp args) (create_logical_plan sources m args) (Leaves m job)
+    (each-holds (create_logical_plan sources m args) _ (λ plan. Around (stays m _ refl refl refl)))
 
 -- ---- a member more, with the next number
 

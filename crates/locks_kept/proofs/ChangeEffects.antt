@@ -1,24 +1,26 @@
 -- The requests that change a record through an open: WRITE, UPDATE and DELETE.
-use Rattle.std.proofs.Common.{◌≡◌, ◌⊎◌, inl, inr, ℕ, ◌-◌, ◌≤◌, ◌==◌, ◌||◌, nat_lt, Bool, true, false, List, [], ◌∷◌, map, Option, Some, None, is_some, refl, sym, ◌∙◌, ap, arith}
+use Rattle.std.proofs.Common.{◌≡◌, ◌⊎◌, inl, inr, ℕ, ◌-◌, ◌≤◌, ◌==◌, ◌||◌, nat_lt, Bool, true, false, List, [], ◌∷◌, map, Option, Some, None, is_some, refl, sym, ◌∙◌, ap, subst, arith}
 use Rattle.std.proofs.lemmas.Bool.Decides.{nat_tests}
 use Rattle.member_slots.specs.declared.slot.Slot.{Slot}
 use Rattle.member_slots.specs.declared.slot.Slot.TheVariants.{Live, Deleted}
 use Rattle.lock_table.specs.declared.levels.Call.{Call}
 use Rattle.lock_table.specs.declared.levels.Call.TheVariants.{Write, WriteAt}
 use Rattle.journal_model.specs.Rollback.{MemberChange}
-use Rattle.record_fmt.specs.Records.{record_given}
+use Rattle.logical_model.specs.Formats.{given_in}
 use Rattle.library_model.specs.Named.{Named}
 use Rattle.library_model.specs.declared.replies.Reply.TheVariants as replies
 use Rattle.library_model.specs.declared.requests.OpenName.{OpenName}
 use Rattle.library_model.specs.declared.requests.UpdateRecord.{UpdateRecord}
 use Rattle.library_model.specs.declared.requests.WriteRecord.{WriteRecord}
-use Rattle.library_steps.specs.State.{Memory, OpenState, CycleState, job_of, job_changed, open_named, with_opens, with_status, fields_of}
+use Rattle.library_steps.specs.State.{Memory, OpenState, CycleState, job_of, job_changed, open_named, with_opens, with_status}
+use Rattle.library_steps.specs.LogicalFiles.{bases_of}
 use Rattle.library_steps.specs.Refusals.{found, refuse_if, sequences_left}
 use Rattle.library_steps.specs.Locking.{clashing, few_locks}
 use Rattle.library_steps.specs.Records.{live_record, slot_there}
+use Rattle.library_steps.specs.Reads.{at_format}
 use Rattle.library_steps.specs.UniqueKeys.{keys_free}
 use Rattle.library_steps.specs.SlotChange.{NewSlot, not_held, few_changes, is_behind_last, change_made, cycle_for, noted, touched, with_slot, with_undo, slot_changed}
-use Rattle.library_steps.specs.WriteRecord.{format_or_refused, is_input, packed, next_place, place_asked, has_room, write_call, write_plan, write_change, write_record}
+use Rattle.library_steps.specs.WriteRecord.{format_asked, is_input, packed, next_place, place_asked, has_room, write_call, place_plan, write_plan, write_change, write_record}
 use Rattle.library_steps.specs.ChangeRecord.{update_plan, update_change, update_record, without_record, delete_plan, delete_change, delete_record}
 use Rattle.locks_kept.proofs.AroundEffects.{Leaves}
 use Rattle.locks_kept.proofs.Effects.{IsPlaceNamed, changing, unread, Writing, Updating, Deleting}
@@ -68,38 +70,56 @@ place_asked-is job opened (Some rrn) m =
     (let bounds = place-within rrn (next_place opened.member m) within in
     record { holds = inr (refl, record { first = bounds.0; last = bounds.1; empty = empty; free = free }) })))))
 
-pub record IsWritePlan (m : Memory) (job : ℕ) (args : WriteRecord) (new : NewSlot) : Type 0 where
-  pub named : open_named args.open_id job m ≡ Some new.opened
+-- an image is to stand at such a place
+pub record IsPlaced (m : Memory) (job : ℕ) (opened : OpenState) (asked : Option ℕ) (new : NewSlot) : Type 0 where
+  pub through : new.opened ≡ opened
   pub image : List ℕ
   pub slot : new.slot ≡ Live image
-  pub place : IsPlace m job new.opened (write_call args.record_number) new.rrn
+  pub place : IsPlace m job opened (write_call asked) new.rrn
+
+place_plan-is : (m : Memory) (job : ℕ) (opened : OpenState) (asked : Option ℕ) (image : List ℕ) → Holds (place_plan m job opened asked image) (IsPlaced m job opened asked)
+unfolding place_plan
+place_plan-is m job opened asked image =
+    bind-holds (place_asked job opened asked m) (IsPlace m job opened (write_call asked)) _ (IsPlaced m job opened asked) (place_asked-is job opened asked m) (λ rrn place.
+    then-holds (has_room (is_behind_last opened.member rrn m) opened.member m) _ (IsPlaced m job opened asked) (λ room.
+    then-holds (keys_free job opened.commit opened.member rrn Deleted image m) _ (IsPlaced m job opened asked) (λ keys.
+    then-holds (few_locks (write_call asked) job opened rrn m) _ (IsPlaced m job opened asked) (λ locks.
+    then-holds (few_changes opened.commit Deleted (Live image) m) _ (IsPlaced m job opened asked) (λ changes.
+    record { holds = record { through = refl; image = image; slot = refl; place = place } })))))
+
+pub record IsWritePlan (m : Memory) (job : ℕ) (args : WriteRecord) (new : NewSlot) : Type 0 where
+  pub old : OpenState
+  pub format : ℕ
+  pub named : open_named args.open_id job m ≡ Some old
+  pub placed : IsPlaced m job (at_format format old) args.record_number new
 
 write_plan-is : (m : Memory) (job : ℕ) (args : WriteRecord) → Holds (write_plan m job args) (IsWritePlan m job args)
 unfolding write_plan
 write_plan-is m job args =
-    then-holds (sequences_left m) _ _ (λ few.
-    opened-then args.open_id job m _ _ (λ its is.
-    then-holds (format_or_refused args.format its.file.spec.format.name) _ _ (λ format.
-    then-holds (refuse_if (is_input its.opened.option) replies.WrongOpen) _ _ (λ all.
-    then-holds (packed (record_given (fields_of its.file) args.values None)) _ _ (λ image.
-    bind-holds (place_asked job its.opened args.record_number m) (IsPlace m job its.opened (write_call args.record_number)) _ _ (place_asked-is job its.opened args.record_number m) (λ rrn place.
-    then-holds (has_room (is_behind_last its.opened.member rrn m) its.opened.member m) _ _ (λ room.
-    then-holds (keys_free job its.opened.commit its.opened.member rrn Deleted image m) _ _ (λ keys.
-    then-holds (few_locks (write_call args.record_number) job its.opened rrn m) _ _ (λ locks.
-    then-holds (few_changes its.opened.commit Deleted (Live image) m) _ _ (λ changes.
-    record { holds = record { named = is; image = image; slot = refl; place = place } }))))))))))
+    then-holds (sequences_left m) _ (IsWritePlan m job args) (λ few.
+    opened-then args.open_id job m _ (IsWritePlan m job args) (λ its is.
+    then-holds (format_asked args.format its.file.spec) _ (IsWritePlan m job args) (λ format.
+    then-holds (refuse_if (is_input its.opened.option) replies.WrongOpen) _ (IsWritePlan m job args) (λ all.
+    then-holds (packed (given_in (bases_of m) its.file.spec format args.values None)) _ (IsWritePlan m job args) (λ image.
+    wider-holds (place_plan m job (at_format format its.opened) args.record_number image) (IsPlaced m job (at_format format its.opened) args.record_number) (IsWritePlan m job args)
+    (λ new placed. record { old = its.opened; format = format; named = is; placed = placed }) (place_plan-is m job (at_format format its.opened) args.record_number image))))))
 
 pub write_record-effect : (m : Memory) (job timestamp : ℕ) (args : WriteRecord) → Holds (write_record m job timestamp args) (Leaves m job)
 write_record-effect m job timestamp args =
     does-holds (write_change m job timestamp (write_call args.record_number)) (write_plan m job args) (Leaves m job)
-    (wider-holds (write_plan m job args) (IsWritePlan m job args) _ (λ new is. effect new.opened new.rrn new.slot is.image is.slot is.named is.place) (write_plan-is m job args))
+    (wider-holds (write_plan m job args) (IsWritePlan m job args) _ (λ new is.
+    subst (λ (o : OpenState). Leaves m job (write_change m job timestamp (write_call args.record_number) (record { opened = o; rrn = new.rrn; slot = new.slot }))) (sym is.placed.through)
+    (effect is.old is.format new.rrn new.slot is.placed.image is.placed.slot is.named is.placed.place)) (write_plan-is m job args))
   where
-    effect : (opened : OpenState) (rrn : ℕ) (slot : Slot) (image : List ℕ) → slot ≡ Live image → open_named args.open_id job m ≡ Some opened → IsPlace m job opened (write_call args.record_number) rrn
-        → Leaves m job (write_change m job timestamp (write_call args.record_number) (record { opened = opened; rrn = rrn; slot = slot }))
-    effect opened rrn slot image live is place =
+    effect : (old : OpenState) (format rrn : ℕ) (slot : Slot) (image : List ℕ) → slot ≡ Live image → open_named args.open_id job m ≡ Some old
+        → IsPlace m job (at_format format old) (write_call args.record_number) rrn
+        → Leaves m job (write_change m job timestamp (write_call args.record_number) (record { opened = at_format format old; rrn = rrn; slot = slot }))
+    effect old format rrn slot image live is place =
+        let opened : OpenState = at_format format old in
         let new : NewSlot = record { opened = opened; rrn = rrn; slot = slot } in
         Writing (record {
-          opened = opened;
+          opened = old;
+          format = format;
           call = write_call args.record_number;
           rrn = rrn;
           image = image;
@@ -107,9 +127,9 @@ write_record-effect m job timestamp args =
             name = args.open_id;
             cycle = noted (change_made m (job_of job m) new) (cycle_for m (job_of job m));
             named = is;
-            jobs = undo-jobs_alone opened.commit job (change_made m (job_of job m) new) (cycle_for m (job_of job m)) (with_status opened.member touched (with_slot opened.member rrn slot m));
+            jobs = undo-jobs_alone old.commit job (change_made m (job_of job m) new) (cycle_for m (job_of job m)) (with_status opened.member touched (with_slot opened.member rrn slot m));
             locks = refl;
-            members = undo-members opened.commit job (change_made m (job_of job m) new) (cycle_for m (job_of job m)) (with_status opened.member touched (with_slot opened.member rrn slot m))
+            members = undo-members old.commit job (change_made m (job_of job m) new) (cycle_for m (job_of job m)) (with_status opened.member touched (with_slot opened.member rrn slot m))
                 ∙ ap (λ s. (with_slot opened.member rrn s m).members) live;
           };
           place = place;
@@ -134,7 +154,7 @@ update_plan-is m job args =
     opened-then args.open_id job m _ _ (λ its is.
     then-holds (refuse_if (is_input its.opened.option) replies.WrongOpen) _ _ (λ all.
     bind-holds (found its.opened.current replies.NoCurrentRecord) (λ rrn. its.opened.current ≡ Some rrn) _ _ (found-holds its.opened.current replies.NoCurrentRecord) (λ rrn current.
-    then-holds (packed (record_given (fields_of its.file) args.values (live_record its.opened.member rrn m))) _ _ (λ image.
+    then-holds (packed (given_in (bases_of m) its.file.spec its.opened.format args.values (live_record its.opened.member rrn m))) _ _ (λ image.
     then-holds (not_held job its.opened rrn m) _ _ (λ held.
     then-holds (keys_free job its.opened.commit its.opened.member rrn (slot_there its.opened.member rrn m) image m) _ _ (λ keys.
     then-holds (few_changes its.opened.commit (slot_there its.opened.member rrn m) (Live image) m) _ _ (λ changes.

@@ -12,12 +12,13 @@ use Rattle.lock_table.proofs.LawLemmas.{AreCompatible-call}
 use Rattle.library_steps.specs.State.{State, Memory, OpenState, job_of, memory_of, open_named}
 use Rattle.library_steps.specs.Change.{Change}
 use Rattle.library_steps.specs.Locking.{level_of, holder_of, record_of, is_committed, locks_left, clashing}
+use Rattle.library_steps.specs.Reads.{at_format}
 use Rattle.library_steps.specs.Commitment.{boundary_locks}
 use Rattle.joint_state.specs.CurrentRecords.{CurrentStands}
 use Rattle.joint_state.specs.Joint.{JobStands}
 use Rattle.joint_state.specs.Sound.{IsSound, Does, after}
 use Rattle.locks_kept.proofs.AllEffects.{effect-of}
-use Rattle.locks_kept.proofs.Effects.{Effect, Around, Opening, Closing, Use, Writing, Updating, Deleting, Start, End, Committing, RollingBack, EndingJob}
+use Rattle.locks_kept.proofs.Effects.{at_member, Effect, Around, Opening, Closing, Use, Writing, Updating, Deleting, Start, End, Committing, RollingBack, EndingJob}
 use Rattle.locks_kept.proofs.JobLemmas.{Runs, running-Runs}
 use Rattle.locks_kept.proofs.OpenEffects.{clashes-none}
 use Rattle.locks_kept.proofs.OpenLemmas.{named-holds}
@@ -117,11 +118,12 @@ module _ (s : State) (new : Memory) (job : ℕ) (sound : IsSound s) (runs : Runs
   compatible-left (Around is) = subst AreCompatible (sym is.locks) sound.joint.compatible
   compatible-left (Opening is) = subst AreCompatible (sym is.locks) sound.joint.compatible
   compatible-left (Closing is) = subst AreCompatible (sym is.locks) (clear-compatible Close is.opened 0 (clashes-none Close job is.opened 0 m tt))
-  compatible-left (Use is) = subst AreCompatible (sym is.locks) (clear-compatible is.call is.opened is.rrn is.free)
+  compatible-left (Use is) = subst AreCompatible (sym is.locks) (clear-compatible is.call (at_member is.member is.opened) is.rrn is.free)
   compatible-left (Writing is) = subst AreCompatible (sym is.change.locks) (elim is.place [
-    | inl next ↦ left-compatible is.call is.opened is.rrn (some-each _ (asked is.call (level_of (job_of job m) is.opened))
-        (λ wanted. behind-free m job (record_of is.opened is.rrn) wanted.kind next.1 sound.joint.locks))
-    | inr named ↦ clear-compatible is.call is.opened is.rrn (subst (λ call. clashing call job is.opened is.rrn m ≡ None) (sym named.0) named.1.free)
+    | inl next ↦ left-compatible is.call (at_format is.format is.opened) is.rrn (some-each _ (asked is.call (level_of (job_of job m) is.opened))
+        (λ wanted. behind-free m job (record_of (at_format is.format is.opened) is.rrn) wanted.kind next.1 sound.joint.locks))
+    | inr named ↦ clear-compatible is.call (at_format is.format is.opened) is.rrn
+        (subst (λ call. clashing call job (at_format is.format is.opened) is.rrn m ≡ None) (sym named.0) named.1.free)
   ])
   compatible-left (Updating is) = subst AreCompatible (sym is.change.locks) (current-compatible Update is.change.name is.opened is.rrn is.change.named is.current)
   compatible-left (Deleting is) = subst AreCompatible (sym is.change.locks) (current-compatible Delete is.change.name is.opened is.rrn is.change.named is.current)

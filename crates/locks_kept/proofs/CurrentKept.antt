@@ -32,13 +32,14 @@ use Rattle.library_steps.specs.State.{State, Memory, OpenState, CycleState, JobS
 use Rattle.library_steps.specs.Change.{Change}
 use Rattle.library_steps.specs.Locking.{level_of, holder_of, record_of, is_committed, locks_left}
 use Rattle.library_steps.specs.Opens.{with_open, without_open}
-use Rattle.library_steps.specs.Reads.{open_changed}
+use Rattle.library_steps.specs.Reads.{at_format, open_changed}
 use Rattle.library_steps.specs.Records.{record_in, live_record}
 use Rattle.library_steps.specs.SlotChange.{with_slot}
 use Rattle.library_steps.specs.ChangeRecord.{is_current, without_record}
 use Rattle.library_steps.specs.Commitment.{boundary_locks, taken_back, committed_open, at_boundary, rolled_back_open, without_cycle, with_level, changes_of}
 use Rattle.library_steps.specs.EndJob.{ended_job}
 use Rattle.library_steps.specs.Uses.{has_open_over, changes_in}
+use Rattle.library_parts.specs.Lawful.{OpenHolds, OpensHold}
 use Rattle.library_parts.specs.Locks.{IsRead, AsksNone}
 use Rattle.joint_state.specs.Opens.{IsBefore, AreToldApart}
 use Rattle.joint_state.specs.CurrentRecords.{keeps_record, CurrentStands, AllCurrentStand}
@@ -46,15 +47,16 @@ use Rattle.joint_state.specs.Sound.{IsSound, Does, after}
 use Rattle.locks_kept.proofs.AllEffects.{effect-of}
 use Rattle.locks_kept.proofs.ChangeEffects.{IsPlace}
 use Rattle.locks_kept.proofs.CompatibleKept.{of_job, no_record, IsBoundary, boundary-asks, stands-of, current-of}
-use Rattle.locks_kept.proofs.Effects.{IsAround, IsOpening, IsClosing, IsUse, IsChange, IsEnd, IsCommit, IsTakingBack, changing, unread, slots_of, Effect, Around, Opening, Closing, Use, Writing, Updating, Deleting, Start, End, Committing, RollingBack, EndingJob}
+use Rattle.locks_kept.proofs.Effects.{at_member, IsAround, IsOpening, IsClosing, IsUse, IsChange, IsEnd, IsCommit, IsTakingBack, changing, unread, slots_of, Effect, Around, Opening, Closing, Use, Writing, Updating, Deleting, Start, End, Committing, RollingBack, EndingJob}
 use Rattle.locks_kept.proofs.JobLemmas.{Runs, running-Runs, each-job}
 use Rattle.locks_kept.proofs.JobsKept.{none-committed}
 use Rattle.locks_kept.proofs.LockLists.{is_freed, after-any, after-gained}
 use Rattle.locks_kept.proofs.OpenLemmas.{same-number, other-number}
+use Rattle.locks_kept.proofs.OpenedMembers.{covered}
 use Rattle.locks_kept.proofs.RecordLocks.{keeps-is, keeps-from, is_on-same, update-alone, locked-alone, none-keeps}
 use Rattle.locks_kept.proofs.SlotLemmas.{live-within, put-live, put-here}
 use Rattle.locks_kept.proofs.UserLemmas.{unused-job}
-use Rattle.locks_kept.proofs.ListLemmas.{all-append, all-both, all-each, all-filter, all-map, all-weaker, each-there, none-any}
+use Rattle.locks_kept.proofs.ListLemmas.{all-append, all-both, all-each, all-filter, all-map, all-weaker, at-place, each-there, none-any}
 use Rattle.locks_kept.proofs.OptionLemmas.{is-there, some-each}
 use Rattle.locks_kept.proofs.TestLemmas.{and_false, differ-false, not_true, number-is}
 
@@ -350,30 +352,31 @@ module _ (s : State) (new : Memory) (job : ℕ) (sound : IsSound s) (runs : Runs
   -- ---- an open that is used
 
   use-frees : (is : IsUse m job new) → FreesOpen (released is.call (level_of its is.opened))
-  use-frees is = elim is.of [ inl read ↦ reads-free is.call (level_of its is.opened) read.0 | inr none ↦ none-free is.call (level_of its is.opened) none ]
+  use-frees is = elim is.of [ inl read ↦ reads-free is.call (level_of its is.opened) read.0 | inr none ↦ none-free is.call (level_of its is.opened) none.0 ]
 
   use-read : (is : IsUse m job new) (o : OpenState) (r : ℕ) → o ≡ is.opened → (is.change o).current ≡ Some r → CurrentStands new job (is.change o) r
   use-read is o r same current =
       let found = is.current o r current in
+      let read = read-at found.1 in
       let like = is.same o in
       let number : (is.change o).number ≡ is.opened.number = like.number ∙ ap (λ (x : OpenState). x.number) same in
-      let member : (is.change o).member ≡ is.opened.member = like.member ∙ ap (λ (x : OpenState). x.member) same in
+      let member : (is.change o).member ≡ is.member = ap (λ (x : OpenState). (is.change x).member) same ∙ read.1 in
       let commit : (is.change o).commit ≡ is.opened.commit = like.commit ∙ ap (λ (x : OpenState). x.commit) same in
       let gain = gained-update is.opened.commit its.level in
       let gains : gained is.call (level_of its is.opened) ≡ Some gain.0 = ap (λ c. gained c (level_of its is.opened)) found.1 ∙ gain.1 in
-      let there : record_of is.opened is.rrn ≡ record_of (is.change o) r = λ i. record { member = sym member i; rrn = sym found.0 i } in
+      let there : record_of (at_member is.member is.opened) is.rrn ≡ record_of (is.change o) r = λ i. record { member = sym member i; rrn = sym found.0 i } in
       record {
-        live = subst (λ n. IsSome (live_record n r new)) (sym member) (subst (λ n. IsSome (live_record is.opened.member n new)) (sym found.0)
-            (same-live is.members is.opened.member is.rrn (read-live found.1)));
-        locked = in-new is.call is.opened is.rrn is.locks (is.change o).commit (holder_of job (is.change o)) (record_of (is.change o) r)
-            (after-gained (holder_of job is.opened) (record_of is.opened is.rrn) (is_committed its) is.call (level_of its is.opened) gain.0
+        live = subst (λ n. IsSome (live_record n r new)) (sym member) (subst (λ n. IsSome (live_record is.member n new)) (sym found.0)
+            (same-live is.members is.member is.rrn read.0));
+        locked = in-new is.call (at_member is.member is.opened) is.rrn is.locks (is.change o).commit (holder_of job (is.change o)) (record_of (is.change o) r)
+            (after-gained (holder_of job is.opened) (record_of (at_member is.member is.opened) is.rrn) (is_committed its) is.call (level_of its is.opened) gain.0
             (keeps_record (is.change o).commit (holder_of job (is.change o)) (record_of (is.change o) r)) m.locks gains
-            (keeps-from (is.change o).commit (holder_of job (is.change o)) (record_of (is.change o) r) (lock_by (holder_of job is.opened) (record_of is.opened is.rrn) gain.0.kind gain.0.reach)
+            (keeps-from (is.change o).commit (holder_of job (is.change o)) (record_of (is.change o) r) (lock_by (holder_of job is.opened) (record_of (at_member is.member is.opened) is.rrn) gain.0.kind gain.0.reach)
             (record { at = there; job = refl; opened = sym number; update = ap is_update gain.2.update; reach = ap (λ b. b || is_open gain.0.reach) commit ∙ gain.2.reach })));
       }
     where
-      read-live : is.call ≡ UpdateRead → IsSome (live_record is.opened.member is.rrn m)
-      read-live update = elim is.of [ inl read ↦ read.1 | inr none ↦ absurd (subst AsksNone update none) ]
+      read-at : is.call ≡ UpdateRead → IsSome (live_record is.member is.rrn m) × ((is.change is.opened).member ≡ is.member)
+      read-at update = elim is.of [ inl read ↦ (read.1, read.2) | inr none ↦ absurd (subst AsksNone update none.0) ]
 
   use-open : (is : IsUse m job new) (o : OpenState) → StandsIn m job o → (o.number ≡ is.opened.number → o ≡ is.opened) → StandsIn new job (if o.number == is.opened.number then is.change o else o)
   use-open is o stands alone =
@@ -383,28 +386,28 @@ module _ (s : State) (new : Memory) (job : ℕ) (sound : IsSound s) (runs : Runs
             let differ : o.number ≢ is.opened.number = grind (arith, nat_tests, e) in
             record {
               live = same-live is.members o.member r (stands r current).live;
-              locked = other_open-locked is.call is.opened is.rrn is.locks (use-frees is) o r differ (stands r current);
+              locked = other_open-locked is.call (at_member is.member is.opened) is.rrn is.locks (use-frees is) o r differ (stands r current);
             })
       ] refl
 
   use-stands : (is : IsUse m job new) → (place : ℕ) (j : JobState) → slice_get new.jobs place ≡ Some j → AllCurrentStand new (place + 1) j
   use-stands is =
       all-jobs (open_changed is.opened.number is.change) is.jobs
-      (λ number o r differ stands. record { live = same-live is.members o.member r stands.live; locked = others-locked is.call is.opened is.rrn is.locks number o r differ stands })
+      (λ number o r differ stands. record { live = same-live is.members o.member r stands.live; locked = others-locked is.call (at_member is.member is.opened) is.rrn is.locks number o r differ stands })
       (own-mapped _ (λ o. if o.number == is.opened.number then is.change o else o) (λ e. e.1.number ≡ is.opened.number → e.1 ≡ is.opened) refl
       (same-number is.name its.opens is.opened is.named (stands-of s job sound runs).opens.apart) (λ e stands alone. use-open is e.1 stands alone))
 
   -- ---- a record that is changed
 
-  module _ (call : Call) (opened : OpenState) (rrn : ℕ) (slot : Slot) (change : OpenState → OpenState) (is : IsChange m job new opened call rrn slot change) where
+  module _ (call : Call) (opened : OpenState) (member rrn : ℕ) (slot : Slot) (change : OpenState → OpenState) (is : IsChange m job new opened member call rrn slot change) where
     changed-opens : (changing opened.commit is.cycle change its).opens ≡ map (λ e. (e.0, change e.1)) its.opens
     changed-opens = changing-opens opened.commit is.cycle change its
 
-    other-live : (number : ℕ) (o : OpenState) (r : ℕ) → CurrentStands m number o r → (o.member ≡ opened.member → r ≡ rrn → ⊥) → IsSome (live_record o.member r new)
-    other-live number o r stands apart = put-live m new opened.member rrn slot is.members o.member r apart stands.live
+    other-live : (number : ℕ) (o : OpenState) (r : ℕ) → CurrentStands m number o r → (o.member ≡ member → r ≡ rrn → ⊥) → IsSome (live_record o.member r new)
+    other-live number o r stands apart = put-live m new member rrn slot is.members o.member r apart stands.live
 
     others-stay : ((number : ℕ) (o : OpenState) (r : ℕ) → number ≢ job → CurrentStands m number o r → IsSome (live_record o.member r new)) → OthersStay
-    others-stay live = λ number o r differ stands. record { live = live number o r differ stands; locked = others-locked call opened rrn is.locks number o r differ stands }
+    others-stay live = λ number o r differ stands. record { live = live number o r differ stands; locked = others-locked call (at_member member opened) rrn is.locks number o r differ stands }
 
     change-stands : ((number : ℕ) (o : OpenState) (r : ℕ) → number ≢ job → CurrentStands m number o r → IsSome (live_record o.member r new))
         → ((o : OpenState) → StandsIn m job o → StandsIn new job (change o)) → (place : ℕ) (j : JobState) → slice_get new.jobs place ≡ Some j → AllCurrentStand new (place + 1) j
@@ -427,19 +430,26 @@ module _ (s : State) (new : Memory) (job : ℕ) (sound : IsSound s) (runs : Runs
   write-frees_record opened call rrn (inl next) = subst (λ c. FreesRecord (released c (level_of its opened))) (sym next.0) (write-frees (level_of its opened))
   write-frees_record opened call rrn (inr named) = subst (λ c. FreesRecord (released c (level_of its opened))) (sym named.0) (write_at-frees (level_of its opened))
 
-  write-stands : (opened : OpenState) (call : Call) (rrn : ℕ) (slot : Slot) → IsChange m job new opened call rrn slot (λ o. o) → IsPlace m job opened call rrn
+  write-stands : (opened : OpenState) (format : ℕ) (call : Call) (rrn : ℕ) (slot : Slot) → IsChange m job new opened (at_format format opened).member call rrn slot (λ o. o)
+      → IsPlace m job (at_format format opened) call rrn
       → (place : ℕ) (j : JobState) → slice_get new.jobs place ≡ Some j → AllCurrentStand new (place + 1) j
-  write-stands opened call rrn slot is at =
-      change-stands call opened rrn slot (λ o. o) is
-      (λ number o r differ stands. other-live call opened rrn slot (λ o. o) is number o r stands (empty-place opened call rrn at number o r stands))
+  write-stands opened format call rrn slot is at =
+      change-stands call opened its_member rrn slot (λ o. o) is
+      (λ number o r differ stands. other-live call opened its_member rrn slot (λ o. o) is number o r stands (empty number o r stands))
       (λ o stands r current. record {
-        live = other-live call opened rrn slot (λ o. o) is job o r (stands r current) (empty-place opened call rrn at job o r (stands r current));
-        locked = other_record-locked call opened rrn is.locks (write-frees_record opened call rrn at) o r (empty-place opened call rrn at job o r (stands r current)) (stands r current);
+        live = other-live call opened its_member rrn slot (λ o. o) is job o r (stands r current) (empty job o r (stands r current));
+        locked = other_record-locked call (at_member its_member opened) rrn is.locks (write-frees_record (at_format format opened) call rrn at) o r (empty job o r (stands r current)) (stands r current);
       })
+    where
+      its_member : ℕ
+      its_member = (at_format format opened).member
+
+      empty : (number : ℕ) (o : OpenState) (r : ℕ) → CurrentStands m number o r → o.member ≡ its_member → r ≡ rrn → ⊥
+      empty number o r stands = empty-place (at_format format opened) call rrn at number o r stands
 
   -- ---- UPDATE: a record stands at its place before and after
 
-  updated-live : (opened : OpenState) (rrn : ℕ) (image : List ℕ) → IsChange m job new opened Update rrn (Live image) (unread opened.number) → (number : ℕ) (o : OpenState) (r : ℕ)
+  updated-live : (opened : OpenState) (rrn : ℕ) (image : List ℕ) → IsChange m job new opened opened.member Update rrn (Live image) (unread opened.number) → (number : ℕ) (o : OpenState) (r : ℕ)
       → CurrentStands m number o r
       → IsSome (live_record o.member r new)
   updated-live opened rrn image is number o r stands =
@@ -452,10 +462,10 @@ module _ (s : State) (new : Memory) (job : ℕ) (sound : IsSound s) (runs : Runs
         | inr differ ↦ put-live m new opened.member rrn (Live image) is.members o.member r (λ member same. differ member) stands.live
       ]
 
-  update-stands : (opened : OpenState) (rrn : ℕ) (image : List ℕ) → IsChange m job new opened Update rrn (Live image) (unread opened.number)
+  update-stands : (opened : OpenState) (rrn : ℕ) (image : List ℕ) → IsChange m job new opened opened.member Update rrn (Live image) (unread opened.number)
       → (place : ℕ) (j : JobState) → slice_get new.jobs place ≡ Some j → AllCurrentStand new (place + 1) j
   update-stands opened rrn image is =
-      change-stands Update opened rrn (Live image) (unread opened.number) is (λ number o r differ stands. updated-live opened rrn image is number o r stands) own
+      change-stands Update opened opened.member rrn (Live image) (unread opened.number) is (λ number o r differ stands. updated-live opened rrn image is number o r stands) own
     where
       own : (o : OpenState) → StandsIn m job o → StandsIn new job (unread opened.number o)
       own o stands =
@@ -479,11 +489,11 @@ module _ (s : State) (new : Memory) (job : ℕ) (sound : IsSound s) (runs : Runs
       let both : is_current member rrn o ≡ true = rw (one, two) refl in
       absurd cc
 
-  delete-stands : (opened : OpenState) (rrn : ℕ) → IsChange m job new opened Delete rrn Deleted (without_record opened.member rrn) → opened.current ≡ Some rrn
+  delete-stands : (opened : OpenState) (rrn : ℕ) → IsChange m job new opened opened.member Delete rrn Deleted (without_record opened.member rrn) → opened.current ≡ Some rrn
       → (place : ℕ) (j : JobState) → slice_get new.jobs place ≡ Some j → AllCurrentStand new (place + 1) j
   delete-stands opened rrn is current =
-      change-stands Delete opened rrn Deleted (without_record opened.member rrn) is
-      (λ number o r differ stands. other-live Delete opened rrn Deleted (without_record opened.member rrn) is number o r stands
+      change-stands Delete opened opened.member rrn Deleted (without_record opened.member rrn) is
+      (λ number o r differ stands. other-live Delete opened opened.member rrn Deleted (without_record opened.member rrn) is number o r stands
       (λ member same. none-keeps job (record_of opened rrn) m.locks o.commit (holder_of number o) differ alone
       (subst (λ at. list_any (keeps_record o.commit (holder_of number o) at) m.locks ≡ true) (λ i. record { member = member i; rrn = same i }) stands.locked)))
       own
@@ -496,7 +506,7 @@ module _ (s : State) (new : Memory) (job : ℕ) (sound : IsSound s) (runs : Runs
           elim (is_current opened.member rrn o) as (λ b. is_current opened.member rrn o ≡ b → StandsIn new job (if b then record o { current = None } else o)) [
             | true ↦ λ e r now. absurd cc
             | false ↦ λ e r now. record {
-              live = other-live Delete opened rrn Deleted (without_record opened.member rrn) is job o r (stands r now) (not-current opened.member rrn o r e now);
+              live = other-live Delete opened opened.member rrn Deleted (without_record opened.member rrn) is job o r (stands r now) (not-current opened.member rrn o r e now);
               locked = other_record-locked Delete opened rrn is.locks (delete-frees (level_of its opened)) o r (not-current opened.member rrn o r e now) (stands r now);
             }
           ] refl
@@ -607,7 +617,7 @@ module _ (s : State) (new : Memory) (job : ℕ) (sound : IsSound s) (runs : Runs
 
   opening-stands : IsOpening m job new → (place : ℕ) (j : JobState) → slice_get new.jobs place ≡ Some j → AllCurrentStand new (place + 1) j
   opening-stands is =
-      all-jobs (with_open is.args is.member) is.jobs (λ number o r differ stands. nothing-changed is.members is.locks number o r stands)
+      all-jobs (with_open is.args is.over) is.jobs (λ number o r differ stands. nothing-changed is.members is.locks number o r stands)
       (all-append (λ (e : List ℕ × OpenState). StandsIn new job e.1) its.opens _
       (own-same (all-each (λ (e : List ℕ × OpenState). StandsIn m job e.1 → StandsIn new job e.1) its.opens (λ e stands r current. nothing-changed is.members is.locks job e.1 r (stands r current))))
       (λ r current. absurd cc, tt))
@@ -631,12 +641,14 @@ module _ (s : State) (new : Memory) (job : ℕ) (sound : IsSound s) (runs : Runs
   around-stands : IsAround m new → (place : ℕ) (j : JobState) → slice_get new.jobs place ≡ Some j → AllCurrentStand new (place + 1) j
   around-stands is place j there =
       let before : slice_get m.jobs place ≡ Some j = ap (λ js. slice_get js place) (sym is.jobs) ∙ there in
-      all-both (λ (e : List ℕ × OpenState). StandsIn m (place + 1) e.1) (λ e. (test : List ℕ × OpenState → Bool) → test e ≡ true → list_any test j.opens ≡ true)
-      (λ e. StandsIn new (place + 1) e.1) j.opens
-      (λ e stands found r current. record {
-        live = used before e.1 r (found (λ o. o.1.member == e.1.member)) (stands r current).live;
-        locked = subst (λ ls. list_any (keeps_record e.1.commit (holder_of (place + 1) e.1) (record_of e.1 r)) ls ≡ true) (sym is.locks) (stands r current).locked;
-      }) (sound.joint.jobs place j before).current (each-there j.opens)
+      all-both (λ (e : List ℕ × OpenState). StandsIn m (place + 1) e.1 × OpenHolds m.files e.1)
+      (λ e. (test : List ℕ × OpenState → Bool) → test e ≡ true → list_any test j.opens ≡ true) (λ e. StandsIn new (place + 1) e.1) j.opens
+      (λ e both found r current. record {
+        live = used before e.1 r (found (λ o. list_any (λ base. base == e.1.member) o.1.members) (covered m.files e.1 both.1)) (both.0 r current).live;
+        locked = subst (λ ls. list_any (keeps_record e.1.commit (holder_of (place + 1) e.1) (record_of e.1 r)) ls ≡ true) (sym is.locks) (both.0 r current).locked;
+      })
+      (all-both (λ (e : List ℕ × OpenState). StandsIn m (place + 1) e.1) (λ e. OpenHolds m.files e.1) (λ e. StandsIn m (place + 1) e.1 × OpenHolds m.files e.1) j.opens
+      (λ e one other. (one, other)) (sound.joint.jobs place j before).current (at-place (OpensHold m.files) m.jobs place j before sound.library.opens)) (each-there j.opens)
     where
       same-slots : (member r : ℕ) → slots_of member new ≡ slots_of member m → IsSome (live_record member r m) → IsSome (live_record member r new)
       same-slots member r same live =
@@ -645,12 +657,11 @@ module _ (s : State) (new : Memory) (job : ℕ) (sound : IsSound s) (runs : Runs
           let before : IsSome (record_in (slice_get (slots_of member m) (r - 1))) = subst (λ b. IsSome (record_in (if b then None else slice_get (slots_of member m) (r - 1)))) some live in
           subst (λ b. IsSome (record_in (if b then None else slice_get (slots_of member new) (r - 1)))) (sym some) (subst (λ slots. IsSome (record_in (slice_get slots (r - 1)))) (sym same) before)
 
-      used : slice_get m.jobs place ≡ Some j → (o : OpenState) (r : ℕ) → ((o.member == o.member) ≡ true → has_open_over o.member j ≡ true) → IsSome (live_record o.member r m)
+      used : slice_get m.jobs place ≡ Some j → (o : OpenState) (r : ℕ) → has_open_over o.member j ≡ true → IsSome (live_record o.member r m)
           → IsSome (live_record o.member r new)
       used before o r over live = elim (is.slots o.member) [
         | inl free ↦ absurd (
             let none = (unused-job m o.member place j free before).opens in
-            let some : has_open_over o.member j ≡ true = over (grind (arith, nat_tests)) in
             cc)
         | inr same ↦ same-slots o.member r same live
       ]
@@ -662,7 +673,7 @@ module _ (s : State) (new : Memory) (job : ℕ) (sound : IsSound s) (runs : Runs
   current-left (Opening is) = opening-stands is
   current-left (Closing is) = closing-stands is
   current-left (Use is) = use-stands is
-  current-left (Writing is) = write-stands is.opened is.call is.rrn (Live is.image) is.change is.place
+  current-left (Writing is) = write-stands is.opened is.format is.call is.rrn (Live is.image) is.change is.place
   current-left (Updating is) = update-stands is.opened is.rrn is.image is.change
   current-left (Deleting is) = delete-stands is.opened is.rrn is.change is.current
   current-left (Start is) =

@@ -11,7 +11,7 @@ use Rattle.library_steps.specs.State.{Memory, OpenState, CycleState, JobState, j
 use Rattle.library_steps.specs.Locking.{locks_left, clashing}
 use Rattle.library_steps.specs.Opens.{with_open, without_open}
 use Rattle.library_steps.specs.Records.{live_record}
-use Rattle.library_steps.specs.Reads.{open_changed}
+use Rattle.library_steps.specs.Reads.{at_format, open_changed}
 use Rattle.library_steps.specs.SlotChange.{slot_put, with_cycle}
 use Rattle.library_steps.specs.WriteRecord.{next_place}
 use Rattle.library_steps.specs.ChangeRecord.{without_current, without_record}
@@ -32,8 +32,8 @@ pub record IsAround (m new : Memory) : Type 0 where
 -- an open more, under a name that no other has; under commitment control where the job is
 pub record IsOpening (m : Memory) (job : ℕ) (new : Memory) : Type 0 where
   pub args : OpenFile
-  pub member : ℕ
-  pub jobs : new.jobs ≡ job_changed (job - 1) (with_open args member) m.jobs
+  pub over : List ℕ
+  pub jobs : new.jobs ≡ job_changed (job - 1) (with_open args over) m.jobs
   pub locks : new.locks ≡ m.locks
   pub members : new.members ≡ m.members
   pub fresh : open_named args.open_id job m ≡ None
@@ -48,26 +48,39 @@ pub record IsClosing (m : Memory) (job : ℕ) (new : Memory) : Type 0 where
   pub locks : new.locks ≡ locks_left Close job opened 0 m
   pub members : new.members ≡ m.members
 
+-- the same open but for where it stands, what it has read, and where that lies
+pub record IsAlike (new old : OpenState) : Type 0 where
+  pub number : new.number ≡ old.number
+  pub commit : new.commit ≡ old.commit
+
 -- the same open but for where it stands and what it has read
 pub record IsSameOpen (new old : OpenState) : Type 0 where
   pub number : new.number ≡ old.number
   pub member : new.member ≡ old.member
   pub commit : new.commit ≡ old.commit
 
--- an open is used, by a read of a record that is there or by a call that asks for no lock
+pub alike : (new old : OpenState) → IsSameOpen new old → IsAlike new old
+alike new old same = record { number = same.number; commit = same.commit }
+
+-- the open at one of its members, as a call on a record of it asks for locks
+abbrev pub at_member : ℕ → OpenState → OpenState
+at_member member opened = record opened { member = member }
+
+-- an open is used, by a read of a record that is there, which moves it to the record's member, or by a call that asks for no lock
 pub record IsUse (m : Memory) (job : ℕ) (new : Memory) : Type 0 where
   pub name : List ℕ
   pub opened : OpenState
+  pub member : ℕ
   pub call : Call
   pub rrn : ℕ
   pub change : OpenState → OpenState
   pub named : open_named name job m ≡ Some opened
   pub jobs : new.jobs ≡ job_changed (job - 1) (open_changed opened.number change) m.jobs
-  pub locks : new.locks ≡ locks_left call job opened rrn m
+  pub locks : new.locks ≡ locks_left call job (at_member member opened) rrn m
   pub members : new.members ≡ m.members
-  pub same : (o : OpenState) → IsSameOpen (change o) o
-  pub of : IsRead call × IsSome (live_record opened.member rrn m) ⊎ AsksNone call
-  pub free : clashing call job opened rrn m ≡ None
+  pub same : (o : OpenState) → IsAlike (change o) o
+  pub of : IsRead call × IsSome (live_record member rrn m) × ((change opened).member ≡ member) ⊎ AsksNone call × ((o : OpenState) → (change o).member ≡ o.member)
+  pub free : clashing call job (at_member member opened) rrn m ≡ None
   pub current : (o : OpenState) (r : ℕ) → (change o).current ≡ Some r → (r ≡ rrn) × (call ≡ UpdateRead)
 
 abbrev pub in_cycle : Bool → CycleState → JobState → JobState
@@ -77,14 +90,14 @@ in_cycle false cycle job = job
 abbrev pub changing : Bool → CycleState → (OpenState → OpenState) → JobState → JobState
 changing commit cycle change job = with_opens change (in_cycle commit cycle job)
 
--- a record is changed through an open
-pub record IsChange (m : Memory) (job : ℕ) (new : Memory) (opened : OpenState) (call : Call) (rrn : ℕ) (slot : Slot) (change : OpenState → OpenState) : Type 0 where
+-- a record of a member is changed through an open
+pub record IsChange (m : Memory) (job : ℕ) (new : Memory) (opened : OpenState) (member : ℕ) (call : Call) (rrn : ℕ) (slot : Slot) (change : OpenState → OpenState) : Type 0 where
   pub name : List ℕ
   pub cycle : CycleState
   pub named : open_named name job m ≡ Some opened
   pub jobs : new.jobs ≡ job_changed (job - 1) (changing opened.commit cycle change) m.jobs
-  pub locks : new.locks ≡ locks_left call job opened rrn m
-  pub members : new.members ≡ with_member opened.member (slot_put rrn slot (member_of opened.member m.members)) m.members
+  pub locks : new.locks ≡ locks_left call job (at_member member opened) rrn m
+  pub members : new.members ≡ with_member member (slot_put rrn slot (member_of member m.members)) m.members
 
 -- the place of a WRITE: the next one, or one that is named, where no record stands and no other job's lock is in the way
 pub record IsPlaceNamed (m : Memory) (job : ℕ) (opened : OpenState) (rrn : ℕ) : Type 0 where
@@ -93,13 +106,15 @@ pub record IsPlaceNamed (m : Memory) (job : ℕ) (opened : OpenState) (rrn : ℕ
   pub empty : is_some (live_record opened.member rrn m) ≡ false
   pub free : clashing WriteAt job opened rrn m ≡ None
 
+-- through the open at a format, where it stays as it was
 pub record IsWriting (m : Memory) (job : ℕ) (new : Memory) : Type 0 where
   pub opened : OpenState
+  pub format : ℕ
   pub call : Call
   pub rrn : ℕ
   pub image : List ℕ
-  pub change : IsChange m job new opened call rrn (Live image) (λ o. o)
-  pub place : (call ≡ Write) × (rrn ≡ next_place opened.member m) ⊎ (call ≡ WriteAt) × IsPlaceNamed m job opened rrn
+  pub change : IsChange m job new opened (at_format format opened).member call rrn (Live image) (λ o. o)
+  pub place : (call ≡ Write) × (rrn ≡ next_place (at_format format opened).member m) ⊎ (call ≡ WriteAt) × IsPlaceNamed m job (at_format format opened) rrn
 
 -- the open of this number has no current record
 abbrev pub unread : ℕ → OpenState → OpenState
@@ -109,13 +124,13 @@ pub record IsUpdating (m : Memory) (job : ℕ) (new : Memory) : Type 0 where
   pub opened : OpenState
   pub rrn : ℕ
   pub image : List ℕ
-  pub change : IsChange m job new opened Update rrn (Live image) (unread opened.number)
+  pub change : IsChange m job new opened opened.member Update rrn (Live image) (unread opened.number)
   pub current : opened.current ≡ Some rrn
 
 pub record IsDeleting (m : Memory) (job : ℕ) (new : Memory) : Type 0 where
   pub opened : OpenState
   pub rrn : ℕ
-  pub change : IsChange m job new opened Delete rrn Deleted (without_record opened.member rrn)
+  pub change : IsChange m job new opened opened.member Delete rrn Deleted (without_record opened.member rrn)
   pub current : opened.current ≡ Some rrn
 
 pub record IsStart (m : Memory) (job : ℕ) (new : Memory) : Type 0 where

@@ -11,7 +11,7 @@ use Rattle.library_model.specs.declared.requests.OpenFile.{OpenFile}
 use Rattle.library_steps.specs.State.{State, Memory, OpenState, CycleState, JobState, job_of, memory_of, with_opens}
 use Rattle.library_steps.specs.Change.{Change}
 use Rattle.library_steps.specs.Opens.{with_open, without_open, new_open}
-use Rattle.library_steps.specs.Reads.{open_changed}
+use Rattle.library_steps.specs.Reads.{at_format, open_changed}
 use Rattle.library_steps.specs.ChangeRecord.{is_current, without_record, without_current}
 use Rattle.library_steps.specs.Commitment.{with_level, without_cycle, committed_open, rolled_back_open}
 use Rattle.library_steps.specs.EndJob.{ended_job}
@@ -20,7 +20,7 @@ use Rattle.joint_state.specs.Cycles.{IsUnderControl}
 use Rattle.joint_state.specs.Joint.{IsIdle}
 use Rattle.joint_state.specs.Sound.{Does, after}
 use Rattle.locks_kept.proofs.AllEffects.{effect-of}
-use Rattle.locks_kept.proofs.Effects.{IsSameOpen, IsChange, changing, unread, Effect, Around, Opening, Closing, Use, Writing, Updating, Deleting, Start, End, Committing, RollingBack, EndingJob}
+use Rattle.locks_kept.proofs.Effects.{IsAlike, IsSameOpen, alike, IsChange, changing, unread, Effect, Around, Opening, Closing, Use, Writing, Updating, Deleting, Start, End, Committing, RollingBack, EndingJob}
 use Rattle.locks_kept.proofs.JobLemmas.{Runs, running-Runs, each-job}
 use Rattle.locks_kept.proofs.OpenLemmas.{named-holds, unnamed-differ, apart-map, apart-filter, apart-append}
 use Rattle.locks_kept.proofs.ListLemmas.{all-append, all-both, all-filter, all-map, all-weaker}
@@ -39,6 +39,10 @@ goes-on job running = record { opens = λ e. absurd cc; level = λ e. absurd cc 
 pub same-if : (test : Bool) (change : OpenState → OpenState) (o : OpenState) → IsSameOpen (change o) o → IsSameOpen (if test then change o else o) o
 same-if true change o same = same
 same-if false change o same = record { number = refl; member = refl; commit = refl }
+
+pub alike-if : (test : Bool) (change : OpenState → OpenState) (o : OpenState) → IsAlike (change o) o → IsAlike (if test then change o else o) o
+alike-if true change o same = same
+alike-if false change o same = record { number = refl; commit = refl }
 
 pub same-unread : (number : ℕ) (o : OpenState) → IsSameOpen (unread number o) o
 same-unread number o = same-if (o.number == number) without_current o (record { number = refl; member = refl; commit = refl })
@@ -65,7 +69,7 @@ pub record Goes (old new : JobState) (change : OpenState → OpenState) : Type 0
   pub cycle : old.level ≡ None → old.cycle ≡ None → new.cycle ≡ None
   pub opens : new.opens ≡ map (λ entry. (entry.0, change entry.1)) old.opens
   pub opened : new.opened ≡ old.opened
-  pub same : (o : OpenState) → IsSameOpen (change o) o
+  pub same : (o : OpenState) → IsAlike (change o) o
 
 alone-same : (old new : JobState) (change : OpenState → OpenState) → Goes old new change → old.ended ≡ false → StandsAlone old → StandsAlone new
 alone-same old new change goes running alone = record {
@@ -86,20 +90,20 @@ alone-same old new change goes running alone = record {
 
 -- ---- each kind of request
 
-opening-alone : (name : List ℕ) (args : OpenFile) (member : ℕ) (job : JobState) → job.ended ≡ false → AllByRecursion (λ e. same_name args.open_id e.0 ≡ false) job.opens
-    → (args.commit ≡ true → is_some job.level ≡ true) → StandsAlone job → StandsAlone (with_open args member job)
-opening-alone name args member job running fresh control alone = record {
-  idle = goes-on (with_open args member job) running;
+opening-alone : (name : List ℕ) (args : OpenFile) (members : List ℕ) (job : JobState) → job.ended ≡ false → AllByRecursion (λ e. same_name args.open_id e.0 ≡ false) job.opens
+    → (args.commit ≡ true → is_some job.level ≡ true) → StandsAlone job → StandsAlone (with_open args members job)
+opening-alone name args members job running fresh control alone = record {
+  idle = goes-on (with_open args members job) running;
   control = record {
     cycle = alone.control.cycle;
-    opens = λ none. all-append (λ (e : List ℕ × OpenState). e.1.commit ≡ false) job.opens ((args.open_id, new_open args (job.opened + 1) member) ∷ []) (alone.control.opens none)
+    opens = λ none. all-append (λ (e : List ℕ × OpenState). e.1.commit ≡ false) job.opens ((args.open_id, new_open args (job.opened + 1) members) ∷ []) (alone.control.opens none)
         (outside none args.commit control, tt);
   };
   opens = record {
-    apart = apart-append job.opens (args.open_id, new_open args (job.opened + 1) member) alone.opens.apart
-        (all-both (λ (e : List ℕ × OpenState). same_name args.open_id e.0 ≡ false) (λ e. e.1.number ≤ job.opened) (λ e. IsBefore e (args.open_id, new_open args (job.opened + 1) member)) job.opens
+    apart = apart-append job.opens (args.open_id, new_open args (job.opened + 1) members) alone.opens.apart
+        (all-both (λ (e : List ℕ × OpenState). same_name args.open_id e.0 ≡ false) (λ e. e.1.number ≤ job.opened) (λ e. IsBefore e (args.open_id, new_open args (job.opened + 1) members)) job.opens
         (λ e differ few. record { names = nat_list_eq_equiv.symm e.0 args.open_id ∙ differ; numbers = omega (arith, few) }) fresh alone.opens.counted);
-    counted = all-append (λ (e : List ℕ × OpenState). e.1.number ≤ job.opened + 1) job.opens ((args.open_id, new_open args (job.opened + 1) member) ∷ [])
+    counted = all-append (λ (e : List ℕ × OpenState). e.1.number ≤ job.opened + 1) job.opens ((args.open_id, new_open args (job.opened + 1) members) ∷ [])
         (all-weaker (λ (e : List ℕ × OpenState). e.1.number ≤ job.opened) (λ e. e.1.number ≤ job.opened + 1) job.opens (λ e few. omega (arith, few)) alone.opens.counted) (omega arith, tt);
   };
 }
@@ -126,8 +130,9 @@ closing-alone name job running alone = record {
 pub changing-goes : (commit : Bool) (cycle : CycleState) (change : OpenState → OpenState) (job : JobState) → (job.level ≡ None → commit ≡ false) → ((o : OpenState) → IsSameOpen (change o) o)
     → Goes job (changing commit cycle change job) change
 changing-goes true cycle change job outside same =
-    record { ended = refl; level = refl; cycle = λ none was. absurd (let out : true ≡ false = outside none in cc); opens = refl; opened = refl; same = same }
-changing-goes false cycle change job outside same = record { ended = refl; level = refl; cycle = λ none was. was; opens = refl; opened = refl; same = same }
+    record { ended = refl; level = refl; cycle = λ none was. absurd (let out : true ≡ false = outside none in cc); opens = refl; opened = refl; same = λ o. alike (change o) o (same o) }
+changing-goes false cycle change job outside same =
+    record { ended = refl; level = refl; cycle = λ none was. was; opens = refl; opened = refl; same = λ o. alike (change o) o (same o) }
 
 pub none-committed : (opens : Named OpenState) → list_any (λ e. e.1.commit) opens ≡ false → AllByRecursion (λ e. e.1.commit ≡ false) opens
 none-committed [] none = tt
@@ -146,9 +151,9 @@ module _ (m new : Memory) (job : ℕ) (runs : Runs m.jobs job (job_of job m)) (a
   others : (place : ℕ) (j : JobState) → slice_get m.jobs place ≡ Some j → place + 1 ≢ job → StandsAlone j
   others place j at differ = all place j at
 
-  change-alone : (opened : OpenState) (call : Call) (rrn : ℕ) (slot : Slot) (change : OpenState → OpenState) → IsChange m job new opened call rrn slot change
+  change-alone : (opened : OpenState) (member : ℕ) (call : Call) (rrn : ℕ) (slot : Slot) (change : OpenState → OpenState) → IsChange m job new opened member call rrn slot change
       → ((o : OpenState) → IsSameOpen (change o) o) → (place : ℕ) (j : JobState) → slice_get new.jobs place ≡ Some j → StandsAlone j
-  change-alone opened call rrn slot change is same =
+  change-alone opened member call rrn slot change is same =
       each-job m new job (changing opened.commit is.cycle change) is.jobs runs (λ n j. StandsAlone j)
       (alone-same (job_of job m) (changing opened.commit is.cycle change (job_of job m)) change
       (changing-goes opened.commit is.cycle change (job_of job m) (λ none. named-holds (λ (o : OpenState). o.commit ≡ false) is.name (job_of job m).opens opened is.named
@@ -158,8 +163,8 @@ module _ (m new : Memory) (job : ℕ) (runs : Runs m.jobs job (job_of job m)) (a
   pub alone-kept : Effect m job new → (place : ℕ) (j : JobState) → slice_get new.jobs place ≡ Some j → StandsAlone j
   alone-kept (Around is) = λ place j at. all place j (ap (λ js. slice_get js place) (sym is.jobs) ∙ at)
   alone-kept (Opening is) =
-      each-job m new job (with_open is.args is.member) is.jobs runs (λ n j. StandsAlone j)
-      (opening-alone is.args.open_id is.args is.member (job_of job m) runs.goes_on (unnamed-differ is.args.open_id (job_of job m).opens is.fresh) is.control its) others
+      each-job m new job (with_open is.args is.over) is.jobs runs (λ n j. StandsAlone j)
+      (opening-alone is.args.open_id is.args is.over (job_of job m) runs.goes_on (unnamed-differ is.args.open_id (job_of job m).opens is.fresh) is.control its) others
   alone-kept (Closing is) = each-job m new job (without_open is.name) is.jobs runs (λ n j. StandsAlone j) (closing-alone is.name (job_of job m) runs.goes_on its) others
   alone-kept (Use is) =
       each-job m new job (open_changed is.opened.number is.change) is.jobs runs (λ n j. StandsAlone j)
@@ -169,12 +174,11 @@ module _ (m new : Memory) (job : ℕ) (runs : Runs m.jobs job (job_of job m)) (a
         cycle = λ none was. was;
         opens = refl;
         opened = refl;
-        same = λ o. same-if
-            (o.number == is.opened.number) is.change o (is.same o);
+        same = λ o. alike-if (o.number == is.opened.number) is.change o (is.same o);
       }) runs.goes_on its) others
-  alone-kept (Writing is) = change-alone is.opened is.call is.rrn (Live is.image) (λ o. o) is.change (λ o. record { number = refl; member = refl; commit = refl })
-  alone-kept (Updating is) = change-alone is.opened Update is.rrn (Live is.image) (unread is.opened.number) is.change (same-unread is.opened.number)
-  alone-kept (Deleting is) = change-alone is.opened Delete is.rrn Deleted (without_record is.opened.member is.rrn) is.change (same-without_record is.opened.member is.rrn)
+  alone-kept (Writing is) = change-alone is.opened (at_format is.format is.opened).member is.call is.rrn (Live is.image) (λ o. o) is.change (λ o. record { number = refl; member = refl; commit = refl })
+  alone-kept (Updating is) = change-alone is.opened is.opened.member Update is.rrn (Live is.image) (unread is.opened.number) is.change (same-unread is.opened.number)
+  alone-kept (Deleting is) = change-alone is.opened is.opened.member Delete is.rrn Deleted (without_record is.opened.member is.rrn) is.change (same-without_record is.opened.member is.rrn)
   alone-kept (Start is) =
       each-job m new job (with_level (Some is.level)) is.jobs runs (λ n j. StandsAlone j)
       (record {
@@ -194,10 +198,10 @@ module _ (m new : Memory) (job : ℕ) (runs : Runs m.jobs job (job_of job m)) (a
       }) others
   alone-kept (Committing is) =
       each-job m new job (λ j. with_opens committed_open (without_cycle j)) is.jobs runs (λ n j. StandsAlone j)
-      (alone-same (job_of job m) _ committed_open (record { ended = refl; level = refl; cycle = λ none was. refl; opens = refl; opened = refl; same = same-committed }) runs.goes_on its) others
+      (alone-same (job_of job m) _ committed_open (record { ended = refl; level = refl; cycle = λ none was. refl; opens = refl; opened = refl; same = λ o. alike _ o (same-committed o) }) runs.goes_on its) others
   alone-kept (RollingBack is) =
       each-job m new job (λ j. with_opens rolled_back_open (without_cycle j)) is.jobs runs (λ n j. StandsAlone j)
-      (alone-same (job_of job m) _ rolled_back_open (record { ended = refl; level = refl; cycle = λ none was. refl; opens = refl; opened = refl; same = same-rolled_back }) runs.goes_on its) others
+      (alone-same (job_of job m) _ rolled_back_open (record { ended = refl; level = refl; cycle = λ none was. refl; opens = refl; opened = refl; same = λ o. alike _ o (same-rolled_back o) }) runs.goes_on its) others
   alone-kept (EndingJob is) =
       each-job m new job ended_job is.jobs runs (λ n j. StandsAlone j)
       (record { idle = record { opens = λ e. refl; level = λ e. refl }; control = record { cycle = λ none. refl; opens = λ none. tt }; opens = record { apart = tt; counted = tt } }) others

@@ -7,6 +7,7 @@ pub mod OpenLemmas
 pub mod Effects
 pub mod AroundEffects
 pub mod FoundLemmas
+pub mod OpenedMembers
 pub mod OpenEffects
 pub mod ChangeEffects
 pub mod AllEffects

@@ -67,12 +67,14 @@ any-none test (x ∷ xs) none =
       | false ↦ λ e h. (e, any-none test xs h)
     ] refl none
 
-pub any-wider : {X : Type 0} (test wider : X → Bool) (xs : List X) → ((x : X) → test x ≡ true → wider x ≡ true) → list_any test xs ≡ true → list_any wider xs ≡ true
-any-wider test wider [] widens some = absurd cc
-any-wider test wider (x ∷ xs) widens some =
+-- a wider test is passed, of items of which something holds
+pub any-wider_of : {X : Type 0} (P : X → Type 0) (test wider : X → Bool) (xs : List X) → ((x : X) → P x → test x ≡ true → wider x ≡ true) → AllByRecursion P xs → list_any test xs ≡ true
+    → list_any wider xs ≡ true
+any-wider_of P test wider [] widens all some = absurd cc
+any-wider_of P test wider (x ∷ xs) widens all some =
     elim (test x) as (λ b. test x ≡ b → (b || list_any test xs) ≡ true → (wider x || list_any wider xs) ≡ true) [
-      | true ↦ λ e h. ap (λ b. b || list_any wider xs) (widens x e)
-      | false ↦ λ e h. or_true (wider x) (list_any wider xs) (any-wider test wider xs widens h)
+      | true ↦ λ e h. ap (λ b. b || list_any wider xs) (widens x all.0 e)
+      | false ↦ λ e h. or_true (wider x) (list_any wider xs) (any-wider_of P test wider xs widens all.1 h)
     ] refl some
 
 -- an open that isn't under commitment control has no number of one that is

@@ -1,5 +1,5 @@
 -- Each lock stands on a place of its member, through an open of its job or kept by a job under commitment control, after whatever is done.
-use Rattle.std.proofs.Common.{◌≡◌, ◌≢◌, inl, inr, ℕ, ◌+◌, ◌-◌, ◌≤◌, ◌==◌, ◌&&◌, ◌||◌, not, Bool, true, false, cond, if◌then◌else◌, IsSome, IfSome, filter, map, length, List, [], ◌∷◌, ◌++◌, Option, Some, None, is_some, slice_get, refl, sym, ◌∙◌, ap, subst, arith}
+use Rattle.std.proofs.Common.{◌≡◌, ◌≢◌, ◌⊎◌, inl, inr, ℕ, ◌+◌, ◌-◌, ◌≤◌, ◌==◌, ◌&&◌, ◌||◌, not, Bool, true, false, cond, if◌then◌else◌, IsSome, IfSome, filter, map, length, List, [], ◌∷◌, ◌++◌, Option, Some, None, is_some, refl, sym, ◌∙◌, ap, subst, arith}
 use Rattle.std.specs.List.{AllByRecursion, list_any}
 use Rattle.std.proofs.lemmas.Bool.{cases_eq}
 use Rattle.std.proofs.lemmas.Bool.Decides.{nat_tests}
@@ -15,37 +15,40 @@ use Rattle.lock_table.specs.declared.levels.Call.TheVariants.{InputRead, UpdateR
 use Rattle.lock_table.specs.declared.levels.Wanted.{Wanted}
 use Rattle.lock_table.specs.declared.levels.OpenLocks.TheVariants.{OfOpen, OfJob}
 use Rattle.lock_table.specs.declared.lock.Lock.{Lock}
+use Rattle.lock_table.specs.declared.lock.RecordId.{RecordId}
 use Rattle.lock_table.specs.Lock.{is_open, is_by, is_of_open, is_of_job, is_of_group, lock_by}
 use Rattle.lock_table.specs.Levels.{asked, gained, released}
 use Rattle.lock_table.proofs.Rules.{gained-asked}
 use Rattle.library_model.specs.Named.{Named, named, same_name}
-use Rattle.library_steps.specs.State.{State, Memory, FileState, fields_of, file_named, OpenState, JobState, job_at, job_of, job_changed, memory_of, with_entries, open_named, or_new, with_opens}
+use Rattle.library_steps.specs.State.{State, Memory, OpenState, JobState, job_at, job_of, job_changed, memory_of, with_entries, open_named, or_new, with_opens}
 use Rattle.library_steps.specs.Change.{Change}
 use Rattle.library_steps.specs.Locking.{level_of, holder_of, record_of, is_committed, locks_left}
 use Rattle.library_steps.specs.Opens.{with_open, without_open}
-use Rattle.library_steps.specs.Reads.{open_changed}
+use Rattle.library_steps.specs.Reads.{at_format, open_changed}
+use Rattle.library_steps.specs.Records.{live_record}
 use Rattle.library_steps.specs.ChangeRecord.{without_record}
 use Rattle.library_steps.specs.Commitment.{boundary_locks, taken_back, committed_open, rolled_back_open, without_cycle, with_level, changes_of}
 use Rattle.library_steps.specs.EndJob.{ended_job}
 use Rattle.library_steps.specs.Uses.{user_of}
-use Rattle.library_parts.specs.Lawful.{OpensMember, OpenHolds, OpensHold}
-use Rattle.library_parts.proofs.MemberLemmas.{IsThere-is_some}
+use Rattle.library_parts.specs.Lawful.{OpenHolds}
+use Rattle.library_parts.specs.Locks.{IsRead, IsWrite, AsksNone}
 use Rattle.joint_state.specs.Locks.{LockStands, HasOpenOf, is_through}
 use Rattle.joint_state.specs.Sound.{IsSound, Does, after}
 use Rattle.locks_kept.proofs.AllEffects.{effect-of}
 use Rattle.locks_kept.proofs.ChangeEffects.{IsPlace, same-opens}
 use Rattle.locks_kept.proofs.CompatibleKept.{of_job, no_record, IsBoundary, boundary-asks, stands-of, current-of}
-use Rattle.locks_kept.proofs.Effects.{IsSameOpen, IsAround, IsClosing, IsChange, IsTakingBack, changing, unread, slots_of, Effect, Around, Opening, Closing, Use, Writing, Updating, Deleting, Start, End, Committing, RollingBack, EndingJob}
+use Rattle.locks_kept.proofs.Effects.{IsSameOpen, IsAround, IsClosing, IsUse, IsChange, IsTakingBack, at_member, changing, unread, slots_of, Effect, Around, Opening, Closing, Use, Writing, Updating, Deleting, Start, End, Committing, RollingBack, EndingJob}
 use Rattle.locks_kept.proofs.JobLemmas.{Runs, running-Runs, job_of-own, job_of-other}
-use Rattle.locks_kept.proofs.JobsKept.{Goes, changing-goes, same-if, same-unread, same-without_record, same-committed, same-rolled_back}
+use Rattle.locks_kept.proofs.JobsKept.{Goes, alike-if, changing-goes, same-unread, same-without_record, same-committed, same-rolled_back}
 use Rattle.locks_kept.proofs.LockLists.{is_freed, after-all}
 use Rattle.locks_kept.proofs.OpenEffects.{asks-nothing}
 use Rattle.locks_kept.proofs.OpenLemmas.{named-holds, same-named}
+use Rattle.locks_kept.proofs.OpenedMembers.{format-there, opens-held}
 use Rattle.locks_kept.proofs.UserLemmas.{used-by}
 use Rattle.locks_kept.proofs.SlotLemmas.{live-within, put-grows, put-behind, taken_back-grows}
-use Rattle.locks_kept.proofs.ListLemmas.{all-both, all-from, all-weaker, at-place, each-there}
+use Rattle.locks_kept.proofs.ListLemmas.{all-both, all-from, all-weaker, each-there}
 use Rattle.locks_kept.proofs.OptionLemmas.{some-both, some-each}
-use Rattle.locks_kept.proofs.TestLemmas.{number-same, or_true}
+use Rattle.locks_kept.proofs.TestLemmas.{differ-false, number-is, number-same, or_true}
 
 -- ---- opens through which locks are held
 
@@ -53,16 +56,17 @@ use Rattle.locks_kept.proofs.TestLemmas.{number-same, or_true}
 abbrev pub through : Lock → Named OpenState → Bool
 through lock opens = list_any (λ entry. is_through lock entry.1) opens
 
--- changes of what an open has read don't matter to it
-pub through-map : (lock : Lock) (change : OpenState → OpenState) → ((o : OpenState) → IsSameOpen (change o) o) → (opens : Named OpenState) → through lock opens ≡ true
+-- changes that keep number and member of an open don't matter to it
+pub same-through : (lock : Lock) (new old : OpenState) → IsSameOpen new old → is_through lock new ≡ is_through lock old
+same-through lock new old same = λ i. (same.number i == lock.opened) && (same.member i == lock.at.member)
+
+pub through-map : (lock : Lock) (change : OpenState → OpenState) → ((o : OpenState) → is_through lock (change o) ≡ is_through lock o) → (opens : Named OpenState) → through lock opens ≡ true
     → through lock (map (λ e. (e.0, change e.1)) opens) ≡ true
 through-map lock change same [] some = absurd cc
 through-map lock change same (entry ∷ opens) some =
-    let it : is_through lock (change entry.1) ≡ is_through lock entry.1 =
-    λ i. ((same entry.1).number i == lock.opened) && ((same entry.1).member i == lock.at.member) in
     elim (is_through lock entry.1) as (λ b. is_through lock entry.1 ≡ b → (b || through lock opens) ≡ true
     → (is_through lock (change entry.1) || through lock (map (λ e. (e.0, change e.1)) opens)) ≡ true) [
-      | true ↦ λ e h. ap (λ b. b || through lock (map (λ e. (e.0, change e.1)) opens)) (it ∙ e)
+      | true ↦ λ e h. ap (λ b. b || through lock (map (λ e. (e.0, change e.1)) opens)) (same entry.1 ∙ e)
       | false ↦ λ e h. or_true (is_through lock (change entry.1)) (through lock (map (λ e. (e.0, change e.1)) opens)) (through-map lock change same opens h)
     ] refl some
 
@@ -74,15 +78,21 @@ through-more lock (entry ∷ opens) more some =
       | false ↦ λ h. through-more lock opens more h
     ] some
 
--- an open that is named is one of them
-pub through-named : (lock : Lock) (name : List ℕ) (opens : Named OpenState) (opened : OpenState) → named name opens ≡ Some opened → is_through lock opened ≡ true
-    → through lock opens ≡ true
-through-named lock name [] opened is its = absurd cc
-through-named lock name (entry ∷ opens) opened is its =
-    elim (same_name name entry.0) as (λ b. cond b (Some entry.1) (named name opens) ≡ Some opened → through lock (entry ∷ opens) ≡ true) [
-      | true ↦ λ e. (let same : opened ≡ entry.1 = cc in ap (λ b. b || through lock opens) (ap (is_through lock) (sym same) ∙ its))
-      | false ↦ λ e. or_true (is_through lock entry.1) (through lock opens) (through-named lock name opens opened e its)
+-- an open that is named is one of them, and changed as they are
+pub through-changed : (lock : Lock) (change : OpenState → OpenState) (name : List ℕ) (opens : Named OpenState) (opened : OpenState) → named name opens ≡ Some opened
+    → is_through lock (change opened) ≡ true → through lock (map (λ e. (e.0, change e.1)) opens) ≡ true
+through-changed lock change name [] opened is its = absurd cc
+through-changed lock change name (entry ∷ opens) opened is its =
+    elim (same_name name entry.0) as (λ b. cond b (Some entry.1) (named name opens) ≡ Some opened → through lock (map (λ e. (e.0, change e.1)) (entry ∷ opens)) ≡ true) [
+      | true ↦ λ e. (
+          let same : opened ≡ entry.1 = cc in
+          ap (λ b. b || through lock (map (λ e. (e.0, change e.1)) opens)) (ap (λ (o : OpenState). is_through lock (change o)) (sym same) ∙ its))
+      | false ↦ λ e. or_true (is_through lock (change entry.1)) (through lock (map (λ e. (e.0, change e.1)) opens)) (through-changed lock change name opens opened e its)
     ] is
+
+-- none of another number is
+pub not-through : (lock : Lock) (o : OpenState) → o.number ≢ lock.opened → is_through lock o ≡ false
+not-through lock o differ = let other : (o.number == lock.opened) ≡ false = differ-false o.number lock.opened differ in rw other refl
 
 -- one of another number stays where an open of this name goes
 through-others : (lock : Lock) (name : List ℕ) (opened : OpenState) (opens : Named OpenState) → AllByRecursion (λ e. same_name name e.0 ≡ true → e.1 ≡ opened) opens
@@ -130,6 +140,33 @@ kept-started Rollback None = tt
 kept-started EndCommitment None = tt
 kept-started EndJob None = tt
 
+-- a WRITE keeps its lock to the boundary, or none
+write-kept : (call : Call) → IsWrite call → (P : Type 0) (level : Option Level) → IfSome (gained call level) (λ w. is_open w.reach ≡ true → P)
+write-kept Write is P None = tt
+write-kept Write is P (Some levels.Chg) = λ e. absurd cc
+write-kept Write is P (Some levels.Cs) = λ e. absurd cc
+write-kept Write is P (Some levels.All) = λ e. absurd cc
+write-kept WriteAt is P None = tt
+write-kept WriteAt is P (Some levels.Chg) = λ e. absurd cc
+write-kept WriteAt is P (Some levels.Cs) = λ e. absurd cc
+write-kept WriteAt is P (Some levels.All) = λ e. absurd cc
+write-kept InputRead is P level = absurd is
+write-kept UpdateRead is P level = absurd is
+write-kept Update is P level = absurd is
+write-kept Delete is P level = absurd is
+write-kept Unlock is P level = absurd is
+write-kept Position is P level = absurd is
+write-kept Close is P level = absurd is
+write-kept Commit is P level = absurd is
+write-kept Rollback is P level = absurd is
+write-kept EndCommitment is P level = absurd is
+write-kept EndJob is P level = absurd is
+
+-- what is needed of a lock that is gained, by how long it is kept
+record Reaches (ends : Bool) (started : Option Level) (Moves : Type 0) : Type 0 where
+  level : ends ≡ false → IsSome started
+  moves : ends ≡ true → Moves
+
 -- ---- which locks boundaries free
 
 frees-boundary : (call : Call) → IsBoundary call → (level : Option Level) → (released call level).boundary_locks ≡ true
@@ -170,6 +207,28 @@ frees-open None = refl
 frees-open (Some levels.Chg) = refl
 frees-open (Some levels.Cs) = refl
 frees-open (Some levels.All) = refl
+
+-- a read frees those of its open
+read-frees : (call : Call) → IsRead call → (level : Option Level) → (released call level).open_locks ≡ OfOpen
+read-frees InputRead is None = refl
+read-frees InputRead is (Some levels.Chg) = refl
+read-frees InputRead is (Some levels.Cs) = refl
+read-frees InputRead is (Some levels.All) = refl
+read-frees UpdateRead is None = refl
+read-frees UpdateRead is (Some levels.Chg) = refl
+read-frees UpdateRead is (Some levels.Cs) = refl
+read-frees UpdateRead is (Some levels.All) = refl
+read-frees Update is level = absurd is
+read-frees Delete is level = absurd is
+read-frees Write is level = absurd is
+read-frees WriteAt is level = absurd is
+read-frees Unlock is level = absurd is
+read-frees Position is level = absurd is
+read-frees Close is level = absurd is
+read-frees Commit is level = absurd is
+read-frees Rollback is level = absurd is
+read-frees EndCommitment is level = absurd is
+read-frees EndJob is level = absurd is
 
 -- ---- a lock in another memory
 
@@ -223,7 +282,7 @@ module _ (s : State) (new : Memory) (job : ℕ) (sound : IsSound s) (runs : Runs
       same-job = ap (λ js. or_new (job_at l.job js)) is.jobs
 
       in-use : user_of l.at.member m ≡ None → ⊥
-      in-use free = used-by m l stands begun there free
+      in-use free = used-by m l sound.library.opens stands begun there free
 
   around-stand : IsAround m new → AllByRecursion (LockStands new) m.locks
   around-stand is = all-both (λ (l : Lock). LockStands m l × HasBegun (length m.jobs) l.job) (λ l. (test : Lock → Bool) → test l ≡ true → list_any test m.locks ≡ true) (LockStands new) m.locks
@@ -232,73 +291,131 @@ module _ (s : State) (new : Memory) (job : ℕ) (sound : IsSound s) (runs : Runs
       (all-from (λ l. HasBegun (length m.jobs) l.job) m.locks sound.library.keepers))
       (each-there m.locks)
 
-  -- ---- calls through an open
+  -- ---- calls through an open, on a record of one of its members
 
-  module _ (call : Call) (name : List ℕ) (opened : OpenState) (rrn : ℕ) (change : JobState → JobState) (of_open : OpenState → OpenState) (named : open_named name job m ≡ Some opened)
+  module _ (call : Call) (name : List ℕ) (opened : OpenState) (member rrn : ℕ) (change : JobState → JobState) (of_open : OpenState → OpenState) (named : open_named name job m ≡ Some opened)
       (jobs : new.jobs ≡ job_changed (job - 1) change m.jobs) (goes : Goes its (change its) of_open) where
-    gains : (1 ≤ rrn) × (rrn ≤ length (slots_of opened.member new)) → (wanted : Wanted) → (is_open wanted.reach ≡ false → IsSome (level_of its opened))
-        → LockStands new (lock_by (holder_of job opened) (record_of opened rrn) wanted.kind wanted.reach)
-    gains within wanted level = record {
+    abbrev at : RecordId
+    at = record_of (at_member member opened) rrn
+
+    gains : (1 ≤ rrn) × (rrn ≤ length (slots_of member new)) → (wanted : Wanted) → (is_open wanted.reach ≡ false → IsSome (level_of its opened))
+        → (is_open wanted.reach ≡ true → (of_open opened).member ≡ member) → LockStands new (lock_by (holder_of job opened) at wanted.kind wanted.reach)
+    gains within wanted level moves = record {
       counted = within.0;
       there = within.1;
       opened = λ ends. subst (λ (j : JobState). HasOpenOf j lock) (sym (job_of-own m new job change jobs runs))
-          (subst (λ (opens : Named OpenState). through lock opens ≡ true) (sym goes.opens)
-          (through-map lock of_open goes.same its.opens (through-named lock name its.opens opened named
-          (rw (number-same opened.number opened.number refl, number-same opened.member opened.member refl) refl))));
+          (subst (λ (opens : Named OpenState). through lock opens ≡ true) (sym goes.opens) (through-changed lock of_open name its.opens opened named
+          (rw (number-same (of_open opened).number opened.number (goes.same opened).number, number-same (of_open opened).member member (moves ends)) refl)));
       started = λ kept. subst (λ (j : JobState). IsSome j.level) (sym (job_of-own m new job change jobs runs))
           (subst (λ (l : Option Level). IsSome l) (sym goes.level) (level-started its opened (level kept)));
     }
       where
         lock : Lock
-        lock = lock_by (holder_of job opened) (record_of opened rrn) wanted.kind wanted.reach
+        lock = lock_by (holder_of job opened) at wanted.kind wanted.reach
 
-    call-stands : new.locks ≡ locks_left call job opened rrn m → ((number : ℕ) → length (slots_of number m) ≤ length (slots_of number new))
-        → IfSome (asked call (level_of its opened)) (λ w. (1 ≤ rrn) × (rrn ≤ length (slots_of opened.member new))) → AllByRecursion (LockStands new) new.locks
-    call-stands locks grows within =
+    -- the locks to the next read that are left are held through what the opens become
+    abbrev StayThrough : Type 0
+    StayThrough =
+        (l : Lock) → is_freed (released call (level_of its opened)).open_locks (holder_of job opened) at (is_committed its) l ≡ false → l.job ≡ job → is_open l.reach ≡ true
+        → (o : OpenState) → is_through l (of_open o) ≡ is_through l o
+
+    call-stands : new.locks ≡ locks_left call job (at_member member opened) rrn m → ((number : ℕ) → length (slots_of number m) ≤ length (slots_of number new)) → StayThrough
+        → IfSome (asked call (level_of its opened)) (λ w. (1 ≤ rrn) × (rrn ≤ length (slots_of member new)))
+        → IfSome (gained call (level_of its opened)) (λ w. is_open w.reach ≡ true → (of_open opened).member ≡ member) → AllByRecursion (LockStands new) new.locks
+    call-stands locks grows stay within moves =
         subst (AllByRecursion (LockStands new)) (sym locks)
-        (after-all (holder_of job opened) (record_of opened rrn) (is_committed its) call (level_of its opened) (LockStands m) (LockStands new) m.locks
+        (after-all (holder_of job opened) at (is_committed its) call (level_of its opened) (LockStands m) (LockStands new) m.locks
         (λ l left spared stands. stands-after change jobs grows l
-        (λ same ends has. subst (λ (opens : Named OpenState). through l opens ≡ true) (sym goes.opens) (through-map l of_open goes.same its.opens has))
+        (λ same ends has. subst (λ (opens : Named OpenState). through l opens ≡ true) (sym goes.opens) (through-map l of_open (stay l left same ends) its.opens has))
         (λ same kept started. subst (λ (o : Option Level). IsSome o) (sym goes.level) started) stands)
-        (some-both (λ w. (1 ≤ rrn) × (rrn ≤ length (slots_of opened.member new))) (λ w. is_open w.reach ≡ false → IsSome (level_of its opened))
-        (λ w. LockStands new (lock_by (holder_of job opened) (record_of opened rrn) w.kind w.reach)) (gained call (level_of its opened)) (λ w bounds level. gains bounds w level)
-        (gained-asked (λ w. (1 ≤ rrn) × (rrn ≤ length (slots_of opened.member new))) call (level_of its opened) within) (kept-started call (level_of its opened)))
+        (some-both (λ w. (1 ≤ rrn) × (rrn ≤ length (slots_of member new))) reaches (λ w. LockStands new (lock_by (holder_of job opened) at w.kind w.reach))
+        (gained call (level_of its opened)) (λ w bounds both. gains bounds w both.level both.moves)
+        (gained-asked (λ w. (1 ≤ rrn) × (rrn ≤ length (slots_of member new))) call (level_of its opened) within)
+        (some-both (λ w. is_open w.reach ≡ false → IsSome (level_of its opened)) (λ w. is_open w.reach ≡ true → (of_open opened).member ≡ member) reaches (gained call (level_of its opened))
+        (λ w level move. record { level = level; moves = move }) (kept-started call (level_of its opened)) moves))
         sound.joint.locks)
+      where
+        reaches : Wanted → Type 0
+        reaches w = Reaches (is_open w.reach) (level_of its opened) ((of_open opened).member ≡ member)
 
   same-slots : new.members ≡ m.members → (number : ℕ) → length (slots_of number m) ≤ length (slots_of number new)
   same-slots members number = let same : length (slots_of number new) ≡ length (slots_of number m) = ap (λ all. length (member_of number all).slots) members in omega (arith, same)
 
   -- a change of a record that its place has, or that makes one
-  change-stands : (opened : OpenState) (call : Call) (rrn : ℕ) (slot : Slot) (of_open : OpenState → OpenState) → IsChange m job new opened call rrn slot of_open
-      → ((o : OpenState) → IsSameOpen (of_open o) o)
-      → (1 ≤ rrn) × (rrn ≤ length (slots_of opened.member new)) → AllByRecursion (LockStands new) new.locks
-  change-stands opened call rrn slot of_open is same within =
-      call-stands call is.name opened rrn (changing opened.commit is.cycle of_open) of_open is.named is.jobs
+  change-stands : (opened : OpenState) (member : ℕ) (call : Call) (rrn : ℕ) (slot : Slot) (of_open : OpenState → OpenState) → IsChange m job new opened member call rrn slot of_open
+      → ((o : OpenState) → IsSameOpen (of_open o) o) → (1 ≤ rrn) × (rrn ≤ length (slots_of member new))
+      → IfSome (gained call (level_of its opened)) (λ w. is_open w.reach ≡ true → (of_open opened).member ≡ member) → AllByRecursion (LockStands new) new.locks
+  change-stands opened member call rrn slot of_open is same within moves =
+      call-stands call is.name opened member rrn (changing opened.commit is.cycle of_open) of_open is.named is.jobs
       (changing-goes opened.commit is.cycle of_open its (λ none. named-holds (λ (o : OpenState). o.commit ≡ false) is.name its.opens opened is.named
       ((stands-of s job sound runs).control.opens none)) same)
-      is.locks (put-grows m new opened.member rrn slot is.members) (some-each _ (asked call (level_of its opened)) (λ w. within))
+      is.locks (put-grows m new member rrn slot is.members) (λ l left own ends o. same-through l (of_open o) o (same o)) (some-each _ (asked call (level_of its opened)) (λ w. within)) moves
 
-  -- the place of a current record
-  current-within : (opened : OpenState) (call : Call) (rrn : ℕ) (slot : Slot) (of_open : OpenState → OpenState) → IsChange m job new opened call rrn slot of_open → opened.current ≡ Some rrn
-      → (1 ≤ rrn) × (rrn ≤ length (slots_of opened.member new))
-  current-within opened call rrn slot of_open is current =
+  -- of the open's current record
+  current-stands : (opened : OpenState) (call : Call) (rrn : ℕ) (slot : Slot) (of_open : OpenState → OpenState) → IsChange m job new opened opened.member call rrn slot of_open
+      → ((o : OpenState) → IsSameOpen (of_open o) o) → opened.current ≡ Some rrn → AllByRecursion (LockStands new) new.locks
+  current-stands opened call rrn slot of_open is same current =
       let stands = current-of s job sound runs is.name opened rrn is.named current in
       let bounds = live-within (member_of opened.member m.members) rrn stands.live in
       let last = bounds.1 in
       let longer = put-grows m new opened.member rrn slot is.members opened.member in
-      (bounds.0, omega (arith, last, longer))
+      change-stands opened opened.member call rrn slot of_open is same (bounds.0, omega (arith, last, longer))
+      (some-each _ (gained call (level_of its opened)) (λ w ends. (same opened).member))
 
-  -- the member of an open is there
-  opened-there : (name : List ℕ) (opened : OpenState) → open_named name job m ≡ Some opened → is_some (member_at opened.member m.members) ≡ true
-  opened-there name opened named =
-      by (file_named opened.file m) refl (named-holds (OpenHolds m.files) name its.opens opened named (all-at (job - 1) runs.at))
+  -- the member of an open is there, at any format
+  opened-there : (name : List ℕ) (opened : OpenState) (format : ℕ) → open_named name job m ≡ Some opened → is_some (member_at (at_format format opened).member m.members) ≡ true
+  opened-there name opened format named =
+      format-there s sound.library format opened (named-holds (OpenHolds m.files) name its.opens opened named (opens-held m job sound.library.opens))
+
+  -- ---- an open that is used: a read moves it, and frees what it held before
+
+  use-stands : IsUse m job new → AllByRecursion (LockStands new) new.locks
+  use-stands is =
+      call-stands is.call is.name is.opened is.member is.rrn (open_changed is.opened.number is.change) of_open is.named is.jobs
+      (record { ended = refl; level = refl; cycle = λ none was. was; opens = refl; opened = refl; same = λ o. alike-if (o.number == is.opened.number) is.change o (is.same o) })
+      is.locks (same-slots is.members) stay within moves
     where
-      all-at : (place : ℕ) → slice_get m.jobs place ≡ Some its → AllByRecursion (λ e. OpenHolds m.files e.1) its.opens
-      all-at place at = at-place (OpensHold m.files) m.jobs place its at sound.library.opens
+      of_open : OpenState → OpenState
+      of_open o = if o.number == is.opened.number then is.change o else o
 
-      by : (file : Option FileState) → file_named opened.file m ≡ file → OpensMember opened.member file → is_some (member_at opened.member m.members) ≡ true
-      by None is h = absurd h
-      by (Some file) is h = IsThere-is_some (fields_of file) (member_at opened.member m.members) (sound.library.members opened.file file opened.member (record { there = is; has = h }))
+      stay : (l : Lock) → is_freed (released is.call (level_of its is.opened)).open_locks (holder_of job is.opened) (record_of (at_member is.member is.opened) is.rrn) (is_committed its) l ≡ false
+          → l.job ≡ job → is_open l.reach ≡ true → (o : OpenState) → is_through l (of_open o) ≡ is_through l o
+      stay l left own ends o =
+          elim (o.number == is.opened.number) as (λ b. (o.number == is.opened.number) ≡ b → is_through l (if b then is.change o else o) ≡ is_through l o) [
+            | true ↦ λ e. by (number-is o.number is.opened.number e) is.of
+            | false ↦ λ e. refl
+          ] refl
+        where
+          by : o.number ≡ is.opened.number
+              → (IsRead is.call × IsSome (live_record is.member is.rrn m) × ((is.change is.opened).member ≡ is.member)) ⊎ (AsksNone is.call × ((x : OpenState) → (is.change x).member ≡ x.member))
+              → is_through l (is.change o) ≡ is_through l o
+          by same (inl read) =
+              let none : is_of_open (holder_of job is.opened) l ≡ false =
+              sym (ap (λ which. is_freed which (holder_of job is.opened) (record_of (at_member is.member is.opened) is.rrn) (is_committed its) l) (read-frees is.call read.0 (level_of its is.opened)))
+              ∙ left in
+              let other : is.opened.number ≢ l.opened = λ number. (
+              let it : (l.opened == is.opened.number) ≡ true = number-same l.opened is.opened.number (sym number) in
+              let some : is_of_open (holder_of job is.opened) l ≡ true = rw (ends, number-same l.job job own, it) refl in
+              absurd cc) in
+              not-through l (is.change o) (λ number. other (sym same ∙ sym (is.same o).number ∙ number)) ∙ sym (not-through l o (λ number. other (sym same ∙ number)))
+          by same (inr none) = same-through l (is.change o) o (record { number = (is.same o).number; member = none.1 o; commit = (is.same o).commit })
+
+      within : IfSome (asked is.call (level_of its is.opened)) (λ w. (1 ≤ is.rrn) × (is.rrn ≤ length (slots_of is.member new)))
+      within = elim is.of [
+        | inl read ↦ some-each _ (asked is.call (level_of its is.opened)) (λ w. subst (λ all. (1 ≤ is.rrn) × (is.rrn ≤ length (member_of is.member all).slots)) (sym is.members)
+            (live-within (member_of is.member m.members) is.rrn read.1))
+        | inr none ↦ subst (λ o. IfSome o (λ w. (1 ≤ is.rrn) × (is.rrn ≤ length (slots_of is.member new)))) (sym (asks-nothing is.call (level_of its is.opened) none.0)) tt
+      ]
+
+      moved : Wanted → Type 0
+      moved w = is_open w.reach ≡ true → (of_open is.opened).member ≡ is.member
+
+      moves : IfSome (gained is.call (level_of its is.opened)) moved
+      moves = elim is.of [
+        | inl read ↦ some-each moved (gained is.call (level_of its is.opened)) (λ w ends.
+            ap (λ b. (if b then is.change is.opened else is.opened).member) (number-same is.opened.number is.opened.number refl) ∙ read.2)
+        | inr none ↦ gained-asked moved is.call (level_of its is.opened) (subst (λ o. IfSome o moved) (sym (asks-nothing is.call (level_of its is.opened) none.0)) tt)
+      ]
 
   -- ---- boundaries
 
@@ -322,7 +439,7 @@ module _ (s : State) (new : Memory) (job : ℕ) (sound : IsSound s) (runs : Runs
       subst (AllByRecursion (LockStands new)) (sym locks)
       (after-all (of_job job) no_record (is_committed its) call its.level (LockStands m) (LockStands new) m.locks
       (λ l left spared stands. stands-after change jobs grows l
-      (λ own ends has. subst (λ (all : Named OpenState). through l all ≡ true) (sym opens) (through-map l of_open same its.opens has))
+      (λ own ends has. subst (λ (all : Named OpenState). through l all ≡ true) (sym opens) (through-map l of_open (λ o. same-through l (of_open o) o (same o)) its.opens has))
       (λ own kept started. absurd (not-left call is l spared own kept)) stands)
       (boundary-gains call is _) sound.joint.locks)
 
@@ -384,33 +501,31 @@ module _ (s : State) (new : Memory) (job : ℕ) (sound : IsSound s) (runs : Runs
 
   pub locks-left : Effect m job new → AllByRecursion (LockStands new) new.locks
   locks-left (Around is) = with-locks is.locks (around-stand is)
-  locks-left (Opening is) = jobs-stand (with_open is.args is.member) is.jobs is.members is.locks (λ l has. through-more l its.opens _ has) (λ level. level)
+  locks-left (Opening is) = jobs-stand (with_open is.args is.over) is.jobs is.members is.locks (λ l has. through-more l its.opens _ has) (λ level. level)
   locks-left (Closing is) = closing-stands is
-  locks-left (Use is) =
-      call-stands is.call is.name is.opened is.rrn (open_changed is.opened.number is.change) (λ o. if o.number == is.opened.number then is.change o else o) is.named is.jobs
-      (record { ended = refl; level = refl; cycle = λ none was. was; opens = refl; opened = refl; same = λ o. same-if (o.number == is.opened.number) is.change o (is.same o) })
-      is.locks (same-slots is.members) (elim is.of [
-        | inl read ↦ some-each _ (asked is.call (level_of its is.opened)) (λ w. subst (λ all. (1 ≤ is.rrn) × (is.rrn ≤ length (member_of is.opened.member all).slots)) (sym is.members)
-            (live-within (member_of is.opened.member m.members) is.rrn read.1))
-        | inr none ↦ subst (λ o. IfSome o (λ w. (1 ≤ is.rrn) × (is.rrn ≤ length (slots_of is.opened.member new)))) (sym (asks-nothing is.call (level_of its is.opened) none)) tt
-      ])
+  locks-left (Use is) = use-stands is
   locks-left (Writing is) =
-      change-stands is.opened is.call is.rrn (Live is.image) (λ o. o) is.change (λ o. record { number = refl; member = refl; commit = refl })
-      (write-first is.place, put-behind m new is.opened.member is.rrn is.image is.change.members (opened-there is.change.name is.opened is.change.named) (write-last is.place))
+      change-stands is.opened (at_format is.format is.opened).member is.call is.rrn (Live is.image) (λ o. o) is.change (λ o. record { number = refl; member = refl; commit = refl }) (
+        write-first is.place,
+        put-behind m new (at_format is.format is.opened).member is.rrn is.image is.change.members (opened-there is.change.name is.opened is.format is.change.named)
+            (write-last is.place),
+      )
+      (write-kept is.call (write-call is.place) _ (level_of its is.opened))
     where
-      write-first : IsPlace m job is.opened is.call is.rrn → 1 ≤ is.rrn
+      write-first : IsPlace m job (at_format is.format is.opened) is.call is.rrn → 1 ≤ is.rrn
       write-first (inl next) = let at = next.1 in omega (arith, at)
       write-first (inr named) = named.1.first
 
-      write-last : IsPlace m job is.opened is.call is.rrn → is.rrn ≤ length (slots_of is.opened.member m) + 1
+      write-last : IsPlace m job (at_format is.format is.opened) is.call is.rrn → is.rrn ≤ length (slots_of (at_format is.format is.opened).member m) + 1
       write-last (inl next) = let at = next.1 in omega (arith, at)
       write-last (inr named) = named.1.last
-  locks-left (Updating is) =
-      change-stands is.opened Update is.rrn (Live is.image) (unread is.opened.number) is.change (same-unread is.opened.number)
-      (current-within is.opened Update is.rrn (Live is.image) (unread is.opened.number) is.change is.current)
+
+      write-call : IsPlace m job (at_format is.format is.opened) is.call is.rrn → IsWrite is.call
+      write-call (inl next) = subst IsWrite (sym next.0) tt
+      write-call (inr named) = subst IsWrite (sym named.0) tt
+  locks-left (Updating is) = current-stands is.opened Update is.rrn (Live is.image) (unread is.opened.number) is.change (same-unread is.opened.number) is.current
   locks-left (Deleting is) =
-      change-stands is.opened Delete is.rrn Deleted (without_record is.opened.member is.rrn) is.change (same-without_record is.opened.member is.rrn)
-      (current-within is.opened Delete is.rrn Deleted (without_record is.opened.member is.rrn) is.change is.current)
+      current-stands is.opened Delete is.rrn Deleted (without_record is.opened.member is.rrn) is.change (same-without_record is.opened.member is.rrn) is.current
   locks-left (Start is) = jobs-stand (with_level (Some is.level)) is.jobs is.members is.locks (λ l has. has) (λ level. refl)
   locks-left (End is) = boundary-stands EndCommitment tt (with_level None) (λ o. o) is.jobs (sym (same-opens its.opens)) (λ o. record { number = refl; member = refl; commit = refl }) is.locks
       (same-slots is.members)

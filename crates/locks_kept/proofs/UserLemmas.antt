@@ -1,16 +1,18 @@
 -- A member that no job uses has no open over it and no lock.
 use Rattle.std.proofs.Common.{◌≡◌, ℕ, zero, suc, ◌+◌, ◌-◌, ◌<◌, ◌==◌, ◌&&◌, ◌||◌, Bool, true, false, if◌then◌else◌, length, List, [], ◌∷◌, Some, None, slice_get, refl, sym, ◌∙◌, ap, subst, arith}
-use Rattle.std.specs.List.{list_any}
+use Rattle.std.specs.List.{AllByRecursion, list_any}
 use Rattle.job_table.specs.Users.{HasBegun}
 use Rattle.lock_table.specs.declared.lock.Lock.{Lock}
 use Rattle.lock_table.specs.Lock.{is_open, is_boundary_in}
 use Rattle.library_steps.specs.State.{Memory, OpenState, JobState, job_of, or_new}
 use Rattle.library_steps.specs.Uses.{first_job, user_of, uses, has_open_over, has_changed, has_boundary_lock}
+use Rattle.library_parts.specs.Lawful.{OpenHolds, OpensHold}
 use Rattle.library_parts.proofs.BackLemmas.{neither}
 use Rattle.joint_state.specs.Locks.{LockStands, is_through}
 use Rattle.locks_kept.proofs.JobLemmas.{job_at-place}
-use Rattle.locks_kept.proofs.ListLemmas.{any-wider}
-use Rattle.locks_kept.proofs.TestLemmas.{and-parts, number-same}
+use Rattle.locks_kept.proofs.ListLemmas.{any-wider_of, at-place}
+use Rattle.locks_kept.proofs.OpenedMembers.{covered}
+use Rattle.locks_kept.proofs.TestLemmas.{and-parts, number-is, number-same}
 
 first_job-none : (test : ℕ → JobState → Bool) (number : ℕ) (jobs : List JobState) → first_job test number jobs ≡ None → (place : ℕ) (job : JobState) → slice_get jobs place ≡ Some job
     → test (number + place) job ≡ false
@@ -45,8 +47,8 @@ get-there (x ∷ xs) zero within = (x, refl)
 get-there (x ∷ xs) (suc place) within = get-there xs place (omega (arith, within))
 
 -- so none of its locks stands there
-pub used-by : (m : Memory) (l : Lock) → LockStands m l → HasBegun (length m.jobs) l.job → ((test : Lock → Bool) → test l ≡ true → list_any test m.locks ≡ true) → user_of l.at.member m ≡ None → ⊥
-used-by m l stands begun there free = by (get-there m.jobs (l.job - 1) within)
+pub used-by : (m : Memory) (l : Lock) → AllByRecursion (OpensHold m.files) m.jobs → LockStands m l → HasBegun (length m.jobs) l.job → ((test : Lock → Bool) → test l ≡ true → list_any test m.locks ≡ true) → user_of l.at.member m ≡ None → ⊥
+used-by m l held stands begun there free = by (get-there m.jobs (l.job - 1) within)
   where
     within : l.job - 1 < length m.jobs
     within = let first = begun.first in let last = begun.last in omega (arith, first, last)
@@ -54,8 +56,10 @@ used-by m l stands begun there free = by (get-there m.jobs (l.job - 1) within)
     back : l.job - 1 + 1 ≡ l.job
     back = let first = begun.first in omega (arith, first)
 
-    through-over : (o : OpenState) → is_through l o ≡ true → (o.member == l.at.member) ≡ true
-    through-over o through = (and-parts (o.number == l.opened) (o.member == l.at.member) through).1
+    through-over : (o : OpenState) → OpenHolds m.files o → is_through l o ≡ true → list_any (λ base. base == l.at.member) o.members ≡ true
+    through-over o holds through =
+        let same : o.member ≡ l.at.member = number-is o.member l.at.member (and-parts (o.number == l.opened) (o.member == l.at.member) through).1 in
+        subst (λ n. list_any (λ base. base == n) o.members ≡ true) same (covered m.files o holds)
 
     contrary : (a : Bool) → a ≡ true → a ≡ false → ⊥
     contrary true e h = absurd cc
@@ -67,7 +71,8 @@ used-by m l stands begun there free = by (get-there m.jobs (l.job - 1) within)
         let its : job_of l.job m ≡ found.0 = ap or_new (job_at-place l.job m.jobs begun.first ∙ found.1) in
         elim (is_open l.reach) as (λ b. is_open l.reach ≡ b → ⊥) [
           | true ↦ λ ends. contrary (has_open_over l.at.member found.0)
-              (any-wider (λ (e : List ℕ × OpenState). is_through l e.1) (λ e. e.1.member == l.at.member) found.0.opens (λ e through. through-over e.1 through)
+              (any-wider_of (λ (e : List ℕ × OpenState). OpenHolds m.files e.1) (λ e. is_through l e.1) (λ e. list_any (λ base. base == l.at.member) e.1.members) found.0.opens
+              (λ e holds through. through-over e.1 holds through) (at-place (OpensHold m.files) m.jobs (l.job - 1) found.0 found.1 held)
               (subst (λ (j : JobState). list_any (λ (e : List ℕ × OpenState). is_through l e.1) j.opens ≡ true) its (stands.opened ends))) unused.opens
           | false ↦ λ kept. contrary (has_boundary_lock l.at.member l.job m.locks)
               (there (λ lock. (lock.job == l.job) && is_boundary_in l.at.member lock) (rw (number-same l.job l.job refl, number-same l.at.member l.at.member refl, kept) refl))

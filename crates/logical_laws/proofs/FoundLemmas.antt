@@ -1,5 +1,5 @@
 -- What stands in the path of a logical file, and in the rows of a join, are records of its base members.
-use Rattle.std.proofs.Common.{◌≡◌, ℕ, zero, suc, ◌+◌, ◌-◌, ◌==◌, ◌∙◌, refl, sym, ap, subst, arith, Bool, true, false, Option, Some, None, List, [], ◌∷◌, ◌++◌, map, filter, slice_get, Contains}
+use Rattle.std.proofs.Common.{◌≡◌, ℕ, zero, suc, ◌+◌, ◌-◌, ◌==◌, ◌∙◌, refl, sym, ap, arith, Bool, false, Some, None, List, [], ◌∷◌, map, slice_get, Contains}
 use Rattle.std.specs.List.{AllByRecursion}
 use Rattle.std.proofs.lemmas.Bool.{cond-false, ne_eqb}
 use Rattle.member_slots.specs.declared.slot.Slot.{Slot}
@@ -15,7 +15,7 @@ use Rattle.file_model.specs.declared.paths.PathFormat.{PathFormat}
 use Rattle.file_model.specs.declared.paths.PathSpec.{PathSpec}
 use Rattle.file_model.specs.Paths.{PathEntry, compare_entries, entry_of, selected_of, entries_of, entries_from, path}
 use Rattle.file_model.specs.Selection.{selects}
-use Rattle.file_model.specs.Joins.{RowPlace, JoinRow, Matched, row_with, matches_of, or_missing, joined_rows, primary_row, primary_records, rows_of}
+use Rattle.file_model.specs.Joins.{RowPlace, JoinRow, row_with, matches_of, or_missing, joined_rows, primary_row, primary_records, rows_of}
 use Rattle.logical_model.specs.Bases.{Bases, base_members}
 use Rattle.logical_model.specs.FilePaths.{view_format, views_path, primary_path, join_of}
 use Rattle.logical_model.specs.Readings.{logical_reading, rows_reading}
@@ -116,7 +116,7 @@ rows-stand bases view members =
     (λ entry. joined_rows view.keeps_missing (join_of bases view).secondaries members (primary_row (primary_records (primary_path bases view).formats members) entry))
     (λ entry stands. rows-begin (StandsIn base members) view.keeps_missing (join_of bases view).secondaries members
     (primary_row (primary_records (primary_path bases view).formats members) entry) stands)
-    (path (primary_path bases view) members) 
+    (path (primary_path bases view) members)
     (path-stands base members (primary_path bases view) (first-has (primary_path bases view).formats (bases view.primary).member [] refl))
 
 pub row-stands : (bases : Bases) (view : JoinView) (members : NumberedMembers) (place : RowPlace) → Contains (rows_reading bases view members).items place

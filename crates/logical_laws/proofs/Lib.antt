@@ -1,3 +1,5 @@
 pub mod ListLemmas
 pub mod SameLemmas
 pub mod FoundLemmas
+pub mod GivenLemmas
+pub mod MappedLemmas

@@ -1,5 +1,5 @@
 -- What holds of each item of a list holds of each of what is made of them, and of each in an order.
-use Rattle.std.proofs.Common.{Bool, true, false, List, [], ◌∷◌, ◌++◌, map, filter, Contains}
+use Rattle.std.proofs.Common.{Bool, List, [], ◌∷◌, ◌++◌, map, filter, Contains}
 use Rattle.std.specs.List.{AllByRecursion, flat_map}
 use Rattle.std.specs.declared.cmp.Ordering.{Ordering}
 use Rattle.std.specs.Ordering.{is_lt}

@@ -1,18 +1,17 @@
 -- Paths and members of a logical file are told by its own base files.
-use Rattle.std.proofs.Common.{◌≡◌, ℕ, ◌∙◌, refl, sym, ap, subst, List, [], ◌∷◌, map}
+use Rattle.std.proofs.Common.{◌≡◌, ℕ, refl, subst, List, [], ◌∷◌, map}
 use Rattle.std.specs.List.{AllByRecursion}
 use Rattle.dds_logical.specs.declared.views.View.{View}
 use Rattle.dds_logical.specs.declared.views.LogicalSpec.{LogicalSpec}
 use Rattle.dds_logical.specs.declared.views.LogicalSpec.TheVariants.{Simple, Multi, Join}
 use Rattle.dds_logical.specs.declared.join_views.JoinedFile.{JoinedFile}
-use Rattle.file_model.specs.declared.paths.PathFormat.{PathFormat}
-use Rattle.file_model.specs.declared.paths.PathSpec.{PathSpec}
 use Rattle.file_model.specs.Joins.{secondary_path}
 use Rattle.logical_model.specs.Bases.{Base, Bases, base_names, base_members}
-use Rattle.logical_model.specs.FilePaths.{view_format, ties_of_views, secondary_of, primary_path, logical_paths}
+use Rattle.logical_model.specs.FilePaths.{view_format, secondary_of, logical_paths}
 use Rattle.logical_laws.specs.Mapped.{IsFieldMapped, IsViewMapped, IsSpecMapped, AreSameBases}
 
-formats-same : (bases other : Bases) (views : List View) → AllByRecursion (λ name. bases name ≡ other name) (map (λ view. view.base) views) → map (view_format bases) views ≡ map (view_format other) views
+formats-same : (bases other : Bases) (views : List View) → AllByRecursion (λ name. bases name ≡ other name) (map (λ view. view.base) views)
+    → map (view_format bases) views ≡ map (view_format other) views
 formats-same bases other [] same = refl
 formats-same bases other (view ∷ views) same = rw (same.0, formats-same bases other views same.1) refl
 
@@ -26,7 +25,8 @@ same-paths bases other (Simple view) same = rw same.0 refl
 same-paths bases other (Multi views) same = rw (formats-same bases other views same) refl
 same-paths bases other (Join view) same = rw (same.0, secondaries-same bases other view.secondaries same.1) refl
 
-members-same : (bases other : Bases) (names : List (List ℕ)) → AllByRecursion (λ name. bases name ≡ other name) names → map (λ name. (bases name).member) names ≡ map (λ name. (other name).member) names
+members-same : (bases other : Bases) (names : List (List ℕ)) → AllByRecursion (λ name. bases name ≡ other name) names
+    → map (λ name. (bases name).member) names ≡ map (λ name. (other name).member) names
 members-same bases other [] same = refl
 members-same bases other (name ∷ names) same = rw (same.0, members-same bases other names same.1) refl
 

@@ -1,13 +1,14 @@
 -- What a logical file stores lies in whole fields of its base files' records. (DDS for Physical and Logical Files, "CONCAT", "SST".)
 use Rattle.std.specs.Prelude.{◌≡◌, ℕ, None, Option, Some, List, Contains}
 use Rattle.std.specs.List.{AllByRecursion}
+use Rattle.field_types.specs.declared.kinds.Kind.TheVariants.{Char}
 use Rattle.field_types.specs.declared.kinds.FieldType.{FieldType}
 use Rattle.field_values.specs.FieldBytes.{fault_of}
 use Rattle.record_fmt.specs.declared.formats.Field.{Field}
 use Rattle.file_model.specs.declared.views.FieldSource.{FieldSource}
 use Rattle.file_model.specs.declared.views.FieldSource.TheVariants.{Copied, Converted, Concatenated, Substring}
 use Rattle.file_model.specs.declared.views.LogicalField.{LogicalField}
-use Rattle.file_model.specs.Views.{character}
+use Rattle.file_model.specs.declared.views.Piece.{Piece}
 use Rattle.dds_physical.specs.declared.physical_files.PhysicalSpec.{PhysicalSpec}
 use Rattle.dds_logical.specs.declared.views.View.{View}
 use Rattle.dds_logical.specs.declared.views.LogicalSpec.{LogicalSpec}
@@ -21,11 +22,19 @@ pub record IsFieldAt (fields : List Field) (t : FieldType) (offset : ℕ) : Type
   pub ty : field.ty ≡ t
   pub at : field.offset ≡ offset
 
+-- a character field begins where the piece does, and is as long
+pub record IsTextAt (fields : List Field) (piece : Piece) : Type 0 where
+  pub field : Field
+  pub among : Contains fields field
+  pub kind : field.ty.kind ≡ Char
+  pub long : field.ty.length ≡ piece.length
+  pub at : field.offset ≡ piece.offset
+
 -- what is stored under a field of a format; a substring stores nothing
 abbrev pub IsSourceMapped : List Field → FieldType → FieldSource → Type 0
 IsSourceMapped fields t (Copied offset) = IsFieldAt fields t offset
 IsSourceMapped fields t (Converted from offset) = IsFieldAt fields from offset
-IsSourceMapped fields t (Concatenated pieces) = AllByRecursion (λ piece. IsFieldAt fields (character piece.length) piece.offset) pieces
+IsSourceMapped fields t (Concatenated pieces) = AllByRecursion (IsTextAt fields) pieces
 IsSourceMapped fields t (Substring piece) = Unit {0}
 
 abbrev pub IsFieldMapped : List Field → LogicalField → Type 0

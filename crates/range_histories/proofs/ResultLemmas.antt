@@ -2,10 +2,11 @@
 use Rattle.std.proofs.Common.{◌≡◌, ℕ, Bool, true, false, Option, Some, None, Result, Ok, Err, List, refl, sym, ap, ◌∙◌, subst}
 use Rattle.library_model.specs.declared.replies.Reply.{Reply}
 use Rattle.library_model.specs.Named.{named}
-use Rattle.library_steps.specs.State.{Memory, file_named}
+use Rattle.library_steps.specs.State.{Memory, physical_named}
 use Rattle.library_steps.specs.Change.{Change, does}
 use Rattle.library_steps.specs.Refusals.{◌>>=◌, found, refuse_if, refuse_with, named_or_refused, FoundMember, member_of_file}
 use Rattle.library_steps.specs.Uses.{unused}
+use Rattle.library_parts.proofs.BaseLemmas.{physical-found}
 
 pub bind-ok : {A B : Type 0} (r : Result A Reply) (next : A → Result B Reply) (y : B) → (r >>= next) ≡ Ok y → (x : A) × (r ≡ Ok x) × (next x ≡ Ok y)
 bind-ok (Ok x) next y h = (x, refl, h)
@@ -38,10 +39,10 @@ ok-same (Err e) x y h g = absurd cc
 pub member_of_file-ok : (file member : List ℕ) (m : Memory) (it : FoundMember) → member_of_file file member m ≡ Ok it
     → (named file m.files ≡ Some it.file) × (named member it.file.members ≡ Some it.status)
 member_of_file-ok file member m it h =
-    let a = bind-ok (named_or_refused file (file_named file m)) _ it h in
+    let a = bind-ok (named_or_refused file (physical_named file m)) _ it h in
     let b = bind-ok (named_or_refused member (named member a.0.members)) _ it a.2 in
     let e : record { file = a.0; status = b.0 } ≡ it = cc in
-    let there : named file m.files ≡ Some a.0 = found-ok (named file m.files) _ a.0 a.1 in
+    let there : named file m.files ≡ Some a.0 = (physical-found file m.files a.0 (found-ok (physical_named file m) _ a.0 a.1)).0 in
     let has : named member a.0.members ≡ Some b.0 = found-ok (named member a.0.members) _ b.0 b.1 in (
       subst (λ (x : FoundMember). named file m.files ≡ Some x.file) e there,
       subst (λ (x : FoundMember). named member x.file.members ≡ Some x.status) e has,

@@ -12,5 +12,11 @@ returns-clause-apart c = λ s done it. (files-kept s it.job it.timestamp it.soun
 pub returns-clause-formats : goal.returns-clause-formats
 returns-clause-formats c = λ s done it. (files-kept s it.job it.timestamp it.sound it.sources done it.request it.does).formats
 
+pub returns-clause-views : goal.returns-clause-views
+returns-clause-views c = λ s done it. (files-kept s it.job it.timestamp it.sound it.sources done it.request it.does).views
+
+pub returns-clause-defaults : goal.returns-clause-defaults
+returns-clause-defaults c = λ s done it. (files-kept s it.job it.timestamp it.sound it.sources done it.request it.does).defaults
+
 pub returns-clause-within : goal.returns-clause-within
 returns-clause-within c = λ s done it. (request-left s it.job it.timestamp it.sound it.running it.sources done it.request it.does).within

@@ -1,0 +1,216 @@
+-- Over which members an open stands: its own is one of them, each of them is there, and what it reads lies in that of the format.
+use Rattle.std.proofs.Common.{◌≡◌, ℕ, zero, suc, ◌-◌, ◌==◌, ◌||◌, if◌then◌else◌, Bool, true, false, cond, map, List, [], ◌∷◌, Option, Some, None, IsSome, IfSome, is_some, unwrap_or, slice_get, refl, sym, ◌∙◌, ap, subst}
+use Rattle.std.specs.List.{AllByRecursion, list_any}
+use Rattle.std.specs.Option.{option_and_then, option_map, option_map_or}
+use Rattle.dds_logical.specs.declared.join_views.JoinView.{JoinView}
+use Rattle.dds_logical.specs.declared.views.LogicalSpec.TheVariants.{Simple, Multi, Join}
+use Rattle.member_slots.specs.Members.{member_at}
+use Rattle.file_model.specs.Joins.{RowPlace}
+use Rattle.file_model.specs.Paths.{PathEntry}
+use Rattle.file_model.specs.Positions.{Reading}
+use Rattle.logical_model.specs.Bases.{FileSpec, PhysicalFile, LogicalFile, base_names, base_members}
+use Rattle.logical_model.specs.Readings.{join_in, reading_in, rows_reading}
+use Rattle.file_catalogue.specs.Owners.{Owns, has_number}
+use Rattle.file_catalogue.proofs.StatusLemmas.{has_number-cons}
+use Rattle.library_model.specs.Named.{Named, named, same_name}
+use Rattle.library_steps.specs.State.{State, Memory, FileState, MemberStatus, OpenState, JobState, fields_of, file_named, if_physical, job_of, or_new, open_named, physical_among}
+use Rattle.library_steps.specs.LogicalFiles.{base_in, bases_in, bases_of}
+use Rattle.library_steps.specs.Records.{is_keyed, reading_of}
+use Rattle.library_steps.specs.Reads.{Found, at_format, entry_found, find_by, find_in, row_found}
+use Rattle.library_steps.specs.Refusals.{OpenedFile}
+use Rattle.library_parts.specs.Lawful.{IsBased, IsLibrary, OpenHolds, OpensBy, OpensFile, OpensHold}
+use Rattle.library_parts.proofs.MemberLemmas.{IsThere-is_some}
+use Rattle.locks_kept.proofs.FoundLemmas.{IsIn, Stands, logical-stands, physical-stands, rows-stand}
+use Rattle.locks_kept.proofs.ListLemmas.{all-weaker, at-place, witness}
+use Rattle.locks_kept.proofs.OpenLemmas.{named-holds}
+use Rattle.locks_kept.proofs.TestLemmas.{number-is, number-same, or_true}
+
+-- ---- its own member
+
+any-at : {X : Type 0} (test : X → Bool) (xs : List X) (place : ℕ) (x : X) → slice_get xs place ≡ Some x → test x ≡ true → list_any test xs ≡ true
+any-at test [] place x at passes = absurd cc
+any-at test (y ∷ ys) zero x at passes = let same : x ≡ y = cc in ap (λ b. b || list_any test ys) (ap test (sym same) ∙ passes)
+any-at test (y ∷ ys) (suc place) x at passes = or_true (test y) (list_any test ys) (any-at test ys place x at passes)
+
+-- the open's own member is one of its members
+abbrev pub IsCovered : OpenState → Type 0
+IsCovered opened = list_any (λ base. base == opened.member) opened.members ≡ true
+
+covered-by : (files : Named FileState) (opened : OpenState) (members : Named MemberStatus) (spec : FileSpec) → OpensBy files opened members spec → IsCovered opened
+covered-by files opened members (PhysicalFile spec) opens =
+    subst (λ (all : List ℕ). list_any (λ base. base == opened.member) all ≡ true) (sym opens.only) (ap (λ b. b || false) (number-same opened.member opened.member refl))
+covered-by files opened members (LogicalFile spec) opens =
+    any-at (λ base. base == opened.member) opened.members opened.format opened.member opens.read (number-same opened.member opened.member refl)
+
+pub covered : (files : Named FileState) (opened : OpenState) → OpenHolds files opened → IsCovered opened
+covered files opened holds = by (named opened.file files) holds
+  where
+    by : (file : Option FileState) → OpensFile files opened file → IsCovered opened
+    by None opens = absurd opens
+    by (Some file) opens = covered-by files opened file.members file.spec opens
+
+-- the opens of a job stand over files that are there
+pub opens-held : (m : Memory) (job : ℕ) → AllByRecursion (OpensHold m.files) m.jobs → OpensHold m.files (job_of job m)
+opens-held m job all =
+    elim (job == 0) as (λ b. OpensHold m.files (or_new (if b then None else slice_get m.jobs (job - 1)))) [
+      | true ↦ tt
+      | false ↦ by (slice_get m.jobs (job - 1)) refl
+    ]
+  where
+    by : (found : Option JobState) → slice_get m.jobs (job - 1) ≡ found → OpensHold m.files (or_new found)
+    by None is = tt
+    by (Some j) is = at-place (OpensHold m.files) m.jobs (job - 1) j is all
+
+-- an open that is named, and its file
+pub record IsOpenedFile (m : Memory) (job : ℕ) (name : List ℕ) (its : OpenedFile) : Type 0 where
+  pub named : open_named name job m ≡ Some its.opened
+  pub file : file_named its.opened.file m ≡ Some its.file
+
+abbrev pub Opens : Memory → OpenedFile → Type 0
+Opens m its = OpensBy m.files its.opened its.file.members its.file.spec
+
+pub opens-of : (m : Memory) (job : ℕ) (name : List ℕ) (its : OpenedFile) → AllByRecursion (OpensHold m.files) m.jobs → IsOpenedFile m job name its → Opens m its
+opens-of m job name its all is =
+    subst (OpensFile m.files its.opened) is.file (named-holds (OpenHolds m.files) name (job_of job m).opens its.opened is.named (opens-held m job all))
+
+-- ---- what it reads
+
+-- a record stands in the member to which a read of this entry moves the open
+abbrev pub FitsOpen : Memory → OpenState → PathEntry → Type 0
+FitsOpen m opened entry = Stands (at_format entry.format opened).member m entry.rrn
+
+fits-in : (m : Memory) (opened : OpenState) (base : List ℕ) (entry : PathEntry) → opened.members ≡ base → IsIn base m entry → FitsOpen m opened entry
+fits-in m opened base entry same is =
+    let at : (at_format entry.format opened).member ≡ is.member =
+    ap (λ (members : List ℕ). unwrap_or (slice_get members entry.format) opened.member) same ∙ ap (λ o. unwrap_or o opened.member) is.at in
+    subst (λ n. Stands n m entry.rrn) (sym at) is.stands
+
+reading-fits : (m : Memory) (its : OpenedFile) → Opens m its → AllByRecursion (FitsOpen m its.opened) (reading_of its.file its.opened m).items
+reading-fits m its opens = by its.file.spec (is_keyed its.file its.opened) opens
+  where
+    by : (spec : FileSpec) (keyed : Bool) → OpensBy m.files its.opened its.file.members spec
+        → AllByRecursion (FitsOpen m its.opened) (reading_in (bases_of m) spec keyed its.opened.member m.members).items
+    by (PhysicalFile spec) keyed over =
+        all-weaker (IsIn (its.opened.member ∷ []) m) (FitsOpen m its.opened) (reading_in (bases_of m) (PhysicalFile spec) keyed its.opened.member m.members).items
+        (λ entry is. fits-in m its.opened (its.opened.member ∷ []) entry over.only is) (physical-stands keyed spec its.opened.member m)
+    by (LogicalFile spec) keyed over =
+        all-weaker (IsIn (base_members (bases_of m) spec) m) (FitsOpen m its.opened) (reading_in (bases_of m) (LogicalFile spec) keyed its.opened.member m.members).items
+        (λ entry is. fits-in m its.opened (base_members (bases_of m) spec) entry over.all is) (logical-stands (bases_of m) spec m)
+
+rows-fit : (m : Memory) (its : OpenedFile) → Opens m its → (view : JoinView) → join_in its.file.spec ≡ Some view
+    → AllByRecursion (λ row. FitsOpen m its.opened row.primary) (rows_reading (bases_of m) view m.members).items
+rows-fit m its opens view joins = by its.file.spec opens joins
+  where
+    in-row : (other : JoinView) → OpensBy m.files its.opened its.file.members (LogicalFile (Join other))
+        → AllByRecursion (λ row. FitsOpen m its.opened row.primary) (rows_reading (bases_of m) other m.members).items
+    in-row other over =
+        all-weaker (λ (row : RowPlace). IsIn (base_members (bases_of m) (Join other)) m row.primary) (λ row. FitsOpen m its.opened row.primary) (rows_reading (bases_of m) other m.members).items
+        (λ row is. fits-in m its.opened (base_members (bases_of m) (Join other)) row.primary over.all is) (rows-stand (bases_of m) other m)
+
+    by : (spec : FileSpec) → OpensBy m.files its.opened its.file.members spec → join_in spec ≡ Some view
+        → AllByRecursion (λ row. FitsOpen m its.opened row.primary) (rows_reading (bases_of m) view m.members).items
+    by (PhysicalFile spec) over e = absurd cc
+    by (LogicalFile (Simple other)) over e = absurd cc
+    by (LogicalFile (Multi others)) over e = absurd cc
+    by (LogicalFile (Join other)) over e =
+        let same : other ≡ view = cc in
+        subst (λ v. AllByRecursion (λ row. FitsOpen m its.opened row.primary) (rows_reading (bases_of m) v m.members).items) same (in-row other over)
+
+-- ---- what it finds
+
+-- a search that finds one of the items
+abbrev pub FindsEntry : Memory → (Reading PathEntry → Option PathEntry) → Type 0
+FindsEntry m search = (opened : OpenState) (reading : Reading PathEntry) → AllByRecursion (FitsOpen m opened) reading.items → IfSome (search reading) (FitsOpen m opened)
+
+abbrev pub FindsRow : Memory → (Reading RowPlace → Option RowPlace) → Type 0
+FindsRow m search =
+    (opened : OpenState) (reading : Reading RowPlace) → AllByRecursion (λ row. FitsOpen m opened row.primary) reading.items → IfSome (search reading) (λ row. FitsOpen m opened row.primary)
+
+map-holds : {A B : Type 0} (f : A → B) (P : B → Type 0) (o : Option A) → IfSome o (λ a. P (f a)) → IfSome (option_map f o) P
+map-holds f P None holds = tt
+map-holds f P (Some a) holds = holds
+
+pub find_in-fits : (m : Memory) (its : OpenedFile) → Opens m its → (find_entry : Reading PathEntry → Option PathEntry) (find_row : Reading RowPlace → Option RowPlace)
+    → FindsEntry m find_entry → FindsRow m find_row → IfSome (find_in its m find_entry find_row) (λ it. FitsOpen m its.opened it.entry)
+find_in-fits m its opens find_entry find_row finds_entry finds_row = by (join_in its.file.spec) refl
+  where
+    by : (join : Option JoinView) → join_in its.file.spec ≡ join → IfSome (find_by join its m find_entry find_row) (λ it. FitsOpen m its.opened it.entry)
+    by None joins =
+        map-holds entry_found (λ (it : Found). FitsOpen m its.opened it.entry) (find_entry (reading_of its.file its.opened m))
+        (finds_entry its.opened (reading_of its.file its.opened m) (reading-fits m its opens))
+    by (Some view) joins =
+        map-holds row_found (λ (it : Found). FitsOpen m its.opened it.entry) (find_row (rows_reading (bases_of m) view m.members))
+        (finds_row its.opened (rows_reading (bases_of m) view m.members) (rows-fit m its opens view joins))
+
+-- ---- its members are there
+
+number-there : (name : List ℕ) (members : Named MemberStatus) (status : MemberStatus) → named name members ≡ Some status → has_number status.number members ≡ true
+number-there name [] status is = absurd cc
+number-there name (entry ∷ members) status is =
+    elim (same_name name entry.0) as (λ b. cond b (Some entry.1) (named name members) ≡ Some status → has_number status.number (entry ∷ members) ≡ true) [
+      | true ↦ λ e. (
+          let same : status ≡ entry.1 = cc in
+          has_number-cons status.number entry members
+          ∙ ap (λ b. b || has_number status.number members) (number-same entry.1.number status.number (ap (λ (s : MemberStatus). s.number) (sym same))))
+      | false ↦ λ e. has_number-cons status.number entry members
+          ∙ or_true (entry.1.number == status.number) (has_number status.number members) (number-there name members status e)
+    ] is
+
+module _ (s : State) (library : IsLibrary s) where
+  abbrev IsThere : ℕ → Type 0
+  IsThere number = is_some (member_at number s.members) ≡ true
+
+  owned-there : (name : List ℕ) (file : FileState) (number : ℕ) → Owns s.files name file number → IsThere number
+  owned-there name file number owns = IsThere-is_some (fields_of file) (member_at number s.members) (library.members name file number owns)
+
+  -- a physical file's member of its own name
+  own-there : (name : List ℕ) (file : FileState) → named name s.files ≡ Some file → (found : Option MemberStatus) → named name file.members ≡ found → IsSome found
+      → IsThere (base_in name (Some file)).member
+  own-there name file is None there some = absurd cc
+  own-there name file is (Some status) there some =
+      let number : (base_in name (Some file)).member ≡ status.number = ap (λ (o : Option MemberStatus). option_map_or (λ found. found.number) o 0) there in
+      subst IsThere (sym number) (owned-there name file status.number (record { there = is; has = number-there name file.members status there }))
+
+  base-there : (name : List ℕ) → IsSome (physical_among name s.files) → IsThere (bases_in s.files name).member
+  base-there name there = by (named name s.files) refl there
+    where
+      of : (file : FileState) → named name s.files ≡ Some file → (spec : FileSpec) → IsBased s.files name file.members spec → IsSome (if_physical spec file)
+          → IsThere (base_in name (if_physical spec file)).member
+      of file is (PhysicalFile spec) based some = own-there name file is (named name file.members) refl based
+      of file is (LogicalFile spec) based some = absurd cc
+
+      by : (found : Option FileState) → named name s.files ≡ found → IsSome (option_and_then (λ file. if_physical file.spec file) found)
+          → IsThere (base_in name (option_and_then (λ file. if_physical file.spec file) found)).member
+      by None is some = absurd cc
+      by (Some file) is some = of file is file.spec (library.bases name file is) some
+
+  bases-there : (names : List (List ℕ)) → AllByRecursion (λ name. IsSome (physical_among name s.files)) names → AllByRecursion IsThere (map (λ name. (bases_in s.files name).member) names)
+  bases-there [] all = tt
+  bases-there (name ∷ names) all = (base-there name all.0, bases-there names all.1)
+
+  pub members-there : (opened : OpenState) → OpenHolds s.files opened → AllByRecursion IsThere opened.members
+  members-there opened holds = by (named opened.file s.files) refl holds
+    where
+      of : (file : FileState) → named opened.file s.files ≡ Some file → (spec : FileSpec) → IsBased s.files opened.file file.members spec → OpensBy s.files opened file.members spec
+          → AllByRecursion IsThere opened.members
+      of file is (PhysicalFile spec) based opens =
+          subst (AllByRecursion IsThere) (sym opens.only) (owned-there opened.file file opened.member (record { there = is; has = opens.has }), tt)
+      of file is (LogicalFile spec) based opens = subst (AllByRecursion IsThere) (sym opens.all) (bases-there (base_names spec) based.bases)
+
+      by : (found : Option FileState) → named opened.file s.files ≡ found → OpensFile s.files opened found → AllByRecursion IsThere opened.members
+      by None is opens = absurd opens
+      by (Some file) is opens = of file is file.spec (library.bases opened.file file is) opens
+
+  -- that of a format too, whatever its number
+  pub format-there : (format : ℕ) (opened : OpenState) → OpenHolds s.files opened → IsThere (at_format format opened).member
+  format-there format opened holds = by (slice_get opened.members format) refl
+    where
+      all : AllByRecursion IsThere opened.members
+      all = members-there opened holds
+
+      own : (n : ℕ) × ((n == opened.member) ≡ true) × IsThere n → IsThere opened.member
+      own found = subst IsThere (number-is found.0 opened.member found.1) found.2
+
+      by : (found : Option ℕ) → slice_get opened.members format ≡ found → IsThere (unwrap_or found opened.member)
+      by None is = own (witness (λ base. base == opened.member) IsThere opened.members (covered s.files opened holds) all)
+      by (Some n) is = at-place IsThere opened.members format n is all
