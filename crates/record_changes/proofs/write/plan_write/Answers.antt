@@ -10,7 +10,7 @@ pub returns-clause-plan : goal.returns-clause-plan
 returns-clause-plan c =
     let plain = IsPlain-named _ _ _ c.requires.unkeyed c.in_ok-opened.ensures.there.owns.there in
     let planned =
-    write-given (memory_of c.args.contents.now.state) c.args.job c.in_ok-opened.field-0.opened.now c.in_ok-opened.field-0.file.now c.args.args.now _ plain c.in_ok-may_deposit.ensures.allowed.allowed
+    write-given (memory_of c.args.contents.now.state) c.args.job c.in_ok-opened.field-0.opened.now c.in_ok-opened.field-0.file.now c.args.args.now _ plain c.in_ok-may_deposit.ensures.allowed
     c.in_ok-opened.ensures.found c.in_ok-_number.ensures.asked c.in_ok-may_change.ensures c.in_ok-_number.ensures.first
     (at_format-only _ c.only_member-member.ensures.only c.only_member-member.ensures.format)
     in
