@@ -24,7 +24,7 @@ use member_slots::slot::Slot;
 
 /// The number of the format that is named, counted from 0. A file without a key has one.
 pub(crate) fn format_asked(file: &File, named: Option<Name>) -> Result<u32, Stop>
-    requires plain { IsPlain file.now.spec }
+    requires { IsPlain file.now.spec }
     ensures asked { Gives result (format_asked named file.now.spec) }
     ensures first { IfOk result (λ number. number ≡ 0) }
 {

@@ -6,5 +6,5 @@ use Rattle.record_changes.proofs.refusals.format_asked.Goals as goal
 
 pub returns-clause-asked : goal.returns-clause-asked
 returns-clause-asked c =
-    subst (λ (r : Result ℕ Reply). Gives c.format_named.result r) (sym (format_asked-plain c.args.named c.args.file.now.spec c.requires.plain))
+    subst (λ (r : Result ℕ Reply). Gives c.format_named.result r) (sym (format_asked-plain c.args.named c.args.file.now.spec c.requires))
     (rw c.format.ensures.format at c.format_named.ensures.asked)
