@@ -14,3 +14,4 @@ pub mod LoopLemmas
 pub mod MismatchLemmas
 pub mod AheadLemmas
 pub mod BeyondLemmas
+pub mod JoinLineLemmas

@@ -9,6 +9,7 @@ pub mod Keys
 pub mod Selections
 pub mod WholeFile
 pub mod JoinLines
+pub mod JoinSteps
 pub mod JoinFields
 pub mod JoinViews
 pub mod Logical
