@@ -8,10 +8,11 @@ use Rattle.dds_source.specs.declared.specifications.Specification.{Specification
 use Rattle.dds_source.specs.Reading.{is_record}
 use Rattle.dds_physical.specs.declared.physical_files.PhysicalSpec.{PhysicalSpec}
 use Rattle.dds_physical.specs.WholeFile.{is_field_kind}
+use Rattle.dds_logical.specs.declared.format_lines.LineKind.{LineKind}
 use Rattle.dds_logical.specs.declared.format_lines.LineKind.TheVariants as line_kinds
-use Rattle.dds_logical.specs.FormatLines.{FormatLines, formats_in}
+use Rattle.dds_logical.specs.FormatLines.{FormatLines, field_lines, formats_in}
 use Rattle.dds_logical.specs.WholeFile.{is_no_base}
-use Rattle.dds_logical.specs.Judged.{stands_within, is_of, lines_of, faults_at, is_missing_base}
+use Rattle.dds_logical.specs.Judged.{is_fieldless_at, stands_within, is_of, lines_of, faults_at, is_missing_base}
 
 pub formats_count : (ss : List Specification) → length (formats_in ss) ≡ length (filter (λ s. is_record s.kind) ss)
 formats_count [] = refl
@@ -42,3 +43,12 @@ ahead_is ss = refl
 
 pub ahead_short : (ss : List Specification) → prefix_len stands_within ss ≤ length ss
 ahead_short ss = prefix_len-le-length stands_within ss
+
+pub no_lines : (kind : LineKind) (ss : List Specification) → not (list_any (λ s. is_of kind s.kind) ss) ≡ (length (lines_of kind ss) == 0)
+no_lines kind [] = refl
+no_lines kind (s ∷ ss) = elim (cases_Bool (is_of kind s.kind)) [ inl h ↦ rw h (sym (ne_eqb (suc (length (lines_of kind ss))) 0 (λ e. absurd (omega (arith, e))))) | inr h ↦ rw h (no_lines kind ss) ]
+
+pub fieldless_more : (s : Specification) (ss : List Specification)
+    → (is_fieldless_at s ss || list_any (λ f. length (field_lines f) == 0) (formats_in ss)) ≡ list_any (λ f. length (field_lines f) == 0) (formats_in (s ∷ ss))
+unfolding is_fieldless_at
+fieldless_more s ss = elim (cases_Bool (is_record s.kind)) [ inl h ↦ rw h refl | inr h ↦ rw h refl ]

@@ -15,3 +15,6 @@ pub mod MismatchLemmas
 pub mod AheadLemmas
 pub mod BeyondLemmas
 pub mod JoinLineLemmas
+pub mod JoinFieldLemmas
+pub mod JoinViewLemmas
+pub mod JoinCompleteLemmas

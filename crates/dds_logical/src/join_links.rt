@@ -1,10 +1,13 @@
 //! Which file of a join is reached from which, by its J lines.
-ghost use Rattle.std.specs.Prelude.{◌≡◌, ◌&&◌, ◌==◌, length, Some, None, if◌then◌else◌};
+ghost use Rattle.std.specs.Prelude.{◌≡◌, ◌&&◌, ◌==◌, ◌++◌, filter, length, Some, None, if◌then◌else◌};
 ghost use Rattle.std.specs.Option.{option_copied};
+ghost use Rattle.dds_logical.specs.declared.format_lines.LineKind.TheVariants as line_kinds;
 ghost use Rattle.dds_logical.specs.KeywordArguments.{names_among};
-ghost use Rattle.dds_logical.specs.JoinLines.{leads_to, link_between, link_of, link_of_names, link_said, place_from};
-ghost use Rattle.dds_logical.specs.JoinSteps.{link_of_given};
+ghost use Rattle.dds_logical.specs.Judged.{first_line, lines_of};
+ghost use Rattle.dds_logical.specs.JoinLines.{leads_to, lines_to, link_between, link_of, link_of_names, link_said, place_from};
+ghost use Rattle.dds_logical.specs.JoinSteps.{link_of_given, reaches};
 
+use crate::format_lines::{LineKind, is_of};
 use crate::given_names::{GivenNames, given_names};
 use crate::keyword_names::{arguments_of, first_named};
 use dds_source::arguments::Argument;
@@ -87,4 +90,58 @@ fn leads_to(place: usize, link: Option<Link>) -> bool
         Some(link) => link.to == place,
         None => false,
     }
+}
+
+/// Whether it is a J line, and reaches the file of this place.
+#[tactic(auto, unfolding(crate::specs::JoinSteps::reaches))]
+fn reaches(files: &[Name], line: &Specification, place: usize) -> bool
+    ensures { result ≡ reaches files.now place line.now }
+{
+    is_of(LineKind::Join, line) && leads_to(place, link_of(files, line))
+}
+
+fn count_reaching(files: &[Name], lines: &[Specification], place: usize) -> usize
+    ensures { result ≡ length (filter (λ s. reaches files.now place s) lines.now) }
+{
+    lines
+        .iter()
+        .filter(|line| reaches(files, line, place))
+        .count()
+}
+
+/// How many J lines reach the file of this place.
+#[tactic(auto, using(crate::proofs::JoinLineLemmas::reaching_are))]
+pub(crate) fn count_to(files: &[Name], lines: &[Specification], place: usize) -> usize
+    ensures { result ≡ length (lines_to files.now (lines_of line_kinds.Join lines.now) place) }
+{
+    count_reaching(files, lines, place)
+}
+
+fn first_reaching<'a>(
+    files: &[Name],
+    lines: &'a [Specification],
+    place: usize,
+) -> Option<&'a Specification>
+    ensures { option_copied result ≡ first_line (filter (λ s. reaches files.now place s) lines.now) }
+{
+    let mut rest = lines;
+    while let [line, more @ ..] = rest {
+        if reaches(files, line, place) {
+            return Some(line);
+        }
+        rest = more;
+    }
+    None
+}
+
+/// The first J line that reaches the file of this place.
+#[tactic(auto, using(crate::proofs::JoinLineLemmas::reaching_are))]
+pub(crate) fn first_to<'a>(
+    files: &[Name],
+    lines: &'a [Specification],
+    place: usize,
+) -> Option<&'a Specification>
+    ensures { option_copied result ≡ first_line (lines_to files.now (lines_of line_kinds.Join lines.now) place) }
+{
+    first_reaching(files, lines, place)
 }
