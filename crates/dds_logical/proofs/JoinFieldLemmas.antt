@@ -30,7 +30,7 @@ use Rattle.dds_logical.specs.JoinLines.{fields_at}
 use Rattle.dds_logical.specs.JoinFields.{PlacedField, first_place, is_of_secondary, is_secondary, place_by, place_of_field, place_of_file, place_of_line, place_of_number, place_said, placed, placed_at, placed_fields, places_of_names, places_with, primary_key_faults}
 use Rattle.dds_logical.specs.JoinViews.{joined_field}
 use Rattle.dds_logical.specs.JoinSteps.{AreLow, is_one_named, is_secondary_named, joined_of, key_place_faults, named_of_placed, place_named, placed_if, places_of_placed}
-use Rattle.dds_logical.proofs.JoinLineLemmas.{IsBelow, place_below}
+use Rattle.dds_logical.proofs.JoinLineLemmas.{IsBelow, place_within}
 
 -- ---- its file
 
@@ -118,7 +118,7 @@ first_below at n (f ∷ fields) ns all = one (lacks_one f ns) (first_below (at +
 
 of_names_below : (n : ℕ) (fields : List (List Field)) (ns : List (List ℕ)) → length fields ≡ n → IsBelow n (first_place (places_of_names fields ns))
 of_names_below n fields [] all = tt
-of_names_below n fields (m ∷ ns) all = first_below 0 n fields (m ∷ ns) all
+of_names_below n fields (m ∷ ns) all = first_below 0 n fields (m ∷ ns) (omega (arith, all))
 
 number_below : (count : ℕ) (number : Option ℕ) → IsBelow count (place_of_number count number)
 number_below count None = tt
@@ -133,7 +133,7 @@ number_below count (Some n) = one (nat_le 1 n && nat_le n count) below
 
 file_below : (files : List (List ℕ)) (name : Option (List ℕ)) (number : Option ℕ) → IsBelow (length files) (place_of_file files name number)
 file_below files None number = number_below (length files) number
-file_below files (Some name) number = place_below 0 files name
+file_below files (Some name) number = place_within files name
 
 said_below : (files : List (List ℕ)) (args : List Argument) → IsBelow (length files) (place_said files args)
 said_below files [] = tt

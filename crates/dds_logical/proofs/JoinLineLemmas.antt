@@ -104,7 +104,7 @@ abbrev pub IsBelow : ℕ → Option ℕ → Type 0
 IsBelow n None = Unit {0}
 IsBelow n (Some place) = place < n
 
-pub place_below : (at : ℕ) (files : List (List ℕ)) (name : List ℕ) → IsBelow (at + length files) (place_from at files name)
+place_below : (at : ℕ) (files : List (List ℕ)) (name : List ℕ) → IsBelow (at + length files) (place_from at files name)
 place_below at [] name = tt
 place_below at (file ∷ files) name =
     let one_more : at + 1 + length files ≡ at + length (file ∷ files) = omega arith in
@@ -113,6 +113,11 @@ place_below at (file ∷ files) name =
     one : (b : Bool) → IsBelow (at + 1 + length files) (place_from (at + 1) files name) → IsBelow (at + 1 + length files) (if b then Some at else place_from (at + 1) files name)
     one true more = omega arith
     one false more = more
+
+pub place_within : (files : List (List ℕ)) (name : List ℕ) → IsBelow (length files) (place_from 0 files name)
+place_within files name =
+    let all : 0 + length files ≡ length files = omega arith in
+    subst (λ (n : ℕ). IsBelow n (place_from 0 files name)) all (place_below 0 files name)
 
 -- a file is joined from one of the files
 pub from_within : (files : List (List ℕ)) (s : Specification) → place_or_first (link_of files s) ≤ length files
@@ -130,7 +135,7 @@ from_within files s = of_keyword (first_named (codes "JOIN") s.keywords)
     of_names : (ns : List (List ℕ)) → place_or_first (link_of_names files ns) ≤ length files
     of_names [] = omega arith
     of_names (a ∷ []) = omega arith
-    of_names (a ∷ b ∷ []) = between (place_from 0 files a) (place_from 0 files b) (place_below 0 files a)
+    of_names (a ∷ b ∷ []) = between (place_from 0 files a) (place_from 0 files b) (place_within files a)
     of_names (a ∷ b ∷ c ∷ ns) = omega arith
 
     of_two : (b : Bool) → place_or_first (if b then Some (record { from = 0; to = 1 }) else None) ≤ length files
