@@ -141,13 +141,13 @@ fn is_fieldless_at(line: &Specification, more: &[Specification]) -> bool
 }
 
 /// Whether a format has no lines of fields.
-#[tactic(auto, using(crate::proofs::FormatLemmas::fieldless_more))]
 fn is_one_fieldless(specifications: &[Specification]) -> bool
     ensures { result ≡ list_any (λ f. length (field_lines f) == 0) (formats_in specifications.now) }
 {
     let mut rest = specifications;
-    while let [line, more @ ..] = rest {
-        if is_fieldless_at(line, more) {
+    while !rest.is_empty() {
+        let (here, more) = rest.split_at(1);
+        if is_fieldless_at(&here[0], more) {
             return true;
         }
         rest = more;
