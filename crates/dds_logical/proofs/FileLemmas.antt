@@ -29,7 +29,8 @@ complete_rest bases s ss all = elim (cases_Bool (is_record s.kind)) [
 ]
 
 -- the first format of a join
-pub first_complete : (bases : List ℕ → Option PhysicalSpec) (s : Specification) (ss : List Specification) → is_record s.kind ≡ true → IsFirstComplete bases (formats_in (s ∷ ss)) → IsJoinComplete bases (format_of s ss)
+pub first_complete : (bases : List ℕ → Option PhysicalSpec) (s : Specification) (ss : List Specification) → is_record s.kind ≡ true → IsFirstComplete bases (formats_in (s ∷ ss))
+    → IsJoinComplete bases (format_of s ss)
 first_complete bases s ss h first = subst (λ (b : Bool). IsFirstComplete bases (cond b (format_of s ss ∷ formats_in ss) (formats_in ss))) h first
 
 pub behind_line : (s : Specification) (ss : List Specification) → is_record s.kind ≡ false → formats_in (s ∷ ss) ≡ formats_in ss

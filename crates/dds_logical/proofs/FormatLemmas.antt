@@ -1,5 +1,5 @@
 -- Formats among the lines of a source.
-use Rattle.std.proofs.Common.{◌≤◌, ◌<◌, ◌≡◌, ◌∙◌, ◌==◌, ◌||◌, ◌++◌, ℕ, suc, ap, sym, refl, Bool, true, false, not, inl, inr, List, [], ◌∷◌, length, filter, map, Option, Some, None, is_none, flat_map, take, drop, get_or, arith}
+use Rattle.std.proofs.Common.{◌≤◌, ◌<◌, ◌≡◌, ◌∙◌, ◌==◌, ◌||◌, ◌++◌, ℕ, suc, ap, sym, refl, Bool, not, inl, inr, List, [], ◌∷◌, length, filter, map, Option, Some, None, flat_map, take, drop, get_or, arith}
 use Rattle.std.specs.List.{list_any, cons_option, before_first, prefix_len}
 use Rattle.std.proofs.lemmas.List.Sums.{prefix_len-le-length}
 use Rattle.std.proofs.lemmas.Bool.{cases_Bool, ne_eqb}
@@ -7,7 +7,6 @@ use Rattle.dds_source.specs.declared.faults.DdsFault.{DdsFault}
 use Rattle.dds_source.specs.declared.specifications.Specification.{Specification}
 use Rattle.dds_source.specs.Reading.{is_record}
 use Rattle.dds_physical.specs.declared.physical_files.PhysicalSpec.{PhysicalSpec}
-use Rattle.dds_physical.specs.WholeFile.{is_field_kind}
 use Rattle.dds_logical.specs.declared.format_lines.LineKind.{LineKind}
 use Rattle.dds_logical.specs.declared.format_lines.LineKind.TheVariants as line_kinds
 use Rattle.dds_logical.specs.FormatLines.{FormatLines, field_lines, formats_in}

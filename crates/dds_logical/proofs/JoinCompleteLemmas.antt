@@ -83,13 +83,15 @@ jfile_fits k named takes =
 files_fit : (ks : List Keyword) → logical_keyword_faults true places.Record ks ≡ [] → is_join_keyword (based_on ks) ≡ true → IsFew (keyword_names (first_named (codes "JFILE") ks))
 files_fit [] none based = absurd cc
 files_fit (k ∷ ks) none based =
-    let more = nothing_in (unknown_faults (stands_at true places.Record k) k ++ argument_faults (stands_at true places.Record k) k ++ twice_faults (stands_at true places.Record k) k ks) (logical_keyword_faults true places.Record ks) none in
+    let more = nothing_in (unknown_faults (stands_at true places.Record k) k ++ argument_faults (stands_at true places.Record k) k ++ twice_faults (stands_at true places.Record k) k ks)
+    (logical_keyword_faults true places.Record ks) none in
     let twice = nothing_in (unknown_faults (stands_at true places.Record k) k ++ argument_faults (stands_at true places.Record k) k) (twice_faults (stands_at true places.Record k) k ks) more.0 in
     let parts = nothing_in (unknown_faults (stands_at true places.Record k) k) (argument_faults (stands_at true places.Record k) k) twice.0 in
     let takes = not_wrong (stands_at true places.Record k && not (takes_its_arguments k)) _ parts.1 in
     elim (cases_Bool (has_name (codes "JFILE") k)) [
       | inl h ↦ rw h (jfile_fits k h (takes_them (takes_its_arguments k) (subst (λ (b : Bool). ((b || has_name (codes "TEXT") k) && not (takes_its_arguments k)) ≡ false) h takes)))
-      | inr h ↦ rw h (files_fit ks more.1 (behind (has_name (codes "PFILE") k) (subst (λ (b : Bool). is_join_keyword (if has_name (codes "PFILE") k || b then Some k else based_on ks) ≡ true) h based) h))
+      | inr h ↦ rw h (files_fit ks more.1 (behind (has_name (codes "PFILE") k)
+          (subst (λ (b : Bool). is_join_keyword (if has_name (codes "PFILE") k || b then Some k else based_on ks) ≡ true) h based) h))
     ]
   where
     behind : (b : Bool) → is_join_keyword (if b || false then Some k else based_on ks) ≡ true → has_name (codes "JFILE") k ≡ false → is_join_keyword (based_on ks) ≡ true
@@ -98,7 +100,8 @@ files_fit (k ∷ ks) none based =
 
 -- ---- a join format
 
-complete_join : (bases : List ℕ → Option PhysicalSpec) (last_line : ℕ) (f : FormatLines) → join_faults bases last_line f ≡ [] → is_join_keyword (based_on f.head.keywords) ≡ true → IsJoinComplete bases f
+complete_join : (bases : List ℕ → Option PhysicalSpec) (last_line : ℕ) (f : FormatLines) → join_faults bases last_line f ≡ [] → is_join_keyword (based_on f.head.keywords) ≡ true
+    → IsJoinComplete bases f
 complete_join bases last_line f none based =
     let head = head_faults bases true f.head in
     let links = link_faults (files_joined f) (join_lines f) (first_named (codes "JFILE") f.head.keywords) in
@@ -113,11 +116,14 @@ complete_join bases last_line f none based =
     let no_fields = nothing_in (head ++ links ++ lines) fields no_keys.0 in
     let no_lines = nothing_in (head ++ links) lines no_fields.0 in
     let no_links = nothing_in head links no_lines.0 in
-    let heads = nothing_in (when (is_none (name_of f.head.name)) (fault_at f.head 19 BadName) ++ logical_keyword_faults true places.Record f.head.keywords) (base_faults bases (first_named (codes "JFILE") f.head.keywords)) no_links.0 in
+    let heads = nothing_in (when (is_none (name_of f.head.name)) (fault_at f.head 19 BadName) ++ logical_keyword_faults true places.Record f.head.keywords)
+    (base_faults bases (first_named (codes "JFILE") f.head.keywords)) no_links.0 in
     let names = nothing_in (when (is_none (name_of f.head.name)) (fault_at f.head 19 BadName)) (logical_keyword_faults true places.Record f.head.keywords) heads.0 in
-    let each = nothing_in (names_twice [] (field_lines f) ++ too_many_faults MOST_FIELDS (field_lines f)) (flat_map (join_field_faults (files_joined f) (fields_joined bases f)) (field_lines f)) no_fields.1 in
+    let each = nothing_in (names_twice [] (field_lines f) ++ too_many_faults MOST_FIELDS (field_lines f))
+    (flat_map (join_field_faults (files_joined f) (fields_joined bases f)) (field_lines f)) no_fields.1 in
     let many = nothing_in (names_twice [] (field_lines f)) (too_many_faults MOST_FIELDS (field_lines f)) each.0 in
-    let wide = nothing_in (when (nat_lt MOST_BYTES (record_length (join_format_fields bases f))) (fault_of_file last_line TooLarge)) (when (nat_lt MOST_KEY_BYTES (key_length (join_parts bases f))) (fault_of_file last_line TooLarge)) no_sizes.1 in
+    let wide = nothing_in (when (nat_lt MOST_BYTES (record_length (join_format_fields bases f))) (fault_of_file last_line TooLarge))
+    (when (nat_lt MOST_KEY_BYTES (key_length (join_parts bases f))) (fault_of_file last_line TooLarge)) no_sizes.1 in
     let long = no_less MOST_BYTES (record_length (join_format_fields bases f)) (not_wrong (nat_lt MOST_BYTES (record_length (join_format_fields bases f))) _ wide.0) in
     let same = record_length_by_name 0 (named_of_placed (fields_placed bases f)) in
     let files = files_fit f.head.keywords names.1 based in
@@ -134,7 +140,8 @@ complete_join bases last_line f none based =
 complete_first : (bases : List ℕ → Option PhysicalSpec) (source : Source) (fs : List FormatLines) → faults_over bases source true fs ≡ [] → is_join_file fs ≡ true → IsFirstComplete bases fs
 complete_first bases source [] none is = tt
 complete_first bases source (f ∷ fs) none is =
-    let before = logical_keyword_faults true places.File source.file ++ file_conflicts (has_key source.specifications) (is_multi_format (f ∷ fs)) source.file ++ flat_map (letter_faults true) source.specifications
+    let before = logical_keyword_faults true places.File source.file ++ file_conflicts (has_key source.specifications) (is_multi_format (f ∷ fs)) source.file
+    ++ flat_map (letter_faults true) source.specifications
     ++ order_faults true source.specifications (f ∷ fs) ++ formats_faults (f ∷ fs) in
     let missing = nothing_in (before ++ formats_at_fault bases source true (f ∷ fs)) (format_missing_faults source.last_line true (f ∷ fs)) none in
     let formats = nothing_in before (formats_at_fault bases source true (f ∷ fs)) missing.0 in
@@ -142,7 +149,8 @@ complete_first bases source (f ∷ fs) none is =
     complete_join bases source.last_line f first.0 is
 
 -- where no fault was found, the formats are complete
-pub complete_unless : (bases : List ℕ → Option PhysicalSpec) (source : Source) (fs : List FormatLines) (fault : Option DdsFault) → fault ≡ first_after None (faults_over bases source (is_join_file fs) fs) → CompleteUnless bases fs fault
+pub complete_unless : (bases : List ℕ → Option PhysicalSpec) (source : Source) (fs : List FormatLines) (fault : Option DdsFault)
+    → fault ≡ first_after None (faults_over bases source (is_join_file fs) fs) → CompleteUnless bases fs fault
 complete_unless bases source fs None found = of_kind (is_join_file fs) refl (nothing_noted None (faults_over bases source (is_join_file fs) fs) (sym found))
   where
     of_kind : (b : Bool) → is_join_file fs ≡ b → faults_over bases source b fs ≡ [] → IsFileComplete bases b fs

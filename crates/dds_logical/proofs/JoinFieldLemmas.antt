@@ -1,5 +1,5 @@
 -- The fields of a join format, and the files that they are of.
-use Rattle.std.proofs.Common.{◌≡◌, ◌∙◌, ◌≤◌, ◌<◌, ◌+◌, ◌-◌, ◌==◌, ◌&&◌, ◌||◌, ap, refl, ℕ, suc, Bool, true, false, nat_eq, nat_lt, nat_le, not, inl, inr, List, [], ◌∷◌, ◌++◌, filter, map, flat_map, length, Option, Some, None, is_some, if◌then◌else◌, codes, arith}
+use Rattle.std.proofs.Common.{◌≡◌, ◌∙◌, ◌≤◌, ◌<◌, ◌+◌, ◌-◌, ◌&&◌, ◌||◌, ap, refl, ℕ, suc, Bool, true, false, nat_eq, nat_lt, nat_le, not, inl, inr, List, [], ◌∷◌, ◌++◌, filter, map, flat_map, length, Option, Some, None, is_some, if◌then◌else◌, codes, arith}
 use Rattle.std.specs.List.{filter_map, cons_option}
 use Rattle.std.specs.Option.{option_to_list}
 use Rattle.std.proofs.lemmas.Bool.{cases_Bool}
@@ -161,10 +161,12 @@ pub places_low : (files : List (List ℕ)) (fields : List (List Field)) (ss : Li
 unfolding placed_if
 places_low files fields [] all few = tt
 places_low files fields (s ∷ ss) all few = elim (cases_Bool (is_of line_kinds.Field s.kind)) [
-  | inl h ↦ rw h (one (placed_at fields s (place_of_line files fields s)) (placed_below (length files) fields s (place_of_line files fields s) (line_below files fields s (first_named (codes "JREF") s.keywords) all)) (places_low files fields ss all few))
+  | inl h ↦ rw h (one (placed_at fields s (place_of_line files fields s))
+      (placed_below (length files) fields s (place_of_line files fields s) (line_below files fields s (first_named (codes "JREF") s.keywords) all)) (places_low files fields ss all few))
   | inr h ↦ rw h (places_low files fields ss all few)
 ]
   where
-    one : (o : Option PlacedField) → IsPlaced (length files) o → AreLow (places_of_placed (filter_map (placed_if files fields) ss)) → AreLow (places_of_placed (cons_option o (filter_map (placed_if files fields) ss)))
+    one : (o : Option PlacedField) → IsPlaced (length files) o → AreLow (places_of_placed (filter_map (placed_if files fields) ss))
+        → AreLow (places_of_placed (cons_option o (filter_map (placed_if files fields) ss)))
     one None here more = more
     one (Some f) here more = (omega (arith, here, few), more)

@@ -1,5 +1,5 @@
 -- The J lines of a join, by the names that they give.
-use Rattle.std.proofs.Common.{◌≡◌, ◌∙◌, ◌≤◌, ◌<◌, ◌+◌, ◌==◌, ◌&&◌, ◌||◌, ap, sym, refl, subst, ℕ, suc, Bool, true, false, nat_eq, nat_lt, inl, inr, List, [], ◌∷◌, ◌++◌, filter, map, length, Option, Some, None, slice_get, unwrap_or, if◌then◌else◌, codes, arith}
+use Rattle.std.proofs.Common.{◌≡◌, ◌∙◌, ◌≤◌, ◌<◌, ◌+◌, ◌==◌, ◌||◌, ap, sym, refl, subst, ℕ, suc, Bool, true, false, nat_eq, nat_lt, inl, inr, List, [], ◌∷◌, ◌++◌, filter, map, length, Option, Some, None, slice_get, unwrap_or, if◌then◌else◌, codes, arith}
 use Rattle.std.specs.List.{cons_option, list_any}
 use Rattle.std.specs.Option.{option_map}
 use Rattle.std.proofs.lemmas.Bool.{cases_Bool, ne_eqb}
@@ -76,7 +76,8 @@ first_joined files fields file place [] = refl
 first_joined files fields file place (s ∷ ss) = refl
 
 -- one secondary file more
-pub joined-step : (files : List (List ℕ)) (fields : List (List Field)) (ss : List Specification) (place : ℕ) (file : List ℕ) (more : List (List ℕ)) (old new total : List JoinedFile) (line : Option Specification)
+pub joined-step : (files : List (List ℕ)) (fields : List (List Field)) (ss : List Specification) (place : ℕ) (file : List ℕ) (more : List (List ℕ)) (old new total : List JoinedFile)
+    (line : Option Specification)
     → line ≡ first_line (lines_to files ss place) → new ≡ old ++ joined_if files fields file place line → old ++ joined_from files fields ss place (file ∷ more) ≡ total
     → new ++ joined_from files fields ss (place + 1) more ≡ total
 joined-step files fields ss place file more old new total line is added before =

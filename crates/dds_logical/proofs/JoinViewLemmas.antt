@@ -1,5 +1,5 @@
 -- A join format by its files, its fields and the places of these.
-use Rattle.std.proofs.Common.{◌≡◌, ◌∙◌, ◌≤◌, ◌+◌, ap, sym, refl, subst, ℕ, List, [], ◌∷◌, ◌++◌, drop, map, flat_map, length, Option, true, false, arith}
+use Rattle.std.proofs.Common.{◌≡◌, ◌∙◌, ◌≤◌, ap, sym, refl, subst, ℕ, List, ◌++◌, drop, map, flat_map, length, Option, true, false, arith}
 use Rattle.std.specs.List.{filter_map}
 use Rattle.record_fmt.specs.declared.formats.TheConstants.{MOST_FIELDS}
 use Rattle.dds_source.specs.declared.faults.DdsFault.{DdsFault}
@@ -52,18 +52,24 @@ join-noted bases last_line f files named places old noted new head fields is fou
     let all = fields_placed bases f in
     fields
     ∙ ap (λ (b : Option DdsFault). first_after b (field_faults_with bases last_line files named places f.body)) head
-    ∙ ap (λ (ns : List NamedField). first_after (first_after old (file_faults_with bases files f)) (field_faults_with bases last_line files ns places f.body)) (named-found bases f files named found is)
-    ∙ ap (λ (ps : List FieldPlace). first_after (first_after old (file_faults_with bases files f)) (field_faults_with bases last_line files (named_of_placed all) ps f.body)) (places-found bases f files places placed is)
+    ∙ ap (λ (ns : List NamedField). first_after (first_after old (file_faults_with bases files f)) (field_faults_with bases last_line files ns places f.body))
+    (named-found bases f files named found is)
+    ∙ ap (λ (ps : List FieldPlace). first_after (first_after old (file_faults_with bases files f)) (field_faults_with bases last_line files (named_of_placed all) ps f.body))
+    (places-found bases f files places placed is)
     ∙ ap (λ (fs : List (List ℕ)). first_after (first_after old (file_faults_with bases fs f)) (field_faults_with bases last_line fs (named_of_placed all) (places_of_placed all) f.body)) is
-    ∙ one_after old (file_faults_with bases (files_joined f) f) (join_fields_faults (files_joined f) (fields_joined bases f) (field_lines f)) (key_lines_faults true false (join_format_fields bases f) (key_lines f))
+    ∙ one_after old (file_faults_with bases (files_joined f) f) (join_fields_faults (files_joined f) (fields_joined bases f) (field_lines f))
+    (key_lines_faults true false (join_format_fields bases f) (key_lines f))
     (flat_map (key_place_faults (named_of_placed all) (places_of_placed all)) (key_lines f)) (size_faults last_line (join_format_fields bases f) (join_parts bases f))
-    ∙ ap (λ (gs : List DdsFault). first_after old (file_faults_with bases (files_joined f) f ++ join_fields_faults (files_joined f) (fields_joined bases f) (field_lines f) ++ key_lines_faults true false (join_format_fields bases f) (key_lines f)
+    ∙ ap (λ (gs : List DdsFault). first_after old
+    (file_faults_with bases (files_joined f) f ++ join_fields_faults (files_joined f) (fields_joined bases f) (field_lines f)
+    ++ key_lines_faults true false (join_format_fields bases f) (key_lines f)
     ++ gs ++ size_faults last_line (join_format_fields bases f) (join_parts bases f))) (keys_are all (key_lines f))
   where
     one_after : (best : Option DdsFault) (xs a b k s : List DdsFault) → first_after (first_after best xs) (a ++ b ++ k ++ s) ≡ first_after best (xs ++ a ++ b ++ k ++ s)
     one_after best xs a b k s =
         sym (first_after_append best xs (a ++ b ++ k ++ s))
-        ∙ ap (first_after best) (sym (append_assoc xs (a ++ b ++ k) s) ∙ ap (λ (ys : List DdsFault). ys ++ s) (sym (append_assoc xs (a ++ b) k) ∙ ap (λ (ys : List DdsFault). ys ++ k) (sym (append_assoc xs a b))))
+        ∙ ap (first_after best) (sym (append_assoc xs (a ++ b ++ k) s)
+        ∙ ap (λ (ys : List DdsFault). ys ++ s) (sym (append_assoc xs (a ++ b) k) ∙ ap (λ (ys : List DdsFault). ys ++ k) (sym (append_assoc xs a b))))
 
 -- ---- what is described
 
@@ -78,7 +84,8 @@ low-places bases f few =
     subst (λ (ps : List PlacedField). AreLow (places_of_placed ps)) (placed-found bases f (files_joined f) refl)
     (places_low (files_joined f) (fields_joined bases f) f.body (length_same (fields_of_file bases) (files_joined f)) few)
 
-pub join-described : (bases : List ℕ → Option PhysicalSpec) (ks : List Keyword) (f : FormatLines) (files : List (List ℕ)) (secondaries : List JoinedFile) (named : List NamedField) (places : List FieldPlace) (view : JoinView)
+pub join-described : (bases : List ℕ → Option PhysicalSpec) (ks : List Keyword) (f : FormatLines) (files : List (List ℕ)) (secondaries : List JoinedFile) (named : List NamedField)
+    (places : List FieldPlace) (view : JoinView)
     → view ≡ join_with ks files secondaries named places f → files ≡ files_joined f
     → secondaries ≡ joined_from files (map (fields_of_file bases) files) (join_lines f) 1 (drop 1 files)
     → named ≡ named_of_placed (filter_map (placed_if files (map (fields_of_file bases) files)) f.body)
@@ -91,4 +98,5 @@ join-described bases ks f files secondaries named places view is same reached fo
     ∙ ap (λ (ps : List FieldPlace). join_with ks files secondaries (named_of_placed all) ps f) (places-found bases f files places placed same)
     ∙ ap (λ (js : List JoinedFile). join_with ks files js (named_of_placed all) (places_of_placed all) f) reached
     ∙ ap (λ (fs : List (List ℕ)). join_with ks fs (joined_from fs (map (fields_of_file bases) fs) (join_lines f) 1 (drop 1 fs)) (named_of_placed all) (places_of_placed all) f) same
-    ∙ ap (λ (js : List JoinedField). record (join_with ks (files_joined f) (joined_from (files_joined f) (fields_joined bases f) (join_lines f) 1 (drop 1 (files_joined f))) (named_of_placed all) (places_of_placed all) f) { fields = js }) (joined_are all)
+    ∙ ap (λ (js : List JoinedField). record (join_with ks (files_joined f) (joined_from (files_joined f) (fields_joined bases f) (join_lines f) 1 (drop 1 (files_joined f)))
+    (named_of_placed all) (places_of_placed all) f) { fields = js }) (joined_are all)

@@ -4,4 +4,5 @@ use Rattle.dds_logical.specs.JoinLines.{pair_faults}
 use Rattle.dds_logical.proofs.join_lines.note_pairs.Given as goal
 
 abbrev pub invariant-loop-keyword : goal.invariant-loop-keyword
-invariant-loop-keyword l = first_after l.first.fault (flat_map (pair_faults l.from l.to) (drop l.keyword-index l.keywords)) ≡ first_after l.fn.first.fault (flat_map (pair_faults l.from l.to) l.keywords)
+invariant-loop-keyword l = first_after l.first.fault (flat_map (pair_faults l.from l.to) (drop l.keyword-index l.keywords))
+    ≡ first_after l.fn.first.fault (flat_map (pair_faults l.from l.to) l.keywords)

@@ -1,4 +1,4 @@
-use Rattle.std.proofs.Common.{◌≡◌, ◌∙◌, ◌≤◌, ◌<◌, List, ℕ, length, sym, subst}
+use Rattle.std.proofs.Common.{◌∙◌, ◌≤◌, ◌<◌, List, ℕ, length, sym, subst}
 use Rattle.record_fmt.specs.declared.formats.TheConstants.{MOST_BYTES, MOST_FIELDS}
 use Rattle.dds_logical.specs.declared.limits.TheConstants.{MOST_JOINED}
 use Rattle.dds_logical.specs.declared.named_fields.NamedField.{NamedField}
