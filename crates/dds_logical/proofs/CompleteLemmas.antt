@@ -1,6 +1,6 @@
 -- A format without faults has all that it needs.
 use Rattle.std.proofs.Common.{◌≡◌, ◌∙◌, ◌≤◌, ap, sym, subst, refl, ℕ, zero, suc, Bool, true, false, not, ◌&&◌, ◌||◌, nat_lt, nat_eq, List, [], ◌∷◌, ◌++◌, length, drop, flat_map, map, Option, Some, None, is_some, is_none, inl, inr, codes, if◌then◌else◌, arith}
-use Rattle.std.specs.List.{AllByRecursion, list_any, filter_map, cons_option}
+use Rattle.std.specs.List.{list_any, filter_map, cons_option}
 use Rattle.std.proofs.lemmas.Bool.Decides.{nat_tests}
 use Rattle.std.proofs.lemmas.Bool.{cases_Bool, and_parts}
 use lib.Pointwise.{pointwise}
@@ -9,23 +9,20 @@ use Rattle.std.specs.Cmp.Lexicographic.{same_text}
 use Rattle.std.specs.List.{list_all}
 use Rattle.record_fmt.specs.declared.formats.Field.{Field}
 use Rattle.record_fmt.specs.declared.formats.TheConstants.{MOST_FIELDS, MOST_BYTES}
-use Rattle.record_fmt.specs.Layout.{record_length, IsLaidOut}
+use Rattle.record_fmt.specs.Layout.{record_length}
 use Rattle.dds_source.specs.declared.faults.DdsFault.{DdsFault}
-use Rattle.dds_source.specs.declared.faults.DdsCause.TheVariants.{BadName, UnknownKeyword, BadArguments, TooLarge, NoFormat}
+use Rattle.dds_source.specs.declared.faults.DdsCause.TheVariants.{BadName, TooLarge}
 use Rattle.dds_source.specs.declared.keywords.Keyword.{Keyword}
 use Rattle.dds_source.specs.declared.arguments.Argument.{Argument}
 use Rattle.dds_source.specs.declared.specifications.Source.{Source}
 use Rattle.dds_source.specs.declared.specifications.Specification.{Specification}
 use Rattle.dds_source.specs.Entries.{when}
-use Rattle.dds_source.specs.Faults.{first_after}
 use Rattle.dds_physical.specs.declared.physical_files.PhysicalSpec.{PhysicalSpec}
 use Rattle.dds_physical.specs.Names.{name_of}
 use Rattle.dds_physical.specs.Keywords.{has_name, first_named, arguments_of}
 use Rattle.dds_physical.specs.References.{file_of, file_of_keyword}
-use Rattle.dds_physical.proofs.FaultLemmas.{nothing_noted}
 use Rattle.dds_logical.specs.declared.keyword_places.KeywordPlace.TheVariants as places
-use Rattle.dds_logical.specs.declared.named_fields.NamedField.{NamedField}
-use Rattle.dds_logical.specs.FormatLines.{FormatLines, formats_in, based_on, field_lines, key_lines, selection_lines, is_multi_format}
+use Rattle.dds_logical.specs.FormatLines.{FormatLines, based_on, field_lines, key_lines, selection_lines, is_multi_format}
 use Rattle.dds_physical.specs.KeywordRules.{is_in_table}
 use Rattle.dds_physical.specs.Places.{fault_at}
 use Rattle.dds_physical.specs.WholeFile.{fault_of_file, has_key}
@@ -35,32 +32,31 @@ use Rattle.dds_logical.specs.KeywordArguments.{takes_its_arguments, fit_logical_
 use Rattle.dds_logical.specs.Keys.{key_lines_faults, mismatch_faults}
 use Rattle.dds_logical.specs.Selections.{selection_lines_faults}
 use Rattle.dds_logical.specs.KeywordRules.{file_conflicts, stands_at, unknown_faults, argument_faults, twice_faults, logical_keyword_faults}
-use Rattle.dds_logical.specs.Fields.{letter_faults, field_of_line, field_as_it_is, named_fields, names_twice, too_many_faults, first_too_many, laid_out, field_lines_faults, field_entry_faults, made_faults, file_number_faults}
+use Rattle.dds_logical.specs.Fields.{letter_faults, field_of_line, field_as_it_is, named_fields, names_twice, too_many_faults, first_too_many, field_lines_faults, field_entry_faults, made_faults, file_number_faults}
 use Rattle.dds_logical.specs.WholeFile.{head_faults, base_faults, formats_faults, format_missing_faults, lacks_format, size_faults}
-use Rattle.dds_logical.specs.Logical.{base_of, find_field, base_name, fields_named, format_fields, format_parts, view_faults, faults_over, formats_at_fault}
-use Rattle.dds_logical.specs.JudgedKeys.{bytes_of}
+use Rattle.dds_logical.specs.Logical.{base_of, find_field, fields_named, format_fields, format_parts, view_faults, faults_over, formats_at_fault}
 use Rattle.dds_logical.specs.LineOrder.{order_faults}
-use Rattle.dds_logical.specs.Complete.{IsComplete, AreComplete, CompleteUnless}
+use Rattle.dds_logical.specs.Complete.{IsComplete, AreComplete}
 use Rattle.dds_logical.proofs.KeyLemmas.{record_length_by_name}
 
 -- ---- no faults
 
-nothing_in : {X : Type 0} (xs ys : List X) → xs ++ ys ≡ [] → (xs ≡ []) × (ys ≡ [])
+pub nothing_in : {X : Type 0} (xs ys : List X) → xs ++ ys ≡ [] → (xs ≡ []) × (ys ≡ [])
 nothing_in [] ys h = (refl, h)
 nothing_in (x ∷ xs) ys h = absurd cc
 
-not_wrong : (wrong : Bool) (f : DdsFault) → when wrong f ≡ [] → wrong ≡ false
+pub not_wrong : (wrong : Bool) (f : DdsFault) → when wrong f ≡ [] → wrong ≡ false
 not_wrong true f h = absurd cc
 not_wrong false f h = refl
 
-no_less : (a b : ℕ) → nat_lt a b ≡ false → b ≤ a
+pub no_less : (a b : ℕ) → nat_lt a b ≡ false → b ≤ a
 no_less a b h = grind (arith, nat_tests, h)
 
-some_is : {X : Type 0} (o : Option X) → is_none o ≡ false → is_some o ≡ true
+pub some_is : {X : Type 0} (o : Option X) → is_none o ≡ false → is_some o ≡ true
 some_is None h = absurd cc
 some_is (Some x) h = refl
 
-few_left : (n : ℕ) (ss : List Specification) → first_too_many (drop n ss) ≡ [] → length ss ≤ n
+pub few_left : (n : ℕ) (ss : List Specification) → first_too_many (drop n ss) ≡ [] → length ss ≤ n
 few_left zero [] h = omega arith
 few_left zero (s ∷ ss) h = absurd cc
 few_left (suc n) [] h = omega arith
@@ -76,11 +72,11 @@ length_cons : {X : Type 0} (o : Option X) (xs : List X) → length (cons_option 
 length_cons None xs = omega arith
 length_cons (Some x) xs = omega arith
 
-length_some : {X Y : Type 0} (f : X → Option Y) (xs : List X) → length (filter_map f xs) ≤ length xs
+pub length_some : {X Y : Type 0} (f : X → Option Y) (xs : List X) → length (filter_map f xs) ≤ length xs
 length_some f [] = omega arith
 length_some f (x ∷ xs) = let here = length_cons (f x) (filter_map f xs) in let more = length_some f xs in omega (arith, here, more)
 
-length_same : {X Y : Type 0} (f : X → Y) (xs : List X) → length (map f xs) ≡ length xs
+pub length_same : {X Y : Type 0} (f : X → Y) (xs : List X) → length (map f xs) ≡ length xs
 length_same f [] = refl
 length_same f (x ∷ xs) = ap suc (length_same f xs)
 
@@ -109,6 +105,10 @@ pfile_fits k named takes =
     fits : fit_logical_keyword k (arguments_of k) ≡ true → are_names 1 1 (arguments_of k) ≡ true
     fits h = subst (λ (n : List ℕ). fit_logical_keyword (record k { name = n }) (arguments_of k) ≡ true) (same_text k.name (codes "PFILE") (sym named)) h
 
+pub takes_them : (b : Bool) → (true && not b) ≡ false → b ≡ true
+takes_them true h = refl
+takes_them false h = absurd cc
+
 -- the line of a format over a file without wrong keywords names it
 pub file_named : (ks : List Keyword) → logical_keyword_faults false places.Record ks ≡ [] → is_some (based_on ks) ≡ true → is_some (file_of_keyword (first_named (codes "PFILE") ks)) ≡ true
 file_named [] none based = absurd cc
@@ -125,10 +125,6 @@ file_named (k ∷ ks) none based =
         | inr j ↦ file_named ks more.1 (subst (λ (b : Bool). is_some (if b then Some k else based_on ks) ≡ true) (ap (λ (b : Bool). b || has_name (codes "JFILE") k) h ∙ j) based)
       ])
     ]
-  where
-    takes_them : (b : Bool) → (true && not b) ≡ false → b ≡ true
-    takes_them true h = refl
-    takes_them false h = absurd cc
 
 -- ---- a format
 
@@ -169,7 +165,8 @@ one_has_base is_join fs last_line none =
     let first = neither ((length fs == 0) || list_any (λ f. is_none (based_on f.head.keywords)) fs) (is_join && list_any (λ f. length (field_lines f) == 0) fs) lacks in
     (neither (length fs == 0) (list_any (λ f. is_none (based_on f.head.keywords)) fs) first.0).1
 
-complete_file : (bases : List ℕ → Option PhysicalSpec) (source : Source) (fs : List FormatLines) → faults_over bases source false fs ≡ [] → AreComplete bases fs
+-- formats over one file each
+pub complete_file : (bases : List ℕ → Option PhysicalSpec) (source : Source) (fs : List FormatLines) → faults_over bases source false fs ≡ [] → AreComplete bases fs
 complete_file bases source fs none =
     let missing = nothing_in (logical_keyword_faults false places.File source.file ++ file_conflicts (has_key source.specifications) (is_multi_format fs) source.file ++ flat_map (letter_faults false) source.specifications
     ++ order_faults false source.specifications fs ++ formats_faults fs ++ formats_at_fault bases source false fs) (format_missing_faults source.last_line false fs) none in
@@ -177,8 +174,3 @@ complete_file bases source fs none =
     ++ order_faults false source.specifications fs ++ formats_faults fs) (formats_at_fault bases source false fs) missing.0 in
     let views = nothing_in (flat_map (view_faults bases source.last_line (is_multi_format fs)) fs) (mismatch_faults (format_parts bases) [] fs) formats.1 in
     complete_all bases source.last_line (is_multi_format fs) fs views.0 (one_has_base false fs source.last_line missing.1)
-
--- where no fault was found, the formats are complete
-pub complete_unless : (bases : List ℕ → Option PhysicalSpec) (source : Source) (fs : List FormatLines) (fault : Option DdsFault) → fault ≡ first_after None (faults_over bases source false fs) → CompleteUnless bases fs fault
-complete_unless bases source fs None found = complete_file bases source fs (nothing_noted None (faults_over bases source false fs) (sym found))
-complete_unless bases source fs (Some fault) found = tt

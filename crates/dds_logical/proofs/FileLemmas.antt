@@ -10,6 +10,7 @@ use Rattle.dds_logical.specs.FormatLines.{FormatLines, formats_in, is_join_file}
 use Rattle.dds_logical.specs.Logical.{logical_of, logical_faults, logical_specification, unless_fault, described_by, faults_over}
 use Rattle.dds_physical.specs.declared.physical_files.PhysicalSpec.{PhysicalSpec}
 use Rattle.dds_logical.specs.Judged.{format_of}
+use Rattle.dds_logical.specs.JoinWhole.{IsFirstComplete, IsJoinComplete}
 use Rattle.dds_logical.specs.Complete.{IsComplete, AreComplete, AreCompleteFrom, views_at}
 
 pub views_more : (described : FormatLines → View) (s : Specification) (ss : List Specification)
@@ -27,10 +28,25 @@ complete_rest bases s ss all = elim (cases_Bool (is_record s.kind)) [
   | inr h ↦ subst (λ (b : Bool). AreComplete bases (cond b (format_of s ss ∷ formats_in ss) (formats_in ss))) h all
 ]
 
--- ---- a source that isn't a join's
+-- the first format of a join
+pub first_complete : (bases : List ℕ → Option PhysicalSpec) (s : Specification) (ss : List Specification) → is_record s.kind ≡ true → IsFirstComplete bases (formats_in (s ∷ ss))
+    → IsJoinComplete bases (format_of s ss)
+first_complete bases s ss h first = subst (λ (b : Bool). IsFirstComplete bases (cond b (format_of s ss ∷ formats_in ss) (formats_in ss))) h first
 
-pub answered : (bases : List ℕ → Option PhysicalSpec) (source : Source) → is_join_file (formats_in source.specifications) ≡ false
-    → logical_of bases source ≡ unless_fault (described_by bases source (formats_in source.specifications)) (first_after None (faults_over bases source false (formats_in source.specifications)))
-unfolding logical_of logical_faults logical_specification
-answered bases source h =
-    ap (λ (b : Bool). unless_fault (described_by bases source (formats_in source.specifications)) (first_after None (faults_over bases source b (formats_in source.specifications)))) h
+pub behind_line : (s : Specification) (ss : List Specification) → is_record s.kind ≡ false → formats_in (s ∷ ss) ≡ formats_in ss
+behind_line s ss h = ap (λ (b : Bool). cond b (format_of s ss ∷ formats_in ss) (formats_in ss)) h
+
+pub first_is : (s : Specification) (ss : List Specification) → is_record s.kind ≡ true → formats_in (s ∷ ss) ≡ format_of s ss ∷ formats_in ss
+first_is s ss h = ap (λ (b : Bool). cond b (format_of s ss ∷ formats_in ss) (formats_in ss)) h
+
+-- ---- a source
+
+pub faults_are : (bases : List ℕ → Option PhysicalSpec) (source : Source)
+    → faults_over bases source (is_join_file (formats_in source.specifications)) (formats_in source.specifications) ≡ logical_faults bases source
+unfolding logical_faults
+faults_are bases source = refl
+
+pub answered : (bases : List ℕ → Option PhysicalSpec) (source : Source)
+    → logical_of bases source ≡ unless_fault (described_by bases source (formats_in source.specifications)) (first_after None (logical_faults bases source))
+unfolding logical_of logical_specification
+answered bases source = refl

@@ -1,5 +1,5 @@
 -- Formats among the lines of a source.
-use Rattle.std.proofs.Common.{◌≤◌, ◌≡◌, ◌∙◌, ◌==◌, ◌||◌, ◌++◌, ℕ, suc, ap, sym, refl, Bool, true, false, not, inl, inr, List, [], ◌∷◌, length, filter, map, Option, Some, None, is_none, flat_map, take, arith}
+use Rattle.std.proofs.Common.{◌≤◌, ◌<◌, ◌≡◌, ◌∙◌, ◌==◌, ◌||◌, ◌++◌, ℕ, suc, ap, sym, refl, Bool, not, inl, inr, List, [], ◌∷◌, length, filter, map, Option, Some, None, flat_map, take, drop, get_or, arith}
 use Rattle.std.specs.List.{list_any, cons_option, before_first, prefix_len}
 use Rattle.std.proofs.lemmas.List.Sums.{prefix_len-le-length}
 use Rattle.std.proofs.lemmas.Bool.{cases_Bool, ne_eqb}
@@ -7,11 +7,11 @@ use Rattle.dds_source.specs.declared.faults.DdsFault.{DdsFault}
 use Rattle.dds_source.specs.declared.specifications.Specification.{Specification}
 use Rattle.dds_source.specs.Reading.{is_record}
 use Rattle.dds_physical.specs.declared.physical_files.PhysicalSpec.{PhysicalSpec}
-use Rattle.dds_physical.specs.WholeFile.{is_field_kind}
+use Rattle.dds_logical.specs.declared.format_lines.LineKind.{LineKind}
 use Rattle.dds_logical.specs.declared.format_lines.LineKind.TheVariants as line_kinds
-use Rattle.dds_logical.specs.FormatLines.{FormatLines, formats_in}
+use Rattle.dds_logical.specs.FormatLines.{FormatLines, field_lines, formats_in}
 use Rattle.dds_logical.specs.WholeFile.{is_no_base}
-use Rattle.dds_logical.specs.Judged.{stands_within, is_of, lines_of, faults_at, is_missing_base}
+use Rattle.dds_logical.specs.Judged.{is_fieldless_at, stands_within, is_of, lines_of, faults_at, is_missing_base}
 
 pub formats_count : (ss : List Specification) → length (formats_in ss) ≡ length (filter (λ s. is_record s.kind) ss)
 formats_count [] = refl
@@ -42,3 +42,22 @@ ahead_is ss = refl
 
 pub ahead_short : (ss : List Specification) → prefix_len stands_within ss ≤ length ss
 ahead_short ss = prefix_len-le-length stands_within ss
+
+pub no_lines : (kind : LineKind) (ss : List Specification) → not (list_any (λ s. is_of kind s.kind) ss) ≡ (length (lines_of kind ss) == 0)
+no_lines kind [] = refl
+no_lines kind (s ∷ ss) = elim (cases_Bool (is_of kind s.kind)) [ inl h ↦ rw h (sym (ne_eqb (suc (length (lines_of kind ss))) 0 (λ e. absurd (omega (arith, e))))) | inr h ↦ rw h (no_lines kind ss) ]
+
+pub fieldless_more : (s : Specification) (ss : List Specification)
+    → (is_fieldless_at s ss || list_any (λ f. length (field_lines f) == 0) (formats_in ss)) ≡ list_any (λ f. length (field_lines f) == 0) (formats_in (s ∷ ss))
+unfolding is_fieldless_at
+fieldless_more s ss = elim (cases_Bool (is_record s.kind)) [ inl h ↦ rw h refl | inr h ↦ rw h refl ]
+
+-- the first of a list was asked, and those behind it are left
+pub found-split : (step : Specification → List Specification → Bool) (all : List Specification → Bool) → ((s : Specification) (ss : List Specification) → (step s ss || all ss) ≡ all (s ∷ ss))
+    → (ss here more : List Specification) (s : Specification) (result total : Bool) → 0 < length ss → here ≡ take 1 ss → more ≡ drop 1 ss → s ≡ get_or here 0 s
+    → result ≡ step s more → all ss ≡ total → (result || all more) ≡ total
+found-split step all joins [] here more s result total some front back is asked before = absurd (omega arith)
+found-split step all joins (t ∷ ts) here more s result total some front back is asked before =
+    let same : s ≡ t = is ∙ ap (λ (hs : List Specification). get_or hs 0 s) front in
+    let parts : s ∷ more ≡ t ∷ ts = ap (λ (u : Specification). u ∷ more) same ∙ ap (λ (us : List Specification). t ∷ us) back in
+    ap (λ (b : Bool). b || all more) asked ∙ joins s more ∙ ap all parts ∙ before

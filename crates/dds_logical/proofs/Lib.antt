@@ -14,3 +14,7 @@ pub mod LoopLemmas
 pub mod MismatchLemmas
 pub mod AheadLemmas
 pub mod BeyondLemmas
+pub mod JoinLineLemmas
+pub mod JoinFieldLemmas
+pub mod JoinViewLemmas
+pub mod JoinCompleteLemmas

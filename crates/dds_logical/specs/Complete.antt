@@ -11,10 +11,11 @@ use Rattle.dds_logical.specs.declared.views.View.{View}
 use Rattle.dds_logical.specs.declared.views.LogicalSpec.{LogicalSpec}
 use Rattle.dds_logical.specs.declared.logical_files.LogicalFault.{LogicalFault}
 use Rattle.dds_logical.specs.declared.logical_files.LogicalFault.TheVariants as errors
-use Rattle.dds_logical.specs.FormatLines.{FormatLines, formats_in, field_lines, key_lines, selection_lines, is_multi_format}
+use Rattle.dds_logical.specs.FormatLines.{FormatLines, formats_in, field_lines, key_lines, selection_lines, is_join_file, is_multi_format}
 use Rattle.dds_logical.specs.Logical.{base_name, fields_named, key_of}
 use Rattle.dds_logical.specs.Judged.{format_of}
 use Rattle.record_fmt.specs.declared.formats.Field.{Field}
+use Rattle.record_fmt.specs.declared.formats.TheConstants.{MOST_BYTES, MOST_FIELDS}
 use Rattle.dds_physical.specs.Physical.{name_or_none}
 use Rattle.dds_logical.specs.declared.named_fields.NamedField.{NamedField}
 use Rattle.dds_physical.specs.WholeFile.{has_key}
@@ -25,13 +26,14 @@ use Rattle.dds_logical.specs.Fields.{laid_out, mapping_of, letter_faults}
 use Rattle.dds_logical.specs.Keys.{parts_of_lines}
 use Rattle.dds_logical.specs.Selections.{field_to_test, rules_said}
 use Rattle.dds_logical.specs.JudgedKeys.{bytes_of}
+use Rattle.dds_logical.specs.JoinWhole.{IsFirstComplete}
 
 -- it has a name, a file, and fields that fit a record
 pub record IsComplete (bases : List ℕ → Option PhysicalSpec) (f : FormatLines) : Type 0 where
   pub named : is_some (name_of f.head.name) ≡ true
   pub based : is_some (base_name f) ≡ true
-  pub few : length (field_lines f) ≤ 1000
-  pub narrow : bytes_of (fields_named bases f) ≤ 32766
+  pub few : length (field_lines f) ≤ MOST_FIELDS
+  pub narrow : bytes_of (fields_named bases f) ≤ MOST_BYTES
 
 abbrev pub AreComplete : (List ℕ → Option PhysicalSpec) → List FormatLines → Type 0
 AreComplete bases fs = AllByRecursion (IsComplete bases) fs
@@ -44,9 +46,14 @@ AreCompleteFrom bases s ss = AreComplete bases (formats_in (s ∷ ss))
 abbrev pub views_at : (FormatLines → View) → Specification → List Specification → List View
 views_at described s ss = if is_record s.kind then described (format_of s ss) ∷ [] else []
 
+-- of a join the first format is complete, which is the only one, and else all are
+abbrev pub IsFileComplete : (List ℕ → Option PhysicalSpec) → (is_join : Bool) → List FormatLines → Type 0
+IsFileComplete bases true fs = IsFirstComplete bases fs
+IsFileComplete bases false fs = AreComplete bases fs
+
 -- where there is no fault, the formats are complete
 abbrev pub CompleteUnless : (List ℕ → Option PhysicalSpec) → List FormatLines → Option DdsFault → Type 0
-CompleteUnless bases fs None = AreComplete bases fs
+CompleteUnless bases fs None = IsFileComplete bases (is_join_file fs) fs
 CompleteUnless bases fs (Some fault) = Unit {0}
 
 -- what was answered is what it should be, unless memory ran out
@@ -68,10 +75,10 @@ view_with ks is_multi positions f base named = record {
   keys = key_of is_multi positions ks (parts_of_lines (laid_out 0 named) (key_lines f));
 }
 
--- what is wrong with the keywords of a file that isn't a join, with letters in 35 and 38, and lines out of order
-abbrev pub outline_faults : List Keyword → List Specification → List DdsFault
-outline_faults ks ss =
-    logical_keyword_faults false places.File ks
+-- what is wrong with the keywords of a file, with letters in 35 and 38, and lines out of order
+abbrev pub outline_faults : (is_join : Bool) → List Keyword → List Specification → List DdsFault
+outline_faults is_join ks ss =
+    logical_keyword_faults is_join places.File ks
     ++ file_conflicts (has_key ss) (is_multi_format (formats_in ss)) ks
-    ++ flat_map (letter_faults false) ss
-    ++ order_faults false ss (formats_in ss)
+    ++ flat_map (letter_faults is_join) ss
+    ++ order_faults is_join ss (formats_in ss)

@@ -20,6 +20,7 @@ use Rattle.dds_physical.specs.KeywordRules.{is_special}
 use Rattle.dds_physical.specs.References.{file_of_keyword}
 use Rattle.file_model.specs.declared.views.FieldSource.TheVariants.{Copied}
 use Rattle.file_model.specs.declared.joins.JoinPair.{JoinPair}
+use Rattle.dds_logical.specs.declared.join_links.Link.{Link}
 use Rattle.dds_logical.specs.declared.join_views.JoinedFile.{JoinedFile}
 use Rattle.dds_logical.specs.declared.keyword_places.KeywordPlace.TheVariants as places
 use Rattle.dds_logical.specs.KeywordArguments.{names_among}
@@ -31,11 +32,6 @@ use Rattle.dds_logical.specs.KeywordRules.{logical_keyword_faults}
 abbrev pub place_from : (at : ℕ) → List (List ℕ) → List ℕ → Option ℕ
 place_from at [] name = None
 place_from at (file ∷ files) name = if pointwise nat_eq file name then Some at else place_from (at + 1) files name
-
--- the places of the two files that a J line joins
-pub record Link : Type 0 where
-  pub from : ℕ
-  pub to : ℕ
 
 -- from an earlier file to a later one
 abbrev pub link_between : Option ℕ → Option ℕ → Option Link

@@ -1,5 +1,5 @@
 -- What do the parts of the judgement say that the body has in functions of their own? (Our own.)
-use Rattle.std.specs.Prelude.{ℕ, ◌-◌, ◌&&◌, ◌==◌, not, Bool, true, false, List, [], ◌∷◌, ◌++◌, map, flat_map, filter, Option, Some, None, is_none, Result, Ok, Err, if◌then◌else◌}
+use Rattle.std.specs.Prelude.{ℕ, ◌-◌, ◌&&◌, ◌==◌, not, Bool, true, false, List, [], ◌∷◌, ◌++◌, length, map, flat_map, filter, Option, Some, None, is_none, Result, Ok, Err, if◌then◌else◌}
 use Rattle.field_types.specs.declared.kinds.FieldType.{FieldType}
 use Rattle.record_fmt.specs.declared.formats.Field.{Field}
 use Rattle.dds_physical.specs.Attributes.{attributes}
@@ -14,7 +14,7 @@ use Rattle.dds_physical.specs.declared.physical_files.PhysicalSpec.{PhysicalSpec
 use Rattle.dds_physical.specs.WholeFile.{is_field_kind, is_key_kind}
 use Rattle.dds_logical.specs.declared.format_lines.LineKind.{LineKind}
 use Rattle.dds_logical.specs.declared.format_lines.LineKind.TheVariants as line_kinds
-use Rattle.dds_logical.specs.FormatLines.{FormatLines, is_join_kind}
+use Rattle.dds_logical.specs.FormatLines.{FormatLines, field_lines, is_join_kind}
 use Rattle.dds_logical.specs.KeywordRules.{unknown_faults, argument_faults, twice_faults}
 use Rattle.dds_logical.specs.LineOrder.{stage_faults, kind_faults, out_of_order}
 
@@ -37,6 +37,10 @@ lines_of kind ss = filter (λ s. is_of kind s.kind) ss
 -- the format that a line of a record format begins
 abbrev pub format_of : Specification → List Specification → FormatLines
 format_of s ss = record { head = s; body = before_first (λ other. is_record other.kind) ss }
+
+-- it begins a format without lines of fields
+unfoldable pub is_fieldless_at : Specification → List Specification → Bool
+is_fieldless_at s ss = is_record s.kind && (length (field_lines (format_of s ss)) == 0)
 
 -- what is wrong with the format that a line begins, if it begins one
 unfoldable pub faults_at : (FormatLines → List DdsFault) → Specification → List Specification → List DdsFault

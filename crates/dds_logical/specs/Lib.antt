@@ -9,6 +9,8 @@ pub mod Keys
 pub mod Selections
 pub mod WholeFile
 pub mod JoinLines
+pub mod JoinSteps
+pub mod JoinWhole
 pub mod JoinFields
 pub mod JoinViews
 pub mod Logical

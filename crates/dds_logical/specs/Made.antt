@@ -2,6 +2,7 @@
 use Rattle.std.specs.Prelude.{ℕ, ◌≤◌, ◌+◌, ◌-◌, Bool, true, false, is_none, ◌||◌, List, [], ◌∷◌, Option, Some, None, if◌then◌else◌, codes}
 use Rattle.field_types.specs.declared.kinds.FieldType.{FieldType}
 use Rattle.record_fmt.specs.declared.formats.Field.{Field}
+use Rattle.record_fmt.specs.declared.formats.TheConstants.{MOST_BYTES}
 use Rattle.dds_source.specs.declared.arguments.Argument.{Argument}
 use Rattle.dds_source.specs.declared.keywords.Keyword.{Keyword}
 use Rattle.dds_physical.specs.Keywords.{is_there}
@@ -64,4 +65,4 @@ part_at offset p = record { own_type = character p.size; source = Substring (rec
 -- it begins within a record, if it is there
 abbrev pub IsLow : Option Field → Type 0
 IsLow None = Unit {0}
-IsLow (Some f) = f.offset ≤ 32766
+IsLow (Some f) = f.offset ≤ MOST_BYTES

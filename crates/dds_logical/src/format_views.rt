@@ -26,11 +26,11 @@ use dds_source::keywords::Keyword;
 use dds_source::specifications::Specification;
 use field_types::names::Name;
 use key_spec::{KeySpec, Ties};
-use record_fmt::formats::{Field, Format};
+use record_fmt::formats::{Field, Format, MOST_BYTES, MOST_FIELDS};
 use std::alloc::{AllocError, Global};
 
 /// How records with equal keys are ordered.
-fn ties_of(keywords: &[Keyword]) -> Ties
+pub(crate) fn ties_of(keywords: &[Keyword]) -> Ties
     ensures { result ≡ ties_of keywords.now }
 {
     if is_there(b"LIFO", keywords) {
@@ -96,7 +96,7 @@ fn key_of(
     })
 }
 
-fn name_given(name: Option<Name>) -> Name
+pub(crate) fn name_given(name: Option<Name>) -> Name
     requires { is_some name ≡ true }
     ensures { result ≡ name_or_none name }
 {
@@ -116,8 +116,8 @@ fn view_with(
 ) -> Result<View, AllocError>
     requires named { is_some (name_of line.now.name) ≡ true }
     requires based { is_some (file_of_keyword (first_named (codes "PFILE") line.now.keywords)) ≡ true }
-    requires few { length named.now ≤ 1000 }
-    requires narrow { bytes_of named.now ≤ 32766 }
+    requires few { length named.now ≤ MOST_FIELDS }
+    requires narrow { bytes_of named.now ≤ MOST_BYTES }
     ensures { IfOk result (λ view. view ≡ view_with keywords.now is_multi positions (format_with line.now body.now) base.now named.now) }
 {
     let fields = laid_out(alloc, named)?;

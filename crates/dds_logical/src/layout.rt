@@ -23,13 +23,13 @@ use dds_source::specifications::Specification;
 use field_types::lists::ListOf;
 use file_model::views::LogicalField;
 use key_spec::{KeyPart, KeyParts};
-use record_fmt::formats::{Field, Fields};
+use record_fmt::formats::{Field, Fields, MOST_BYTES, MOST_FIELDS};
 use std::alloc::{AllocError, Global};
 
 /// The fields of a record format, one behind the other.
 pub(crate) fn laid_out(alloc: Global, named: &NamedFields) -> Result<Fields, AllocError>
-    requires few { length named.now ≤ 1000 }
-    requires narrow { bytes_of named.now ≤ 32766 }
+    requires few { length named.now ≤ MOST_FIELDS }
+    requires narrow { bytes_of named.now ≤ MOST_BYTES }
     ensures { IfOk result (λ fields. fields ≡ laid_out 0 named.now) }
 {
     let mut fields = Fields::new(alloc);
@@ -103,6 +103,19 @@ fn parts_of_lines(
     Ok(parts)
 }
 
+/// The same, by the lines of the key alone.
+#[tactic(auto, using(crate::proofs::KeyLemmas::parts_are))]
+pub(crate) fn key_parts(
+    alloc: Global,
+    fields: &[Field],
+    lines: &[Specification],
+) -> Result<KeyParts, AllocError>
+    ensures { IfOk result (λ parts. parts ≡ parts_of_lines fields.now (lines_of line_kinds.Key lines.now)) }
+{
+    let parts = parts_of_lines(alloc, fields, lines)?;
+    Ok(parts)
+}
+
 /// Adds so many positions that the format lacks.
 #[tactic(auto, using(crate::proofs::ListLemmas::joined))]
 fn add_absent(count: usize, parts: &mut KeyParts) -> Result<(), AllocError>
@@ -117,7 +130,6 @@ fn add_absent(count: usize, parts: &mut KeyParts) -> Result<(), AllocError>
 }
 
 /// As many positions as the file has: those of the lines, and behind them such that the format lacks.
-#[tactic(auto, using(crate::proofs::KeyLemmas::parts_are))]
 pub(crate) fn padded(
     alloc: Global,
     count: usize,
@@ -126,7 +138,7 @@ pub(crate) fn padded(
 ) -> Result<KeyParts, AllocError>
     ensures { IfOk result (λ parts. parts ≡ padded count (parts_of_lines fields.now (lines_of line_kinds.Key lines.now))) }
 {
-    let mut parts = parts_of_lines(alloc, fields, lines)?;
+    let mut parts = key_parts(alloc, fields, lines)?;
     let missing = count.saturating_sub(parts.as_slice().len());
     add_absent(missing, &mut parts)?;
     Ok(parts)

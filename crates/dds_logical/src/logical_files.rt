@@ -1,14 +1,16 @@
-//! A logical file by its source, or the first fault of the source. Join files aren't read yet.
+//! A logical file by its source, or the first fault of the source.
 ghost use Rattle.std.specs.Prelude.{◌≡◌, ◌++◌, ◌∷◌, [], List, map, true, false, IfOk, OnOk};
 ghost use Rattle.dds_logical.specs.FormatLines.{formats_in, is_join_file, is_multi_format};
-ghost use Rattle.dds_logical.specs.Logical.{view_described, most_parts, one_or_several, described_by, logical_of};
-ghost use Rattle.dds_logical.specs.Complete.{IsComplete, AreComplete, AreCompleteFrom, views_at, Gives};
+ghost use Rattle.dds_logical.specs.Logical.{view_described, most_parts, one_or_several, described_by, join_described_by, logical_of};
+ghost use Rattle.dds_logical.specs.Complete.{IsComplete, AreComplete, AreCompleteFrom, IsFileComplete, views_at, Gives};
+ghost use Rattle.dds_logical.specs.JoinWhole.{IsFirstComplete};
 ghost use Rattle.dds_logical.specs.Judged.{format_with};
 ghost use Rattle.dds_logical.specs.declared.logical_files.LogicalFault.TheVariants.{NoMemory};
 
 use crate::bases::Bases;
-use crate::format_lines::{self, is_multi_format, is_record, lines_ahead};
+use crate::format_lines::{is_join_file, is_multi_format, is_record, lines_ahead};
 use crate::format_views::{most_parts, view_described};
+use crate::joins_described::join_described;
 use crate::source_faults::first_fault;
 use crate::views::{LogicalSpec, View, Views};
 use dds_source::faults::DdsFault;
@@ -113,7 +115,11 @@ fn one_or_several(views: Vec<View>) -> LogicalSpec
 }
 
 /// The file of a source that isn't a join's.
-fn described<B: Bases>(alloc: Global, bases: &B, source: &Source) -> Result<LogicalSpec, AllocError>
+fn views_file<B: Bases>(
+    alloc: Global,
+    bases: &B,
+    source: &Source,
+) -> Result<LogicalSpec, AllocError>
     requires single { is_join_file (formats_in source.now.specifications) ≡ false }
     requires complete { AreComplete (B.bases bases.now) (formats_in source.now.specifications) }
     ensures { IfOk result (λ spec. spec ≡ described_by (B.bases bases.now) source.now (formats_in source.now.specifications)) }
@@ -130,23 +136,49 @@ fn described<B: Bases>(alloc: Global, bases: &B, source: &Source) -> Result<Logi
     Ok(one_or_several(views))
 }
 
-/// Whether the source is that of a join file: its first format is over JFILE.
-pub fn is_join(source: &Source) -> bool
-    ensures { result ≡ is_join_file (formats_in source.now.specifications) }
+/// The join that the first format is.
+fn join_file<B: Bases>(
+    alloc: Global,
+    bases: &B,
+    keywords: &[Keyword],
+    specifications: &[Specification],
+) -> Result<LogicalSpec, AllocError>
+    requires { IsFirstComplete (B.bases bases.now) (formats_in specifications.now) }
+    ensures { IfOk result (λ spec. spec ≡ join_described_by (B.bases bases.now) keywords.now (formats_in specifications.now)) }
 {
-    format_lines::is_join_file(source.specifications.as_slice())
+    let mut rest = specifications;
+    while let [line, more @ ..] = rest {
+        if is_record(line.kind) {
+            let join = join_described(alloc, bases, keywords, line, lines_ahead(more))?;
+            return Ok(LogicalSpec::Join(join));
+        }
+        rest = more;
+    }
+    Ok(LogicalSpec::Multi(Views::new(alloc)))
 }
 
-/// The logical file that a source describes, over the files of `bases`; not for the source of a join file.
+/// The file of a source without faults.
+fn described<B: Bases>(alloc: Global, bases: &B, source: &Source) -> Result<LogicalSpec, AllocError>
+    requires { IsFileComplete (B.bases bases.now) (is_join_file (formats_in source.now.specifications)) (formats_in source.now.specifications) }
+    ensures { IfOk result (λ spec. spec ≡ described_by (B.bases bases.now) source.now (formats_in source.now.specifications)) }
+{
+    let specifications = source.specifications.as_slice();
+    if is_join_file(specifications) {
+        join_file(alloc, bases, source.file.as_slice(), specifications)
+    } else {
+        views_file(alloc, bases, source)
+    }
+}
+
+/// The logical file that a source describes, over the files of `bases`.
 ///
 /// Fields, keys and names take memory as they are judged, so memory may run out before a fault is found.
 #[tactic(auto, using(crate::proofs::FileLemmas::answered))]
-pub fn logical_without_join<B: Bases>(
+pub fn logical<B: Bases>(
     alloc: Global,
     source: &Source,
     bases: &B,
 ) -> Result<LogicalSpec, LogicalFault>
-    requires { is_join_file (formats_in source.now.specifications) ≡ false }
     // What is described where nothing is wrong, or the first fault.
     ensures { Gives result (logical_of (B.bases bases.now) source.now) }
 {

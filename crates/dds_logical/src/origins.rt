@@ -26,7 +26,7 @@ use field_types::kinds::{FieldType, Kind};
 use field_types::lists::ListOf;
 use field_types::names::Name;
 use file_model::views::Piece;
-use record_fmt::formats::Field;
+use record_fmt::formats::{Field, MOST_BYTES};
 use std::alloc::{AllocError, Global};
 
 /// What a field is made of.
@@ -96,7 +96,7 @@ pub(crate) fn field_of<'a>(base: &'a [Field], name: Option<Name>) -> Option<&'a 
 }
 
 /// Whether the name, if there is one, is no field's.
-fn lacks(base: &[Field], name: Option<Name>) -> bool
+pub(crate) fn lacks(base: &[Field], name: Option<Name>) -> bool
     ensures { result ≡ lacks_one base.now (own_name name) }
 {
     match name {
@@ -224,7 +224,7 @@ fn concatenation(
 /// Part of a field of this length that begins there.
 fn part_of(offset: u32, length: u16, part: Part) -> MadeOf
     requires within { lies_within length part ≡ true }
-    requires low { offset ≤ 32766 }
+    requires low { offset ≤ MOST_BYTES }
     ensures { made_by result ≡ part_at offset part }
 {
     let start = part.start as u32;
@@ -257,7 +257,7 @@ fn part_of_first(field: Option<&Field>, arguments: &[Argument]) -> Option<MadeOf
 }
 
 fn part_of_field(field: &Field, arguments: &[Argument]) -> Option<MadeOf>
-    requires { field.now.offset ≤ 32766 }
+    requires { field.now.offset ≤ MOST_BYTES }
     ensures { option_map made_by result ≡ part_origin field.now (if_within field.now.ty.length (part_said field.now.ty.length arguments.now)) }
 {
     match part_within(field.ty.length, arguments) {

@@ -5,15 +5,16 @@ ghost use Rattle.std.specs.List.{list_any};
 ghost use Rattle.dds_source.specs.Faults.{first_after};
 ghost use Rattle.dds_physical.specs.Keywords.{first_named};
 ghost use Rattle.dds_logical.specs.KeywordArguments.{names_among};
-ghost use Rattle.dds_logical.specs.FormatLines.{formats_in, based_on};
+ghost use Rattle.dds_logical.specs.FormatLines.{formats_in, field_lines, based_on};
 ghost use Rattle.dds_logical.specs.WholeFile.{is_no_base, base_faults, head_faults, formats_faults, lacks_format, format_missing_faults};
-ghost use Rattle.dds_logical.specs.Judged.{is_missing_base};
+ghost use Rattle.dds_logical.specs.Judged.{is_fieldless_at, is_missing_base, lines_of};
+ghost use Rattle.dds_logical.specs.declared.format_lines.LineKind.TheVariants as line_kinds;
 
 use crate::arguments::argument_name;
 use crate::bases::Bases;
 use crate::fields::{note_names_twice, note_too_many};
 use crate::first::{FirstFault, fault_at, file_fault, keyword_fault};
-use crate::format_lines::{LineKind, based_on, has_lines, is_record};
+use crate::format_lines::{LineKind, based_on, has_lines, is_record, lines_ahead};
 use crate::keyword_names::{arguments_of, first_named};
 use crate::keyword_places::KeywordPlace;
 use crate::keyword_rules::note_keywords;
@@ -124,23 +125,56 @@ fn has_no_format(specifications: &[Specification]) -> bool
     !has_lines(LineKind::Record, specifications)
 }
 
-/// Whether a file over one file each format has no format, or one that is over no file.
-fn lacks_format(specifications: &[Specification]) -> bool
-    ensures { result ≡ lacks_format false (formats_in specifications.now) }
+#[tactic(auto, using(crate::proofs::FormatLemmas::no_lines))]
+fn has_no_fields(body: &[Specification]) -> bool
+    ensures { result ≡ (length (lines_of line_kinds.Field body.now) == 0) }
 {
-    has_no_format(specifications) || is_one_baseless(specifications)
+    !has_lines(LineKind::Field, body)
+}
+
+/// Whether a line begins a format without lines of fields.
+#[tactic(auto, unfolding(crate::specs::Judged::is_fieldless_at))]
+fn is_fieldless_at(line: &Specification, more: &[Specification]) -> bool
+    ensures { result ≡ is_fieldless_at line.now more.now }
+{
+    is_record(line.kind) && has_no_fields(lines_ahead(more))
+}
+
+/// Whether a format has no lines of fields.
+fn is_one_fieldless(specifications: &[Specification]) -> bool
+    ensures { result ≡ list_any (λ f. length (field_lines f) == 0) (formats_in specifications.now) }
+{
+    let mut rest = specifications;
+    while !rest.is_empty() {
+        let (here, more) = rest.split_at(1);
+        if is_fieldless_at(&here[0], more) {
+            return true;
+        }
+        rest = more;
+    }
+    false
+}
+
+/// Whether a file has no format, or one that is over no file, or a join format without fields.
+fn lacks_format(is_join: bool, specifications: &[Specification]) -> bool
+    ensures { result ≡ lacks_format is_join (formats_in specifications.now) }
+{
+    has_no_format(specifications)
+        || is_one_baseless(specifications)
+        || (is_join && is_one_fieldless(specifications))
 }
 
 /// Notes such a file.
 pub(crate) fn note_format_missing(
     last_line: u32,
+    is_join: bool,
     specifications: &[Specification],
     first: &mut FirstFault,
 )
-    ensures { first.new.fault ≡ first_after first.old.fault (format_missing_faults last_line false (formats_in specifications.now)) }
+    ensures { first.new.fault ≡ first_after first.old.fault (format_missing_faults last_line is_join (formats_in specifications.now)) }
 {
     first.note_if(
-        lacks_format(specifications),
+        lacks_format(is_join, specifications),
         file_fault(last_line, DdsCause::NoFormat),
     );
 }

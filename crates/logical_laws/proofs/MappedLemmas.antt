@@ -44,7 +44,7 @@ use Rattle.dds_logical.specs.Keys.{mismatch_faults}
 use Rattle.dds_logical.specs.Logical.{base_name, base_of, view_described, most_parts, one_or_several, view_faults, join_described_by, described_by, formats_at_fault, faults_over, unless_fault, logical_specification, logical_faults, logical_of, format_parts}
 use Rattle.dds_logical.specs.Origins.{Origin, keyword_names, origin_names, fields_of_names, lacks_one, is_character, are_characters, if_within, part_said, whole_field, first_copied, concatenated, part_origin, substring_of, arguments_said, made_of, origin}
 use Rattle.dds_logical.specs.WholeFile.{is_no_base, base_faults, head_faults}
-use Rattle.dds_logical.proofs.CompleteLemmas.{complete_unless}
+use Rattle.dds_logical.proofs.CompleteLemmas.{complete_file}
 use Rattle.logical_model.specs.Bases.{Bases, base_names}
 use Rattle.logical_laws.specs.Mapped.{IsFieldAt, IsTextAt, IsSourceMapped, IsFieldMapped, IsViewMapped, IsSpecMapped, AreBasesOf}
 use Rattle.logical_laws.proofs.ListLemmas.{each-weaker, each-append, each-map}
@@ -297,7 +297,7 @@ views-over described source fs h =
     let formats : formats_at_fault described source false fs ≡ [] = (nothing-in _ (formats_at_fault described source false fs) (nothing-in _ _ h).0).1 in
     let views = nothing-in (flat_map (view_faults described source.last_line (is_multi_format fs)) fs) (mismatch_faults (format_parts described) [] fs) formats in
     formats-over described source.last_line (is_multi_format fs) fs (flat-nothing (view_faults described source.last_line (is_multi_format fs)) fs views.0)
-    (complete_unless described source fs None (sym (ap (first_after None) h)))
+    (complete_file described source fs h)
 
 -- ---- files that aren't joins
 
