@@ -1,2 +1,3 @@
 pub mod RecordLemmas
 pub mod PlanLemmas
+pub mod PhysicalLemmas

@@ -2,3 +2,4 @@ pub mod Effects
 pub mod Sources
 pub mod Members
 pub mod Records
+pub mod Opens

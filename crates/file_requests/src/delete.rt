@@ -4,13 +4,14 @@ ghost use Rattle.library_model.specs.Named.{named};
 ghost use Rattle.library_steps.specs.declared.limits.TheConstants.{LAST_SEQUENCE};
 ghost use Rattle.library_steps.specs.State.{FileState, job_at, memory_of};
 ghost use Rattle.library_steps.specs.History.{is_running};
-ghost use Rattle.library_steps.specs.DeleteFile.{delete_file, delete_plan, deleted};
+ghost use Rattle.library_steps.specs.DeleteFile.{delete_file, delete_plan, deleted, user_by};
 ghost use Rattle.library_steps.specs.Uses.{user_of_any};
 ghost use Rattle.library_parts.specs.Answers.{Answers, Shows};
 ghost use Rattle.file_requests.specs.Effects.{Deposits};
 
 use draft_list::{Author, may_deposit, with_room};
 use entry_codec::{Draft, EntryKind};
+use field_types::names::Name;
 use file_catalogue::File;
 use library_model::replies::Reply;
 use library_model::requests::DeleteFile;
@@ -46,10 +47,20 @@ fn plan_delete<'a>(contents: &'a Contents, args: &DeleteFile) -> Result<&'a File
     if let Some(name) = contents.first_dependent(&args.file) {
         return Err(Stop::Refused(Reply::Dependents { name }));
     }
-    if let Some(job) = contents.user_of_any(file.members()) {
+    if let Some(job) = user_of(contents, &args.file, file) {
         return Err(Stop::Refused(Reply::InUse { job }));
     }
     Ok(file)
+}
+
+/// The first job that uses the file, which is a physical one and is used by its members.
+fn user_of(contents: &Contents, name: &Name, file: &File) -> Option<u32>
+    ensures members { result ≡ user_of_any file.now.members (memory_of contents.now.state) }
+    ensures file { result ≡ user_by file.now.spec name.now file.now (memory_of contents.now.state) }
+{
+    // It is a physical file.
+    let _format = file.format();
+    contents.user_of_any(file.members())
 }
 
 fn apply_delete(contents: &mut Contents, args: &DeleteFile, draft: Draft)

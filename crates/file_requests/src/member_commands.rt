@@ -5,7 +5,8 @@ ghost use Rattle.memory_journal.specs.declared.journal.TheConstants.{LAST_BEFORE
 ghost use Rattle.member_slots.specs.Members.{member_at};
 ghost use Rattle.library_model.specs.Named.{named};
 ghost use Rattle.library_steps.specs.declared.limits.TheConstants.{LAST_SEQUENCE};
-ghost use Rattle.library_steps.specs.State.{FileState, job_at, memory_of};
+ghost use Rattle.library_steps.specs.State.{FileState, job_at, memory_of, physical_named};
+ghost use Rattle.library_steps.specs.Refusals.{named_or_refused};
 ghost use Rattle.library_steps.specs.History.{is_running};
 ghost use Rattle.library_steps.specs.Change.{does};
 ghost use Rattle.library_steps.specs.Drafts.{member_draft};
@@ -70,7 +71,7 @@ fn plan_add<'a>(contents: &'a Contents, args: &FileMember) -> Result<&'a File, S
     ensures left { OnOk result ((memory_of contents.now.state).last_entry ≤ LAST_SEQUENCE) }
 {
     may_deposit(contents)?;
-    let file = contents.file(&args.file)?;
+    let file = physical_file(contents, &args.file)?;
     if file.member(&args.member).is_some() {
         return Err(Stop::Refused(Reply::NameExists { name: args.member }));
     }
@@ -88,6 +89,14 @@ fn plan_add<'a>(contents: &'a Contents, args: &FileMember) -> Result<&'a File, S
         }));
     }
     Ok(file)
+}
+
+/// The physical file of that name.
+fn physical_file<'a>(contents: &'a Contents, name: &Name) -> Result<&'a File, Stop>
+    ensures found { Shows result (named_or_refused name.now (physical_named name.now (memory_of contents.now.state))) }
+    ensures there { IfOk result (λ file. named name.now contents.now.state.files ≡ Some file.now) }
+{
+    contents.physical_file(name)
 }
 
 fn apply_add(contents: &mut Contents, args: &FileMember, draft: Draft)

@@ -7,8 +7,9 @@ ghost use Rattle.library_steps.specs.State.{job_at, job_of, memory_of, open_name
 ghost use Rattle.library_steps.specs.History.{is_running};
 ghost use Rattle.library_steps.specs.Opens.{close_file, may_commit, open_file, open_plan};
 ghost use Rattle.library_parts.specs.Answers.{Allows, Answers, Gives};
-ghost use Rattle.library_parts.specs.Lawful.{OpensMember};
+ghost use Rattle.library_parts.specs.Finds.{OpensMember};
 ghost use Rattle.library_parts.specs.declared.stop.Stop.TheVariants.{NoMemory};
+ghost use Rattle.file_requests.specs.Opens.{GivesMember, member_plan};
 
 use field_types::names::Name;
 use file_catalogue::MemberStatus;
@@ -37,10 +38,22 @@ pub fn open_file(contents: &mut Contents, job: u32, args: &OpenFile) -> Result<R
     Ok(Reply::Done)
 }
 
-#[tactic(auto, unfolding(library_steps::specs::Opens::open_plan))]
+/// The member to open, of a physical file as there are no others.
 fn plan_open(contents: &Contents, job: u32, args: &OpenFile) -> Result<MemberStatus, Stop>
     requires running { IsTrue (is_running (job_at job contents.now.state.jobs)) }
-    ensures plan { Gives result (open_plan (memory_of contents.now.state) job args.now) }
+    ensures plan { GivesMember result (open_plan (memory_of contents.now.state) job args.now) }
+    ensures few { OnOk result (length (job_of job (memory_of contents.now.state)).opens < MOST_OPENS) }
+    ensures there { IfOk result (λ status. OpensMember status.number (named args.now.file contents.now.state.files)) }
+{
+    // All files are physical ones.
+    let _counts = contents.counts();
+    plan_member(contents, job, args)
+}
+
+#[tactic(auto, unfolding(crate::specs::Opens::member_plan))]
+fn plan_member(contents: &Contents, job: u32, args: &OpenFile) -> Result<MemberStatus, Stop>
+    requires running { IsTrue (is_running (job_at job contents.now.state.jobs)) }
+    ensures plan { Gives result (member_plan (memory_of contents.now.state) job args.now) }
     ensures few { OnOk result (length (job_of job (memory_of contents.now.state)).opens < MOST_OPENS) }
     ensures there { IfOk result (λ status. OpensMember status.number (named args.now.file contents.now.state.files)) }
 {

@@ -1,6 +1,6 @@
-use Rattle.std.proofs.Common.{refl, ap}
+use Rattle.std.proofs.Common.{ℕ, List, [], ◌∷◌, refl, ap}
 use Rattle.library_model.specs.declared.replies.Reply.TheVariants.{Done}
-use Rattle.library_steps.specs.State.{MemberStatus, memory_of, with_job}
+use Rattle.library_steps.specs.State.{memory_of, with_job}
 use Rattle.library_steps.specs.Change.{does, unjournaled}
 use Rattle.library_steps.specs.Opens.{with_open}
 use Rattle.file_requests.proofs.opens.open_file.Goals as goal
@@ -14,6 +14,6 @@ returns c =
     let status = c.in_ok-status.status in
     let memory = rw c.number.ensures at c.add_open.ensures.memory in
     record {
-      answers = c.effects_answer.ensures.unjournaled old c.add_open.new.self.state Done (with_job job (with_open args status.number) m) _
-          (ap (does (λ (s : MemberStatus). unjournaled Done (with_job job (with_open args s.number) m))) c.in_ok-status.ensures.plan) memory refl c.add_open.ensures.entries;
+      answers = c.effects_answer.ensures.unjournaled old c.add_open.new.self.state Done (with_job job (with_open args (status.number ∷ [])) m) _
+          (ap (does (λ (members : List ℕ). unjournaled Done (with_job job (with_open args members) m))) c.in_ok-status.ensures.plan) memory refl c.add_open.ensures.entries;
     }
