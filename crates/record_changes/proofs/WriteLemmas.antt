@@ -38,8 +38,10 @@ write-given m job opened file args number plain left there asked may first one =
     writes : ℕ → Result NewSlot Reply
     writes n = refuse_if (is_input opened.option) WrongOpen >>= λ _. (packed (given_in (bases_of m) file.spec n args.values None)
         >>= λ image. place_plan m job (at_format n opened) args.record_number image)
+
     after : OpenedFile → Result NewSlot Reply
     after its = format_asked args.format its.file.spec >>= λ n. (refuse_if (is_input its.opened.option) WrongOpen >>= λ _. (packed (given_in (bases_of m) its.file.spec n args.values None)
         >>= λ image. place_plan m job (at_format n its.opened) args.record_number image))
+
     placed : OpenState → Result NewSlot Reply
     placed o = given_plan m job (opened_with o file) args

@@ -108,6 +108,7 @@ module _ (s : State) (job : ℕ) (opened : OpenState) (file : FileState) (none :
     where
       it : FoundEntry
       it = record { file = file; opened = opened; call = read_call lock opened; found = entry_found (entry_numbered rrn) }
+
       by : (unlocked few : Result Bool Reply)
           → does (read_change m job) (unlocked >>= λ _. (few >>= λ _. Ok it)) ≡ does (plain_change m job) (unlocked >>= λ _. (few >>= λ _. Ok it))
       by (Err reply) few = refl
