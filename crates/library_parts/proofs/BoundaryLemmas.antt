@@ -184,8 +184,7 @@ AreOne-rolled_back s bytes place locks cycle one back begun =
     (AreOne-locks (record s { members = members_back (changes_in cycle) s.members }) bytes locks (AreOne-cycle_back s bytes cycle one back) begun)
     (λ job all. opens-map s.files rolled_back_open
     (λ opened holds. elim opened.commit as
-    (λ b. OpenHolds s.files (if b then record opened { position = opened.boundary; current = None; last_read = None } else record opened { current = None; last_read = None }))
-    [
+    (λ b. OpenHolds s.files (if b then record opened { position = opened.boundary; current = None; last_read = None } else record opened { current = None; last_read = None })) [
       | true ↦ OpenHolds-alike s.files opened (record opened { position = opened.boundary; current = None; last_read = None }) refl refl refl refl holds
       | false ↦ OpenHolds-alike s.files opened (record opened { current = None; last_read = None }) refl refl refl refl holds
     ]) job.opens all)
