@@ -109,7 +109,8 @@ module _ (s : State) (bytes : ℕ) (name member : List ℕ) (file : FileState) (
       members = λ other another number owns. IsThere-added other another number (split other another owns.there) owns.has;
       bases = AreBased-wider s.files name member s.next_member file found one.lawful.bases;
       opens = jobs-each s.files (file_changed name (with_member_name member s.next_member) s.files)
-          (OpenHolds-kept s.files (file_changed name (with_member_name member s.next_member) s.files) one.lawful.bases (kept-wider s.files name member s.next_member file found)) s.jobs one.lawful.opens;
+          (OpenHolds-kept s.files (file_changed name (with_member_name member s.next_member) s.files) one.lawful.bases (kept-wider s.files name member s.next_member file found))
+          s.jobs one.lawful.opens;
       changes = AllGoBack-each s.files (file_changed name (with_member_name member s.next_member) s.files) s.members
           (put_member s.next_member (empty_member (record_length (fields_of file))) s.members) goes-back s.jobs one.lawful.changes;
       numbers = numbers-put_member s.members s.next_member (empty_member (record_length (fields_of file))) one.lawful.numbers;

@@ -249,7 +249,8 @@ status-named number change same name (entry ∷ members) status found =
     let number_stays : (cond (entry.1.number == number) (change entry.1) entry.1).number ≡ entry.1.number =
     elim (entry.1.number == number) as (λ b. (cond b (change entry.1) entry.1).number ≡ entry.1.number) [ true ↦ same entry.1 | false ↦ refl ] in
     elim (same_name name entry.0) as (λ b. cond b (Some entry.1) (named name members) ≡ Some status
-    → (later : MemberStatus) × (cond b (Some (cond (entry.1.number == number) (change entry.1) entry.1)) (named name (changed_in number change members)) ≡ Some later) × (later.number ≡ status.number)) [
+    → (later : MemberStatus) × (cond b (Some (cond (entry.1.number == number) (change entry.1) entry.1)) (named name (changed_in number change members)) ≡ Some later)
+    × (later.number ≡ status.number)) [
       | true ↦ λ e. (cond (entry.1.number == number) (change entry.1) entry.1, refl, number_stays ∙ ap (λ (s : MemberStatus). s.number) (some-equal e))
       | false ↦ λ e. status-named number change same name members status e
     ] found
@@ -324,7 +325,8 @@ OpenHolds-alike files opened other file members format member holds =
     by None h = absurd h
     by (Some its) h = kind its.members its.spec h
 
-pub OpenHolds-positioned : (files : Named FileState) (join : Option JoinView) (position : Position PathEntry) (opened : OpenState) → OpenHolds files opened → OpenHolds files (positioned join position opened)
+pub OpenHolds-positioned : (files : Named FileState) (join : Option JoinView) (position : Position PathEntry) (opened : OpenState) → OpenHolds files opened
+    → OpenHolds files (positioned join position opened)
 OpenHolds-positioned files None position opened holds = OpenHolds-alike files opened (positioned None position opened) refl refl refl refl holds
 OpenHolds-positioned files (Some view) position opened holds = OpenHolds-alike files opened (positioned (Some view) position opened) refl refl refl refl holds
 
@@ -356,7 +358,8 @@ stands : (files : Named FileState) (call : Call) (entry : PathEntry) (row : Opti
 stands files call entry None opened there holds =
     OpenHolds-alike files (at_format entry.format opened) (has_read call (record { entry = entry; row = None }) opened) refl refl refl refl (OpenHolds-at_format files entry.format opened there holds)
 stands files call entry (Some place) opened there holds =
-    OpenHolds-alike files (at_format entry.format opened) (has_read call (record { entry = entry; row = Some place }) opened) refl refl refl refl (OpenHolds-at_format files entry.format opened there holds)
+    OpenHolds-alike files (at_format entry.format opened) (has_read call (record { entry = entry; row = Some place }) opened) refl refl refl refl
+    (OpenHolds-at_format files entry.format opened there holds)
 
 -- a read of one of its formats
 pub OpenHolds-has_read : (files : Named FileState) (call : Call) (it : Found) (opened : OpenState) → IsSome (slice_get opened.members it.entry.format) → OpenHolds files opened

@@ -157,7 +157,8 @@ jobs-kept files others test each number (job ∷ jobs) unused all =
     ] refl unused
 
 -- opens of other files than the one of this name
-opens-other : (files others : Named FileState) (name : List ℕ) (opens : Named OpenState) → ((opened : OpenState) → same_name name opened.file ≡ false → OpenHolds files opened → OpenHolds others opened)
+opens-other : (files others : Named FileState) (name : List ℕ) (opens : Named OpenState)
+    → ((opened : OpenState) → same_name name opened.file ≡ false → OpenHolds files opened → OpenHolds others opened)
     → list_any (λ entry. same_name name entry.1.file) opens ≡ false → AllByRecursion (λ (e : List ℕ × OpenState). OpenHolds files e.1) opens
     → AllByRecursion (λ (e : List ℕ × OpenState). OpenHolds others e.1) opens
 opens-other files others name [] each none all = tt
@@ -257,7 +258,8 @@ bases-without gone files (name ∷ names) none all =
 
 module _ (gone : List ℕ) (files : Named FileState) (based : AreBased files) (free : AreFree gone files) where
   -- the bases of a logical file that is there
-  its-bases : (name : List ℕ) (file : FileState) (spec : LogicalSpec) → named name files ≡ Some file → file.spec ≡ LogicalFile spec → AllByRecursion (Stays files (without_file gone files)) (base_names spec)
+  its-bases : (name : List ℕ) (file : FileState) (spec : LogicalSpec) → named name files ≡ Some file → file.spec ≡ LogicalFile spec
+      → AllByRecursion (Stays files (without_file gone files)) (base_names spec)
   its-bases name file spec here is =
       let stands : StandsOver files file.members spec = subst (IsBased files name file.members) is (based name file here) in
       let others : IsFree gone (LogicalFile spec) = subst (IsFree gone) is (free name file here) in
@@ -288,7 +290,8 @@ module _ (gone : List ℕ) (files : Named FileState) (based : AreBased files) (f
 
 module _ (s : State) (bytes after : ℕ) (name : List ℕ) (file : FileState) (one : AreOne s bytes) (apart : AreApart s.files) (free : AreFree name s.files) (there : named name s.files ≡ Some file) where
   -- an open of a physical file is over one of its members
-  its-member : (opened : OpenState) (spec : FileSpec) → IsPhysical spec → OpensBy s.files opened file.members spec → (is_over opened opened.member ≡ true) × (has_number opened.member file.members ≡ true)
+  its-member : (opened : OpenState) (spec : FileSpec) → IsPhysical spec → OpensBy s.files opened file.members spec
+      → (is_over opened opened.member ≡ true) × (has_number opened.member file.members ≡ true)
   its-member opened (PhysicalFile spec) physical own =
       let same : (opened.member == opened.member) ≡ true = grind (arith, nat_tests) in
       let first : ((opened.member == opened.member) || false) ≡ true = rw same refl in

@@ -144,7 +144,15 @@ length-job_changed (suc place) change (job ∷ jobs) = ap (λ n. suc n) (length-
 
 pub AreOne-locks : (s : State) (bytes : ℕ) (locks : List Lock) → AreOne s bytes → AreOfJobs s.jobs locks → AreOne (record s { locks = locks }) bytes
 AreOne-locks s bytes locks one begun = record {
-  lawful = record { members = one.lawful.members; bases = one.lawful.bases; opens = one.lawful.opens; changes = one.lawful.changes; numbers = one.lawful.numbers; keepers = begun; few = one.lawful.few };
+  lawful = record {
+    members = one.lawful.members;
+    bases = one.lawful.bases;
+    opens = one.lawful.opens;
+    changes = one.lawful.changes;
+    numbers = one.lawful.numbers;
+    keepers = begun;
+    few = one.lawful.few;
+  };
   counted = one.counted;
 }
 
