@@ -1,5 +1,5 @@
 -- A library stays lawful with one member more in a file.
-use Rattle.std.proofs.Common.{◌≡◌, ◌≢◌, ◌⊎◌, inl, inr, ℕ, ◌+◌, ◌<◌, ◌==◌, ◌||◌, true, false, cond, List, Option, Some, None, subst, refl, sym, ◌∙◌, ap, arith}
+use Rattle.std.proofs.Common.{◌≡◌, ◌≢◌, ◌⊎◌, inl, inr, ℕ, ◌+◌, ◌<◌, true, false, cond, List, Some, subst, refl, sym, ◌∙◌, ap, arith}
 use Rattle.std.specs.Option.{option_map}
 use Rattle.std.proofs.lemmas.Bool.{cases_eq}
 use Rattle.std.proofs.lemmas.Bool.Decides.{nat_tests}
@@ -11,17 +11,21 @@ use Rattle.file_catalogue.proofs.NameLemmas.{same_name-equal, some-equal}
 use Rattle.file_catalogue.proofs.ChangeLemmas.{named-file_changed, changed-from}
 use Rattle.file_catalogue.proofs.StatusLemmas.{has_number-push}
 use Rattle.library_model.specs.Named.{named, same_name}
-use Rattle.library_steps.specs.State.{State, FileState, OpenState, fields_of}
+use Rattle.library_steps.specs.State.{State, FileState, fields_of, physical_among}
 use Rattle.library_steps.specs.MemberCommands.{file_changed, with_member_name}
 use Rattle.journal_model.specs.Replay.{before_of}
 use Rattle.journal_model.specs.Rollback.{MemberChange}
-use Rattle.library_parts.specs.Lawful.{HoldsValues, IsThere, OpensMember, GoesBack, AreOne}
+use Rattle.library_parts.specs.Lawful.{HoldsValues, IsThere, GoesBack, AreOne}
 use Rattle.library_parts.proofs.MemberLemmas.{item_at-put_item_other, item_at-put_item_same}
+use Rattle.library_parts.proofs.BaseLemmas.{AreBased-wider, OpenHolds-kept, kept-wider, physical-found}
 use Rattle.library_parts.proofs.LawfulLemmas.{jobs-each}
 use Rattle.library_parts.proofs.BackLemmas.{FitsPlace-same, AllGoBack-each}
 use Rattle.library_parts.proofs.FileLemmas.{number-below, Owns-below, bytes-put_member, numbers-put_member}
 
-module _ (s : State) (bytes : ℕ) (name member : List ℕ) (file : FileState) (one : AreOne s bytes) (there : named name s.files ≡ Some file) where
+module _ (s : State) (bytes : ℕ) (name member : List ℕ) (file : FileState) (one : AreOne s bytes) (found : physical_among name s.files ≡ Some file) where
+  there : named name s.files ≡ Some file
+  there = (physical-found name s.files file found).0
+
   -- a file among those with the member is one that was there, or the one with the member
   split : (other : List ℕ) (another : FileState) → named other (file_changed name (with_member_name member s.next_member) s.files) ≡ Some another
       → ((before : FileState) × (named other s.files ≡ Some before) × (with_member_name member s.next_member before ≡ another) × (before ≡ file)) ⊎ (named other s.files ≡ Some another)
@@ -70,19 +74,6 @@ module _ (s : State) (bytes : ℕ) (name member : List ℕ) (file : FileState) (
             kept other was.0 number (record { there = was.1; has = before }))
       ])
 
-  pushed : (number : ℕ) (o : Option FileState) → OpensMember number o → OpensMember number (option_map (with_member_name member s.next_member) o)
-  pushed number None holds = absurd holds
-  pushed number (Some before) holds = has_number-push number before.members member s.next_member ∙ ap (λ b. b || (s.next_member == number)) holds
-
-  opens-added : (opened : OpenState) → OpensMember opened.member (named opened.file s.files)
-      → OpensMember opened.member (named opened.file (file_changed name (with_member_name member s.next_member) s.files))
-  opens-added opened holds =
-      subst (OpensMember opened.member) (sym (named-file_changed name opened.file (with_member_name member s.next_member) s.files))
-      (elim (same_name name opened.file) as (λ b. OpensMember opened.member (cond b (option_map (with_member_name member s.next_member) (named opened.file s.files)) (named opened.file s.files))) [
-        | true ↦ pushed opened.member (named opened.file s.files) holds
-        | false ↦ holds
-      ])
-
   -- the new member was changed by nobody
   values : (undo : MemberChange) → undo.member < s.next_member → ((before : List ℕ) (its : FileState) → Owns s.files before its undo.member → HoldsValues (fields_of its) (before_of undo.change))
       → (other : List ℕ) (another : FileState)
@@ -116,7 +107,9 @@ module _ (s : State) (bytes : ℕ) (name member : List ℕ) (file : FileState) (
   AreOne-member_added = let same = bytes-put_member s.members s.next_member (record_length (fields_of file)) one.lawful.numbers in let few = one.lawful.few in record {
     lawful = record {
       members = λ other another number owns. IsThere-added other another number (split other another owns.there) owns.has;
-      opens = jobs-each s.files (file_changed name (with_member_name member s.next_member) s.files) opens-added s.jobs one.lawful.opens;
+      bases = AreBased-wider s.files name member s.next_member file found one.lawful.bases;
+      opens = jobs-each s.files (file_changed name (with_member_name member s.next_member) s.files)
+          (OpenHolds-kept s.files (file_changed name (with_member_name member s.next_member) s.files) one.lawful.bases (kept-wider s.files name member s.next_member file found)) s.jobs one.lawful.opens;
       changes = AllGoBack-each s.files (file_changed name (with_member_name member s.next_member) s.files) s.members
           (put_member s.next_member (empty_member (record_length (fields_of file))) s.members) goes-back s.jobs one.lawful.changes;
       numbers = numbers-put_member s.members s.next_member (empty_member (record_length (fields_of file))) one.lawful.numbers;

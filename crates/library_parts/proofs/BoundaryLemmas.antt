@@ -36,6 +36,7 @@ use Rattle.library_parts.specs.Boundaries.{cycle_end, definition_end, ended, mem
 use Rattle.library_parts.specs.Due.{cycle_due, level_due}
 use Rattle.library_parts.specs.Lawful.{OpenHolds, FitsPlace, GoesBack, CycleGoesBack, AreOne}
 use Rattle.library_parts.proofs.AnswerLemmas.{append-nil, changed-state}
+use Rattle.library_parts.proofs.BaseLemmas.{OpenHolds-alike}
 use Rattle.library_parts.proofs.BackLemmas.{FitsPlace-with, GoesBack-place, undos-each}
 use Rattle.library_parts.proofs.LawfulLemmas.{AreOne-changed, AreOne-ended, AreOne-job_changed, AreOne-locks, commitment-memory, opens-map}
 use Rattle.library_parts.proofs.MemberLemmas.{length-changed, record_length-changed, slot_put-changed}
@@ -183,8 +184,10 @@ AreOne-rolled_back s bytes place locks cycle one back begun =
     (AreOne-locks (record s { members = members_back (changes_in cycle) s.members }) bytes locks (AreOne-cycle_back s bytes cycle one back) begun)
     (λ job all. opens-map s.files rolled_back_open
     (λ opened holds. elim opened.commit as
-    (λ b. OpenHolds s.files (if b then record opened { position = opened.boundary; current = None; last_read = None } else record opened { current = None; last_read = None }))
-    [ true ↦ holds | false ↦ holds ]) job.opens all)
+    (λ b. OpenHolds s.files (if b then record opened { position = opened.boundary; current = None; last_read = None } else record opened { current = None; last_read = None })) [
+      | true ↦ OpenHolds-alike s.files opened (record opened { position = opened.boundary; current = None; last_read = None }) refl refl refl refl holds
+      | false ↦ OpenHolds-alike s.files opened (record opened { current = None; last_read = None }) refl refl refl refl holds
+    ]) job.opens all)
     (λ job kept. tt)
 
 -- after the end of a job

@@ -1,24 +1,32 @@
 -- A library stays lawful with one file less, and its members.
-use Rattle.std.proofs.Common.{◌≡◌, ◌≢◌, ℕ, suc, ◌+◌, ◌<◌, ◌≤◌, ◌==◌, ◌||◌, if◌then◌else◌, Bool, true, false, cond, not, filter, List, [], ◌∷◌, Option, Some, None, All, unwrap_or, subst, refl, sym, ◌∙◌, ap, arith}
+use Rattle.std.proofs.Common.{◌≡◌, ◌≢◌, ℕ, suc, ◌+◌, ◌<◌, ◌≤◌, ◌==◌, ◌||◌, if◌then◌else◌, Bool, true, false, cond, not, filter, List, [], ◌∷◌, Option, Some, None, IsSome, All, unwrap_or, subst, refl, sym, ◌∙◌, ap, arith}
 use Rattle.std.specs.List.{AllByRecursion, AllPairs, list_any}
+use Rattle.std.specs.Option.{option_and_then}
+use Rattle.std.proofs.lemmas.Bool.{eqb-true}
 use Rattle.std.proofs.lemmas.Bool.Decides.{nat_tests}
 use Rattle.std.proofs.lemmas.List.Elements.{recursion_from_All}
 use Rattle.journal_model.specs.Rollback.{MemberChange}
+use Rattle.dds_logical.specs.declared.views.LogicalSpec.{LogicalSpec}
 use Rattle.lock_table.specs.declared.lock.Lock.{Lock}
+use Rattle.logical_model.specs.Bases.{FileSpec, PhysicalFile, LogicalFile, base_members, base_names}
 use Rattle.member_slots.specs.Member.{MemberState, empty_member}
 use Rattle.member_slots.specs.Members.{Numbered, NumberedMembers, AreMembers, member_at, member_of, without_member}
 use Rattle.file_catalogue.specs.Owners.{Owns, AreApart, has_number}
-use Rattle.file_catalogue.proofs.NameLemmas.{same_name-equal, same_name-self, named-without, named-without_other}
+use Rattle.file_catalogue.specs.Physical.{IsPhysical, AllArePhysical}
+use Rattle.file_catalogue.proofs.PhysicalLemmas.{physical-named}
+use Rattle.file_catalogue.proofs.NameLemmas.{same_name-equal, same_name-self, some-equal, named-without, named-without_other}
 use Rattle.file_catalogue.proofs.StatusLemmas.{has_number-cons}
 use Rattle.library_model.specs.Named.{Named, named, same_name}
-use Rattle.library_steps.specs.State.{State, FileState, MemberStatus, OpenState, JobState, memory_of, fields_of}
-use Rattle.library_steps.specs.DeleteFile.{without_file, without_members}
+use Rattle.library_steps.specs.State.{State, Memory, FileState, MemberStatus, OpenState, JobState, memory_of, fields_of, if_physical, physical_among}
+use Rattle.library_steps.specs.DeleteFile.{depends_by, file_refers, first_dependent, user_by, without_file, without_members}
+use Rattle.library_steps.specs.LogicalFiles.{base_in, bases_in}
 use Rattle.library_steps.specs.Ranges.{library_bytes}
-use Rattle.library_steps.specs.Uses.{first_job, changes_in, has_open_over, has_changed, has_boundary_lock, uses, user_of_any}
-use Rattle.library_parts.specs.Lawful.{IsThere, OpensMember, OpenHolds, OpensHold, GoesBack, AreOne}
+use Rattle.library_steps.specs.Uses.{first_job, changes_in, has_open_of, has_open_over, has_changed, has_boundary_lock, uses, user_of_any}
+use Rattle.library_parts.specs.Lawful.{AreBased, IsBased, IsThere, OpenHolds, OpensBy, OpensFile, OpensHold, GoesBack, AllGoBack, StandsOver, AreOne}
 use Rattle.library_parts.specs.Slots.{weight}
 use Rattle.library_parts.proofs.MemberLemmas.{item_at-without_item_other, library_bytes-cons}
-use Rattle.library_parts.proofs.BackLemmas.{FitsPlace-same, AllGoBack-kept, neither, unused-unchanged}
+use Rattle.library_parts.proofs.BaseLemmas.{IsOverBases-stays, StandsOver-stays, Stays}
+use Rattle.library_parts.proofs.BackLemmas.{FitsPlace-same, AllGoBack-each, AllGoBack-kept, neither, unused-unchanged}
 
 -- ---- a member less
 
@@ -106,46 +114,56 @@ numbers-without_members (entry ∷ gone) members bound all =
 
 -- ---- no job uses them
 
+-- an open is over this member
+abbrev is_over : OpenState → ℕ → Bool
+is_over opened member = list_any (λ base. base == member) opened.members
+
 -- an open is over none of the members that its job doesn't use
 open-unused : (members : Named MemberStatus) (locks : List Lock) (number : ℕ) (job : JobState) (opened : OpenState)
-    → ((member : ℕ) → has_open_over member job ≡ false → (opened.member == member) ≡ false)
-    → list_any (λ entry. uses entry.1.number locks number job) members ≡ false → has_number opened.member members ≡ false
-open-unused [] locks number job opened each none = refl
-open-unused (entry ∷ members) locks number job opened each none =
+    → ((member : ℕ) → has_open_over member job ≡ false → is_over opened member ≡ false)
+    → list_any (λ entry. uses entry.1.number locks number job) members ≡ false → (base : ℕ) → is_over opened base ≡ true → has_number base members ≡ false
+open-unused [] locks number job opened each none base over = refl
+open-unused (entry ∷ members) locks number job opened each none base over =
     let parts = neither (uses entry.1.number locks number job) (list_any (λ (e : List ℕ × MemberStatus). uses e.1.number locks number job) members) none in
     let first = neither (has_open_over entry.1.number job || has_changed entry.1.number job) (has_boundary_lock entry.1.number number locks) parts.0 in
-    let over = (neither (has_open_over entry.1.number job) (has_changed entry.1.number job) first.0).0 in
-    let differ = each entry.1.number over in
-    let other : (entry.1.number == opened.member) ≡ false = grind (arith, nat_tests) in
-    let rest = open-unused members locks number job opened each parts.1 in
-    has_number-cons opened.member entry members ∙ rw (other, rest) refl
+    let free = each entry.1.number (neither (has_open_over entry.1.number job) (has_changed entry.1.number job) first.0).0 in
+    let rest = open-unused members locks number job opened each parts.1 base over in
+    has_number-cons base entry members ∙
+    elim (entry.1.number == base) as (λ b. entry.1.number == base ≡ b → (b || has_number base members) ≡ false) [
+      | true ↦ λ same. (let taken : is_over opened entry.1.number ≡ true = subst (λ (n : ℕ). is_over opened n ≡ true) (sym (eqb-true entry.1.number base same)) over in absurd cc)
+      | false ↦ λ other. rest
+    ] refl
 
 opens-unused : (files others : Named FileState) (opens : Named OpenState) (members : Named MemberStatus)
-    → ((opened : OpenState) → has_number opened.member members ≡ false → OpenHolds files opened → OpenHolds others opened)
-    → ((opened : OpenState) → ((member : ℕ) → list_any (λ entry. entry.1.member == member) opens ≡ false → (opened.member == member) ≡ false) → has_number opened.member members ≡ false)
+    → ((opened : OpenState) → ((base : ℕ) → is_over opened base ≡ true → has_number base members ≡ false) → OpenHolds files opened → OpenHolds others opened)
+    → ((opened : OpenState) → ((member : ℕ) → list_any (λ entry. is_over entry.1 member) opens ≡ false → is_over opened member ≡ false)
+    → (base : ℕ) → is_over opened base ≡ true → has_number base members ≡ false)
     → AllByRecursion (λ (e : List ℕ × OpenState). OpenHolds files e.1) opens → AllByRecursion (λ (e : List ℕ × OpenState). OpenHolds others e.1) opens
 opens-unused files others [] members each unused all = tt
 opens-unused files others (entry ∷ opens) members each unused all = (
-  each entry.1 (unused entry.1 (λ member none. (neither (entry.1.member == member) (list_any (λ (e : List ℕ × OpenState). e.1.member == member) opens) none).0)) all.0,
+  each entry.1 (unused entry.1 (λ member none. (neither (is_over entry.1 member) (list_any (λ (e : List ℕ × OpenState). is_over e.1 member) opens) none).0)) all.0,
   opens-unused files others opens members each
-      (λ opened rest. unused opened (λ member none. rest member (neither (entry.1.member == member) (list_any (λ (e : List ℕ × OpenState). e.1.member == member) opens) none).1)) all.1,
+      (λ opened rest. unused opened (λ member none. rest member (neither (is_over entry.1 member) (list_any (λ (e : List ℕ × OpenState). is_over e.1 member) opens) none).1)) all.1,
 )
 
-jobs-unused : (files others : Named FileState) (members : Named MemberStatus) (locks : List Lock) → ((opened : OpenState) → has_number opened.member members ≡ false
-    → OpenHolds files opened → OpenHolds others opened)
-    → (number : ℕ) (jobs : List JobState) → first_job (λ n job. list_any (λ entry. uses entry.1.number locks n job) members) number jobs ≡ None → AllByRecursion (OpensHold files) jobs
-    → AllByRecursion (OpensHold others) jobs
-jobs-unused files others members locks each number [] unused all = tt
-jobs-unused files others members locks each number (job ∷ jobs) unused all =
-    elim (list_any (λ (e : List ℕ × MemberStatus). uses e.1.number locks number job) members) as (λ b. list_any (λ (e : List ℕ × MemberStatus). uses e.1.number locks number job) members ≡ b
-    → (if b then Some number else first_job (λ n j. list_any (λ entry. uses entry.1.number locks n j) members) (number + 1) jobs) ≡ None → AllByRecursion (OpensHold others) (job ∷ jobs)) [
+-- what a test keeps of each job's opens, where no job passes it
+jobs-kept : (files others : Named FileState) (test : ℕ → JobState → Bool) → ((number : ℕ) (job : JobState) → test number job ≡ false → OpensHold files job → OpensHold others job)
+    → (number : ℕ) (jobs : List JobState) → first_job test number jobs ≡ None → AllByRecursion (OpensHold files) jobs → AllByRecursion (OpensHold others) jobs
+jobs-kept files others test each number [] unused all = tt
+jobs-kept files others test each number (job ∷ jobs) unused all =
+    elim (test number job) as (λ b. test number job ≡ b → (if b then Some number else first_job test (number + 1) jobs) ≡ None → AllByRecursion (OpensHold others) (job ∷ jobs)) [
       | true ↦ λ uses_one e. absurd cc
-      | false ↦ λ none e. (
-        opens-unused files others job.opens members each
-            (λ opened over. open-unused members locks number job opened over none) all.0,
-        jobs-unused files others members locks each (number + 1) jobs e all.1,
-      )
+      | false ↦ λ none e. (each number job none all.0, jobs-kept files others test each (number + 1) jobs e all.1)
     ] refl unused
+
+-- opens of other files than the one of this name
+opens-other : (files others : Named FileState) (name : List ℕ) (opens : Named OpenState) → ((opened : OpenState) → same_name name opened.file ≡ false → OpenHolds files opened → OpenHolds others opened)
+    → list_any (λ entry. same_name name entry.1.file) opens ≡ false → AllByRecursion (λ (e : List ℕ × OpenState). OpenHolds files e.1) opens
+    → AllByRecursion (λ (e : List ℕ × OpenState). OpenHolds others e.1) opens
+opens-other files others name [] each none all = tt
+opens-other files others name (entry ∷ opens) each none all =
+    let parts = neither (same_name name entry.1.file) (list_any (λ (e : List ℕ × OpenState). same_name name e.1.file) opens) none in
+    (each entry.1 parts.0 all.0, opens-other files others name opens each parts.1 all.1)
 
 -- a job that uses none of the members has changed none of them
 none-changed : (members : Named MemberStatus) (locks : List Lock) (number : ℕ) (job : JobState) → list_any (λ entry. uses entry.1.number locks number job) members ≡ false
@@ -178,16 +196,118 @@ changes-unused : (members : Named MemberStatus) (locks : List Lock) (number : �
     → list_any (λ (u : MemberChange). has_number u.member members) (changes_in job.cycle) ≡ false
 changes-unused members locks number job none = changes-apart members (changes_in job.cycle) (none-changed members locks number job none)
 
-module _ (s : State) (bytes after : ℕ) (name : List ℕ) (file : FileState) (one : AreOne s bytes) (apart : AreApart s.files) (there : named name s.files ≡ Some file) where
+-- ---- no logical file stands over the one that goes
+
+abbrev pub IsFree : (gone : List ℕ) → FileSpec → Type 0
+IsFree gone (PhysicalFile spec) = Unit {0}
+IsFree gone (LogicalFile spec) = list_any (same_name gone) (base_names spec) ≡ false
+
+-- none of these files does
+abbrev pub AreFree : (gone : List ℕ) → Named FileState → Type 0
+AreFree gone files = (name : List ℕ) (file : FileState) → named name files ≡ Some file → IsFree gone file.spec
+
+free-file : (gone : List ℕ) (file : FileState) → file_refers gone file ≡ false → IsFree gone file.spec
+free-file gone file none = by file.spec none
+  where
+    by : (spec : FileSpec) → depends_by spec gone file ≡ false → IsFree gone spec
+    by (PhysicalFile spec) e = tt
+    by (LogicalFile spec) e = e
+
+-- no file that depends on it is there
+pub free-independent : (gone : List ℕ) (files : Named FileState) → first_dependent gone files ≡ None → AreFree gone files
+free-independent gone [] none name file found = absurd cc
+free-independent gone (first ∷ files) none name file found =
+    elim (file_refers gone first.1) as (λ b. file_refers gone first.1 ≡ b → (if b then Some first.0 else first_dependent gone files) ≡ None → IsFree gone file.spec) [
+      | true ↦ λ refers e. absurd cc
+      | false ↦ λ free e. elim (same_name name first.0) as (λ b. cond b (Some first.1) (named name files) ≡ Some file → IsFree gone file.spec) [
+        | true ↦ λ is. subst (λ (f : FileState). IsFree gone f.spec) (some-equal is) (free-file gone first.1 free)
+        | false ↦ λ later. free-independent gone files e name file later
+      ] found
+    ] refl none
+
+-- there are no logical files at all
+pub free-physical : (gone : List ℕ) (files : Named FileState) → AllArePhysical files → AreFree gone files
+free-physical gone files all name file found = by file.spec (physical-named name file files all found)
+  where
+    by : (spec : FileSpec) → IsPhysical spec → IsFree gone spec
+    by (PhysicalFile spec) is = tt
+    by (LogicalFile spec) is = absurd is
+
+-- a physical file's users are those of its members
+pub user-physical : (name : List ℕ) (file : FileState) (m : Memory) → IsPhysical file.spec → user_by file.spec name file m ≡ user_of_any file.members m
+user-physical name file m is = by file.spec is
+  where
+    by : (spec : FileSpec) → IsPhysical spec → user_by spec name file m ≡ user_of_any file.members m
+    by (PhysicalFile spec) is = refl
+    by (LogicalFile spec) is = absurd is
+
+physical-without : (gone : List ℕ) (files : Named FileState) (name : List ℕ) → same_name gone name ≡ false → physical_among name (without_file gone files) ≡ physical_among name files
+physical-without gone files name other = ap (λ (o : Option FileState). option_and_then (λ (f : FileState). if_physical f.spec f) o) (named-without_other gone name files other)
+
+-- the other bases stay
+pub bases-without : (gone : List ℕ) (files : Named FileState) (names : List (List ℕ)) → list_any (same_name gone) names ≡ false → AllByRecursion (λ name. IsSome (physical_among name files)) names
+    → AllByRecursion (Stays files (without_file gone files)) names
+bases-without gone files [] none all = tt
+bases-without gone files (name ∷ names) none all =
+    let parts = neither (same_name gone name) (list_any (same_name gone) names) none in
+    let same = physical-without gone files name parts.0 in (
+      record { there = subst (λ (o : Option FileState). IsSome o) (sym same) all.0; same = ap (λ (o : Option FileState). base_in name o) same },
+      bases-without gone files names parts.1 all.1,
+    )
+
+module _ (gone : List ℕ) (files : Named FileState) (based : AreBased files) (free : AreFree gone files) where
+  -- the bases of a logical file that is there
+  its-bases : (name : List ℕ) (file : FileState) (spec : LogicalSpec) → named name files ≡ Some file → file.spec ≡ LogicalFile spec → AllByRecursion (Stays files (without_file gone files)) (base_names spec)
+  its-bases name file spec here is =
+      let stands : StandsOver files file.members spec = subst (IsBased files name file.members) is (based name file here) in
+      let others : IsFree gone (LogicalFile spec) = subst (IsFree gone) is (free name file here) in
+      bases-without gone files (base_names spec) others stands.bases
+
+  pub AreBased-without : AreBased (without_file gone files)
+  AreBased-without name file there = by file.spec refl (based name file here)
+    where
+      here : named name files ≡ Some file
+      here = (named-without gone name files file there).0
+
+      by : (spec : FileSpec) → file.spec ≡ spec → IsBased files name file.members spec → IsBased (without_file gone files) name file.members spec
+      by (PhysicalFile spec) is own = own
+      by (LogicalFile spec) is over = StandsOver-stays files (without_file gone files) file.members spec (its-bases name file spec here is) over
+
+  -- an open of another file
+  pub OpenHolds-other : (opened : OpenState) → same_name gone opened.file ≡ false → OpenHolds files opened → OpenHolds (without_file gone files) opened
+  OpenHolds-other opened other holds = subst (OpensFile (without_file gone files) opened) (sym (named-without_other gone opened.file files other)) (by (named opened.file files) refl holds)
+    where
+      kind : (file : FileState) → named opened.file files ≡ Some file → (spec : FileSpec) → file.spec ≡ spec → OpensBy files opened file.members spec
+          → OpensBy (without_file gone files) opened file.members spec
+      kind file here (PhysicalFile spec) is own = own
+      kind file here (LogicalFile spec) is over = IsOverBases-stays files (without_file gone files) spec opened (its-bases opened.file file spec here is) over
+
+      by : (o : Option FileState) → named opened.file files ≡ o → OpensFile files opened o → OpensFile (without_file gone files) opened o
+      by None is h = absurd h
+      by (Some file) is h = kind file is file.spec refl h
+
+module _ (s : State) (bytes after : ℕ) (name : List ℕ) (file : FileState) (one : AreOne s bytes) (apart : AreApart s.files) (free : AreFree name s.files) (there : named name s.files ≡ Some file) where
+  -- an open of a physical file is over one of its members
+  its-member : (opened : OpenState) (spec : FileSpec) → IsPhysical spec → OpensBy s.files opened file.members spec → (is_over opened opened.member ≡ true) × (has_number opened.member file.members ≡ true)
+  its-member opened (PhysicalFile spec) physical own =
+      let same : (opened.member == opened.member) ≡ true = grind (arith, nat_tests) in
+      let first : ((opened.member == opened.member) || false) ≡ true = rw same refl in
+      (subst (λ (members : List ℕ). list_any (λ base. base == opened.member) members ≡ true) (sym own.only) first, own.has)
+  its-member opened (LogicalFile spec) physical own = absurd physical
+
   -- an open that isn't over its members is of another file
-  OpensMember-without : (opened : OpenState) → has_number opened.member file.members ≡ false → OpenHolds s.files opened → OpensMember opened.member (named opened.file (without_file name s.files))
-  OpensMember-without opened absent holds =
-      elim (same_name name opened.file) as (λ b. same_name name opened.file ≡ b → OpensMember opened.member (named opened.file (without_file name s.files))) [
+  OpenHolds-without : IsPhysical file.spec → (opened : OpenState) → ((base : ℕ) → is_over opened base ≡ true → has_number base file.members ≡ false) → OpenHolds s.files opened
+      → OpenHolds (without_file name s.files) opened
+  OpenHolds-without physical opened absent holds =
+      elim (same_name name opened.file) as (λ b. same_name name opened.file ≡ b → OpenHolds (without_file name s.files) opened) [
         | true ↦ λ same. (
             let here : named opened.file s.files ≡ Some file = ap (λ (n : List ℕ). named n s.files) (sym (same_name-equal name opened.file same)) ∙ there in
-            let has : has_number opened.member file.members ≡ true = subst (OpensMember opened.member) here holds in
+            let own : OpensBy s.files opened file.members file.spec = subst (OpensFile s.files opened) here holds in
+            let member = its-member opened file.spec physical own in
+            let has : has_number opened.member file.members ≡ true = member.1 in
+            let none : has_number opened.member file.members ≡ false = absent opened.member member.0 in
             absurd cc)
-        | false ↦ λ differ. subst (OpensMember opened.member) (sym (named-without_other name opened.file s.files differ)) holds
+        | false ↦ λ other. OpenHolds-other name s.files one.lawful.bases free opened other holds
       ] refl
 
   Owns-without : (other : List ℕ) (another : FileState) (number : ℕ) → Owns (without_file name s.files) other another number → Owns s.files other another number
@@ -213,16 +333,41 @@ module _ (s : State) (bytes after : ℕ) (name : List ℕ) (file : FileState) (o
     values = λ other another owns. back.values other another (Owns-without other another undo.member owns);
   }
 
-  pub AreOne-deleted : user_of_any file.members (memory_of s) ≡ None → after ≡ library_bytes (without_members file.members s.members) → after ≤ bytes
+  -- a logical file has no members
+  no-members : (spec : LogicalSpec) → file.spec ≡ LogicalFile spec → file.members ≡ []
+  no-members spec is = let stands : StandsOver s.files file.members spec = subst (IsBased s.files name file.members) is (one.lawful.bases name file there) in stands.none
+
+  opens-deleted : (spec : FileSpec) → file.spec ≡ spec → user_by spec name file (memory_of s) ≡ None → AllByRecursion (OpensHold (without_file name s.files)) s.jobs
+  opens-deleted (PhysicalFile spec) is unused =
+      jobs-kept s.files (without_file name s.files) (λ number job. list_any (λ entry. uses entry.1.number s.locks number job) file.members)
+      (λ number job none all. opens-unused s.files (without_file name s.files) job.opens file.members (OpenHolds-without (subst IsPhysical (sym is) tt))
+      (λ opened over. open-unused file.members s.locks number job opened over none) all)
+      1 s.jobs unused one.lawful.opens
+  opens-deleted (LogicalFile spec) is unused =
+      let changes : JobState → Bool = λ job. list_any (λ member. has_changed member job) (base_members (bases_in s.files) spec) in
+      jobs-kept s.files (without_file name s.files) (λ number job. has_open_of name job || changes job)
+      (λ number job none all. opens-other s.files (without_file name s.files) name job.opens (OpenHolds-other name s.files one.lawful.bases free)
+      (neither (has_open_of name job) (changes job) none).0 all)
+      1 s.jobs unused one.lawful.opens
+
+  changes-deleted : (spec : FileSpec) → file.spec ≡ spec → user_by spec name file (memory_of s) ≡ None → AllGoBack (without_file name s.files) (without_members file.members s.members) s.jobs
+  changes-deleted (PhysicalFile spec) is unused =
+      AllGoBack-kept s.files (without_file name s.files) s.members (without_members file.members s.members) (λ undo. has_number undo.member file.members) goes-back
+      (λ number job. list_any (λ entry. uses entry.1.number s.locks number job) file.members)
+      (λ number job none. changes-unused file.members s.locks number job none) 1 s.jobs unused one.lawful.changes
+  changes-deleted (LogicalFile spec) is unused =
+      AllGoBack-each s.files (without_file name s.files) s.members (without_members file.members s.members)
+      (λ sequence undo back. goes-back sequence undo (ap (λ (members : Named MemberStatus). has_number undo.member members) (no-members spec is)) back) s.jobs one.lawful.changes
+
+  pub AreOne-deleted : user_by file.spec name file (memory_of s) ≡ None → after ≡ library_bytes (without_members file.members s.members) → after ≤ bytes
       → AreOne (record s { files = without_file name s.files; members = without_members file.members s.members }) after
   AreOne-deleted unused counted fewer = let before = one.counted in let few = one.lawful.few in record {
     lawful = record {
       members = λ other another number owns. subst (IsThere (fields_of another)) (sym (at-without_members file.members s.members number (number-other other another number owns)))
           (one.lawful.members other another number (Owns-without other another number owns));
-      opens = jobs-unused s.files (without_file name s.files) file.members s.locks OpensMember-without 1 s.jobs unused one.lawful.opens;
-      changes = AllGoBack-kept s.files (without_file name s.files) s.members (without_members file.members s.members) (λ undo. has_number undo.member file.members) goes-back
-          (λ number job. list_any (λ entry. uses entry.1.number s.locks number job) file.members)
-          (λ number job none. changes-unused file.members s.locks number job none) 1 s.jobs unused one.lawful.changes;
+      bases = AreBased-without name s.files one.lawful.bases free;
+      opens = opens-deleted file.spec refl unused;
+      changes = changes-deleted file.spec refl unused;
       numbers = numbers-without_members file.members s.members s.next_member one.lawful.numbers;
       keepers = one.lawful.keepers;
       few = omega (arith, counted, fewer, before, few);

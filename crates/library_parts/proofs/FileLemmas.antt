@@ -1,12 +1,15 @@
 -- A library stays lawful with one file more.
-use Rattle.std.proofs.Common.{◌≡◌, ◌≢◌, ◌⊎◌, inl, inr, ℕ, ◌+◌, ◌*◌, ◌<◌, nat_lt, nat_eq, true, false, cond, List, [], ◌∷◌, ◌++◌, Some, None, is_some, subst, refl, sym, ◌∙◌, ap, arith}
+use Rattle.std.proofs.Common.{◌≡◌, ◌≢◌, ◌⊎◌, inl, inr, ℕ, ◌+◌, ◌*◌, ◌<◌, nat_lt, nat_eq, true, List, [], ◌∷◌, ◌++◌, Some, None, is_some, IsSome, subst, refl, sym, ◌∙◌, ap, arith}
 use Rattle.std.specs.List.{AllByRecursion, IsDistinct}
 use Rattle.std.specs.Map.{keys_of}
 use Rattle.std.proofs.lemmas.Bool.Decides.{nat_tests}
 use Rattle.member_slots.specs.Member.{MemberState, empty_member}
 use Rattle.member_slots.specs.Members.{NumberedMembers, member_at, put_member}
 use Rattle.record_fmt.specs.Layout.{record_length}
+use Rattle.dds_physical.specs.declared.physical_files.PhysicalSpec.{PhysicalSpec}
+use Rattle.logical_model.specs.Bases.{FileSpec, PhysicalFile, LogicalFile}
 use Rattle.file_catalogue.specs.Owners.{Owns, has_number}
+use Rattle.file_catalogue.specs.Physical.{IsPhysical}
 use Rattle.file_catalogue.proofs.NameLemmas.{named-append}
 use Rattle.file_catalogue.proofs.OwnerLemmas.{unowned-status}
 use Rattle.library_model.specs.Named.{Named, named, same_name}
@@ -16,11 +19,12 @@ use Rattle.library_steps.specs.Ranges.{library_bytes}
 use Rattle.library_steps.specs.SlotChange.{status_among}
 use Rattle.journal_model.specs.Replay.{before_of}
 use Rattle.journal_model.specs.Rollback.{MemberChange}
-use Rattle.library_parts.specs.Lawful.{HoldsValues, IsThere, OpensMember, GoesBack, IsLibrary, AreOne}
+use Rattle.library_parts.specs.Lawful.{HoldsValues, IsThere, IsBased, GoesBack, IsLibrary, AreOne}
 use Rattle.library_parts.proofs.MemberLemmas.{item_at-put_item_other, item_at-put_item_same, IsThere-is_some, library_bytes-cons}
 use Rattle.library_parts.specs.Slots.{weight}
+use Rattle.library_parts.proofs.BaseLemmas.{AreBased-more, OpenHolds-kept, kept-more, named-only, some-is}
 use Rattle.library_parts.proofs.LawfulLemmas.{jobs-each}
-use Rattle.library_parts.proofs.BackLemmas.{FitsPlace-same, AllGoBack-each}
+use Rattle.library_parts.proofs.BackLemmas.{FitsPlace-same, GoesBack-values, AllGoBack-each}
 
 -- ---- numbers
 
@@ -58,15 +62,8 @@ bytes-put_member (entry ∷ members) next long all =
     let after = library_bytes-cons entry (put_member next (empty_member long) members) in
     rw below (after ∙ ap (λ n. weight entry.item + n) rest ∙ sym before)
 
-OpensMember-append : (number : ℕ) (name : List ℕ) (files : Named FileState) (file : List ℕ × FileState) → OpensMember number (named name files) → OpensMember number (named name (files ++ file ∷ []))
-OpensMember-append number name [] file holds = absurd holds
-OpensMember-append number name (first ∷ files) file holds =
-    elim (same_name name first.0) as (λ b. OpensMember number (cond b (Some first.1) (named name files)) → OpensMember number (cond b (Some first.1) (named name (files ++ file ∷ [])))) [
-      | true ↦ λ h. h
-      | false ↦ λ h. OpensMember-append number name files file h
-    ] holds
-
-module _ (s : State) (bytes : ℕ) (name member : List ℕ) (file : FileState) (one : AreOne s bytes) (first : file.members ≡ (member, new_status s.next_member) ∷ []) where
+module _ (s : State) (bytes : ℕ) (name member : List ℕ) (file : FileState) (one : AreOne s bytes) (based : IsBased s.files name file.members file.spec)
+    (first : file.members ≡ (member, new_status s.next_member) ∷ []) where
   -- its one member has the next number
   first_number : (another : FileState) (number : ℕ) → file ≡ another → has_number number another.members ≡ true → s.next_member ≡ number
   first_number another number same has =
@@ -118,11 +115,62 @@ module _ (s : State) (bytes : ℕ) (name member : List ℕ) (file : FileState) (
   AreOne-with_file = let same = bytes-put_member s.members s.next_member (record_length (fields_of file)) one.lawful.numbers in let few = one.lawful.few in record {
     lawful = record {
       members = λ other another number owns. IsThere-put other another number (named-append other name s.files file another owns.there) owns.has;
-      opens = jobs-each s.files (s.files ++ (name, file) ∷ []) (λ opened holds. OpensMember-append opened.member opened.file s.files (name, file) holds) s.jobs one.lawful.opens;
+      bases = AreBased-more s.files name file one.lawful.bases based;
+      opens = jobs-each s.files (s.files ++ (name, file) ∷ []) (OpenHolds-kept s.files (s.files ++ (name, file) ∷ []) one.lawful.bases (kept-more s.files (name, file))) s.jobs one.lawful.opens;
       changes = AllGoBack-each s.files (s.files ++ (name, file) ∷ []) s.members (put_member s.next_member (empty_member (record_length (fields_of file))) s.members) goes-back s.jobs one.lawful.changes;
       numbers = numbers-put_member s.members s.next_member (empty_member (record_length (fields_of file))) one.lawful.numbers;
       keepers = one.lawful.keepers;
       few = omega (arith, same, few);
     };
     counted = one.counted ∙ sym same;
+  }
+
+-- a physical file is based on its first member
+pub based-physical : (files : Named FileState) (name : List ℕ) (file : FileState) (status : MemberStatus) → IsPhysical file.spec → file.members ≡ (name, status) ∷ []
+    → IsBased files name file.members file.spec
+based-physical files name file status physical first =
+    by file.spec physical (some-is (ap (λ (members : Named MemberStatus). named name members) first ∙ named-only name status))
+  where
+    by : (spec : FileSpec) → IsPhysical spec → IsSome (named name file.members) → IsBased files name file.members spec
+    by (PhysicalFile spec) is has = has
+    by (LogicalFile spec) is has = absurd is
+
+pub based-first : (s : State) (name : List ℕ) (file : FileState) (spec : PhysicalSpec) (status : MemberStatus) → file.spec ≡ PhysicalFile spec → file.members ≡ (name, status) ∷ []
+    → IsBased s.files name file.members file.spec
+based-first s name file spec status is first = based-physical s.files name file status (subst IsPhysical (sym is) tt) first
+
+-- ---- a file more that has no members, as a logical file
+
+module _ (s : State) (bytes : ℕ) (name : List ℕ) (file : FileState) (one : AreOne s bytes) (based : IsBased s.files name file.members file.spec) (none : file.members ≡ []) where
+  -- none of the members is its own
+  no-number : (another : FileState) (number : ℕ) → file ≡ another → has_number number another.members ≡ true → ⊥
+  no-number another number same has =
+      let here : has_number number [] ≡ true = subst (λ (m : Named MemberStatus). has_number number m ≡ true) (ap (λ (f : FileState). f.members) (sym same) ∙ none) has in
+      absurd cc
+
+  IsThere-more : (other : List ℕ) (another : FileState) (number : ℕ) → (named other s.files ≡ Some another) ⊎ ((other ≡ name) × (file ≡ another)) → has_number number another.members ≡ true
+      → IsThere (fields_of another) (member_at number s.members)
+  IsThere-more other another number (inl there) has = one.lawful.members other another number (record { there = there; has = has })
+  IsThere-more other another number (inr same) has = absurd (no-number another number same.1 has)
+
+  values-more : (undo : MemberChange) → ((before : List ℕ) (its : FileState) → Owns s.files before its undo.member → HoldsValues (fields_of its) (before_of undo.change))
+      → (other : List ℕ) (another : FileState) → (named other s.files ≡ Some another) ⊎ ((other ≡ name) × (file ≡ another)) → has_number undo.member another.members ≡ true
+      → HoldsValues (fields_of another) (before_of undo.change)
+  values-more undo held other another (inl there) has = held other another (record { there = there; has = has })
+  values-more undo held other another (inr same) has = absurd (no-number another undo.member same.1 has)
+
+  pub AreOne-with_logical : AreOne (record s { files = s.files ++ (name, file) ∷ [] }) bytes
+  AreOne-with_logical = record {
+    lawful = record {
+      members = λ other another number owns. IsThere-more other another number (named-append other name s.files file another owns.there) owns.has;
+      bases = AreBased-more s.files name file one.lawful.bases based;
+      opens = jobs-each s.files (s.files ++ (name, file) ∷ []) (OpenHolds-kept s.files (s.files ++ (name, file) ∷ []) one.lawful.bases (kept-more s.files (name, file))) s.jobs one.lawful.opens;
+      changes = AllGoBack-each s.files (s.files ++ (name, file) ∷ []) s.members s.members
+          (λ sequence undo back. GoesBack-values s.files (s.files ++ (name, file) ∷ []) s.members sequence undo
+          (λ other another owns. values-more undo back.values other another (named-append other name s.files file another owns.there) owns.has) back) s.jobs one.lawful.changes;
+      numbers = one.lawful.numbers;
+      keepers = one.lawful.keepers;
+      few = one.lawful.few;
+    };
+    counted = one.counted;
   }

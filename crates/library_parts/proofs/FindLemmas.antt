@@ -1,15 +1,26 @@
 -- What is found by names is there.
-use Rattle.std.proofs.Common.{◌≡◌, ℕ, zero, suc, ◌-◌, ◌==◌, ◌||◌, if◌then◌else◌, true, false, cond, List, [], ◌∷◌, Option, Some, None, Ok, slice_get, subst, ◌∙◌, arith}
+use Rattle.std.proofs.Common.{◌≡◌, ℕ, zero, suc, ◌-◌, ◌==◌, ◌||◌, if◌then◌else◌, true, false, cond, map, List, [], ◌∷◌, Option, Some, None, IsSome, Ok, slice_get, subst, refl, sym, ◌∙◌, ap, arith}
 use Rattle.std.specs.List.{AllByRecursion}
 use Rattle.std.proofs.lemmas.Bool.Decides.{nat_tests}
+use Rattle.logical_model.specs.Bases.{Base, FileSpec, PhysicalFile, LogicalFile, base_names}
 use Rattle.file_catalogue.specs.Owners.{Owns, has_number}
+use Rattle.file_catalogue.specs.Physical.{IsPhysical, AllArePhysical}
+use Rattle.file_catalogue.proofs.PhysicalLemmas.{physical-named}
 use Rattle.file_catalogue.proofs.StatusLemmas.{has_number-cons}
+use Rattle.file_model.specs.Paths.{PathEntry}
+use Rattle.lock_table.specs.declared.levels.Call.{Call}
+use Rattle.library_model.specs.declared.requests.OpenFile.{OpenFile}
 use Rattle.library_model.specs.declared.replies.Reply.{Reply}
 use Rattle.library_model.specs.Named.{Named, named, same_name}
 use Rattle.library_steps.specs.Refusals.{found}
-use Rattle.library_steps.specs.State.{State, FileState, MemberStatus, OpenState, JobState, memory_of, open_named, job_at, or_new}
-use Rattle.library_parts.specs.Finds.{HasMember}
-use Rattle.library_parts.specs.Lawful.{OpensMember, OpenHolds, OpensHold, IsLibrary}
+use Rattle.library_steps.specs.LogicalFiles.{bases_in}
+use Rattle.library_steps.specs.Opens.{new_open}
+use Rattle.library_steps.specs.Reads.{has_read, entry_found}
+use Rattle.library_steps.specs.State.{State, FileState, MemberStatus, OpenState, JobState, memory_of, open_named, job_at, or_new, physical_among}
+use Rattle.library_parts.specs.Finds.{HasMember, OpensMember}
+use Rattle.library_parts.specs.Lawful.{IsBased, OpenHolds, OpensBy, OpensFile, OpensHold, StandsOver, IsLibrary}
+use Rattle.library_parts.proofs.BaseLemmas.{OpenHolds-has_read, base-is, physical-found, physical-member, some-is, some-of}
+use Rattle.library_parts.proofs.MemberLemmas.{AllByRecursion-get}
 
 -- what a look-up has found is there
 pub found-is : {A : Type 0} (thing : Option A) (reply : Reply) (value : A) → found thing reply ≡ Ok value → thing ≡ Some value
@@ -54,9 +65,115 @@ opens-of s job lawful =
       | false ↦ job-opens s.files (job - 1) s.jobs lawful.opens
     ]
 
-pub opened-there : (s : State) (job : ℕ) (name : List ℕ) (opened : OpenState) (file : FileState) → IsLibrary s → open_named name job (memory_of s) ≡ Some opened → named opened.file s.files ≡ Some file
+-- an open of the job holds
+pub open-holds : (s : State) (job : ℕ) (name : List ℕ) (opened : OpenState) → IsLibrary s → open_named name job (memory_of s) ≡ Some opened → OpenHolds s.files opened
+open-holds s job name opened lawful found = named-each (OpenHolds s.files) name (or_new (job_at job s.jobs)).opens opened (opens-of s job lawful) found
+
+-- ---- the members that opens are over
+
+-- a member of a physical file, with records of its fields
+pub record IsMember (s : State) (number : ℕ) : Type 0 where
+  pub name : List ℕ
+  pub file : FileState
+  pub physical : IsPhysical file.spec
+  pub has : HasMember s name file number
+
+-- an open of a physical file is over one of its members
+pub physical-opened : (s : State) (opened : OpenState) (file : FileState) → IsLibrary s → OpenHolds s.files opened → named opened.file s.files ≡ Some file → IsPhysical file.spec
     → HasMember s opened.file file opened.member
-opened-there s job name opened file lawful found here =
-    let holds : OpensMember opened.member (named opened.file s.files) = named-each (OpenHolds s.files) name (or_new (job_at job s.jobs)).opens opened (opens-of s job lawful) found in
-    let owns : Owns s.files opened.file file opened.member = record { there = here; has = subst (OpensMember opened.member) here holds } in
-    record { owns = owns; there = lawful.members opened.file file opened.member owns }
+physical-opened s opened file lawful holds here physical = by file.spec physical (subst (OpensFile s.files opened) here holds)
+  where
+    by : (spec : FileSpec) → IsPhysical spec → OpensBy s.files opened file.members spec → HasMember s opened.file file opened.member
+    by (PhysicalFile spec) is own =
+        let owns : Owns s.files opened.file file opened.member = record { there = here; has = own.has } in
+        record { owns = owns; there = lawful.members opened.file file opened.member owns }
+    by (LogicalFile spec) is own = absurd is
+
+base-there : (s : State) → IsLibrary s → (name : List ℕ) → IsSome (physical_among name s.files) → IsMember s (bases_in s.files name).member
+base-there s lawful name there =
+    let file = some-of (physical_among name s.files) there in
+    let found = physical-found name s.files file.0 file.1 in
+    let first = some-of (named name file.0.members) (physical-member s.files name file.0.members file.0.spec found.1 (lawful.bases name file.0 found.0)) in
+    let has = member-there s name name file.0 first.0 lawful found.0 first.1 in
+    let is : (bases_in s.files name).member ≡ first.0.number = ap (λ (b : Base). b.member) (base-is s.files name file.0 first.0 file.1 first.1) in
+    record { name = name; file = file.0; physical = found.1; has = subst (HasMember s name file.0) (sym is) has }
+
+bases-there : (s : State) → IsLibrary s → (names : List (List ℕ)) → AllByRecursion (λ name. IsSome (physical_among name s.files)) names
+    → AllByRecursion (IsMember s) (map (λ name. (bases_in s.files name).member) names)
+bases-there s lawful [] all = tt
+bases-there s lawful (name ∷ names) all = (base-there s lawful name all.0, bases-there s lawful names all.1)
+
+-- what an open is over by its file: each of its members is there, and that of the record read last is one of them
+record IsOver (s : State) (opened : OpenState) : Type 0 where
+  all : AllByRecursion (IsMember s) opened.members
+  last : slice_get opened.members opened.format ≡ Some opened.member
+
+over-file : (s : State) (opened : OpenState) → IsLibrary s → OpenHolds s.files opened → IsOver s opened
+over-file s opened lawful holds = by (named opened.file s.files) refl holds
+  where
+    kind : (file : FileState) → named opened.file s.files ≡ Some file → (spec : FileSpec) → file.spec ≡ spec → OpensBy s.files opened file.members spec → IsOver s opened
+    kind file here (PhysicalFile spec) is own =
+        let physical : IsPhysical file.spec = subst IsPhysical (sym is) tt in
+        let owns : Owns s.files opened.file file opened.member = record { there = here; has = own.has } in
+        let member : IsMember s opened.member = record {
+          name = opened.file;
+          file = file;
+          physical = physical;
+          has = record { owns = owns; there = lawful.members opened.file file opened.member owns };
+        } in
+        record { all = subst (AllByRecursion (IsMember s)) (sym own.only) (member, tt); last = λ i. slice_get (own.only i) (own.format i) }
+    kind file here (LogicalFile spec) is over =
+        let stands : StandsOver s.files file.members spec = subst (IsBased s.files opened.file file.members) is (lawful.bases opened.file file here) in
+        record { all = subst (AllByRecursion (IsMember s)) (sym over.all) (bases-there s lawful (base_names spec) stands.bases); last = over.read }
+
+    by : (o : Option FileState) → named opened.file s.files ≡ o → OpensFile s.files opened o → IsOver s opened
+    by None is h = absurd h
+    by (Some file) is h = kind file is file.spec refl h
+
+-- each member of an open is there
+pub members-of-open : (s : State) (opened : OpenState) → IsLibrary s → OpenHolds s.files opened → AllByRecursion (IsMember s) opened.members
+members-of-open s opened lawful holds = (over-file s opened lawful holds).all
+
+-- the member of the record that it read last is one of them
+pub member-of-open : (s : State) (opened : OpenState) → IsLibrary s → OpenHolds s.files opened → IsMember s opened.member
+member-of-open s opened lawful holds =
+    let over = over-file s opened lawful holds in
+    AllByRecursion-get (IsMember s) opened.members opened.format opened.member over.all over.last
+
+pub opened-there : (s : State) (job : ℕ) (name : List ℕ) (opened : OpenState) → IsLibrary s → open_named name job (memory_of s) ≡ Some opened → IsMember s opened.member
+opened-there s job name opened lawful found = member-of-open s opened lawful (open-holds s job name opened lawful found)
+
+pub opened-members : (s : State) (job : ℕ) (name : List ℕ) (opened : OpenState) → IsLibrary s → open_named name job (memory_of s) ≡ Some opened → AllByRecursion (IsMember s) opened.members
+opened-members s job name opened lawful found = members-of-open s opened lawful (open-holds s job name opened lawful found)
+
+-- where its file is a physical one, the member is one of the file
+pub opened-physical : (s : State) (job : ℕ) (name : List ℕ) (opened : OpenState) (file : FileState) → IsLibrary s → open_named name job (memory_of s) ≡ Some opened
+    → named opened.file s.files ≡ Some file → IsPhysical file.spec → HasMember s opened.file file opened.member
+opened-physical s job name opened file lawful found here physical = physical-opened s opened file lawful (open-holds s job name opened lawful found) here physical
+
+-- ---- where all files are physical ones
+
+-- an open of a member that its file has
+pub opens-member : (files : Named FileState) (args : OpenFile) (member : ℕ) → AllArePhysical files → OpensMember member (named args.file files) → OpenHolds files (new_open args 0 (member ∷ []))
+opens-member files args member all opens = by (named args.file files) refl opens
+  where
+    kind : (its : Named MemberStatus) (spec : FileSpec) → IsPhysical spec → has_number member its ≡ true → OpensBy files (new_open args 0 (member ∷ [])) its spec
+    kind its (PhysicalFile spec) is has = record { only = refl; format = refl; has = has }
+    kind its (LogicalFile spec) is has = absurd is
+
+    by : (o : Option FileState) → named args.file files ≡ o → OpensMember member o → OpensFile files (new_open args 0 (member ∷ [])) o
+    by None is h = absurd h
+    by (Some file) is h = kind file.members file.spec (physical-named args.file file files all is) h
+
+-- a read of the first format
+pub OpenHolds-first_read : (files : Named FileState) (call : Call) (entry : PathEntry) (opened : OpenState) → AllArePhysical files → entry.format ≡ 0 → OpenHolds files opened
+    → OpenHolds files (has_read call (entry_found entry) opened)
+OpenHolds-first_read files call entry opened all first holds = OpenHolds-has_read files call (entry_found entry) opened (by (named opened.file files) refl holds) holds
+  where
+    kind : (its : Named MemberStatus) (spec : FileSpec) → IsPhysical spec → OpensBy files opened its spec → IsSome (slice_get opened.members entry.format)
+    kind its (PhysicalFile spec) is own = some-is (λ i. slice_get (own.only i) (first i))
+    kind its (LogicalFile spec) is own = absurd is
+
+    by : (o : Option FileState) → named opened.file files ≡ o → OpensFile files opened o → IsSome (slice_get opened.members entry.format)
+    by None is h = absurd h
+    by (Some file) is h = kind file.members file.spec (physical-named opened.file file files all is) h

@@ -1,7 +1,8 @@
 -- A library stays lawful: what each call does keeps the members of files and opens there, values in their records, and locks of jobs that have begun.
-use Rattle.std.proofs.Common.{◌≡◌, ℕ, ◌+◌, ◌-◌, ◌==◌, if◌then◌else◌, not, map, ◌≤◌, Bool, true, false, cond, filter, length, List, [], ◌∷◌, ◌++◌, Option, Some, None, IsSome, Result, Ok, Err, OnErr, OnOk, subst, refl, sym, ◌∙◌, ap, arith, zero, suc}
+use Rattle.std.proofs.Common.{◌≡◌, ℕ, ◌+◌, ◌-◌, ◌==◌, if◌then◌else◌, not, map, ◌≤◌, Bool, true, false, cond, filter, length, slice_get, List, [], ◌∷◌, ◌++◌, Option, Some, None, IsSome, Result, Ok, Err, OnErr, OnOk, subst, refl, sym, ◌∙◌, ap, arith, zero, suc}
 use Rattle.std.specs.List.{AllByRecursion, list_any}
 use Rattle.std.specs.Option.{option_map}
+use Rattle.std.proofs.lemmas.Bool.{eqb-true}
 use Rattle.member_slots.specs.declared.slot.Slot.{Slot}
 use Rattle.member_slots.specs.declared.slot.Slot.TheVariants.{Live}
 use Rattle.member_slots.specs.Member.{MemberState, appended, changed}
@@ -24,7 +25,8 @@ use Rattle.lock_table.specs.Table.{freed}
 use Rattle.commit_level.specs.declared.Level.{Level}
 use Rattle.commit_level.specs.declared.Level.TheVariants as levels
 use Rattle.lock_table.specs.Levels.{locks_after}
-use Rattle.library_steps.specs.State.{State, Receivers, FileState, OpenState, CycleState, JobState, empty_library, memory_of, job_of, job_changed, with_opens, status_changed, new_job, fields_of}
+use Rattle.logical_model.specs.Bases.{FileSpec}
+use Rattle.library_steps.specs.State.{State, Receivers, FileState, OpenState, CycleState, JobState, empty_library, memory_of, job_of, job_changed, with_opens, status_changed, new_job, fields_of, format_in}
 use Rattle.library_steps.specs.declared.limits.TheConstants.{MOST_LIBRARY_BYTES}
 use Rattle.library_steps.specs.Ranges.{library_bytes}
 use Rattle.library_steps.specs.Opens.{with_open, without_open, new_open}
@@ -35,10 +37,11 @@ use Rattle.library_steps.specs.Commitment.{boundary_locks, at_boundary, committe
 use Rattle.library_steps.specs.Locking.{is_committed}
 use Rattle.library_steps.specs.EndJob.{ended_job, job_ended}
 use Rattle.library_steps.specs.Uses.{user_of}
-use Rattle.library_parts.specs.Lawful.{HoldsValues, OpensMember, OpenHolds, OpensHold, HasRecords, IsThere, CycleGoesBack, AllGoBack, IsLibrary, AreOne}
+use Rattle.library_parts.specs.Lawful.{HoldsValues, OpenHolds, OpensHold, HasRecords, IsThere, CycleGoesBack, AllGoBack, IsLibrary, AreOne}
 use Rattle.record_fmt.specs.declared.formats.Field.{Field}
 use Rattle.library_parts.specs.Slots.{MayStand, weight}
 use Rattle.library_parts.proofs.MemberLemmas.{at-member_of, is_some-IsSome, IsThere-with_member, HasRecords-member_of, HasRecords-appended, HasRecords-changed, numbers-with_member, library_bytes-with, weight-appended, weight-changed, length-push, length-changed, record_length-changed}
+use Rattle.library_parts.proofs.BaseLemmas.{AreBased-each, Keeps, Keeps-status, OpenHolds-alike, OpenHolds-kept, kept-each}
 use Rattle.library_parts.proofs.BackLemmas.{AllGoBack-each, AllGoBack-with, AllGoBack-unused, GoesBack-values}
 use Rattle.library_parts.specs.Parts.{LibraryParts}
 
@@ -56,6 +59,7 @@ pub AreOne-empty : AreOne empty_library 0
 AreOne-empty = record {
   lawful = record {
     members = λ name file number owns. absurd (let there = owns.there in cc);
+    bases = λ name file there. absurd cc;
     opens = tt;
     changes = tt;
     numbers = tt;
@@ -71,6 +75,7 @@ pub AreOne-journal : (s : State) (bytes gone : ℕ) (entries : List Entry) (rece
 AreOne-journal s bytes gone entries receivers checkpoint one = record {
   lawful = record {
     members = one.lawful.members;
+    bases = one.lawful.bases;
     opens = one.lawful.opens;
     changes = one.lawful.changes;
     numbers = one.lawful.numbers;
@@ -96,6 +101,7 @@ pub AreOne-new_job : (s : State) (bytes : ℕ) (name : List ℕ) → AreOne s by
 AreOne-new_job s bytes name one = record {
   lawful = record {
     members = one.lawful.members;
+    bases = one.lawful.bases;
     opens = AllByRecursion-append (OpensHold s.files) s.jobs (new_job name ∷ []) one.lawful.opens (tt, tt);
     changes = AllByRecursion-append (λ (job : JobState). CycleGoesBack s.files s.members job.cycle) s.jobs (new_job name ∷ []) one.lawful.changes (tt, tt);
     numbers = one.lawful.numbers;
@@ -138,7 +144,7 @@ length-job_changed (suc place) change (job ∷ jobs) = ap (λ n. suc n) (length-
 
 pub AreOne-locks : (s : State) (bytes : ℕ) (locks : List Lock) → AreOne s bytes → AreOfJobs s.jobs locks → AreOne (record s { locks = locks }) bytes
 AreOne-locks s bytes locks one begun = record {
-  lawful = record { members = one.lawful.members; opens = one.lawful.opens; changes = one.lawful.changes; numbers = one.lawful.numbers; keepers = begun; few = one.lawful.few };
+  lawful = record { members = one.lawful.members; bases = one.lawful.bases; opens = one.lawful.opens; changes = one.lawful.changes; numbers = one.lawful.numbers; keepers = begun; few = one.lawful.few };
   counted = one.counted;
 }
 
@@ -148,7 +154,32 @@ pub AreOne-job_changed : (s : State) (bytes place : ℕ) (change : JobState → 
 AreOne-job_changed s bytes place change one each back = record {
   lawful = record {
     members = one.lawful.members;
+    bases = one.lawful.bases;
     opens = AllByRecursion-job_changed (OpensHold s.files) place change s.jobs each one.lawful.opens;
+    changes = AllByRecursion-job_changed (λ (job : JobState). CycleGoesBack s.files s.members job.cycle) place change s.jobs back one.lawful.changes;
+    numbers = one.lawful.numbers;
+    keepers = let same = length-job_changed place change s.jobs in AreOfJobs-more s.jobs (job_changed place change s.jobs) s.locks (omega (arith, same)) one.lawful.keepers;
+    few = one.lawful.few;
+  };
+  counted = one.counted;
+}
+
+AllByRecursion-job_at : (P : JobState → Type 0) (place : ℕ) (change : JobState → JobState) (jobs : List JobState) → ((job : JobState) → slice_get jobs place ≡ Some job → P job → P (change job))
+    → AllByRecursion P jobs → AllByRecursion P (job_changed place change jobs)
+AllByRecursion-job_at P place change [] each all = tt
+AllByRecursion-job_at P zero change (job ∷ jobs) each all = (each job refl all.0, all.1)
+AllByRecursion-job_at P (suc place) change (job ∷ jobs) each all = (all.0, AllByRecursion-job_at P place change jobs each all.1)
+
+-- a change that keeps the opens of the one job at that place
+pub AreOne-job_at : (s : State) (bytes place : ℕ) (change : JobState → JobState) → AreOne s bytes
+    → ((job : JobState) → slice_get s.jobs place ≡ Some job → OpensHold s.files job → OpensHold s.files (change job))
+    → ((job : JobState) → CycleGoesBack s.files s.members job.cycle → CycleGoesBack s.files s.members (change job).cycle)
+    → AreOne (record s { jobs = job_changed place change s.jobs }) bytes
+AreOne-job_at s bytes place change one each back = record {
+  lawful = record {
+    members = one.lawful.members;
+    bases = one.lawful.bases;
+    opens = AllByRecursion-job_at (OpensHold s.files) place change s.jobs each one.lawful.opens;
     changes = AllByRecursion-job_changed (λ (job : JobState). CycleGoesBack s.files s.members job.cycle) place change s.jobs back one.lawful.changes;
     numbers = one.lawful.numbers;
     keepers = let same = length-job_changed place change s.jobs in AreOfJobs-more s.jobs (job_changed place change s.jobs) s.locks (omega (arith, same)) one.lawful.keepers;
@@ -166,12 +197,13 @@ AreOne-noted s bytes place cycle one back = AreOne-job_changed s bytes place (wi
 pub AreOne-ended : (s : State) (bytes place : ℕ) (locks : List Lock) → AreOne s bytes → AreOfJobs s.jobs locks → AreOne (record s { jobs = job_changed place ended_job s.jobs; locks = locks }) bytes
 AreOne-ended s bytes place locks one begun = AreOne-job_changed (record s { locks = locks }) bytes place ended_job (AreOne-locks s bytes locks one begun) (λ job holds. tt) (λ job back. tt)
 
--- one open more, whose file and member are there
-pub AreOne-with_open : (s : State) (bytes place : ℕ) (args : OpenFile) (member : ℕ) → AreOne s bytes → OpensMember member (named args.file s.files)
-    → AreOne (record s { jobs = job_changed place (with_open args member) s.jobs }) bytes
-AreOne-with_open s bytes place args member one holds =
-    AreOne-job_changed s bytes place (with_open args member) one
-    (λ job all. AllByRecursion-append (λ (e : List ℕ × OpenState). OpenHolds s.files e.1) job.opens ((args.open_id, new_open args (job.opened + 1) member) ∷ []) all (holds, tt))
+-- one open more, whose file and members are there
+pub AreOne-with_open : (s : State) (bytes place : ℕ) (args : OpenFile) (members : List ℕ) → AreOne s bytes → OpenHolds s.files (new_open args 0 members)
+    → AreOne (record s { jobs = job_changed place (with_open args members) s.jobs }) bytes
+AreOne-with_open s bytes place args members one holds =
+    AreOne-job_changed s bytes place (with_open args members) one
+    (λ job all. AllByRecursion-append (λ (e : List ℕ × OpenState). OpenHolds s.files e.1) job.opens ((args.open_id, new_open args (job.opened + 1) members) ∷ []) all
+    (OpenHolds-alike s.files (new_open args 0 members) (new_open args (job.opened + 1) members) refl refl refl refl holds, tt))
     (λ job back. back)
 
 -- one open less
@@ -198,11 +230,37 @@ AreOne-open_changed s bytes place number change one each =
     AreOne-with_opens s bytes place (λ opened. if opened.number == number then change opened else opened) one
     (λ opened holds. elim (opened.number == number) as (λ b. OpenHolds s.files (if b then change opened else opened)) [ true ↦ each opened holds | false ↦ holds ])
 
+-- what a change of the open of one number keeps of it, for each of these opens
+abbrev pub KeepsOpens : Named FileState → (number : ℕ) → (OpenState → OpenState) → Named OpenState → Type 0
+KeepsOpens files number change opens = AllByRecursion (λ entry. entry.1.number ≡ number → OpenHolds files entry.1 → OpenHolds files (change entry.1)) opens
+
+opens-at : (files : Named FileState) (number : ℕ) (change : OpenState → OpenState) (opens : Named OpenState) → KeepsOpens files number change opens
+    → AllByRecursion (λ (e : List ℕ × OpenState). OpenHolds files e.1) opens
+    → AllByRecursion (λ (e : List ℕ × OpenState). OpenHolds files e.1) (map (λ entry. (entry.0, if entry.1.number == number then change entry.1 else entry.1)) opens)
+opens-at files number change [] each all = tt
+opens-at files number change (entry ∷ opens) each all = (
+  elim (entry.1.number == number) as (λ b. entry.1.number == number ≡ b → OpenHolds files (if b then change entry.1 else entry.1)) [
+    | true ↦ λ same. each.0 (eqb-true entry.1.number number same) all.0
+    | false ↦ λ other. all.0
+  ] refl,
+  opens-at files number change opens each.1 all.1,
+)
+
+-- the open of one number changed, which keeps what it is for the opens that the job has
+pub AreOne-open_at : (s : State) (bytes place number : ℕ) (change : OpenState → OpenState) → AreOne s bytes
+    → ((job : JobState) → slice_get s.jobs place ≡ Some job → KeepsOpens s.files number change job.opens)
+    → AreOne (record s { jobs = job_changed place (open_changed number change) s.jobs }) bytes
+AreOne-open_at s bytes place number change one each =
+    AreOne-job_at s bytes place (open_changed number change) one (λ job here all. opens-at s.files number change job.opens (each job here) all) (λ job back. back)
+
 -- the current record of opens given up
 pub AreOne-without_record : (s : State) (bytes place member rrn : ℕ) → AreOne s bytes → AreOne (record s { jobs = job_changed place (with_opens (without_record member rrn)) s.jobs }) bytes
 AreOne-without_record s bytes place member rrn one =
     AreOne-with_opens s bytes place (without_record member rrn) one
-    (λ opened holds. elim (is_current member rrn opened) as (λ b. OpenHolds s.files (if b then without_current opened else opened)) [ true ↦ holds | false ↦ holds ])
+    (λ opened holds. elim (is_current member rrn opened) as (λ b. OpenHolds s.files (if b then without_current opened else opened)) [
+      | true ↦ OpenHolds-alike s.files opened (without_current opened) refl refl refl refl holds
+      | false ↦ holds
+    ])
 
 -- the end of a job that has changed nothing since its boundary
 pub ended-memory : (s : State) (job : ℕ) (locks : List Lock) (jobs : List JobState) → (job_of job (memory_of s)).cycle ≡ None → locks ≡ boundary_locks EndJob job (memory_of s)
@@ -220,6 +278,7 @@ AreOne-with_member s bytes after number member one kept counted few back = recor
   lawful = record {
     members = λ name file other owns. IsThere-with_member (fields_of file) s.members other number member (one.lawful.members name file other owns) (λ same. kept name file (subst
         (Owns s.files name file) same owns));
+    bases = one.lawful.bases;
     opens = one.lawful.opens;
     changes = back;
     numbers = numbers-with_member s.members number s.next_member member one.lawful.numbers;
@@ -285,12 +344,6 @@ named-map change name (entry ∷ files) =
       | false ↦ named-map change name files
     ]
 
-OpensMember-changed : (change : FileState → FileState) → ((file : FileState) (number : ℕ) → has_number number (change file).members ≡ has_number number file.members)
-    → (number : ℕ) (file : Option FileState)
-    → OpensMember number file → OpensMember number (option_map change file)
-OpensMember-changed change same number None holds = absurd holds
-OpensMember-changed change same number (Some file) holds = same file number ∙ holds
-
 opens-each : (files others : Named FileState) → ((opened : OpenState) → OpenHolds files opened → OpenHolds others opened) → (opens : Named OpenState)
     → AllByRecursion (λ (e : List ℕ × OpenState). OpenHolds files e.1) opens
     → AllByRecursion (λ (e : List ℕ × OpenState). OpenHolds others e.1) opens
@@ -302,8 +355,11 @@ pub jobs-each : (files others : Named FileState) → ((opened : OpenState) → O
 jobs-each files others each [] all = tt
 jobs-each files others each (job ∷ jobs) all = (opens-each files others each job.opens all.0, jobs-each files others each jobs all.1)
 
-module _ (change : FileState → FileState) (same_fields : (file : FileState) → fields_of (change file) ≡ fields_of file)
+module _ (change : FileState → FileState) (keeps : (file : FileState) → Keeps file (change file))
     (same_members : (file : FileState) (number : ℕ) → has_number number (change file).members ≡ has_number number file.members) where
+  same_fields : (file : FileState) → fields_of (change file) ≡ fields_of file
+  same_fields file = ap (λ (spec : FileSpec). (format_in spec).fields) (keeps file).spec
+
   IsThere-changed : (s : State) (name : List ℕ) (file : FileState) (number : ℕ) → IsLibrary s → (was : (before : FileState) × (named name s.files ≡ Some before) × (change before ≡ file))
       → has_number number file.members ≡ true
       → IsThere (fields_of file) (member_at number s.members)
@@ -325,9 +381,9 @@ module _ (change : FileState → FileState) (same_fields : (file : FileState) �
   AreOne-files s bytes one = record {
     lawful = record {
       members = λ name file number owns. IsThere-changed s name file number one.lawful (changed-from change (named name s.files) file (sym (named-map change name s.files) ∙ owns.there)) owns.has;
+      bases = AreBased-each change keeps s.files one.lawful.bases;
       opens = jobs-each s.files (map (λ entry. (entry.0, change entry.1)) s.files)
-          (λ opened holds. subst (OpensMember opened.member) (sym (named-map change opened.file s.files)) (OpensMember-changed change same_members opened.member (named opened.file s.files) holds))
-          s.jobs one.lawful.opens;
+          (OpenHolds-kept s.files (map (λ entry. (entry.0, change entry.1)) s.files) one.lawful.bases (kept-each change keeps s.files)) s.jobs one.lawful.opens;
       changes = AllGoBack-each s.files (map (λ entry. (entry.0, change entry.1)) s.files) s.members s.members
           (λ sequence undo back. GoesBack-values s.files (map (λ entry. (entry.0, change entry.1)) s.files) s.members sequence undo
           (λ name file owns. HoldsValues-changed s name file undo.member (before_of undo.change) back.values (changed-from change (named name s.files) file
@@ -344,7 +400,7 @@ module _ (change : FileState → FileState) (same_fields : (file : FileState) �
 pub AreOne-status : (s : State) (bytes number : ℕ) (change : StatusChange) → AreOne s bytes
     → AreOne (record s { files = map (λ entry. (entry.0, status_changed number (after change) entry.1)) s.files }) bytes
 AreOne-status s bytes number change one =
-    AreOne-files (status_changed number (after change)) (λ file. refl) (λ file other. has_number-changed_in other number (after change) file.members (after-number change)) s bytes one
+    AreOne-files (status_changed number (after change)) (Keeps-status number (after change) (after-number change)) (λ file other. has_number-changed_in other number (after change) file.members (after-number change)) s bytes one
 
 -- the jobs and the locks after a COMMIT
 pub AreOne-committed : (s : State) (bytes place : ℕ) (locks : List Lock) → AreOne s bytes → AreOfJobs s.jobs locks
@@ -352,7 +408,10 @@ pub AreOne-committed : (s : State) (bytes place : ℕ) (locks : List Lock) → A
 AreOne-committed s bytes place locks one begun =
     AreOne-job_changed (record s { locks = locks }) bytes place (λ j. with_opens committed_open (without_cycle j)) (AreOne-locks s bytes locks one begun)
     (λ job all. opens-map s.files committed_open
-    (λ opened holds. elim opened.commit as (λ b. OpenHolds s.files (if b then at_boundary opened else opened)) [ true ↦ holds | false ↦ holds ]) job.opens all)
+    (λ opened holds. elim opened.commit as (λ b. OpenHolds s.files (if b then at_boundary opened else opened)) [
+      | true ↦ OpenHolds-alike s.files opened (at_boundary opened) refl refl refl refl holds
+      | false ↦ holds
+    ]) job.opens all)
     (λ job back. tt)
 
 pub committed-memory : (s : State) (job : ℕ) (locks : List Lock) (jobs : List JobState) (numbers : List ℕ) → ((n : ℕ) → list_any (λ o. o == n) numbers ≡ is_committed (job_of job (memory_of s)) n)

@@ -1,5 +1,6 @@
 pub mod MemberLemmas
 pub mod BackLemmas
+pub mod BaseLemmas
 pub mod DueLemmas
 pub mod BoundaryLemmas
 pub mod TakingBackLemmas

@@ -109,7 +109,7 @@ HasRecords-changed fields member rrn slot has held =
       | false ↦ record { long = has.long; values = AllByRecursion-set (HoldsValues fields) member.slots (rrn - 1) slot has.values held }
     ]
 
-AllByRecursion-get : {X : Type 0} (P : X → Type 0) (xs : List X) (place : ℕ) (x : X) → AllByRecursion P xs → slice_get xs place ≡ Some x → P x
+pub AllByRecursion-get : {X : Type 0} (P : X → Type 0) (xs : List X) (place : ℕ) (x : X) → AllByRecursion P xs → slice_get xs place ≡ Some x → P x
 AllByRecursion-get P [] place x all here = absurd cc
 AllByRecursion-get P (y ∷ xs) zero x all here = let same : y ≡ x = cc in subst P same all.0
 AllByRecursion-get P (y ∷ xs) (suc place) x all here = AllByRecursion-get P xs place x all.1 here

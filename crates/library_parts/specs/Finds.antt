@@ -1,7 +1,7 @@
 -- What a look-up by names shows: an open and its file, or a member and its file, or the refusal of the first name that isn't there.
-use Rattle.std.specs.Prelude.{◌≡◌, ℕ, Result, Ok, Err, List}
+use Rattle.std.specs.Prelude.{◌≡◌, ℕ, true, Option, Some, None, Result, Ok, Err, List}
 use Rattle.library_model.specs.declared.replies.Reply.{Reply}
-use Rattle.file_catalogue.specs.Owners.{Owns}
+use Rattle.file_catalogue.specs.Owners.{Owns, has_number}
 use Rattle.member_slots.specs.Members.{member_at}
 use Rattle.entry_codec.specs.declared.entries.Entry.{Entry}
 use Rattle.library_steps.specs.JournalReads.{are_there, are_kept, entries_between}
@@ -27,6 +27,11 @@ FindsMember (Err (Refused reply)) wanted = wanted ≡ Err reply
 pub record HasMember (s : State) (name : List ℕ) (file : FileState) (number : ℕ) : Type 0 where
   pub owns : Owns s.files name file number
   pub there : IsThere (fields_of file) (member_at number s.members)
+
+-- the file is there, and has the member with this number
+abbrev pub OpensMember : ℕ → Option FileState → Type 0
+OpensMember number None = ⊥
+OpensMember number (Some file) = has_number number file.members ≡ true
 
 -- the entries from the first sequence up to the last, or the refusal
 abbrev pub entries_read : (first last : ℕ) → State → Result (List Entry) Reply

@@ -11,6 +11,7 @@ ghost use Rattle.library_steps.specs.Ranges.{library_bytes};
 ghost use Rattle.library_steps.specs.Uses.{user_of_any};
 ghost use Rattle.file_catalogue.specs.Described.{Describes};
 ghost use Rattle.file_catalogue.specs.Owners.{AreApart};
+ghost use Rattle.file_catalogue.specs.Physical.{AllArePhysical};
 ghost use Rattle.library_parts.specs.Files.{IsNewFile, IsNewMember};
 ghost use Rattle.library_parts.specs.Rooms.{HasFileRoom, HasMemberRoom};
 
@@ -25,11 +26,12 @@ use member_slots::member::Member;
 use member_slots::members::Members;
 
 impl Contents {
-    /// How many files there are, and the number of the next member. No two members have one number.
+    /// How many files there are, all of them physical ones, and the number of the next member. No two members have one number.
     pub fn counts(&self) -> (usize, u32)
         ensures files { result.0 ≡ length self.now.state.files }
         ensures next_member { result.1 ≡ self.now.state.next_member }
         ensures apart { AreApart self.now.state.files }
+        ensures physical { AllArePhysical self.now.state.files }
     {
         (self.catalogue.len(), self.next_member)
     }

@@ -2,7 +2,7 @@
 ghost use Rattle.std.specs.Prelude.{◌≡◌, IfOk, IsTrue};
 ghost use Rattle.library_model.specs.declared.replies.Reply.TheVariants.{NoSuchName};
 ghost use Rattle.library_model.specs.declared.replies.Missing.TheVariants as missing;
-ghost use Rattle.library_steps.specs.State.{memory_of, job_at, file_named, open_named};
+ghost use Rattle.library_steps.specs.State.{memory_of, job_at, file_named, open_named, physical_named};
 ghost use Rattle.library_steps.specs.History.{is_running};
 ghost use Rattle.library_steps.specs.Refusals.{named_or_refused, opened_file, member_of_file, sequences_left};
 ghost use Rattle.library_parts.specs.declared.stop.Stop.TheVariants.{Refused};
@@ -51,6 +51,16 @@ impl Contents {
         }
     }
 
+    /// The physical file of that name.
+    pub fn physical_file(&self, name: &Name) -> Result<&File, Stop>
+        ensures { Shows result (named_or_refused name.now (physical_named name.now (memory_of self.now.state))) }
+    {
+        // There are no others.
+        let _len = self.catalogue.len();
+        let file = self.file(name)?;
+        Ok(file)
+    }
+
     /// The job's open of that name, and its file.
     pub fn opened_file(&self, job: u32, name: &Name) -> Result<OpenFound<'_>, Stop>
         requires { IsTrue (is_running (job_at job self.now.state.jobs)) }
@@ -61,6 +71,8 @@ impl Contents {
         let _ = &self.alloc;
         let opened = self.opened(job, name)?;
         let file = self.file(&opened.file())?;
+        // It is a physical file.
+        let _format = file.format();
         Ok(OpenFound { opened, file })
     }
 
@@ -71,7 +83,7 @@ impl Contents {
     {
         // The members of each file are there.
         let _ = &self.alloc;
-        let file = self.file(file)?;
+        let file = self.physical_file(file)?;
         match file.member(member) {
             Some(status) => Ok(MemberFound { file, status }),
             None => Err(no_such_name(*member)),

@@ -1,5 +1,5 @@
 //! What effects change of the jobs and their locks: opens, positions, locks, and the end of a job.
-ghost use Rattle.std.specs.Prelude.{◌≡◌, ◌≤◌, ◌<◌, None, IsTrue, IfSome, OnOk, length};
+ghost use Rattle.std.specs.Prelude.{◌≡◌, ◌≤◌, ◌<◌, [], ◌∷◌, None, IsTrue, IfSome, OnOk, length};
 ghost use Rattle.lock_table.specs.Table.{blocker};
 ghost use Rattle.lock_table.specs.Levels.{asked, locks_after};
 ghost use Rattle.library_model.specs.Named.{named};
@@ -7,13 +7,13 @@ ghost use Rattle.library_model.specs.declared.limits.TheConstants.{MOST_OPENS};
 ghost use Rattle.library_steps.specs.State.{memory_of, job_at, job_of, with_job, with_opens};
 ghost use Rattle.library_steps.specs.History.{is_running};
 ghost use Rattle.library_steps.specs.Opens.{with_open, without_open};
-ghost use Rattle.library_steps.specs.Reads.{open_changed, positioned, has_read};
+ghost use Rattle.library_steps.specs.Reads.{open_changed, positioned, has_read, entry_found};
 ghost use Rattle.library_steps.specs.ChangeRecord.{without_current, without_record};
 ghost use Rattle.library_steps.specs.Locking.{is_committed, with_locks};
 ghost use Rattle.library_steps.specs.EndJob.{job_ended};
 ghost use Rattle.job_table.specs.Table.{HasRoomFor};
 ghost use Rattle.job_table.specs.declared.jobs.TheConstants.{LAST_OPEN};
-ghost use Rattle.library_parts.specs.Lawful.{OpensMember};
+ghost use Rattle.library_parts.specs.Finds.{OpensMember};
 ghost use Rattle.library_parts.specs.Locks.{AsksNone, IsOfOpen, HasLockRoom};
 
 use crate::contents::Contents;
@@ -40,10 +40,12 @@ impl Contents {
         requires few { length (job_of job (memory_of self.old.state)).opens < MOST_OPENS }
         requires numbered { (job_of job (memory_of self.old.state)).opened < LAST_OPEN }
         requires there { OpensMember member (named args.now.file self.old.state.files) }
-        ensures memory { memory_of self.new.state ≡ with_job job (with_open args.now member) (memory_of self.old.state) }
+        ensures memory { memory_of self.new.state ≡ with_job job (with_open args.now (member ∷ [])) (memory_of self.old.state) }
         ensures entries { self.new.state.entries ≡ self.old.state.entries }
         ensures room { self.new.room ≡ self.old.room }
     {
+        // All files are physical ones.
+        let _len = self.catalogue.len();
         self.jobs.add_open(job, args, member);
     }
 
@@ -60,7 +62,7 @@ impl Contents {
     /// Sets the position of the job's open with that number.
     pub fn set_position(&mut self, job: u32, opened: u32, position: FilePosition)
         requires { IsTrue (is_running (job_at job self.old.state.jobs)) }
-        ensures memory { memory_of self.new.state ≡ with_job job (open_changed opened (positioned position)) (memory_of self.old.state) }
+        ensures memory { memory_of self.new.state ≡ with_job job (open_changed opened (positioned None position)) (memory_of self.old.state) }
         ensures entries { self.new.state.entries ≡ self.old.state.entries }
         ensures room { self.new.room ≡ self.old.room }
     {
@@ -70,10 +72,14 @@ impl Contents {
     /// Notes what the job's open with that number has read.
     pub fn note_read(&mut self, job: u32, opened: u32, call: Call, entry: FoundRecord)
         requires { IsTrue (is_running (job_at job self.old.state.jobs)) }
-        ensures memory { memory_of self.new.state ≡ with_job job (open_changed opened (has_read call entry)) (memory_of self.old.state) }
+        ensures memory { memory_of self.new.state ≡ with_job job (open_changed opened (has_read call (entry_found entry))) (memory_of self.old.state) }
         ensures entries { self.new.state.entries ≡ self.old.state.entries }
         ensures room { self.new.room ≡ self.old.room }
     {
+        // It is of the first format, as there is no other.
+        let _format = entry.format();
+        // All files are physical ones.
+        let _len = self.catalogue.len();
         self.jobs.note_read(job, opened, call, entry);
     }
 

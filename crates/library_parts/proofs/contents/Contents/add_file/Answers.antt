@@ -1,5 +1,5 @@
 use Rattle.library_parts.specs.Parts.{state_of}
-use Rattle.library_parts.proofs.FileLemmas.{AreOne-with_file, next-unowned, distinct-one}
+use Rattle.library_parts.proofs.FileLemmas.{AreOne-with_file, based-physical, next-unowned, distinct-one}
 use Rattle.library_parts.proofs.ResultLemmas.{on_ok}
 use Rattle.library_parts.proofs.contents.Contents.add_file.Goals as goal
 
@@ -14,5 +14,6 @@ add-requires-clause-apart c = rw c.requires.new.first (distinct-one c.args.self.
 
 pub invariant_of-self : goal.invariant_of-self
 invariant_of-self c =
+    let first = rw (← c.self.view_is) at c.requires.new.first in
     rw (c.add.ensures, on_ok c.put.result c.unwrap.result c.unwrap.ensures c.put.ensures.put, c.new-empty.ensures, c.length.ensures, c.format.ensures.format)
-    (AreOne-with_file _ _ c.args.name c.args.name c.args.file c.self.invariant.0 (rw (← c.self.view_is) at c.requires.new.first), c.self.invariant.1)
+    (AreOne-with_file _ _ c.args.name c.args.name c.args.file c.self.invariant.0 (based-physical _ c.args.name c.args.file _ c.format.ensures.physical first) first, c.self.invariant.1)

@@ -1,6 +1,7 @@
 use Rattle.std.proofs.Common.{◌≡◌, ◌∙◌, Some, sym, ap}
 use Rattle.std.specs.Option.{option_copied}
 use Rattle.library_model.specs.Named.{named}
+use Rattle.file_catalogue.proofs.PhysicalLemmas.{physical_among-all}
 use Rattle.library_parts.specs.Parts.{state_of}
 use Rattle.library_parts.proofs.FileLemmas.{next-unowned}
 use Rattle.library_parts.proofs.AddLemmas.{AreOne-member_added}
@@ -16,5 +17,6 @@ add_member-requires-clause-fresh c =
 pub invariant_of-self : goal.invariant_of-self
 invariant_of-self c =
     let there : named c.args.args.now.file c.self.inside.catalogue.files ≡ Some c.unwrap.result.now = sym c.named.ensures ∙ ap option_copied c.unwrap.ensures in
+    let physical = physical_among-all c.args.args.now.file c.self.inside.catalogue.files c.len-len.ensures.physical ∙ there in
     rw (c.add_member.ensures, on_ok c.put.result c.unwrap-2.result c.unwrap-2.ensures c.put.ensures.put, c.new-empty.ensures, c.length-length.ensures, c.format.ensures.format)
-    (AreOne-member_added _ _ c.args.args.now.file c.args.args.now.member c.unwrap.result.now c.self.invariant.0 there, c.self.invariant.1)
+    (AreOne-member_added _ _ c.args.args.now.file c.args.args.now.member c.unwrap.result.now c.self.invariant.0 physical, c.self.invariant.1)

@@ -3,9 +3,10 @@ use Rattle.member_slots.specs.Members.{NumberedMembers}
 use Rattle.library_model.specs.Named.{Named}
 use Rattle.library_steps.specs.DeleteFile.{without_members}
 use Rattle.library_steps.specs.Ranges.{library_bytes}
-use Rattle.library_steps.specs.State.{MemberStatus}
+use Rattle.library_steps.specs.State.{MemberStatus, memory_of}
+use Rattle.file_catalogue.proofs.PhysicalLemmas.{physical-named}
 use Rattle.library_parts.specs.Parts.{state_of}
-use Rattle.library_parts.proofs.DeleteLemmas.{AreOne-deleted}
+use Rattle.library_parts.proofs.DeleteLemmas.{AreOne-deleted, free-physical, user-physical}
 use Rattle.library_parts.proofs.contents.Contents.remove_file.Goals as goal
 
 pub invariant_of-self : goal.invariant_of-self
@@ -19,9 +20,12 @@ invariant_of-self c =
     let gone = taken.ensures.gone ∙ ap (λ (names : Named MemberStatus). without_members names members) c.members.ensures in
     let left : library_bytes taken.new.members.members ≡ library_bytes (without_members file.members members) = ap (λ (ms : NumberedMembers). library_bytes ms) gone in
     let bytes : library_bytes taken.new.members.members + taken.result ≡ library_bytes members = taken.ensures.bytes in
-    let unused = (rw (← c.self.view_is) at c.requires.unused) file c.remove-file.ensures.file in
+    let name = c.args.args.now.file in
+    let free = free-physical name parts.catalogue.files c.len-len.ensures.physical in
+    let physical = physical-named name file parts.catalogue.files c.len-len.ensures.physical c.remove-file.ensures.file in
+    let unused = user-physical name file (memory_of state) physical ∙ (rw (← c.self.view_is) at c.requires.unused) file c.remove-file.ensures.file in
     rw (c.remove-file.ensures.removed, taken.ensures.gone, c.members.ensures) (
-      AreOne-deleted state parts.member_bytes (parts.member_bytes - taken.result) c.args.args.now.file file c.self.invariant.0 c.len-len.ensures.apart c.remove-file.ensures.file unused
+      AreOne-deleted state parts.member_bytes (parts.member_bytes - taken.result) name file c.self.invariant.0 c.len-len.ensures.apart free c.remove-file.ensures.file unused
           (omega (arith, counted, left, bytes)) (omega arith),
       c.self.invariant.1,
     )
