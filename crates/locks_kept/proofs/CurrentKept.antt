@@ -371,7 +371,8 @@ module _ (s : State) (new : Memory) (job : ℕ) (sound : IsSound s) (runs : Runs
         locked = in-new is.call (at_member is.member is.opened) is.rrn is.locks (is.change o).commit (holder_of job (is.change o)) (record_of (is.change o) r)
             (after-gained (holder_of job is.opened) (record_of (at_member is.member is.opened) is.rrn) (is_committed its) is.call (level_of its is.opened) gain.0
             (keeps_record (is.change o).commit (holder_of job (is.change o)) (record_of (is.change o) r)) m.locks gains
-            (keeps-from (is.change o).commit (holder_of job (is.change o)) (record_of (is.change o) r) (lock_by (holder_of job is.opened) (record_of (at_member is.member is.opened) is.rrn) gain.0.kind gain.0.reach)
+            (keeps-from (is.change o).commit (holder_of job (is.change o)) (record_of (is.change o) r)
+            (lock_by (holder_of job is.opened) (record_of (at_member is.member is.opened) is.rrn) gain.0.kind gain.0.reach)
             (record { at = there; job = refl; opened = sym number; update = ap is_update gain.2.update; reach = ap (λ b. b || is_open gain.0.reach) commit ∙ gain.2.reach })));
       }
     where
@@ -393,7 +394,10 @@ module _ (s : State) (new : Memory) (job : ℕ) (sound : IsSound s) (runs : Runs
   use-stands : (is : IsUse m job new) → (place : ℕ) (j : JobState) → slice_get new.jobs place ≡ Some j → AllCurrentStand new (place + 1) j
   use-stands is =
       all-jobs (open_changed is.opened.number is.change) is.jobs
-      (λ number o r differ stands. record { live = same-live is.members o.member r stands.live; locked = others-locked is.call (at_member is.member is.opened) is.rrn is.locks number o r differ stands })
+      (λ number o r differ stands. record {
+        live = same-live is.members o.member r stands.live;
+        locked = others-locked is.call (at_member is.member is.opened) is.rrn is.locks number o r differ stands;
+      })
       (own-mapped _ (λ o. if o.number == is.opened.number then is.change o else o) (λ e. e.1.number ≡ is.opened.number → e.1 ≡ is.opened) refl
       (same-number is.name its.opens is.opened is.named (stands-of s job sound runs).opens.apart) (λ e stands alone. use-open is e.1 stands alone))
 
@@ -438,7 +442,8 @@ module _ (s : State) (new : Memory) (job : ℕ) (sound : IsSound s) (runs : Runs
       (λ number o r differ stands. other-live call opened its_member rrn slot (λ o. o) is number o r stands (empty number o r stands))
       (λ o stands r current. record {
         live = other-live call opened its_member rrn slot (λ o. o) is job o r (stands r current) (empty job o r (stands r current));
-        locked = other_record-locked call (at_member its_member opened) rrn is.locks (write-frees_record (at_format format opened) call rrn at) o r (empty job o r (stands r current)) (stands r current);
+        locked = other_record-locked call (at_member its_member opened) rrn is.locks (write-frees_record (at_format format opened) call rrn at) o r (empty job o r (stands r current))
+            (stands r current);
       })
     where
       its_member : ℕ

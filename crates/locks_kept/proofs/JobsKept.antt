@@ -176,7 +176,8 @@ module _ (m new : Memory) (job : ℕ) (runs : Runs m.jobs job (job_of job m)) (a
         opened = refl;
         same = λ o. alike-if (o.number == is.opened.number) is.change o (is.same o);
       }) runs.goes_on its) others
-  alone-kept (Writing is) = change-alone is.opened (at_format is.format is.opened).member is.call is.rrn (Live is.image) (λ o. o) is.change (λ o. record { number = refl; member = refl; commit = refl })
+  alone-kept (Writing is) =
+      change-alone is.opened (at_format is.format is.opened).member is.call is.rrn (Live is.image) (λ o. o) is.change (λ o. record { number = refl; member = refl; commit = refl })
   alone-kept (Updating is) = change-alone is.opened is.opened.member Update is.rrn (Live is.image) (unread is.opened.number) is.change (same-unread is.opened.number)
   alone-kept (Deleting is) = change-alone is.opened is.opened.member Delete is.rrn Deleted (without_record is.opened.member is.rrn) is.change (same-without_record is.opened.member is.rrn)
   alone-kept (Start is) =
@@ -198,10 +199,12 @@ module _ (m new : Memory) (job : ℕ) (runs : Runs m.jobs job (job_of job m)) (a
       }) others
   alone-kept (Committing is) =
       each-job m new job (λ j. with_opens committed_open (without_cycle j)) is.jobs runs (λ n j. StandsAlone j)
-      (alone-same (job_of job m) _ committed_open (record { ended = refl; level = refl; cycle = λ none was. refl; opens = refl; opened = refl; same = λ o. alike _ o (same-committed o) }) runs.goes_on its) others
+      (alone-same (job_of job m) _ committed_open
+      (record { ended = refl; level = refl; cycle = λ none was. refl; opens = refl; opened = refl; same = λ o. alike _ o (same-committed o) }) runs.goes_on its) others
   alone-kept (RollingBack is) =
       each-job m new job (λ j. with_opens rolled_back_open (without_cycle j)) is.jobs runs (λ n j. StandsAlone j)
-      (alone-same (job_of job m) _ rolled_back_open (record { ended = refl; level = refl; cycle = λ none was. refl; opens = refl; opened = refl; same = λ o. alike _ o (same-rolled_back o) }) runs.goes_on its) others
+      (alone-same (job_of job m) _ rolled_back_open
+      (record { ended = refl; level = refl; cycle = λ none was. refl; opens = refl; opened = refl; same = λ o. alike _ o (same-rolled_back o) }) runs.goes_on its) others
   alone-kept (EndingJob is) =
       each-job m new job ended_job is.jobs runs (λ n j. StandsAlone j)
       (record { idle = record { opens = λ e. refl; level = λ e. refl }; control = record { cycle = λ none. refl; opens = λ none. tt }; opens = record { apart = tt; counted = tt } }) others

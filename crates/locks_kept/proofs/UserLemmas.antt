@@ -47,7 +47,8 @@ get-there (x ∷ xs) zero within = (x, refl)
 get-there (x ∷ xs) (suc place) within = get-there xs place (omega (arith, within))
 
 -- so none of its locks stands there
-pub used-by : (m : Memory) (l : Lock) → AllByRecursion (OpensHold m.files) m.jobs → LockStands m l → HasBegun (length m.jobs) l.job → ((test : Lock → Bool) → test l ≡ true → list_any test m.locks ≡ true) → user_of l.at.member m ≡ None → ⊥
+pub used-by : (m : Memory) (l : Lock) → AllByRecursion (OpensHold m.files) m.jobs → LockStands m l → HasBegun (length m.jobs) l.job
+    → ((test : Lock → Bool) → test l ≡ true → list_any test m.locks ≡ true) → user_of l.at.member m ≡ None → ⊥
 used-by m l held stands begun there free = by (get-there m.jobs (l.job - 1) within)
   where
     within : l.job - 1 < length m.jobs
