@@ -1,0 +1,4 @@
+//! The values of keys that stand in bytes.
+#![tactic(auto)]
+
+pub mod laws;
