@@ -1,0 +1,2 @@
+pub mod OpenStand
+pub mod Reads

@@ -1,0 +1,84 @@
+-- What is asked of an open, and among what does it find it? (Database Programming, "Reading database records"; ILE RPG Reference, "READE" and "CHAIN".)
+use Rattle.std.specs.Prelude.{◌≡◌, ℕ, Bool, List, map, All, Option, Some}
+use Rattle.key_spec.specs.declared.KeyPart.{KeyPart}
+use Rattle.key_pages.specs.EntryList.{EntryList}
+use Rattle.member_slots.specs.Member.{MemberState}
+use Rattle.member_slots.specs.Members.{NumberedMembers}
+use Rattle.file_model.specs.declared.paths.PathSpec.{PathSpec}
+use Rattle.file_model.specs.KeyOrder.{merged_parts}
+use Rattle.file_model.specs.Paths.{PathEntry, path}
+use Rattle.file_model.specs.Positions.{Bound, KeyBound, NumberBound, Position, Start, End, Before, Past, Reading, next_from, prior_from, next_equal, prior_equal, chain_key, chain_number}
+use Rattle.access_path.specs.PathBytes.{is_falling, in_bytes, IsInBytes}
+use Rattle.key_values.specs.KeyValues.{values_in}
+use Rattle.file_cursor.specs.CursorPosition.{entry_of}
+use Rattle.file_cursor.specs.PositionBytes.{HasKeysWithin}
+use Rattle.file_cursor.specs.Reading.{AreNumbered}
+use Rattle.file_cursor.specs.declared.places.Hit.{Hit}
+use Rattle.file_cursor.specs.declared.places.Order.{Order}
+use Rattle.file_cursor.specs.declared.places.Order.TheVariants.{Arrival, Path}
+use Rattle.file_cursor.specs.declared.places.Place.{Place}
+use Rattle.file_cursor.specs.declared.places.Place.TheVariants as places
+use Rattle.open_position.specs.declared.reads.ReadBy.{ReadBy}
+use Rattle.open_position.specs.declared.reads.ReadBy.TheVariants as asked
+use Rattle.open_position.specs.declared.position.Side.{Side}
+use Rattle.open_position.specs.declared.position.Side.TheVariants as sides
+use Rattle.open_position.specs.OpenStand.{AreGivenBytes, HasNoKey, entry_by}
+
+-- ---- setting a position
+
+abbrev pub side_of : Side → Bound → Position PathEntry
+side_of sides.Before bound = Before bound
+side_of sides.Past bound = Past bound
+
+-- to this side of a place, by the positions of the file's key
+abbrev pub placed : Side → List KeyPart → Place → Position PathEntry
+placed side parts places.Low = Start
+placed side parts places.High = End
+placed side parts (places.Key key) = side_of side (KeyBound (values_in parts key.now))
+placed side parts (places.Rrn rrn) = side_of side (NumberBound rrn)
+
+-- the place is one among these formats
+abbrev pub IsPlaceIn : List (List KeyPart) → Place → Type 0
+IsPlaceIn formats places.Low = Unit {0}
+IsPlaceIn formats places.High = Unit {0}
+IsPlaceIn formats (places.Key key) = AreGivenBytes (merged_parts formats) key.now
+IsPlaceIn formats (places.Rrn rrn) = HasNoKey formats
+
+-- ---- reading
+
+-- what a read finds in a reading, from a position
+abbrev pub asked_of : ReadBy → List KeyPart → Reading PathEntry → Position PathEntry → Option PathEntry
+asked_of asked.Next parts reading position = next_from reading position
+asked_of asked.Prior parts reading position = prior_from reading position
+asked_of (asked.NextEqual key) parts reading position = next_equal reading (values_in parts key.now) position
+asked_of (asked.PriorEqual key) parts reading position = prior_equal reading (values_in parts key.now) position
+asked_of (asked.FirstEqual key) parts reading position = chain_key reading (values_in parts key.now)
+asked_of (asked.Number rrn) parts reading position = chain_number reading rrn
+
+-- what is asked for can be asked of these formats
+abbrev pub IsAskedOf : List (List KeyPart) → ReadBy → Type 0
+IsAskedOf formats asked.Next = Unit {0}
+IsAskedOf formats asked.Prior = Unit {0}
+IsAskedOf formats (asked.NextEqual key) = AreGivenBytes (merged_parts formats) key.now
+IsAskedOf formats (asked.PriorEqual key) = AreGivenBytes (merged_parts formats) key.now
+IsAskedOf formats (asked.FirstEqual key) = AreGivenBytes (merged_parts formats) key.now
+IsAskedOf formats (asked.Number rrn) = HasNoKey formats
+
+-- an open without a key reads in arrival order, or by a path whose entries stand by their numbers; one with a key by a path
+abbrev pub IsOrderOf : List (List KeyPart) → Order → Type 0
+IsOrderOf formats (Arrival member) = HasNoKey formats
+IsOrderOf formats (Path path) = HasNoKey formats → AreNumbered path.now
+
+-- ---- among what it is found
+
+-- the entries are those of a path over these members, whose keys have these positions
+pub record IsPathOver (formats : List (List KeyPart)) (spec : PathSpec) (members : NumberedMembers) (list : EntryList) : Type 0 where
+  pub keys : map (λ format. format.key) spec.formats ≡ formats
+  pub entries : list.entries ≡ map (in_bytes spec.formats) (path spec members)
+  pub falling : list.falling ≡ is_falling spec.ties
+  pub comparable : IsInBytes spec members
+  pub held : (most : ℕ) × All (HasKeysWithin most members) spec.formats
+
+-- the entry that a hit shows
+abbrev pub entry_hit : List KeyPart → Hit → PathEntry
+entry_hit parts hit = entry_by parts (entry_of hit)

@@ -1,0 +1,5 @@
+//! Where an open stands among the records of its file, with room for its key. Begin with `position.rt`.
+#![tactic(auto)]
+
+pub mod position;
+pub mod reads;

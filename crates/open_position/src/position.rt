@@ -1,0 +1,96 @@
+//! The position of an open. What sets it takes no memory.
+ghost use Rattle.std.specs.Prelude.{◌≡◌, ◌≤◌, ℕ, [], ◌∷◌, length, IfOk, IfSome, IsTrue};
+ghost use Rattle.std.specs.Option.{option_map};
+ghost use Rattle.member_slots.specs.Members.{NumberedMembers};
+ghost use Rattle.file_model.specs.declared.paths.PathSpec.{PathSpec};
+ghost use Rattle.file_model.specs.KeyOrder.{merged_parts};
+ghost use Rattle.file_model.specs.Paths.{path};
+ghost use Rattle.file_model.specs.Positions.{Start, On, path_reading, arrival_reading};
+ghost use Rattle.key_order.specs.declared.widths.TheConstants.{MOST_POSITIONS};
+ghost use Rattle.key_order.specs.KeyFields.{ArePositions};
+ghost use Rattle.file_cursor.specs.CursorPosition.{entry_of};
+ghost use Rattle.file_cursor.specs.declared.places.Order as orders;
+ghost use Rattle.open_position.specs.OpenStand.{IsEntryIn};
+ghost use Rattle.open_position.specs.Reads.{placed, IsPlaceIn, asked_of, IsAskedOf, IsOrderOf, IsPathOver, entry_hit};
+
+use crate::reads::ReadBy;
+use file_cursor::{Cursor, Hit, Order, Place};
+use key_spec::{KeyPart, KeyParts};
+use std::alloc::{AllocError, Global};
+use std::marker::Model;
+
+/// To which side of a place a position is set: before it (SETLL), or past it (SETGT).
+#[derive(Clone, Copy)]
+pub enum Side {
+    Before,
+    Past,
+}
+
+/// Where an open stands, and where it stood at the last boundary.
+#[derive(Drop)]
+pub struct OpenPosition {
+    /// The positions of the key in the one format that is read; none where it is read by relative record numbers.
+    parts: KeyParts,
+    cursor: Cursor,
+    /// Whether there is room for the position at a boundary.
+    marks: bool,
+}
+
+impl Model for OpenPosition {
+    ghost use Rattle.std.specs.Prelude.{◌×◌};
+    ghost use Rattle.open_position.specs.OpenStand.{OpenStand};
+    ghost use Rattle.open_position.specs.Kept.{stand_of, IsKeptStand};
+
+    ghost Value = { OpenStand };
+
+    ghost view = { λ p. stand_of p.parts p.cursor p.marks };
+
+    ghost invariant = { λ p. IsKeptStand p.parts p.cursor p.marks };
+}
+
+impl OpenPosition {
+    /// The start, of an open that reads by relative record numbers, with `marks` of one under commitment control.
+    pub fn by_number(alloc: Global, marks: bool) -> Result<OpenPosition, AllocError>
+        ensures { IfOk result (λ p. p ≡ record { position = Start; boundary = Start; formats = [] ∷ []; marks = marks }) }
+
+    /// The start, of an open that reads by a key with these positions.
+    pub fn by_key(alloc: Global, parts: KeyParts, marks: bool) -> Result<OpenPosition, AllocError>
+        requires few { length parts ≤ MOST_POSITIONS }
+        requires allowed { ArePositions parts }
+        ensures { IfOk result (λ p. p ≡ record { position = Start; boundary = Start; formats = parts ∷ []; marks = marks }) }
+
+    /// The positions of the key by which it reads. They can be compared with given values.
+    pub fn parts(&self) -> &[KeyPart]
+        ensures parts { result.now ≡ merged_parts self.now.formats }
+        ensures few { length result.now ≤ MOST_POSITIONS }
+        ensures allowed { ArePositions result.now }
+
+    /// Stands at this side of a place.
+    pub fn stand(&mut self, side: Side, at: Place<'_>)
+        requires { IsPlaceIn self.old.formats at }
+        ensures { self.new ≡ record self.old { position = placed side (merged_parts self.old.formats) at.entry } }
+
+    /// Stands on what a read found.
+    pub fn settle(&mut self, hit: &Hit<'_>)
+        requires { IsEntryIn self.old.formats (entry_of hit.now) }
+        ensures { self.new ≡ record self.old { position = On (entry_hit (merged_parts self.old.formats) hit.now) } }
+
+    /// Keeps the position for the next `go_back`.
+    pub fn mark(&mut self)
+        requires { IsTrue self.old.marks }
+        ensures { self.new ≡ record self.old { boundary = self.old.position } }
+
+    /// Stands where it stood at the last `mark`, and at the start before the first.
+    pub fn go_back(&mut self)
+        ensures { self.new ≡ record self.old { position = self.old.boundary } }
+
+    /// What a read finds among the records in an order: the definition's entry, whose key is in bytes. It leaves the position.
+    pub fn find<'a>(&self, over: Order<'a>, by: ReadBy<'_>) -> Option<Hit<'a>>
+        requires order { IsOrderOf self.now.formats over }
+        requires asked { IsAskedOf self.now.formats by }
+        ensures by_path { (spec : PathSpec) (members : NumberedMembers) → IfPath over.entry (IsPathOver self.now.formats spec members)
+            → option_map (entry_hit (merged_parts self.now.formats)) result ≡ asked_of by.entry (merged_parts self.now.formats) (path_reading spec.ties (path spec members)) self.now.position }
+        ensures by_number { IfArrival over.entry (λ member. option_map (entry_hit (merged_parts self.now.formats)) result ≡ asked_of by.entry (merged_parts self.now.formats) (arrival_reading member) self.now.position) }
+        ensures bytes { (spec : PathSpec) (members : NumberedMembers) → IfPath over.entry (IsPathOver self.now.formats spec members) → IfSome result (λ hit. IsEntryIn self.now.formats (entry_of hit)) }
+        ensures bytes_by_number { IfArrival over.entry (λ member. IfSome result (λ hit. IsEntryIn self.now.formats (entry_of hit))) }
+}
