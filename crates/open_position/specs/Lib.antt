@@ -1,2 +1,3 @@
 pub mod OpenStand
+pub mod Kept
 pub mod Reads

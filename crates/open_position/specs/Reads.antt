@@ -1,6 +1,7 @@
 -- What is asked of an open, and among what does it find it? (Database Programming, "Reading database records"; ILE RPG Reference, "READE" and "CHAIN".)
 use Rattle.std.specs.Prelude.{◌≡◌, ℕ, Bool, List, map, All, Option, Some}
 use Rattle.key_spec.specs.declared.KeyPart.{KeyPart}
+use Rattle.key_pages.specs.declared.entries.Entry.{Entry}
 use Rattle.key_pages.specs.EntryList.{EntryList}
 use Rattle.member_slots.specs.Member.{MemberState}
 use Rattle.member_slots.specs.Members.{NumberedMembers}
@@ -10,9 +11,10 @@ use Rattle.file_model.specs.Paths.{PathEntry, path}
 use Rattle.file_model.specs.Positions.{Bound, KeyBound, NumberBound, Position, Start, End, Before, Past, Reading, next_from, prior_from, next_equal, prior_equal, chain_key, chain_number}
 use Rattle.access_path.specs.PathBytes.{is_falling, in_bytes, IsInBytes}
 use Rattle.key_values.specs.KeyValues.{values_in}
-use Rattle.file_cursor.specs.CursorPosition.{entry_of}
+use Rattle.file_cursor.specs.CursorPosition.{CursorPosition, entry_of}
+use Rattle.file_cursor.specs.Finding as bytes
 use Rattle.file_cursor.specs.PositionBytes.{HasKeysWithin}
-use Rattle.file_cursor.specs.Reading.{AreNumbered}
+use Rattle.file_cursor.specs.Reading.{AreNumbered, IsByNumber}
 use Rattle.file_cursor.specs.declared.places.Hit.{Hit}
 use Rattle.file_cursor.specs.declared.places.Order.{Order}
 use Rattle.file_cursor.specs.declared.places.Order.TheVariants.{Arrival, Path}
@@ -68,6 +70,47 @@ IsAskedOf formats (asked.Number rrn) = HasNoKey formats
 abbrev pub IsOrderOf : List (List KeyPart) → Order → Type 0
 IsOrderOf formats (Arrival member) = HasNoKey formats
 IsOrderOf formats (Path path) = HasNoKey formats → AreNumbered path.now
+
+abbrev pub IsByPath : Order → Type 0
+IsByPath (Arrival member) = ⊥
+IsByPath (Path path) = Unit {0}
+
+-- a key is looked up along a path alone
+abbrev pub IsLookedUp : ReadBy → Order → Type 0
+IsLookedUp asked.Next over = Unit {0}
+IsLookedUp asked.Prior over = Unit {0}
+IsLookedUp (asked.NextEqual key) over = Unit {0}
+IsLookedUp (asked.PriorEqual key) over = Unit {0}
+IsLookedUp (asked.FirstEqual key) over = IsByPath over
+IsLookedUp (asked.Number rrn) over = Unit {0}
+
+-- what a cursor asks of an order: also that a number is looked up where records stand by their numbers
+abbrev pub CanFind : ReadBy → Order → Type 0
+CanFind asked.Next over = Unit {0}
+CanFind asked.Prior over = Unit {0}
+CanFind (asked.NextEqual key) over = Unit {0}
+CanFind (asked.PriorEqual key) over = Unit {0}
+CanFind (asked.FirstEqual key) over = IsByPath over
+CanFind (asked.Number rrn) over = IsByNumber over
+
+-- what a read finds among entries in bytes, from a position in bytes
+abbrev pub found_of : ReadBy → (falling : Bool) → List Entry → CursorPosition → Option Entry
+found_of asked.Next falling entries position = bytes.next_from falling entries position
+found_of asked.Prior falling entries position = bytes.prior_from falling entries position
+found_of (asked.NextEqual key) falling entries position = bytes.next_equal falling entries key.now position
+found_of (asked.PriorEqual key) falling entries position = bytes.prior_equal falling entries key.now position
+found_of (asked.FirstEqual key) falling entries position = bytes.chain_key key.now entries
+found_of (asked.Number rrn) falling entries position = bytes.chain_number rrn entries
+
+-- what holds of the entries of the path that is read
+abbrev pub IfPath : Order → (EntryList → Type 0) → Type 0
+IfPath (Arrival member) P = Unit {0}
+IfPath (Path path) P = P path.now
+
+-- what holds of the member that is read in arrival order
+abbrev pub IfArrival : Order → (MemberState → Type 0) → Type 0
+IfArrival (Arrival member) P = P member.now.state
+IfArrival (Path path) P = Unit {0}
 
 -- ---- among what it is found
 

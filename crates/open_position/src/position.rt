@@ -9,13 +9,17 @@ ghost use Rattle.file_model.specs.Positions.{Start, On, path_reading, arrival_re
 ghost use Rattle.key_order.specs.declared.widths.TheConstants.{MOST_POSITIONS};
 ghost use Rattle.key_order.specs.KeyFields.{ArePositions};
 ghost use Rattle.file_cursor.specs.CursorPosition.{entry_of};
-ghost use Rattle.file_cursor.specs.declared.places.Order as orders;
+ghost use Rattle.file_cursor.specs.Finding.{chain_key};
+ghost use Rattle.file_cursor.specs.Reading.{Suits, falls, entries_in};
 ghost use Rattle.open_position.specs.OpenStand.{IsEntryIn};
-ghost use Rattle.open_position.specs.Reads.{placed, IsPlaceIn, asked_of, IsAskedOf, IsOrderOf, IsPathOver, entry_hit};
+ghost use Rattle.open_position.specs.Reads.{placed, IsPlaceIn, asked_of, IsAskedOf, IsOrderOf, IsByPath, IsLookedUp, CanFind, found_of, IfPath, IfArrival, IsPathOver, entry_hit};
 
 use crate::reads::ReadBy;
-use file_cursor::{Cursor, Hit, Order, Place};
+use file_cursor::cursor::{Cursor, chain_key, chain_number};
+use file_cursor::places::{Hit, Order, Place};
+use key_order::widths::bound;
 use key_spec::{KeyPart, KeyParts};
+use key_values::laws::{given_keys_are_read_back, keys_are_read_back};
 use std::alloc::{AllocError, Global};
 use std::marker::Model;
 
@@ -37,7 +41,6 @@ pub struct OpenPosition {
 }
 
 impl Model for OpenPosition {
-    ghost use Rattle.std.specs.Prelude.{◌×◌};
     ghost use Rattle.open_position.specs.OpenStand.{OpenStand};
     ghost use Rattle.open_position.specs.Kept.{stand_of, IsKeptStand};
 
@@ -52,45 +55,112 @@ impl OpenPosition {
     /// The start, of an open that reads by relative record numbers, with `marks` of one under commitment control.
     pub fn by_number(alloc: Global, marks: bool) -> Result<OpenPosition, AllocError>
         ensures { IfOk result (λ p. p ≡ record { position = Start; boundary = Start; formats = [] ∷ []; marks = marks }) }
+    {
+        OpenPosition::by_key(alloc, KeyParts::new(alloc), marks)
+    }
 
     /// The start, of an open that reads by a key with these positions.
-    pub fn by_key(alloc: Global, parts: KeyParts, marks: bool) -> Result<OpenPosition, AllocError>
+    pub fn by_key(
+        alloc: Global,
+        parts: KeyParts,
+        marks: bool,
+    ) -> Result<OpenPosition, AllocError>
         requires few { length parts ≤ MOST_POSITIONS }
         requires allowed { ArePositions parts }
         ensures { IfOk result (λ p. p ≡ record { position = Start; boundary = Start; formats = parts ∷ []; marks = marks }) }
+    {
+        let width = bound(parts.as_slice());
+        let cursor = Cursor::with_room(alloc, width, marks)?;
+        Ok(OpenPosition {
+            parts,
+            cursor,
+            marks,
+        })
+    }
 
     /// The positions of the key by which it reads. They can be compared with given values.
     pub fn parts(&self) -> &[KeyPart]
         ensures parts { result.now ≡ merged_parts self.now.formats }
         ensures few { length result.now ≤ MOST_POSITIONS }
         ensures allowed { ArePositions result.now }
+    {
+        self.parts.as_slice()
+    }
 
     /// Stands at this side of a place.
     pub fn stand(&mut self, side: Side, at: Place<'_>)
         requires { IsPlaceIn self.old.formats at }
         ensures { self.new ≡ record self.old { position = placed side (merged_parts self.old.formats) at.entry } }
+    {
+        match side {
+            Side::Before => self.cursor.setll(at),
+            Side::Past => self.cursor.setgt(at),
+        }
+    }
 
     /// Stands on what a read found.
     pub fn settle(&mut self, hit: &Hit<'_>)
         requires { IsEntryIn self.old.formats (entry_of hit.now) }
         ensures { self.new ≡ record self.old { position = On (entry_hit (merged_parts self.old.formats) hit.now) } }
+    {
+        self.cursor.settle(hit);
+    }
 
     /// Keeps the position for the next `go_back`.
     pub fn mark(&mut self)
         requires { IsTrue self.old.marks }
         ensures { self.new ≡ record self.old { boundary = self.old.position } }
+    {
+        self.cursor.mark();
+    }
 
     /// Stands where it stood at the last `mark`, and at the start before the first.
     pub fn go_back(&mut self)
         ensures { self.new ≡ record self.old { position = self.old.boundary } }
+    {
+        self.cursor.go_back();
+    }
 
     /// What a read finds among the records in an order: the definition's entry, whose key is in bytes. It leaves the position.
     pub fn find<'a>(&self, over: Order<'a>, by: ReadBy<'_>) -> Option<Hit<'a>>
         requires order { IsOrderOf self.now.formats over }
         requires asked { IsAskedOf self.now.formats by }
-        ensures by_path { (spec : PathSpec) (members : NumberedMembers) → IfPath over.entry (IsPathOver self.now.formats spec members)
-            → option_map (entry_hit (merged_parts self.now.formats)) result ≡ asked_of by.entry (merged_parts self.now.formats) (path_reading spec.ties (path spec members)) self.now.position }
+        requires looked { IsLookedUp by over }
+        ensures by_path { (spec : PathSpec) (members : NumberedMembers) → IfPath over.entry (λ list. IsPathOver self.now.formats spec members list
+            → option_map (entry_hit (merged_parts self.now.formats)) result ≡ asked_of by.entry (merged_parts self.now.formats) (path_reading spec.ties (path spec members)) self.now.position) }
         ensures by_number { IfArrival over.entry (λ member. option_map (entry_hit (merged_parts self.now.formats)) result ≡ asked_of by.entry (merged_parts self.now.formats) (arrival_reading member) self.now.position) }
-        ensures bytes { (spec : PathSpec) (members : NumberedMembers) → IfPath over.entry (IsPathOver self.now.formats spec members) → IfSome result (λ hit. IsEntryIn self.now.formats (entry_of hit)) }
+        ensures bytes { (spec : PathSpec) (members : NumberedMembers) → IfPath over.entry (λ list. IsPathOver self.now.formats spec members list → IfSome result (λ hit. IsEntryIn self.now.formats (entry_of hit))) }
         ensures bytes_by_number { IfArrival over.entry (λ member. IfSome result (λ hit. IsEntryIn self.now.formats (entry_of hit))) }
+    {
+        keys_are_read_back();
+        given_keys_are_read_back();
+        found(&self.cursor, over, by)
+    }
+}
+
+/// What a read finds from where a cursor stands.
+fn found<'a>(cursor: &Cursor, over: Order<'a>, by: ReadBy<'_>) -> Option<Hit<'a>>
+    requires suits { Suits over cursor.now.position }
+    requires can { CanFind by over }
+    ensures { option_map entry_of result ≡ found_of by.entry (falls over.entry) (entries_in over.entry) cursor.now.position }
+{
+    match by {
+        ReadBy::Next => cursor.read(over),
+        ReadBy::Prior => cursor.readp(over),
+        ReadBy::NextEqual(key) => cursor.reade(over, key),
+        ReadBy::PriorEqual(key) => cursor.readpe(over, key),
+        ReadBy::FirstEqual(key) => first_equal(over, key),
+        ReadBy::Number(rrn) => chain_number(over, rrn),
+    }
+}
+
+/// The first entry of a path whose key begins with these bytes.
+fn first_equal<'a>(over: Order<'a>, key: &[u8]) -> Option<Hit<'a>>
+    requires { IsByPath over }
+    ensures { option_map entry_of result ≡ chain_key key.now (entries_in over.entry) }
+{
+    match over {
+        Order::Path(path) => chain_key(path, key),
+        Order::Arrival(_) => unreachable!(),
+    }
 }

@@ -1,0 +1,5 @@
+pub mod StandLemmas
+pub mod HeldLemmas
+pub mod PathLemmas
+pub mod NumberLemmas
+pub mod FindLemmas

@@ -1,0 +1,140 @@
+-- Where an open of one format can stand, and that there is room for the key.
+use Rattle.std.proofs.Common.{◌≡◌, ℕ, zero, suc, ◌<◌, ◌≤◌, Bool, List, [], ◌∷◌, length, refl, sym, ◌∙◌, ap, subst, arith}
+use Rattle.key_spec.specs.declared.KeyPart.{KeyPart}
+use Rattle.key_spec.specs.declared.KeyPart.TheVariants.{Field, Absent}
+use Rattle.key_pages.specs.declared.entries.Entry.{Entry}
+use Rattle.file_model.specs.KeyOrder.{merged_parts}
+use Rattle.file_model.specs.Positions as model
+use Rattle.file_model.specs.Paths.{PathEntry}
+use Rattle.key_order.specs.KeyBytes.{encoded, encoded_values}
+use Rattle.key_order.specs.KeyFields.{HasKey, key_width}
+use Rattle.key_order.proofs.WidthLemmas.{length-encoded, length-encoded_values}
+use Rattle.key_values.specs.KeyValues.{AreAmong}
+use Rattle.file_cursor.specs.declared.places.Order.{Order}
+use Rattle.file_cursor.specs.declared.places.Order.TheVariants as orders
+use Rattle.file_cursor.specs.declared.places.Place.{Place}
+use Rattle.file_cursor.specs.declared.places.Place.TheVariants.{Low, High, Key, Rrn}
+use Rattle.file_cursor.specs.CursorPosition.{CursorState, CursorPosition, Start, End, On, Before, Past, ByKey, ByNumber, key_in, lower_limit, greater_than, moved_to, marked}
+use Rattle.file_cursor.specs.Reading.{Suits}
+use Rattle.open_position.specs.declared.position.Side.TheVariants as sides
+use Rattle.open_position.specs.declared.reads.ReadBy.{ReadBy}
+use Rattle.open_position.specs.declared.reads.ReadBy.TheVariants as asked
+use Rattle.open_position.specs.OpenStand.{OpenStand, IsEntryIn, IsStandIn, AreGivenBytes, position_by, parts_at}
+use Rattle.open_position.specs.Kept.{IsKeptStand}
+use Rattle.open_position.specs.Reads.{IsPlaceIn, placed, IsOrderOf, IsAskedOf, IsLookedUp, CanFind}
+
+-- ---- one format
+
+pub merged-one : (parts : List KeyPart) → merged_parts (parts ∷ []) ≡ parts
+merged-one [] = refl
+merged-one (p ∷ parts) = refl
+
+pub among-itself : (parts : List KeyPart) → AreAmong parts parts
+among-itself [] = tt
+among-itself (Absent ∷ parts) = (tt, among-itself parts)
+among-itself (Field t offset descend absval ∷ parts) = ((refl, refl), among-itself parts)
+
+pub among-one : (parts : List KeyPart) → AreAmong parts (merged_parts (parts ∷ []))
+among-one parts = subst (AreAmong parts) (sym (merged-one parts)) (among-itself parts)
+
+-- what holds of the formats that contracts see holds of those that are kept
+pub in-one : (stand now : OpenStand) → stand ≡ now → (P : List (List KeyPart) → Type 0) → P now.formats → P stand.formats
+in-one stand now is P holds = subst P (sym (ap (λ (s : OpenStand). s.formats) is)) holds
+
+-- ---- what it is set to
+
+pub lower-limit : (parts : List KeyPart) (at : Place) → position_by parts (lower_limit at) ≡ placed sides.Before parts at
+lower-limit parts Low = refl
+lower-limit parts High = refl
+lower-limit parts (Key key) = refl
+lower-limit parts (Rrn rrn) = refl
+
+pub greater : (parts : List KeyPart) (at : Place) → position_by parts (greater_than at) ≡ placed sides.Past parts at
+greater parts Low = refl
+greater parts High = refl
+greater parts (Key key) = refl
+greater parts (Rrn rrn) = refl
+
+pub stands-before : (formats : List (List KeyPart)) (at : Place) → IsPlaceIn formats at → IsStandIn formats (lower_limit at)
+stands-before formats Low is = tt
+stands-before formats High is = tt
+stands-before formats (Key key) is = is
+stands-before formats (Rrn rrn) is = is
+
+pub stands-past : (formats : List (List KeyPart)) (at : Place) → IsPlaceIn formats at → IsStandIn formats (greater_than at)
+stands-past formats Low is = tt
+stands-past formats High is = tt
+stands-past formats (Key key) is = is
+stands-past formats (Rrn rrn) is = is
+
+module _ (parts : List KeyPart) (room : ℕ) (wide : key_width parts ≤ room) where
+  given-fit : (key : List ℕ) → AreGivenBytes (merged_parts (parts ∷ [])) key → length key ≤ room
+  given-fit key is =
+      let long : length (encoded_values (merged_parts (parts ∷ [])) is.given.0) ≤ key_width (merged_parts (parts ∷ [])) =
+      length-encoded_values (merged_parts (parts ∷ [])) is.given.0 is.given.1 in
+      let one : key_width (merged_parts (parts ∷ [])) ≡ key_width parts = ap key_width (merged-one parts) in
+      let same : length key ≡ length (encoded_values (merged_parts (parts ∷ [])) is.given.0) = ap length is.given.3 in
+      omega (arith, long, one, same, wide)
+
+  pub place-fits : (at : Place) → IsPlaceIn (parts ∷ []) at → length (key_in at) ≤ room
+  place-fits Low is = omega arith
+  place-fits High is = omega arith
+  place-fits (Key key) is = given-fit key.now is
+  place-fits (Rrn rrn) is = omega arith
+
+  pub entry-fits : (entry : Entry) → IsEntryIn (parts ∷ []) entry → length entry.key ≤ room
+  entry-fits entry is =
+      let own : parts_at (parts ∷ []) entry.format ≡ parts = first entry.format is.format in
+      let image : List ℕ = is.key.0 in
+      let has : HasKey parts image = subst (λ (w : List KeyPart). HasKey w image) own is.key.2 in
+      let long : length (encoded parts image) ≡ key_width parts = length-encoded parts image has in
+      let same : length entry.key ≡ length (encoded parts image) = ap length (is.key.3 ∙ ap (λ (w : List KeyPart). encoded w image) own) in
+      omega (arith, long, same, wide)
+    where
+      first : (number : ℕ) → number < length (parts ∷ []) → parts_at (parts ∷ []) number ≡ parts
+      first zero low = refl
+      first (suc n) low = absurd (omega arith)
+
+-- ---- what is kept of it
+
+module _ (parts : List KeyPart) (cursor : CursorState) (marks : Bool) (kept : IsKeptStand parts cursor marks) where
+  pub kept-moved : (position : CursorPosition) → IsStandIn (parts ∷ []) position → IsKeptStand parts (moved_to position cursor) marks
+  kept-moved position is = record {
+    few = kept.few;
+    allowed = kept.allowed;
+    position = is;
+    boundary = kept.boundary;
+    room = kept.room;
+    kept_room = kept.kept_room;
+  }
+
+  pub kept-marked : IsKeptStand parts (marked cursor) marks
+  kept-marked = record {
+    few = kept.few;
+    allowed = kept.allowed;
+    position = kept.position;
+    boundary = kept.position;
+    room = kept.room;
+    kept_room = kept.kept_room;
+  }
+
+-- ---- what it can be asked
+
+pub suits : (formats : List (List KeyPart)) (over : Order) → IsOrderOf formats over → (position : CursorPosition) → IsStandIn formats position → Suits over position
+suits formats (orders.Arrival member) is position stands = tt
+suits formats (orders.Path kept) is Start stands = tt
+suits formats (orders.Path kept) is End stands = tt
+suits formats (orders.Path kept) is (On entry) stands = tt
+suits formats (orders.Path kept) is (Before (ByKey key)) stands = tt
+suits formats (orders.Path kept) is (Before (ByNumber n)) stands = is stands
+suits formats (orders.Path kept) is (Past (ByKey key)) stands = tt
+suits formats (orders.Path kept) is (Past (ByNumber n)) stands = is stands
+
+pub can-find : (formats : List (List KeyPart)) (by : ReadBy) (over : Order) → IsOrderOf formats over → IsAskedOf formats by → IsLookedUp by over → CanFind by over
+can-find formats asked.Next over is can looked = tt
+can-find formats asked.Prior over is can looked = tt
+can-find formats (asked.NextEqual key) over is can looked = tt
+can-find formats (asked.PriorEqual key) over is can looked = tt
+can-find formats (asked.FirstEqual key) over is can looked = looked
+can-find formats (asked.Number rrn) (orders.Arrival member) is can looked = tt
+can-find formats (asked.Number rrn) (orders.Path kept) is can looked = is can
