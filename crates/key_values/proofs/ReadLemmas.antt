@@ -48,7 +48,8 @@ number-same u w s d e f = rw (e, f) refl
 value-read : (t : FieldType) (v : Value) → Fits t v → value_in t (value_bytes t.length v) ≡ v
 value-read t (Chars text) fits = rw fits.sized.0 refl
 value-read t (Number n) fits =
-    rw fits.sized.0 (number-same (units_from (middle t.length) (number_in 256 (number_bytes t.length n.units))) n.units t.decimals n.scale (number-read t.length n.units fits.sized.2) (sym fits.sized.1))
+    let units : units_from (middle t.length) (number_in 256 (number_bytes t.length n.units)) ≡ n.units = number-read t.length n.units fits.sized.2 in
+    rw fits.sized.0 (number-same (units_from (middle t.length) (number_in 256 (number_bytes t.length n.units))) n.units t.decimals n.scale units (sym fits.sized.1))
 
 bytes-of : (t : FieldType) (v : Value) → Fits t v → Bytes (value_bytes t.length v)
 bytes-of t (Chars text) fits = fits.bytes
