@@ -1,7 +1,7 @@
 //! What holds of the access paths of physical files, as contracts of functions that do nothing.
 ghost use Rattle.std.specs.Prelude.{◌≡◌, ◌≤◌, ℕ, Option, Ok, List, [], ◌∷◌, map, length, All};
 ghost use Rattle.field_types.specs.declared.values.Value.{Value};
-ghost use Rattle.member_slots.specs.Members.{NumberedMembers, member_of};
+ghost use Rattle.member_slots.specs.Members.{NumberedMembers};
 ghost use Rattle.record_fmt.specs.declared.formats.Format.{Format};
 ghost use Rattle.dds_source.specs.declared.specifications.Source.{Source};
 ghost use Rattle.dds_physical.specs.declared.physical_files.PhysicalSpec.{PhysicalSpec};
@@ -13,7 +13,6 @@ ghost use Rattle.key_order.specs.declared.widths.TheConstants.{MOST_POSITIONS};
 ghost use Rattle.key_order.specs.KeyFields.{ArePositions, key_width};
 ghost use Rattle.key_order.specs.GivenValues.{key_fault};
 ghost use Rattle.access_path.specs.PathBytes.{IsInBytes};
-ghost use Rattle.path_entrants.specs.Formats.{IsAskable};
 ghost use Rattle.path_set.specs.Sharing.{CanBeKept};
 ghost use Rattle.path_set.specs.RecordChanges.{TakesImage};
 ghost use Rattle.file_cursor.specs.PositionBytes.{HasKeysWithin};
