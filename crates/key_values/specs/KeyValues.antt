@@ -1,5 +1,5 @@
 -- Which values does a key in bytes stand for? The other way round than the bytes are written. (Our own.)
-use Rattle.std.specs.Prelude.{◌≡◌, ℕ, zero, suc, ◌+◌, ◌-◌, nat_le, ℤ, pos, negsuc, Bool, List, [], ◌∷◌, take, drop, if◌then◌else◌}
+use Rattle.std.specs.Prelude.{◌≡◌, ℕ, zero, suc, ◌-◌, nat_le, ℤ, pos, negsuc, Bool, List, [], ◌∷◌, take, drop, if◌then◌else◌}
 use Rattle.field_types.specs.declared.kinds.FieldType.{FieldType}
 use Rattle.field_types.specs.declared.values.Value.{Value}
 use Rattle.field_types.specs.declared.values.Value.TheVariants.{Chars}

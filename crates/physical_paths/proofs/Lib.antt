@@ -1,0 +1,4 @@
+pub mod FieldLemmas
+pub mod SourceLemmas
+pub mod PositionLemmas
+pub mod RecordLemmas

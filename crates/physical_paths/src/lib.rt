@@ -1,0 +1,4 @@
+//! The access paths of physical files.
+#![tactic(auto)]
+
+pub mod laws;
