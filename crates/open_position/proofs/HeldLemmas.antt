@@ -1,5 +1,5 @@
 -- What holds of each item of a reading holds of what is found among them.
-use Rattle.std.proofs.Common.{◌≡◌, ◌==◌, Bool, Option, Some, None, List, [], ◌∷◌, reverse, refl, sym, subst}
+use Rattle.std.proofs.Common.{◌==◌, Bool, Option, Some, None, List, [], ◌∷◌, reverse, sym, subst}
 use Rattle.std.specs.Prelude.{find, IfSome}
 use Rattle.std.specs.List.{AllByRecursion}
 use Rattle.std.specs.Ordering.{is_lt, is_gt}
@@ -8,7 +8,7 @@ use Rattle.key_spec.specs.declared.KeyPart.{KeyPart}
 use Rattle.key_spec.specs.declared.Ties.{Ties}
 use Rattle.file_model.specs.KeyOrder.{KeyValue, begins_with}
 use Rattle.file_model.specs.Paths.{PathEntry}
-use Rattle.file_model.specs.Positions.{Position, Reading, path_reading, side_of, where_equal, next_from, prior_from}
+use Rattle.file_model.specs.Positions.{Position, path_reading, side_of, where_equal, next_from, prior_from}
 use Rattle.file_model.proofs.PathLemmas.{all-append}
 use Rattle.file_cursor.proofs.ListLemmas.{reverse-cons}
 use Rattle.key_values.specs.KeyValues.{values_in}

@@ -1,5 +1,5 @@
 -- In arrival order a read finds by bytes, which are none, what the definition finds by values.
-use Rattle.std.proofs.Common.{◌≡◌, ℕ, zero, suc, ◌<◌, false, cond, Option, Some, None, List, [], ◌∷◌, length, map, refl, sym, ◌∙◌, ap, subst, arith}
+use Rattle.std.proofs.Common.{◌≡◌, ℕ, zero, suc, ◌<◌, false, Option, Some, None, List, [], ◌∷◌, map, refl, sym, ◌∙◌, ap, subst, arith}
 use Rattle.std.specs.Prelude.{IfSome}
 use Rattle.std.specs.List.{AllByRecursion}
 use Rattle.std.specs.Option.{option_map}
@@ -7,7 +7,7 @@ use Rattle.key_spec.specs.declared.KeyPart.{KeyPart}
 use Rattle.key_spec.specs.declared.Ties.TheVariants.{Rising}
 use Rattle.key_pages.specs.declared.entries.Entry.{Entry}
 use Rattle.member_slots.specs.Member.{MemberState, records}
-use Rattle.file_model.specs.KeyOrder.{KeyValue, merged_parts}
+use Rattle.file_model.specs.KeyOrder.{merged_parts}
 use Rattle.file_model.specs.Paths.{PathEntry}
 use Rattle.file_model.specs.Positions as model
 use Rattle.key_order.specs.KeyBytes.{encoded}
@@ -142,8 +142,7 @@ shown None None is same = (refl, tt)
 shown None (Some e) is same = absurd cc
 shown (Some hit) None is same = absurd cc
 shown (Some hit) (Some e) is same =
-    let one : cursor.entry_of hit ≡ numbered e.rrn = cc in
-    (
+    let one : cursor.entry_of hit ≡ numbered e.rrn = cc in (
       ap Some (ap (entry_by []) one ∙ sym is),
       subst (IsEntryIn none) (sym one) (entry-in e.rrn),
     )

@@ -1,5 +1,5 @@
 -- Along a path a read finds by bytes what the definition finds by values.
-use Rattle.std.proofs.Common.{◌≡◌, ℕ, ◌+◌, suc, ◌<◌, ◌≤◌, ◌==◌, Bool, Option, Some, None, List, [], ◌∷◌, length, map, refl, sym, ◌∙◌, ap, subst, arith}
+use Rattle.std.proofs.Common.{◌≡◌, ℕ, ◌+◌, ◌<◌, ◌≤◌, ◌==◌, Bool, Option, Some, None, List, [], ◌∷◌, length, map, refl, sym, ◌∙◌, ap, subst, arith}
 use Rattle.std.specs.Prelude.{All, IfSome}
 use Rattle.std.specs.List.{AllByRecursion}
 use Rattle.std.specs.Option.{option_map}
@@ -179,8 +179,7 @@ module _ (formats : List PathFormat) (back : KeysBack (keys_of formats)) (given-
   shown None (Some e) is same = absurd cc
   shown (Some hit) None is same = absurd cc
   shown (Some hit) (Some e) is same =
-      let one : cursor.entry_of hit ≡ in_bytes formats e = cc in
-      (
+      let one : cursor.entry_of hit ≡ in_bytes formats e = cc in (
         ap Some (ap (entry_by (file_parts formats)) one ∙ entry-back e is),
         subst (IsEntryIn (keys_of formats)) (sym one) (entry-in e is),
       )

@@ -1,38 +1,29 @@
 -- Where an open of one format can stand, and that there is room for the key.
-use Rattle.std.proofs.Common.{◌≡◌, ℕ, zero, suc, ◌<◌, ◌≤◌, Bool, List, [], ◌∷◌, length, refl, sym, ◌∙◌, ap, subst, arith}
+use Rattle.std.proofs.Common.{◌≡◌, ℕ, zero, suc, ◌<◌, ◌≤◌, List, [], ◌∷◌, length, refl, sym, ◌∙◌, ap, subst, arith}
 use Rattle.key_spec.specs.declared.KeyPart.{KeyPart}
-use Rattle.key_spec.specs.declared.KeyPart.TheVariants.{Field, Absent}
 use Rattle.key_pages.specs.declared.entries.Entry.{Entry}
 use Rattle.file_model.specs.KeyOrder.{merged_parts}
-use Rattle.file_model.specs.Positions as model
-use Rattle.file_model.specs.Paths.{PathEntry}
 use Rattle.key_order.specs.KeyBytes.{encoded, encoded_values}
 use Rattle.key_order.specs.KeyFields.{HasKey, key_width}
 use Rattle.key_order.proofs.WidthLemmas.{length-encoded, length-encoded_values}
 use Rattle.key_values.specs.KeyValues.{AreAmong}
+use Rattle.key_values.proofs.AmongLemmas.{among-itself}
 use Rattle.file_cursor.specs.declared.places.Order.{Order}
 use Rattle.file_cursor.specs.declared.places.Order.TheVariants as orders
 use Rattle.file_cursor.specs.declared.places.Place.{Place}
 use Rattle.file_cursor.specs.declared.places.Place.TheVariants.{Low, High, Key, Rrn}
-use Rattle.file_cursor.specs.CursorPosition.{CursorState, CursorPosition, Start, End, On, Before, Past, ByKey, ByNumber, key_in, lower_limit, greater_than, moved_to, marked}
+use Rattle.file_cursor.specs.CursorPosition.{CursorPosition, Start, End, On, Before, Past, ByKey, ByNumber, key_in}
 use Rattle.file_cursor.specs.Reading.{Suits}
-use Rattle.open_position.specs.declared.position.Side.TheVariants as sides
 use Rattle.open_position.specs.declared.reads.ReadBy.{ReadBy}
 use Rattle.open_position.specs.declared.reads.ReadBy.TheVariants as asked
-use Rattle.open_position.specs.OpenStand.{OpenStand, IsEntryIn, IsStandIn, AreGivenBytes, position_by, parts_at}
-use Rattle.open_position.specs.Kept.{IsKeptStand}
-use Rattle.open_position.specs.Reads.{IsPlaceIn, placed, IsOrderOf, IsAskedOf, IsLookedUp, CanFind}
+use Rattle.open_position.specs.OpenStand.{OpenStand, IsEntryIn, IsStandIn, AreGivenBytes, parts_at}
+use Rattle.open_position.specs.Reads.{IsPlaceIn, IsOrderOf, IsAskedOf, IsLookedUp, CanFind}
 
 -- ---- one format
 
 pub merged-one : (parts : List KeyPart) → merged_parts (parts ∷ []) ≡ parts
 merged-one [] = refl
 merged-one (p ∷ parts) = refl
-
-pub among-itself : (parts : List KeyPart) → AreAmong parts parts
-among-itself [] = tt
-among-itself (Absent ∷ parts) = (tt, among-itself parts)
-among-itself (Field t offset descend absval ∷ parts) = ((refl, refl), among-itself parts)
 
 pub among-one : (parts : List KeyPart) → AreAmong parts (merged_parts (parts ∷ []))
 among-one parts = subst (AreAmong parts) (sym (merged-one parts)) (among-itself parts)
@@ -41,31 +32,7 @@ among-one parts = subst (AreAmong parts) (sym (merged-one parts)) (among-itself 
 pub in-one : (stand now : OpenStand) → stand ≡ now → (P : List (List KeyPart) → Type 0) → P now.formats → P stand.formats
 in-one stand now is P holds = subst P (sym (ap (λ (s : OpenStand). s.formats) is)) holds
 
--- ---- what it is set to
-
-pub lower-limit : (parts : List KeyPart) (at : Place) → position_by parts (lower_limit at) ≡ placed sides.Before parts at
-lower-limit parts Low = refl
-lower-limit parts High = refl
-lower-limit parts (Key key) = refl
-lower-limit parts (Rrn rrn) = refl
-
-pub greater : (parts : List KeyPart) (at : Place) → position_by parts (greater_than at) ≡ placed sides.Past parts at
-greater parts Low = refl
-greater parts High = refl
-greater parts (Key key) = refl
-greater parts (Rrn rrn) = refl
-
-pub stands-before : (formats : List (List KeyPart)) (at : Place) → IsPlaceIn formats at → IsStandIn formats (lower_limit at)
-stands-before formats Low is = tt
-stands-before formats High is = tt
-stands-before formats (Key key) is = is
-stands-before formats (Rrn rrn) is = is
-
-pub stands-past : (formats : List (List KeyPart)) (at : Place) → IsPlaceIn formats at → IsStandIn formats (greater_than at)
-stands-past formats Low is = tt
-stands-past formats High is = tt
-stands-past formats (Key key) is = is
-stands-past formats (Rrn rrn) is = is
+-- ---- room
 
 module _ (parts : List KeyPart) (room : ℕ) (wide : key_width parts ≤ room) where
   given-fit : (key : List ℕ) → AreGivenBytes (merged_parts (parts ∷ [])) key → length key ≤ room
@@ -94,29 +61,6 @@ module _ (parts : List KeyPart) (room : ℕ) (wide : key_width parts ≤ room) w
       first : (number : ℕ) → number < length (parts ∷ []) → parts_at (parts ∷ []) number ≡ parts
       first zero low = refl
       first (suc n) low = absurd (omega arith)
-
--- ---- what is kept of it
-
-module _ (parts : List KeyPart) (cursor : CursorState) (marks : Bool) (kept : IsKeptStand parts cursor marks) where
-  pub kept-moved : (position : CursorPosition) → IsStandIn (parts ∷ []) position → IsKeptStand parts (moved_to position cursor) marks
-  kept-moved position is = record {
-    few = kept.few;
-    allowed = kept.allowed;
-    position = is;
-    boundary = kept.boundary;
-    room = kept.room;
-    kept_room = kept.kept_room;
-  }
-
-  pub kept-marked : IsKeptStand parts (marked cursor) marks
-  kept-marked = record {
-    few = kept.few;
-    allowed = kept.allowed;
-    position = kept.position;
-    boundary = kept.position;
-    room = kept.room;
-    kept_room = kept.kept_room;
-  }
 
 -- ---- what it can be asked
 

@@ -1,5 +1,5 @@
 -- How does an open keep where it stands? (Our own.)
-use Rattle.std.specs.Prelude.{ℕ, ◌≤◌, Bool, List, [], ◌∷◌, length, IsTrue}
+use Rattle.std.specs.Prelude.{◌≤◌, Bool, List, [], ◌∷◌, length, IsTrue}
 use Rattle.key_spec.specs.declared.KeyPart.{KeyPart}
 use Rattle.file_model.specs.KeyOrder.{merged_parts}
 use Rattle.key_order.specs.declared.widths.TheConstants.{MOST_POSITIONS}

@@ -1,5 +1,5 @@
 -- What is asked of an open, and among what does it find it? (Database Programming, "Reading database records"; ILE RPG Reference, "READE" and "CHAIN".)
-use Rattle.std.specs.Prelude.{◌≡◌, ℕ, Bool, List, map, All, Option, Some}
+use Rattle.std.specs.Prelude.{◌≡◌, ℕ, Bool, List, map, All, Option}
 use Rattle.key_spec.specs.declared.KeyPart.{KeyPart}
 use Rattle.key_pages.specs.declared.entries.Entry.{Entry}
 use Rattle.key_pages.specs.EntryList.{EntryList}

@@ -60,11 +60,7 @@ impl OpenPosition {
     }
 
     /// The start, of an open that reads by a key with these positions.
-    pub fn by_key(
-        alloc: Global,
-        parts: KeyParts,
-        marks: bool,
-    ) -> Result<OpenPosition, AllocError>
+    pub fn by_key(alloc: Global, parts: KeyParts, marks: bool) -> Result<OpenPosition, AllocError>
         requires few { length parts ≤ MOST_POSITIONS }
         requires allowed { ArePositions parts }
         ensures { IfOk result (λ p. p ≡ record { position = Start; boundary = Start; formats = parts ∷ []; marks = marks }) }
