@@ -3,4 +3,5 @@ pub mod Book
 pub mod Entries
 pub mod Kept
 pub mod Openings
+pub mod Reads
 pub mod Switch
