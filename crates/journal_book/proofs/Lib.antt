@@ -11,6 +11,7 @@ pub mod Numbering
 pub mod Openings
 pub mod Places
 pub mod Reading
+pub mod Seeking
 pub mod Starting
 pub mod Taking
 pub mod Walking

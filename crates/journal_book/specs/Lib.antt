@@ -4,4 +4,5 @@ pub mod Entries
 pub mod Kept
 pub mod Openings
 pub mod Reads
+pub mod Searches
 pub mod Switch

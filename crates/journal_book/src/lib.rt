@@ -9,6 +9,7 @@ mod fault;
 mod grammar;
 mod laws;
 mod opening;
+mod placing;
 mod ranges;
 mod starts;
 mod switching;
