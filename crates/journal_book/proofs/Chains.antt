@@ -1,7 +1,7 @@
 -- What the logs of a chain say of its receivers, and what a reader finds there.
 use Rattle.std.proofs.Common.{◌≡◌, ℕ, ◌+◌, ◌-◌, ◌≤◌, ◌<◌, List, [], ◌∷◌, length, drop, get_or, refl, sym, ◌∙◌, ap, subst, arith}
 use Rattle.std.proofs.Math.Seq.{drop-cons}
-use Rattle.std.proofs.lemmas.List.{drop_all, get_or_past, length-map}
+use Rattle.std.proofs.lemmas.List.{drop_all, get_or_past}
 use Rattle.store_model.specs.Disk.{Disk}
 use Rattle.gated_log.specs.Log.{LogState}
 use Rattle.receiver_chain.specs.Links.{EndsInLink}
@@ -12,6 +12,7 @@ use Rattle.receiver_chain.proofs.Kept.{log_of}
 use Rattle.receiver_chain.proofs.LinkLemmas.{no_bytes}
 use Rattle.journal_book.specs.Entries.{IsAttached, IsEnded, first_sequence}
 use Rattle.journal_book.specs.Openings.{HasNoRead, HasRead, HaveNoRead, HaveRead}
+use Rattle.journal_book.proofs.Counts.{count_is}
 use Rattle.journal_book.proofs.Endings.{link_at}
 use Rattle.journal_book.proofs.FirstLog.{first_is}
 use Rattle.journal_book.proofs.Walking.{IsWalk, receivers_at, walk_done, walk_fault, walk_further, walk_last_fault}
@@ -24,14 +25,11 @@ none_of [] none = refl
 none_of (b ∷ blocks) none = absurd (omega (arith, none))
 
 module _ (chain : ChainState) (kept : Kept) (disk : Disk) (receiver : ℕ) (holds : Holds chain kept disk) (from : chain.first ≤ receiver) (upto : receiver ≤ attached_of chain) where
-  pub count_is : length (log_at chain receiver).lengths ≡ length (receiver_at chain.first kept receiver).blocks
-  count_is = ap (λ (l : List ℕ). length l) (log_of chain kept disk receiver holds from upto).settled.lengths ∙ length-map (receiver_at chain.first kept receiver).blocks (λ (b : List ℕ). length b)
-
   pub no_blocks : length (log_at chain receiver).lengths ≡ 0 → (receiver_at chain.first kept receiver).blocks ≡ []
-  no_blocks none = none_of (receiver_at chain.first kept receiver).blocks (omega (arith, count_is, none))
+  no_blocks none = none_of (receiver_at chain.first kept receiver).blocks (omega (arith, count_is chain kept disk receiver holds from upto, none))
 
   pub first_block : 0 < length (log_at chain receiver).lengths → (receiver_at chain.first kept receiver).blocks ≡ get_or (receiver_at chain.first kept receiver).blocks 0 [] ∷ drop 1 (receiver_at chain.first kept receiver).blocks
-  first_block some = drop-cons (receiver_at chain.first kept receiver).blocks 0 [] (omega (arith, count_is, some))
+  first_block some = drop-cons (receiver_at chain.first kept receiver).blocks 0 [] (omega (arith, count_is chain kept disk receiver holds from upto, some))
 
 -- the receiver that is attached
 pub attached_at : (chain : ChainState) (kept : Kept) (disk : Disk) → Holds chain kept disk → receiver_at chain.first kept (attached_of chain) ≡ kept.attached

@@ -1,6 +1,7 @@
 pub mod Attaching
 pub mod Bodies
 pub mod Chains
+pub mod Counts
 pub mod Deposits
 pub mod Endings
 pub mod FirstLog
@@ -8,5 +9,9 @@ pub mod Forcing
 pub mod GivenUp
 pub mod Numbering
 pub mod Openings
+pub mod Places
 pub mod Reading
+pub mod Seeking
+pub mod Starting
+pub mod Taking
 pub mod Walking

@@ -13,6 +13,7 @@ ghost use Rattle.journal_book.specs.Entries.{IsInside, IsNoEnd};
 ghost use Rattle.journal_book.specs.Book.{HasMoreRoom, Holds, IsHeld, Keeps, last_of, next_of, with_entry};
 ghost use Rattle.journal_book.specs.Kept.{IsKept};
 
+use crate::starts::{BlockStart, block_start, note};
 use entry_codec::{Draft, Entry, write_entry};
 use gated_log::{MAX_BLOCK, StoreFault, put_frame};
 use receiver_chain::Chain;
@@ -21,7 +22,7 @@ use std::marker::Model;
 use store_model::Store;
 
 /// What stands before the entries of the buffered block: the room of its length.
-const LENGTH: usize = 4;
+pub(crate) const LENGTH: usize = 4;
 
 /// The journal's entries: those on the disk, and those of the block that isn't forced yet.
 #[derive(Drop)]
@@ -37,6 +38,8 @@ pub struct Book {
     pub(crate) begun: bool,
     /// The buffered block, behind the room of its length.
     pub(crate) framed: Vec<u8>,
+    /// Where the chain's blocks begin, as far as there was room to note it. What a read gives doesn't depend on it.
+    pub(crate) starts: Vec<BlockStart>,
 }
 
 impl Model for Book {
@@ -104,6 +107,7 @@ impl Book {
         let more = bytes.saturating_add(1); // the closed gate behind the block
         self.framed.reserve(more as usize)?;
         self.chain.reserve(blocks)?;
+        let _noted = self.starts.reserve(blocks as usize); // without it a read begins further in front
         Ok(())
     }
 
@@ -150,6 +154,13 @@ impl Book {
         ensures { result ≡ next_of self.now }
     {
         self.first + (self.forced + self.waiting)
+    }
+
+    /// Where the next block of the attached receiver will begin.
+    pub(crate) fn next_start(&self) -> BlockStart {
+        let receiver = self.chain.attached();
+        let n = self.chain.log(receiver).count();
+        block_start(self.first - 1 + self.forced, receiver, n)
     }
 
     /// Puts the entry behind those that wait.
@@ -214,12 +225,14 @@ impl Book {
         ensures faults { (S.disk store.old).faults ≤ (S.disk store.new).faults }
         ensures cause { IsErr result → Rose (S.disk store.old).faults (S.disk store.new).faults }
     {
+        let start = self.next_start();
         close(&mut self.framed);
         let deposited = self.chain.deposit_block(store, &self.framed);
         self.framed.truncate(LENGTH);
         let waiting = self.waiting;
         self.waiting = 0;
         deposited?;
+        note(&mut self.starts, start);
         self.forced += waiting;
         self.begun = true;
         Ok(())

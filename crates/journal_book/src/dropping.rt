@@ -9,6 +9,7 @@ ghost use Rattle.journal_book.specs.Book.{Holds, from_sequence, next_of};
 ghost use Rattle.journal_book.specs.Kept.{IsKept};
 
 use crate::book::Book;
+use crate::starts::forget;
 use gated_log::StoreFault;
 use store_model::Store;
 
@@ -35,6 +36,7 @@ impl Book {
         ensures cause { IsErr result → Rose (S.disk store.old).faults (S.disk store.new).faults }
     {
         let dropped = self.chain.drop_before(store, receiver);
+        forget(&mut self.starts, receiver);
         self.follow_chain();
         dropped?;
         Ok(())

@@ -5,6 +5,7 @@ ghost use Rattle.receiver_chain.specs.Links.{IsStart};
 ghost use Rattle.journal_book.specs.Entries.{IsInside};
 ghost use Rattle.journal_book.specs.Bodies.{HasNoNext, IsNext, IsReadAs, ties};
 
+use crate::blocks::follows;
 use entry_codec::{Entry, EntryKind, read_entry};
 use std::alloc::{AllocError, Global};
 
@@ -91,13 +92,6 @@ fn begins_by(entry: &Entry, count: usize, block: &[u8], previous: u32, last: u64
         return false;
     }
     follows(last, entry.sequence)
-}
-
-/// Whether one sequence comes directly behind another.
-fn follows(last: u64, sequence: u64) -> bool
-    ensures { IsTrue result ↔ (sequence ≡ last + 1) }
-{
-    sequence > last && sequence - last == 1
 }
 
 /// Whether an entry of this kind ties receivers.

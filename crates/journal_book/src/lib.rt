@@ -2,13 +2,19 @@
 //! are read, deposited and forced, and what a stop may leave of them.
 #![tactic(auto)]
 
+mod blocks;
 mod book;
 mod dropping;
+mod fault;
 mod grammar;
 mod laws;
 mod opening;
+mod placing;
+mod ranges;
+mod starts;
 mod switching;
 
 pub use book::Book;
+pub use fault::BookFault;
 pub use laws::one_reading;
 pub use opening::open;

@@ -13,6 +13,7 @@ ghost use Rattle.journal_book.specs.Openings.{HasBodies, HasNoBodies, HasNoFront
 
 use crate::book::{Book, empty_block};
 use crate::grammar::{Reading, begins, read_body};
+use crate::starts::{BlockStart, block_start, note, room_for};
 use gated_log::LogFault;
 use receiver_chain::{Chain, FIRST_RECEIVER};
 use std::alloc::Global;
@@ -51,7 +52,8 @@ pub fn open<S: Store>(alloc: Global, store: &mut S, first: u32) -> Result<Book, 
         });
     }
     let before = first_sequence - 1;
-    let last = read_receivers(alloc, store, &chain, before)?;
+    let mut starts = room_for(alloc, &chain)?;
+    let last = read_receivers(alloc, store, &chain, &mut starts, before)?;
     let begun = has_begun(&chain);
     let framed = empty_block(alloc)?;
     Ok(Book {
@@ -61,6 +63,7 @@ pub fn open<S: Store>(alloc: Global, store: &mut S, first: u32) -> Result<Book, 
         waiting: 0,
         begun,
         framed,
+        starts,
     })
 }
 
@@ -81,6 +84,7 @@ fn read_receivers<S: Store>(
     alloc: Global,
     store: &mut S,
     chain: &Chain,
+    starts: &mut Vec<BlockStart>,
     before: u64,
 ) -> Result<u64, LogFault>
     requires held { S.tells → IsHeld chain.now (S.disk store.old) }
@@ -94,10 +98,10 @@ fn read_receivers<S: Store>(
     let mut receiver = chain.first();
     let mut last = before;
     while receiver < attached {
-        last = read_ended(alloc, store, chain, receiver, last)?;
+        last = read_ended(alloc, store, chain, starts, receiver, last)?;
         receiver += 1;
     }
-    let reached = read_attached(alloc, store, chain, last)?;
+    let reached = read_attached(alloc, store, chain, starts, last)?;
     Ok(reached)
 }
 
@@ -106,6 +110,7 @@ fn read_ended<S: Store>(
     alloc: Global,
     store: &mut S,
     chain: &Chain,
+    starts: &mut Vec<BlockStart>,
     receiver: u32,
     last: u64,
 ) -> Result<u64, LogFault>
@@ -125,9 +130,10 @@ fn read_ended<S: Store>(
             at: FIRST_GATE,
         });
     };
-    let (from, begun) = read_front(alloc, store, chain, receiver, last)?;
+    let (from, begun) = read_front(alloc, store, chain, starts, receiver, last)?;
     let stretch = Stretch { receiver, from, to };
-    let reached = read_bodies(alloc, store, chain, stretch, begun)?;
+    let reached = read_bodies(alloc, store, chain, starts, stretch, begun)?;
+    note(starts, block_start(reached, receiver, to));
     if is_second(reached, chain.log(receiver + 1).first()) {
         Ok(reached + 1)
     } else {
@@ -151,6 +157,7 @@ fn read_attached<S: Store>(
     alloc: Global,
     store: &mut S,
     chain: &Chain,
+    starts: &mut Vec<BlockStart>,
     last: u64,
 ) -> Result<u64, LogFault>
     requires held { S.tells → IsHeld chain.now (S.disk store.old) }
@@ -162,9 +169,9 @@ fn read_attached<S: Store>(
 {
     let receiver = chain.attached();
     let to = chain.log(receiver).count();
-    let (from, begun) = read_front(alloc, store, chain, receiver, last)?;
+    let (from, begun) = read_front(alloc, store, chain, starts, receiver, last)?;
     let stretch = Stretch { receiver, from, to };
-    let reached = read_bodies(alloc, store, chain, stretch, begun)?;
+    let reached = read_bodies(alloc, store, chain, starts, stretch, begun)?;
     Ok(reached)
 }
 
@@ -173,6 +180,7 @@ fn read_front<S: Store>(
     alloc: Global,
     store: &mut S,
     chain: &Chain,
+    starts: &mut Vec<BlockStart>,
     receiver: u32,
     last: u64,
 ) -> Result<(u64, u64), LogFault>
@@ -192,6 +200,7 @@ fn read_front<S: Store>(
     if chain.log(receiver).count() == 0 {
         return Ok((0, last));
     }
+    note(starts, block_start(last, receiver, 0));
     let block = chain.block(alloc, store, receiver, 0)?;
     if begins(alloc, &block, receiver.saturating_sub(1), last)? {
         Ok((1, last + 1))
@@ -208,6 +217,7 @@ fn read_bodies<S: Store>(
     alloc: Global,
     store: &mut S,
     chain: &Chain,
+    starts: &mut Vec<BlockStart>,
     stretch: Stretch,
     last: u64,
 ) -> Result<u64, LogFault>
@@ -225,6 +235,7 @@ fn read_bodies<S: Store>(
     let mut n = stretch.from;
     let mut reached = last;
     while n < stretch.to {
+        note(starts, block_start(reached, stretch.receiver, n));
         let block = chain.block(alloc, store, stretch.receiver, n)?;
         match read_body(alloc, &block, reached)? {
             Reading::Last(sequence) => {

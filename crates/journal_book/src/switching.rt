@@ -14,6 +14,7 @@ ghost use Rattle.journal_book.specs.Kept.{IsKept};
 ghost use Rattle.journal_book.specs.Switch.{AreTieBlocks, IsTie, tied_by};
 
 use crate::book::{Book, close, empty_block};
+use crate::starts::{BlockStart, block_start, note};
 use entry_codec::{Draft, Entry, write_entry};
 use gated_log::MAX_BLOCK;
 use receiver_chain::ChainFault;
@@ -135,11 +136,23 @@ impl Book {
         ensures no_memory { IsErrOf result ChainFault.NoMemory → S.tells → (entries : List Entry) → Holds self.old entries (S.disk store.old) → Holds self.new entries (S.disk store.new) }
         ensures cause { IsErrOf result ChainFault.StoreFault → Rose (S.disk store.old).faults (S.disk store.new).faults }
     {
+        let start = self.next_start();
         let _first = self.chain.first(); // no receiver has number 0
         let receiver = self.chain.attach_next(alloc, store, ending, beginning)?;
+        note_ties(&mut self.starts, start, receiver);
         self.forced += 2;
         Ok(receiver)
     }
+}
+
+/// Notes the block by which a receiver ends, and that by which this one begins.
+fn note_ties(starts: &mut Vec<BlockStart>, start: BlockStart, receiver: u32) {
+    let _noted = starts.reserve(2); // without it a read begins further in front
+    note(starts, start);
+    note(
+        starts,
+        block_start(start.before.saturating_add(1), receiver, 0),
+    );
 }
 
 /// A block of this one entry, in its frame.

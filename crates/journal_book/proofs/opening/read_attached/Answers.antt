@@ -9,7 +9,8 @@ use Rattle.receiver_chain.specs.Chain.{attached_of, log_at}
 use Rattle.receiver_chain.proofs.Kept.{holds_stays, is_held_stays}
 use Rattle.std.proofs.lemmas.List.{take_all}
 use Rattle.journal_book.specs.Openings.{HasBodies, HasNoBodies, HasNoFront, IsFront}
-use Rattle.journal_book.proofs.Chains.{at_attached, count_is}
+use Rattle.journal_book.proofs.Chains.{at_attached}
+use Rattle.journal_book.proofs.Counts.{count_is}
 use Rattle.journal_book.proofs.Openings.{attached_no_bodies, attached_no_front, attached_read}
 use Rattle.journal_book.proofs.opening.read_attached.Goals as goal
 

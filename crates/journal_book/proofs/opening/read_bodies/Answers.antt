@@ -7,7 +7,7 @@ use Rattle.receiver_chain.proofs.Switches.{stays_here}
 use Rattle.receiver_chain.proofs.Kept.{holds_stays, is_held_stays}
 use Rattle.journal_book.specs.declared.grammar.Reading.{Reading}
 use Rattle.journal_book.specs.Bodies.{IsBody, IsReadAs}
-use Rattle.journal_book.proofs.Chains.{count_is}
+use Rattle.journal_book.proofs.Counts.{count_is}
 use Rattle.journal_book.proofs.Openings.{IsStretch, rest_at, rest_none, stretch_begin, stretch_done, stretch_fault, stretch_further}
 use Rattle.journal_book.proofs.opening.read_bodies.Goals as goal
 

@@ -9,7 +9,8 @@ use Rattle.receiver_chain.specs.Receivers.{area_of, receiver_at}
 use Rattle.receiver_chain.specs.Chain.{attached_of, log_at}
 use Rattle.receiver_chain.proofs.Kept.{holds_stays, is_held_stays}
 use Rattle.journal_book.specs.Openings.{HasBodies, HasNoBodies}
-use Rattle.journal_book.proofs.Chains.{count_is, link_of, some_block}
+use Rattle.journal_book.proofs.Chains.{link_of, some_block}
+use Rattle.journal_book.proofs.Counts.{count_is}
 use Rattle.journal_book.proofs.Endings.{ended_no_bodies, ended_no_end, ended_no_front, ended_read}
 use Rattle.journal_book.proofs.opening.read_ended.Goals as goal
 

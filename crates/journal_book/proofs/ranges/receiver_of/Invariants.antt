@@ -1,0 +1,13 @@
+use Rattle.std.proofs.Common.{◌≡◌, ◌≤◌, ◌-◌, ◌⊎◌}
+use Rattle.receiver_chain.specs.Chain.{attached_of, log_at}
+use Rattle.journal_book.proofs.ranges.receiver_of.Given as goal
+
+abbrev pub invariant-loop-receiver : goal.invariant-loop-receiver
+invariant-loop-receiver l = record {
+  from : l.chain.first ≤ l.receiver;
+  upto : l.receiver ≤ attached_of l.chain;
+  begins : (l.receiver ≡ l.chain.first) ⊎ ((log_at l.chain l.receiver).first ≤ l.sequence);
+}
+
+abbrev pub decreases-loop-receiver : goal.decreases-loop-receiver
+decreases-loop-receiver l = attached_of l.chain - l.receiver
