@@ -3,10 +3,13 @@ mod EntryLemmas
 mod FirstLemmas
 mod JobLemmas
 mod LineLemmas
+mod NumberLemmas
 mod ParameterLemmas
+mod ReadLemmas
 mod ReplyLemmas
 mod RequestLemmas
 mod ScanLemmas
 mod ShownLemmas
+mod SpellingLemmas
 mod TextLemmas
 mod ValueLemmas
