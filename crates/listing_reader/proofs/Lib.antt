@@ -9,6 +9,7 @@ mod ReadLemmas
 mod ReplyLemmas
 mod RequestLemmas
 mod ScanLemmas
+mod SharedLemmas
 mod ShownLemmas
 mod SpellingLemmas
 mod TextLemmas

@@ -1,5 +1,5 @@
 -- The loops of readers: what is read so far, and what is still to be read.
-use Rattle.std.proofs.Common.{◌≡◌, ℕ, ◌+◌, ◌-◌, ◌*◌, ◌<◌, Bool, true, false, cond, ◌==◌, nat_le, List, [], ◌∷◌, ◌++◌, Option, Some, None, refl, sym, ap, ◌∙◌, append_assoc, append-nil, arith}
+use Rattle.std.proofs.Common.{◌≡◌, ◌≢◌, ℕ, zero, suc, get_or, ◌+◌, ◌-◌, ◌*◌, ◌<◌, Bool, true, false, cond, ◌==◌, nat_le, List, [], ◌∷◌, ◌++◌, length, drop, drop-cons, add-one, Option, Some, None, refl, sym, ap, ◌∙◌, append_assoc, append-nil, arith}
 use Rattle.std.specs.Option.{option_map_or}
 use Rattle.std.proofs.lemmas.Bool.{cond-true, cond-false}
 use Rattle.std.proofs.lemmas.Bool.Decides.{nat_tests}
@@ -58,3 +58,9 @@ past limit number (d ∷ text) large =
       | true ↦ past limit number text large
       | false ↦ (elim (is_digit d) as (λ v. cond v (units_after limit (10 * number + (d - 48)) text) None ≡ None) [ true ↦ past limit (10 * number + (d - 48)) text (omega arith) | false ↦ refl ])
     ]
+
+-- the next digit of a text
+pub next-units : (limit number i : ℕ) (text : List ℕ) (after : List ℕ → Option ℕ) (all : Option ℕ) → i < length text → ((rest : List ℕ) → units_after limit number (get_or text i 0 ∷ rest) ≡ after rest) → units_after limit number (drop i text) ≡ all → after (drop (i + 1) text) ≡ all
+next-units limit number i text after all within step here =
+    let split : drop i text ≡ get_or text i 0 ∷ drop (i + 1) text = rw (add-one, drop-cons text i 0) in
+    sym (ap (units_after limit number) split ∙ step (drop (i + 1) text)) ∙ here

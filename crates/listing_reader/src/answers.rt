@@ -2,7 +2,6 @@
 ghost use Rattle.std.specs.Prelude.{◌≡◌};
 ghost use Rattle.listing_reader.specs.Answers.{record_answer, state_answer, name_answer, journal_answer, limit_answer, reply_named};
 
-
 /// What a reply says, without what it carries.
 #[derive(Clone, Copy)]
 pub enum ReplyKind {

@@ -14,8 +14,7 @@ use library_model::requests::{AccessPath, EndReason, LockOption, OpenOption};
 pub fn limit_of(word: &[u8]) -> Option<LimitKind>
     ensures { result ≡ limit_of word.now }
 {
-    store_limit_of(word)
-        .or(journal_limit_of(word))
+    store_limit_of(word).or(journal_limit_of(word))
 }
 
 /// The cause of this name.

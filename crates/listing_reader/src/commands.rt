@@ -2,7 +2,6 @@
 ghost use Rattle.std.specs.Prelude.{◌≡◌};
 ghost use Rattle.listing_reader.specs.Commands.{file_command, journal_command, open_command, record_command, request_named};
 
-
 /// What a request asks, without its parameters.
 #[derive(Clone, Copy)]
 pub enum RequestKind {

@@ -2,7 +2,6 @@
 ghost use Rattle.std.specs.Prelude.{◌≡◌};
 ghost use Rattle.listing_reader.specs.EntryTypes.{file_type, record_type, cycle_type, journal_type, entry_named};
 
-
 /// What happened, without the fields of the entry.
 #[derive(Clone, Copy)]
 pub enum EntryType {

@@ -6,7 +6,10 @@ ghost use Rattle.listing_reader.specs.Requests.{create_physical, create_logical,
 use crate::numbers::{long_in, number_in};
 use crate::parameters::{end_in, images_in, level_in, reason_in};
 use crate::words::name_in;
-use library_model::requests::{CreateLogicalFile, CreatePhysicalFile, DeleteFile, DeleteReceiver, DisplayJournal, EndJob, FileMember, JournaledChanges, StartCommitment, StartJournaling};
+use library_model::requests::{
+    CreateLogicalFile, CreatePhysicalFile, DeleteFile, DeleteReceiver, DisplayJournal, EndJob,
+    FileMember, JournaledChanges, StartCommitment, StartJournaling,
+};
 
 /// CRTPF.
 #[tactic(auto, unfolding(crate::specs::Requests::create_physical))]
@@ -75,7 +78,11 @@ pub fn start_journaling(text: &[u8]) -> Option<StartJournaling>
     let Some(images) = images_in(text, b"IMAGES") else {
         return None;
     };
-    Some(StartJournaling { file, member, images })
+    Some(StartJournaling {
+        file,
+        member,
+        images,
+    })
 }
 
 /// DLTJRNRCV.
@@ -120,7 +127,12 @@ pub fn journaled_changes(text: &[u8]) -> Option<JournaledChanges>
     let Some(to) = end_in(text, b"TOENT") else {
         return None;
     };
-    Some(JournaledChanges { file, member, from, to })
+    Some(JournaledChanges {
+        file,
+        member,
+        from,
+        to,
+    })
 }
 
 /// STRCMTCTL.

@@ -97,11 +97,7 @@ fn call_from(
 
 /// The reply behind the arrow.
 #[tactic(auto, unfolding(crate::specs::Lines::reply_behind))]
-fn reply_behind(
-    alloc: Global,
-    names: &[Name],
-    text: &[u8],
-) -> Result<Option<Reply>, AllocError>
+fn reply_behind(alloc: Global, names: &[Name], text: &[u8]) -> Result<Option<Reply>, AllocError>
     requires { length names.now < 2 ^ 32 }
     ensures { IfOk result (λ reply. reply ≡ reply_behind names.now (words text.now)) }
 {

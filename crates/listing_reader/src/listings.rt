@@ -29,11 +29,7 @@ impl From<AllocError> for ListingFault {
 }
 
 /// The calls whose listing these bytes are.
-pub fn read_listing(
-    alloc: Global,
-    names: &[Name],
-    bytes: &[u8],
-) -> Result<Vec<Call>, ListingFault>
+pub fn read_listing(alloc: Global, names: &[Name], bytes: &[u8]) -> Result<Vec<Call>, ListingFault>
     requires few { length names.now < 2 ^ 32 }
     requires different { AreDifferent names.now }
     ensures read { IfOk result (λ calls. listing names.now calls.items ≡ bytes.now) }
@@ -55,13 +51,16 @@ fn shared_lines(text: &[u8], others: &[u8]) -> u64
     ensures { result ≡ shared_lines text.now others.now }
 {
     let mut lines = 0;
-    for (i, &byte) in text.iter().enumerate() {
-        if i >= others.len() || others[i] != byte {
+    let mut left = others;
+    for &byte in text {
+        let [other, behind @ ..] = left else {
+            return lines;
+        };
+        if *other != byte {
             return lines;
         }
-        if byte == b'\n' {
-            lines += 1;
-        }
+        lines += u64::from(byte == b'\n');
+        left = behind;
     }
     lines
 }

@@ -4,7 +4,7 @@ ghost use Rattle.statement_reader.specs.Words.{words};
 ghost use Rattle.listing_reader.specs.Parameters.{level_in, images_in, option_in, yes_in, path_in, lock_in, reason_in, end_of, end_in, format_of, format_in, place_of, place_in, values_in, given_values_in, limit_word, key_limit, limit_in, chain_key, chain_to_in};
 
 use crate::choices::{images_of, level_of, lock_of, option_of, path_of, reason_of, yes_of};
-use crate::numbers::{number, number_in, long};
+use crate::numbers::{long, number, number_in};
 use crate::values::{given_values_of, values_of};
 use crate::words::given;
 use commit_level::Level;
@@ -169,11 +169,7 @@ pub fn place_in(text: &[u8], keyword: &[u8]) -> Option<Option<u32>>
 
 /// A list of values.
 #[tactic(auto, unfolding(crate::specs::Parameters::values_in))]
-pub fn values_in(
-    alloc: Global,
-    text: &[u8],
-    keyword: &[u8],
-) -> Result<Option<Values>, AllocError>
+pub fn values_in(alloc: Global, text: &[u8], keyword: &[u8]) -> Result<Option<Values>, AllocError>
     ensures { IfOk result (λ values. values ≡ values_in keyword.now (words text.now)) }
 {
     let Some(inner) = given(text, keyword) else {

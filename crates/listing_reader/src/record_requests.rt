@@ -3,9 +3,14 @@ ghost use Rattle.std.specs.Prelude.{◌≡◌, IfOk};
 ghost use Rattle.statement_reader.specs.Words.{words};
 ghost use Rattle.listing_reader.specs.Requests.{open_file, open_name, set_position, read_record, read_equal, chain_record, write_record, update_record};
 
-use crate::parameters::{chain_to_in, format_in, given_values_in, limit_in, lock_in, option_in, path_in, place_in, values_in, yes_in};
+use crate::parameters::{
+    chain_to_in, format_in, given_values_in, limit_in, lock_in, option_in, path_in, place_in,
+    values_in, yes_in,
+};
 use crate::words::name_in;
-use library_model::requests::{ChainRecord, OpenFile, OpenName, ReadEqual, ReadRecord, SetPosition, UpdateRecord, WriteRecord};
+use library_model::requests::{
+    ChainRecord, OpenFile, OpenName, ReadEqual, ReadRecord, SetPosition, UpdateRecord, WriteRecord,
+};
 use std::alloc::{AllocError, Global};
 
 /// OPNDBF.
@@ -31,7 +36,14 @@ pub fn open_file(text: &[u8]) -> Option<OpenFile>
     let Some(access_path) = path_in(text, b"ACCPTH") else {
         return None;
     };
-    Some(OpenFile { file, option, member, open_id, commit, access_path })
+    Some(OpenFile {
+        file,
+        option,
+        member,
+        open_id,
+        commit,
+        access_path,
+    })
 }
 
 /// The open of CLOF, DELETE and UNLOCK.
@@ -124,7 +136,12 @@ pub fn write_record(alloc: Global, text: &[u8]) -> Result<Option<WriteRecord>, A
     let Some(values) = given_values_in(alloc, text, b"VAL")? else {
         return Ok(None);
     };
-    Ok(Some(WriteRecord { open_id, format, record_number, values }))
+    Ok(Some(WriteRecord {
+        open_id,
+        format,
+        record_number,
+        values,
+    }))
 }
 
 /// UPDATE.

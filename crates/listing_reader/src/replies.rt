@@ -135,16 +135,30 @@ fn reply_of(
         ReplyKind::BadValue => Ok(record_fault_in(text).map(Reply::BadValue)),
         ReplyKind::DdsFault => Ok(dds_fault_in(text).map(Reply::DdsFault)),
         ReplyKind::InUse => Ok(job_in(names, text, b"JOB").map(|job| Reply::InUse { job })),
-        ReplyKind::NotJournaled => Ok(number_in(text, b"MBR").map(|member| Reply::NotJournaled { member })),
-        ReplyKind::PendingChanges => Ok(long_in(text, b"GRP").map(|group| Reply::PendingChanges { group })),
+        ReplyKind::NotJournaled => Ok(number_in(text, b"MBR").map(|member| Reply::NotJournaled {
+            member,
+        })),
+        ReplyKind::PendingChanges => Ok(long_in(text, b"GRP").map(|group| Reply::PendingChanges {
+            group,
+        })),
         ReplyKind::Straddled => Ok(long_in(text, b"GRP").map(|group| Reply::Straddled { group })),
         ReplyKind::DoesNotFit => Ok(does_not_fit(text)),
-        ReplyKind::NeedsBoth => Ok(long_in(text, b"SEQ").map(|sequence| Reply::NeedsBoth { sequence })),
+        ReplyKind::NeedsBoth => Ok(long_in(text, b"SEQ").map(|sequence| Reply::NeedsBoth {
+            sequence,
+        })),
         ReplyKind::Gap => Ok(long_in(text, b"SEQ").map(|sequence| Reply::Gap { sequence })),
-        ReplyKind::NotRemovable => Ok(long_in(text, b"SEQ").map(|sequence| Reply::NotRemovable { sequence })),
-        ReplyKind::ReceiverGone => Ok(long_in(text, b"SEQ").map(|sequence| Reply::ReceiverGone { sequence })),
-        ReplyKind::BlockChanged => Ok(long_in(text, b"SEQ").map(|sequence| Reply::BlockChanged { sequence })),
-        ReplyKind::StillNeeded => Ok(long_in(text, b"SEQ").map(|sequence| Reply::StillNeeded { sequence })),
+        ReplyKind::NotRemovable => Ok(long_in(text, b"SEQ").map(|sequence| Reply::NotRemovable {
+            sequence,
+        })),
+        ReplyKind::ReceiverGone => Ok(long_in(text, b"SEQ").map(|sequence| Reply::ReceiverGone {
+            sequence,
+        })),
+        ReplyKind::BlockChanged => Ok(long_in(text, b"SEQ").map(|sequence| Reply::BlockChanged {
+            sequence,
+        })),
+        ReplyKind::StillNeeded => Ok(long_in(text, b"SEQ").map(|sequence| Reply::StillNeeded {
+            sequence,
+        })),
         ReplyKind::LimitReached => Ok(limit_reached(text)),
     }
 }

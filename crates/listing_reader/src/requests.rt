@@ -4,8 +4,14 @@ ghost use Rattle.statement_reader.specs.Words.{words};
 ghost use Rattle.listing_reader.specs.Requests.{read_request, request_of};
 
 use crate::commands::{RequestKind, request_named};
-use crate::file_requests::{create_logical, create_physical, delete_file, delete_receiver, display_journal, end_job, file_member, journaled_changes, start_commitment, start_journaling};
-use crate::record_requests::{chain_record, open_file, open_name, read_equal, read_record, set_position, update_record, write_record};
+use crate::file_requests::{
+    create_logical, create_physical, delete_file, delete_receiver, display_journal, end_job,
+    file_member, journaled_changes, start_commitment, start_journaling,
+};
+use crate::record_requests::{
+    chain_record, open_file, open_name, read_equal, read_record, set_position, update_record,
+    write_record,
+};
 use library_model::requests::Request;
 use std::alloc::{AllocError, Global};
 
@@ -25,15 +31,13 @@ pub fn read_request(
 }
 
 #[tactic(auto, unfolding(crate::specs::Requests::request_of))]
-fn request_of(
-    alloc: Global,
-    kind: RequestKind,
-    text: &[u8],
-) -> Result<Option<Request>, AllocError>
+fn request_of(alloc: Global, kind: RequestKind, text: &[u8]) -> Result<Option<Request>, AllocError>
     ensures { IfOk result (λ request. request ≡ request_of kind (words text.now)) }
 {
     match kind {
-        RequestKind::CreatePhysicalFile => Ok(create_physical(text).map(Request::CreatePhysicalFile)),
+        RequestKind::CreatePhysicalFile => Ok(create_physical(text).map(
+            Request::CreatePhysicalFile,
+        )),
         RequestKind::CreateLogicalFile => Ok(create_logical(text).map(Request::CreateLogicalFile)),
         RequestKind::DeleteFile => Ok(delete_file(text).map(Request::DeleteFile)),
         RequestKind::AddMember => Ok(file_member(text).map(Request::AddMember)),
