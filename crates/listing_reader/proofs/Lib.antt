@@ -3,6 +3,7 @@ mod EntryLemmas
 mod FirstLemmas
 mod JobLemmas
 mod LineLemmas
+mod NamedLemmas
 mod NumberLemmas
 mod ParameterLemmas
 mod ReadLemmas

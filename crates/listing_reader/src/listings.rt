@@ -1,8 +1,9 @@
 //! A listing read back. Its lines are read in `lines.rt`.
 ghost use Rattle.std.specs.Prelude.{◌≡◌, ◌<◌, ◌^◌, ℕ, List, length, IfOk, IsErrOf};
+ghost use Rattle.std.specs.List.{All};
 ghost use Rattle.listing_reader.specs.FirstBad.{IsFirstBad, shared_lines};
 ghost use Rattle.listing.specs.HistoryListing.{listing};
-ghost use Rattle.listing_reader.specs.Listed.{AreCalls, AreDifferent};
+ghost use Rattle.listing_reader.specs.Listed.{AreDifferent, HasName};
 ghost use Rattle.listing_reader.specs.declared.listings.ListingFault.TheVariants.{NoMemory};
 
 use crate::lines::read_calls;
@@ -33,6 +34,7 @@ pub fn read_listing(alloc: Global, names: &[Name], bytes: &[u8]) -> Result<Vec<C
     requires few { length names.now < 2 ^ 32 }
     requires different { AreDifferent names.now }
     ensures read { IfOk result (λ calls. listing names.now calls.items ≡ bytes.now) }
+    ensures calls_have_names { IfOk result (λ calls. All (λ call. HasName names.now call.job) calls.items) }
     ensures bad { (line : ℕ) → IsErrOf result (ListingFault.BadLine line) → IsFirstBad names.now bytes.now line }
 {
     let calls = read_calls(alloc, names, bytes)?;
