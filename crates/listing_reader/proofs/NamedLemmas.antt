@@ -2,7 +2,7 @@
 use Rattle.std.proofs.Common.{◌≡◌, ℕ, suc, ◌+◌, ◌<◌, ◌≤◌, Bool, true, false, cond, Option, Some, None, List, [], ◌∷◌, length, refl, sym, ap, ◌∙◌, arith}
 use Rattle.std.specs.List.{All}
 use Rattle.std.specs.Option.{option_map_or}
-use Rattle.std.proofs.lemmas.List.Elements.{All-nil}
+use Rattle.std.proofs.lemmas.List.Elements.{All-cons, All-nil}
 use Rattle.library_model.specs.declared.calls.Call.{Call}
 use Rattle.statement_reader.specs.Commands.{is_word}
 use Rattle.statement_reader.specs.Lists.{let_some}
@@ -50,5 +50,5 @@ calls-named names [] = All-nil (λ (call : Call). HasName names call.job)
 calls-named names (line ∷ lines) =
     elim (call_of names (words line)) as (λ o. call_of names (words line) ≡ o → All (λ (call : Call). HasName names call.job) (option_map_or (λ c. c ∷ calls_of names lines) o [])) [
       | None ↦ λ none. All-nil (λ (call : Call). HasName names call.job)
-      | Some call ↦ λ some. (of-named names (words line) call some, calls-named names lines)
+      | Some call ↦ λ some. All-cons (λ (call : Call). HasName names call.job) call (calls_of names lines) (of-named names (words line) call some) (calls-named names lines)
     ] refl
