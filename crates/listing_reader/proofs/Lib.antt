@@ -4,6 +4,7 @@ mod FirstLemmas
 mod JobLemmas
 mod LineLemmas
 mod NamedLemmas
+mod NameLemmas
 mod NumberLemmas
 mod ParameterLemmas
 mod ReadLemmas

@@ -6,7 +6,7 @@ ghost use Rattle.listing_reader.specs.Entries.{two, image_of, image_in, optional
 use crate::choices::file_kind_of;
 use crate::numbers::{long, long_in, number_in};
 use crate::values::text_of;
-use crate::words::given;
+use crate::words::{given, name_of};
 use entry_codec::FileKind;
 use field_types::names::Name;
 use field_types::texts::Image;
@@ -168,7 +168,7 @@ fn optional_name_of(word: &[u8]) -> Option<Option<Name>>
     if word.is_empty() {
         return Some(None);
     }
-    match Name::from_bytes(word) {
+    match name_of(word) {
         Some(name) => Some(Some(name)),
         None => None,
     }

@@ -1,11 +1,11 @@
 //! Numbers, by `specs/Values.antt`.
-ghost use Rattle.std.specs.Prelude.{◌≡◌, ℕ, List, ◌≤◌, ◌∷◌, length, IfSome};
+ghost use Rattle.std.specs.Prelude.{◌≡◌, ℕ, List, ◌≤◌, ◌∷◌, ◌==◌, length, IfSome};
 ghost use Rattle.std.specs.List.{position_or_len};
 ghost use Rattle.statement_reader.specs.Lists.{let_some};
 ghost use Rattle.statement_reader.specs.Words.{words};
 ghost use Rattle.listing_reader.specs.Values.{units_after, units, number_in, long_in, decimals, positive, negative, unsigned, number_of};
 
-use crate::words::given;
+use crate::words::{behind, given};
 use field_types::values::Dec;
 use text_lines::decimals::is_digit;
 
@@ -95,13 +95,20 @@ pub fn long_in(text: &[u8], keyword: &[u8]) -> Option<u64>
     long(word)
 }
 
-/// How many digits stand behind the point.
+/// How many characters stand before the point.
 #[tactic(auto, using(crate::proofs::NumberLemmas::counted))]
+fn before_point(text: &[u8]) -> usize
+    ensures count { result ≡ position_or_len (λ c. c == 46) text.now }
+    ensures within { result ≤ length text.now }
+{
+    text.iter().take_while(|&&byte| byte != b'.').count()
+}
+
+/// How many digits stand behind the point.
 fn decimals(text: &[u8]) -> usize
     ensures { result ≡ decimals text.now }
 {
-    let whole = text.iter().take_while(|&&byte| byte != b'.').count();
-    text.len().saturating_sub(whole + 1)
+    text.len().saturating_sub(before_point(text) + 1)
 }
 
 /// The number that is not below 0.
@@ -150,7 +157,7 @@ pub fn number_of(word: &[u8]) -> Option<Dec>
     if let Some(number) = from_zero(word) {
         return Some(number);
     }
-    let Some(digits) = word.strip_prefix(b"-".as_slice()) else {
+    let Some(digits) = behind(word, b"-") else {
         return None;
     };
     below_zero(digits)

@@ -6,7 +6,7 @@ ghost use Rattle.listing_reader.specs.Parameters.{level_in, images_in, option_in
 use crate::choices::{images_of, level_of, lock_of, option_of, path_of, reason_of, yes_of};
 use crate::numbers::{long, number, number_in};
 use crate::values::{given_values_of, values_of};
-use crate::words::given;
+use crate::words::{given, name_of};
 use commit_level::Level;
 use entry_codec::Images;
 use field_types::names::Name;
@@ -123,7 +123,7 @@ pub fn end_in(text: &[u8], keyword: &[u8]) -> Option<RangeEnd>
 fn format_of(word: &[u8]) -> Option<Option<Name>>
     ensures { result ≡ format_of word.now }
 {
-    if let Some(name) = Name::from_bytes(word) {
+    if let Some(name) = name_of(word) {
         Some(Some(name))
     } else if word == b"*FILE".as_slice() {
         Some(None)

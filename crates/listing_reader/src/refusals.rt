@@ -5,7 +5,7 @@ ghost use Rattle.listing_reader.specs.Replies.{record_in_use, duplicate_key, doe
 
 use crate::choices::{cause_of, limit_of, value_fault_of};
 use crate::numbers::{long_in, number, number_in};
-use crate::words::{given, job_in, name_in};
+use crate::words::{given, job_in, name_in, name_of};
 use dds_source::DdsFault;
 use field_types::faults::RecordFault;
 use field_types::names::Name;
@@ -64,7 +64,7 @@ fn missing_of(word: &[u8]) -> Option<Missing>
     if let Some(receiver) = number(word) {
         return Some(Missing::Receiver(receiver));
     }
-    match Name::from_bytes(word) {
+    match name_of(word) {
         Some(name) => Some(Missing::Name(name)),
         None => None,
     }

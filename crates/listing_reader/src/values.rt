@@ -7,6 +7,7 @@ ghost use Rattle.statement_reader.specs.Words.{words};
 ghost use Rattle.listing_reader.specs.Values.{text_of, value_of, values_of, given_value_of, given_values_of};
 
 use crate::numbers::number_of;
+use crate::words::behind;
 use ebc_text::to_ebcdic_byte;
 use field_types::texts::Text;
 use field_types::values::Value;
@@ -87,9 +88,9 @@ fn value_of(alloc: Global, word: &[u8]) -> Result<Option<Value>, AllocError>
 pub fn text_of(alloc: Global, word: &[u8]) -> Result<Option<Vec<u8>>, AllocError>
     ensures { IfOk result (λ text. option_map (λ bytes. bytes.items) text ≡ text_of word.now) }
 {
-    if let Some(text) = word.strip_prefix(b"'".as_slice()) {
+    if let Some(text) = behind(word, b"'") {
         quoted(alloc, text)
-    } else if let Some(digits) = word.strip_prefix(b"X'".as_slice()) {
+    } else if let Some(digits) = behind(word, b"X'") {
         hexadecimal(alloc, digits)
     } else {
         Ok(None)
@@ -131,6 +132,7 @@ fn text_before(bytes: Vec<u8>, rest: &[u8]) -> Option<Vec<u8>>
         None
     }
 }
+
 /// The byte of the next character, and what is behind it.
 fn next_character(text: &[u8]) -> Option<(u8, &[u8])>
     ensures { MatchOption result (quoted text.now ≡ ended text.now) (λ next. (quoted text.now ≡ onto_others (Some next.0) (quoted next.1.now)) × (length next.1.now < length text.now)) }

@@ -1,7 +1,8 @@
 //! Words of a line, and the parameters among them. By `specs/Words.antt`.
 ghost use Rattle.std.specs.Prelude.{◌≡◌, ◌<◌, ◌+◌, ◌^◌, ◌∷◌, [], length, option_copied, option_map, is_some, MatchOption};
+ghost use Rattle.statement_reader.specs.Parameters.{behind, before};
 ghost use Rattle.statement_reader.specs.Words.{words};
-ghost use Rattle.listing_reader.specs.Words.{is_break, inside, given, behind_given, behind_word, name_in, job_from, job_in};
+ghost use Rattle.listing_reader.specs.Words.{is_break, inside, given, behind_given, behind_word, name_of, name_in, job_from, job_in};
 
 use field_types::names::Name;
 use statement_reader::words::next_word;
@@ -13,18 +14,31 @@ fn is_break(word: &[u8]) -> bool
     word == b"=>".as_slice() || word == b"/".as_slice()
 }
 
+/// What stands behind the front of a text, where the text has that front.
+pub fn behind<'a>(text: &'a [u8], front: &[u8]) -> Option<&'a [u8]>
+    ensures { option_copied result ≡ behind front.now text.now }
+{
+    text.strip_prefix(front)
+}
+
+fn before<'a>(text: &'a [u8], back: &[u8]) -> Option<&'a [u8]>
+    ensures { option_copied result ≡ before back.now text.now }
+{
+    text.strip_suffix(back)
+}
+
 /// What a word has in the parentheses of this keyword.
 #[tactic(auto, unfolding(crate::specs::Words::inside))]
 fn inside<'a>(word: &'a [u8], keyword: &[u8]) -> Option<&'a [u8]>
     ensures { option_copied result ≡ inside keyword.now word.now }
 {
-    let Some(rest) = word.strip_prefix(keyword) else {
+    let Some(rest) = behind(word, keyword) else {
         return None;
     };
-    let Some(rest) = rest.strip_prefix(b"(".as_slice()) else {
+    let Some(rest) = behind(rest, b"(") else {
         return None;
     };
-    rest.strip_suffix(b")".as_slice())
+    before(rest, b")")
 }
 
 /// What a keyword has in its parentheses, by the first word that has it before the next break.
@@ -72,6 +86,13 @@ pub fn behind_word<'a>(text: &'a [u8], spelling: &[u8]) -> Option<&'a [u8]>
     None
 }
 
+/// The name that a word is.
+pub fn name_of(word: &[u8]) -> Option<Name>
+    ensures { result ≡ name_of word.now }
+{
+    Name::from_bytes(word)
+}
+
 /// A name as a parameter.
 #[tactic(auto, unfolding(crate::specs::Words::name_in))]
 pub fn name_in(text: &[u8], keyword: &[u8]) -> Option<Name>
@@ -80,7 +101,7 @@ pub fn name_in(text: &[u8], keyword: &[u8]) -> Option<Name>
     let Some(word) = given(text, keyword) else {
         return None;
     };
-    Name::from_bytes(word)
+    name_of(word)
 }
 
 /// The number of the job with this name, the first of the names being job 1's.
