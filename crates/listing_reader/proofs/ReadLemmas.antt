@@ -1,7 +1,7 @@
 -- The loops of readers: what is read so far, and what is still to be read.
 use Rattle.std.proofs.Common.{◌≡◌, ◌≢◌, ℕ, zero, suc, get_or, ◌+◌, ◌-◌, ◌*◌, ◌<◌, Bool, true, false, cond, ◌==◌, nat_le, List, [], ◌∷◌, ◌++◌, length, drop, drop-cons, add-one, Option, Some, None, refl, sym, ap, ◌∙◌, append_assoc, append-nil, arith}
 use Rattle.std.specs.Option.{option_map_or}
-use Rattle.std.proofs.lemmas.Bool.{cond-true, cond-false}
+use Rattle.std.proofs.lemmas.Bool.{cond-true, cond-false, and_parts, leb-true}
 use Rattle.std.proofs.lemmas.Bool.Decides.{nat_tests}
 use Rattle.entry_codec.specs.declared.entries.Entry.{Entry}
 use Rattle.library_model.specs.declared.calls.Call.{Call}
@@ -58,6 +58,14 @@ past limit number (d ∷ text) large =
       | true ↦ past limit number text large
       | false ↦ (elim (is_digit d) as (λ v. cond v (units_after limit (10 * number + (d - 48)) text) None ≡ None) [ true ↦ past limit (10 * number + (d - 48)) text (omega arith) | false ↦ refl ])
     ]
+
+-- a digit with which the number is past the limit
+pub too-large : (limit number digit : ℕ) (rest : List ℕ) → is_digit digit ≡ true → limit < 10 * number + (digit - 48) → units_after limit number (digit ∷ rest) ≡ None
+too-large limit number digit rest tested large =
+    let parts = and_parts (nat_le 48 digit) (nat_le digit 57) tested in
+    let point : digit == 46 ≡ false = grind (arith, nat_tests, leb-true 48 digit parts.0) in
+    ap (λ v. cond v (units_after limit number rest) (cond (is_digit digit) (units_after limit (10 * number + (digit - 48)) rest) None)) point
+    ∙ ap (λ v. cond v (units_after limit (10 * number + (digit - 48)) rest) None) tested ∙ past limit (10 * number + (digit - 48)) rest large
 
 -- the next digit of a text
 pub next-units : (limit number i : ℕ) (text : List ℕ) (after : List ℕ → Option ℕ) (all : Option ℕ) → i < length text → ((rest : List ℕ) → units_after limit number (get_or text i 0 ∷ rest) ≡ after rest) → units_after limit number (drop i text) ≡ all → after (drop (i + 1) text) ≡ all

@@ -30,7 +30,8 @@ pub fn entries_in(alloc: Global, text: &[u8]) -> Result<Option<Entries>, AllocEr
         entries.push(entry)?;
         rest = others;
     }
-    Ok(Some(Entries::from_vec(entries)))
+    let entries = Entries::from_vec(entries);
+    Ok(Some(entries))
 }
 
 /// The text behind the next stroke.

@@ -19,7 +19,6 @@ pub const MOST_NUMBER: u128 = 4_294_967_295;
 pub const MOST_LONG: u128 = 18_446_744_073_709_551_615;
 
 /// A number with one more digit, where it passes no limit; a point leaves it as it is.
-#[tactic(auto, using(crate::proofs::ReadLemmas::past))]
 fn next_number(number: u128, digit: u8, limit: u128) -> Option<u128>
     requires within { number ≤ limit }
     requires small { limit ≤ MOST_UNITS }

@@ -30,7 +30,8 @@ pub fn values_of(alloc: Global, text: &[u8]) -> Result<Option<Values>, AllocErro
         values.push(value)?;
         rest = others;
     }
-    Ok(Some(Values::from_vec(values)))
+    let values = Values::from_vec(values);
+    Ok(Some(values))
 }
 
 /// Values of which some may not be given, each a word.

@@ -1,4 +1,4 @@
-use Rattle.std.proofs.Common.{sym, ap, subst, ◌∙◌, Option, IfSome}
+use Rattle.std.proofs.Common.{sym, ap, subst, ◌∙◌, Option, Some, IfSome, List}
 use Rattle.std.specs.List.{All}
 use Rattle.std.proofs.lemmas.List.Elements.{All-push}
 use Rattle.entry_codec.specs.Spelling.{HasSpelling}
@@ -7,7 +7,7 @@ use Rattle.statement_reader.specs.Lists.{onto_others}
 use Rattle.statement_reader.specs.Words.{words}
 use Rattle.statement_reader.proofs.ListLemmas.{taken}
 use Rattle.listing_reader.specs.Entries.{entry_of, entries_in}
-use Rattle.listing_reader.proofs.ReadLemmas.{stopped-by}
+use Rattle.listing_reader.proofs.ReadLemmas.{stopped-by, ended-by}
 use Rattle.listing_reader.proofs.entries.entries_in.Goals as goal
 
 pub returns-in_default-2 : goal.returns-in_default-2
@@ -26,3 +26,8 @@ loop-others-preserved c =
       subst (All HasSpelling) (sym c.in_ok-push.ensures.items)
           (All-push HasSpelling before entry c.loop-others.invariant.1 (subst (λ (e : Option Entry). IfSome e HasSpelling) c.in-Some-2.is c.in_ok-entry.ensures.spelled)),
     )
+
+pub returns : goal.returns
+returns c =
+    ap (λ (entries : List Entry). Some entries) c.from_vec-entries.ensures
+    ∙ ended-by c.loop-others.entries.items (entries_in (words c.loop-others.rest.now)) (entries_in (words c.args.text.now)) c.in_default.ensures c.loop-others.invariant.0
