@@ -11,6 +11,7 @@ use crate::words::{behind_word, job_named};
 use field_types::names::Name;
 use library_model::calls::Call;
 use library_model::replies::Reply;
+use library_model::requests::Request;
 use statement_reader::words::next_word;
 use std::alloc::{AllocError, Global};
 use text_lines::lines::split_line;
@@ -84,16 +85,26 @@ fn call_from(
     let Some(request) = read_request(alloc, command, text)? else {
         return Ok(None);
     };
-    let Some(reply) = reply_behind(alloc, names, text)? else {
-        return Ok(None);
-    };
-    Ok(Some(Call {
-        job,
-        timestamp,
-        request,
-        reply,
-    }))
+    match reply_behind(alloc, names, text) {
+        Ok(Some(reply)) => Ok(Some(Call {
+            job,
+            timestamp,
+            request,
+            reply,
+        })),
+        Ok(None) => {
+            let_go(request);
+            Ok(None)
+        }
+        Err(error) => {
+            let_go(request);
+            Err(error)
+        }
+    }
 }
+
+/// The end of a request that has no reply.
+fn let_go(_request: Request) {}
 
 /// The reply behind the arrow.
 #[tactic(auto, unfolding(crate::specs::Lines::reply_behind))]

@@ -1,7 +1,6 @@
 //! Which entries a journal can hold, by `specs/Entries.antt`.
 ghost use Rattle.std.specs.Prelude.{◌≡◌, true, IfSome};
-ghost use Rattle.entry_codec.specs.Placing.{is_placed, is_placed_at};
-ghost use Rattle.entry_codec.specs.declared.places.Place.TheVariants.{Library, Member, Slot, Record, Commitment, CycleStart, CycleEnd};
+ghost use Rattle.entry_codec.specs.Placing.{is_absent, is_counted, is_placed, is_present};
 ghost use Rattle.entry_codec.specs.Spelling.{HasSpelling};
 ghost use Rattle.listing_reader.specs.Entries.{has_spelling, holds_fields, is_image, is_optional_image, spelled};
 
@@ -32,6 +31,9 @@ fn has_spelling(entry: &Entry) -> bool
 fn is_placed(entry: &Entry) -> bool
     ensures { result ≡ is_placed entry.now }
 {
+    let in_library = entry.member.is_none() && entry.rrn.is_none();
+    let in_member = matches!(entry.member, Some(1..)) && entry.rrn.is_none();
+    let at_record = matches!(entry.member, Some(1..)) && matches!(entry.rrn, Some(1..));
     match &entry.kind {
         EntryKind::FileCreated {
             kind: FileKind::Physical,
@@ -43,7 +45,7 @@ fn is_placed(entry: &Entry) -> bool
         | EntryKind::MemberCleared
         | EntryKind::MemberReorganized
         | EntryKind::ChangesApplied { .. }
-        | EntryKind::ChangesRemoved { .. } => names_member(entry),
+        | EntryKind::ChangesRemoved { .. } => entry.group.is_none() && in_member,
         EntryKind::FileCreated {
             kind: FileKind::Logical,
             ..
@@ -51,8 +53,8 @@ fn is_placed(entry: &Entry) -> bool
         | EntryKind::FileDeleted { .. }
         | EntryKind::AbnormalEnd
         | EntryKind::NextReceiver { .. }
-        | EntryKind::PreviousReceiver { .. } => names_nothing(entry),
-        EntryKind::InitialSlot { .. } => names_slot(entry),
+        | EntryKind::PreviousReceiver { .. } => entry.group.is_none() && in_library,
+        EntryKind::InitialSlot { .. } => entry.group.is_none() && at_record,
         EntryKind::RecordAdded { .. }
         | EntryKind::RecordAddedAtNumber { .. }
         | EntryKind::BeforeImage { .. }
@@ -60,64 +62,17 @@ fn is_placed(entry: &Entry) -> bool
         | EntryKind::RecordDeleted { .. }
         | EntryKind::UndoBeforeImage { .. }
         | EntryKind::UndoAfterImage { .. }
-        | EntryKind::UndoDelete { .. } => names_record(entry),
-        EntryKind::CommitmentStarted { .. } | EntryKind::CommitmentEnded => names_group(entry),
-        EntryKind::CommitCycleStarted => begins_group(entry),
-        EntryKind::CommitCycleCommitted | EntryKind::CommitCycleRolledBack => ends_group(entry),
+        | EntryKind::UndoDelete { .. } => !matches!(entry.group, Some(0)) && at_record,
+        EntryKind::CommitmentStarted { .. } | EntryKind::CommitmentEnded => {
+            !matches!(entry.group, Some(0)) && in_library
+        }
+        EntryKind::CommitCycleStarted => {
+            matches!(entry.group, Some(own @ 1..) if own == entry.sequence) && in_library
+        }
+        EntryKind::CommitCycleCommitted | EntryKind::CommitCycleRolledBack => {
+            matches!(entry.group, Some(1..)) && in_library
+        }
     }
-}
-
-/// No group, no member and no record.
-fn names_nothing(entry: &Entry) -> bool
-    ensures { result ≡ is_placed_at Library entry.now.sequence entry.now.group entry.now.member entry.now.rrn }
-{
-    entry.group.is_none() && entry.member.is_none() && entry.rrn.is_none()
-}
-
-/// A member alone.
-fn names_member(entry: &Entry) -> bool
-    ensures { result ≡ is_placed_at Member entry.now.sequence entry.now.group entry.now.member entry.now.rrn }
-{
-    entry.group.is_none() && matches!(entry.member, Some(1..)) && entry.rrn.is_none()
-}
-
-/// A record outside every group.
-fn names_slot(entry: &Entry) -> bool
-    ensures { result ≡ is_placed_at Slot entry.now.sequence entry.now.group entry.now.member entry.now.rrn }
-{
-    entry.group.is_none() && matches!(entry.member, Some(1..)) && matches!(entry.rrn, Some(1..))
-}
-
-/// A record, in a group or in none.
-fn names_record(entry: &Entry) -> bool
-    ensures { result ≡ is_placed_at Record entry.now.sequence entry.now.group entry.now.member entry.now.rrn }
-{
-    !matches!(entry.group, Some(0))
-        && matches!(entry.member, Some(1..))
-        && matches!(entry.rrn, Some(1..))
-}
-
-/// A group or none, and no member.
-fn names_group(entry: &Entry) -> bool
-    ensures { result ≡ is_placed_at Commitment entry.now.sequence entry.now.group entry.now.member entry.now.rrn }
-{
-    !matches!(entry.group, Some(0)) && entry.member.is_none() && entry.rrn.is_none()
-}
-
-/// The group that begins here.
-fn begins_group(entry: &Entry) -> bool
-    ensures { result ≡ is_placed_at CycleStart entry.now.sequence entry.now.group entry.now.member entry.now.rrn }
-{
-    matches!(entry.group, Some(own @ 1..) if own == entry.sequence)
-        && entry.member.is_none()
-        && entry.rrn.is_none()
-}
-
-/// The group that ends here.
-fn ends_group(entry: &Entry) -> bool
-    ensures { result ≡ is_placed_at CycleEnd entry.now.sequence entry.now.group entry.now.member entry.now.rrn }
-{
-    matches!(entry.group, Some(1..)) && entry.member.is_none() && entry.rrn.is_none()
 }
 
 /// Whether each image could be a record, and a source isn't too long.
