@@ -165,12 +165,12 @@ pub fn changes_in(text: &[u8]) -> Option<Changes>
 fn optional_name_of(word: &[u8]) -> Option<Option<Name>>
     ensures { result ≡ optional_name_of word.now }
 {
-    if word.is_empty() {
-        return Some(None);
-    }
-    match name_of(word) {
-        Some(name) => Some(Some(name)),
-        None => None,
+    match word {
+        [] => Some(None),
+        [_first, _rest @ ..] => match name_of(word) {
+            Some(name) => Some(Some(name)),
+            None => None,
+        },
     }
 }
 
