@@ -4,8 +4,6 @@ mod FirstLemmas
 mod JobLemmas
 mod LineLemmas
 mod NamedLemmas
-mod NameLemmas
-mod NumberLemmas
 mod ParameterLemmas
 mod ReadLemmas
 mod ReplyLemmas

@@ -9,7 +9,7 @@ use Rattle.statement_reader.specs.Lists.{let_some}
 use Rattle.statement_reader.specs.Words.{words}
 use Rattle.listing_reader.specs.Lines.{call_from, call_of, calls_of}
 use Rattle.listing_reader.specs.Listed.{HasName}
-use Rattle.listing_reader.specs.Words.{let_word, job_from}
+use Rattle.listing_words.specs.Words.{let_word, job_from}
 
 led : {A B : Type 0} (o : Option A) (next : A → Option B) (y : B) → let_some o next ≡ Some y → (x : A) × ((o ≡ Some x) × (next x ≡ Some y))
 led None next y is = absurd cc

@@ -3,7 +3,7 @@ ghost use Rattle.std.specs.Prelude.{◌≡◌, IfOk};
 ghost use Rattle.statement_reader.specs.Words.{words};
 ghost use Rattle.listing_reader.specs.Requests.{read_request, request_of};
 
-use crate::commands::{RequestKind, request_named};
+use listing_words::commands::{RequestKind, request_named};
 use crate::file_requests::{
     create_logical, create_physical, delete_file, delete_receiver, display_journal, end_job,
     file_member, journaled_changes, start_commitment, start_journaling,

@@ -1,6 +1,0 @@
-use Rattle.listing_reader.proofs.NameLemmas.{name-is}
-use Rattle.field_types.specs.SystemName.{is_name}
-use Rattle.listing_reader.proofs.words.name_of.Goals as goal
-
-pub returns : goal.returns
-returns c = name-is c.from_bytes.result c.args.word.now (is_name c.args.word.now) c.from_bytes.ensures.valid c.from_bytes.ensures.value
