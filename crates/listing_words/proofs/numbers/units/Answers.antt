@@ -1,4 +1,4 @@
-use Rattle.std.proofs.Common.{Option, Some, None, ℕ, List, sym, ◌∙◌, arith}
+use Rattle.std.proofs.Common.{None, arith}
 use Rattle.listing_words.specs.Values.{units, units_after}
 use Rattle.listing_words.proofs.ReadLemmas.{next-units}
 use Rattle.listing_words.proofs.numbers.units.Goals as goal
