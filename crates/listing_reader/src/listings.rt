@@ -1,5 +1,5 @@
 //! A listing read back. Its lines are read in `lines.rt`.
-ghost use Rattle.std.specs.Prelude.{◌≡◌, ◌<◌, ◌^◌, ℕ, List, length, IfOk, IsErrOf};
+ghost use Rattle.std.specs.Prelude.{◌≡◌, ◌<◌, ◌+◌, ◌^◌, ◌==◌, ℕ, suc, List, length, if◌then◌else◌, IfOk, IsErrOf};
 ghost use Rattle.std.specs.List.{All};
 ghost use Rattle.listing_reader.specs.FirstBad.{IsFirstBad, shared_lines};
 ghost use Rattle.listing.specs.HistoryListing.{listing};
@@ -48,6 +48,14 @@ pub fn read_listing(alloc: Global, names: &[Name], bytes: &[u8]) -> Result<Vec<C
     }
 }
 
+/// One line more behind a line feed.
+fn with_feed(lines: u64, byte: u8) -> u64
+    requires { lines + 1 < 2 ^ 64 }
+    ensures { result ≡ (if byte == 10 then suc lines else lines) }
+{
+    if byte == b'\n' { lines + 1 } else { lines }
+}
+
 /// How many lines two texts begin with alike.
 fn shared_lines(text: &[u8], others: &[u8]) -> u64
     ensures { result ≡ shared_lines text.now others.now }
@@ -61,7 +69,7 @@ fn shared_lines(text: &[u8], others: &[u8]) -> u64
         if *other != byte {
             return lines;
         }
-        lines += u64::from(byte == b'\n');
+        lines = with_feed(lines, byte);
         left = behind;
     }
     lines
