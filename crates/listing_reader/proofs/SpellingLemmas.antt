@@ -1,5 +1,5 @@
 -- What the tests of an entry tell: it has a spelling.
-use Rattle.std.proofs.Common.{◌≡◌, ℕ, suc, ◌+◌, ◌<◌, ◌≤◌, ◌^◌, Bool, true, ◌&&◌, nat_le, nat_lt, Option, Some, None, IfSome, List, length, refl, ap, ◌∙◌, arith}
+use Rattle.std.proofs.Common.{◌≡◌, suc, ◌<◌, true, nat_le, Option, Some, None, IfSome, List, ℕ, length, arith}
 use Rattle.std.proofs.lemmas.Bool.{and_parts, leb-true}
 use Rattle.entry_codec.specs.Placing.{is_placed}
 use Rattle.entry_codec.specs.Spelling.{IsImage, HoldsFields, HasSpelling}
@@ -7,7 +7,7 @@ use Rattle.entry_codec.specs.declared.entries.Entry.{Entry}
 use Rattle.entry_codec.specs.declared.kinds.EntryKind.{EntryKind}
 use Rattle.entry_codec.specs.declared.kinds.EntryKind.TheVariants as kind
 use Rattle.entry_codec.specs.declared.kinds.TheConstants.{MIN_RECORD_LENGTH, MAX_RECORD_LENGTH}
-use Rattle.listing_reader.specs.Entries.{is_image, is_optional_image, holds_fields, has_spelling}
+use Rattle.listing_reader.specs.Entries.{is_image, is_optional_image, holds_fields}
 
 image-is : (image : List ℕ) → is_image image ≡ true → IsImage image
 image-is image tested =
@@ -46,5 +46,5 @@ fields-are kind.AbnormalEnd tested = tt
 fields-are (kind.NextReceiver number) tested = tt
 fields-are (kind.PreviousReceiver number) tested = tt
 
-pub spelling-is : (e : Entry) → has_spelling e ≡ true → HasSpelling e
-spelling-is e tested = let parts = and_parts (is_placed e) (holds_fields e.kind) tested in record { placed = parts.0; fields = fields-are e.kind parts.1 }
+pub spelling-is : (e : Entry) → is_placed e ≡ true → holds_fields e.kind ≡ true → HasSpelling e
+spelling-is e placed fields = record { placed = placed; fields = fields-are e.kind fields }
