@@ -8,12 +8,12 @@ ghost use Rattle.listing_reader.specs.Entries.{typed_entry, entry_of, entries_in
 
 use crate::entry_bodies::body_of;
 use crate::entry_fields::origin_in;
-use listing_words::entry_types::entry_named;
-use listing_words::numbers::long;
 use crate::spelled_entries::spelled;
-use listing_words::words::behind_given;
 use entry_codec::Entry;
 use library_model::replies::Entries;
+use listing_words::entry_types::entry_named;
+use listing_words::numbers::long;
+use listing_words::words::behind_given;
 use statement_reader::words::next_word;
 use std::alloc::{AllocError, Global};
 

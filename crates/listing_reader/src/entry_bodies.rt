@@ -4,12 +4,12 @@ ghost use Rattle.statement_reader.specs.Words.{words};
 ghost use Rattle.listing_reader.specs.Entries.{file_created, member_added, journaling_started, after_image, undo_after_image, body_of};
 
 use crate::entry_fields::{changes_in, file_kind_in, flag_in, image_in, optional_image_in};
+use entry_codec::EntryKind;
+use field_types::texts::SourceText;
 use listing_words::entry_types::EntryType;
 use listing_words::numbers::number_in;
 use listing_words::parameters::{images_in, level_in};
 use listing_words::words::name_in;
-use entry_codec::EntryKind;
-use field_types::texts::SourceText;
 use std::alloc::{AllocError, Global};
 
 /// A source of which only its length is known: that many blanks.

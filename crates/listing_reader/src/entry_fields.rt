@@ -3,13 +3,13 @@ ghost use Rattle.std.specs.Prelude.{◌≡◌, IfOk, option_map};
 ghost use Rattle.statement_reader.specs.Words.{words};
 ghost use Rattle.listing_reader.specs.Entries.{two, image_of, image_in, optional_image_of, optional_image_in, flag_of, flag_in, file_kind_in, ends_of, changes_in, optional_name_of, optional_name_in, counted, origin_in};
 
+use entry_codec::FileKind;
+use field_types::names::Name;
+use field_types::texts::Image;
 use listing_words::choices::file_kind_of;
 use listing_words::numbers::{long, long_in, number_in};
 use listing_words::values::text_of;
 use listing_words::words::{given, name_of};
-use entry_codec::FileKind;
-use field_types::names::Name;
-use field_types::texts::Image;
 use statement_reader::words::next_word;
 use std::alloc::{AllocError, Global};
 

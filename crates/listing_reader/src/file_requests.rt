@@ -3,13 +3,13 @@ ghost use Rattle.std.specs.Prelude.{◌≡◌};
 ghost use Rattle.statement_reader.specs.Words.{words};
 ghost use Rattle.listing_reader.specs.Requests.{create_physical, create_logical, delete_file, file_member, start_journaling, delete_receiver, display_journal, journaled_changes, start_commitment, end_job};
 
-use listing_words::numbers::{long_in, number_in};
-use listing_words::parameters::{end_in, images_in, level_in, reason_in};
-use listing_words::words::name_in;
 use library_model::requests::{
     CreateLogicalFile, CreatePhysicalFile, DeleteFile, DeleteReceiver, DisplayJournal, EndJob,
     FileMember, JournaledChanges, StartCommitment, StartJournaling,
 };
+use listing_words::numbers::{long_in, number_in};
+use listing_words::parameters::{end_in, images_in, level_in, reason_in};
+use listing_words::words::name_in;
 
 /// CRTPF.
 #[tactic(auto, unfolding(crate::specs::Requests::create_physical))]

@@ -4,14 +4,14 @@ ghost use Rattle.text_lines.specs.Lines.{lines_of};
 ghost use Rattle.statement_reader.specs.Words.{words};
 ghost use Rattle.listing_reader.specs.Lines.{reply_behind, call_from, call_of, calls_of};
 
-use listing_words::numbers::long;
 use crate::replies::read_reply;
 use crate::requests::read_request;
-use listing_words::words::{behind_word, job_named};
 use field_types::names::Name;
 use library_model::calls::Call;
 use library_model::replies::Reply;
 use library_model::requests::Request;
+use listing_words::numbers::long;
+use listing_words::words::{behind_word, job_named};
 use statement_reader::words::next_word;
 use std::alloc::{AllocError, Global};
 use text_lines::lines::split_line;

@@ -3,14 +3,14 @@ ghost use Rattle.std.specs.Prelude.{◌≡◌, IfOk};
 ghost use Rattle.statement_reader.specs.Words.{words};
 ghost use Rattle.listing_reader.specs.Requests.{open_file, open_name, set_position, read_record, read_equal, chain_record, write_record, update_record};
 
+use library_model::requests::{
+    ChainRecord, OpenFile, OpenName, ReadEqual, ReadRecord, SetPosition, UpdateRecord, WriteRecord,
+};
 use listing_words::parameters::{
     chain_to_in, format_in, given_values_in, limit_in, lock_in, option_in, path_in, place_in,
     values_in, yes_in,
 };
 use listing_words::words::name_in;
-use library_model::requests::{
-    ChainRecord, OpenFile, OpenName, ReadEqual, ReadRecord, SetPosition, UpdateRecord, WriteRecord,
-};
 use std::alloc::{AllocError, Global};
 
 /// OPNDBF.

@@ -3,13 +3,13 @@ ghost use Rattle.std.specs.Prelude.{◌≡◌, ◌<◌, ◌^◌, length};
 ghost use Rattle.statement_reader.specs.Words.{words};
 ghost use Rattle.listing_reader.specs.Replies.{record_in_use, duplicate_key, does_not_fit, missing_of, missing_in, field_fault, record_fault_of, record_fault_in, dds_fault_in, limit_reached};
 
-use listing_words::choices::{cause_of, limit_of, value_fault_of};
-use listing_words::numbers::{long_in, number, number_in};
-use listing_words::words::{given, job_in, name_in, name_of};
 use dds_source::DdsFault;
 use field_types::faults::RecordFault;
 use field_types::names::Name;
 use library_model::replies::{Missing, Reply};
+use listing_words::choices::{cause_of, limit_of, value_fault_of};
+use listing_words::numbers::{long_in, number, number_in};
+use listing_words::words::{given, job_in, name_in, name_of};
 
 /// RecordInUse
 #[tactic(auto, unfolding(crate::specs::Replies::record_in_use))]

@@ -3,18 +3,18 @@ ghost use Rattle.std.specs.Prelude.{◌≡◌, ◌<◌, ◌^◌, length, IfOk};
 ghost use Rattle.statement_reader.specs.Words.{words};
 ghost use Rattle.listing_reader.specs.Replies.{stands, begins_with_stroke, record_read, numbered_answer, done_answer, ok_reply, reply_of, read_reply};
 
-use listing_words::answers::{ReplyKind, reply_named};
 use crate::entries::entries_in;
 use crate::entry_fields::changes_in;
-use listing_words::numbers::{long_in, number_in};
-use listing_words::parameters::values_in;
 use crate::refusals::{
     dds_fault_in, does_not_fit, duplicate_key, limit_reached, missing_in, record_fault_in,
     record_in_use,
 };
-use listing_words::words::{given, job_in, name_in};
 use field_types::names::Name;
 use library_model::replies::{RecordRead, Reply};
+use listing_words::answers::{ReplyKind, reply_named};
+use listing_words::numbers::{long_in, number_in};
+use listing_words::parameters::values_in;
+use listing_words::words::{given, job_in, name_in};
 use statement_reader::words::next_word;
 use std::alloc::{AllocError, Global};
 

@@ -3,7 +3,6 @@ ghost use Rattle.std.specs.Prelude.{◌≡◌, IfOk};
 ghost use Rattle.statement_reader.specs.Words.{words};
 ghost use Rattle.listing_reader.specs.Requests.{read_request, request_of};
 
-use listing_words::commands::{RequestKind, request_named};
 use crate::file_requests::{
     create_logical, create_physical, delete_file, delete_receiver, display_journal, end_job,
     file_member, journaled_changes, start_commitment, start_journaling,
@@ -13,6 +12,7 @@ use crate::record_requests::{
     write_record,
 };
 use library_model::requests::Request;
+use listing_words::commands::{RequestKind, request_named};
 use std::alloc::{AllocError, Global};
 
 /// The request of a command and its parameters.

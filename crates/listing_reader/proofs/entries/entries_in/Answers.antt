@@ -6,7 +6,7 @@ use Rattle.entry_codec.specs.declared.entries.Entry.{Entry}
 use Rattle.statement_reader.specs.Lists.{onto_others}
 use Rattle.statement_reader.specs.Words.{words}
 use Rattle.statement_reader.proofs.ListLemmas.{taken}
-use Rattle.listing_reader.specs.Entries.{entry_of, entries_in}
+use Rattle.listing_reader.specs.Entries.{entries_in}
 use Rattle.listing_reader.proofs.ReadLemmas.{stopped-by, ended-by}
 use Rattle.listing_reader.proofs.entries.entries_in.Goals as goal
 

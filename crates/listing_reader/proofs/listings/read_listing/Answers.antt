@@ -26,10 +26,10 @@ returns-else-eq-clause-bad c = λ line is.
     let made = c.in_ok-calls.calls.items in
     let listed : c.in_ok-text.text.items ≡ listing c.args.names.now c.in_ok-calls.calls.items = c.in_ok-text.ensures ∙ ap (listing names) c.deref.ensures.value in
     let differ : listing c.args.names.now c.in_ok-calls.calls.items ≢ c.args.bytes.now = λ same.
-        other-texts c.as_slice.result.now bytes (sym c.if-eq.ensures) (c.as_slice.ensures.value ∙ (listed ∙ same)) in
+    other-texts c.as_slice.result.now bytes (sym c.if-eq.ensures) (c.as_slice.ensures.value ∙ (listed ∙ same)) in
     let small : length c.args.bytes.now < 2 ^ 64 = search rules in
     let here : c.shared_lines.result + 1 ≡ line = cc is in
     let count : c.shared_lines.result ≡ shared_lines (listing c.args.names.now c.in_ok-calls.calls.items) c.args.bytes.now =
-        c.shared_lines.ensures ∙ ap (λ text. shared_lines text bytes) (c.deref-else-eq.ensures.value ∙ listed) in
+    c.shared_lines.ensures ∙ ap (λ text. shared_lines text bytes) (c.deref-else-eq.ensures.value ∙ listed) in
     let at : line ≡ suc (shared_lines (listing c.args.names.now c.in_ok-calls.calls.items) c.args.bytes.now) = omega (arith, here, count) in
     first-bad names made bytes line c.requires.different small c.in_ok-calls.ensures differ at
