@@ -27,11 +27,11 @@ use Rattle.listing.specs.RequestText.{level_text, images_text, end_text, option_
 use Rattle.listing.specs.Texts.{values_text, given_values_text}
 use Rattle.statement_reader.specs.Commands.{is_word}
 use Rattle.statement_reader.specs.Lists.{let_some}
-use Rattle.listing_reader.specs.Choices.{level_of, images_of, option_of, yes_of, path_of, lock_of, reason_of}
+use Rattle.listing_words.specs.Choices.{level_of, images_of, option_of, yes_of, path_of, lock_of, reason_of}
 use Rattle.listing_reader.specs.Listed.{IsEnd, IsFormat, IsPlace, AreValues, AreGiven, IsLimit, IsChainTo}
-use Rattle.listing_reader.specs.Parameters.{level_in, images_in, option_in, yes_in, path_in, lock_in, reason_in, end_of, end_in, format_of, format_in, place_of, place_in, values_in, given_values_in, limit_word, key_limit, limit_in, chain_key, chain_to_in}
-use Rattle.listing_reader.specs.Values.{units, number_in, value_of, values_of, given_values_of, number_of, unsigned, text_of}
-use Rattle.listing_reader.specs.Words.{is_break, inside, given}
+use Rattle.listing_words.specs.Parameters.{level_in, images_in, option_in, yes_in, path_in, lock_in, reason_in, end_of, end_in, format_of, format_in, place_of, place_in, values_in, given_values_in, limit_word, key_limit, limit_in, chain_key, chain_to_in}
+use Rattle.listing_words.specs.Values.{units, number_in, value_of, values_of, given_values_of, number_of, unsigned, text_of}
+use Rattle.listing_words.specs.Words.{is_break, inside, given}
 use Rattle.statement_reader.specs.Words.{words}
 use Rattle.listing_reader.proofs.ScanLemmas.{LiesInside, Follows}
 use Rattle.listing_reader.proofs.TextLemmas.{name-inside, decimal-inside}

@@ -25,15 +25,15 @@ use Rattle.statement_reader.specs.Commands.{is_word}
 use Rattle.statement_reader.specs.Lists.{onto_others}
 use Rattle.statement_reader.specs.Words.{words, has_text}
 use Rattle.text_lines.specs.Decimal.{is_digit}
-use Rattle.listing_reader.specs.Choices.{file_kind_of}
+use Rattle.listing_words.specs.Choices.{file_kind_of}
 use Rattle.listing_reader.specs.Entries.{two, image_of, image_in, optional_image_of, optional_image_in, flag_of, flag_in, file_kind_in, ends_of, changes_in, optional_name_of, optional_name_in, counted, origin_in, file_created, member_added, journaling_started, after_image, undo_after_image, body_of, is_image, is_optional_image, holds_fields, has_spelling, spelled, entry_from, typed_entry, entry_of, entries_in}
-use Rattle.listing_reader.specs.EntryTypes.{entry_named, file_type, record_type, cycle_type, journal_type}
+use Rattle.listing_words.specs.EntryTypes.{entry_named, file_type, record_type, cycle_type, journal_type}
 use Rattle.listing_reader.specs.Listed.{IsName, IsNumber, IsLong, AreBytes, AreOptionalBytes, AreKindBytes, IsEntry, AreEntries, shown_kind, shown_entry}
-use Rattle.listing_reader.specs.Values.{text_of}
-use Rattle.listing_reader.specs.Words.{inside, behind_given, name_of}
+use Rattle.listing_words.specs.Values.{text_of}
+use Rattle.listing_words.specs.Words.{inside, behind_given, name_of}
 use Rattle.listing_reader.specs.declared.entry_fields.Origin.{Origin}
-use Rattle.listing_reader.specs.declared.entry_types.EntryType.{EntryType}
-use Rattle.listing_reader.specs.declared.entry_types.EntryType.TheVariants as entry_type
+use Rattle.listing_words.specs.declared.entry_types.EntryType.{EntryType}
+use Rattle.listing_words.specs.declared.entry_types.EntryType.TheVariants as entry_type
 use Rattle.listing_reader.proofs.ScanLemmas.{LiesInside, IsWord, Follows, both, nothing, inside-append, spaced-words}
 use Rattle.listing_reader.proofs.TextLemmas.{apart, name-text, name-inside, decimal-inside, decimal-word, decimal-digits, text-inside, text-word}
 use Rattle.listing_reader.proofs.ValueLemmas.{long-decimal, text-read}

@@ -7,7 +7,7 @@ use Rattle.listing.specs.ReplyText.{job_name}
 use Rattle.statement_reader.specs.Commands.{is_word}
 use Rattle.statement_reader.specs.Lists.{let_some}
 use Rattle.listing_reader.specs.Listed.{IsName, IsNew, AreDifferent, HasName}
-use Rattle.listing_reader.specs.Words.{given, job_from, job_in}
+use Rattle.listing_words.specs.Words.{given, job_from, job_in}
 use Rattle.listing_reader.proofs.ParameterLemmas.{same-words}
 
 -- the name at a place

@@ -3,10 +3,14 @@ mod EntryLemmas
 mod FirstLemmas
 mod JobLemmas
 mod LineLemmas
+mod NamedLemmas
 mod ParameterLemmas
+mod ReadLemmas
 mod ReplyLemmas
 mod RequestLemmas
 mod ScanLemmas
+mod SharedLemmas
 mod ShownLemmas
+mod SpellingLemmas
 mod TextLemmas
 mod ValueLemmas

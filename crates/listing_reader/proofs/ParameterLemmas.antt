@@ -10,9 +10,9 @@ use Rattle.listing.specs.Texts.{parameter}
 use Rattle.statement_reader.specs.Lists.{let_some}
 use Rattle.statement_reader.specs.Parameters.{behind, before}
 use Rattle.statement_reader.specs.Words.{after, is_outside, outside, has_text}
-use Rattle.listing_reader.specs.Values.{units, number_in, long_in}
-use Rattle.listing_reader.specs.Words.{is_break, inside, given, name_of, name_in}
-use Rattle.listing_reader.specs.declared.numbers.TheConstants.{MOST_NUMBER, MOST_LONG}
+use Rattle.listing_words.specs.Values.{units, number_in, long_in}
+use Rattle.listing_words.specs.Words.{is_break, inside, given, name_of, name_in}
+use Rattle.listing_words.specs.declared.numbers.TheConstants.{MOST_NUMBER, MOST_LONG}
 use Rattle.listing_reader.proofs.ScanLemmas.{scan, IsClosed, LiesInside, Opens, Follows, scan-append}
 use Rattle.listing_reader.proofs.ValueLemmas.{number-decimal, long-decimal}
 

@@ -22,12 +22,12 @@ use Rattle.library_model.specs.declared.replies.Reply.TheVariants as reply
 use Rattle.listing.specs.ReplyText.{job_name, limit_text, missing_text, value_cause, record_fault_parameters, dds_cause, answer, details}
 use Rattle.listing.specs.Texts.{values_text}
 use Rattle.statement_reader.specs.Commands.{is_word}
-use Rattle.listing_reader.specs.Answers.{reply_named, record_answer, state_answer, name_answer, journal_answer, limit_answer}
-use Rattle.listing_reader.specs.Choices.{value_fault_of, limit_of, store_limit_of, journal_limit_of, cause_of, spelling_cause_of, keyword_cause_of, base_cause_of}
+use Rattle.listing_words.specs.Answers.{reply_named, record_answer, state_answer, name_answer, journal_answer, limit_answer}
+use Rattle.listing_words.specs.Choices.{value_fault_of, limit_of, store_limit_of, journal_limit_of, cause_of, spelling_cause_of, keyword_cause_of, base_cause_of}
 use Rattle.listing_reader.specs.Listed.{AreEntries, IsName, IsNumber, IsLong, AreValues, IsMissing, IsRecordFault, HasName, AreDifferent, IsReply, shown_reply}
 use Rattle.listing_reader.specs.Replies.{record_read, numbered_answer, done_answer, record_in_use, duplicate_key, does_not_fit, missing_of, missing_in, field_fault, record_fault_of, record_fault_in, dds_fault_in, limit_reached, ok_reply, reply_of, read_reply}
-use Rattle.listing_reader.specs.Words.{inside, given, name_of}
-use Rattle.listing_reader.specs.declared.numbers.TheConstants.{MOST_NUMBER}
+use Rattle.listing_words.specs.Words.{inside, given, name_of}
+use Rattle.listing_words.specs.declared.numbers.TheConstants.{MOST_NUMBER}
 use Rattle.listing_reader.proofs.ScanLemmas.{LiesInside, Follows, both, nothing}
 use Rattle.listing_reader.proofs.TextLemmas.{name-inside, decimal-inside}
 use Rattle.listing_reader.proofs.ValueLemmas.{values-inner, number-decimal, name-digits}

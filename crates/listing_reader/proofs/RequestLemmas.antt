@@ -29,10 +29,10 @@ use Rattle.library_model.specs.declared.requests.UpdateRecord.{UpdateRecord}
 use Rattle.library_model.specs.declared.requests.WriteRecord.{WriteRecord}
 use Rattle.listing.specs.RequestText.{level_text, images_text, end_text, option_text, yes_or_no, path_text, lock_text, reason_text, format_text, place_text, limit_parameter, chain_parameter, command, parameters}
 use Rattle.listing.specs.Texts.{parameter, values_text, given_values_text}
-use Rattle.listing_reader.specs.Commands.{request_named, file_command, journal_command, open_command, record_command}
+use Rattle.listing_words.specs.Commands.{request_named, file_command, journal_command, open_command, record_command}
 use Rattle.listing_reader.specs.Listed.{IsName, IsNumber, IsLong, IsFormat, IsPlace, AreGiven, IsChainTo, IsRequest, FitsFileMember, FitsJournaledChanges, FitsSetPosition, FitsReadRecord, FitsReadEqual}
 use Rattle.listing_reader.specs.Requests.{create_physical, create_logical, delete_file, file_member, start_journaling, delete_receiver, display_journal, journaled_changes, start_commitment, end_job, open_file, open_name, set_position, read_record, read_equal, chain_record, write_record, update_record, request_of, read_request}
-use Rattle.listing_reader.specs.Words.{inside, behind_word}
+use Rattle.listing_words.specs.Words.{inside, behind_word}
 use Rattle.listing_reader.proofs.ScanLemmas.{IsWord, Follows, both, nothing}
 use Rattle.listing_reader.proofs.TextLemmas.{name-inside, decimal-inside}
 use Rattle.listing_reader.proofs.ValueLemmas.{values-inner, givens-inner}

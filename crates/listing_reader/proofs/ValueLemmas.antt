@@ -21,9 +21,9 @@ use Rattle.statement_reader.specs.Literals.{quoted, hexadecimal}
 use Rattle.statement_reader.specs.Parameters.{behind}
 use Rattle.statement_reader.specs.Words.{has_text, words}
 use Rattle.listing.specs.Texts.{character_of, has_character, quoted_character, hex_digit, hex_pair, text_literal, sign_of, magnitude, padded_digits, pointed, number_literal, value_text, given_text, with_blanks_behind, joined_by_blanks, values_text, given_values_text}
-use Rattle.listing_reader.specs.Values.{units_after, units, decimals, positive, negative, unsigned, number_of, text_of, value_of, values_of, given_value_of, given_values_of}
+use Rattle.listing_words.specs.Values.{units_after, units, decimals, positive, negative, unsigned, number_of, text_of, value_of, values_of, given_value_of, given_values_of}
 use Rattle.listing_reader.specs.Listed.{is_byte, IsValue, AreValues, IsGiven, AreGiven}
-use Rattle.listing_reader.specs.declared.numbers.TheConstants.{MOST_UNITS, MOST_NUMBER, MOST_LONG}
+use Rattle.listing_words.specs.declared.numbers.TheConstants.{MOST_UNITS, MOST_NUMBER, MOST_LONG}
 use Rattle.listing_reader.proofs.ScanLemmas.{LiesInside, IsWord, AreWords, spaced, inside-append, spaced-words}
 use Rattle.listing_reader.proofs.TextLemmas.{apart, byte-is, padded-digits, all-cut, text-inside, text-word, number-closed, number-inside}
 

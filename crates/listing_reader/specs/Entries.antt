@@ -10,16 +10,16 @@ use Rattle.entry_codec.specs.declared.kinds.TheConstants.{MIN_RECORD_LENGTH, MAX
 use Rattle.statement_reader.specs.Commands.{is_word}
 use Rattle.statement_reader.specs.Lists.{let_some, onto_others}
 use Rattle.statement_reader.specs.Words.{words, has_text}
-use Rattle.listing_reader.specs.Choices.{file_kind_of}
-use Rattle.listing_reader.specs.EntryTypes.{entry_named}
-use Rattle.listing_reader.specs.Parameters.{level_in, images_in}
-use Rattle.listing_reader.specs.Values.{units, number_in, long_in, text_of}
-use Rattle.listing_reader.specs.Words.{given, behind_given, let_word, name_of, name_in}
+use Rattle.listing_words.specs.Choices.{file_kind_of}
+use Rattle.listing_words.specs.EntryTypes.{entry_named}
+use Rattle.listing_words.specs.Parameters.{level_in, images_in}
+use Rattle.listing_words.specs.Values.{units, number_in, long_in, text_of}
+use Rattle.listing_words.specs.Words.{given, behind_given, let_word, name_of, name_in}
 use Rattle.listing_reader.specs.declared.entry_fields.Origin.{Origin}
 use Rattle.listing_reader.specs.declared.entry_fields.Changes.{Changes}
-use Rattle.listing_reader.specs.declared.entry_types.EntryType.{EntryType}
-use Rattle.listing_reader.specs.declared.entry_types.EntryType.TheVariants as entry_type
-use Rattle.listing_reader.specs.declared.numbers.TheConstants.{MOST_LONG}
+use Rattle.listing_words.specs.declared.entry_types.EntryType.{EntryType}
+use Rattle.listing_words.specs.declared.entry_types.EntryType.TheVariants as entry_type
+use Rattle.listing_words.specs.declared.numbers.TheConstants.{MOST_LONG}
 
 -- ---- fields
 

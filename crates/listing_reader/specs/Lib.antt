@@ -1,12 +1,5 @@
-pub mod Words
-pub mod Values
-pub mod Choices
-pub mod Commands
-pub mod Parameters
 pub mod Requests
-pub mod EntryTypes
 pub mod Entries
-pub mod Answers
 pub mod Replies
 pub mod Lines
 pub mod Listed

@@ -7,9 +7,9 @@ use Rattle.statement_reader.specs.Lists.{let_some}
 use Rattle.statement_reader.specs.Words.{words}
 use Rattle.listing_reader.specs.Replies.{read_reply}
 use Rattle.listing_reader.specs.Requests.{read_request}
-use Rattle.listing_reader.specs.Values.{units}
-use Rattle.listing_reader.specs.Words.{behind_word, let_word, job_from}
-use Rattle.listing_reader.specs.declared.numbers.TheConstants.{MOST_LONG}
+use Rattle.listing_words.specs.Values.{units}
+use Rattle.listing_words.specs.Words.{behind_word, let_word, job_from}
+use Rattle.listing_words.specs.declared.numbers.TheConstants.{MOST_LONG}
 
 -- a reply behind the arrow
 unfoldable pub reply_behind : List (List ℕ) → List (List ℕ) → Option Reply

@@ -30,7 +30,7 @@ use Rattle.library_model.specs.declared.requests.Request.{Request}
 use Rattle.library_model.specs.declared.requests.Request.TheVariants as request
 use Rattle.listing.specs.Texts.{magnitude}
 use Rattle.statement_reader.specs.Commands.{is_word}
-use Rattle.listing_reader.specs.declared.numbers.TheConstants.{MOST_UNITS}
+use Rattle.listing_words.specs.declared.numbers.TheConstants.{MOST_UNITS}
 
 -- ---- what the types of fields keep
 

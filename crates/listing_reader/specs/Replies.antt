@@ -11,15 +11,15 @@ use Rattle.library_model.specs.declared.replies.Reply.{Reply}
 use Rattle.library_model.specs.declared.replies.Reply.TheVariants as reply
 use Rattle.statement_reader.specs.Commands.{is_word}
 use Rattle.statement_reader.specs.Lists.{let_some}
-use Rattle.listing_reader.specs.Answers.{reply_named}
-use Rattle.listing_reader.specs.Choices.{value_fault_of, limit_of, cause_of}
+use Rattle.listing_words.specs.Answers.{reply_named}
+use Rattle.listing_words.specs.Choices.{value_fault_of, limit_of, cause_of}
 use Rattle.listing_reader.specs.Entries.{changes_in, entries_in}
-use Rattle.listing_reader.specs.Parameters.{values_in}
-use Rattle.listing_reader.specs.Values.{units, number_in, long_in}
-use Rattle.listing_reader.specs.Words.{given, name_of, name_in, job_in}
-use Rattle.listing_reader.specs.declared.answers.ReplyKind.{ReplyKind}
-use Rattle.listing_reader.specs.declared.answers.ReplyKind.TheVariants as reply_kind
-use Rattle.listing_reader.specs.declared.numbers.TheConstants.{MOST_NUMBER}
+use Rattle.listing_words.specs.Parameters.{values_in}
+use Rattle.listing_words.specs.Values.{units, number_in, long_in}
+use Rattle.listing_words.specs.Words.{given, name_of, name_in, job_in}
+use Rattle.listing_words.specs.declared.answers.ReplyKind.{ReplyKind}
+use Rattle.listing_words.specs.declared.answers.ReplyKind.TheVariants as reply_kind
+use Rattle.listing_words.specs.declared.numbers.TheConstants.{MOST_NUMBER}
 
 -- whether the keyword stands among the words
 abbrev pub stands : List ℕ → List (List ℕ) → Bool

@@ -21,12 +21,12 @@ use Rattle.library_model.specs.declared.requests.StartJournaling.{StartJournalin
 use Rattle.library_model.specs.declared.requests.UpdateRecord.{UpdateRecord}
 use Rattle.library_model.specs.declared.requests.WriteRecord.{WriteRecord}
 use Rattle.statement_reader.specs.Lists.{let_some}
-use Rattle.listing_reader.specs.Commands.{request_named}
-use Rattle.listing_reader.specs.Parameters.{level_in, images_in, option_in, yes_in, path_in, lock_in, reason_in, end_in, format_in, place_in, values_in, given_values_in, limit_in, chain_to_in}
-use Rattle.listing_reader.specs.Values.{number_in, long_in}
-use Rattle.listing_reader.specs.Words.{name_in}
-use Rattle.listing_reader.specs.declared.commands.RequestKind.{RequestKind}
-use Rattle.listing_reader.specs.declared.commands.RequestKind.TheVariants as request_kind
+use Rattle.listing_words.specs.Commands.{request_named}
+use Rattle.listing_words.specs.Parameters.{level_in, images_in, option_in, yes_in, path_in, lock_in, reason_in, end_in, format_in, place_in, values_in, given_values_in, limit_in, chain_to_in}
+use Rattle.listing_words.specs.Values.{number_in, long_in}
+use Rattle.listing_words.specs.Words.{name_in}
+use Rattle.listing_words.specs.declared.commands.RequestKind.{RequestKind}
+use Rattle.listing_words.specs.declared.commands.RequestKind.TheVariants as request_kind
 
 -- CRTPF
 unfoldable pub create_physical : List (List ℕ) → Option CreatePhysicalFile

@@ -1,9 +1,15 @@
-//! What the text of a listing is read as. Begin with `laws.rt`, then `specs/Lines.antt`.
+//! A listing read back. Begin with `listings.rt`.
 #![tactic(auto)]
 
-mod answers;
-mod commands;
+mod entries;
+mod entry_bodies;
 mod entry_fields;
-mod entry_types;
+mod file_requests;
 pub mod laws;
-mod numbers;
+mod lines;
+pub mod listings;
+mod record_requests;
+mod refusals;
+mod replies;
+mod requests;
+mod spelled_entries;

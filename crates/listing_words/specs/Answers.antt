@@ -2,8 +2,8 @@
 use Rattle.std.specs.Prelude.{ℕ, if◌then◌else◌, Option, Some, None, List, codes}
 use Rattle.std.specs.Option.{option_or}
 use Rattle.statement_reader.specs.Commands.{is_word}
-use Rattle.listing_reader.specs.declared.answers.ReplyKind.{ReplyKind}
-use Rattle.listing_reader.specs.declared.answers.ReplyKind.TheVariants as reply_kind
+use Rattle.listing_words.specs.declared.answers.ReplyKind.{ReplyKind}
+use Rattle.listing_words.specs.declared.answers.ReplyKind.TheVariants as reply_kind
 
 -- refusals that speak of records
 unfoldable pub record_answer : List ℕ → Option ReplyKind

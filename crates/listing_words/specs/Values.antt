@@ -11,8 +11,8 @@ use Rattle.statement_reader.specs.Lists.{let_some, each}
 use Rattle.statement_reader.specs.Literals.{quoted, hexadecimal}
 use Rattle.statement_reader.specs.Parameters.{behind}
 use Rattle.statement_reader.specs.Words.{words}
-use Rattle.listing_reader.specs.Words.{given}
-use Rattle.listing_reader.specs.declared.numbers.TheConstants.{MOST_UNITS, MOST_NUMBER, MOST_LONG}
+use Rattle.listing_words.specs.Words.{given}
+use Rattle.listing_words.specs.declared.numbers.TheConstants.{MOST_UNITS, MOST_NUMBER, MOST_LONG}
 
 -- the number of these digits behind those of another, where it passes no limit; a point among them counts for nothing
 abbrev pub units_after : ℕ → ℕ → List ℕ → Option ℕ

@@ -2,8 +2,8 @@
 use Rattle.std.specs.Prelude.{ℕ, if◌then◌else◌, Option, Some, None, List, codes}
 use Rattle.std.specs.Option.{option_or}
 use Rattle.statement_reader.specs.Commands.{is_word}
-use Rattle.listing_reader.specs.declared.entry_types.EntryType.{EntryType}
-use Rattle.listing_reader.specs.declared.entry_types.EntryType.TheVariants as entry_type
+use Rattle.listing_words.specs.declared.entry_types.EntryType.{EntryType}
+use Rattle.listing_words.specs.declared.entry_types.EntryType.TheVariants as entry_type
 
 -- the types of entries on files and members
 unfoldable pub file_type : List ℕ → Option EntryType

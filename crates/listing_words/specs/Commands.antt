@@ -2,8 +2,8 @@
 use Rattle.std.specs.Prelude.{ℕ, if◌then◌else◌, Option, Some, None, List, codes}
 use Rattle.std.specs.Option.{option_or}
 use Rattle.statement_reader.specs.Commands.{is_word}
-use Rattle.listing_reader.specs.declared.commands.RequestKind.{RequestKind}
-use Rattle.listing_reader.specs.declared.commands.RequestKind.TheVariants as request_kind
+use Rattle.listing_words.specs.declared.commands.RequestKind.{RequestKind}
+use Rattle.listing_words.specs.declared.commands.RequestKind.TheVariants as request_kind
 
 -- the commands on files and members
 unfoldable pub file_command : List ℕ → Option RequestKind

@@ -16,10 +16,10 @@ use Rattle.library_model.specs.declared.requests.ChainTo.{ChainTo}
 use Rattle.library_model.specs.declared.requests.ChainTo.TheVariants as chain_to
 use Rattle.statement_reader.specs.Commands.{is_word}
 use Rattle.statement_reader.specs.Lists.{let_some}
-use Rattle.listing_reader.specs.Choices.{level_of, images_of, option_of, yes_of, path_of, lock_of, reason_of}
-use Rattle.listing_reader.specs.Values.{units, number_in, values_of, given_values_of}
-use Rattle.listing_reader.specs.Words.{given, name_of}
-use Rattle.listing_reader.specs.declared.numbers.TheConstants.{MOST_NUMBER, MOST_LONG}
+use Rattle.listing_words.specs.Choices.{level_of, images_of, option_of, yes_of, path_of, lock_of, reason_of}
+use Rattle.listing_words.specs.Values.{units, number_in, values_of, given_values_of}
+use Rattle.listing_words.specs.Words.{given, name_of}
+use Rattle.listing_words.specs.declared.numbers.TheConstants.{MOST_NUMBER, MOST_LONG}
 
 -- a lock level
 unfoldable pub level_in : List ℕ → List (List ℕ) → Option Level

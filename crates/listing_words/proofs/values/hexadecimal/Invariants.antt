@@ -1,0 +1,10 @@
+use Rattle.std.proofs.Common.{◌≡◌, length}
+use Rattle.statement_reader.specs.Lists.{with_front}
+use Rattle.statement_reader.specs.Literals.{hexadecimal}
+use Rattle.listing_words.proofs.values.hexadecimal.Given as goal
+
+abbrev pub invariant-loop-byte : goal.invariant-loop-byte
+invariant-loop-byte l = with_front l.bytes.items (hexadecimal l.rest) ≡ hexadecimal l.text
+
+abbrev pub decreases-loop-byte : goal.decreases-loop-byte
+decreases-loop-byte l = length l.rest

@@ -1,0 +1,17 @@
+use Rattle.std.proofs.Common.{Some, sym, ap, ◌∙◌}
+use Rattle.statement_reader.specs.Words.{words}
+use Rattle.listing_words.specs.Values.{value_of, values_of}
+use Rattle.listing_words.proofs.ReadLemmas.{stopped, ended}
+use Rattle.listing_words.proofs.values.values_of.Goals as goal
+
+pub returns-in_default-2 : goal.returns-in_default-2
+unfolding values_of
+returns-in_default-2 c =
+    stopped value_of c.loop-word.values.items (words c.loop-word.rest.now) c.in-Some.word.now (words c.in-Some.others.now) (words c.args.text.now)
+    c.in-Some.ensures.0 (sym c.in_default-2.is ∙ c.in_ok-value.ensures) c.loop-word.invariant
+
+pub returns : goal.returns
+unfolding values_of
+returns c =
+    ap (λ values. Some values) c.from_vec-values.ensures
+    ∙ ended value_of c.loop-word.values.items (words c.loop-word.rest.now) (words c.args.text.now) c.in_default.ensures c.loop-word.invariant
