@@ -88,6 +88,13 @@ impl OpenCycles {
         self.cycles.as_slice()
     }
 
+    /// The changes of all open commit cycles, the last one first.
+    pub fn changes(&self) -> &VecDeque<OpenChange>
+        ensures { result.now.items ≡ self.now.undos }
+    {
+        &self.changes
+    }
+
     /// Whether the commit cycle is open.
     pub fn is_open(&self, cycle: u64) -> bool
         ensures { result ≡ is_one_of self.now.cycles cycle }
