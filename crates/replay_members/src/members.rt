@@ -12,9 +12,11 @@ ghost use Rattle.journal_replay.specs.MemberActs.{act_of};
 ghost use Rattle.journal_replay.specs.Tests.{is_touched};
 
 use crate::member::Member;
+use crate::slots::is_slot_at;
 use field_types::names::Name;
 use indexmap::IndexMap;
-use journal_replay::{MemberAct, OpenCycles};
+use journal_replay::MemberAct;
+use open_cycles::{HasSlots, OpenCycles};
 use member_slots::slot::Slot;
 use std::alloc::{AllocError, Global};
 use std::marker::Model;
@@ -155,5 +157,13 @@ impl Members {
         ensures next { self.new.next ≡ self.old.next }
     {
         self.members.retain(|_, member| member.file() != *file);
+    }
+}
+
+impl HasSlots for Members {
+    ghost slots = { λ m number. slots_at number m.members };
+
+    fn has_slot(&self, member: u32, place: u32, slot: &Slot) -> bool {
+        is_slot_at(self.slots_of(member), place, slot)
     }
 }

@@ -1,6 +1,6 @@
 -- A standing moves on by the acts of the members that an entry names.
 use Rattle.std.proofs.Common.{◌≡◌, ℕ, ◌+◌, Bool, true, false, ◌&&◌, ◌==◌, not, cond, leb, List, [], ◌∷◌, ◌++◌, map, Option, Some, None, refl, sym, ap, ◌∙◌}
-use Rattle.std.specs.List.{filter, list_any}
+use Rattle.std.specs.List.{filter, list_all, list_any}
 use Rattle.std.specs.Prelude.{is_none, unwrap_or}
 use Rattle.std.specs.Str.{bytes_eq}
 use Rattle.std.proofs.lemmas.Bool.{and_parts, eq-eqb, eqb-true, ne_eqb}
@@ -10,16 +10,17 @@ use Rattle.entry_codec.specs.declared.kinds.FileKind.TheVariants.{Physical, Logi
 use Rattle.entry_codec.specs.declared.kinds.EntryKind.{EntryKind}
 use Rattle.entry_codec.specs.declared.kinds.EntryKind.TheVariants.{FileCreated, FileDeleted, MemberAdded, JournalingStarted, InitialSlot, JournalingEnded, MemberCleared, MemberReorganized, ChangesApplied, ChangesRemoved, RecordAdded, RecordAddedAtNumber, BeforeImage, AfterImage, RecordDeleted, UndoBeforeImage, UndoAfterImage, UndoDelete, CommitmentStarted, CommitCycleStarted, CommitCycleCommitted, CommitCycleRolledBack, CommitmentEnded, AbnormalEnd, NextReceiver, PreviousReceiver}
 use Rattle.journal_model.specs.declared.limits.TheConstants.{LAST_MEMBER}
-use Rattle.journal_model.specs.Acts.{Act, act_there, act_elsewhere, is_number, cycle_of}
+use Rattle.journal_model.specs.Acts.{Act, Changed, Began, Committed, RolledBack, Journaled, Stood, Cleared, Reorganized, Ended, Nothing, act_there, act_elsewhere, is_number, cycle_of}
+use Rattle.journal_model.specs.Replayable.{is_open}
 use Rattle.journal_model.specs.Replay.{is_other, is_not_in, cycles_after}
 use Rattle.journal_model.specs.Rollback.{MemberChange, undos_by, named}
 use Rattle.journal_model.specs.Catalogue.{Catalogue, CatalogMember, Descriptions, file_named, members_of, member_numbered}
 use Rattle.journal_model.specs.Images.{images_of}
-use Rattle.journal_replay.specs.Standing.{HeldMember, Standing, catalogue_in, member_by, members_by, left_by, new_member, made_with, made_by, next_after, standing_after}
-use Rattle.journal_replay.specs.Tests.{is_next_member, makes_member, is_physical_file, may_enter, follows_by, frees_deleted, names_open, ends_pair, are_records_of, may_stand_next, member_act}
+use Rattle.journal_replay.specs.Standing.{HeldMember, Standing, catalogue_in, member_by, members_by, left_by, new_member, made_with, made_by, next_after, slots_at, standing_after}
+use Rattle.journal_replay.specs.Tests.{is_next_member, makes_member, is_physical_file, is_apart, fits_slot, may_act, may_enter, follows_by, frees_deleted, names_open, ends_pair, are_records_of, may_stand_next, member_act}
 use Rattle.journal_replay.specs.Open.{Open}
 use Rattle.replay_members.specs.Bodies.{with_act}
-use Rattle.replay_step.specs.Moves.{acted, noted_by, ended, open_by, open_in, first_member, made_at, standing_by, is_next, first_is_next, makes_next, names_new}
+use Rattle.replay_step.specs.Moves.{acted, noted_by, ended, open_by, open_in, first_member, made_at, standing_by, is_next, first_is_next, makes_next, may_note, names_new}
 
 act_alike : (kind : EntryKind) (prior : Option Entry) (e : Entry) (sequence : ℕ) (m : HeldMember) → member_by (act_there kind prior e) sequence m ≡ member_by (member_act kind prior e) sequence m
 act_alike (FileCreated kind name source) prior e sequence m = refl
@@ -339,6 +340,51 @@ stands-new d s e h = enters_new d e.kind e (catalogue_in s) (stands_enters d s e
 
 pub stands-next : (d : Descriptions) (s : Standing) (e : Entry) → may_stand_next d s e ≡ true → makes_next e.kind e.member s.next_member ≡ true
 stands-next d s e h = enters_next d e.kind e (catalogue_in s) (stands_enters d s e h)
+
+note_own : (own : Option ℕ) (a : Act) (s : Standing) → may_act s (named own) a ≡ true → may_note own a s.undos ≡ true
+note_own None a s h = refl
+note_own (Some number) (Changed c) s h = (and_parts (fits_slot c (slots_at number s.members) && is_open s.cycles c.cycle) (list_all (is_apart number c.place c.cycle) s.undos) h).1
+note_own (Some number) (Began n) s h = refl
+note_own (Some number) (Committed n) s h = refl
+note_own (Some number) (RolledBack n) s h = refl
+note_own (Some number) (Journaled images slots) s h = refl
+note_own (Some number) (Stood place image) s h = refl
+note_own (Some number) Cleared s h = refl
+note_own (Some number) Reorganized s h = refl
+note_own (Some number) Ended s h = refl
+note_own (Some number) Nothing s h = refl
+
+acts_apart : (kind : EntryKind) (s : Standing) (e : Entry) → follows_by kind s e ≡ true → may_note e.member (member_act kind s.begun e) s.undos ≡ true
+acts_apart (FileCreated kind name source) s e h = note_own e.member (member_act (FileCreated kind name source) s.begun e) s refl
+acts_apart (FileDeleted name) s e h = note_own e.member (member_act (FileDeleted name) s.begun e) s refl
+acts_apart (MemberAdded file name) s e h = note_own e.member (member_act (MemberAdded file name) s.begun e) s refl
+acts_apart (JournalingStarted images slots) s e h = note_own e.member (member_act (JournalingStarted images slots) s.begun e) s h
+acts_apart (InitialSlot image) s e h = note_own e.member (member_act (InitialSlot image) s.begun e) s h
+acts_apart JournalingEnded s e h = note_own e.member (member_act JournalingEnded s.begun e) s h
+acts_apart MemberCleared s e h = note_own e.member (member_act MemberCleared s.begun e) s h
+acts_apart MemberReorganized s e h = note_own e.member (member_act MemberReorganized s.begun e) s h
+acts_apart (ChangesApplied first last changes) s e h = note_own e.member (member_act (ChangesApplied first last changes) s.begun e) s refl
+acts_apart (ChangesRemoved first last changes) s e h = note_own e.member (member_act (ChangesRemoved first last changes) s.begun e) s refl
+acts_apart (RecordAdded image) s e h = note_own e.member (member_act (RecordAdded image) s.begun e) s h
+acts_apart (RecordAddedAtNumber image) s e h = note_own e.member (member_act (RecordAddedAtNumber image) s.begun e) s h
+acts_apart (BeforeImage image) s e h = note_own e.member (member_act (BeforeImage image) s.begun e) s refl
+acts_apart (AfterImage has_before image) s e h = note_own e.member (member_act (AfterImage has_before image) s.begun e) s h
+acts_apart (RecordDeleted before) s e h = note_own e.member (member_act (RecordDeleted before) s.begun e) s h
+acts_apart (UndoBeforeImage image) s e h = note_own e.member (member_act (UndoBeforeImage image) s.begun e) s refl
+acts_apart (UndoAfterImage has_before image) s e h = note_own e.member (member_act (UndoAfterImage has_before image) s.begun e) s h
+acts_apart (UndoDelete image) s e h = note_own e.member (member_act (UndoDelete image) s.begun e) s h
+acts_apart (CommitmentStarted level) s e h = note_own e.member (member_act (CommitmentStarted level) s.begun e) s refl
+acts_apart CommitCycleStarted s e h = note_own e.member (member_act CommitCycleStarted s.begun e) s refl
+acts_apart CommitCycleCommitted s e h = note_own e.member (member_act CommitCycleCommitted s.begun e) s refl
+acts_apart CommitCycleRolledBack s e h = note_own e.member (member_act CommitCycleRolledBack s.begun e) s refl
+acts_apart CommitmentEnded s e h = note_own e.member (member_act CommitmentEnded s.begun e) s refl
+acts_apart AbnormalEnd s e h = note_own e.member (member_act AbnormalEnd s.begun e) s refl
+acts_apart (NextReceiver number) s e h = note_own e.member (member_act (NextReceiver number) s.begun e) s refl
+acts_apart (PreviousReceiver number) s e h = note_own e.member (member_act (PreviousReceiver number) s.begun e) s refl
+
+pub stands-apart : (d : Descriptions) (s : Standing) (e : Entry) → may_stand_next d s e ≡ true → may_note e.member (member_act e.kind s.begun e) s.undos ≡ true
+stands-apart d s e h =
+    acts_apart e.kind s e (and_parts _ (follows_by e.kind s e) (and_parts _ (are_records_of d (catalogue_in s) (member_numbered e.member (catalogue_in s)) (images_of e.kind)) h).0).1
 
 pub standing-by : (e : Entry) (s : Standing) → makes_next e.kind e.member s.next_member ≡ true → standing_after e s ≡ standing_by e (member_act e.kind s.begun e) s
 standing-by e s makes =

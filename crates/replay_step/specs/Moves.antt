@@ -1,19 +1,20 @@
 -- What does an entry make of a standing, once it is read into the act of the member that it names?
 -- (Journal Management, "Recovery operations using journaling".)
 use Rattle.std.specs.Prelude.{ℕ, ◌+◌, Bool, true, ◌&&◌, nat_le, is_none, List, [], ◌∷◌, ◌++◌, Option, Some, None}
-use Rattle.std.specs.List.{filter, find}
+use Rattle.std.specs.List.{filter, find, list_all}
 use Rattle.entry_codec.specs.declared.entries.Entry.{Entry}
 use Rattle.entry_codec.specs.declared.kinds.FileKind.{FileKind}
 use Rattle.entry_codec.specs.declared.kinds.FileKind.TheVariants.{Physical, Logical}
 use Rattle.entry_codec.specs.declared.kinds.EntryKind.{EntryKind}
 use Rattle.entry_codec.specs.declared.kinds.EntryKind.TheVariants.{FileCreated, FileDeleted, MemberAdded, JournalingStarted, InitialSlot, JournalingEnded, MemberCleared, MemberReorganized, ChangesApplied, ChangesRemoved, RecordAdded, RecordAddedAtNumber, BeforeImage, AfterImage, RecordDeleted, UndoBeforeImage, UndoAfterImage, UndoDelete, CommitmentStarted, CommitCycleStarted, CommitCycleCommitted, CommitCycleRolledBack, CommitmentEnded, AbnormalEnd, NextReceiver, PreviousReceiver}
 use Rattle.journal_model.specs.declared.limits.TheConstants.{LAST_MEMBER}
-use Rattle.journal_model.specs.Acts.{Act, cycle_of, is_number}
+use Rattle.journal_model.specs.Acts.{Act, Changed, Began, Committed, RolledBack, Journaled, Stood, Cleared, Reorganized, Ended, Nothing, cycle_of, is_number}
 use Rattle.journal_model.specs.Replay.{is_other, is_not_in}
 use Rattle.journal_model.specs.Catalogue.{CatalogFile, is_named}
 use Rattle.journal_model.specs.Rollback.{MemberChange, undos_by}
 use Rattle.journal_replay.specs.Standing.{HeldMember, Standing, begun_by, files_by, left_by, new_member, next_after}
 use Rattle.journal_replay.specs.Open.{Open}
+use Rattle.journal_replay.specs.Tests.{is_apart}
 use Rattle.replay_members.specs.Bodies.{with_act}
 
 -- a physical file has a member of its own name from the beginning
@@ -107,6 +108,23 @@ standing_by e a s = record {
 }
 
 -- ---- what an entry that may come tells of the move
+
+-- no other commit cycle has changed what the act changes
+abbrev pub may_note_by : Act → (number : ℕ) → List MemberChange → Bool
+may_note_by (Changed c) number undos = list_all (is_apart number c.place c.cycle) undos
+may_note_by (Began n) number undos = true
+may_note_by (Committed n) number undos = true
+may_note_by (RolledBack n) number undos = true
+may_note_by (Journaled images slots) number undos = true
+may_note_by (Stood place image) number undos = true
+may_note_by Cleared number undos = true
+may_note_by Reorganized number undos = true
+may_note_by Ended number undos = true
+may_note_by Nothing number undos = true
+
+abbrev pub may_note : Option ℕ → Act → List MemberChange → Bool
+may_note None a undos = true
+may_note (Some number) a undos = may_note_by a number undos
 
 -- this is the next number, and a member may have it
 abbrev pub is_next : Option ℕ → (next : ℕ) → Bool

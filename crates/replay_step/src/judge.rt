@@ -256,7 +256,7 @@ impl Replay {
             EntryKind::CommitCycleStarted => self.is_next(cycle),
             EntryKind::CommitCycleCommitted => self.open_cycles.is_open(cycle),
             EntryKind::CommitCycleRolledBack => {
-                self.open_cycles.is_open(cycle) && self.are_restored(cycle)
+                self.open_cycles.is_open(cycle) && self.open_cycles.are_restored(cycle, &self.members)
             }
             EntryKind::CommitmentEnded => true,
             EntryKind::AbnormalEnd => true,

@@ -6,6 +6,5 @@ mod judge;
 pub mod laws;
 mod moves;
 mod replay;
-mod restored;
 
 pub use replay::Replay;

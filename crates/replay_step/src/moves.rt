@@ -1,19 +1,21 @@
 //! What becomes of what is left, by an entry that may come.
 ghost use Rattle.std.specs.Prelude.{◌≡◌, ◌++◌, ◌∷◌, [], Some, true, is_none, IfOk, OnOk};
-ghost use Rattle.std.specs.List.{find};
+ghost use Rattle.std.specs.List.{find, list_all};
 ghost use Rattle.journal_model.specs.Acts.{Changed, cycle_of};
 ghost use Rattle.journal_model.specs.Catalogue.{is_named};
 ghost use Rattle.replay_files.specs.Files.{catalog_file};
 ghost use Rattle.journal_replay.specs.MemberActs.{act_of};
-ghost use Rattle.replay_step.specs.Moves.{acted, noted_by, open_by, open_in, first_is_next, first_member, made_at, makes_next, names_new, standing_by};
+ghost use Rattle.replay_step.specs.Moves.{acted, noted_by, open_by, open_in, first_is_next, first_member, made_at, makes_next, may_note, names_new, standing_by};
 ghost use Rattle.journal_replay.specs.Standing.{begun_by, files_by, left_by, next_after};
+ghost use Rattle.journal_replay.specs.Tests.{is_apart};
 
 use crate::replay::Replay;
 use entry_codec::{Entry, EntryKind, FileKind};
 use field_types::names::Name;
 use field_types::texts::SourceText;
-use journal_replay::{MemberAct, OpenChange, SlotChange};
+use journal_replay::{MemberAct, SlotChange};
 use member_slots::slot::Slot;
+use open_cycles::OpenChange;
 use replay_files::File;
 use std::alloc::{AllocError, Global};
 
@@ -23,6 +25,7 @@ impl Replay {
         requires sequence { entry.now.sequence ≡ self.old.next }
         requires named { names_new entry.now.kind self.old.files ≡ true }
         requires numbered { makes_next entry.now.kind entry.now.member self.old.next_member ≡ true }
+        requires apart { may_note entry.now.member (act_of act) self.old.undos ≡ true }
         ensures { OnOk result (self.new ≡ standing_by entry.now (act_of act) self.old) }
     {
         let begun = begun_by(self.alloc, entry)?;
@@ -37,6 +40,7 @@ impl Replay {
 
     /// The commit cycle that begins or ends, and the change that one made.
     fn move_open(&mut self, entry: &Entry, act: &MemberAct) -> Result<(), AllocError>
+        requires { may_note entry.now.member (act_of act.now) self.old.undos ≡ true }
         ensures { OnOk result (self.new ≡ record self.old { cycles = (open_by entry.now.kind entry.now.member entry.now.group (act_of act.now) (open_in self.old)).cycles; undos = (open_by entry.now.kind entry.now.member entry.now.group (act_of act.now) (open_in self.old)).undos }) }
     {
         let cycle = cycle_of(entry.group);
@@ -78,6 +82,7 @@ impl Replay {
 
     /// Keeps the change of the member, where a commit cycle made it.
     fn note(&mut self, number: Option<u32>, act: &MemberAct) -> Result<(), AllocError>
+        requires { may_note number (act_of act.now) self.old.undos ≡ true }
         ensures { OnOk result (self.new ≡ record self.old { undos = noted_by number (act_of act.now) self.old.undos }) }
     {
         let Some(member) = number else {
@@ -95,6 +100,7 @@ impl Replay {
     }
 
     fn note_change(&mut self, member: u32, change: &SlotChange) -> Result<(), AllocError>
+        requires { list_all (is_apart member change.now.place change.now.cycle) self.old.undos ≡ true }
         ensures { OnOk result (self.new ≡ record self.old { undos = noted_by (Some member) (Changed change.now) self.old.undos }) }
     {
         let Some(cycle) = change.cycle else {

@@ -11,7 +11,8 @@ ghost use Rattle.journal_replay.specs.Tests.{may_stand_next, member_act};
 ghost use Rattle.journal_model.specs.Catalogue.{Descriptions};
 
 use entry_codec::Entry;
-use journal_replay::{MemberAct, OpenCycles, read_act};
+use journal_replay::{MemberAct, read_act};
+use open_cycles::OpenCycles;
 use replay_files::{Describe, Files};
 use replay_members::Members;
 use std::alloc::{AllocError, Global};

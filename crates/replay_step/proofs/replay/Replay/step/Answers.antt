@@ -1,8 +1,8 @@
 use Rattle.std.proofs.Common.{◌≡◌, ◌∙◌, true, sym, ap, rules}
 use Rattle.journal_model.specs.Acts.{Act}
 use Rattle.journal_replay.specs.Tests.{may_stand_next}
-use Rattle.replay_step.specs.Moves.{standing_by}
-use Rattle.replay_step.proofs.MoveLemmas.{stands-sequence, stands-new, stands-next, standing-by}
+use Rattle.replay_step.specs.Moves.{may_note, standing_by}
+use Rattle.replay_step.proofs.MoveLemmas.{stands-sequence, stands-new, stands-next, stands-apart, standing-by}
 use Rattle.replay_step.proofs.replay.Replay.step.Goals as goal
 
 pub move_on-requires-clause-sequence : goal.move_on-requires-clause-sequence
@@ -19,6 +19,11 @@ pub move_on-requires-clause-numbered : goal.move_on-requires-clause-numbered
 move_on-requires-clause-numbered g c =
     let h : may_stand_next (g.D.Describe.rules c.args.by.now) c.args.self.now c.args.entry.now ≡ true = search rules in
     stands-next (g.D.Describe.rules c.args.by.now) c.args.self.now c.args.entry.now h
+
+pub move_on-requires-clause-apart : goal.move_on-requires-clause-apart
+move_on-requires-clause-apart g c =
+    let h : may_stand_next (g.D.Describe.rules c.args.by.now) c.args.self.now c.args.entry.now ≡ true = search rules in
+    ap (λ (a : Act). may_note c.args.entry.now.member a c.args.self.now.undos) c.in_ok-act.ensures ∙ stands-apart (g.D.Describe.rules c.args.by.now) c.args.self.now c.args.entry.now h
 
 pub returns-clause-moved : goal.returns-clause-moved
 returns-clause-moved g c is_true =
