@@ -1,13 +1,12 @@
 -- A change more is kept behind the others, and the last one of a commit cycle leaves its place empty.
-use Rattle.std.proofs.Common.{◌≡◌, ℕ, zero, suc, ◌+◌, ◌≤◌, ◌<◌, arith, Bool, true, false, ◌==◌, ◌&&◌, ◌||◌, not, cond, nat_eq, List, [], ◌∷◌, ◌++◌, length, set, Option, Some, None, refl, sym, ap, ◌∙◌, subst}
-use Rattle.std.specs.Prelude.{unwrap_or, slice_get}
-use Rattle.std.specs.List.{list_all, list_any, filter}
-use Rattle.std.proofs.lemmas.Bool.{and_parts, eqb-true, eq-eqb}
+use Rattle.std.proofs.Common.{◌≡◌, ℕ, suc, ◌+◌, ◌≤◌, arith, Bool, true, false, ◌==◌, ◌&&◌, cond, nat_eq, List, [], ◌∷◌, ◌++◌, length, Option, Some, None, refl, sym, ap, ◌∙◌}
+use Rattle.std.specs.Prelude.{unwrap_or}
+use Rattle.std.specs.List.{list_all}
+use Rattle.std.proofs.lemmas.Bool.{and_parts, eqb-true}
 use Rattle.std.proofs.lemmas.List.{append-nil, append_assoc}
-use Rattle.journal_model.specs.Acts.{is_same_number, is_number}
-use Rattle.journal_model.specs.Replay.{is_in}
+use Rattle.journal_model.specs.Acts.{is_number}
 use Rattle.journal_model.specs.Rollback.{MemberChange}
-use Rattle.journal_replay.specs.Tests.{is_apart, is_touched}
+use Rattle.journal_replay.specs.Tests.{is_apart}
 use Rattle.open_cycles.specs.Kept.{same_record, is_of, is_about, live, is_kept, places_by, first_by, first_after, times, are_alone, AreFound}
 
 abbrev pub Kept : Type 0
@@ -114,8 +113,8 @@ placed-push : (n cycle : ℕ) (kept : Kept) (c : MemberChange) (old : List ℕ) 
 placed-push n cycle kept c old own is =
     at (nat_eq cycle n)
     ∙ sym (
-      places-split (is_of n) 0 kept (Some c ∷ [])
-          ∙ ap (λ (o : Option ℕ). places_by (is_of n) 0 kept ++ cond (is_number o n) ((0 + length kept) ∷ []) []) own
+    places-split (is_of n) 0 kept (Some c ∷ [])
+    ∙ ap (λ (o : Option ℕ). places_by (is_of n) 0 kept ++ cond (is_number o n) ((0 + length kept) ∷ []) []) own
     ) where
       at : (b : Bool) → cond b (old ++ length kept ∷ []) old ≡ places_by (is_of n) 0 kept ++ cond b ((0 + length kept) ∷ []) []
       at true = let same : length kept ≡ 0 + length kept = omega arith in ap (λ (ns : List ℕ). ns ++ length kept ∷ []) is ∙ ap (λ (k : ℕ). places_by (is_of n) 0 kept ++ k ∷ []) same
@@ -139,7 +138,7 @@ found-push kept placed placed' first first' counted counted' c cycle found own a
   (λ n. places n ∙ placed-push n cycle kept c (unwrap_or (placed n) []) own (found.0 n)),
   (λ r. firsts r ∙ first-push r kept c (first r) (found.1 r)),
   (λ member. counts member ∙ ap (λ (k : ℕ). cond (nat_eq c.member member) (k + 1) k) (found.2 member) ∙ ap (times member) (sym (live-push kept c))),
-  (ap are_alone (live-push kept c) ∙ both (list_all (is_apart c.member c.change.place c.change.cycle) (live kept)) (are_alone (live kept)) apart found.3)
+  (ap are_alone (live-push kept c) ∙ both (list_all (is_apart c.member c.change.place c.change.cycle) (live kept)) (are_alone (live kept)) apart found.3),
 )
 
 -- tables that find the same

@@ -1,12 +1,11 @@
 -- The last change of a commit cycle is taken out, and its place is left empty.
-use Rattle.std.proofs.Common.{◌≡◌, ℕ, zero, suc, ◌+◌, ◌-◌, ◌≤◌, ◌<◌, arith, Bool, true, false, ◌==◌, ◌&&◌, ◌||◌, not, cond, nat_eq, List, [], ◌∷◌, ◌++◌, length, set, get_or, Option, Some, None, refl, sym, ap, ◌∙◌, subst}
+use Rattle.std.proofs.Common.{◌≡◌, ℕ, suc, ◌+◌, ◌-◌, ◌<◌, arith, Bool, true, false, ◌==◌, ◌&&◌, ◌||◌, not, cond, nat_eq, List, [], ◌∷◌, ◌++◌, length, set, get_or, Option, Some, None, refl, sym, ap, ◌∙◌, subst}
 use Rattle.std.specs.Prelude.{unwrap_or}
-use Rattle.std.specs.List.{list_all, filter}
+use Rattle.std.specs.List.{list_all}
 use Rattle.std.proofs.lemmas.Bool.{and_parts, eqb-true, eq-eqb, ne_eqb}
-use Rattle.std.proofs.lemmas.List.{append-nil, append_assoc, length-append}
+use Rattle.std.proofs.lemmas.List.{append-nil, length-append}
 use Rattle.std.proofs.Math.Seq.{set-append_seam}
 use Rattle.journal_model.specs.Acts.{is_same_number, is_number}
-use Rattle.journal_model.specs.Replay.{is_in}
 use Rattle.journal_model.specs.Rollback.{MemberChange}
 use Rattle.journal_replay.specs.Tests.{is_apart}
 use Rattle.open_cycles.specs.Kept.{same_record, is_of, is_about, live, is_kept, places_by, first_by, first_after, is_at, times, are_alone, last_of, without_last, AreFound}
@@ -174,6 +173,7 @@ placed-part : (front back : Kept) (c : MemberChange) (n m : ℕ) (ps old : List 
 placed-part front back c n m ps old own before behind is = at (nat_eq n m) refl where
   here : ps ≡ places_by (is_of n) 0 (front ++ None ∷ back)
   here = sym before ∙ sym (append-nil (places_by (is_of n) 0 front)) ∙ ap (λ (ns : List ℕ). places_by (is_of n) 0 front ++ ns) (sym behind) ∙ sym (places-split (is_of n) 0 front (None ∷ back))
+
   at : (b : Bool) → nat_eq n m ≡ b → cond b ps old ≡ places_by (is_of m) 0 (front ++ None ∷ back)
   at true h = subst (λ (k : ℕ). ps ≡ places_by (is_of k) 0 (front ++ None ∷ back)) (eqb-true n m h) here
   at false h =
@@ -197,16 +197,19 @@ first-part : (front back : Kept) (c : MemberChange) (n place : ℕ) (first : ℕ
 first-part front back c n place first there own behind alone is r = at (same_record (record_of c) r) refl where
   split : (r : ℕ × ℕ) → first r ≡ first_after (first_by (is_about r) 0 front) (cond (is_about r c) (Some (0 + length front)) (first_by (is_about r) (0 + length front + 1) back))
   split r = is r ∙ first-split (is_about r) 0 front (Some c ∷ back)
+
   none : first_by (is_about (record_of c)) (0 + length front + 1) back ≡ None
   none = first-none (is_about (record_of c)) (0 + length front + 1) back
       (none-about n (live back) (live front) c (sym (ap are_alone (live-split front back (Some c))) ∙ alone) own (none-live n (0 + length front + 1) back behind))
+
   here : cond (is_at place (first (record_of c))) None (first (record_of c)) ≡ first_by (is_about (record_of c)) 0 (front ++ None ∷ back)
   here =
       first-here place (0 + length front) (first_by (is_about (record_of c)) 0 front) (first (record_of c)) (first_by (is_about (record_of c)) (0 + length front + 1) back) there
-          (λ q e. first-below (is_about (record_of c)) 0 front q e)
-          (split (record_of c) ∙ ap (λ (b : Bool). first_after (first_by (is_about (record_of c)) 0 front) (cond b (Some (0 + length front)) (first_by (is_about (record_of c)) (0 + length front + 1) back))) (is_own c))
-          none
+      (λ q e. first-below (is_about (record_of c)) 0 front q e)
+      (split (record_of c) ∙ ap (λ (b : Bool). first_after (first_by (is_about (record_of c)) 0 front) (cond b (Some (0 + length front)) (first_by (is_about (record_of c)) (0 + length front + 1) back))) (is_own c))
+      none
       ∙ sym (first-split (is_about (record_of c)) 0 front (None ∷ back))
+
   at : (b : Bool) → same_record (record_of c) r ≡ b → cond (b && is_at place (first (record_of c))) None (first r) ≡ first_by (is_about r) 0 (front ++ None ∷ back)
   at true h =
       let parts = and_parts (nat_eq c.member r.0) (nat_eq c.change.place r.1) h in
@@ -235,7 +238,7 @@ found-without front back c n place ps placed placed' first first' counted counte
   (λ m. places m ∙ placed-part front back c n m ps (unwrap_or (placed m) []) own before behind (found.0 m)),
   (λ r. firsts r ∙ first-part front back c n place first there own behind found.3 found.1 r),
   (λ m. counts m ∙ count-part front back c m (unwrap_or (counted m) 0) (found.2 m)),
-  (ap are_alone (live-split front back None) ∙ alone-less (live back) (live front) c (sym (ap are_alone (live-split front back (Some c))) ∙ found.3))
+  (ap are_alone (live-split front back None) ∙ alone-less (live back) (live front) c (sym (ap are_alone (live-split front back (Some c))) ∙ found.3)),
 )
 
 -- ---- all of it
@@ -282,5 +285,31 @@ module _ (kept : Kept) (n place : ℕ) (ps : List ℕ) (l : IsLast n 0 kept ps p
       let same : c ≡ l.change = some_change (sym got ∙ last-here) in
       subst (λ (k : Kept). AreFound k placed' first' counted') (sym emptied)
       (found-without l.front l.back l.change n place ps placed placed' first first' counted counted' (subst (λ (k : Kept). AreFound k placed first counted) l.whole found) l.there l.own l.before l.behind places
-          (subst (λ (x : MemberChange). (r : ℕ × ℕ) → first' r ≡ cond (same_record (x.member, x.change.place) r && is_at place (first (x.member, x.change.place))) None (first r)) same firsts)
-          (subst (λ (x : MemberChange). (m : ℕ) → unwrap_or (counted' m) 0 ≡ cond (nat_eq x.member m) (unwrap_or (counted m) 0 - 1) (unwrap_or (counted m) 0)) same counts))
+      (subst (λ (x : MemberChange). (r : ℕ × ℕ) → first' r ≡ cond (same_record (x.member, x.change.place) r && is_at place (first (x.member, x.change.place))) None (first r)) same firsts)
+      (subst (λ (x : MemberChange). (m : ℕ) → unwrap_or (counted' m) 0 ≡ cond (nat_eq x.member m) (unwrap_or (counted m) 0 - 1) (unwrap_or (counted m) 0)) same counts))
+
+-- ---- an empty place behind all others goes
+
+first-end : (o : Option ℕ) → first_after o None ≡ o
+first-end None = refl
+first-end (Some place) = refl
+
+pub live-trimmed : (kept : Kept) → live (kept ++ None ∷ []) ≡ live kept
+live-trimmed kept = live-split kept [] None
+
+pub found-trimmed : (kept : Kept) (placed : ℕ → Option (List ℕ)) (first : ℕ × ℕ → Option ℕ) (counted : ℕ → Option ℕ) → AreFound (kept ++ None ∷ []) placed first counted → AreFound kept placed first counted
+found-trimmed kept placed first counted found = (
+  (λ n. found.0 n ∙ places-split (is_of n) 0 kept (None ∷ []) ∙ append-nil (places_by (is_of n) 0 kept)),
+  (λ r. found.1 r ∙ first-split (is_about r) 0 kept (None ∷ []) ∙ first-end (first_by (is_about r) 0 kept)),
+  (λ m. found.2 m ∙ ap (times m) (live-trimmed kept)),
+  (sym (ap are_alone (live-trimmed kept)) ∙ found.3),
+)
+
+pub trimmed-found : (b : Bool) (old new : Kept) (placed : ℕ → Option (List ℕ)) (first : ℕ × ℕ → Option ℕ) (counted : ℕ → Option ℕ) → (b ≡ true → old ≡ new ++ None ∷ []) → (b ≡ false → new ≡ old)
+    → AreFound old placed first counted → AreFound new placed first counted
+trimmed-found true old new placed first counted taken same found = found-trimmed new placed first counted (subst (λ (k : Kept). AreFound k placed first counted) (taken refl) found)
+trimmed-found false old new placed first counted taken same found = subst (λ (k : Kept). AreFound k placed first counted) (sym (same refl)) found
+
+pub trimmed-live : (b : Bool) (old new : Kept) → (b ≡ true → old ≡ new ++ None ∷ []) → (b ≡ false → new ≡ old) → live new ≡ live old
+trimmed-live true old new taken same = sym (ap live (taken refl) ∙ live-trimmed new)
+trimmed-live false old new taken same = ap live (same refl)

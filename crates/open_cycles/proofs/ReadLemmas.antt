@@ -1,16 +1,17 @@
 -- What the first change of a record, the count of a member's changes and the last change of a commit cycle tell of all changes.
-use Rattle.std.proofs.Common.{◌≡◌, ℕ, zero, suc, ◌+◌, ◌≤◌, ◌<◌, arith, Bool, true, false, ◌==◌, ◌&&◌, ◌||◌, not, cond, nat_eq, List, [], ◌∷◌, ◌++◌, length, get_or, Option, Some, None, refl, sym, ap, ◌∙◌, subst}
-use Rattle.std.specs.List.{list_all, list_any, filter}
+use Rattle.std.proofs.Common.{◌≡◌, ℕ, suc, ◌+◌, ◌<◌, arith, Bool, true, false, ◌==◌, ◌&&◌, ◌||◌, not, cond, nat_eq, List, [], ◌∷◌, ◌++◌, length, Option, Some, None, refl, sym, ap, ◌∙◌, subst}
+use Rattle.std.specs.Prelude.{unwrap_or}
+use Rattle.std.specs.List.{list_all, filter}
 use Rattle.std.specs.Option.{is_some}
 use Rattle.std.proofs.lemmas.Bool.{and_parts, eqb-true, eq-eqb, ne_eqb}
 use Rattle.std.proofs.lemmas.List.{append_assoc, length-append}
 use Rattle.member_slots.specs.declared.slot.Slot.{Slot}
 use Rattle.journal_model.specs.Acts.{is_same_number, is_number}
-use Rattle.journal_model.specs.Replay.{is_in, is_not_in, before_of}
+use Rattle.journal_model.specs.Replay.{is_not_in, before_of}
 use Rattle.journal_model.specs.Rollback.{MemberChange}
 use Rattle.journal_replay.specs.Tests.{is_apart, is_touched, is_of_record, first_before}
-use Rattle.open_cycles.specs.Kept.{is_of, is_about, live, is_kept, places_by, first_by, got, passes, passes_at, times, are_alone, last_of, without_last, earlier, first_change}
-use Rattle.open_cycles.proofs.KeptLemmas.{Kept, all-split, both}
+use Rattle.open_cycles.specs.Kept.{is_of, is_about, live, places_by, first_by, got, passes, passes_at, times, are_alone, last_of, without_last, earlier, first_change, AreFound}
+use Rattle.open_cycles.proofs.KeptLemmas.{Kept, all-split}
 use Rattle.open_cycles.proofs.LastLemmas.{get-seam}
 
 -- ---- the first change of a record
@@ -230,3 +231,32 @@ passed-read p t front (x ∷ rest) =
 
 pub all-passed : (p t : MemberChange → Bool) (kept : Kept) → list_all (passes_at t kept) (places_by p 0 kept) ≡ list_all (λ (c : MemberChange). not (p c) || t c) (live kept)
 all-passed p t kept = passed-read p t [] kept
+
+-- ---- the places of a commit cycle that has no changes
+
+no-last : (n : ℕ) (xs : List MemberChange) (c : MemberChange) → last_of n (xs ++ c ∷ []) ≡ None → (last_of n xs ≡ None) × (is_of n c ≡ false)
+no-last n [] c h = at (is_of n c) h where
+  at : (b : Bool) → cond b (Some c) None ≡ None → (last_of n [] ≡ None) × (b ≡ false)
+  at true h = absurd cc
+  at false h = (refl, refl)
+no-last n (d ∷ xs) c h = at (is_of n d) h (no-last n xs c) where
+  at : (b : Bool) → cond b (Some d) (last_of n (xs ++ c ∷ [])) ≡ None → (last_of n (xs ++ c ∷ []) ≡ None → (last_of n xs ≡ None) × (is_of n c ≡ false)) → (cond b (Some d) (last_of n xs) ≡ None) × (is_of n c ≡ false)
+  at true h more = absurd cc
+  at false h more = more h
+
+no-places : (n place : ℕ) (kept : Kept) → last_of n (live kept) ≡ None → places_by (is_of n) place kept ≡ []
+no-places n place [] h = refl
+no-places n place (None ∷ kept) h = no-places n (place + 1) kept h
+no-places n place (Some c ∷ kept) h =
+    let parts = no-last n (live kept) c h in
+    ap (λ (b : Bool). cond b (place ∷ places_by (is_of n) (place + 1) kept) (places_by (is_of n) (place + 1) kept)) parts.1 ∙ no-places n (place + 1) kept parts.0
+
+pub found-forgotten : (kept : Kept) (placed placed' : ℕ → Option (List ℕ)) (first : ℕ × ℕ → Option ℕ) (counted : ℕ → Option ℕ) (n : ℕ) → is_some (last_of n (live kept)) ≡ false
+    → ((m : ℕ) → placed' m ≡ cond (nat_eq n m) None (placed m)) → AreFound kept placed first counted → AreFound kept placed' first counted
+found-forgotten kept placed placed' first counted n none places found = ((λ m. ap (λ (o : Option (List ℕ)). unwrap_or o []) (places m) ∙ at m (nat_eq n m) refl (found.0 m)), found.1, found.2, found.3) where
+  here : [] ≡ places_by (is_of n) 0 kept
+  here = sym (no-places n 0 kept (none_of (last_of n (live kept)) none))
+
+  at : (m : ℕ) (b : Bool) → nat_eq n m ≡ b → unwrap_or (placed m) [] ≡ places_by (is_of m) 0 kept → unwrap_or (cond b None (placed m)) [] ≡ places_by (is_of m) 0 kept
+  at m true h old = subst (λ (k : ℕ). [] ≡ places_by (is_of k) 0 kept) (eqb-true n m h) here
+  at m false h old = old

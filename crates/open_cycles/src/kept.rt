@@ -1,5 +1,5 @@
 //! The changes of all open commit cycles at their places. The commit cycles themselves are in `cycles.rt`.
-ghost use Rattle.std.specs.Prelude.{◌≡◌, ◌<◌, ◌^◌, [], ◌∷◌, None, true, length, OnOk};
+ghost use Rattle.std.specs.Prelude.{◌≡◌, ◌<◌, ◌^◌, [], ◌∷◌, ◌++◌, None, true, false, length, OnOk};
 ghost use Rattle.std.specs.List.{filter, list_all};
 ghost use Rattle.std.specs.Option.{is_some, option_copied, option_map};
 ghost use Rattle.journal_model.specs.Replay.{is_not_in, before_of};
@@ -106,7 +106,13 @@ impl Changes {
     {
         match self.places.get(&cycle) {
             None => true,
-            Some(places) => are_back(self, self.kept.as_slice(), places.as_slice(), cycle, members),
+            Some(places) => are_back(
+                self,
+                self.kept.as_slice(),
+                places.as_slice(),
+                cycle,
+                members,
+            ),
         }
     }
 
@@ -153,7 +159,58 @@ impl Changes {
     pub(crate) fn end(&mut self, cycle: u64)
         ensures { self.new ≡ filter (λ c. is_not_in cycle c.change) self.old }
     {
+        self.drop_all(cycle);
+        self.forget(cycle);
+        self.trim();
+    }
+
+    fn drop_all(&mut self, cycle: u64)
+        ensures left { self.new ≡ filter (λ c. is_not_in cycle c.change) self.old }
+        ensures none { is_some (last_of cycle self.new) ≡ false }
+    {
         while self.drop_last(cycle) {}
+    }
+
+    /// The places of a commit cycle that has no changes are no longer kept.
+    fn forget(&mut self, cycle: u64)
+        requires { is_some (last_of cycle self.old) ≡ false }
+        ensures { self.new ≡ self.old }
+    {
+        let _own = self.places.swap_remove(&cycle);
+    }
+
+    /// The empty places behind all changes go.
+    fn trim(&mut self)
+        ensures { self.new ≡ self.old }
+    {
+        let places = count(self.kept.as_slice());
+        for trimmed in 0..places {
+            if !self.trim_last() {
+                return;
+            }
+        }
+    }
+
+    /// The last place goes, if it is empty.
+    fn trim_last(&mut self) -> bool
+        ensures { self.new ≡ self.old }
+    {
+        take_empty(&mut self.kept)
+    }
+}
+
+/// Takes the last place out, if it is empty.
+fn take_empty(kept: &mut Vec<Option<OpenChange>>) -> bool
+    ensures taken { result ≡ true → kept.old.items ≡ kept.new.items ++ None ∷ [] }
+    ensures same { result ≡ false → kept.new.items ≡ kept.old.items }
+{
+    match kept.pop() {
+        None => false,
+        Some(None) => true,
+        Some(Some(change)) => {
+            kept.push_reserved(Some(change));
+            false
+        }
     }
 }
 

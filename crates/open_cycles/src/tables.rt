@@ -121,11 +121,7 @@ pub(crate) fn add_first(firsts: &mut IndexMap<(u32, u32), usize>, key: (u32, u32
 }
 
 /// The change of the record at this place goes: it may have been the first.
-pub(crate) fn forget_first(
-    firsts: &mut IndexMap<(u32, u32), usize>,
-    key: (u32, u32),
-    place: usize,
-)
+pub(crate) fn forget_first(firsts: &mut IndexMap<(u32, u32), usize>, key: (u32, u32), place: usize)
     ensures { (r : ℕ × ℕ) → get same_record firsts.new r ≡ (if same_record key r && is_at place (get same_record firsts.old key) then None else get same_record firsts.old r) }
 {
     if is_first(firsts, key, place) {

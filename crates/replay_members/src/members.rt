@@ -16,8 +16,8 @@ use crate::slots::is_slot_at;
 use field_types::names::Name;
 use indexmap::IndexMap;
 use journal_replay::MemberAct;
-use open_cycles::{HasSlots, OpenCycles};
 use member_slots::slot::Slot;
+use open_cycles::{HasSlots, OpenCycles};
 use std::alloc::{AllocError, Global};
 use std::marker::Model;
 

@@ -325,11 +325,11 @@ made_is (PreviousReceiver number) e next h = refl
 -- what an entry that may come next tells of the move
 pub stands-sequence : (d : Descriptions) (s : Standing) (e : Entry) → may_stand_next d s e ≡ true → e.sequence ≡ s.next
 stands-sequence d s e h = eqb-true e.sequence s.next (
-  and_parts (e.sequence == s.next) (ends_pair s.begun e)
-      (and_parts _ (names_open e.kind s.cycles e.group)
-      (and_parts _ (frees_deleted e.kind s)
-      (and_parts _ (may_enter d e.kind e (catalogue_in s)) (and_parts _ (follows_by e.kind s e) (and_parts _ (are_records_of d (catalogue_in s) (member_numbered e.member (catalogue_in s)) (images_of e.kind)) h).0).0).0).0).0
-).0
+    and_parts (e.sequence == s.next) (ends_pair s.begun e)
+    (and_parts _ (names_open e.kind s.cycles e.group)
+    (and_parts _ (frees_deleted e.kind s)
+    (and_parts _ (may_enter d e.kind e (catalogue_in s)) (and_parts _ (follows_by e.kind s e) (and_parts _ (are_records_of d (catalogue_in s) (member_numbered e.member (catalogue_in s)) (images_of e.kind)) h).0).0).0).0).0
+    ).0
 
 stands_enters : (d : Descriptions) (s : Standing) (e : Entry) → may_stand_next d s e ≡ true → may_enter d e.kind e (catalogue_in s) ≡ true
 stands_enters d s e h =

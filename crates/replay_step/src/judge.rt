@@ -256,7 +256,8 @@ impl Replay {
             EntryKind::CommitCycleStarted => self.is_next(cycle),
             EntryKind::CommitCycleCommitted => self.open_cycles.is_open(cycle),
             EntryKind::CommitCycleRolledBack => {
-                self.open_cycles.is_open(cycle) && self.open_cycles.are_restored(cycle, &self.members)
+                self.open_cycles.is_open(cycle)
+                    && self.open_cycles.are_restored(cycle, &self.members)
             }
             EntryKind::CommitmentEnded => true,
             EntryKind::AbnormalEnd => true,
@@ -272,11 +273,14 @@ impl Replay {
             MemberAct::ChangeSlot(change) => {
                 fits(self.members.slots_of(number), change)
                     && self.is_open(change.cycle)
-                    && self.open_cycles.are_apart(number, change.place, change.cycle)
+                    && self
+                        .open_cycles
+                        .are_apart(number, change.place, change.cycle)
             }
             MemberAct::Journal { .. } => !self.open_cycles.has_member(number),
             MemberAct::Stand { place, .. } => {
-                !self.open_cycles.has_member(number) && has_place(self.members.slots_of(number), *place)
+                !self.open_cycles.has_member(number)
+                    && has_place(self.members.slots_of(number), *place)
             }
             MemberAct::Clear => !self.open_cycles.has_member(number),
             MemberAct::Reorganize => !self.open_cycles.has_member(number),

@@ -7,7 +7,7 @@ pub returns : goal.returns
 returns c = record {
   may = λ d breaks j s l e. (
     (λ h. so_far-push d j e l.so_far (stand-come d breaks j s l e (test-stands d s e h))),
-    (λ r. stands-test d s e (come-stand d breaks j s l e (so_far-last d j e r)))
+    (λ r. stands-test d s e (come-stand d breaks j s l e (so_far-last d j e r))),
   );
   left = λ d breaks j s l e h. left-after d breaks j s l e (test-stands d s e h);
 }

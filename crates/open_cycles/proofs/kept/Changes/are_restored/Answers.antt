@@ -1,4 +1,4 @@
-use Rattle.std.proofs.Common.{◌≡◌, ◌∙◌, List, ℕ, [], Option, ap}
+use Rattle.std.proofs.Common.{◌∙◌, List, ℕ, [], Option, ap}
 use Rattle.std.specs.Prelude.{unwrap_or}
 use Rattle.std.specs.List.{list_all}
 use Rattle.journal_model.specs.Rollback.{MemberChange}

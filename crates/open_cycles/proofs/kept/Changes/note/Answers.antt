@@ -1,4 +1,4 @@
-use Rattle.std.proofs.Common.{◌≡◌, ◌∙◌, ◌<◌, ◌≤◌, ◌∷◌, ◌++◌, [], ℕ, List, Option, Some, None, true, nat_eq, length, cond, arith, rules, refl, sym, ap, subst}
+use Rattle.std.proofs.Common.{◌≡◌, ◌∙◌, ◌<◌, ◌≤◌, ◌∷◌, ◌++◌, [], ℕ, List, Some, None, true, nat_eq, length, cond, arith, rules, refl, sym, ap, subst}
 use Rattle.std.specs.Prelude.{unwrap_or}
 use Rattle.std.specs.List.{list_all}
 use Rattle.std.specs.Map.{lookup}
@@ -30,15 +30,15 @@ invariant_of-self-2 c =
     let there : c.count-place.result ≡ length kept = c.count-place.ensures.value ∙ ap length sliced in
     let apart : list_all (is_apart change.member change.change.place change.change.cycle) (live kept) ≡ true = rw (← c.change.view_is, ← c.self.view_is) at c.requires in
     let found = found-same kept (get nat_eq c.self.inside.places) (get same_record c.self.inside.firsts) (get same_record c.reserve-2.new.self) (get nat_eq c.self.inside.counts) (get nat_eq c.reserve-3.new.self)
-        (λ r. ap (lookup (same_record r)) c.reserve-2.ensures.entries) (λ m. ap (lookup (nat_eq m)) c.reserve-3.ensures.entries) c.self.invariant in
+    (λ r. ap (lookup (same_record r)) c.reserve-2.ensures.entries) (λ m. ap (lookup (nat_eq m)) c.reserve-3.ensures.entries) c.self.invariant in
     subst (λ (k : Kept). AreFound k (get nat_eq c.add_place.new.places) (get same_record c.add_first.new.firsts) (get nat_eq c.count_more.new.counts)) (sym items)
     (found-push kept (get nat_eq c.self.inside.places) (get nat_eq c.add_place.new.places) (get same_record c.reserve-2.new.self) (get same_record c.add_first.new.firsts)
-        (get nat_eq c.reserve-3.new.self) (get nat_eq c.count_more.new.counts) change c.change.inside.cycle found refl apart
-        (subst (λ (place : ℕ). (n : ℕ) → unwrap_or (get nat_eq c.add_place.new.places n) []
-            ≡ cond (nat_eq c.change.inside.cycle n) (unwrap_or (get nat_eq c.self.inside.places n) [] ++ place ∷ []) (unwrap_or (get nat_eq c.self.inside.places n) [])) there c.in_ok-add_place.ensures.added)
-        (subst (λ (place : ℕ). (r : ℕ × ℕ) → get same_record c.add_first.new.firsts r
-            ≡ first_after (get same_record c.reserve-2.new.self r) (cond (same_record (change.member, change.change.place) r) (Some place) None)) there c.add_first.ensures)
-        c.count_more.ensures)
+    (get nat_eq c.reserve-3.new.self) (get nat_eq c.count_more.new.counts) change c.change.inside.cycle found refl apart
+    (subst (λ (place : ℕ). (n : ℕ) → unwrap_or (get nat_eq c.add_place.new.places n) []
+    ≡ cond (nat_eq c.change.inside.cycle n) (unwrap_or (get nat_eq c.self.inside.places n) [] ++ place ∷ []) (unwrap_or (get nat_eq c.self.inside.places n) [])) there c.in_ok-add_place.ensures.added)
+    (subst (λ (place : ℕ). (r : ℕ × ℕ) → get same_record c.add_first.new.firsts r
+    ≡ first_after (get same_record c.reserve-2.new.self r) (cond (same_record (change.member, change.change.place) r) (Some place) None)) there c.add_first.ensures)
+    c.count_more.ensures)
 
 pub returns : goal.returns
 returns c =

@@ -1,9 +1,7 @@
-use Rattle.std.proofs.Common.{◌≡◌, ◌∙◌, nat_eq, [], Some, sym, ap}
+use Rattle.std.proofs.Common.{◌∙◌, nat_eq, [], Some, sym, ap}
 use Rattle.std.specs.Prelude.{unwrap_or}
-use Rattle.std.specs.List.{list_all}
 use Rattle.indexmap.specs.IndexMap.{get}
-use Rattle.journal_model.specs.Rollback.{MemberChange}
-use Rattle.open_cycles.specs.Kept.{is_of, live, same_record}
+use Rattle.open_cycles.specs.Kept.{live, same_record}
 use Rattle.open_cycles.proofs.LastLemmas.{split-last, none-live, last-absent, without-absent, last-here, live-emptied, last-live, last-within, found-last}
 use Rattle.open_cycles.proofs.ReadLemmas.{none_some}
 use Rattle.open_cycles.proofs.kept.Changes.take_last.Goals as goal
@@ -50,8 +48,8 @@ invariant_of-self-2 c =
     let last = split-last c.args.cycle 0 kept ps c.in-Some.place (sym (c.self.invariant.0 c.args.cycle) ∙ c.in-Some.ensures.taken) in
     rw c.take_at.ensures.left
     (found-last kept c.args.cycle c.in-Some.place ps last (get nat_eq inside.places) (get nat_eq c.take_place.new.places) (get same_record inside.firsts) (get same_record c.forget_first.new.firsts)
-        (get nat_eq inside.counts) (get nat_eq c.count_less.new.counts) _ c.self.invariant (sym c.in-Some-take_at.ensures.taken ∙ ap Some (sym c.change.view_is))
-        c.in-Some.ensures.others c.forget_first.ensures c.count_less.ensures)
+    (get nat_eq inside.counts) (get nat_eq c.count_less.new.counts) _ c.self.invariant (sym c.in-Some-take_at.ensures.taken ∙ ap Some (sym c.change.view_is))
+    c.in-Some.ensures.others c.forget_first.ensures c.count_less.ensures)
 
 pub returns-clause-change : goal.returns-clause-change
 returns-clause-change c =
