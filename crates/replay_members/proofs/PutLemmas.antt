@@ -1,9 +1,9 @@
 -- A slot that is put at a place is written there, or pushed behind the last one.
-use Rattle.std.proofs.Common.{◌≡◌, ℕ, zero, suc, ◌+◌, ◌≤◌, ◌<◌, Bool, true, false, ◌&&◌, List, [], ◌∷◌, ◌++◌, length, set, get_or, refl, ap, ◌∙◌, arith}
+use Rattle.std.proofs.Common.{◌≡◌, ℕ, zero, suc, ◌+◌, ◌≤◌, ◌<◌, List, [], ◌∷◌, ◌++◌, length, set, get_or, refl, ap, ◌∙◌, arith}
 use Rattle.std.specs.Prelude.{◌-◌, replicate}
 use Rattle.std.proofs.lemmas.List.{append-nil}
 use Rattle.member_slots.specs.declared.slot.Slot.{Slot}
-use Rattle.member_slots.specs.declared.slot.Slot.TheVariants.{Live, Deleted}
+use Rattle.member_slots.specs.declared.slot.Slot.TheVariants.{Deleted}
 use Rattle.journal_model.specs.Places.{slot_of, put_slot}
 
 pub put-there : (slots : List Slot) (place : ℕ) (slot : Slot) → place < length slots → set slots place slot ≡ put_slot slots place slot

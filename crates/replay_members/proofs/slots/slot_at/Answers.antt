@@ -1,4 +1,4 @@
-use Rattle.std.proofs.Common.{◌∙◌, ◌<◌, ◌≤◌, length, sym, arith}
+use Rattle.std.proofs.Common.{◌∙◌, sym, arith}
 use Rattle.replay_members.proofs.PutLemmas.{slot_of-there, slot_of-past}
 use Rattle.replay_members.proofs.slots.slot_at.Goals as goal
 

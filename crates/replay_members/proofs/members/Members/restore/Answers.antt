@@ -1,4 +1,4 @@
-use Rattle.std.proofs.Common.{◌≡◌, ◌∙◌, nat_eq, map, ap, List, ℕ, []}
+use Rattle.std.proofs.Common.{◌∙◌, nat_eq, map, ap}
 use Rattle.indexmap.proofs.CallerLemmas.{insert_entry-new}
 use Rattle.replay_members.specs.Bodies.{held}
 use Rattle.replay_members.proofs.HeldLemmas.{held-push, below-absent, below-more}
