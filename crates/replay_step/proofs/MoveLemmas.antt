@@ -1,5 +1,5 @@
 -- A standing moves on by the acts of the members that an entry names.
-use Rattle.std.proofs.Common.{◌≡◌, ℕ, ◌+◌, Bool, true, false, ◌&&◌, ◌==◌, not, cond, leb, List, [], ◌∷◌, ◌++◌, map, Option, Some, None, refl, sym, ap, ◌∙◌}
+use Rattle.std.proofs.Common.{◌≡◌, ℕ, Bool, true, false, ◌&&◌, ◌==◌, not, cond, leb, List, [], ◌∷◌, ◌++◌, map, Option, Some, None, refl, sym, ap, ◌∙◌}
 use Rattle.std.specs.List.{filter, list_all, list_any}
 use Rattle.std.specs.Prelude.{is_none, unwrap_or}
 use Rattle.std.specs.Str.{bytes_eq}
@@ -12,15 +12,14 @@ use Rattle.entry_codec.specs.declared.kinds.EntryKind.TheVariants.{FileCreated, 
 use Rattle.journal_model.specs.declared.limits.TheConstants.{LAST_MEMBER}
 use Rattle.journal_model.specs.Acts.{Act, Changed, Began, Committed, RolledBack, Journaled, Stood, Cleared, Reorganized, Ended, Nothing, act_there, act_elsewhere, is_number, cycle_of}
 use Rattle.journal_model.specs.Replayable.{is_open}
-use Rattle.journal_model.specs.Replay.{is_other, is_not_in, cycles_after}
+use Rattle.journal_model.specs.Replay.{is_other, cycles_after}
 use Rattle.journal_model.specs.Rollback.{MemberChange, undos_by, named}
 use Rattle.journal_model.specs.Catalogue.{Catalogue, CatalogMember, Descriptions, file_named, members_of, member_numbered}
 use Rattle.journal_model.specs.Images.{images_of}
-use Rattle.journal_replay.specs.Standing.{HeldMember, Standing, catalogue_in, member_by, members_by, left_by, new_member, made_with, made_by, next_after, slots_at, standing_after}
+use Rattle.journal_replay.specs.Standing.{HeldMember, Standing, catalogue_in, member_by, left_by, new_member, made_with, made_by, next_after, slots_at, standing_after}
 use Rattle.journal_replay.specs.Tests.{is_next_member, makes_member, is_physical_file, is_apart, fits_slot, may_act, may_enter, follows_by, frees_deleted, names_open, ends_pair, are_records_of, may_stand_next, member_act}
 use Rattle.journal_replay.specs.Open.{Open}
-use Rattle.replay_members.specs.Bodies.{with_act}
-use Rattle.replay_step.specs.Moves.{acted, noted_by, ended, open_by, open_in, first_member, made_at, standing_by, is_next, first_is_next, makes_next, may_note, names_new}
+use Rattle.replay_step.specs.Moves.{acted, open_by, open_in, first_member, made_at, standing_by, is_next, first_is_next, makes_next, may_note, names_new}
 
 act_alike : (kind : EntryKind) (prior : Option Entry) (e : Entry) (sequence : ℕ) (m : HeldMember) → member_by (act_there kind prior e) sequence m ≡ member_by (member_act kind prior e) sequence m
 act_alike (FileCreated kind name source) prior e sequence m = refl
