@@ -1,4 +1,4 @@
-//! What an entry does to the member that it names. Commit cycles are in `cycles.rt`.
+//! What an entry does to the member that it names. Commit cycles are in the crate `open_cycles`.
 ghost use Rattle.std.specs.Prelude.{◌≡◌, IfOk, Some};
 ghost use Rattle.member_slots.specs.declared.slot.Slot.TheVariants.{Live, Deleted};
 ghost use Rattle.journal_model.specs.Acts.{changes_slot, is_same_record, held_before, updated_from, undone_from, deleted_from};
