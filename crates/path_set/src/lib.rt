@@ -10,6 +10,7 @@ mod many;
 pub mod many_laws;
 pub mod member_laws;
 pub mod moves;
+pub mod over;
 pub mod rebuilding;
 pub mod repeated;
 pub mod set;

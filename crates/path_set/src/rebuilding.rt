@@ -151,7 +151,7 @@ fn add_rebuilt(
 }
 
 /// Whether a format of the path is over the member.
-fn is_over(spec: &PathSpec, number: u32) -> bool
+pub(crate) fn is_over(spec: &PathSpec, number: u32) -> bool
     ensures { result ≡ is_over number spec.now }
 {
     spec.formats
