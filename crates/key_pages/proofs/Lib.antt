@@ -6,5 +6,6 @@ pub mod StepLemmas
 pub mod MemberLemmas
 pub mod CutLemmas
 pub mod PageLemmas
+pub mod HalvesLemmas
 pub mod NearLemmas
 pub mod FillLemmas

@@ -2,7 +2,7 @@
 use Rattle.std.proofs.Common.{◌≡◌, ℕ, suc, zero, ◌+◌, ◌-◌, ◌*◌, ◌/◌, ◌<◌, ◌≤◌, List, [], ◌∷◌, ◌++◌, length, get_or, take, drop, set, map, Some, refl, ap, sym, ◌∙◌, subst, arith, add-one, inl, inr}
 use Rattle.std.specs.Prelude.{All, insert, remove, sum}
 use Rattle.std.proofs.lemmas.Bool.{cases_lt}
-use Rattle.std.proofs.lemmas.List.{append-nil, append_assoc, take-append-drop, drop_more, set_split, take-set-le, take_more_set, drop-set-lt, drop_all, drop_at, length-append, length-drop, length-set, length-take-le, take-append-le, take-take, get_or_append_left, get_or-take, length_push, get_or_read}
+use Rattle.std.proofs.lemmas.List.{append-nil, append_assoc, take-append-drop, drop_more, set_split, take-set-le, take_more_set, drop-set-lt, drop_all, drop_at, length-append, length-drop, length-set, length-take-le, take-append-le, take-take, get_or_append_left, get_or-take, length_push}
 use Rattle.std.proofs.lemmas.List.Concat.{flat_map-append}
 use Rattle.std.proofs.lemmas.List.Elements.{All-nil, All-cons, All-head, All-tail, All-append, All-take, All-drop, All-push, All-pop, All-weaker}
 use Rattle.std.proofs.lemmas.List.Sums.{sum_by-cons}
@@ -228,15 +228,9 @@ module _ (pages : List (List Entry)) (number left : ℕ) (page : List Entry) (si
         ∙ (ap (λ own. entries_of (take left (set pages number page)) ++ (own ++ entries_of (drop (left + 2) (set pages number page)))) levelled.same
         ∙ (entries_of-pair (set pages number page) left pair-within ∙ entries_of-set pages number page within))
 
--- what is read of pages
-pub page-read : (pages : List (List Entry)) (n : ℕ) (page : List Entry) → n < length pages → page ≡ get_or pages n page → page ≡ page_at pages n
-page-read pages n page within read = get_or_read pages n page within read []
-
-pub left-read : (pages removed : List (List Entry)) (n : ℕ) (page : List Entry) → n + 1 < length pages → removed ≡ remove pages (n + 1) → page ≡ get_or removed n page → page ≡ page_at pages n
-left-read pages removed n page within is read =
-    let long = removed-length pages n within in
-    let there : page ≡ get_or (remove pages (n + 1)) n page = read ∙ ap (λ xs. get_or xs n page) is in
-    page-read (remove pages (n + 1)) n page (omega (arith, long)) there ∙ removed-at pages n within []
+-- without the next page it is the same page
+pub left-page : (pages removed : List (List Entry)) (n : ℕ) → n + 1 < length pages → removed ≡ remove pages (n + 1) → page_at removed n ≡ page_at pages n
+left-page pages removed n within is = ap (λ xs. page_at xs n) is ∙ removed-at pages n within []
 
 -- two pages that became one, or share their entries
 module _ (pages removed after : List (List Entry)) (n : ℕ) (left right page : List Entry) (within : n + 1 < length pages) (is : removed ≡ remove pages (n + 1)) (left-is : left ≡ page_at pages n) (right-is : right ≡ page_at pages (n + 1)) where

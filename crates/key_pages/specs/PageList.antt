@@ -16,6 +16,19 @@ pub record PageList : Type 0 where
   pub pages : List (List Entry)
   pub free : ℕ
 
+-- pages in order, and for how many there is memory
+pub record PageRow : Type 0 where
+  pub items : List (List Entry)
+  pub room : ℕ
+
+-- the pages of two rings: so many in the first and in the second, and for how many either has memory
+pub record AreHalves (front back room most most_back : ℕ) : Type 0 where
+  pub even : back ≤ front
+  pub near : front ≤ back + 1
+  pub within : front + back ≤ room
+  pub front_room : room ≤ 2 * (most - 1)
+  pub back_room : room ≤ 2 * (most_back - 1)
+
 -- the entries of the pages, one page after another
 abbrev pub entries_of : List (List Entry) → List Entry
 entries_of pages = flat_map (λ page. page) pages

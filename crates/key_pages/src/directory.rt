@@ -3,7 +3,6 @@
 ghost use Rattle.std.specs.Prelude.{◌≡◌, ◌+◌, ◌-◌, ◌*◌, ◌<◌, ◌≤◌, ◌^◌, ◌/◌, [], ◌∷◌, ◌++◌, length, take, drop, insert, remove, reverse, set, All, List, ℕ, IfOk, IfErr, OnOk, true, false, Contains, Some, slice_index_or, vec_len, vec_capacity};
 ghost use Rattle.std.specs.List.{slice_get};
 ghost use Rattle.std.specs.Option.{option_copied, option_or};
-ghost use Rattle.std.specs.VecDeque.{deque_len, deque_capacity};
 ghost use Rattle.std.specs.List.Sorted.{IsSearchInRange};
 ghost use Rattle.key_pages.specs.declared.entries.Entry.{Entry};
 ghost use Rattle.key_pages.specs.Order.{IsInOrder};
@@ -13,33 +12,31 @@ ghost use Rattle.key_pages.specs.PageList.{entries_of, page_at, with_page, AreSi
 
 use crate::counting::Steps;
 use crate::entries::{self, Entry, EntryRef};
+use crate::halves::Halves;
 use crate::page::{FILLED_PAGE_ENTRIES, LEAST_PAGE_ENTRIES, MOST_PAGE_ENTRIES, Page};
 use crate::positions::Position;
 use crate::search;
 use std::alloc::{AllocError, Global};
-use std::collections::VecDeque;
 use std::marker::{Brand, Model};
-use std::mem;
 use std::sync::ledger::{Blank, Ledger};
 
 /// Pages in order, none too small and none too large, and free ones. A page that comes into use was free before, one that
 /// goes out of use is free again, so that only `reserve` takes memory.
 #[derive(Drop)]
 pub(crate) struct Directory {
-    pages: VecDeque<Page>,
+    pages: Halves,
     free: Vec<Page>,
 }
 
 impl Model for Directory {
-    ghost use Rattle.std.specs.Prelude.{◌+◌, vec_len, vec_capacity};
-    ghost use Rattle.std.specs.VecDeque.{deque_len, deque_capacity};
+    ghost use Rattle.std.specs.Prelude.{◌+◌, length, vec_len, vec_capacity};
     ghost use Rattle.key_pages.specs.PageList.{PageList, AreKept};
 
     ghost Value = { PageList };
 
     ghost view = { λ directory. record { pages = directory.pages.items; free = vec_len directory.free } };
 
-    ghost invariant = { λ directory. AreKept directory.pages.items directory.free.items (deque_len directory.pages + vec_len directory.free) (deque_capacity directory.pages) (vec_capacity directory.free) };
+    ghost invariant = { λ directory. AreKept directory.pages.items directory.free.items (length directory.pages.items + vec_len directory.free) directory.pages.room (vec_capacity directory.free) };
 }
 
 impl Directory {
@@ -48,7 +45,7 @@ impl Directory {
         ensures { result ≡ record { pages = []; free = 0 } }
     {
         Directory {
-            pages: VecDeque::new(alloc),
+            pages: Halves::new(alloc),
             free: Vec::new(alloc),
         }
     }
@@ -60,9 +57,9 @@ impl Directory {
         ensures kept { self.old.free ≤ self.new.free }
     {
         let missing = count.saturating_sub(self.pages.len() + self.free.len());
-        self.pages.reserve(self.free.len() + missing)?;
+        self.pages.reserve(count)?;
         self.free.reserve(self.pages.len() + missing)?;
-        let alloc = *self.pages.allocator();
+        let alloc = *self.free.allocator();
         add_free(&mut self.free, missing, alloc)
     }
 
@@ -78,14 +75,16 @@ impl Directory {
         requires { number < length self.now.pages }
         ensures { result ≡ length (page_at self.now.pages number) }
     {
-        self.pages[number].len()
+        self.pages.page(number).len()
     }
 
     pub(crate) fn entry(&self, number: usize, place: usize) -> Option<&Entry>
         ensures { option_copied result ≡ slice_get (page_at self.now.pages number) place }
     {
-        let page = self.pages.get(number)?;
-        page.entries().get(place)
+        if self.pages.len() <= number {
+            return None;
+        }
+        self.pages.page(number).entries().get(place)
     }
 
     /// The entry at this place of the page, or past its end the first one of the next page.
@@ -117,7 +116,7 @@ impl Directory {
         if begun == 0 {
             return (0, 0);
         }
-        let page = self.pages[begun - 1].entries();
+        let page = self.pages.page(begun - 1).entries();
         (begun - 1, search::place(page, falling, from, itself, steps))
     }
 
@@ -131,10 +130,10 @@ impl Directory {
         ensures few { LEAST_PAGE_ENTRIES * (length self.now.pages - 1) ≤ length (entries_of self.now.pages) }
     {
         let number = self.nearest(entry, falling);
-        if self.pages.is_empty() {
+        if self.pages.len() == 0 {
             return (0, Err(0));
         }
-        let page = self.pages[number].entries();
+        let page = self.pages.page(number).entries();
         (number, entries::find(page, entry, falling))
     }
 
@@ -167,9 +166,9 @@ impl Directory {
         ensures entries { entries_of self.new.pages ≡ with_page self.old.pages number (insert (page_at self.old.pages number) place entry) }
         ensures total { length self.new.pages + self.new.free ≡ length self.old.pages + self.old.free }
     {
-        if self.pages.is_empty() {
+        if self.pages.len() == 0 {
             self.insert_first(entry);
-        } else if self.pages[number].len() < MOST_PAGE_ENTRIES {
+        } else if self.pages.page(number).len() < MOST_PAGE_ENTRIES {
             self.insert_within(number, place, entry);
         } else {
             self.insert_split(number, place, entry);
@@ -184,7 +183,7 @@ impl Directory {
     {
         let mut page = self.free.take_last();
         page.push(entry);
-        self.pages.push_back_reserved(page);
+        self.pages.push(page);
     }
 
     fn insert_within(&mut self, number: usize, place: usize, entry: Entry)
@@ -194,7 +193,7 @@ impl Directory {
         ensures pages { self.new.pages ≡ set self.old.pages number (insert (page_at self.old.pages number) place entry) }
         ensures total { self.new.free ≡ self.old.free }
     {
-        self.pages[number].insert(place, entry);
+        self.pages.insert_entry(number, place, entry);
     }
 
     // The page is full: it goes on as two.
@@ -207,8 +206,8 @@ impl Directory {
         ensures total { length self.new.pages + self.new.free ≡ length self.old.pages + self.old.free }
     {
         let mut more = self.free.take_last();
-        insert_halving(&mut self.pages[number], place, entry, &mut more);
-        self.pages.insert(number + 1, more).unwrap();
+        self.pages.insert_halving(number, place, entry, &mut more);
+        self.pages.insert(number + 1, more);
     }
 
     /// Hands the entry at this place of the page back.
@@ -219,7 +218,7 @@ impl Directory {
         ensures entries { entries_of self.new.pages ≡ with_page self.old.pages number (remove (page_at self.old.pages number) place) }
         ensures total { length self.new.pages + self.new.free ≡ length self.old.pages + self.old.free }
     {
-        let len = self.pages[number].len();
+        let len = self.pages.page(number).len();
         let enough = LEAST_PAGE_ENTRIES < len;
         if self.pages.len() == 1 && len == 1 {
             self.remove_only()
@@ -237,7 +236,7 @@ impl Directory {
         ensures pages { self.new.pages ≡ [] }
         ensures total { self.new.free ≡ self.old.free + 1 }
     {
-        let mut page = self.pages.pop_back().unwrap();
+        let mut page = self.pages.remove(0);
         let entry = page.remove(0);
         self.free.push_reserved(page);
         entry
@@ -252,7 +251,7 @@ impl Directory {
         ensures pages { self.new.pages ≡ set self.old.pages number (remove (page_at self.old.pages number) place) }
         ensures total { self.new.free ≡ self.old.free }
     {
-        self.pages[number].remove(place)
+        self.pages.remove_entry(number, place)
     }
 
     // The page would have one entry too few.
@@ -264,7 +263,7 @@ impl Directory {
         ensures entries { entries_of self.new.pages ≡ with_page self.old.pages number (remove (page_at self.old.pages number) place) }
         ensures total { length self.new.pages + self.new.free ≡ length self.old.pages + self.old.free }
     {
-        let entry = self.pages[number].remove(place);
+        let entry = self.pages.remove_entry(number, place);
         level(&mut self.pages, &mut self.free, number.saturating_sub(1));
         entry
     }
@@ -282,7 +281,7 @@ impl Directory {
             let count = filled_len(entries.len());
             let mut page = self.free.take_last();
             move_front(&mut entries, count, &mut page);
-            self.pages.push_back_reserved(page);
+            self.pages.push(page);
         }
     }
 }
@@ -302,67 +301,28 @@ fn add_free(free: &mut Vec<Page>, count: usize, alloc: Global) -> Result<(), All
     Ok(())
 }
 
-// The shorter part moves to the empty page, the entry on its way, and each entry that moves does so once.
-fn insert_halving(page: &mut Page, place: usize, entry: Entry, into: &mut Page)
-    requires place { place ≤ length page.old }
-    requires full { length page.old ≡ MOST_PAGE_ENTRIES }
-    requires empty { into.old ≡ [] }
-    ensures entries { page.new ++ into.new ≡ insert page.old place entry }
-    ensures lower { length page.new ≡ MOST_PAGE_ENTRIES / 2 }
-    ensures upper { length into.new ≡ MOST_PAGE_ENTRIES / 2 + 1 }
-{
-    let half = MOST_PAGE_ENTRIES / 2;
-    if place < half {
-        page.move_first(place, into);
-        into.push(entry);
-        page.move_first(half - 1 - place, into);
-        mem::swap(page, into);
-    } else {
-        page.move_last(MOST_PAGE_ENTRIES - place, into);
-        into.push_first(entry);
-        page.move_last(place - half, into);
-    }
-}
-
 // Two neighbouring pages become one, or where they have too many entries for that, they share them evenly.
-fn level(pages: &mut VecDeque<Page>, free: &mut Vec<Page>, left: usize)
+fn level(pages: &mut Halves, free: &mut Vec<Page>, left: usize)
     requires left { left + 1 < length pages.old.items }
     requires least { LEAST_PAGE_ENTRIES ≤ length (page_at pages.old.items left) + length (page_at pages.old.items (left + 1)) }
     requires left_most { length (page_at pages.old.items left) ≤ MOST_PAGE_ENTRIES }
     requires right_most { length (page_at pages.old.items (left + 1)) ≤ MOST_PAGE_ENTRIES }
     requires empty { All (λ page. page ≡ []) free.old.items }
-    requires room { deque_len pages.old + vec_len free.old ≤ deque_capacity pages.old }
-    requires free_room { deque_len pages.old + vec_len free.old ≤ vec_capacity free.old }
+    requires room { length pages.old.items + vec_len free.old ≤ pages.old.room }
+    requires free_room { length pages.old.items + vec_len free.old ≤ vec_capacity free.old }
     ensures level { (level : List (List Entry)) × AreLevel (page_at pages.old.items left) (page_at pages.old.items (left + 1)) level × (pages.new.items ≡ take left pages.old.items ++ (level ++ drop (left + 2) pages.old.items)) }
     ensures empty { All (λ page. page ≡ []) free.new.items }
-    ensures total { deque_len pages.new + vec_len free.new ≡ deque_len pages.old + vec_len free.old }
-    ensures capacity { deque_capacity pages.old ≤ deque_capacity pages.new }
+    ensures total { length pages.new.items + vec_len free.new ≡ length pages.old.items + vec_len free.old }
+    ensures room { pages.new.room ≡ pages.old.room }
     ensures free_capacity { vec_capacity free.old ≤ vec_capacity free.new }
 {
-    let mut right = pages.remove(left + 1).unwrap();
-    let len = right.len();
-    if pages[left].len() + len <= MOST_PAGE_ENTRIES {
-        right.move_first(len, &mut pages[left]);
+    let mut right = pages.remove(left + 1);
+    if pages.page(left).len() + right.len() <= MOST_PAGE_ENTRIES {
+        pages.join(left, &mut right);
         free.push_reserved(right);
     } else {
-        share(&mut pages[left], &mut right);
-        pages.insert(left + 1, right).unwrap();
-    }
-}
-
-// The left page gets half of the entries, the right page the rest.
-fn share(left: &mut Page, right: &mut Page)
-    requires left_most { length left.old ≤ MOST_PAGE_ENTRIES }
-    requires right_most { length right.old ≤ MOST_PAGE_ENTRIES }
-    ensures same { left.new ++ right.new ≡ left.old ++ right.old }
-    ensures half { length left.new ≡ (length left.old + length right.old) / 2 }
-    ensures rest { length right.new + length left.new ≡ length left.old + length right.old }
-{
-    let half = (left.len() + right.len()) / 2;
-    if half < left.len() {
-        left.move_last(left.len() - half, right);
-    } else {
-        right.move_first(half - left.len(), left);
+        pages.share(left, &mut right);
+        pages.insert(left + 1, right);
     }
 }
 

@@ -4,6 +4,7 @@
 mod counting;
 mod directory;
 mod entries;
+mod halves;
 mod keys;
 mod laws;
 mod list;

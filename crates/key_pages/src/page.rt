@@ -1,12 +1,13 @@
 //! One page of a list: a run of entries. `directory.rt` holds the pages of a list in order.
 
-ghost use Rattle.std.specs.Prelude.{◌≡◌, ◌+◌, ◌-◌, ◌<◌, ◌≤◌, [], ◌∷◌, ◌++◌, length, insert, remove, IfOk, slice_index_or};
+ghost use Rattle.std.specs.Prelude.{◌≡◌, ◌+◌, ◌-◌, ◌<◌, ◌≤◌, ◌/◌, [], ◌∷◌, ◌++◌, length, insert, remove, IfOk, slice_index_or};
 ghost use Rattle.std.specs.VecDeque.{deque_len, deque_capacity};
 
 use crate::entries::Entry;
 use std::alloc::{AllocError, Global};
 use std::collections::VecDeque;
 use std::marker::Model;
+use std::mem;
 
 /// No page has more entries.
 pub const MOST_PAGE_ENTRIES: usize = 128;
@@ -119,6 +120,54 @@ impl Page {
         ensures moved { length into.new ≡ length into.old + count }
     {
         move_first(&mut self.entries, count, &mut into.entries);
+    }
+}
+
+/// Inserts into a full page, whose upper half goes to the empty one. The shorter part moves, the entry on its way, and each
+/// entry that moves does so once.
+pub(crate) fn insert_halving(page: &mut Page, place: usize, entry: Entry, into: &mut Page)
+    requires place { place ≤ length page.old }
+    requires full { length page.old ≡ MOST_PAGE_ENTRIES }
+    requires empty { into.old ≡ [] }
+    ensures entries { page.new ++ into.new ≡ insert page.old place entry }
+    ensures lower { length page.new ≡ MOST_PAGE_ENTRIES / 2 }
+    ensures upper { length into.new ≡ MOST_PAGE_ENTRIES / 2 + 1 }
+{
+    let half = MOST_PAGE_ENTRIES / 2;
+    if place < half {
+        page.move_first(place, into);
+        into.push(entry);
+        page.move_first(half - 1 - place, into);
+        mem::swap(page, into);
+    } else {
+        page.move_last(MOST_PAGE_ENTRIES - place, into);
+        into.push_first(entry);
+        page.move_last(place - half, into);
+    }
+}
+
+/// Moves all entries of the right page behind those of the left one.
+pub(crate) fn join(left: &mut Page, right: &mut Page)
+    requires most { length left.old + length right.old ≤ MOST_PAGE_ENTRIES }
+    ensures left { left.new ≡ left.old ++ right.old }
+    ensures right { right.new ≡ [] }
+{
+    right.move_first(right.len(), left);
+}
+
+/// The left page gets half of the entries, the right page the rest.
+pub(crate) fn share(left: &mut Page, right: &mut Page)
+    requires left_most { length left.old ≤ MOST_PAGE_ENTRIES }
+    requires right_most { length right.old ≤ MOST_PAGE_ENTRIES }
+    ensures same { left.new ++ right.new ≡ left.old ++ right.old }
+    ensures half { length left.new ≡ (length left.old + length right.old) / 2 }
+    ensures rest { length right.new + length left.new ≡ length left.old + length right.old }
+{
+    let half = (left.len() + right.len()) / 2;
+    if half < left.len() {
+        left.move_last(left.len() - half, right);
+    } else {
+        right.move_first(half - left.len(), left);
     }
 }
 

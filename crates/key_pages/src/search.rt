@@ -9,6 +9,7 @@ ghost use Rattle.key_pages.specs.PageList.{page_at, begins_passed};
 
 use crate::counting::Steps;
 use crate::entries::Entry;
+use crate::halves::Halves;
 use crate::page::Page;
 use crate::positions::{self, Position};
 use std::cmp::Ordering;
@@ -46,7 +47,7 @@ pub(crate) fn place<L: Ledger>(
 
 /// How many pages begin before the position, or with `itself` also on it.
 pub(crate) fn begun<L: Ledger>(
-    pages: &VecDeque<Page>,
+    pages: &Halves,
     falling: bool,
     from: &Position<'_>,
     itself: bool,
@@ -63,7 +64,7 @@ pub(crate) fn begun<L: Ledger>(
     let mut high = pages.len();
     while low < high {
         let number = low + (high - low) / 2;
-        if begins_passed(&pages[number], falling, from, itself, steps) {
+        if begins_passed(pages.page(number), falling, from, itself, steps) {
             low = number + 1;
         } else {
             high = number;

@@ -1,7 +1,6 @@
 -- Either way half is left.
 use Rattle.std.proofs.Common.{◌∙◌, ◌-◌, Bool, List, ap, sym, arith}
 use Rattle.key_pages.specs.declared.entries.Entry.{Entry}
-use Rattle.std.proofs.lemmas.List.{get_or_read}
 use Rattle.key_pages.specs.PageList.{page_at, begins_passed}
 use Rattle.key_pages.proofs.StepLemmas.{left-half, cost-step}
 use Rattle.key_pages.proofs.search.begun.Goals as goal
@@ -14,7 +13,7 @@ loop-low-preserved-then-begins_passed g c =
       within = c.loop-low.invariant.within;
       passed = λ _.
           ap (λ n. passes (page_at c.args.pages.now.items n)) (omega arith)
-          ∙ (ap passes (sym (get_or_read c.args.pages.now.items _ c.index.result.now (omega arith) c.index.ensures _))
+          ∙ (ap passes (sym c.page.ensures)
           ∙ (sym c.begins_passed.ensures.passed ∙ c.if-begins_passed.true));
       ahead = c.loop-low.invariant.ahead;
       rises = omega arith;
@@ -30,7 +29,7 @@ loop-low-preserved g c =
       within = omega arith;
       passed = c.loop-low.invariant.passed;
       ahead = λ _.
-          ap passes (sym (get_or_read c.args.pages.now.items _ c.index.result.now (omega arith) c.index.ensures _))
+          ap passes (sym c.page.ensures)
           ∙ (sym c.begins_passed.ensures.passed ∙ c.if-begins_passed.false);
       rises = omega arith;
       left = left-half _ _ c.loop-low.steps _ (c.loop-low.high - c.loop-low.low) _ c.loop-low.invariant.rises c.begins_passed.ensures.cost c.loop-low.invariant.left (omega arith);

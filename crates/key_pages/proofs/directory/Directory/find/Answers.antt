@@ -1,13 +1,12 @@
 -- What is found in the nearest page is found in the list.
 use Rattle.std.proofs.Common.{◌≡◌, ◌∙◌, ◌<◌, true, length, arith}
-use Rattle.std.specs.VecDeque.{deque_len}
 use Rattle.std.proofs.lemmas.Bool.Decides.{nat_tests}
 use Rattle.key_pages.specs.declared.positions.Position.TheVariants.{Start}
 use Rattle.key_pages.specs.EntryList.{entry_of}
 use Rattle.key_pages.specs.PageList.{page_at, IsIn, IsGapIn, IsNearest}
 use Rattle.key_pages.specs.Search.{IsAt, IsGapFor}
 use Rattle.key_pages.proofs.NearLemmas.{gap-in-pages, if_err_weaker, if_ok_weaker, in-pages, page-sorted}
-use Rattle.key_pages.proofs.PageLemmas.{few, page-read}
+use Rattle.key_pages.proofs.PageLemmas.{few}
 use Rattle.key_pages.proofs.directory.Directory.find.Goals as goal
 
 near : (c : goal.After-entries-page) → IsNearest c.args.falling (entry_of c.args.entry.now) c.self.inside.pages.items c.nearest-number.result
@@ -15,11 +14,11 @@ near c = rw (← c.self.view_is) at c.nearest-number.ensures
 
 within : (c : goal.After-entries-page) → c.nearest-number.result < length c.self.inside.pages.items
 within c =
-    let some : 0 < deque_len c.self.inside.pages = grind (arith, nat_tests) in
+    let some : 0 < length c.self.inside.pages.items = grind (arith, nat_tests) in
     omega (arith, some, (near c).within)
 
 page-is : (c : goal.After-entries-page) → c.entries-page.result.now.items ≡ page_at c.self.inside.pages.items c.nearest-number.result
-page-is c = c.entries-page.ensures ∙ page-read c.self.inside.pages.items c.nearest-number.result c.index.result.now (within c) c.index.ensures
+page-is c = c.entries-page.ensures ∙ c.page.ensures
 
 pub find-requires : goal.find-requires
 find-requires c =

@@ -2,7 +2,7 @@
 use Rattle.std.proofs.Common.{◌≡◌, ◌∙◌, ◌-◌, ◌<◌, length, arith}
 use Rattle.key_pages.specs.PageList.{entries_of, page_at}
 use Rattle.key_pages.proofs.NearLemmas.{page-sorted, place-at, place-first}
-use Rattle.key_pages.proofs.PageLemmas.{few_pages, length-page, page-read}
+use Rattle.key_pages.proofs.PageLemmas.{few_pages, length-page}
 use Rattle.key_pages.proofs.StepLemmas.{IsFewSteps-first, IsFewSteps-halving}
 use Rattle.key_pages.proofs.directory.Directory.place.Goals as goal
 use Rattle.key_pages.proofs.directory.Directory.place.Given.{Over}
@@ -24,8 +24,7 @@ within : (g : Over) (c : goal.After-place-arg-1 g) → c.begun-begun.result - 1 
 within g c = omega (arith, c.begun-begun.ensures.within)
 
 page-is : (g : Over) (c : goal.After-place-arg-1 g) → c.entries-page.result.now.items ≡ page_at c.self.inside.pages.items (c.begun-begun.result - 1)
-page-is g c =
-    c.entries-page.ensures ∙ page-read c.self.inside.pages.items (c.begun-begun.result - 1) c.index.result.now (within g c) c.index.ensures
+page-is g c = c.entries-page.ensures ∙ c.page.ensures
 
 pub place-requires : goal.place-requires
 place-requires g c =

@@ -1,7 +1,7 @@
 -- The page without the entry stands in the place of the page, unless it was the only entry.
-use Rattle.std.proofs.Common.{◌≡◌, ◌∙◌, length, ap, sym, arith}
-use Rattle.key_pages.specs.PageList.{entries_of, page_at}
-use Rattle.key_pages.proofs.PageLemmas.{entries_of-set, only-entry, page-read}
+use Rattle.std.proofs.Common.{◌∙◌, length, ap, sym, arith}
+use Rattle.key_pages.specs.PageList.{entries_of}
+use Rattle.key_pages.proofs.PageLemmas.{entries_of-set, only-entry}
 use Rattle.key_pages.proofs.directory.Directory.remove.Goals as goal
 
 pub returns-then-len-eq1-2-clause-entries : goal.returns-then-len-eq1-2-clause-entries
@@ -9,7 +9,7 @@ returns-then-len-eq1-2-clause-entries c =
     let pages = c.self.inside.pages.items in
     let within = rw (← c.self.view_is) at c.requires.number in
     let there = rw (← c.self.view_is) at c.requires.place in
-    let long : length c.index.result.now ≡ length (page_at pages c.args.number) = ap length (page-read pages c.args.number c.index.result.now within c.index.ensures) in
+    let long = ap length c.page.ensures in
     rw c.remove_only.ensures.pages (rw (← c.self.view_is) (sym (only-entry pages c.args.number c.args.place (omega arith) (omega (arith, long)) within there)))
 
 pub returns-then-enough-clause-entries : goal.returns-then-enough-clause-entries

@@ -2,7 +2,7 @@
 use Rattle.std.proofs.Common.{◌∷◌, [], ◌++◌, length, ap, ◌∙◌, arith}
 use Rattle.std.proofs.lemmas.List.{append-nil, append_assoc}
 use Rattle.key_pages.proofs.CutLemmas.{insert-cut}
-use Rattle.key_pages.proofs.directory.insert_halving.Goals as goal
+use Rattle.key_pages.proofs.page.insert_halving.Goals as goal
 
 pub returns-then-place-half-clause-entries : goal.returns-then-place-half-clause-entries
 returns-then-place-half-clause-entries c =
