@@ -3,7 +3,7 @@
 ghost use Rattle.std.specs.Prelude.{◌≡◌, ◌+◌, ◌^◌, ◌<◌, ◌≤◌, ◌++◌, [], ◌∷◌, List, ℕ, length, take, get_or, IfOk, OnOk, OnErr, IsOk, IsErr, IsErrOf};
 ghost use Rattle.store_model.specs.Disk.{Does, Stays, IsDurable, Torn};
 ghost use Rattle.store_model.specs.Faults.{Rose};
-ghost use Rattle.gated_log.specs.Blocks.{Spells, MayBegin, IsFramed, StandsAt, extent, frame, sizes};
+ghost use Rattle.gated_log.specs.Blocks.{Spells, MayBegin, IsFramed, StandsAt, extent, frame, header, sizes};
 ghost use Rattle.gated_log.specs.Log.{Settled, IsSettled, IsWithOrWithout, Anything};
 ghost use Rattle.gated_log.specs.Steps.{IsNoLonger, IsStaged, KeepsFront};
 
@@ -54,6 +54,7 @@ pub fn format<S: Store>(
 ) -> Result<(), StoreFault>
     requires { MayBegin area first version }
     ensures formatted { OnOk result (S.tells → Spells area first version [] ((S.disk store.new).seen area)) }
+    ensures alone { OnOk result (S.tells → (S.disk store.new).seen area ≡ header area first version ++ 0 ∷ []) }
     ensures durable { OnOk result (S.tells → IsDurable area (S.disk store.new)) }
     ensures any_moment { Does area Anything (S.disk store.old) (S.disk store.new) }
     ensures short { Does area IsNoLonger (S.disk store.old) (S.disk store.new) }
