@@ -1,6 +1,6 @@
 //! The pages of a list in order, and the free ones. `list.rt` has the list that callers see, `page.rt` one page.
 
-ghost use Rattle.std.specs.Prelude.{◌≡◌, ◌+◌, ◌-◌, ◌*◌, ◌<◌, ◌≤◌, ◌^◌, [], ◌∷◌, ◌++◌, length, take, drop, insert, remove, reverse, set, All, List, ℕ, IfOk, IfErr, OnOk, true, false, Contains, Some, slice_index_or, vec_len, vec_capacity};
+ghost use Rattle.std.specs.Prelude.{◌≡◌, ◌+◌, ◌-◌, ◌*◌, ◌<◌, ◌≤◌, ◌^◌, ◌/◌, [], ◌∷◌, ◌++◌, length, take, drop, insert, remove, reverse, set, All, List, ℕ, IfOk, IfErr, OnOk, true, false, Contains, Some, slice_index_or, vec_len, vec_capacity};
 ghost use Rattle.std.specs.List.{slice_get};
 ghost use Rattle.std.specs.Option.{option_copied, option_or};
 ghost use Rattle.std.specs.List.Sorted.{IsSearchInRange};

@@ -1,6 +1,6 @@
 //! The pages of a list in order. `page.rt` has one page, `directory.rt` says how full they are.
 
-ghost use Rattle.std.specs.Prelude.{◌≡◌, ◌+◌, ◌<◌, ◌≤◌, ◌/◌, [], ◌∷◌, ◌++◌, length, insert, remove, set, List, OnOk, slice_index_or};
+ghost use Rattle.std.specs.Prelude.{◌≡◌, ◌+◌, ◌-◌, ◌*◌, ◌<◌, ◌≤◌, ◌/◌, [], ◌∷◌, ◌++◌, length, insert, remove, set, List, ℕ, OnOk, slice_index_or};
 ghost use Rattle.std.specs.VecDeque.{deque_len, deque_capacity};
 ghost use Rattle.key_pages.specs.declared.entries.Entry.{Entry};
 ghost use Rattle.key_pages.specs.PageList.{page_at};
