@@ -4,4 +4,5 @@ pub mod StatusLemmas
 pub mod OwnerLemmas
 pub mod ChangeLemmas
 pub mod PhysicalLemmas
+pub mod KeyedLemmas
 pub mod CallerLemmas

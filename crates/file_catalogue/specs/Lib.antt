@@ -3,3 +3,4 @@ pub mod Described
 pub mod Parts
 pub mod Owners
 pub mod Physical
+pub mod Keyed

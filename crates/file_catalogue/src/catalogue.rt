@@ -14,6 +14,7 @@ ghost use Rattle.library_steps.specs.SlotChange.{status_among, touched};
 ghost use Rattle.file_catalogue.specs.Statuses.{after};
 ghost use Rattle.file_catalogue.specs.Owners.{AreApart, numbers_of, owner, status_of};
 ghost use Rattle.file_catalogue.specs.Physical.{AllArePhysical};
+ghost use Rattle.file_catalogue.specs.Keyed.{AllAreKeyed};
 
 use crate::changes::StatusChange;
 use crate::files::File;
@@ -41,13 +42,13 @@ impl Model for Catalogue {
     ghost use Rattle.indexmap.specs.IndexMap.{get, spare};
     ghost use Rattle.file_catalogue.specs.Parts.{Files};
     ghost use Rattle.file_catalogue.specs.Owners.{IsOwned};
-    ghost use Rattle.file_catalogue.specs.Physical.{AllArePhysical};
+    ghost use Rattle.file_catalogue.specs.Keyed.{HaveOwnKeys};
 
     ghost Value = { Files };
 
     ghost view = { λ c. record { files = c.files.entries; room = spare c.files; member_room = spare c.owners } };
 
-    ghost invariant = { λ c. IsOwned c.files.entries (get nat_eq c.owners) × AllArePhysical c.files.entries };
+    ghost invariant = { λ c. IsOwned c.files.entries (get nat_eq c.owners) × HaveOwnKeys c.files.entries };
 }
 
 impl Catalogue {
@@ -61,12 +62,14 @@ impl Catalogue {
         }
     }
 
-    /// How many files there are. No two of them have one name, no two members one number, and all are physical files.
+    /// How many files there are. No two of them have one name, no two members one number, and all are physical files,
+    /// whose keys are by their fields.
     pub fn len(&self) -> usize
         ensures value { result ≡ length self.now.files }
         ensures unique { IsDistinct same_name (keys_of self.now.files) }
         ensures apart { AreApart self.now.files }
         ensures physical { AllArePhysical self.now.files }
+        ensures keyed { AllAreKeyed self.now.files }
     {
         self.files.len()
     }
@@ -171,7 +174,7 @@ impl Catalogue {
         requires member_room { length file.members ≤ self.old.member_room }
         ensures { self.new.files ≡ self.old.files ++ (name, file) ∷ [] }
     {
-        // It is a physical file.
+        // It is a physical file, whose key is by its fields.
         let _format = file.format();
         add_owned(&mut self.owners, name, file.members());
         let _replaced = self.files.insert(name, file).unwrap();

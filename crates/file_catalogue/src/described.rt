@@ -3,6 +3,7 @@ ghost use Rattle.std.specs.Prelude.{◌≡◌};
 ghost use Rattle.dds_source.specs.Reading.{source_of};
 ghost use Rattle.record_fmt.specs.Layout.{IsLaidOut};
 ghost use Rattle.library_steps.specs.DeleteFile.{source_refers};
+ghost use Rattle.physical_paths.specs.KeyedFiles.{IsKeyed};
 ghost use Rattle.file_catalogue.specs.Described.{Describes, unread};
 
 use dds_physical::{PhysicalError, PhysicalSpec, Refs, physical, refers_to};
@@ -29,12 +30,13 @@ impl Model for Described {
     ghost use Rattle.std.specs.Prelude.{◌≡◌, Ok};
     ghost use Rattle.dds_source.specs.Reading.{source_of};
     ghost use Rattle.library_steps.specs.CreatePhysicalFile.{NewFile};
+    ghost use Rattle.physical_paths.specs.KeyedFiles.{IsKeyed};
 
     ghost Value = { NewFile };
 
     ghost view = { λ d. record { source = d.text; spec = d.spec } };
 
-    ghost invariant = { λ d. source_of d.text ≡ Ok d.source };
+    ghost invariant = { λ d. (source_of d.text ≡ Ok d.source) × IsKeyed d.spec };
 }
 
 impl Described {
@@ -62,10 +64,11 @@ impl Described {
         &self.text
     }
 
-    /// The record format.
+    /// The record format. Its fields lie one behind the other, and the key is by them.
     pub fn format(&self) -> &Format
         ensures format { result.now ≡ self.now.spec.format }
         ensures laid_out { IsLaidOut self.now.spec.format.fields }
+        ensures keyed { IsKeyed self.now.spec }
     {
         // Its fields lie one behind the other.
         let _fields = self.spec.format.fields.as_slice();

@@ -10,6 +10,7 @@ ghost use Rattle.library_steps.specs.DeleteFile.{file_refers};
 ghost use Rattle.library_steps.specs.MemberCommands.{with_member_name};
 ghost use Rattle.library_steps.specs.SlotChange.{status_in};
 ghost use Rattle.file_catalogue.specs.Physical.{IsPhysical};
+ghost use Rattle.file_catalogue.specs.Keyed.{HasOwnKey};
 ghost use Rattle.file_catalogue.specs.Statuses.{after};
 
 use crate::changes::StatusChange;
@@ -60,11 +61,12 @@ impl File {
         self.described.source()
     }
 
-    /// The record format of the file, which is a physical one; its fields lie one behind the other.
+    /// The record format of the file, which is a physical one; its fields lie one behind the other, and its key is by them.
     pub fn format(&self) -> &Format
         ensures format { result.now ≡ format_in self.now.spec }
         ensures laid_out { IsLaidOut (fields_of self.now) }
         ensures physical { IsPhysical self.now.spec }
+        ensures keyed { HasOwnKey self.now.spec }
         ensures only { option_map (λ spec. spec.format) (physical_in self.now.spec) ≡ Some result.now }
     {
         self.described.format()

@@ -1,5 +1,5 @@
 //! CRTPF.
-ghost use Rattle.std.specs.Prelude.{◌≡◌, ◌≤◌, None, [], ◌∷◌, IfOk, IsTrue, OnOk};
+ghost use Rattle.std.specs.Prelude.{◌≡◌, ◌≤◌, None, [], ◌∷◌, IfOk, IsTrue, OnErr, OnOk};
 ghost use Rattle.std.specs.Option.{is_some};
 ghost use Rattle.library_model.specs.Named.{named};
 ghost use Rattle.library_model.specs.declared.limits.TheConstants.{LAST_MEMBER};
@@ -46,7 +46,7 @@ pub fn create_physical_file(
 {
     let described = plan_create(contents, sources, args)?;
     let new = prepare_create(contents, job, timestamp, args, described)?;
-    apply_create(contents, args, new);
+    apply_create(contents, args, new)?;
     Ok(Reply::Done)
 }
 
@@ -141,14 +141,21 @@ fn prepare_create(
     Ok(NewFile { file, draft })
 }
 
-fn apply_create(contents: &mut Contents, args: &CreatePhysicalFile, new: NewFile)
+/// The file with its path is there, and the entry that tells of it, or there was no memory for the path.
+fn apply_create(
+    contents: &mut Contents,
+    args: &CreatePhysicalFile,
+    new: NewFile,
+) -> Result<(), AllocError>
     requires new { IsNewFile contents.old.state args.now.file new.file }
     requires file_room { HasFileRoom contents.old.room }
     requires entry_room { 1 ≤ contents.old.room.entries }
     requires left { (memory_of contents.old.state).last_entry ≤ LAST_SEQUENCE }
-    ensures { Deposits contents.old.state contents.new.state (new.draft ∷ []) (with_file args.now.file new.file) }
+    ensures added { OnOk result (Deposits contents.old.state contents.new.state (new.draft ∷ []) (with_file args.now.file new.file)) }
+    ensures unchanged { OnErr result (contents.new.state ≡ contents.old.state) }
 {
     let NewFile { file, draft } = new;
-    contents.add_file(args.file, file);
+    contents.add_file(args.file, file)?;
     let _sequence = contents.deposit(draft);
+    Ok(())
 }

@@ -1,5 +1,5 @@
 //! ADDPFM, CLRPFM and RGZPFM.
-ghost use Rattle.std.specs.Prelude.{◌≡◌, ◌+◌, ◌≤◌, None, Some, [], ◌∷◌, length, IfOk, IsSome, IsTrue, OnOk};
+ghost use Rattle.std.specs.Prelude.{◌≡◌, ◌+◌, ◌≤◌, None, Some, [], ◌∷◌, length, IfOk, IsSome, IsTrue, OnErr, OnOk};
 ghost use Rattle.std.specs.Option.{is_some};
 ghost use Rattle.memory_journal.specs.declared.journal.TheConstants.{LAST_BEFORE_DEPOSIT};
 ghost use Rattle.member_slots.specs.Members.{member_at};
@@ -14,6 +14,7 @@ ghost use Rattle.library_steps.specs.MemberCommands.{add_member, add_plan, clear
 ghost use Rattle.library_steps.specs.Uses.{user_of};
 ghost use Rattle.library_parts.specs.Answers.{Answers, Gives, Shows};
 ghost use Rattle.library_parts.specs.Files.{IsNewMember};
+ghost use Rattle.library_parts.specs.Moved.{AreRemade};
 ghost use Rattle.library_parts.specs.Rooms.{HasMemberRoom};
 ghost use Rattle.file_requests.specs.Effects.{Deposits};
 ghost use Rattle.file_requests.specs.Members.{kind_of, renumbering_of, slots_after};
@@ -27,6 +28,7 @@ use library_model::replies::{LimitKind, Reply};
 use library_model::requests::FileMember;
 use library_parts::{Contents, MemberFound, Stop};
 use library_steps::limits::MOST_MEMBERS;
+use path_set::rebuilding::Rebuilt;
 use std::alloc::AllocError;
 
 /// How a member's records lose their numbers.
@@ -59,7 +61,7 @@ pub fn add_member(
     };
     let draft = with_room(contents, author.member_draft(number, kind))?;
     contents.reserve_member()?;
-    apply_add(contents, args, draft);
+    apply_add(contents, args, draft)?;
     Ok(Reply::Done)
 }
 
@@ -99,15 +101,18 @@ fn physical_file<'a>(contents: &'a Contents, name: &Name) -> Result<&'a File, St
     contents.physical_file(name)
 }
 
-fn apply_add(contents: &mut Contents, args: &FileMember, draft: Draft)
+/// The member with its path is there, and the entry that tells of it, or there was no memory for the path.
+fn apply_add(contents: &mut Contents, args: &FileMember, draft: Draft) -> Result<(), AllocError>
     requires new { IsNewMember contents.old.state args.now }
     requires member_room { HasMemberRoom contents.old.room }
     requires entry_room { 1 ≤ contents.old.room.entries }
     requires left { (memory_of contents.old.state).last_entry ≤ LAST_SEQUENCE }
-    ensures { (file : FileState) → named args.now.file contents.old.state.files ≡ Some file → Deposits contents.old.state contents.new.state (draft ∷ []) (member_added args.now file) }
+    ensures added { OnOk result ((file : FileState) → named args.now.file contents.old.state.files ≡ Some file → Deposits contents.old.state contents.new.state (draft ∷ []) (member_added args.now file)) }
+    ensures unchanged { OnErr result (contents.new.state ≡ contents.old.state) }
 {
-    contents.add_member(args);
+    contents.add_member(args)?;
     let _sequence = contents.deposit(draft);
+    Ok(())
 }
 
 // ---- CLRPFM and RGZPFM
@@ -151,7 +156,9 @@ fn renumber_member(
     let status = plan_member(contents, &args.file, &args.member)?;
     let author = Author::of(contents, job, timestamp);
     let drafts = prepare_renumbering(contents, &author, status, way)?;
-    apply_renumbering(contents, status.number(), way, drafts);
+    let number = status.number();
+    let paths = paths_after(contents, number, way)?;
+    apply_renumbering(contents, number, way, drafts, paths);
     Ok(Reply::Done)
 }
 
@@ -203,28 +210,47 @@ fn kind_of(way: Renumbering) -> EntryKind
     }
 }
 
-fn apply_renumbering(contents: &mut Contents, member: u32, way: Renumbering, drafts: Vec<Draft>)
+/// The paths of the member as they will be.
+fn paths_after(contents: &Contents, member: u32, way: Renumbering) -> Result<Rebuilt, AllocError>
+    requires { IsSome (member_at member contents.now.state.members) }
+    ensures { IfOk result (AreRemade contents.now member (slots_after way)) }
+{
+    match way {
+        Renumbering::Clear => contents.paths_cleared(member),
+        Renumbering::Reorganize => contents.paths_reorganized(member),
+    }
+}
+
+fn apply_renumbering(
+    contents: &mut Contents,
+    member: u32,
+    way: Renumbering,
+    drafts: Vec<Draft>,
+    paths: Rebuilt,
+)
     requires there { IsSome (member_at member contents.old.state.members) }
     requires unused { user_of member (memory_of contents.old.state) ≡ None }
     requires room { length drafts.items ≤ contents.old.room.entries }
     requires left { (memory_of contents.old.state).last_entry + length drafts.items + 1 ≤ LAST_BEFORE_DEPOSIT }
+    requires paths { AreRemade contents.old member (slots_after way) paths }
     ensures { Deposits contents.old.state contents.new.state drafts.items (renumbering_of way member) }
 {
     let (_, last) = contents.bounds();
-    change_slots(contents, member, way);
+    change_slots(contents, member, way, paths);
     contents.renumber(member, last + 1);
     deposit_all(contents, drafts);
 }
 
-fn change_slots(contents: &mut Contents, member: u32, way: Renumbering)
+fn change_slots(contents: &mut Contents, member: u32, way: Renumbering, paths: Rebuilt)
     requires there { IsSome (member_at member contents.old.state.members) }
     requires unused { user_of member (memory_of contents.old.state) ≡ None }
+    requires paths { AreRemade contents.old member (slots_after way) paths }
     ensures memory { memory_of contents.new.state ≡ with_slots member (slots_after way) (memory_of contents.old.state) }
     ensures entries { contents.new.state.entries ≡ contents.old.state.entries }
     ensures room { contents.new.room.entries ≡ contents.old.room.entries }
 {
     match way {
-        Renumbering::Clear => contents.clear(member),
-        Renumbering::Reorganize => contents.reorganize(member),
+        Renumbering::Clear => contents.clear(member, paths),
+        Renumbering::Reorganize => contents.reorganize(member, paths),
     }
 }

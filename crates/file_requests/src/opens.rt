@@ -33,8 +33,10 @@ pub fn open_file(contents: &mut Contents, job: u32, args: &OpenFile) -> Result<R
     if opened == LAST_OPEN {
         return Err(Stop::NoMemory);
     }
+    let member = status.number();
+    let reads = contents.reads_for(args, member)?;
     effects_answer();
-    contents.add_open(job, args, status.number());
+    contents.add_open(job, args, member, reads);
     Ok(Reply::Done)
 }
 

@@ -2,4 +2,3 @@ mod InputLemmas
 mod JobLemmas
 mod LeastLemmas
 mod ScheduleLemmas
-mod UnkeyedLemmas

@@ -11,7 +11,6 @@ ghost use Rattle.input_scripts.specs.Schedules.{NamesJobs};
 ghost use Rattle.input_reader.specs.declared.input.InputError.TheVariants.{NoMemory};
 
 use crate::jobs::read_jobs;
-use crate::keyed_sources::keyed_source;
 use crate::schedules::schedule;
 use crate::sources::sources;
 use input_cards::faults::{card_fault, job_names, lesser};
@@ -52,8 +51,7 @@ pub fn read_input(alloc: Global, bytes: &[u8]) -> Result<Scripts, InputError>
     let sections = sections.as_slice();
     let cards = card_fault(alloc, bytes, sections)?;
     let jobs = read_jobs(alloc, bytes, sections)?;
-    let keyed = keyed_source(alloc, bytes, sections)?;
-    match lesser(lesser(cards, jobs.fault), keyed) {
+    match lesser(cards, jobs.fault) {
         Some(line) => Err(InputError::Script { line }),
         None => Ok(scripts_by(alloc, bytes, sections, jobs.scripts)?),
     }

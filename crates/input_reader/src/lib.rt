@@ -3,6 +3,5 @@
 
 pub mod input;
 mod jobs;
-mod keyed_sources;
 mod schedules;
 mod sources;

@@ -4,9 +4,7 @@ ghost use Rattle.std.specs.List.{list_all};
 ghost use Rattle.library_model.specs.declared.limits.TheConstants.{MOST_JOBS};
 ghost use Rattle.library_model.specs.declared.calls.Call.{Call};
 ghost use Rattle.library_model.specs.declared.replies.Reply.{Reply as ReplyValue};
-ghost use Rattle.library_steps.specs.State.{new_job};
-ghost use Rattle.built_state.specs.Built.{IsBuilt};
-ghost use Rattle.built_state.specs.Unkeyed.{AreUnkeyedSources};
+ghost use Rattle.library_steps.specs.State.{empty_library, new_job};
 ghost use Rattle.built_requests.specs.Built.{is_built};
 ghost use Rattle.library_model.specs.Ending.{is_end_job};
 ghost use Rattle.job_runner.specs.declared.session.Stepped.TheVariants.{Called, Ended, Stopped};
@@ -29,6 +27,7 @@ use library_model::calls::Call;
 use library_model::limits::MOST_JOBS;
 use library_model::replies::Reply;
 use library_model::requests::Request;
+use sound_histories::each_call_leaves_a_sound_library;
 use std::alloc::{AllocError, Global};
 use std::marker::Model;
 use store_model::{Clock, Store};
@@ -86,16 +85,14 @@ impl<S: Store, C: Clock> Model for Session<S, C> {
 }
 
 impl<S: Store, C: Clock> Session<S, C> {
-    /// Begins the jobs of the scripts in order over a library without jobs. Want of memory hands library and clock back.
+    /// Begins the jobs of the scripts in order over a library with nothing in it. Want of memory hands library and clock back.
     pub fn new(
         alloc: Global,
         library: Library<S>,
         clock: C,
         scripts: Scripts,
     ) -> Result<Session<S, C>, (Library<S>, C)>
-        requires fresh { library.state.jobs ≡ [] }
-        requires built { IsBuilt library.state }
-        requires unkeyed { AreUnkeyedSources scripts.sources }
+        requires empty { library.state ≡ empty_library }
         requires askable { IsTrue (list_all is_askable_script scripts.scripts) }
         requires named { length scripts.names ≡ length scripts.scripts }
         requires few { length scripts.scripts ≤ MOST_JOBS }
@@ -105,6 +102,8 @@ impl<S: Store, C: Clock> Session<S, C> {
         ensures clock { IfOk result (λ session. session.clock ≡ clock) }
         ensures back { IfErr result (λ parts. (parts.0.store ≡ library.store) × (parts.1 ≡ clock)) }
     {
+        // A library in which jobs have begun and nothing else is sound.
+        each_call_leaves_a_sound_library();
         let mut library = library;
         let mut history = History::new(alloc);
         if begin_jobs(&mut library, scripts.names.as_slice()).is_err() {

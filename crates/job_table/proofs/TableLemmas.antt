@@ -1,21 +1,28 @@
--- One job of the table set anew: the jobs and the rooms that the table then has, and what is counted of them.
-use Rattle.std.proofs.Common.{◌≡◌, ℕ, zero, suc, not, slice_index, Result, Ok, Err, OnOk, get_or-set_same, length-set, ◌+◌, ◌-◌, ◌<◌, ◌≤◌, ◌==◌, true, false, if◌then◌else◌}
-use Rattle.std.proofs.Common.{IsTrue, Option, Some, None, List, [], ◌∷◌, length, map, slice_get, slice_set, get_or, ne_eqb, add-zero, refl, sym, ◌∙◌, ap, subst, arith}
-use Rattle.std.specs.List.{sum_by}
+-- One job of the table set anew: what the table then has, what is counted of its jobs, and that all stays beside one another.
+use Rattle.std.proofs.Common.{not, slice_index, slice_index_or, Result, Ok, Err, OnOk, get_or-set_same, length-append, length-set}
+use Rattle.std.proofs.Common.{◌≡◌, ℕ, zero, suc, ◌+◌, ◌-◌, ◌<◌, ◌≤◌, ◌==◌, true, false, if◌then◌else◌}
+use Rattle.std.proofs.Common.{IsTrue, Option, Some, None, List, [], ◌∷◌, ◌++◌, length, map, slice_get, slice_set, get_or, All, ne_eqb, add-zero, refl, sym, ◌∙◌, ap, subst, arith}
+use Rattle.std.specs.List.{sum_by, AllZip}
 use Rattle.std.proofs.Math.ListN.{get_or-map}
 use Rattle.std.proofs.Math.Seq.{map-set_same}
 use Rattle.std.proofs.lemmas.Bool.Decides.{nat_tests}
-use Rattle.std.proofs.lemmas.List.{length-map, map-set, get_or-map as get_or-map-at}
-use Rattle.std.proofs.lemmas.List.Sums.{sum_by-set, sum_by-cons, get_or-le-sum_by}
+use Rattle.std.proofs.lemmas.List.{length-map, map-append, map-set, get_or-map as get_or-map-at}
+use Rattle.std.proofs.lemmas.List.Elements.{All-push}
+use Rattle.std.proofs.lemmas.List.Sums.{sum_by-append, sum_by-set, sum_by-cons, get_or-le-sum_by}
 use Rattle.std.proofs.lemmas.Option.{slice_get-get_or}
 use Rattle.library_steps.specs.declared.limits.TheConstants.{MOST_GROUP_BYTES}
 use Rattle.journal_model.specs.Rollback.{MemberChange}
-use Rattle.library_steps.specs.State.{JobState, CycleState, job_at, job_changed, or_new}
+use Rattle.path_set.specs.declared.moves.PathMove.{PathMove}
+use Rattle.library_model.specs.Named.{Named}
+use Rattle.library_steps.specs.State.{JobState, CycleState, OpenState, job_at, job_changed, or_new, new_job, with_opens}
 use Rattle.library_steps.specs.History.{is_running}
 use Rattle.library_steps.specs.Uses.{changes_in}
 use Rattle.library_steps.specs.SlotChange.{change_bytes, noted, with_cycle}
 use Rattle.job_table.specs.Changes.{cycle_from, bytes_of, HasRoom}
-use Rattle.job_table.specs.Table.{RoomyJob, JobTable, table_of, job_of_number, changes_held, bytes_held, HasRoomFor, IsCounted}
+use Rattle.job_table.specs.Opens.{OpenOrder, SameOpen}
+use Rattle.job_table.specs.OpenChanges.{opens_after, job_after}
+use Rattle.job_table.specs.declared.opens.OpenChange.{OpenChange}
+use Rattle.job_table.specs.Table.{RoomyJob, JobTable, IsWhole, table_of, job_of_number, orders_at, moves_at, changed_at, changes_held, bytes_held, HasRoomFor, IsCounted}
 
 -- ---- one job changed
 
@@ -24,6 +31,24 @@ pub set-job_changed : (jobs : List JobState) (place : ℕ) (change : JobState �
 set-job_changed [] place change job here = refl
 set-job_changed (first ∷ jobs) zero change job here = ap (λ j. change j ∷ jobs) here
 set-job_changed (first ∷ jobs) (suc place) change job here = ap (λ rest. first ∷ rest) (set-job_changed jobs place change job here)
+
+-- the same of any list
+pub set-changed_at : {A : Type 0} (items : List A) (place : ℕ) (change : A → A) (item : A) → item ≡ get_or items place item → slice_set items place (change item) ≡ changed_at place change items
+set-changed_at [] place change item here = refl
+set-changed_at (first ∷ items) zero change item here = ap (λ x. change x ∷ items) here
+set-changed_at (first ∷ items) (suc place) change item here = ap (λ rest. first ∷ rest) (set-changed_at items place change item here)
+
+-- a part of each item, where one item is set anew
+module _ {A : Type 0} (part : RoomyJob → A) (items : List RoomyJob) (place : ℕ) (job new : RoomyJob) (here : job ≡ get_or items place job) where
+  pub part-here : part job ≡ get_or (map part items) place (part job)
+  part-here = ap part here ∙ sym (get_or-map part items place job)
+
+  pub part-changed : (change : A → A) → part new ≡ change (part job) → map part (slice_set items place new) ≡ changed_at place change (map part items)
+  part-changed change made =
+      map-set part items place new ∙ ap (λ x. slice_set (map part items) place x) made ∙ set-changed_at (map part items) place change (part job) part-here
+
+  pub part-kept : part new ≡ part job → map part (slice_set items place new) ≡ map part items
+  part-kept same = map-set_same part items place new job (same ∙ ap part here)
 
 pub length-job_changed : (place : ℕ) (change : JobState → JobState) (jobs : List JobState) → length (job_changed place change jobs) ≡ length jobs
 length-job_changed place change [] = refl
@@ -36,6 +61,18 @@ pub job_changed-twice : (place : ℕ) (former later : JobState → JobState) (jo
 job_changed-twice place former later [] = refl
 job_changed-twice zero former later (job ∷ jobs) = refl
 job_changed-twice (suc place) former later (job ∷ jobs) = ap (λ rest. job ∷ rest) (job_changed-twice place former later jobs)
+
+or_new-get_or : (jobs : List JobState) (place : ℕ) → or_new (slice_get jobs place) ≡ get_or jobs place (new_job [])
+or_new-get_or [] place = refl
+or_new-get_or (job ∷ jobs) zero = refl
+or_new-get_or (job ∷ jobs) (suc place) = or_new-get_or jobs place
+
+-- changes are one where they make the same of the job at the place
+job_changed-same : (place : ℕ) (one other : JobState → JobState) (jobs : List JobState) (default : JobState) → one (get_or jobs place default) ≡ other (get_or jobs place default)
+    → job_changed place one jobs ≡ job_changed place other jobs
+job_changed-same place one other [] default same = refl
+job_changed-same zero one other (job ∷ jobs) default same = ap (λ j. j ∷ jobs) same
+job_changed-same (suc place) one other (job ∷ jobs) default same = ap (λ rest. job ∷ rest) (job_changed-same place one other jobs default same)
 
 -- ---- a job that runs
 
@@ -109,16 +146,63 @@ module _ (items : List RoomyJob) (now : JobTable) (number : ℕ) (job new : Room
 
   -- the rooms, where its room stays
   pub rooms_after : new.room ≡ job.room → map (λ j. j.room) (slice_set items (number - 1) new) ≡ now.rooms
-  rooms_after same =
-      map-set_same (λ j. j.room) items (number - 1) new job (same ∙ ap (λ j. j.room) here) ∙ ap (λ t. t.rooms) view_is
+  rooms_after same = part-kept (λ j. j.room) items (number - 1) job new here same ∙ ap (λ t. t.rooms) view_is
 
-  -- the table, where its state is changed and its room stays
-  pub table_after : (change : JobState → JobState) → new ≡ record { state = change job.state; room = job.room }
-      → table_of (slice_set items (number - 1) new) ≡ record { jobs = job_changed (number - 1) change now.jobs; rooms = now.rooms }
+  -- how opens read, where that of its opens is changed, and where it stays
+  pub orders_after : (change : Named OpenOrder → Named OpenOrder) → new.orders ≡ change job.orders
+      → map (λ j. j.orders) (slice_set items (number - 1) new) ≡ changed_at (number - 1) change now.orders
+  orders_after change made = part-changed (λ j. j.orders) items (number - 1) job new here change made ∙ ap (λ t. changed_at (number - 1) change t.orders) view_is
+
+  pub orders_kept : new.orders ≡ job.orders → map (λ j. j.orders) (slice_set items (number - 1) new) ≡ now.orders
+  orders_kept same = part-kept (λ j. j.orders) items (number - 1) job new here same ∙ ap (λ t. t.orders) view_is
+
+  -- the moves that take changes back, in the same way
+  pub moves_after : (change : List (List PathMove) → List (List PathMove)) → new.moves ≡ change job.moves
+      → map (λ j. j.moves) (slice_set items (number - 1) new) ≡ changed_at (number - 1) change now.moves
+  moves_after change made = part-changed (λ j. j.moves) items (number - 1) job new here change made ∙ ap (λ t. changed_at (number - 1) change t.moves) view_is
+
+  pub moves_kept : new.moves ≡ job.moves → map (λ j. j.moves) (slice_set items (number - 1) new) ≡ now.moves
+  moves_kept same = part-kept (λ j. j.moves) items (number - 1) job new here same ∙ ap (λ t. t.moves) view_is
+
+  pub place_there : number - 1 < length items
+  place_there = omega (arith, stands.last, ap length (sym states_are), length-map items (λ (j : RoomyJob). j.state))
+
+  -- how its opens read, and its moves, are those that stand at its number
+  pub orders_is : orders_at number now ≡ job.orders
+  orders_is = ap (λ t. slice_index_or t.orders (number - 1) []) (sym view_is) ∙ get_or-map-at (λ j. j.orders) items (number - 1) job [] place_there ∙ ap (λ j. j.orders) (sym here)
+
+  pub moves_is : moves_at number now ≡ job.moves
+  moves_is = ap (λ t. slice_index_or t.moves (number - 1) []) (sym view_is) ∙ get_or-map-at (λ j. j.moves) items (number - 1) job [] place_there ∙ ap (λ j. j.moves) (sym here)
+
+  -- the table, where its state is changed and all else stays
+  pub table_after : (change : JobState → JobState) → new ≡ record job { state = change job.state }
+      → table_of (slice_set items (number - 1) new) ≡ record now { jobs = job_changed (number - 1) change now.jobs }
   table_after change made =
       let jobs = jobs_after change (ap (λ j. j.state) made) in
       let rooms = rooms_after (ap (λ j. j.room) made) in
-      λ i. record { jobs = jobs i; rooms = rooms i }
+      let orders = orders_kept (ap (λ j. j.orders) made) in
+      let moves = moves_kept (ap (λ j. j.moves) made) in
+      λ i. record { jobs = jobs i; rooms = rooms i; orders = orders i; moves = moves i }
+
+  -- where how its opens read is changed too
+  pub table_ordered : (change : JobState → JobState) (reorder : Named OpenOrder → Named OpenOrder) → new ≡ record job { state = change job.state; orders = reorder job.orders }
+      → table_of (slice_set items (number - 1) new) ≡ record now { jobs = job_changed (number - 1) change now.jobs; orders = changed_at (number - 1) reorder now.orders }
+  table_ordered change reorder made =
+      let jobs = jobs_after change (ap (λ j. j.state) made) in
+      let rooms = rooms_after (ap (λ j. j.room) made) in
+      let orders = orders_after reorder (ap (λ j. j.orders) made) in
+      let moves = moves_kept (ap (λ j. j.moves) made) in
+      λ i. record { jobs = jobs i; rooms = rooms i; orders = orders i; moves = moves i }
+
+  -- where the moves are changed too
+  pub table_moved : (change : JobState → JobState) (move : List (List PathMove) → List (List PathMove)) → new ≡ record job { state = change job.state; moves = move job.moves }
+      → table_of (slice_set items (number - 1) new) ≡ record now { jobs = job_changed (number - 1) change now.jobs; moves = changed_at (number - 1) move now.moves }
+  table_moved change move made =
+      let jobs = jobs_after change (ap (λ j. j.state) made) in
+      let rooms = rooms_after (ap (λ j. j.room) made) in
+      let orders = orders_kept (ap (λ j. j.orders) made) in
+      let moves = moves_after move (ap (λ j. j.moves) made) in
+      λ i. record { jobs = jobs i; rooms = rooms i; orders = orders i; moves = moves i }
 
   -- the same, beside what is counted of the jobs
   pub counted_after : (change : JobState → JobState) (changes bytes : ℕ) → new.state ≡ change job.state → IsCounted (job_changed (number - 1) change now.jobs) changes bytes
@@ -138,10 +222,9 @@ module _ (items : List RoomyJob) (now : JobTable) (number : ℕ) (job new : Room
       → OnOk result (HasRoomFor number (table_of (slice_set items (number - 1) new)))
   room_after same (Err e) room = tt
   room_after same (Ok x) room =
-      let place : number - 1 < length items = omega (arith, stands.last, ap length (sym states_are), length-map items (λ (j : RoomyJob). j.state)) in
       let there : slice_index (map (λ j. j.room) (slice_set items (number - 1) new)) (number - 1) ≡ new.room =
-      get_or-map-at (λ j. j.room) (slice_set items (number - 1) new) (number - 1) new 0 (omega (arith, length-set items (number - 1) new)) ∙ ap (λ j. j.room)
-      (get_or-set_same items (number - 1) new new place) in
+      get_or-map-at (λ j. j.room) (slice_set items (number - 1) new) (number - 1) new 0 (omega (arith, place_there, length-set items (number - 1) new)) ∙ ap (λ j. j.room)
+      (get_or-set_same items (number - 1) new new place_there) in
       let jobs : job_of_number number (map (λ j. j.state) (slice_set items (number - 1) new)) ≡ new.state =
       ap (job_of_number number) (unchanged_jobs same) ∙ job_is ∙ sym same in
       rw (there, jobs) room
@@ -239,9 +322,16 @@ module _ (items : List RoomyJob) (now : JobTable) (number : ℕ) (job : RoomyJob
   few_bytes undo few = omega (arith, bytes_within, (counted_now items now number job job view_is running here changes bytes counted).bytes_are)
 
 -- the changes of a cycle that a change is noted in
-noted-changes : (sequence : ℕ) (cycle : Option CycleState) → (cycle_from sequence cycle).undos ≡ changes_in cycle
+pub noted-changes : (sequence : ℕ) (cycle : Option CycleState) → (cycle_from sequence cycle).undos ≡ changes_in cycle
 noted-changes sequence None = refl
 noted-changes sequence (Some cycle) = refl
+
+-- one move more for one change more
+pub counted-noted : (moves : List (List PathMove)) (cycle : Option CycleState) (sequence : ℕ) (undone : List PathMove) (undo : MemberChange) → length moves ≡ length (changes_in cycle)
+    → length (undone ∷ moves) ≡ length (undo ∷ (cycle_from sequence cycle).undos)
+counted-noted moves cycle sequence undone undo same =
+    let changes : length (cycle_from sequence cycle).undos ≡ length (changes_in cycle) = ap (λ l. length l) (noted-changes sequence cycle) in
+    omega arith
 
 -- a change noted
 module _ (items : List RoomyJob) (now : JobTable) (number : ℕ) (job new : RoomyJob) (view_is : table_of items ≡ now)
@@ -258,8 +348,90 @@ module _ (items : List RoomyJob) (now : JobTable) (number : ℕ) (job new : Room
       (counted-more now.jobs (number - 1) job.state (stands items now number job new view_is running here).last (state_here items now number job new view_is running here) changes bytes
       (counted_now items now number job new view_is running here changes bytes counted) (with_cycle (noted undo (cycle_from sequence job.state.cycle))) 1 (change_bytes undo) longer heavier)
 
-  pub noted_table : new ≡ record { state = with_cycle (noted undo (cycle_from sequence job.state.cycle)) job.state; room = job.room }
-      → table_of (slice_set items (number - 1) new) ≡ record
-      { jobs = job_changed (number - 1) (with_cycle (noted undo (cycle_from sequence (job_of_number number now.jobs).cycle))) now.jobs; rooms = now.rooms }
-  noted_table made =
-      rw (job_is items now number job new view_is running here) (table_after items now number job new view_is running here (with_cycle (noted undo (cycle_from sequence job.state.cycle))) made)
+  pub noted_table : (undone : List PathMove) → new ≡ record job { state = with_cycle (noted undo (cycle_from sequence job.state.cycle)) job.state; moves = undone ∷ job.moves }
+      → table_of (slice_set items (number - 1) new) ≡ record now {
+        jobs = job_changed (number - 1) (with_cycle (noted undo (cycle_from sequence (job_of_number number now.jobs).cycle))) now.jobs;
+        moves = changed_at (number - 1) (λ moves. undone ∷ moves) now.moves;
+      }
+  noted_table undone made =
+      rw (job_is items now number job new view_is running here)
+      (table_moved items now number job new view_is running here (with_cycle (noted undo (cycle_from sequence job.state.cycle))) (λ moves. undone ∷ moves) made)
+
+-- an open more
+module _ (items : List RoomyJob) (now : JobTable) (number : ℕ) (job new : RoomyJob) (view_is : table_of items ≡ now)
+    (running : IsTrue (is_running (job_at number now.jobs))) (here : job ≡ get_or items (number - 1) job)
+    (change : JobState → JobState) (order : ℕ → List ℕ × OpenOrder) where
+  pub opened_table : new ≡ record job { state = change job.state; orders = job.orders ++ order (job.state.opened + 1) ∷ [] }
+      → table_of (slice_set items (number - 1) new) ≡ record now
+      { jobs = job_changed (number - 1) change now.jobs; orders = changed_at (number - 1) (λ orders. orders ++ order ((job_of_number number now.jobs).opened + 1) ∷ []) now.orders }
+  opened_table made =
+      rw (job_is items now number job new view_is running here)
+      (table_ordered items now number job new view_is running here change (λ orders. orders ++ order (job.state.opened + 1) ∷ []) made)
+
+-- ---- the opens of a job, changed
+
+module _ (items : List RoomyJob) (now : JobTable) (number : ℕ) (job new : RoomyJob) (view_is : table_of items ≡ now)
+    (running : IsTrue (is_running (job_at number now.jobs))) (here : job ≡ get_or items (number - 1) job) (change : OpenChange) where
+  pub changed_table : new ≡ record job { state = job_after change job.orders job.state }
+      → table_of (slice_set items (number - 1) new) ≡ record now { jobs = job_changed (number - 1) (job_after change (orders_at number now)) now.jobs }
+  changed_table made =
+      rw (orders_is items now number job new view_is running here) (table_after items now number job new view_is running here (job_after change job.orders) made)
+
+  pub ordered_here : IsWhole job → AllZip SameOpen (job_of_number number now.jobs).opens (orders_at number now)
+  ordered_here whole = rw (orders_is items now number job new view_is running here, job_is items now number job new view_is running here) whole.ordered
+
+-- where the change makes of the opens what a function makes of each
+pub job_after-each : (change : OpenChange) (each : OpenState → OpenState) (number : ℕ) (orders : Named OpenOrder) (jobs : List JobState) → IsTrue (is_running (job_at number jobs))
+    → opens_after change (job_of_number number jobs).opens orders ≡ map (λ entry. (entry.0, each entry.1)) (job_of_number number jobs).opens
+    → job_changed (number - 1) (job_after change orders) jobs ≡ job_changed (number - 1) (with_opens each) jobs
+job_after-each change each number orders jobs running same =
+    let place : job_of_number number jobs ≡ get_or jobs (number - 1) (new_job []) =
+    ap or_new (job_at-place jobs number (running-Stands jobs number running).first) ∙ or_new-get_or jobs (number - 1) in
+    job_changed-same (number - 1) (job_after change orders) (with_opens each) jobs (new_job [])
+    (let P : JobState → Type 0 = λ j. job_after change orders j ≡ with_opens each j in subst P place (λ i. record (job_of_number number jobs) { opens = same i }))
+
+-- the same of the table
+pub changed-each : (change : OpenChange) (each : OpenState → OpenState) (number : ℕ) (old new : JobTable) → IsTrue (is_running (job_at number old.jobs))
+    → new ≡ record old { jobs = job_changed (number - 1) (job_after change (orders_at number old)) old.jobs }
+    → opens_after change (job_of_number number old.jobs).opens (orders_at number old) ≡ map (λ entry. (entry.0, each entry.1)) (job_of_number number old.jobs).opens
+    → new ≡ record old { jobs = job_changed (number - 1) (with_opens each) old.jobs }
+changed-each change each number old new running made same =
+    let jobs = job_after-each change each number (orders_at number old) old.jobs running same in
+    made ∙ (λ i. record old { jobs = jobs i })
+
+-- ---- all jobs are whole
+
+pub whole_here : (items : List RoomyJob) (place : ℕ) (job : RoomyJob) → All IsWhole items → place < length items → job ≡ get_or items place job → IsWhole job
+whole_here items place job all within here = subst IsWhole (sym here) (all place job within)
+
+pub ordered_all : (items : List RoomyJob) → All IsWhole items → AllZip (λ job orders. AllZip SameOpen job.opens orders) (map (λ j. j.state) items) (map (λ j. j.orders) items)
+ordered_all [] all = tt
+ordered_all (job ∷ items) all = ((all 0 job (omega arith)).ordered, ordered_all items (λ k d within. all (suc k) d (omega arith)))
+
+pub counted_all : (items : List RoomyJob) → All IsWhole items → AllZip (λ job moves. length moves ≡ length (changes_in job.cycle)) (map (λ j. j.state) items) (map (λ j. j.moves) items)
+counted_all [] all = tt
+counted_all (job ∷ items) all = ((all 0 job (omega arith)).counted, counted_all items (λ k d within. all (suc k) d (omega arith)))
+
+-- a job that has begun
+pub begun : (items : List RoomyJob) (now : JobTable) (name : List ℕ) (job : RoomyJob) (changes bytes : ℕ) → table_of items ≡ now → length now.jobs < 4294967295
+    → IsCounted (map (λ j. j.state) items) changes bytes → All IsWhole items → job.state ≡ new_job name → job.orders ≡ [] → job.moves ≡ []
+    → IsCounted (map (λ j. j.state) (items ++ job ∷ [])) changes bytes × All IsWhole (items ++ job ∷ [])
+begun items now name job changes bytes view_is few counted whole state_is orders_are moves_are =
+    let states : map (λ j. j.state) (items ++ job ∷ []) ≡ map (λ j. j.state) items ++ job.state ∷ [] = map-append (λ (j : RoomyJob). j.state) items (job ∷ []) in
+    let long : length (map (λ j. j.state) items ++ job.state ∷ []) ≡ length (map (λ j. j.state) items) + 1 = length-append (map (λ j. j.state) items) (job.state ∷ []) in
+    let same : length (map (λ j. j.state) items) ≡ length now.jobs = ap (λ t. length t.jobs) view_is in
+    let none : length (changes_in job.state.cycle) ≡ 0 = ap (λ s. length (changes_in s.cycle)) state_is in
+    let light : bytes_of (changes_in job.state.cycle) ≡ 0 = ap (λ s. bytes_of (changes_in s.cycle)) state_is in
+    let count : changes_held (map (λ j. j.state) items ++ job.state ∷ []) ≡ changes_held (map (λ j. j.state) items) + changes_held (job.state ∷ []) =
+    sum_by-append (λ j. length (changes_in j.cycle)) (map (λ j. j.state) items) (job.state ∷ []) in
+    let weight : bytes_held (map (λ j. j.state) items ++ job.state ∷ []) ≡ bytes_held (map (λ j. j.state) items) + bytes_held (job.state ∷ []) =
+    sum_by-append (λ j. bytes_of (changes_in j.cycle)) (map (λ j. j.state) items) (job.state ∷ []) in
+    let one : changes_held (job.state ∷ []) ≡ length (changes_in job.state.cycle) + 0 = sum_by-cons (λ j. length (changes_in j.cycle)) job.state [] in
+    let one_weight : bytes_held (job.state ∷ []) ≡ bytes_of (changes_in job.state.cycle) + 0 = sum_by-cons (λ j. bytes_of (changes_in j.cycle)) job.state [] in
+    let was = counted.changes_are in
+    let weighed = counted.bytes_are in
+    let after : IsCounted (map (λ j. j.state) items ++ job.state ∷ []) changes bytes = record { few = omega arith; changes_are = omega arith; bytes_are = omega arith } in
+    let ordered : AllZip SameOpen job.state.opens job.orders =
+    subst (λ (s : JobState). AllZip SameOpen s.opens job.orders) (sym state_is) (subst (λ (o : Named OpenOrder). AllZip SameOpen [] o) (sym orders_are) tt) in
+    let moved : length job.moves ≡ length (changes_in job.state.cycle) = ap (λ l. length l) moves_are ∙ sym none in
+    (rw states after, All-push IsWhole items job whole (record { ordered = ordered; counted = moved }))

@@ -1,22 +1,37 @@
--- What contracts see of a job's changes: the changes of its open commit cycle, and for how many it has room. (Our own.)
-use Rattle.std.specs.Prelude.{◌≡◌, ℕ, ◌+◌, ◌-◌, ◌<◌, ◌≤◌, ◌==◌, ◌&&◌, Bool, Option, Some, None, List, [], length, unwrap_or}
+-- What contracts see of a job's changes: the changes of its open commit cycle, the moves in the access paths that take each back, and for how many
+-- changes it has room. (Our own.)
+use Rattle.std.specs.Prelude.{◌≡◌, ℕ, ◌+◌, ◌-◌, ◌<◌, ◌≤◌, ◌==◌, ◌&&◌, Bool, Option, Some, None, List, [], length, map, unwrap_or}
 use Rattle.std.specs.List.{sum_by}
 use Rattle.std.specs.Option.{option_map}
 use Rattle.member_slots.specs.declared.slot.Slot.{Slot}
 use Rattle.journal_model.specs.Rollback.{MemberChange}
+use Rattle.path_set.specs.declared.moves.PathMove.{PathMove}
 use Rattle.library_steps.specs.declared.limits.TheConstants.{MOST_GROUP_BYTES}
 use Rattle.library_steps.specs.State.{CycleState}
 use Rattle.library_steps.specs.SlotChange.{change_bytes}
 
--- changes, the last one first, and for how many there is room in all
+-- a change as it is kept: with the moves that take it back in all paths
+pub record KeptUndo : Type 0 where
+  pub change : MemberChange
+  pub moves : List PathMove
+
+-- changes, the last one first, the moves that take each back, and for how many there is room in all
 pub record RoomyChanges : Type 0 where
   pub changes : List MemberChange
+  pub moves : List (List PathMove)
   pub room : ℕ
 
--- the open commit cycle of a job, and for how many changes there is room in all
+-- the open commit cycle of a job, the moves that take each of its changes back, and for how many changes there is room in all
 pub record RoomyCycle : Type 0 where
   pub cycle : Option CycleState
+  pub moves : List (List PathMove)
   pub room : ℕ
+
+abbrev pub changes_of : List KeptUndo → List MemberChange
+changes_of undos = map (λ undo. undo.change) undos
+
+abbrev pub moves_of : List KeptUndo → List (List PathMove)
+moves_of undos = map (λ undo. undo.moves) undos
 
 -- there is room for one change more
 abbrev pub HasRoom : List MemberChange → ℕ → Type 0

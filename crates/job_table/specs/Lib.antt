@@ -1,4 +1,3 @@
-pub mod Arrival
 pub mod Changes
 pub mod Table
 pub mod Opens

@@ -1,9 +1,62 @@
--- What a job's opens are asked: which of them are over a member, and which are under commitment control. (Our own.)
-use Rattle.std.specs.Prelude.{ℕ, ◌<◌, ◌≤◌, ◌==◌, ◌&&◌, Bool, List, All, AllPairs}
+-- How a job's opens are kept, and what they are asked: which of them are over a member, and which are under commitment control. (Our own.)
+use Rattle.std.specs.Prelude.{◌≡◌, ℕ, ◌<◌, ◌≤◌, ◌==◌, ◌&&◌, Bool, Option, List, length, map, All, AllPairs}
 use Rattle.std.specs.List.{list_any}
+use Rattle.key_spec.specs.declared.KeyPart.{KeyPart}
+use Rattle.file_model.specs.Positions.{Start}
+use Rattle.open_position.specs.OpenStand.{OpenStand}
 use Rattle.library_model.specs.declared.limits.TheConstants.{MOST_OPENS}
 use Rattle.library_model.specs.Named.{Named}
 use Rattle.library_steps.specs.State.{OpenState}
+use Rattle.job_table.specs.declared.reads.OpenReads.{OpenReads}
+
+-- how an open reads: its number, the number of its path where it reads by one, and the positions of the key in each format
+pub record OpenOrder : Type 0 where
+  pub number : ℕ
+  pub path : Option ℕ
+  pub formats : List (List KeyPart)
+
+-- an open as it is kept
+pub record KeptOpen : Type 0 where
+  pub state : OpenState
+  pub order : OpenOrder
+
+-- ---- a new open
+
+-- it stands at the start, and keeps the position at boundaries where it is under commitment
+abbrev pub IsNewReads : (commit : Bool) → OpenReads → Type 0
+IsNewReads commit reads = reads.position ≡ record { position = Start; boundary = Start; formats = reads.position.formats; marks = commit }
+
+abbrev pub order_by : (number : ℕ) → OpenReads → OpenOrder
+order_by number reads = record { number = number; path = reads.path; formats = reads.position.formats }
+
+-- the position of an open: it is kept at boundaries where the open is under commitment, and is of one format
+pub record IsPositionOf (commit : Bool) (stand : OpenStand) : Type 0 where
+  pub marks : stand.marks ≡ commit
+  pub one : length stand.formats ≡ 1
+
+-- ---- opens and how they read, side by side
+
+-- an open and its order stand at one place
+abbrev pub SameOpen : List ℕ × OpenState → List ℕ × OpenOrder → Type 0
+SameOpen entry order = (entry.0 ≡ order.0) × (entry.1.number ≡ order.1.number)
+
+-- what is true of those of this number
+abbrev pub AllOfNumber : (number : ℕ) → (OpenOrder → Type 0) → Named OpenOrder → Type 0
+AllOfNumber number P orders = All (λ entry. entry.1.number ≡ number → P entry.1) orders
+
+abbrev pub state_in : List ℕ × KeptOpen → List ℕ × OpenState
+state_in entry = (entry.0, entry.1.state)
+
+abbrev pub order_in : List ℕ × KeptOpen → List ℕ × OpenOrder
+order_in entry = (entry.0, entry.1.order)
+
+abbrev pub states_of : Named KeptOpen → Named OpenState
+states_of opens = map state_in opens
+
+abbrev pub orders_of : Named KeptOpen → Named OpenOrder
+orders_of opens = map order_in opens
+
+-- ---- the opens of a job
 
 -- so many opens are no more than a job may have, and there is room for as many as that
 pub record HasRoomForAll (count room : ℕ) : Type 0 where
@@ -24,3 +77,11 @@ is_committed_in number entry = (entry.1.number == number) && entry.1.commit
 pub record AreNumbered (opens : Named OpenState) (opened : ℕ) : Type 0 where
   pub ascending : AllPairs (λ former later. former.1.number < later.1.number) opens
   pub had : All (λ entry. entry.1.number ≤ opened) opens
+
+-- each has one number, as an open and as what tells how it reads
+abbrev pub HasOneNumber : List ℕ × KeptOpen → Type 0
+HasOneNumber entry = entry.1.order.number ≡ entry.1.state.number
+
+pub record AreKept (opens : Named KeptOpen) (opened : ℕ) : Type 0 where
+  pub numbered : AreNumbered (states_of opens) opened
+  pub alike : All HasOneNumber opens

@@ -1,5 +1,5 @@
 //! Changes of a commit cycle, as they are kept to be taken back.
-ghost use Rattle.std.specs.Prelude.{◌≡◌, ◌+◌, ◌≤◌, Some, [], ◌∷◌, length, slice_get, option_copied, OnOk, MatchOption};
+ghost use Rattle.std.specs.Prelude.{◌≡◌, ◌+◌, ◌≤◌, Some, [], ◌∷◌, length, slice_get, option_map, option_copied, OnOk, MatchOption};
 ghost use Rattle.std.specs.List.{list_any};
 ghost use Rattle.journal_model.specs.Replay.{before_of};
 ghost use Rattle.library_steps.specs.declared.limits.TheConstants.{MOST_GROUP_BYTES};
@@ -7,11 +7,13 @@ ghost use Rattle.library_steps.specs.SlotChange.{image_bytes, change_bytes};
 ghost use Rattle.job_table.specs.Changes.{HasRoom, bytes_of, change_of, is_of_member, is_of_record};
 
 use member_slots::slot::Slot;
+use path_set::moves::Moves;
 use std::alloc::{AllocError, Global};
 use std::collections::VecDeque;
 use std::marker::Model;
 
-/// A change of a record under commitment control, with the slot before it and after it.
+/// A change of a record under commitment control, with the slot before it and after it, and with the moves that take it back in
+/// all access paths.
 #[derive(Drop)]
 pub struct Undo {
     member: u32,
@@ -21,24 +23,25 @@ pub struct Undo {
     /// The slot before once more, for the entry that tells that it was put back.
     again: Slot,
     after: Slot,
+    moves: Moves,
 }
 
-/// The slots of a change that is taken back: the one before it twice, and the one after it.
+/// A change that is taken back: the slot before it twice, the one after it, and the moves in all access paths.
 #[derive(Drop)]
-pub struct UndoSlots {
+pub struct UndoParts {
     pub before: Slot,
     pub again: Slot,
     pub after: Slot,
+    pub moves: Moves,
 }
 
 impl Model for Undo {
     ghost use Rattle.std.specs.Prelude.{◌≡◌, ◌≤◌};
-    ghost use Rattle.journal_model.specs.Rollback.{MemberChange};
-    ghost use Rattle.job_table.specs.Changes.{change_of};
+    ghost use Rattle.job_table.specs.Changes.{KeptUndo, change_of};
 
-    ghost Value = { MemberChange };
+    ghost Value = { KeptUndo };
 
-    ghost view = { λ u. change_of u.member u.rrn u.cycle u.before u.after };
+    ghost view = { λ u. record { change = change_of u.member u.rrn u.cycle u.before u.after; moves = u.moves } };
 
     ghost invariant = { λ u. (1 ≤ u.rrn) × (u.again ≡ u.before) };
 }
@@ -46,10 +49,18 @@ impl Model for Undo {
 impl Undo {
     /// A change of the record with that number, in the commit cycle that began with the entry of that sequence. The slot
     /// before comes twice, so that taking the change back needs no memory.
-    pub fn new(member: u32, rrn: u32, cycle: u64, before: Slot, again: Slot, after: Slot) -> Undo
+    pub fn new(
+        member: u32,
+        rrn: u32,
+        cycle: u64,
+        before: Slot,
+        again: Slot,
+        after: Slot,
+        moves: Moves,
+    ) -> Undo
         requires numbered { 1 ≤ rrn }
         requires alike { again ≡ before }
-        ensures { result ≡ change_of member rrn cycle before after }
+        ensures { result ≡ record { change = change_of member rrn cycle before after; moves = moves } }
     {
         Undo {
             member,
@@ -58,62 +69,65 @@ impl Undo {
             before,
             again,
             after,
+            moves,
         }
     }
 
     /// The number of the member.
     pub fn member(&self) -> u32
-        ensures { result ≡ self.now.member }
+        ensures { result ≡ self.now.change.member }
     {
         self.member
     }
 
     /// The relative record number, one more than the place.
     pub fn rrn(&self) -> u32
-        ensures { result ≡ self.now.change.place + 1 }
+        ensures { result ≡ self.now.change.change.place + 1 }
     {
         self.rrn
     }
 
     /// The sequence of the entry with which the commit cycle began.
     pub fn cycle(&self) -> u64
-        ensures { self.now.change.cycle ≡ Some result }
+        ensures { self.now.change.change.cycle ≡ Some result }
     {
         self.cycle
     }
 
     /// The slot before the change.
     pub fn before(&self) -> &Slot
-        ensures before { result.now ≡ before_of self.now.change }
-        ensures told { self.now.change.before ≡ Some result.now }
+        ensures before { result.now ≡ before_of self.now.change.change }
+        ensures told { self.now.change.change.before ≡ Some result.now }
     {
         &self.before
     }
 
     /// The slot after it.
     pub fn after(&self) -> &Slot
-        ensures { result.now ≡ self.now.change.after }
+        ensures { result.now ≡ self.now.change.change.after }
     {
         &self.after
     }
 
-    /// Its slots, to be put back and told of.
-    pub fn into_slots(self) -> UndoSlots
-        ensures before { result.before ≡ before_of self.change }
-        ensures again { result.again ≡ before_of self.change }
-        ensures after { result.after ≡ self.change.after }
+    /// Its slots, to be put back and told of, and its moves, to be made.
+    pub fn into_parts(self) -> UndoParts
+        ensures before { result.before ≡ before_of self.change.change }
+        ensures again { result.again ≡ before_of self.change.change }
+        ensures after { result.after ≡ self.change.change.after }
+        ensures moves { result.moves ≡ self.moves }
     {
-        UndoSlots {
+        UndoParts {
             before: self.before,
             again: self.again,
             after: self.after,
+            moves: self.moves,
         }
     }
 
     /// The bytes of images in the entries that take the change back.
     pub fn bytes(&self) -> u64
-        requires { change_bytes self.now ≤ MOST_GROUP_BYTES }
-        ensures { result ≡ change_bytes self.now }
+        requires { change_bytes self.now.change ≤ MOST_GROUP_BYTES }
+        ensures { result ≡ change_bytes self.now.change }
     {
         image_bytes(&self.before) + image_bytes(&self.after)
     }
@@ -128,7 +142,7 @@ fn image_bytes(slot: &Slot) -> u64
     }
 }
 
-/// Changes, the last one first. Beside them, contracts see for how many there is room in all.
+/// Changes, the last one first. Beside them, contracts see the moves of each, and for how many there is room in all.
 #[derive(Drop)]
 pub struct Undos {
     changes: VecDeque<Undo>,
@@ -137,19 +151,20 @@ pub struct Undos {
 
 impl Model for Undos {
     ghost use Rattle.std.specs.VecDeque.{deque_capacity};
-    ghost use Rattle.job_table.specs.Changes.{RoomyChanges, AreWeighed};
+    ghost use Rattle.job_table.specs.Changes.{RoomyChanges, AreWeighed, changes_of, moves_of};
 
     ghost Value = { RoomyChanges };
 
-    ghost view = { λ u. record { changes = u.changes.items; room = deque_capacity u.changes } };
+    ghost view = { λ u. record { changes = changes_of u.changes.items; moves = moves_of u.changes.items; room = deque_capacity u.changes } };
 
-    ghost invariant = { λ u. AreWeighed u.changes.items u.bytes };
+    ghost invariant = { λ u. AreWeighed (changes_of u.changes.items) u.bytes };
 }
 
 impl Undos {
     /// No changes.
     pub fn new(alloc: Global) -> Undos
-        ensures { result.changes ≡ [] }
+        ensures changes { result.changes ≡ [] }
+        ensures moves { result.moves ≡ [] }
     {
         Undos {
             changes: VecDeque::new(alloc),
@@ -173,7 +188,8 @@ impl Undos {
 
     /// The change at a place, the last one at 0.
     pub fn get(&self, place: usize) -> Option<&Undo>
-        ensures { option_copied result ≡ slice_get self.now.changes place }
+        ensures change { option_map (λ undo. undo.change) (option_copied result) ≡ slice_get self.now.changes place }
+        ensures moves { option_map (λ undo. undo.moves) (option_copied result) ≡ slice_get self.now.moves place }
     {
         self.changes.get(place)
     }
@@ -204,7 +220,8 @@ impl Undos {
 
     /// Takes the last change out.
     pub fn pop(&mut self) -> Option<Undo>
-        ensures { MatchOption result ((self.old.changes ≡ []) × (self.new.changes ≡ [])) (λ undo. self.old.changes ≡ undo ∷ self.new.changes) }
+        ensures changes { MatchOption result ((self.old.changes ≡ []) × (self.new.changes ≡ [])) (λ undo. self.old.changes ≡ undo.change ∷ self.new.changes) }
+        ensures moves { MatchOption result ((self.old.moves ≡ []) × (self.new.moves ≡ [])) (λ undo. self.old.moves ≡ undo.moves ∷ self.new.moves) }
     {
         let Some(undo) = self.changes.pop_front() else {
             return None;
@@ -216,6 +233,7 @@ impl Undos {
     /// Makes room for one change more.
     pub(crate) fn reserve(&mut self) -> Result<(), AllocError>
         ensures changes { self.new.changes ≡ self.old.changes }
+        ensures moves { self.new.moves ≡ self.old.moves }
         ensures room { OnOk result (HasRoom self.new.changes self.new.room) }
     {
         self.changes.reserve(1)
@@ -224,8 +242,9 @@ impl Undos {
     /// Keeps a change.
     pub(crate) fn note(&mut self, undo: Undo)
         requires room { HasRoom self.old.changes self.old.room }
-        requires few { bytes_of self.old.changes + change_bytes undo ≤ MOST_GROUP_BYTES }
-        ensures changes { self.new.changes ≡ undo ∷ self.old.changes }
+        requires few { bytes_of self.old.changes + change_bytes undo.change ≤ MOST_GROUP_BYTES }
+        ensures changes { self.new.changes ≡ undo.change ∷ self.old.changes }
+        ensures moves { self.new.moves ≡ undo.moves ∷ self.old.moves }
         ensures room { self.new.room ≡ self.old.room }
     {
         self.bytes += undo.bytes();

@@ -1,5 +1,5 @@
 //! The open commit cycle of a job, and the room for its changes.
-ghost use Rattle.std.specs.Prelude.{◌≡◌, ◌+◌, ◌≤◌, Some, None, OnOk, option_map};
+ghost use Rattle.std.specs.Prelude.{◌≡◌, ◌+◌, ◌≤◌, Some, None, [], ◌∷◌, OnOk, option_map};
 ghost use Rattle.library_steps.specs.declared.limits.TheConstants.{MOST_GROUP_BYTES};
 ghost use Rattle.library_steps.specs.Uses.{changes_in};
 ghost use Rattle.library_steps.specs.SlotChange.{change_bytes, noted};
@@ -22,7 +22,7 @@ impl Model for Cycle {
 
     ghost Value = { RoomyCycle };
 
-    ghost view = { λ c. record { cycle = cycle_of c.started c.undos.changes; room = c.undos.room } };
+    ghost view = { λ c. record { cycle = cycle_of c.started c.undos.changes; moves = c.undos.moves; room = c.undos.room } };
 
     ghost invariant = { λ c. IsOfCycle c.started c.undos.changes };
 }
@@ -30,7 +30,8 @@ impl Model for Cycle {
 impl Cycle {
     /// No cycle is open.
     pub fn new(alloc: Global) -> Cycle
-        ensures { result.cycle ≡ None }
+        ensures cycle { result.cycle ≡ None }
+        ensures moves { result.moves ≡ [] }
     {
         Cycle {
             started: None,
@@ -48,6 +49,7 @@ impl Cycle {
     /// Its changes.
     pub fn undos(&self) -> &Undos
         ensures changes { result.now.changes ≡ changes_in self.now.cycle }
+        ensures moves { result.now.moves ≡ self.now.moves }
         ensures room { result.now.room ≡ self.now.room }
     {
         &self.undos
@@ -56,6 +58,7 @@ impl Cycle {
     /// Makes room for one change more.
     pub fn reserve(&mut self) -> Result<(), AllocError>
         ensures cycle { self.new.cycle ≡ self.old.cycle }
+        ensures moves { self.new.moves ≡ self.old.moves }
         ensures room { OnOk result (HasRoom (changes_in self.new.cycle) self.new.room) }
     {
         self.undos.reserve()
@@ -64,8 +67,9 @@ impl Cycle {
     /// Keeps a change. Where no cycle is open, one begins with the entry of that sequence.
     pub fn note(&mut self, sequence: u64, undo: Undo)
         requires room { HasRoom (changes_in self.old.cycle) self.old.room }
-        requires few { bytes_of (changes_in self.old.cycle) + change_bytes undo ≤ MOST_GROUP_BYTES }
-        ensures cycle { self.new.cycle ≡ Some (noted undo (cycle_from sequence self.old.cycle)) }
+        requires few { bytes_of (changes_in self.old.cycle) + change_bytes undo.change ≤ MOST_GROUP_BYTES }
+        ensures cycle { self.new.cycle ≡ Some (noted undo.change (cycle_from sequence self.old.cycle)) }
+        ensures moves { self.new.moves ≡ undo.moves ∷ self.old.moves }
         ensures room { self.new.room ≡ self.old.room }
     {
         self.started = Some(self.started.unwrap_or(sequence));
@@ -75,7 +79,9 @@ impl Cycle {
     /// Ends it, and hands its changes out.
     pub fn end(&mut self, alloc: Global) -> Undos
         ensures changes { result.changes ≡ changes_in self.old.cycle }
+        ensures moves { result.moves ≡ self.old.moves }
         ensures ended { self.new.cycle ≡ None }
+        ensures emptied { self.new.moves ≡ [] }
     {
         self.started = None;
         mem::replace(&mut self.undos, Undos::new(alloc))

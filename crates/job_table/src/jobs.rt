@@ -1,8 +1,14 @@
 //! The jobs that have begun, by number from 1. A job stands in `job.rt`, and who uses a member in `users.rt`.
-ghost use Rattle.std.specs.Prelude.{◌≡◌, ℕ, ◌+◌, ◌-◌, ◌<◌, ◌≤◌, ◌==◌, Some, None, [], ◌∷◌, ◌++◌, length, map, IsTrue, IfOk, OnOk, OnErr, option_map, option_copied};
-ghost use Rattle.std.specs.List.{list_any};
+ghost use Rattle.std.specs.Prelude.{◌≡◌, ℕ, ◌+◌, ◌-◌, ◌<◌, ◌≤◌, ◌==◌, Some, None, not, [], ◌∷◌, ◌++◌, length, map, filter, All, IsTrue, IfOk, IfSome, OnOk, OnErr, option_map, option_copied, slice_get};
+ghost use Rattle.std.specs.List.{list_any, AllZip};
+ghost use Rattle.file_model.specs.KeyOrder.{merged_parts};
+ghost use Rattle.file_model.specs.Paths.{PathEntry};
+ghost use Rattle.file_model.specs.Positions.{Position};
+ghost use Rattle.file_cursor.specs.CursorPosition.{entry_of};
+ghost use Rattle.open_position.specs.OpenStand.{IsEntryIn};
+ghost use Rattle.open_position.specs.Reads.{stood, IsStandAt, entry_hit};
 ghost use Rattle.library_model.specs.declared.limits.TheConstants.{MOST_OPENS};
-ghost use Rattle.library_model.specs.Named.{named};
+ghost use Rattle.library_model.specs.Named.{named, same_name};
 ghost use Rattle.library_steps.specs.declared.limits.TheConstants.{MOST_GROUP_CHANGES, MOST_GROUP_BYTES};
 ghost use Rattle.library_steps.specs.State.{new_job, job_at, job_changed, with_opens};
 ghost use Rattle.library_steps.specs.History.{is_running};
@@ -15,26 +21,29 @@ ghost use Rattle.library_steps.specs.Locking.{is_committed};
 ghost use Rattle.library_steps.specs.Uses.{changes_in};
 ghost use Rattle.library_steps.specs.SlotChange.{change_bytes, noted, with_cycle, has_changed_record};
 ghost use Rattle.job_table.specs.Changes.{cycle_from};
-ghost use Rattle.job_table.specs.OpenChanges.{open_after};
-ghost use Rattle.job_table.specs.Opens.{AreNumbered};
-ghost use Rattle.job_table.specs.Table.{HasRoomFor, job_of_number, changes_held, bytes_held, closed_job};
+ghost use Rattle.job_table.specs.OpenChanges.{CanMake, job_after};
+ghost use Rattle.job_table.specs.Opens.{IsNewReads, order_by, AllOfNumber, SameOpen, AreNumbered};
+ghost use Rattle.job_table.specs.Table.{HasRoomFor, IsWhole, job_of_number, orders_at, moves_at, changed_at, changes_held, bytes_held, closed_job};
 
 use crate::changes::{Undo, Undos};
 use crate::job::Job;
 use crate::open::Open;
 use crate::opens::{OpenChange, OpenNumbers};
-use crate::positions::{FilePosition, FoundRecord};
+use crate::reads::OpenReads;
 use commit_level::Level;
 use field_types::names::Name;
+use file_cursor::places::Hit;
 use library_model::requests::OpenFile;
 use lock_table::Call;
+use open_position::position::{Side, StandAt};
 use std::alloc::{AllocError, Global};
 use std::marker::Model;
 
 /// The greatest number of an open. A job that has had so many opens has no more.
 pub const LAST_OPEN: u32 = 4_294_967_295;
 
-/// The jobs in order of their numbers. Beside them, contracts see for how many changes each has room.
+/// The jobs in order of their numbers. Beside them, contracts see how the opens of each read, the moves that take its changes
+/// back, and for how many changes it has room.
 #[derive(Drop)]
 pub struct Jobs {
     alloc: Global,
@@ -44,19 +53,20 @@ pub struct Jobs {
 }
 
 impl Model for Jobs {
-    ghost use Rattle.job_table.specs.Table.{JobTable, table_of, IsCounted};
+    ghost use Rattle.std.specs.Prelude.{All};
+    ghost use Rattle.job_table.specs.Table.{JobTable, table_of, IsCounted, IsWhole};
 
     ghost Value = { JobTable };
 
     ghost view = { λ j. table_of j.jobs.items };
 
-    ghost invariant = { λ j. IsCounted (table_of j.jobs.items).jobs j.changes j.bytes };
+    ghost invariant = { λ j. IsCounted (table_of j.jobs.items).jobs j.changes j.bytes × All IsWhole j.jobs.items };
 }
 
 impl Jobs {
     /// No job has begun.
     pub fn new(alloc: Global) -> Jobs
-        ensures { result ≡ record { jobs = []; rooms = [] } }
+        ensures { result ≡ record { jobs = []; rooms = []; orders = []; moves = [] } }
     {
         Jobs {
             alloc,
@@ -66,9 +76,12 @@ impl Jobs {
         }
     }
 
-    /// How many have begun.
+    /// How many have begun. Each open of theirs stands beside how it reads, and each change beside its moves.
     pub fn len(&self) -> usize
-        ensures { result ≡ length self.now.jobs }
+        ensures count { result ≡ length self.now.jobs }
+        ensures few { result ≤ 4294967295 }
+        ensures ordered { AllZip (λ job orders. AllZip SameOpen job.opens orders) self.now.jobs self.now.orders }
+        ensures counted { AllZip (λ job moves. length moves ≡ length (changes_in job.cycle)) self.now.jobs self.now.moves }
     {
         self.jobs.len()
     }
@@ -78,6 +91,7 @@ impl Jobs {
         requires { length self.old.jobs < 4294967295 }
         ensures number { IfOk result (λ n. n ≡ length self.old.jobs + 1) }
         ensures begun { OnOk result (self.new.jobs ≡ self.old.jobs ++ new_job name ∷ []) }
+        ensures kept { OnOk result ((self.new.orders ≡ self.old.orders ++ [] ∷ []) × (self.new.moves ≡ self.old.moves ++ [] ∷ [])) }
         ensures unchanged { OnErr result (self.new ≡ self.old) }
     {
         let number = self.jobs.len() as u32 + 1;
@@ -131,6 +145,14 @@ impl Jobs {
         self.job(number).cycle().undos()
     }
 
+    /// The changes of the open commit cycle of the job at a place, counted from 0, the last one first; also of one that has ended.
+    pub fn changes_of(&self, place: usize) -> &Undos
+        requires { place < length self.now.jobs }
+        ensures { option_map (λ job. changes_in job.cycle) (slice_get self.now.jobs place) ≡ Some result.now.changes }
+    {
+        self.jobs[place].cycle().undos()
+    }
+
     /// Whether its open commit cycle has a change of the record.
     pub fn has_changed_record(&self, number: u32, member: u32, rrn: u32) -> bool
         requires { IsTrue (is_running (job_at number self.now.jobs)) }
@@ -139,12 +161,14 @@ impl Jobs {
         self.job(number).cycle().undos().have_record(member, rrn)
     }
 
-    /// Its open of that name.
+    /// Its open of that name. No other open of the job has its number.
     pub fn open_named(&self, number: u32, name: &Name) -> Option<&Open>
         requires { IsTrue (is_running (job_at number self.now.jobs)) }
-        ensures { option_copied result ≡ named name.now (job_of_number number self.now.jobs).opens }
+        ensures state { option_map (λ o. o.state) (option_copied result) ≡ named name.now (job_of_number number self.now.jobs).opens }
+        ensures order { option_map (λ o. o.order) (option_copied result) ≡ named name.now (orders_at number self.now) }
+        ensures alone { IfSome result (λ o. AllOfNumber o.now.state.number (λ order. order ≡ o.now.order) (orders_at number self.now)) }
     {
-        self.job(number).opens().named(name)
+        self.job(number).open_named(name)
     }
 
     /// How many opens it has.
@@ -198,39 +222,50 @@ impl Jobs {
     // ---- opens
 
     /// Opens a member.
-    pub fn add_open(&mut self, number: u32, args: &OpenFile, member: u32)
+    pub fn add_open(&mut self, number: u32, args: &OpenFile, member: u32, reads: OpenReads)
         requires running { IsTrue (is_running (job_at number self.old.jobs)) }
         requires few { length (job_of_number number self.old.jobs).opens < MOST_OPENS }
         requires numbered { (job_of_number number self.old.jobs).opened < LAST_OPEN }
-        ensures { self.new ≡ record self.old { jobs = job_changed (number - 1) (with_open args.now (member ∷ [])) self.old.jobs } }
+        requires start { IsNewReads args.now.commit reads }
+        ensures { self.new ≡ record self.old {
+          jobs = job_changed (number - 1) (with_open args.now (member ∷ [])) self.old.jobs;
+          orders = changed_at (number - 1) (λ orders. orders ++ (args.now.open_id, order_by ((job_of_number number self.old.jobs).opened + 1) reads) ∷ []) self.old.orders;
+        } }
     {
         let job = &mut self.jobs[number as usize - 1];
-        job.add_open(args, member);
+        job.add_open(args, member, reads);
     }
 
     /// Closes its open of that name.
     pub fn remove_open(&mut self, number: u32, name: &Name)
         requires { IsTrue (is_running (job_at number self.old.jobs)) }
-        ensures { self.new ≡ record self.old { jobs = job_changed (number - 1) (without_open name.now) self.old.jobs } }
+        ensures { self.new ≡ record self.old {
+          jobs = job_changed (number - 1) (without_open name.now) self.old.jobs;
+          orders = changed_at (number - 1) (λ orders. filter (λ entry. not (same_name name.now entry.0)) orders) self.old.orders;
+        } }
     {
         let job = &mut self.jobs[number as usize - 1];
         job.remove_open(name);
     }
 
-    /// Sets the position of its open with that number.
-    pub fn set_position(&mut self, number: u32, opened: u32, position: FilePosition)
-        requires { IsTrue (is_running (job_at number self.old.jobs)) }
-        ensures { self.new ≡ record self.old { jobs = job_changed (number - 1) (open_changed opened (positioned None position)) self.old.jobs } }
+    /// Sets the position of its open with that number to this side of a place.
+    pub fn set_position(&mut self, number: u32, opened: u32, side: Side, at: StandAt<'_>)
+        requires running { IsTrue (is_running (job_at number self.old.jobs)) }
+        requires place { AllOfNumber opened (λ order. IsStandAt order.formats at) (orders_at number self.old) }
+        ensures { (position : Position PathEntry) → AllOfNumber opened (λ order. stood side (merged_parts order.formats) at.entry ≡ position) (orders_at number self.old)
+            → self.new ≡ record self.old { jobs = job_changed (number - 1) (open_changed opened (positioned None position)) self.old.jobs } }
     {
-        self.change_opens(number, &OpenChange::Positioned(opened, position));
+        self.change_opens(number, &OpenChange::Positioned(opened, side, at));
     }
 
     /// Notes what its open with that number has read.
-    pub fn note_read(&mut self, number: u32, opened: u32, call: Call, entry: FoundRecord)
-        requires { IsTrue (is_running (job_at number self.old.jobs)) }
-        ensures { self.new ≡ record self.old { jobs = job_changed (number - 1) (open_changed opened (has_read call (entry_found entry))) self.old.jobs } }
+    pub fn note_read(&mut self, number: u32, opened: u32, call: Call, hit: &Hit<'_>)
+        requires running { IsTrue (is_running (job_at number self.old.jobs)) }
+        requires entry { AllOfNumber opened (λ order. IsEntryIn order.formats (entry_of hit.now)) (orders_at number self.old) }
+        ensures { (entry : PathEntry) → AllOfNumber opened (λ order. entry_hit (merged_parts order.formats) hit.now ≡ entry) (orders_at number self.old)
+            → self.new ≡ record self.old { jobs = job_changed (number - 1) (open_changed opened (has_read call (entry_found entry))) self.old.jobs } }
     {
-        self.change_opens(number, &OpenChange::HasRead(opened, call, entry));
+        self.change_opens(number, &OpenChange::HasRead(opened, call, *hit));
     }
 
     /// Its open with that number has no current record any more.
@@ -271,6 +306,8 @@ impl Jobs {
     pub fn reserve_undo(&mut self, number: u32) -> Result<(), AllocError>
         requires { IsTrue (is_running (job_at number self.old.jobs)) }
         ensures jobs { self.new.jobs ≡ self.old.jobs }
+        ensures orders { self.new.orders ≡ self.old.orders }
+        ensures moves { self.new.moves ≡ self.old.moves }
         ensures room { OnOk result (HasRoomFor number self.new) }
     {
         let job = &mut self.jobs[number as usize - 1];
@@ -282,8 +319,11 @@ impl Jobs {
         requires running { IsTrue (is_running (job_at number self.old.jobs)) }
         requires room { HasRoomFor number self.old }
         requires few_changes { changes_held self.old.jobs + 1 ≤ MOST_GROUP_CHANGES }
-        requires few_bytes { bytes_held self.old.jobs + change_bytes undo ≤ MOST_GROUP_BYTES }
-        ensures { self.new ≡ record self.old { jobs = job_changed (number - 1) (with_cycle (noted undo (cycle_from sequence (job_of_number number self.old.jobs).cycle))) self.old.jobs } }
+        requires few_bytes { bytes_held self.old.jobs + change_bytes undo.change ≤ MOST_GROUP_BYTES }
+        ensures { self.new ≡ record self.old {
+          jobs = job_changed (number - 1) (with_cycle (noted undo.change (cycle_from sequence (job_of_number number self.old.jobs).cycle))) self.old.jobs;
+          moves = changed_at (number - 1) (λ moves. undo.moves ∷ moves) self.old.moves;
+        } }
     {
         self.changes += 1;
         self.bytes += undo.bytes();
@@ -294,7 +334,9 @@ impl Jobs {
     /// Commits: its commit cycle has ended, and its opens under commitment have read nothing since.
     pub fn commit(&mut self, number: u32)
         requires { IsTrue (is_running (job_at number self.old.jobs)) }
-        ensures { self.new.jobs ≡ job_changed (number - 1) (λ j. with_opens committed_open (without_cycle j)) self.old.jobs }
+        ensures jobs { self.new.jobs ≡ job_changed (number - 1) (λ j. with_opens committed_open (without_cycle j)) self.old.jobs }
+        ensures orders { self.new.orders ≡ self.old.orders }
+        ensures moves { self.new.moves ≡ changed_at (number - 1) (λ moves. []) self.old.moves }
     {
         let _changes = self.end_cycle(number);
         self.change_opens(number, &OpenChange::Committed);
@@ -304,7 +346,10 @@ impl Jobs {
     pub fn rollback(&mut self, number: u32) -> Undos
         requires { IsTrue (is_running (job_at number self.old.jobs)) }
         ensures jobs { self.new.jobs ≡ job_changed (number - 1) (λ j. with_opens rolled_back_open (without_cycle j)) self.old.jobs }
+        ensures orders { self.new.orders ≡ self.old.orders }
+        ensures moves { self.new.moves ≡ changed_at (number - 1) (λ moves. []) self.old.moves }
         ensures changes { result.changes ≡ changes_in (job_of_number number self.old.jobs).cycle }
+        ensures given { result.moves ≡ moves_at number self.old }
     {
         let undos = self.end_cycle(number);
         self.change_opens(number, &OpenChange::RolledBack);
@@ -315,7 +360,10 @@ impl Jobs {
     pub fn end(&mut self, number: u32) -> Undos
         requires { IsTrue (is_running (job_at number self.old.jobs)) }
         ensures jobs { self.new.jobs ≡ job_changed (number - 1) ended_job self.old.jobs }
+        ensures orders { self.new.orders ≡ changed_at (number - 1) (λ orders. []) self.old.orders }
+        ensures moves { self.new.moves ≡ changed_at (number - 1) (λ moves. []) self.old.moves }
         ensures changes { result.changes ≡ changes_in (job_of_number number self.old.jobs).cycle }
+        ensures given { result.moves ≡ moves_at number self.old }
     {
         let undos = self.end_cycle(number);
         self.close(number);
@@ -333,14 +381,17 @@ impl Jobs {
 
     fn job(&self, number: u32) -> &Job
         requires { IsTrue (is_running (job_at number self.now.jobs)) }
-        ensures { result.now.state ≡ job_of_number number self.now.jobs }
+        ensures state { result.now.state ≡ job_of_number number self.now.jobs }
+        ensures orders { result.now.orders ≡ orders_at number self.now }
     {
         &self.jobs[number as usize - 1]
     }
 
-    fn change_opens(&mut self, number: u32, change: &OpenChange)
-        requires { IsTrue (is_running (job_at number self.old.jobs)) }
-        ensures { self.new ≡ record self.old { jobs = job_changed (number - 1) (with_opens (open_after change.now)) self.old.jobs } }
+    fn change_opens(&mut self, number: u32, change: &OpenChange<'_>)
+        requires running { IsTrue (is_running (job_at number self.old.jobs)) }
+        requires possible { All (λ entry. CanMake change.now entry.1) (orders_at number self.old) }
+        ensures changed { self.new ≡ record self.old { jobs = job_changed (number - 1) (job_after change.now (orders_at number self.old)) self.old.jobs } }
+        ensures ordered { AllZip SameOpen (job_of_number number self.old.jobs).opens (orders_at number self.old) }
     {
         let job = &mut self.jobs[number as usize - 1];
         job.change_opens(change);
@@ -357,7 +408,10 @@ impl Jobs {
     fn end_cycle(&mut self, number: u32) -> Undos
         requires { IsTrue (is_running (job_at number self.old.jobs)) }
         ensures jobs { self.new.jobs ≡ job_changed (number - 1) without_cycle self.old.jobs }
+        ensures orders { self.new.orders ≡ self.old.orders }
+        ensures moves { self.new.moves ≡ changed_at (number - 1) (λ moves. []) self.old.moves }
         ensures changes { result.changes ≡ changes_in (job_of_number number self.old.jobs).cycle }
+        ensures given { result.moves ≡ moves_at number self.old }
     {
         let alloc = self.alloc;
         let job = &mut self.jobs[number as usize - 1];
@@ -369,7 +423,10 @@ impl Jobs {
 
     fn close(&mut self, number: u32)
         requires { IsTrue (is_running (job_at number self.old.jobs)) }
-        ensures { self.new ≡ record self.old { jobs = job_changed (number - 1) closed_job self.old.jobs } }
+        ensures { self.new ≡ record self.old {
+          jobs = job_changed (number - 1) closed_job self.old.jobs;
+          orders = changed_at (number - 1) (λ orders. []) self.old.orders;
+        } }
     {
         let job = &mut self.jobs[number as usize - 1];
         job.close();

@@ -8,12 +8,12 @@ pub mod jobs;
 pub mod laws;
 mod open;
 mod opens;
-mod positions;
+mod reads;
 mod users;
 
-pub use changes::{Undo, UndoSlots, Undos};
+pub use changes::{Undo, UndoParts, Undos};
 pub use jobs::{Jobs, LAST_OPEN};
 pub use open::Open;
 pub use opens::OpenNumbers;
-pub use positions::{ArrivalPosition, FilePosition, FoundRecord};
+pub use reads::OpenReads;
 pub use users::lesser;

@@ -2,18 +2,23 @@
 ghost use Rattle.std.specs.Prelude.{◌≡◌, ◌==◌, [], ◌∷◌};
 ghost use Rattle.std.specs.List.{list_any};
 ghost use Rattle.file_model.specs.Positions.{Start};
+ghost use Rattle.file_cursor.specs.CursorPosition.{entry_of};
+ghost use Rattle.open_position.specs.OpenStand.{IsEntryIn};
+ghost use Rattle.open_position.specs.Reads.{IsStandAt};
 ghost use Rattle.library_steps.specs.Opens.{new_open};
 ghost use Rattle.library_steps.specs.Reads.{current_after};
 ghost use Rattle.library_steps.specs.ChangeRecord.{without_record};
 ghost use Rattle.library_steps.specs.Commitment.{committed_open, rolled_back_open};
-ghost use Rattle.job_table.specs.Arrival.{arrival_position};
-ghost use Rattle.job_table.specs.OpenChanges.{open_after};
+ghost use Rattle.job_table.specs.OpenChanges.{CanMake, open_after};
+ghost use Rattle.job_table.specs.Opens.{IsNewReads, order_by};
 
 use crate::opens::OpenChange;
-use crate::positions::{ArrivalPosition, FilePosition, FoundRecord};
+use crate::reads::OpenReads;
 use field_types::names::Name;
+use file_cursor::places::Hit;
 use library_model::requests::{AccessPath, OpenFile, OpenOption};
 use lock_table::Call;
+use open_position::position::{OpenPosition, Side, StandAt};
 use std::marker::Model;
 
 /// An open of a member.
@@ -25,42 +30,49 @@ pub struct Open {
     option: OpenOption,
     access_path: AccessPath,
     commit: bool,
-    position: ArrivalPosition,
+    path: Option<u64>,
+    position: OpenPosition,
     current: Option<u32>,
     last_read: Option<u32>,
-    boundary: ArrivalPosition,
 }
 
 impl Model for Open {
     ghost use Rattle.std.specs.Prelude.{[], ◌∷◌};
     ghost use Rattle.file_model.specs.Positions.{Start};
-    ghost use Rattle.library_steps.specs.State.{OpenState};
-    ghost use Rattle.job_table.specs.Arrival.{arrival_position};
+    ghost use Rattle.job_table.specs.Opens.{KeptOpen, IsPositionOf};
 
-    ghost Value = { OpenState };
+    ghost Value = { KeptOpen };
 
     ghost view = { λ o. record {
-      number = o.number;
-      file = o.file;
-      members = o.member ∷ [];
-      format = 0;
-      member = o.member;
-      option = o.option;
-      access_path = o.access_path;
-      commit = o.commit;
-      position = arrival_position o.position;
-      rows = Start;
-      current = o.current;
-      last_read = o.last_read;
-      boundary = arrival_position o.boundary;
+      state = record {
+        number = o.number;
+        file = o.file;
+        members = o.member ∷ [];
+        format = 0;
+        member = o.member;
+        option = o.option;
+        access_path = o.access_path;
+        commit = o.commit;
+        position = o.position.position;
+        rows = Start;
+        current = o.current;
+        last_read = o.last_read;
+        boundary = o.position.boundary;
+      };
+      order = record { number = o.number; path = o.path; formats = o.position.formats };
     } };
+
+    ghost invariant = { λ o. IsPositionOf o.commit o.position };
 }
 
 impl Open {
     /// An open that has read nothing.
-    pub fn new(args: &OpenFile, number: u32, member: u32) -> Open
-        ensures { result ≡ new_open args.now number (member ∷ []) }
+    pub fn new(args: &OpenFile, number: u32, member: u32, reads: OpenReads) -> Open
+        requires { IsNewReads args.now.commit reads }
+        ensures state { result.state ≡ new_open args.now number (member ∷ []) }
+        ensures order { result.order ≡ order_by number reads }
     {
+        let _parts = reads.position.parts();
         Open {
             number,
             file: args.file,
@@ -68,100 +80,110 @@ impl Open {
             option: args.option,
             access_path: args.access_path,
             commit: args.commit,
-            position: ArrivalPosition::Start,
+            path: reads.path,
+            position: reads.position,
             current: None,
             last_read: None,
-            boundary: ArrivalPosition::Start,
         }
     }
 
     /// Its number among all opens of the job, from 1.
     pub fn number(&self) -> u32
-        ensures { result ≡ self.now.number }
+        ensures { result ≡ self.now.state.number }
     {
         self.number
     }
 
     /// The name of the file.
     pub fn file(&self) -> Name
-        ensures { result ≡ self.now.file }
+        ensures { result ≡ self.now.state.file }
     {
         self.file
     }
 
     /// The number of the member.
     pub fn member(&self) -> u32
-        ensures { result ≡ self.now.member }
+        ensures { result ≡ self.now.state.member }
     {
         self.member
     }
 
     /// The number of its one member. It is over no other, has read by the one format of a physical file, and reads no rows.
     pub fn only_member(&self) -> u32
-        ensures member { result ≡ self.now.member }
-        ensures only { self.now.members ≡ self.now.member ∷ [] }
-        ensures format { self.now.format ≡ 0 }
-        ensures rows { self.now.rows ≡ Start }
+        ensures member { result ≡ self.now.state.member }
+        ensures only { self.now.state.members ≡ self.now.state.member ∷ [] }
+        ensures format { self.now.state.format ≡ 0 }
+        ensures rows { self.now.state.rows ≡ Start }
     {
         self.member
     }
 
     /// Whether it is over the member.
     pub fn is_over(&self, member: u32) -> bool
-        ensures { result ≡ list_any (λ base. base == member) self.now.members }
+        ensures { result ≡ list_any (λ base. base == member) self.now.state.members }
     {
         self.member == member
     }
 
     /// What it may do.
     pub fn option(&self) -> OpenOption
-        ensures { result ≡ self.now.option }
+        ensures { result ≡ self.now.state.option }
     {
         self.option
     }
 
     /// The order in which it reads.
     pub fn access_path(&self) -> AccessPath
-        ensures { result ≡ self.now.access_path }
+        ensures { result ≡ self.now.state.access_path }
     {
         self.access_path
     }
 
     /// Whether it is under commitment control.
     pub fn commit(&self) -> bool
-        ensures { result ≡ self.now.commit }
+        ensures { result ≡ self.now.state.commit }
     {
         self.commit
     }
 
-    /// Where it stands.
-    pub fn position(&self) -> ArrivalPosition
-        ensures { arrival_position result ≡ self.now.position }
+    /// Where it stands, and where it stood at the last boundary.
+    pub fn stand(&self) -> &OpenPosition
+        ensures position { result.now.position ≡ self.now.state.position }
+        ensures boundary { result.now.boundary ≡ self.now.state.boundary }
+        ensures formats { result.now.formats ≡ self.now.order.formats }
     {
-        self.position
+        &self.position
+    }
+
+    /// The number of its path; none where it reads in arrival order.
+    pub fn path(&self) -> Option<u64>
+        ensures { result ≡ self.now.order.path }
+    {
+        self.path
     }
 
     /// The record that may be changed.
     pub fn current(&self) -> Option<u32>
-        ensures { result ≡ self.now.current }
+        ensures { result ≡ self.now.state.current }
     {
         self.current
     }
 
     /// The record that was read last.
     pub fn last_read(&self) -> Option<u32>
-        ensures { result ≡ self.now.last_read }
+        ensures { result ≡ self.now.state.last_read }
     {
         self.last_read
     }
 
     /// What the change makes of it.
-    pub(crate) fn make(&mut self, change: &OpenChange)
+    pub(crate) fn make(&mut self, change: &OpenChange<'_>)
+        requires { CanMake change.now self.old.order }
         ensures { self.new ≡ open_after change.now self.old }
     {
         match change {
-            OpenChange::Positioned(number, position) => self.set_position(*number, position),
-            OpenChange::HasRead(number, call, entry) => self.note_read(*number, *call, entry),
+            OpenChange::Positioned(number, side, at) => self.set_position(*number, *side, *at),
+            OpenChange::HasRead(number, call, hit) => self.note_read(*number, *call, hit),
             OpenChange::WithoutCurrent(number) => self.give_up(*number),
             OpenChange::WithoutRecord(member, rrn) => self.give_up_record(*member, *rrn),
             OpenChange::Committed => self.commit_reads(),
@@ -169,23 +191,25 @@ impl Open {
         }
     }
 
-    fn set_position(&mut self, number: u32, position: &FilePosition)
-        ensures { self.new ≡ open_after (OpenChange.Positioned number position.now) self.old }
+    fn set_position(&mut self, number: u32, side: Side, at: StandAt<'_>)
+        requires { self.old.order.number ≡ number → IsStandAt self.old.order.formats at }
+        ensures { self.new ≡ open_after (OpenChange.Positioned number side at.entry) self.old }
     {
         if self.number == number {
-            self.position = position.place();
+            self.position.stand(side, at);
             self.current = None;
             self.last_read = None;
         }
     }
 
-    fn note_read(&mut self, number: u32, call: Call, entry: &FoundRecord)
-        ensures { self.new ≡ open_after (OpenChange.HasRead number call entry.now) self.old }
+    fn note_read(&mut self, number: u32, call: Call, hit: &Hit<'_>)
+        requires { self.old.order.number ≡ number → IsEntryIn self.old.order.formats (entry_of hit.now) }
+        ensures { self.new ≡ open_after (OpenChange.HasRead number call hit.now) self.old }
     {
         if self.number == number {
-            self.position = entry.place();
-            self.current = current_after(call, entry.rrn());
-            self.last_read = Some(entry.rrn());
+            self.position.settle(hit);
+            self.current = current_after(call, hit.rrn);
+            self.last_read = Some(hit.rrn);
         }
     }
 
@@ -198,7 +222,7 @@ impl Open {
     }
 
     fn give_up_record(&mut self, member: u32, rrn: u32)
-        ensures { self.new ≡ without_record member rrn self.old }
+        ensures { self.new ≡ record self.old { state = without_record member rrn self.old.state } }
     {
         if self.member == member && self.current.unwrap_or(0) == rrn {
             self.current = None;
@@ -206,20 +230,20 @@ impl Open {
     }
 
     fn commit_reads(&mut self)
-        ensures { self.new ≡ committed_open self.old }
+        ensures { self.new ≡ record self.old { state = committed_open self.old.state } }
     {
         if self.commit {
             self.current = None;
             self.last_read = None;
-            self.boundary = self.position;
+            self.position.mark();
         }
     }
 
     fn roll_back(&mut self)
-        ensures { self.new ≡ rolled_back_open self.old }
+        ensures { self.new ≡ record self.old { state = rolled_back_open self.old.state } }
     {
         if self.commit {
-            self.position = self.boundary;
+            self.position.go_back();
         }
         self.current = None;
         self.last_read = None;

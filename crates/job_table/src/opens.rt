@@ -1,24 +1,25 @@
 //! The opens of a job in order, found by their names.
-ghost use Rattle.std.specs.Prelude.{◌≡◌, ℕ, ◌+◌, ◌<◌, ◌≤◌, ◌==◌, not, [], ◌∷◌, ◌++◌, length, map, filter, IfOk, option_copied};
+ghost use Rattle.std.specs.Prelude.{◌≡◌, ℕ, ◌+◌, ◌<◌, ◌≤◌, ◌==◌, not, [], ◌∷◌, ◌++◌, length, map, filter, All, IfOk, option_copied};
 ghost use Rattle.std.specs.List.{list_any};
 ghost use Rattle.library_model.specs.declared.limits.TheConstants.{MOST_OPENS};
 ghost use Rattle.library_model.specs.Named.{named, same_name};
-ghost use Rattle.job_table.specs.OpenChanges.{open_after};
-ghost use Rattle.job_table.specs.Opens.{is_committed_in, has_committed, is_over};
+ghost use Rattle.job_table.specs.OpenChanges.{CanMake, open_after};
+ghost use Rattle.job_table.specs.Opens.{state_in, states_of, is_committed_in, has_committed, is_over};
 
 use crate::open::Open;
-use crate::positions::{FilePosition, FoundRecord};
 use field_types::names::Name;
+use file_cursor::places::Hit;
 use library_model::limits::MOST_OPENS;
 use lock_table::Call;
+use open_position::position::{Side, StandAt};
 use std::alloc::{AllocError, Global};
 use std::marker::Model;
 
 /// What a call makes of the opens of its job: of the one with a number, of those on a record, or of those under commitment.
-#[derive(Drop)]
-pub enum OpenChange {
-    Positioned(u32, FilePosition),
-    HasRead(u32, Call, FoundRecord),
+#[derive(Clone, Copy)]
+pub enum OpenChange<'a> {
+    Positioned(u32, Side, StandAt<'a>),
+    HasRead(u32, Call, Hit<'a>),
     WithoutCurrent(u32),
     WithoutRecord(u32, u32),
     Committed,
@@ -78,10 +79,9 @@ pub struct Opens {
 impl Model for Opens {
     ghost use Rattle.std.specs.Prelude.{vec_len, vec_capacity};
     ghost use Rattle.library_model.specs.Named.{Named};
-    ghost use Rattle.library_steps.specs.State.{OpenState};
-    ghost use Rattle.job_table.specs.Opens.{HasRoomForAll};
+    ghost use Rattle.job_table.specs.Opens.{KeptOpen, HasRoomForAll};
 
-    ghost Value = { Named OpenState };
+    ghost Value = { Named KeptOpen };
 
     ghost view = { λ o. o.opens.items };
 
@@ -120,7 +120,7 @@ impl Opens {
 
     /// Whether one of them is over the member.
     pub fn are_over(&self, member: u32) -> bool
-        ensures { result ≡ list_any (is_over member) self.now }
+        ensures { result ≡ list_any (is_over member) (states_of self.now) }
     {
         for entry in &self.opens {
             if entry.1.is_over(member) {
@@ -132,7 +132,7 @@ impl Opens {
 
     /// Whether one of them is under commitment control.
     pub fn have_committed(&self) -> bool
-        ensures { result ≡ list_any has_committed self.now }
+        ensures { result ≡ list_any has_committed (states_of self.now) }
     {
         for entry in &self.opens {
             if entry.1.commit() {
@@ -144,7 +144,7 @@ impl Opens {
 
     /// The numbers of those under commitment control.
     pub fn committed(&self) -> OpenNumbers
-        ensures { (number : ℕ) → list_any (λ n. n == number) result ≡ list_any (is_committed_in number) self.now }
+        ensures { (number : ℕ) → list_any (λ n. n == number) result ≡ list_any (λ entry. is_committed_in number (state_in entry)) self.now }
     {
         let mut numbers = OpenNumbers::new();
         for entry in &self.opens {
@@ -178,7 +178,8 @@ impl Opens {
     }
 
     /// What the change makes of each.
-    pub fn change_each(&mut self, change: &OpenChange)
+    pub fn change_each(&mut self, change: &OpenChange<'_>)
+        requires { All (λ entry. CanMake change.now entry.1.order) self.old }
         ensures { self.new ≡ map (λ entry. (entry.0, open_after change.now entry.1)) self.old }
     {
         for entry in self.opens.iter_mut() {

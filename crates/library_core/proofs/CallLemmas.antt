@@ -5,7 +5,6 @@ use Rattle.built_requests.specs.Built.{is_built}
 use Rattle.library_model.specs.Ending.{is_end_job}
 use Rattle.library_model.specs.NeedsMemory.{needs_memory}
 use Rattle.library_model.specs.declared.replies.Reply.{Reply}
-use Rattle.library_model.specs.declared.replies.Reply.TheVariants.{NoMemory}
 use Rattle.library_model.specs.declared.requests.Request.{Request}
 use Rattle.library_model.specs.declared.requests.Request.TheVariants as request
 use Rattle.library_model.specs.declared.sources.NamedSource.{NamedSource}
@@ -13,8 +12,8 @@ use Rattle.library_steps.specs.State.{State, memory_of, job_at}
 use Rattle.library_steps.specs.Change.{Change, changed}
 use Rattle.library_steps.specs.History.{is_running, Standing}
 use Rattle.library_steps.specs.Step.{change, step, MayAnswer}
-use Rattle.built_state.specs.Built.{IsBuilt}
-use Rattle.built_state.specs.Unkeyed.{AreUnkeyedSources}
+use Rattle.joint_state.specs.Sound.{IsSound}
+use Rattle.sound_histories.proofs.HistoryLemmas.{AnswersStaySound}
 use Rattle.library_parts.specs.Answers.{Answers, reply_of}
 use Rattle.library_parts.specs.declared.stop.Stop.{Stop}
 use Rattle.library_parts.specs.declared.stop.Stop.TheVariants as stop
@@ -52,12 +51,11 @@ unfolding change
 refused-no_end sources s job timestamp (request.EndJob args) reply refused = absurd cc
 refused-no_end sources s job timestamp _ reply refused = refl
 
--- what a call makes of which jobs run, and of what holds between calls
-module _ (sources : List NamedSource) (old new : State) (job timestamp : ℕ) (r : Request) (running : IsTrue (is_running (job_at job old.jobs))) (built : IsTrue (is_built r)) (unkeyed : AreUnkeyedSources sources) (holds : IsBuilt old) where
+-- which jobs run after a call
+module _ (sources : List NamedSource) (old new : State) (job timestamp : ℕ) (r : Request) (running : IsTrue (is_running (job_at job old.jobs))) (built : IsTrue (is_built r)) where
   left : (c : Change) → change sources old.entries (memory_of old) job timestamp r ≡ Ok c → Leaves job r (memory_of old) c
-  left c done = IfOk-at_ok (Leaves job r (memory_of old)) done (change-leaves sources old.entries (memory_of old) job timestamp running unkeyed r built).holds
+  left c done = IfOk-at_ok (Leaves job r (memory_of old)) done (change-leaves sources old.entries (memory_of old) job timestamp running r built).holds
 
-  -- which jobs run then
   pub runs-answered : (result : Result Reply Stop) → Answers old new result (change sources old.entries (memory_of old) job timestamp r) → (IsErrOf result stop.NoMemory → IsTrue (needs_memory r)) → (other : ℕ)
       → is_running (job_at other new.jobs) ≡ runs_after job r old.jobs other
   runs-answered (Ok reply) (c, done, given, leads) needs other = ap (λ (t : State). is_running (job_at other t.jobs)) leads ∙ (left c done).runs other
@@ -65,10 +63,8 @@ module _ (sources : List NamedSource) (old new : State) (job timestamp : ℕ) (r
   runs-answered (Err (stop.Refused reply)) (same, refused) needs other =
       ap (λ (t : State). is_running (job_at other t.jobs)) same ∙ sym (runs-on job r old.jobs other (refused-no_end sources old job timestamp r reply refused))
 
-  -- and what holds between calls
-  pub built-answered : (result : Result Reply Stop) → Answers old new result (change sources old.entries (memory_of old) job timestamp r) → IsBuilt new
-  built-answered (Ok reply) (c, done, given, leads) =
-      let keeps = left c done in
-      subst IsBuilt (sym leads) (record { files = keeps.unkeyed holds.files })
-  built-answered (Err stop.NoMemory) same = subst IsBuilt (sym same) holds
-  built-answered (Err (stop.Refused reply)) (same, refused) = subst IsBuilt (sym same) holds
+-- and what holds between calls
+pub sound-answered : AnswersStaySound → (sources : List NamedSource) (old new : State) (job timestamp : ℕ) (r : Request) → IsTrue (is_running (job_at job old.jobs)) → IsSound old
+    → (result : Result Reply Stop) → Answers old new result (change sources old.entries (memory_of old) job timestamp r) → (IsErrOf result stop.NoMemory → IsTrue (needs_memory r)) → IsSound new
+sound-answered stay sources old new job timestamp r running sound result answers needs =
+    stay sources old new job timestamp r (reply_of result) sound running (may-answer sources old new job timestamp r result answers needs)

@@ -17,21 +17,21 @@ use Rattle.library_core.proofs.ResultLemmas.{Holds, each-holds, does-holds}
 use Rattle.library_core.proofs.SpareLemmas.{Spares, SparesIn, spares-all, spares-job}
 
 pub change_journal-spares : (m : Memory) (job timestamp : ℕ) → Holds (change_journal m job timestamp) (SparesIn m)
-change_journal-spares m job timestamp = does-holds (attach_change m job timestamp) (attach_plan m) (SparesIn m) (each-holds (attach_plan m) _ (λ number. spares-all m.files m.jobs))
+change_journal-spares m job timestamp = does-holds (attach_change m job timestamp) (attach_plan m) (SparesIn m) (each-holds (attach_plan m) _ (λ number. spares-all m.jobs))
 
 pub delete_receiver-spares : (entries : List Entry) (m : Memory) (args : DeleteReceiver) → Holds (delete_receiver entries m args) (SparesIn m)
-delete_receiver-spares entries m args = does-holds _ _ (SparesIn m) (each-holds _ _ (λ last. spares-all m.files m.jobs))
+delete_receiver-spares entries m args = does-holds _ _ (SparesIn m) (each-holds _ _ (λ last. spares-all m.jobs))
 
 pub display_journal-spares : (entries : List Entry) (m : Memory) (args : DisplayJournal) → Holds (display_journal entries m args) (SparesIn m)
-display_journal-spares entries m args = does-holds _ _ (SparesIn m) (each-holds _ _ (λ shown. spares-all m.files m.jobs))
+display_journal-spares entries m args = does-holds _ _ (SparesIn m) (each-holds _ _ (λ shown. spares-all m.jobs))
 
 pub apply_changes-spares : (entries : List Entry) (m : Memory) (job timestamp : ℕ) (args : JournaledChanges) → Holds (apply_changes entries m job timestamp args) (SparesIn m)
 apply_changes-spares entries m job timestamp args =
-    does-holds (range_change m) (apply_plan entries m job timestamp args) (SparesIn m) (each-holds (apply_plan entries m job timestamp args) _ (λ work. spares-all m.files m.jobs))
+    does-holds (range_change m) (apply_plan entries m job timestamp args) (SparesIn m) (each-holds (apply_plan entries m job timestamp args) _ (λ work. spares-all m.jobs))
 
 pub remove_changes-spares : (entries : List Entry) (m : Memory) (job timestamp : ℕ) (args : JournaledChanges) → Holds (remove_changes entries m job timestamp args) (SparesIn m)
 remove_changes-spares entries m job timestamp args =
-    does-holds (range_change m) (remove_plan entries m job timestamp args) (SparesIn m) (each-holds (remove_plan entries m job timestamp args) _ (λ work. spares-all m.files m.jobs))
+    does-holds (range_change m) (remove_plan entries m job timestamp args) (SparesIn m) (each-holds (remove_plan entries m job timestamp args) _ (λ work. spares-all m.jobs))
 
 -- ---- boundaries
 
@@ -40,23 +40,19 @@ pub taken_back-jobs : (undos : List MemberChange) (m : Memory) → (taken_back u
 taken_back-jobs [] m = refl
 taken_back-jobs (undo ∷ undos) m = taken_back-jobs undos (with_slot undo.member (undo.change.place + 1) (before_of undo.change) m)
 
-pub taken_back-files : (undos : List MemberChange) (m : Memory) → (taken_back undos m).files ≡ m.files
-taken_back-files [] m = refl
-taken_back-files (undo ∷ undos) m = taken_back-files undos (with_slot undo.member (undo.change.place + 1) (before_of undo.change) m)
-
 pub start_commitment-spares : (m : Memory) (job timestamp : ℕ) (args : StartCommitment) → Holds (start_commitment m job timestamp args) (SparesIn m)
-start_commitment-spares m job timestamp args = does-holds _ _ (SparesIn m) (each-holds _ _ (λ started. spares-job m.files job (with_level (Some args.level)) m.jobs (λ j. refl)))
+start_commitment-spares m job timestamp args = does-holds _ _ (SparesIn m) (each-holds _ _ (λ started. spares-job job (with_level (Some args.level)) m.jobs (λ j. refl)))
 
 pub end_commitment-spares : (m : Memory) (job timestamp : ℕ) → Holds (end_commitment m job timestamp) (SparesIn m)
-end_commitment-spares m job timestamp = does-holds _ _ (SparesIn m) (each-holds _ _ (λ ended. spares-job m.files job (with_level None) m.jobs (λ j. refl)))
+end_commitment-spares m job timestamp = does-holds _ _ (SparesIn m) (each-holds _ _ (λ ended. spares-job job (with_level None) m.jobs (λ j. refl)))
 
 pub commit-spares : (m : Memory) (job timestamp : ℕ) → Holds (commit m job timestamp) (SparesIn m)
 commit-spares m job timestamp =
-    does-holds _ _ (SparesIn m) (each-holds _ _ (λ level. spares-job m.files job (λ j. with_opens committed_open (without_cycle j)) m.jobs (λ j. refl)))
+    does-holds _ _ (SparesIn m) (each-holds _ _ (λ level. spares-job job (λ j. with_opens committed_open (without_cycle j)) m.jobs (λ j. refl)))
 
 pub rollback-spares : (m : Memory) (job timestamp : ℕ) → Holds (rollback m job timestamp) (SparesIn m)
 rollback-spares m job timestamp = does-holds _ _ (SparesIn m) (each-holds _ _ (λ level. back))
   where
-    back : Spares m.files (taken_back (changes_of (job_of job m).cycle) m).files m.jobs (job_changed (job - 1) (λ j. with_opens rolled_back_open (without_cycle j)) (taken_back (changes_of (job_of job m).cycle) m).jobs)
-    back = rw (taken_back-files (changes_of (job_of job m).cycle) m, taken_back-jobs (changes_of (job_of job m).cycle) m)
-        (spares-job m.files job (λ j. with_opens rolled_back_open (without_cycle j)) m.jobs (λ j. refl))
+    back : Spares m.jobs (job_changed (job - 1) (λ j. with_opens rolled_back_open (without_cycle j)) (taken_back (changes_of (job_of job m).cycle) m).jobs)
+    back = rw (taken_back-jobs (changes_of (job_of job m).cycle) m)
+        (spares-job job (λ j. with_opens rolled_back_open (without_cycle j)) m.jobs (λ j. refl))

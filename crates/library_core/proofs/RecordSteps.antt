@@ -18,40 +18,35 @@ use Rattle.library_steps.specs.WriteRecord.{write_call, write_plan, write_change
 use Rattle.library_steps.specs.ChangeRecord.{update_plan, update_change, update_record, without_current, without_record, delete_plan, delete_change, delete_record, unlock_change, unlock_plan, unlock}
 use Rattle.library_steps.specs.Reads.{open_changed, NewPosition, positioned, position_change, set_lower_limit, set_greater_than, FoundEntry, has_read, read_change, read, read_prior, read_equal, read_prior_equal, chain}
 use Rattle.library_core.proofs.ResultLemmas.{Holds, each-holds, does-holds}
-use Rattle.library_core.proofs.BuiltLemmas.{AreUnkeyed-status}
-use Rattle.library_core.proofs.SpareLemmas.{Spares, SparesIn, spares-files, spares-job, spares-both}
+use Rattle.library_core.proofs.SpareLemmas.{Spares, SparesIn, spares-all, spares-job, spares-both}
 
 -- ---- opens
 
 pub open_file-spares : (m : Memory) (job : ℕ) (args : OpenFile) → Holds (open_file m job args) (SparesIn m)
 open_file-spares m job args =
-    does-holds _ (open_plan m job args) (SparesIn m) (each-holds (open_plan m job args) _ (λ members. spares-job m.files job (with_open args members) m.jobs (λ j. refl)))
+    does-holds _ (open_plan m job args) (SparesIn m) (each-holds (open_plan m job args) _ (λ members. spares-job job (with_open args members) m.jobs (λ j. refl)))
 
 pub close_file-spares : (m : Memory) (job : ℕ) (args : OpenName) → Holds (close_file m job args) (SparesIn m)
-close_file-spares m job args = does-holds _ _ (SparesIn m) (each-holds _ _ (λ opened. spares-job m.files job (without_open args.open_id) m.jobs (λ j. refl)))
+close_file-spares m job args = does-holds _ _ (SparesIn m) (each-holds _ _ (λ opened. spares-job job (without_open args.open_id) m.jobs (λ j. refl)))
 
 -- ---- changes of a record
 
 -- the change in the job's commit cycle, where the open is under commitment
 spares-undo : (commit : Bool) (job : ℕ) (undo : MemberChange) (cycle : CycleState) (m : Memory)
-    → Spares m.files (with_undo commit job undo cycle m).files m.jobs (with_undo commit job undo cycle m).jobs
-spares-undo false job undo cycle m = spares-files m.files m.files m.jobs (λ all. all)
-spares-undo true job undo cycle m = spares-job m.files job (with_cycle (noted undo cycle)) m.jobs (λ j. refl)
+    → Spares m.jobs (with_undo commit job undo cycle m).jobs
+spares-undo false job undo cycle m = spares-all m.jobs
+spares-undo true job undo cycle m = spares-job job (with_cycle (noted undo cycle)) m.jobs (λ j. refl)
 
 -- the slot, its member's status and the commit cycle
-spares-slot : (m : Memory) (job : ℕ) (new : NewSlot) → Spares m.files (slot_changed job new m).files m.jobs (slot_changed job new m).jobs
+spares-slot : (m : Memory) (job : ℕ) (new : NewSlot) → Spares m.jobs (slot_changed job new m).jobs
 spares-slot m job new =
-    let touched_member : Memory = with_status new.opened.member touched (with_slot new.opened.member new.rrn new.slot m) in
-    spares-both m.files touched_member.files (slot_changed job new m).files m.jobs m.jobs (slot_changed job new m).jobs
-    (spares-files m.files touched_member.files m.jobs (AreUnkeyed-status new.opened.member touched m.files))
-    (spares-undo new.opened.commit job (change_made m (job_of job m) new) (cycle_for m (job_of job m)) touched_member)
+    spares-undo new.opened.commit job (change_made m (job_of job m) new) (cycle_for m (job_of job m)) (with_status new.opened.member touched (with_slot new.opened.member new.rrn new.slot m))
 
 -- and then the job's opens
 spares-record : (m : Memory) (job : ℕ) (new : NewSlot) (f : JobState → JobState) → ((j : JobState) → (f j).ended ≡ j.ended)
-    → Spares m.files (slot_changed job new m).files m.jobs (job_changed (job - 1) f (slot_changed job new m).jobs)
+    → Spares m.jobs (job_changed (job - 1) f (slot_changed job new m).jobs)
 spares-record m job new f keeps =
-    spares-both m.files (slot_changed job new m).files (slot_changed job new m).files m.jobs (slot_changed job new m).jobs _ (spares-slot m job new)
-    (spares-job (slot_changed job new m).files job f (slot_changed job new m).jobs keeps)
+    spares-both m.jobs (slot_changed job new m).jobs _ (spares-slot m job new) (spares-job job f (slot_changed job new m).jobs keeps)
 
 pub write_record-spares : (m : Memory) (job timestamp : ℕ) (args : WriteRecord) → Holds (write_record m job timestamp args) (SparesIn m)
 write_record-spares m job timestamp args =
@@ -69,8 +64,8 @@ delete_record-spares m job timestamp args =
 
 -- ---- changes of an open alone
 
-open-changes : (m : Memory) (job number : ℕ) (f : OpenState → OpenState) → Spares m.files m.files m.jobs (job_changed (job - 1) (open_changed number f) m.jobs)
-open-changes m job number f = spares-job m.files job (open_changed number f) m.jobs (λ j. refl)
+open-changes : (m : Memory) (job number : ℕ) (f : OpenState → OpenState) → Spares m.jobs (job_changed (job - 1) (open_changed number f) m.jobs)
+open-changes m job number f = spares-job job (open_changed number f) m.jobs (λ j. refl)
 
 pub unlock-spares : (m : Memory) (job : ℕ) (args : OpenName) → Holds (unlock m job args) (SparesIn m)
 unlock-spares m job args = does-holds (unlock_change m job) (unlock_plan m job args) (SparesIn m) (each-holds _ _ (λ it. open-changes m job it.opened.number without_current))

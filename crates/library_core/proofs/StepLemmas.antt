@@ -1,4 +1,4 @@
--- What the change of each request that is built leaves: which jobs run, and that no file has a key.
+-- What the change of each request that is built leaves: which jobs run.
 use Rattle.std.proofs.Common.{◌≡◌, ◌∙◌, ℕ, ◌-◌, false, IsTrue, List, Result, refl, sym, ap, subst}
 use Rattle.entry_codec.specs.declared.entries.Entry.{Entry}
 use Rattle.built_requests.specs.Built.{is_built}
@@ -14,44 +14,37 @@ use Rattle.library_steps.specs.Commitment.{changes_of}
 use Rattle.library_steps.specs.EndJob.{ended_job, end_change}
 use Rattle.library_steps.specs.History.{is_running}
 use Rattle.library_steps.specs.Step.{change}
-use Rattle.built_state.specs.Unkeyed.{AreUnkeyed, AreUnkeyedSources}
 use Rattle.library_core.specs.Running.{runs_after}
 use Rattle.library_core.proofs.RunLemmas.{runs-ended, runs-on}
 use Rattle.library_core.proofs.SpareLemmas.{SparesIn}
 use Rattle.library_core.proofs.ResultLemmas.{Holds, wider-holds}
 use Rattle.library_core.proofs.FileSteps.{create_physical_file-spares, delete_file-spares, add_member-spares, clear_member-spares, reorganize_member-spares, start_journaling-spares, end_journaling-spares}
 use Rattle.library_core.proofs.RecordSteps.{open_file-spares, close_file-spares, write_record-spares, update_record-spares, delete_record-spares, unlock-spares, set_lower_limit-spares, set_greater_than-spares, read-spares, read_prior-spares, read_equal-spares, read_prior_equal-spares, chain-spares}
-use Rattle.library_core.proofs.JournalSteps.{change_journal-spares, delete_receiver-spares, display_journal-spares, apply_changes-spares, remove_changes-spares, start_commitment-spares, end_commitment-spares, commit-spares, rollback-spares, taken_back-jobs, taken_back-files}
+use Rattle.library_core.proofs.JournalSteps.{change_journal-spares, delete_receiver-spares, display_journal-spares, apply_changes-spares, remove_changes-spares, start_commitment-spares, end_commitment-spares, commit-spares, rollback-spares, taken_back-jobs}
 
 pub record Leaves (job : ℕ) (r : Request) (m : Memory) (c : Change) : Type 0 where
   pub runs : (other : ℕ) → is_running (job_at other c.memory.jobs) ≡ runs_after job r m.jobs other
-  pub unkeyed : AreUnkeyed m.files → AreUnkeyed c.memory.files
 
 -- a request that ends no job
 leaves-spared : (job : ℕ) (r : Request) (m : Memory) (c : Change) → is_end_job r ≡ false → SparesIn m c → Leaves job r m c
 leaves-spared job r m c goes_on spares = record {
   runs = λ other. spares.runs other ∙ sym (runs-on job r m.jobs other goes_on);
-  unkeyed = spares.unkeyed;
 }
 
 -- ENDJOB ends its own
 end_job-leaves : (m : Memory) (job timestamp : ℕ) (args : EndJob) → IsTrue (is_running (job_at job m.jobs)) → Leaves job (request.EndJob args) m (end_change m job timestamp)
 end_job-leaves m job timestamp args running =
     let jobs = taken_back-jobs (changes_of (job_of job m).cycle) m in
-    let files = taken_back-files (changes_of (job_of job m).cycle) m in
-    record {
-      runs = λ other. ap (λ (js : List JobState). is_running (job_at other (job_changed (job - 1) ended_job js))) jobs ∙ runs-ended job other m.jobs running;
-      unkeyed = λ all. subst AreUnkeyed (sym files) all;
-    }
+    record { runs = λ other. ap (λ (js : List JobState). is_running (job_at other (job_changed (job - 1) ended_job js))) jobs ∙ runs-ended job other m.jobs running }
 
 -- what every change leaves
-module _ (sources : List NamedSource) (entries : List Entry) (m : Memory) (job timestamp : ℕ) (running : IsTrue (is_running (job_at job m.jobs))) (unkeyed : AreUnkeyedSources sources) where
+module _ (sources : List NamedSource) (entries : List Entry) (m : Memory) (job timestamp : ℕ) (running : IsTrue (is_running (job_at job m.jobs))) where
   spared : (r : Request) (wanted : Result Change Reply) → is_end_job r ≡ false → Holds wanted (SparesIn m) → Holds wanted (Leaves job r m)
   spared r wanted goes_on spares = wider-holds wanted (SparesIn m) (Leaves job r m) (λ c kept. leaves-spared job r m c goes_on kept) spares
 
   pub change-leaves : (r : Request) → IsTrue (is_built r) → Holds (change sources entries m job timestamp r) (Leaves job r m)
   unfolding change
-  change-leaves (request.CreatePhysicalFile args) built = spared (request.CreatePhysicalFile args) _ refl (create_physical_file-spares sources m job timestamp args unkeyed)
+  change-leaves (request.CreatePhysicalFile args) built = spared (request.CreatePhysicalFile args) _ refl (create_physical_file-spares sources m job timestamp args)
   change-leaves (request.CreateLogicalFile args) built = absurd cc
   change-leaves (request.DeleteFile args) built = spared (request.DeleteFile args) _ refl (delete_file-spares m job timestamp args)
   change-leaves (request.AddMember args) built = spared (request.AddMember args) _ refl (add_member-spares m job timestamp args)

@@ -4,7 +4,7 @@ use Rattle.library_model.specs.declared.calls.Call.{Call}
 use Rattle.library_model.specs.declared.sources.NamedSource.{NamedSource}
 use Rattle.library_steps.specs.State.{State, job_at}
 use Rattle.library_steps.specs.History.{is_running, Outcome, Standing, Failed, Comes}
-use Rattle.built_state.specs.Built.{IsBuilt}
+use Rattle.joint_state.specs.Sound.{IsSound}
 use Rattle.library_core.specs.Parts.{LibraryOver}
 
 -- the library has the state
@@ -23,8 +23,8 @@ pub record Goes {S : Type 0} (sources : List NamedSource) (new : LibraryOver S) 
   pub comes : Comes sources s call outcome
   pub at : IsAt new outcome
 
--- the job may make a call: it runs, the library hasn't failed, and nothing stands in it that isn't built
+-- the job may make a call: it runs, the library hasn't failed, and it is sound, as each legal history leaves it
 pub record IsReady {S : Type 0} (job : ℕ) (library : LibraryOver S) : Type 0 where
   pub alive : library.failed ≡ false
   pub running : IsTrue (is_running (job_at job library.state.jobs))
-  pub built : IsBuilt library.state
+  pub sound : IsSound library.state

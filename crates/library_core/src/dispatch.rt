@@ -1,12 +1,13 @@
 //! What a request asks for: each of them of the crate that does it.
 ghost use Rattle.std.specs.Prelude.{IsTrue, IsErrOf};
 ghost use Rattle.built_requests.specs.Built.{is_built};
-ghost use Rattle.built_state.specs.Unkeyed.{AreUnkeyed};
 ghost use Rattle.library_model.specs.NeedsMemory.{needs_memory};
-ghost use Rattle.library_steps.specs.State.{memory_of, job_at};
+ghost use Rattle.library_steps.specs.State.{memory_of, job_at, job_of};
 ghost use Rattle.library_steps.specs.History.{is_running};
 ghost use Rattle.library_steps.specs.Step.{change};
+ghost use Rattle.library_steps.specs.Uses.{changes_in};
 ghost use Rattle.library_parts.specs.Answers.{Answers};
+ghost use Rattle.library_parts.specs.Standing.{StandAsMade};
 ghost use Rattle.library_parts.specs.declared.stop.Stop.TheVariants.{NoMemory};
 
 use commitment_requests::{commit, end_commitment, end_job, rollback, start_commitment};
@@ -36,7 +37,7 @@ pub(crate) fn perform(
 ) -> Result<Reply, Stop>
     requires running { IsTrue (is_running (job_at job contents.old.state.jobs)) }
     requires built { IsTrue (is_built request.now) }
-    requires unkeyed { AreUnkeyed contents.old.state.files }
+    requires stand { StandAsMade (changes_in (job_of job (memory_of contents.old.state)).cycle) contents.old.state.members }
     ensures step { Answers contents.old.state contents.new.state result (change sources.now contents.old.state.entries (memory_of contents.old.state) job timestamp request.now) }
     ensures memory { IsErrOf result NoMemory → IsTrue (needs_memory request.now) }
 {

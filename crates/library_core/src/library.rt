@@ -1,8 +1,7 @@
 //! The library over a store, and the one call on it. What each request does is asked for in `dispatch.rt`.
 ghost use Rattle.std.specs.Prelude.{◌≡◌, ℕ, false, ◌+◌, ◌<◌, ◌∷◌, [], ◌++◌, length, IsTrue, IfOk, OnOk, OnErr};
 ghost use Rattle.built_requests.specs.Built.{is_built};
-ghost use Rattle.built_state.specs.Built.{IsBuilt};
-ghost use Rattle.built_state.specs.Unkeyed.{AreUnkeyedSources};
+ghost use Rattle.joint_state.specs.Sound.{IsSound};
 ghost use Rattle.library_steps.specs.State.{State, empty_library, job_at, new_job};
 ghost use Rattle.library_steps.specs.History.{is_running};
 ghost use Rattle.library_parts.specs.Answers.{reply_of};
@@ -15,6 +14,7 @@ use library_model::replies::Reply;
 use library_model::requests::Request;
 use library_model::sources::Sources;
 use library_parts::{Contents, Stop};
+use sound_histories::each_call_leaves_a_sound_library;
 use std::alloc::{AllocError, Global};
 use std::marker::Model;
 use store_model::Store;
@@ -40,7 +40,6 @@ impl<S: Store> Library<S> {
     pub fn empty(alloc: Global, store: S) -> Library<S>
         ensures store { result.store ≡ store }
         ensures stands { Stands result empty_library }
-        ensures built { IsBuilt result.state }
     {
         Library {
             store,
@@ -69,7 +68,6 @@ impl<S: Store> Library<S> {
         ensures number { IfOk result (λ n. n ≡ length self.old.state.jobs + 1) }
         ensures begun { OnOk result (self.new.state ≡ record self.old.state { jobs = self.old.state.jobs ++ new_job name.now ∷ [] }) }
         ensures unchanged { OnErr result (self.new.state ≡ self.old.state) }
-        ensures ready { self.old.failed ≡ false → IsBuilt self.old.state → IfOk result (λ n. IsReady n self.new) }
         ensures store { self.new.store ≡ self.old.store }
         ensures failed { self.new.failed ≡ self.old.failed }
     {
@@ -99,13 +97,14 @@ pub fn call<S: Store>(
 ) -> Reply
     requires ready { IsReady job library.old }
     requires built { IsTrue (is_built request.now) }
-    requires unkeyed { AreUnkeyedSources sources.now }
     ensures goes { (s : State) → Stands library.old s → Goes sources.now library.new s (record { job = job; timestamp = timestamp; request = request.now; reply = result }) }
     ensures running { (other : ℕ) → is_running (job_at other library.new.state.jobs) ≡ runs_after job request.now library.old.state.jobs other }
-    ensures kept { IsBuilt library.new.state }
+    ensures kept { IsSound library.new.state }
     ensures store { library.new.store ≡ library.old.store }
     ensures alive { library.new.failed ≡ false }
 {
+    // A sound library stays sound, and each change of an open commit cycle stands in it as it was made.
+    each_call_leaves_a_sound_library();
     let done = perform(&mut library.contents, job, timestamp, sources, request);
     reply_of(done)
 }

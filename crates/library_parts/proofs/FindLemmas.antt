@@ -1,5 +1,5 @@
 -- What is found by names is there.
-use Rattle.std.proofs.Common.{◌≡◌, ℕ, zero, suc, ◌-◌, ◌==◌, ◌||◌, if◌then◌else◌, true, false, cond, map, List, [], ◌∷◌, Option, Some, None, IsSome, Ok, slice_get, subst, refl, sym, ◌∙◌, ap, arith}
+use Rattle.std.proofs.Common.{◌≡◌, ℕ, zero, suc, ◌-◌, ◌==◌, ◌||◌, if◌then◌else◌, true, false, cond, map, List, [], ◌∷◌, Option, Some, None, IsSome, Result, Ok, Err, slice_get, subst, refl, sym, ◌∙◌, ap, arith}
 use Rattle.std.specs.List.{AllByRecursion}
 use Rattle.std.proofs.lemmas.Bool.Decides.{nat_tests}
 use Rattle.logical_model.specs.Bases.{Base, FileSpec, PhysicalFile, LogicalFile, base_names}
@@ -12,12 +12,14 @@ use Rattle.lock_table.specs.declared.levels.Call.{Call}
 use Rattle.library_model.specs.declared.requests.OpenFile.{OpenFile}
 use Rattle.library_model.specs.declared.replies.Reply.{Reply}
 use Rattle.library_model.specs.Named.{Named, named, same_name}
-use Rattle.library_steps.specs.Refusals.{found}
+use Rattle.library_steps.specs.Refusals.{OpenedFile, found}
 use Rattle.library_steps.specs.LogicalFiles.{bases_in}
 use Rattle.library_steps.specs.Opens.{new_open}
 use Rattle.library_steps.specs.Reads.{has_read, entry_found}
 use Rattle.library_steps.specs.State.{State, FileState, MemberStatus, OpenState, JobState, memory_of, open_named, job_at, or_new, physical_among}
-use Rattle.library_parts.specs.Finds.{HasMember, OpensMember}
+use Rattle.library_parts.specs.declared.stop.Stop.{Stop}
+use Rattle.library_parts.specs.declared.stop.Stop.TheVariants.{NoMemory, Refused}
+use Rattle.library_parts.specs.Finds.{FindsOpen, HasMember, OpensMember}
 use Rattle.library_parts.specs.Lawful.{IsBased, OpenHolds, OpensBy, OpensFile, OpensHold, StandsOver, IsLibrary}
 use Rattle.library_parts.proofs.BaseLemmas.{OpenHolds-has_read, base-is, physical-found, physical-member, some-is, some-of}
 use Rattle.library_parts.proofs.MemberLemmas.{AllByRecursion-get}
@@ -177,3 +179,9 @@ OpenHolds-first_read files call entry opened all first holds = OpenHolds-has_rea
     by : (o : Option FileState) → named opened.file files ≡ o → OpensFile files opened o → IsSome (slice_get opened.members entry.format)
     by None is h = absurd h
     by (Some file) is h = kind file.members file.spec (physical-named opened.file file files all is) h
+
+-- ---- an open that is there is found
+
+pub finds-none : (stop : Stop) (wanted : Result OpenedFile Reply) (its : OpenedFile) → wanted ≡ Ok its → FindsOpen (Err stop) wanted → ⊥
+finds-none NoMemory wanted its is finds = finds
+finds-none (Refused reply) wanted its is finds = absurd cc

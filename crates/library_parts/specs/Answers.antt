@@ -26,6 +26,12 @@ Allows (Ok nothing) wanted = wanted ≡ Ok true
 Allows (Err NoMemory) wanted = ⊥
 Allows (Err (Refused reply)) wanted = wanted ≡ Err reply
 
+-- the same where the test may want memory
+abbrev pub MayAllow : Result (Unit {0}) Stop → Result Bool Reply → Type 0
+MayAllow (Ok nothing) wanted = wanted ≡ Ok true
+MayAllow (Err NoMemory) wanted = Unit {0}
+MayAllow (Err (Refused reply)) wanted = wanted ≡ Err reply
+
 -- the state and the reply of the change; where nothing was done, the state is as it was
 abbrev pub Answers : State → State → Result Reply Stop → Result Change Reply → Type 0
 Answers old new (Ok reply) wanted =

@@ -1,11 +1,13 @@
 -- What a look-up by names shows: an open and its file, or a member and its file, or the refusal of the first name that isn't there.
 use Rattle.std.specs.Prelude.{◌≡◌, ℕ, true, Option, Some, None, Result, Ok, Err, List}
+use Rattle.std.specs.Borrow.{Bor}
+use Rattle.job_table.specs.Opens.{KeptOpen}
 use Rattle.library_model.specs.declared.replies.Reply.{Reply}
 use Rattle.file_catalogue.specs.Owners.{Owns, has_number}
 use Rattle.member_slots.specs.Members.{member_at}
 use Rattle.entry_codec.specs.declared.entries.Entry.{Entry}
 use Rattle.library_steps.specs.JournalReads.{are_there, are_kept, entries_between}
-use Rattle.library_steps.specs.State.{State, FileState, fields_of, memory_of}
+use Rattle.library_steps.specs.State.{State, FileState, OpenState, fields_of, memory_of}
 use Rattle.library_parts.specs.Lawful.{IsThere}
 use Rattle.library_steps.specs.Refusals.{◌>>=◌, OpenedFile, FoundMember}
 use Rattle.library_parts.specs.declared.stop.Stop.{Stop}
@@ -13,8 +15,14 @@ use Rattle.library_parts.specs.declared.stop.Stop.TheVariants.{NoMemory, Refused
 use Rattle.library_parts.specs.declared.finds.OpenFound.{OpenFound}
 use Rattle.library_parts.specs.declared.finds.MemberFound.{MemberFound}
 
+-- an open is shown in its place
+abbrev pub ShowsOpen : Result (Bor KeptOpen) Stop → Result OpenState Reply → Type 0
+ShowsOpen (Ok shown) wanted = wanted ≡ Ok shown.now.state
+ShowsOpen (Err NoMemory) wanted = ⊥
+ShowsOpen (Err (Refused reply)) wanted = wanted ≡ Err reply
+
 abbrev pub FindsOpen : Result OpenFound Stop → Result OpenedFile Reply → Type 0
-FindsOpen (Ok its) wanted = wanted ≡ Ok (record { opened = its.opened.now; file = its.file.now })
+FindsOpen (Ok its) wanted = wanted ≡ Ok (record { opened = its.opened.now.state; file = its.file.now })
 FindsOpen (Err NoMemory) wanted = ⊥
 FindsOpen (Err (Refused reply)) wanted = wanted ≡ Err reply
 

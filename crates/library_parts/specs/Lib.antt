@@ -1,7 +1,16 @@
 pub mod Parts
+pub mod Indexed
+pub mod Reads
+pub mod Moved
 pub mod Lawful
 pub mod Due
 pub mod Boundaries
+pub mod Given
+pub mod Standing
+pub mod Keyed
+pub mod TakingBack
+pub mod PathChanges
+pub mod NewKeys
 pub mod Answers
 pub mod Finds
 pub mod Locks

@@ -5,10 +5,15 @@ use Rattle.lock_table.specs.Table.{Locks}
 use Rattle.file_catalogue.specs.Parts.{Files}
 use Rattle.memory_journal.specs.Journal.{Held}
 use Rattle.job_table.specs.Table.{JobTable}
+use Rattle.job_table.specs.Opens.{OpenOrder}
+use Rattle.path_set.specs.declared.moves.PathMove.{PathMove}
+use Rattle.path_set.specs.KeptPaths.{KeptPaths}
+use Rattle.library_model.specs.Named.{Named}
 use Rattle.library_steps.specs.State.{State}
 
 -- for how many more there is room: files, members among the files' names, members with slots, slots of each member, and
--- entries besides those that boundaries may still deposit; for how many locks in all, and for how many changes of each job's commit cycle in all
+-- entries besides those that boundaries may still deposit; for how many locks in all, and for how many changes of each job's commit cycle in all.
+-- Beside these the access paths, with their room, how each job's opens read, and the moves that take back the changes of its commit cycle
 pub record Room : Type 0 where
   pub files : ℕ
   pub member_names : ℕ
@@ -17,6 +22,9 @@ pub record Room : Type 0 where
   pub entries : ℕ
   pub locks : ℕ
   pub undos : List ℕ
+  pub paths : KeptPaths
+  pub orders : List (Named OpenOrder)
+  pub moves : List (List (List PathMove))
 
 pub record LibraryParts : Type 0 where
   pub state : State
@@ -36,8 +44,8 @@ state_of catalogue members next_member journal locks jobs = record {
   jobs = jobs.jobs;
 }
 
-abbrev pub room_of : Files → RoomyMembers → Held → Locks → JobTable → (due : ℕ) → Room
-room_of catalogue members journal locks jobs due = record {
+abbrev pub room_of : Files → RoomyMembers → Held → Locks → JobTable → (due : ℕ) → KeptPaths → Room
+room_of catalogue members journal locks jobs due paths = record {
   files = catalogue.room;
   member_names = catalogue.member_room;
   members = members.room;
@@ -45,8 +53,11 @@ room_of catalogue members journal locks jobs due = record {
   entries = journal.room - due;
   locks = locks.room;
   undos = jobs.rooms;
+  paths = paths;
+  orders = jobs.orders;
+  moves = jobs.moves;
 }
 
-abbrev pub joined : Files → RoomyMembers → (next_member : ℕ) → Held → Locks → JobTable → (due : ℕ) → LibraryParts
-joined catalogue members next_member journal locks jobs due =
-    record { state = state_of catalogue members next_member journal locks jobs; room = room_of catalogue members journal locks jobs due }
+abbrev pub joined : Files → RoomyMembers → (next_member : ℕ) → Held → Locks → JobTable → (due : ℕ) → KeptPaths → LibraryParts
+joined catalogue members next_member journal locks jobs due paths =
+    record { state = state_of catalogue members next_member journal locks jobs; room = room_of catalogue members journal locks jobs due paths }

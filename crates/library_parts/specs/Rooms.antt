@@ -25,4 +25,4 @@ HasSlotRoom room member = 1 ≤ unwrap_or (item_at member room.spares) 0
 
 -- a change can be added to the job's commit cycle
 abbrev pub HasUndoRoom : ℕ → LibraryParts → Type 0
-HasUndoRoom job parts = HasRoomFor job (record { jobs = parts.state.jobs; rooms = parts.room.undos })
+HasUndoRoom job parts = HasRoomFor job (record { jobs = parts.state.jobs; rooms = parts.room.undos; orders = parts.room.orders; moves = parts.room.moves })

@@ -1,31 +1,39 @@
 //! The boundaries of a job: COMMIT, ROLLBACK, ENDCMTCTL, and the end of a job with all that it left open. None of them wants memory, since
 //! room for their entries is kept, and each change has its slots at hand.
-ghost use Rattle.std.specs.Prelude.{◌≡◌, ◌+◌, ◌*◌, ◌≤◌, Ok, Some, IsSome, IsTrue, length, map, option_to_list};
+ghost use Rattle.std.specs.Prelude.{◌≡◌, ℕ, ◌+◌, ◌*◌, ◌≤◌, Ok, Some, IsSome, IsTrue, length, map, option_to_list};
 ghost use Rattle.std.specs.List.{AllByRecursion};
 ghost use Rattle.entry_codec.specs.declared.kinds.EntryKind.TheVariants.{CommitCycleCommitted, CommitCycleRolledBack, CommitmentEnded};
 ghost use Rattle.journal_model.specs.Replay.{before_of};
 ghost use Rattle.journal_model.specs.Rollback.{change_drafts, undo_drafts, undo_kinds};
 ghost use Rattle.memory_journal.specs.Journal.{deposited};
+ghost use Rattle.path_set.specs.KeptPaths.{spare_of};
+ghost use Rattle.path_set.specs.RecordChanges.{paths_after, CanBeMade, count_in};
 ghost use Rattle.library_model.specs.declared.replies.Reply.TheVariants.{Done};
 ghost use Rattle.library_steps.specs.State.{memory_of, job_at, job_of};
 ghost use Rattle.library_steps.specs.History.{is_running};
+ghost use Rattle.library_steps.specs.Uses.{changes_in};
 ghost use Rattle.library_steps.specs.Commitment.{commit_change, rollback_change};
 ghost use Rattle.library_steps.specs.Drafts.{cycle_draft, library_draft};
 ghost use Rattle.library_steps.specs.EndJob.{end_change};
 ghost use Rattle.library_parts.specs.Answers.{Answers};
 ghost use Rattle.library_parts.specs.Boundaries.{author, cycle_end, definition_end, ended, member_back, members_back, roll_drafts, told};
 ghost use Rattle.library_parts.specs.Due.{cycle_due};
+ghost use Rattle.library_parts.specs.Indexed.{HasBytes};
 ghost use Rattle.library_parts.specs.Lawful.{FitsPlace};
+ghost use Rattle.library_parts.specs.Standing.{StandAsMade};
+ghost use Rattle.library_parts.specs.TakingBack.{CanTakeBack, LeadsToIndexed};
 
 use crate::contents::Contents;
 use crate::cycles::level_due;
+use crate::members::of_bytes;
 use commit_level::Level;
 use entry_codec::{Draft, EntryKind};
 use field_types::names::Name;
-use job_table::{Undo, UndoSlots, Undos};
+use job_table::{Undo, UndoParts, Undos};
 use member_slots::members::Members;
 use member_slots::slot::Slot;
 use memory_journal::MemoryJournal;
+use path_set::set::PathSet;
 
 /// The record whose change is taken back, the commit cycle of the change, and who takes it back when.
 #[derive(Drop)]
@@ -56,7 +64,8 @@ impl Contents {
     /// ROLLBACK: each change of the job's commit cycle is taken back, the last one first, and the entries that tell of it are
     /// deposited. Its locks are gone, and its opens under commitment stand where they stood at the last boundary.
     pub fn rollback(&mut self, job: u32, timestamp: u64)
-        requires { IsTrue (is_running (job_at job self.old.state.jobs)) }
+        requires running { IsTrue (is_running (job_at job self.old.state.jobs)) }
+        requires stand { StandAsMade (changes_in (job_of job (memory_of self.old.state)).cycle) self.old.state.members }
         ensures { Answers self.old.state self.new.state (Ok Done) (Ok (rollback_change (memory_of self.old.state) job timestamp)) }
     {
         let name = self.jobs.name(job);
@@ -66,6 +75,7 @@ impl Contents {
         self.locks.release_job(job);
         roll_back(
             &mut self.members,
+            &mut self.paths,
             &mut self.journal,
             undos,
             cycle,
@@ -78,7 +88,8 @@ impl Contents {
     /// ENDJOB: an open commit cycle is rolled back, the end of commitment control is deposited where it was started, the job's opens
     /// are closed and its locks gone.
     pub fn finish_job(&mut self, job: u32, timestamp: u64)
-        requires { IsTrue (is_running (job_at job self.old.state.jobs)) }
+        requires running { IsTrue (is_running (job_at job self.old.state.jobs)) }
+        requires stand { StandAsMade (changes_in (job_of job (memory_of self.old.state)).cycle) self.old.state.members }
         ensures { Answers self.old.state self.new.state (Ok Done) (Ok (end_change (memory_of self.old.state) job timestamp)) }
     {
         let name = self.jobs.name(job);
@@ -89,6 +100,7 @@ impl Contents {
         self.locks.release_job(job);
         roll_back(
             &mut self.members,
+            &mut self.paths,
             &mut self.journal,
             undos,
             cycle,
@@ -127,6 +139,7 @@ impl Contents {
 /// Takes the changes back, the last one first, and ends their commit cycle, where one is open.
 fn roll_back(
     members: &mut Members,
+    paths: &mut PathSet,
     journal: &mut MemoryJournal,
     undos: Undos,
     cycle: Option<u64>,
@@ -134,28 +147,33 @@ fn roll_back(
     moment: u64,
 )
     requires fit { AllByRecursion (FitsPlace members.old.members) undos.changes }
+    requires can { CanTakeBack members.old.members paths.old undos.changes undos.moves }
     requires room { 2 * length undos.changes + length (option_to_list cycle) ≤ journal.old.room }
     ensures members { members.new.members ≡ members_back undos.changes members.old.members }
+    ensures indexed { LeadsToIndexed members.old.members paths.old undos.changes undos.moves members.new.members paths.new }
     ensures spares { members.new.spares ≡ members.old.spares }
     ensures member_room { members.new.room ≡ members.old.room }
     ensures journal { journal.new.journal ≡ deposited (roll_drafts job moment cycle undos.changes) journal.old.journal }
     ensures room { journal.old.room ≤ journal.new.room + 2 * length undos.changes + length (option_to_list cycle) }
 {
-    take_all_back(members, journal, undos, job, moment);
+    take_all_back(members, paths, journal, undos, job, moment);
     deposit_if(journal, rolled_back(job, moment, cycle));
 }
 
 /// Takes the changes back, the last one first.
 fn take_all_back(
     members: &mut Members,
+    paths: &mut PathSet,
     journal: &mut MemoryJournal,
     undos: Undos,
     job: Name,
     moment: u64,
 )
     requires fit { AllByRecursion (FitsPlace members.old.members) undos.changes }
+    requires can { CanTakeBack members.old.members paths.old undos.changes undos.moves }
     requires room { 2 * length undos.changes ≤ journal.old.room }
     ensures members { members.new.members ≡ members_back undos.changes members.old.members }
+    ensures indexed { LeadsToIndexed members.old.members paths.old undos.changes undos.moves members.new.members paths.new }
     ensures spares { members.new.spares ≡ members.old.spares }
     ensures member_room { members.new.room ≡ members.old.room }
     ensures journal { journal.new.journal ≡ deposited (undo_drafts (Some job) moment undos.changes) journal.old.journal }
@@ -163,20 +181,34 @@ fn take_all_back(
 {
     let mut left = undos;
     while let Some(undo) = left.pop() {
-        take_back(members, journal, undo, job, moment);
+        // What holds of all kept paths.
+        let _kept = paths.kept();
+        take_back(members, paths, journal, undo, job, moment);
     }
 }
 
 /// Puts the slot before the change where it stood, and deposits the entries that tell of it.
-fn take_back(members: &mut Members, journal: &mut MemoryJournal, undo: Undo, job: Name, moment: u64)
-    requires fits { FitsPlace members.old.members undo }
+fn take_back(
+    members: &mut Members,
+    paths: &mut PathSet,
+    journal: &mut MemoryJournal,
+    undo: Undo,
+    job: Name,
+    moment: u64,
+)
+    requires fits { FitsPlace members.old.members undo.change }
+    requires can { CanBeMade undo.moves paths.old }
     requires room { 2 ≤ journal.old.room }
-    ensures members { members.new.members ≡ member_back undo members.old.members }
+    ensures members { members.new.members ≡ member_back undo.change members.old.members }
+    ensures paths { paths.new.paths ≡ paths_after undo.moves paths.old.paths }
+    ensures path_rooms { (id : ℕ) → spare_of id paths.old ≤ spare_of id paths.new + count_in id undo.moves }
+    ensures bytes { HasBytes (before_of undo.change.change) }
     ensures spares { members.new.spares ≡ members.old.spares }
     ensures member_room { members.new.room ≡ members.old.room }
-    ensures journal { journal.new.journal ≡ deposited (change_drafts (Some job) moment undo (undo_kinds (before_of undo.change) undo.change.after)) journal.old.journal }
+    ensures journal { journal.new.journal ≡ deposited (change_drafts (Some job) moment undo.change (undo_kinds (before_of undo.change.change) undo.change.change.after)) journal.old.journal }
     ensures room { journal.old.room ≤ journal.new.room + 2 }
 {
+    of_bytes(undo.before());
     let origin = Origin {
         job,
         moment,
@@ -184,12 +216,14 @@ fn take_back(members: &mut Members, journal: &mut MemoryJournal, undo: Undo, job
         member: undo.member(),
         rrn: undo.rrn(),
     };
-    let UndoSlots {
+    let UndoParts {
         before,
         again,
         after,
-    } = undo.into_slots();
+        moves,
+    } = undo.into_parts();
     let _changed = members.set(origin.member, origin.rrn, before);
+    let _again = paths.change(moves);
     tell(journal, &origin, again, after);
 }
 

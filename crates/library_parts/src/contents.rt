@@ -11,6 +11,7 @@ use job_table::Jobs;
 use lock_table::LockTable;
 use member_slots::members::Members;
 use memory_journal::MemoryJournal;
+use path_set::set::PathSet;
 use std::alloc::{AllocError, Global};
 use std::marker::Model;
 
@@ -26,6 +27,8 @@ pub struct Contents {
     pub(crate) journal: MemoryJournal,
     pub(crate) locks: LockTable,
     pub(crate) jobs: Jobs,
+    /// The access paths of files with a key.
+    pub(crate) paths: PathSet,
     /// How many entries the boundaries of the jobs may still deposit. The room for them is kept.
     pub(crate) due: u64,
 }
@@ -34,12 +37,13 @@ impl Model for Contents {
     ghost use Rattle.library_parts.specs.Parts.{LibraryParts, joined, state_of};
     ghost use Rattle.library_parts.specs.Lawful.{AreOne};
     ghost use Rattle.library_parts.specs.Due.{HasDue};
+    ghost use Rattle.library_parts.specs.Indexed.{IsIndexed};
 
     ghost Value = { LibraryParts };
 
-    ghost view = { λ c. joined c.catalogue c.members c.next_member c.journal c.locks c.jobs c.due };
+    ghost view = { λ c. joined c.catalogue c.members c.next_member c.journal c.locks c.jobs c.due c.paths };
 
-    ghost invariant = { λ c. AreOne (state_of c.catalogue c.members c.next_member c.journal c.locks c.jobs) c.member_bytes × HasDue c.jobs.jobs c.due c.journal.room };
+    ghost invariant = { λ c. AreOne (state_of c.catalogue c.members c.next_member c.journal c.locks c.jobs) c.member_bytes × HasDue c.jobs.jobs c.due c.journal.room × IsIndexed c.catalogue.files c.members.members c.jobs.jobs c.jobs.orders c.jobs.moves c.paths };
 }
 
 impl Contents {
@@ -56,6 +60,7 @@ impl Contents {
             journal: MemoryJournal::new(alloc),
             locks: LockTable::new(alloc),
             jobs: Jobs::new(alloc),
+            paths: PathSet::new(alloc),
             due: 0,
         }
     }

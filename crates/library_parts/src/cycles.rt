@@ -7,7 +7,9 @@ ghost use Rattle.library_steps.specs.History.{is_running};
 ghost use Rattle.library_steps.specs.Commitment.{with_level, has_committed_open};
 ghost use Rattle.library_steps.specs.SlotChange.{change_bytes, cycle_for, noted, open_bytes, open_changes, with_cycle};
 ghost use Rattle.library_parts.specs.Due.{level_due};
+ghost use Rattle.library_parts.specs.Indexed.{moves_back};
 ghost use Rattle.library_parts.specs.Lawful.{GoesBack};
+ghost use Rattle.library_parts.specs.Moved.{HasMovesRoom};
 ghost use Rattle.library_parts.specs.Rooms.{HasUndoRoom};
 
 use crate::contents::Contents;
@@ -60,12 +62,14 @@ impl Contents {
         requires running { IsTrue (is_running (job_at job self.old.state.jobs)) }
         requires room { HasUndoRoom job self.old }
         requires entries { 3 ≤ self.old.room.entries }
-        requires goes_back { GoesBack self.old.state.files self.old.state.members (cycle_for (memory_of self.old.state) (job_of job (memory_of self.old.state))).sequence undo }
+        requires goes_back { GoesBack self.old.state.files self.old.state.members (cycle_for (memory_of self.old.state) (job_of job (memory_of self.old.state))).sequence undo.change }
+        requires moves { undo.moves ≡ moves_back self.old.room.paths.paths undo.change }
+        requires moves_room { HasMovesRoom self.old undo.change.member 1 }
         requires few_changes { open_changes (memory_of self.old.state) + 1 ≤ MOST_GROUP_CHANGES }
-        requires few_bytes { open_bytes (memory_of self.old.state) + change_bytes undo ≤ MOST_GROUP_BYTES }
-        ensures memory { memory_of self.new.state ≡ with_job job (with_cycle (noted undo (cycle_for (memory_of self.old.state) (job_of job (memory_of self.old.state))))) (memory_of self.old.state) }
+        requires few_bytes { open_bytes (memory_of self.old.state) + change_bytes undo.change ≤ MOST_GROUP_BYTES }
+        ensures memory { memory_of self.new.state ≡ with_job job (with_cycle (noted undo.change (cycle_for (memory_of self.old.state) (job_of job (memory_of self.old.state))))) (memory_of self.old.state) }
         ensures entries { self.new.state.entries ≡ self.old.state.entries }
-        ensures others { self.new.room ≡ record self.old.room { entries = self.new.room.entries } }
+        ensures others { self.new.room ≡ record self.old.room { entries = self.new.room.entries; moves = self.new.room.moves } }
         ensures left { self.old.room.entries ≤ self.new.room.entries + 3 }
     {
         let (_, last) = self.journal.bounds();

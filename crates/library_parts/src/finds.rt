@@ -1,5 +1,5 @@
 //! What requests look up by names: opens, files, and the members of files.
-ghost use Rattle.std.specs.Prelude.{◌≡◌, IfOk, IsTrue};
+ghost use Rattle.std.specs.Prelude.{◌≡◌, Some, IfOk, IsTrue, option_map};
 ghost use Rattle.library_model.specs.declared.replies.Reply.TheVariants.{NoSuchName};
 ghost use Rattle.library_model.specs.declared.replies.Missing.TheVariants as missing;
 ghost use Rattle.library_steps.specs.State.{memory_of, job_at, file_named, open_named, physical_named};
@@ -7,7 +7,10 @@ ghost use Rattle.library_steps.specs.History.{is_running};
 ghost use Rattle.library_steps.specs.Refusals.{named_or_refused, opened_file, member_of_file, sequences_left};
 ghost use Rattle.library_parts.specs.declared.stop.Stop.TheVariants.{Refused};
 ghost use Rattle.library_parts.specs.Answers.{Shows, Allows};
-ghost use Rattle.library_parts.specs.Finds.{FindsOpen, FindsMember, HasMember};
+ghost use Rattle.library_parts.specs.Finds.{ShowsOpen, FindsOpen, FindsMember, HasMember};
+ghost use Rattle.job_table.specs.Opens.{AllOfNumber};
+ghost use Rattle.library_model.specs.Named.{named};
+ghost use Rattle.library_parts.specs.Reads.{ReadsAs, orders_in};
 
 use crate::contents::Contents;
 use crate::stop::Stop;
@@ -18,6 +21,7 @@ use library_model::replies::{LimitKind, Missing, Reply};
 use library_steps::limits::LAST_SEQUENCE;
 
 /// An open that a request names, and its file.
+#[derive(Clone, Copy)]
 pub struct OpenFound<'a> {
     pub opened: &'a Open,
     pub file: &'a File,
@@ -33,7 +37,9 @@ impl Contents {
     /// The job's open of that name.
     pub fn opened(&self, job: u32, name: &Name) -> Result<&Open, Stop>
         requires { IsTrue (is_running (job_at job self.now.state.jobs)) }
-        ensures { Shows result (named_or_refused name.now (open_named name.now job (memory_of self.now.state))) }
+        ensures shows { ShowsOpen result (named_or_refused name.now (open_named name.now job (memory_of self.now.state))) }
+        ensures order { IfOk result (λ o. named name.now (orders_in job self.now) ≡ Some o.now.order) }
+        ensures alone { IfOk result (λ o. AllOfNumber o.now.state.number (λ order. order ≡ o.now.order) (orders_in job self.now)) }
     {
         match self.jobs.open_named(job, name) {
             Some(opened) => Ok(opened),
@@ -65,10 +71,14 @@ impl Contents {
     pub fn opened_file(&self, job: u32, name: &Name) -> Result<OpenFound<'_>, Stop>
         requires { IsTrue (is_running (job_at job self.now.state.jobs)) }
         ensures found { FindsOpen result (opened_file name.now job (memory_of self.now.state)) }
-        ensures there { IfOk result (λ its. HasMember self.now.state its.opened.now.file its.file.now its.opened.now.member) }
+        ensures shows { IfOk result (λ its. open_named name.now job (memory_of self.now.state) ≡ Some its.opened.now.state) }
+        ensures order { IfOk result (λ its. named name.now (orders_in job self.now) ≡ Some its.opened.now.order) }
+        ensures there { IfOk result (λ its. HasMember self.now.state its.opened.now.state.file its.file.now its.opened.now.state.member) }
+        ensures reads { IfOk result (λ its. ReadsAs self.now its.opened.now its.file.now) }
+        ensures alone { IfOk result (λ its. AllOfNumber its.opened.now.state.number (λ order. order ≡ its.opened.now.order) (orders_in job self.now)) }
     {
-        // The file of each open is there, and has its member.
-        let _ = &self.alloc;
+        // The file of each open is there, and has its member. Each open stands beside how it reads.
+        let _jobs = self.jobs.len();
         let opened = self.opened(job, name)?;
         let file = self.file(&opened.file())?;
         // It is a physical file.

@@ -28,7 +28,7 @@ impl Contents {
     /// The lock level of an open of the job; `None` where it isn't under commitment control.
     pub fn level_of(&self, job: u32, opened: &Open) -> Option<Level>
         requires { IsTrue (is_running (job_at job self.now.state.jobs)) }
-        ensures { result ≡ level_of (job_of job (memory_of self.now.state)) opened.now }
+        ensures { result ≡ level_of (job_of job (memory_of self.now.state)) opened.now.state }
     {
         if opened.commit() {
             self.jobs.level(job)
@@ -40,7 +40,7 @@ impl Contents {
     /// The least job whose lock clashes with the one that the call asks for.
     pub fn clashing(&self, call: Call, job: u32, opened: &Open, rrn: u32) -> Option<u32>
         requires { IsTrue (is_running (job_at job self.now.state.jobs)) }
-        ensures { result ≡ clashing call job opened.now rrn (memory_of self.now.state) }
+        ensures { result ≡ clashing call job opened.now.state rrn (memory_of self.now.state) }
     {
         match asked(call, self.level_of(job, opened)) {
             Some(wanted) => self.locks.clash(job, record_of(opened, rrn), wanted.kind),
@@ -51,7 +51,7 @@ impl Contents {
     /// The refusal where another job's lock clashes with the one that the call asks for.
     pub fn not_locked(&self, call: Call, job: u32, opened: &Open, rrn: u32) -> Result<(), Stop>
         requires { IsTrue (is_running (job_at job self.now.state.jobs)) }
-        ensures { Allows result (not_locked call job opened.now rrn (memory_of self.now.state)) }
+        ensures { Allows result (not_locked call job opened.now.state rrn (memory_of self.now.state)) }
     {
         match self.clashing(call, job, opened, rrn) {
             Some(other) => Err(Stop::Refused(Reply::RecordInUse {
@@ -73,7 +73,7 @@ impl Contents {
     ) -> Result<(), Stop>
         requires running { IsTrue (is_running (job_at job self.now.state.jobs)) }
         requires call { IsRead call }
-        ensures { Allows result (few_locks call job opened.now rrn (memory_of self.now.state)) }
+        ensures { Allows result (few_locks call job opened.now.state rrn (memory_of self.now.state)) }
     {
         if self.are_too_many_to_read(call, job, opened, rrn) {
             return Err(too_many_locks());
@@ -91,7 +91,7 @@ impl Contents {
     ) -> Result<(), Stop>
         requires running { IsTrue (is_running (job_at job self.now.state.jobs)) }
         requires call { IsWrite call }
-        ensures { Allows result (few_locks call job opened.now rrn (memory_of self.now.state)) }
+        ensures { Allows result (few_locks call job opened.now.state rrn (memory_of self.now.state)) }
     {
         if self.are_too_many_to_write(call, job, opened, rrn) {
             return Err(too_many_locks());
@@ -102,7 +102,7 @@ impl Contents {
     fn are_too_many_to_read(&self, call: Call, job: u32, opened: &Open, rrn: u32) -> bool
         requires running { IsTrue (is_running (job_at job self.now.state.jobs)) }
         requires call { IsRead call }
-        ensures { result ≡ nat_lt MOST_LOCKS (length (locks_left call job opened.now rrn (memory_of self.now.state))) }
+        ensures { result ≡ nat_lt MOST_LOCKS (length (locks_left call job opened.now.state rrn (memory_of self.now.state))) }
     {
         let wanted = asked(call, self.level_of(job, opened));
         self.count_read(wanted, holder_of(job, opened), record_of(opened, rrn)) > MOST_LOCKS
@@ -123,7 +123,7 @@ impl Contents {
     fn are_too_many_to_write(&self, call: Call, job: u32, opened: &Open, rrn: u32) -> bool
         requires running { IsTrue (is_running (job_at job self.now.state.jobs)) }
         requires call { IsWrite call }
-        ensures { result ≡ nat_lt MOST_LOCKS (length (locks_left call job opened.now rrn (memory_of self.now.state))) }
+        ensures { result ≡ nat_lt MOST_LOCKS (length (locks_left call job opened.now.state rrn (memory_of self.now.state))) }
     {
         let level = self.level_of(job, opened);
         self.exceeds_to_write(call, level, holder_of(job, opened), record_of(opened, rrn))
@@ -155,8 +155,8 @@ impl Contents {
 
     /// What the open and its job hold on a record of its member.
     pub fn locks_on(&self, job: u32, opened: &Open, rrn: u32) -> Held
-        ensures by_open { result.by_open ≡ has_open_lock job opened.now rrn (memory_of self.now.state) }
-        ensures to_boundary { result.to_boundary ≡ has_boundary_lock job opened.now rrn (memory_of self.now.state) }
+        ensures by_open { result.by_open ≡ has_open_lock job opened.now.state rrn (memory_of self.now.state) }
+        ensures to_boundary { result.to_boundary ≡ has_boundary_lock job opened.now.state rrn (memory_of self.now.state) }
     {
         self.locks
             .held(holder_of(job, opened), record_of(opened, rrn))
@@ -165,7 +165,7 @@ impl Contents {
     /// The refusal where the job's open commit cycle has changed the record, and the open isn't under commitment control.
     pub fn not_held(&self, job: u32, opened: &Open, rrn: u32) -> Result<(), Stop>
         requires { IsTrue (is_running (job_at job self.now.state.jobs)) }
-        ensures { Allows result (not_held job opened.now rrn (memory_of self.now.state)) }
+        ensures { Allows result (not_held job opened.now.state rrn (memory_of self.now.state)) }
     {
         if !opened.commit() && self.jobs.has_changed_record(job, opened.member(), rrn) {
             return Err(Stop::Refused(Reply::HeldByGroup { rrn }));
@@ -208,7 +208,7 @@ fn too_many_locks() -> Stop
 
 /// Through which open of which job records are locked.
 pub fn holder_of(job: u32, opened: &Open) -> Holder
-    ensures { result ≡ holder_of job opened.now }
+    ensures { result ≡ holder_of job opened.now.state }
 {
     Holder {
         job,
@@ -218,7 +218,7 @@ pub fn holder_of(job: u32, opened: &Open) -> Holder
 
 /// A record of the open's member.
 pub fn record_of(opened: &Open, rrn: u32) -> RecordId
-    ensures { result ≡ record_of opened.now rrn }
+    ensures { result ≡ record_of opened.now.state rrn }
 {
     RecordId {
         member: opened.member(),

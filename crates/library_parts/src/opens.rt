@@ -7,7 +7,7 @@ ghost use Rattle.library_model.specs.declared.limits.TheConstants.{MOST_OPENS};
 ghost use Rattle.library_steps.specs.State.{memory_of, job_at, job_of, with_job, with_opens};
 ghost use Rattle.library_steps.specs.History.{is_running};
 ghost use Rattle.library_steps.specs.Opens.{with_open, without_open};
-ghost use Rattle.library_steps.specs.Reads.{open_changed, positioned, has_read, entry_found};
+ghost use Rattle.library_steps.specs.Reads.{open_changed};
 ghost use Rattle.library_steps.specs.ChangeRecord.{without_current, without_record};
 ghost use Rattle.library_steps.specs.Locking.{is_committed, with_locks};
 ghost use Rattle.library_steps.specs.EndJob.{job_ended};
@@ -15,12 +15,13 @@ ghost use Rattle.job_table.specs.Table.{HasRoomFor};
 ghost use Rattle.job_table.specs.declared.jobs.TheConstants.{LAST_OPEN};
 ghost use Rattle.library_parts.specs.Finds.{OpensMember};
 ghost use Rattle.library_parts.specs.Locks.{AsksNone, IsOfOpen, HasLockRoom};
+ghost use Rattle.library_parts.specs.Reads.{ReadsFor};
 
 use crate::contents::Contents;
 use crate::cycles::level_due;
 use crate::leave::leave;
 use field_types::names::Name;
-use job_table::{FilePosition, FoundRecord};
+use job_table::OpenReads;
 use library_model::requests::OpenFile;
 use lock_table::{Call, Holder, Level, RecordId};
 
@@ -34,19 +35,20 @@ impl Contents {
         (self.jobs.open_count(job), self.jobs.opened(job))
     }
 
-    /// Opens a member for the job.
-    pub fn add_open(&mut self, job: u32, args: &OpenFile, member: u32)
+    /// Opens a member for the job, which reads in that way.
+    pub fn add_open(&mut self, job: u32, args: &OpenFile, member: u32, reads: OpenReads)
         requires running { IsTrue (is_running (job_at job self.old.state.jobs)) }
         requires few { length (job_of job (memory_of self.old.state)).opens < MOST_OPENS }
         requires numbered { (job_of job (memory_of self.old.state)).opened < LAST_OPEN }
         requires there { OpensMember member (named args.now.file self.old.state.files) }
+        requires reads { ReadsFor self.old args.now member reads }
         ensures memory { memory_of self.new.state ≡ with_job job (with_open args.now (member ∷ [])) (memory_of self.old.state) }
         ensures entries { self.new.state.entries ≡ self.old.state.entries }
-        ensures room { self.new.room ≡ self.old.room }
+        ensures room { self.new.room ≡ record self.old.room { orders = self.new.room.orders } }
     {
         // All files are physical ones.
         let _len = self.catalogue.len();
-        self.jobs.add_open(job, args, member);
+        self.jobs.add_open(job, args, member, reads);
     }
 
     /// Closes the job's open of that name, but for its locks.
@@ -54,33 +56,11 @@ impl Contents {
         requires { IsTrue (is_running (job_at job self.old.state.jobs)) }
         ensures memory { memory_of self.new.state ≡ with_job job (without_open name.now) (memory_of self.old.state) }
         ensures entries { self.new.state.entries ≡ self.old.state.entries }
-        ensures room { self.new.room ≡ self.old.room }
+        ensures room { self.new.room ≡ record self.old.room { orders = self.new.room.orders } }
     {
+        // Each open stands beside how it reads.
+        let _len = self.jobs.len();
         self.jobs.remove_open(job, name);
-    }
-
-    /// Sets the position of the job's open with that number.
-    pub fn set_position(&mut self, job: u32, opened: u32, position: FilePosition)
-        requires { IsTrue (is_running (job_at job self.old.state.jobs)) }
-        ensures memory { memory_of self.new.state ≡ with_job job (open_changed opened (positioned None position)) (memory_of self.old.state) }
-        ensures entries { self.new.state.entries ≡ self.old.state.entries }
-        ensures room { self.new.room ≡ self.old.room }
-    {
-        self.jobs.set_position(job, opened, position);
-    }
-
-    /// Notes what the job's open with that number has read.
-    pub fn note_read(&mut self, job: u32, opened: u32, call: Call, entry: FoundRecord)
-        requires { IsTrue (is_running (job_at job self.old.state.jobs)) }
-        ensures memory { memory_of self.new.state ≡ with_job job (open_changed opened (has_read call (entry_found entry))) (memory_of self.old.state) }
-        ensures entries { self.new.state.entries ≡ self.old.state.entries }
-        ensures room { self.new.room ≡ self.old.room }
-    {
-        // It is of the first format, as there is no other.
-        let _format = entry.format();
-        // All files are physical ones.
-        let _len = self.catalogue.len();
-        self.jobs.note_read(job, opened, call, entry);
     }
 
     /// The job's open with that number has no current record any more.
@@ -135,7 +115,7 @@ impl Contents {
         requires unchanged { (job_of job (memory_of self.old.state)).cycle ≡ None }
         ensures memory { memory_of self.new.state ≡ job_ended job (memory_of self.old.state) }
         ensures entries { self.new.state.entries ≡ self.old.state.entries }
-        ensures room { self.new.room ≡ record self.old.room { entries = self.new.room.entries; undos = self.new.room.undos } }
+        ensures room { self.new.room ≡ record self.old.room { entries = self.new.room.entries; undos = self.new.room.undos; orders = self.new.room.orders; moves = self.new.room.moves } }
     {
         let before = level_due(self.jobs.level(job));
         self.locks.release_job(job);

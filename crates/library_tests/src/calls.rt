@@ -1,10 +1,9 @@
 //! Tables of calls: each reply against the one that the manual's rules give by hand, and that memory is left for each.
 //! The tables stand in `tables.rt`, `setups.rt`, `cycles.rt`, `ranges.rt` and `undone.rt`.
-ghost use Rattle.std.specs.Prelude.{◌≡◌, ◌<◌, false, length, IfSome, IsTrue};
+ghost use Rattle.std.specs.Prelude.{◌≡◌, false, IfSome, IsTrue};
 ghost use Rattle.built_requests.specs.Built.{is_built};
-ghost use Rattle.built_state.specs.Built.{IsBuilt};
-ghost use Rattle.built_state.specs.Unkeyed.{AreUnkeyedSources};
 ghost use Rattle.library_model.specs.Ending.{is_end_job};
+ghost use Rattle.library_steps.specs.State.{empty_library};
 ghost use Rattle.library_core.specs.Stands.{IsReady};
 
 use crate::answers::{Answer, is_answer};
@@ -21,13 +20,12 @@ use library_core::library::{Library, call};
 use library_model::replies::Reply;
 use library_model::requests::{EndJob, EndReason, Request};
 use library_model::sources::Sources;
+use sound_histories::each_call_leaves_a_sound_library;
 use std::alloc::Global;
 use std::process::Abort;
 use store_model::MemoryStore;
 
-fn sources_of(alloc: Global) -> Option<Sources>
-    ensures { IfSome result (λ sources. AreUnkeyedSources sources) }
-{
+fn sources_of(alloc: Global) -> Option<Sources> {
     let Scripts {
         sources,
         names: _,
@@ -46,11 +44,12 @@ struct Jobs {
 
 fn begin_jobs(library: &mut Library<MemoryStore>, name: &Name) -> Option<Jobs>
     requires alive { library.old.failed ≡ false }
-    requires built { IsBuilt library.old.state }
-    requires few { length library.old.state.jobs < 2 }
+    requires empty { library.old.state ≡ empty_library }
     ensures first { IfSome result (λ jobs. IsReady jobs.first library.new) }
     ensures second { IfSome result (λ jobs. IsReady jobs.second library.new) }
 {
+    // A library in which jobs have begun and nothing else is sound.
+    each_call_leaves_a_sound_library();
     let Ok(first) = library.begin_job(name) else {
         return None;
     };
@@ -71,7 +70,6 @@ fn ask_library(
     requires second { IsReady jobs.second library.old }
     requires built { IsTrue (is_built request.now) }
     requires goes_on { is_end_job request.now ≡ false }
-    requires unkeyed { AreUnkeyedSources sources.now }
     ensures first { IsReady jobs.first library.new }
     ensures second { IsReady jobs.second library.new }
 {

@@ -10,14 +10,12 @@ use Rattle.key_values.specs.KeyValues.{AreAmong}
 use Rattle.key_values.proofs.AmongLemmas.{among-itself}
 use Rattle.file_cursor.specs.declared.places.Order.{Order}
 use Rattle.file_cursor.specs.declared.places.Order.TheVariants as orders
-use Rattle.file_cursor.specs.declared.places.Place.{Place}
-use Rattle.file_cursor.specs.declared.places.Place.TheVariants.{Low, High, Key, Rrn}
-use Rattle.file_cursor.specs.CursorPosition.{CursorPosition, Start, End, On, Before, Past, ByKey, ByNumber, key_in}
+use Rattle.file_cursor.specs.CursorPosition.{CursorPosition, Start, End, On, Before, Past, ByKey, ByNumber}
 use Rattle.file_cursor.specs.Reading.{Suits}
 use Rattle.open_position.specs.declared.reads.ReadBy.{ReadBy}
 use Rattle.open_position.specs.declared.reads.ReadBy.TheVariants as asked
 use Rattle.open_position.specs.OpenStand.{OpenStand, IsEntryIn, IsStandIn, AreGivenBytes, parts_at}
-use Rattle.open_position.specs.Reads.{IsPlaceIn, IsOrderOf, IsAskedOf, IsLookedUp, CanFind}
+use Rattle.open_position.specs.Reads.{IsOrderOf, IsAskedOf, IsLookedUp, CanFind}
 
 -- ---- one format
 
@@ -35,19 +33,13 @@ in-one stand now is P holds = subst P (sym (ap (λ (s : OpenStand). s.formats) i
 -- ---- room
 
 module _ (parts : List KeyPart) (room : ℕ) (wide : key_width parts ≤ room) where
-  given-fit : (key : List ℕ) → AreGivenBytes (merged_parts (parts ∷ [])) key → length key ≤ room
+  pub given-fit : (key : List ℕ) → AreGivenBytes (merged_parts (parts ∷ [])) key → length key ≤ room
   given-fit key is =
       let long : length (encoded_values (merged_parts (parts ∷ [])) is.given.0) ≤ key_width (merged_parts (parts ∷ [])) =
       length-encoded_values (merged_parts (parts ∷ [])) is.given.0 is.given.1 in
       let one : key_width (merged_parts (parts ∷ [])) ≡ key_width parts = ap key_width (merged-one parts) in
       let same : length key ≡ length (encoded_values (merged_parts (parts ∷ [])) is.given.0) = ap length is.given.3 in
       omega (arith, long, one, same, wide)
-
-  pub place-fits : (at : Place) → IsPlaceIn (parts ∷ []) at → length (key_in at) ≤ room
-  place-fits Low is = omega arith
-  place-fits High is = omega arith
-  place-fits (Key key) is = given-fit key.now is
-  place-fits (Rrn rrn) is = omega arith
 
   pub entry-fits : (entry : Entry) → IsEntryIn (parts ∷ []) entry → length entry.key ≤ room
   entry-fits entry is =

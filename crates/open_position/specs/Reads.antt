@@ -1,15 +1,16 @@
 -- What is asked of an open, and among what does it find it? (Database Programming, "Reading database records"; ILE RPG Reference, "READE" and "CHAIN".)
-use Rattle.std.specs.Prelude.{◌≡◌, ℕ, Bool, List, map, All, Option}
+use Rattle.std.specs.Prelude.{◌≡◌, ℕ, Bool, List, map, All, Option, None}
 use Rattle.key_spec.specs.declared.KeyPart.{KeyPart}
 use Rattle.key_pages.specs.declared.entries.Entry.{Entry}
 use Rattle.key_pages.specs.EntryList.{EntryList}
 use Rattle.member_slots.specs.Member.{MemberState}
 use Rattle.member_slots.specs.Members.{NumberedMembers}
 use Rattle.file_model.specs.declared.paths.PathSpec.{PathSpec}
-use Rattle.file_model.specs.KeyOrder.{merged_parts}
+use Rattle.file_model.specs.KeyOrder.{given_key, merged_parts}
 use Rattle.file_model.specs.Paths.{PathEntry, path}
 use Rattle.file_model.specs.Positions.{Bound, KeyBound, NumberBound, Position, Start, End, Before, Past, Reading, next_from, prior_from, next_equal, prior_equal, chain_key, chain_number}
 use Rattle.access_path.specs.PathBytes.{is_falling, in_bytes, IsInBytes}
+use Rattle.key_order.specs.GivenValues.{key_fault}
 use Rattle.key_values.specs.KeyValues.{values_in}
 use Rattle.file_cursor.specs.CursorPosition.{CursorPosition, entry_of}
 use Rattle.file_cursor.specs.Finding as bytes
@@ -18,12 +19,12 @@ use Rattle.file_cursor.specs.Reading.{AreNumbered, IsByNumber}
 use Rattle.file_cursor.specs.declared.places.Hit.{Hit}
 use Rattle.file_cursor.specs.declared.places.Order.{Order}
 use Rattle.file_cursor.specs.declared.places.Order.TheVariants.{Arrival, Path}
-use Rattle.file_cursor.specs.declared.places.Place.{Place}
-use Rattle.file_cursor.specs.declared.places.Place.TheVariants as places
 use Rattle.open_position.specs.declared.reads.ReadBy.{ReadBy}
 use Rattle.open_position.specs.declared.reads.ReadBy.TheVariants as asked
 use Rattle.open_position.specs.declared.position.Side.{Side}
 use Rattle.open_position.specs.declared.position.Side.TheVariants as sides
+use Rattle.open_position.specs.declared.position.StandAt.{StandAt}
+use Rattle.open_position.specs.declared.position.StandAt.TheVariants as places
 use Rattle.open_position.specs.OpenStand.{AreGivenBytes, HasNoKey, entry_by}
 
 -- ---- setting a position
@@ -33,18 +34,18 @@ side_of sides.Before bound = Before bound
 side_of sides.Past bound = Past bound
 
 -- to this side of a place, by the positions of the file's key
-abbrev pub placed : Side → List KeyPart → Place → Position PathEntry
-placed side parts places.Low = Start
-placed side parts places.High = End
-placed side parts (places.Key key) = side_of side (KeyBound (values_in parts key.now))
-placed side parts (places.Rrn rrn) = side_of side (NumberBound rrn)
+abbrev pub stood : Side → List KeyPart → StandAt → Position PathEntry
+stood side parts places.Low = Start
+stood side parts places.High = End
+stood side parts (places.Values values) = side_of side (KeyBound (given_key parts values.now))
+stood side parts (places.Number rrn) = side_of side (NumberBound rrn)
 
--- the place is one among these formats
-abbrev pub IsPlaceIn : List (List KeyPart) → Place → Type 0
-IsPlaceIn formats places.Low = Unit {0}
-IsPlaceIn formats places.High = Unit {0}
-IsPlaceIn formats (places.Key key) = AreGivenBytes (merged_parts formats) key.now
-IsPlaceIn formats (places.Rrn rrn) = HasNoKey formats
+-- an open of these formats can stand there: by values that its key can have, by a number where it has no key
+abbrev pub IsStandAt : List (List KeyPart) → StandAt → Type 0
+IsStandAt formats places.Low = Unit {0}
+IsStandAt formats places.High = Unit {0}
+IsStandAt formats (places.Values values) = key_fault (merged_parts formats) values.now ≡ None
+IsStandAt formats (places.Number rrn) = HasNoKey formats
 
 -- ---- reading
 

@@ -8,13 +8,16 @@ ghost use Rattle.file_model.specs.Paths.{path};
 ghost use Rattle.file_model.specs.Positions.{Start, On, path_reading, arrival_reading};
 ghost use Rattle.key_order.specs.declared.widths.TheConstants.{MOST_POSITIONS};
 ghost use Rattle.key_order.specs.KeyFields.{ArePositions};
-ghost use Rattle.file_cursor.specs.CursorPosition.{entry_of};
+ghost use Rattle.file_cursor.specs.CursorPosition.{entry_of, key_in, moved_to};
 ghost use Rattle.file_cursor.specs.Finding.{chain_key};
 ghost use Rattle.file_cursor.specs.Reading.{Suits, falls, entries_in};
 ghost use Rattle.open_position.specs.OpenStand.{IsEntryIn};
-ghost use Rattle.open_position.specs.Reads.{placed, IsPlaceIn, asked_of, IsAskedOf, IsOrderOf, IsByPath, IsLookedUp, CanFind, found_of, IfPath, IfArrival, IsPathOver, entry_hit};
+ghost use Rattle.open_position.specs.Kept.{side_in};
+ghost use Rattle.open_position.specs.Reads.{stood, IsStandAt, asked_of, IsAskedOf, IsOrderOf, IsByPath, IsLookedUp, CanFind, found_of, IfPath, IfArrival, IsPathOver, entry_hit};
 
+use crate::given::GivenKey;
 use crate::reads::ReadBy;
+use field_types::values::Value;
 use file_cursor::cursor::{Cursor, chain_key, chain_number};
 use file_cursor::places::{Hit, Order, Place};
 use key_order::widths::bound;
@@ -30,11 +33,24 @@ pub enum Side {
     Past,
 }
 
+/// A place to which a position is set.
+#[derive(Clone, Copy)]
+pub enum StandAt<'a> {
+    /// Before all records (*LOVAL).
+    Low,
+    /// Past all records (*HIVAL).
+    High,
+    /// Before or past the values of the first positions of the key.
+    Values(&'a [Value]),
+    /// Before or past a relative record number.
+    Number(u32),
+}
+
 /// Where an open stands, and where it stood at the last boundary.
 #[derive(Drop)]
 pub struct OpenPosition {
-    /// The positions of the key in the one format that is read; none where it is read by relative record numbers.
-    parts: KeyParts,
+    /// The key of the one format that is read, without positions where it is read by relative record numbers.
+    keys: GivenKey,
     cursor: Cursor,
     /// Whether there is room for the position at a boundary.
     marks: bool,
@@ -46,9 +62,9 @@ impl Model for OpenPosition {
 
     ghost Value = { OpenStand };
 
-    ghost view = { λ p. stand_of p.parts p.cursor p.marks };
+    ghost view = { λ p. stand_of p.keys.parts p.cursor p.marks };
 
-    ghost invariant = { λ p. IsKeptStand p.parts p.cursor p.marks };
+    ghost invariant = { λ p. IsKeptStand p.keys.parts p.cursor p.marks };
 }
 
 impl OpenPosition {
@@ -65,32 +81,38 @@ impl OpenPosition {
         requires allowed { ArePositions parts }
         ensures { IfOk result (λ p. p ≡ record { position = Start; boundary = Start; formats = parts ∷ []; marks = marks }) }
     {
-        let width = bound(parts.as_slice());
-        let cursor = Cursor::with_room(alloc, width, marks)?;
+        let keys = GivenKey::new(alloc, parts)?;
+        let cursor = Cursor::with_room(alloc, bound(keys.parts()), marks)?;
         Ok(OpenPosition {
-            parts,
+            keys,
             cursor,
             marks,
         })
     }
 
-    /// The positions of the key by which it reads. They can be compared with given values.
+    /// The positions of the key by which it reads, in its one format. They can be compared with given values.
     pub fn parts(&self) -> &[KeyPart]
+        ensures one { length self.now.formats ≡ 1 }
         ensures parts { result.now ≡ merged_parts self.now.formats }
         ensures few { length result.now ≤ MOST_POSITIONS }
         ensures allowed { ArePositions result.now }
     {
-        self.parts.as_slice()
+        self.keys.parts()
     }
 
-    /// Stands at this side of a place.
-    pub fn stand(&mut self, side: Side, at: Place<'_>)
-        requires { IsPlaceIn self.old.formats at }
-        ensures { self.new ≡ record self.old { position = placed side (merged_parts self.old.formats) at.entry } }
+    /// Stands at this side of a place. It takes no memory.
+    pub fn stand(&mut self, side: Side, at: StandAt<'_>)
+        requires { IsStandAt self.old.formats at }
+        ensures { self.new ≡ record self.old { position = stood side (merged_parts self.old.formats) at.entry } }
     {
-        match side {
-            Side::Before => self.cursor.setll(at),
-            Side::Past => self.cursor.setgt(at),
+        match at {
+            StandAt::Low => set(&mut self.cursor, side, Place::Low),
+            StandAt::High => set(&mut self.cursor, side, Place::High),
+            StandAt::Values(values) => {
+                self.keys.give(values);
+                set(&mut self.cursor, side, Place::Key(self.keys.bytes()));
+            }
+            StandAt::Number(rrn) => set(&mut self.cursor, side, Place::Rrn(rrn)),
         }
     }
 
@@ -131,6 +153,17 @@ impl OpenPosition {
         keys_are_read_back();
         given_keys_are_read_back();
         found(&self.cursor, over, by)
+    }
+}
+
+/// Stands at this side of a place in bytes.
+fn set(cursor: &mut Cursor, side: Side, to: Place<'_>)
+    requires { length (key_in to) ≤ cursor.old.room }
+    ensures { cursor.new ≡ moved_to (side_in side to.entry) cursor.old }
+{
+    match side {
+        Side::Before => cursor.setll(to),
+        Side::Past => cursor.setgt(to),
     }
 }
 

@@ -15,11 +15,13 @@ use Rattle.member_slots.specs.Member.{records_from}
 use Rattle.member_slots.specs.Members.{NumberedMembers, member_of}
 use Rattle.record_fmt.specs.declared.formats.Field.{Field}
 use Rattle.record_fmt.specs.Layout.{record_length, lies_from}
+use Rattle.record_fmt.specs.Records.{record_held}
 use Rattle.key_spec.specs.declared.KeyPart.{KeyPart}
 use Rattle.key_spec.specs.declared.KeyPart.TheVariants.{Field as KeyField, Absent}
 use Rattle.file_model.specs.declared.views.ViewField.{ViewField}
 use Rattle.file_model.specs.declared.paths.PathFormat.{PathFormat}
 use Rattle.file_model.specs.FilePaths.{field_of_part, key_fields, key_parts, own_fields, every_record, path_format, physical_path}
+use Rattle.file_model.specs.KeyOrder.{at_position, key_of}
 use Rattle.file_model.specs.Paths.{selected_of}
 use Rattle.file_model.specs.Selection.{selects}
 use Rattle.file_model.specs.Views.{view_of}
@@ -124,6 +126,53 @@ askable spec member image keyed is = record {
   few = parts-few spec keyed;
   key = has-key spec image keyed is;
 }
+
+-- ---- the key of a record is the same by the positions of its file
+
+module _ (fields : List Field) (lies : lies_from 0 fields ≡ true) (image : List ℕ) (long : length image ≡ record_length fields) (held_in : is_some (record_held fields image) ≡ true) where
+  within-image : (t : FieldType) (offset : ℕ) → offset + width t ≤ 0 + record_length fields → offset + width t ≤ length image
+  within-image t offset within = omega (arith, long, within)
+
+  own-positions : (parts : List KeyPart) → AllByRecursion (IsPartOf fields) parts → AllByRecursion (λ p. HasPosition p image) parts
+  own-positions [] all = tt
+  own-positions (KeyField t offset descend absval ∷ parts) all =
+      let here = lies-in 0 fields t offset lies all.0 in
+      let own : HasField t offset image = record {
+        allowed = here.allowed;
+        within = within-image t offset here.within;
+        there = here.value image (fields-there fields image held_in);
+      } in
+      (own, own-positions parts all.1)
+  own-positions (Absent ∷ parts) all = absurd all.0
+
+  keys-same : (parts : List KeyPart) → AllByRecursion (IsPartOf fields) parts → (front : List ℕ) (at : ℕ) → at ≡ length front
+      → key_of (key_parts at parts) (front ++ view_of (key_fields (own_fields fields) parts) image) ≡ key_of parts image
+  keys-same [] all front at place = refl
+  keys-same (KeyField t offset descend absval ∷ parts) all front at place =
+      let here = lies-in 0 fields t offset lies all.0 in
+      let piece : List ℕ = part offset (width t) image in
+      let rest : List ℕ = view_of (key_fields (own_fields fields) parts) image in
+      let piece-long : length piece ≡ width t = part-long offset (width t) image (within-image t offset here.within) in
+      let cut : view_of (key_fields (own_fields fields) (KeyField t offset descend absval ∷ parts)) image ≡ piece ++ rest =
+      ap (λ (fs : List ViewField). view_of fs image) (key_fields-first (own_fields fields) (KeyField t offset descend absval) parts (copied_at t offset) here.found) in
+      let whole : (front ++ piece) ++ rest ≡ front ++ view_of (key_fields (own_fields fields) (KeyField t offset descend absval ∷ parts)) image =
+      append_assoc front piece rest ∙ ap (λ (bytes : List ℕ). front ++ bytes) (sym cut) in
+      let more : key_of (key_parts (at + width t) parts) ((front ++ piece) ++ rest) ≡ key_of parts image =
+      keys-same parts all.1 (front ++ piece) (at + width t) (piece-behind front piece at (width t) place piece-long) in
+      let first : part at (width t) ((front ++ piece) ++ rest) ≡ piece = piece-there front piece rest at (width t) place piece-long in
+      ap (key_of (key_parts at (KeyField t offset descend absval ∷ parts))) (sym whole)
+      ∙ (λ i. at_position descend absval (held t (first i)) ∷ more i)
+  keys-same (Absent ∷ parts) all front at place = absurd all.0
+
+-- in a record each position of the file's key has a value
+pub has-own-key : (spec : PhysicalSpec) (image : List ℕ) → IsKeyed spec → length image ≡ record_length spec.format.fields → is_some (record_held spec.format.fields image) ≡ true → HasKey spec.keys.parts image
+has-own-key spec image keyed long held_in =
+    All-from_recursion (λ p. HasPosition p image) spec.keys.parts (own-positions spec.format.fields keyed.laid.lies image long held_in spec.keys.parts (parts-of spec keyed))
+
+-- and its key there is that of the path
+pub own-key : (spec : PhysicalSpec) (image : List ℕ) → IsKeyed spec → length image ≡ record_length spec.format.fields → is_some (record_held spec.format.fields image) ≡ true
+    → key_of (key_parts 0 spec.keys.parts) (view_of (key_fields (own_fields spec.format.fields) spec.keys.parts) image) ≡ key_of spec.keys.parts image
+own-key spec image keyed long held_in = keys-same spec.format.fields keyed.laid.lies image long held_in spec.keys.parts (parts-of spec keyed) [] 0 refl
 
 -- what holds of the format holds of each of the path
 only-format : (P : PathFormat → Type 0) (spec : PhysicalSpec) (member : ℕ) → P (path_format member every_record (own_fields spec.format.fields) spec.keys.parts)

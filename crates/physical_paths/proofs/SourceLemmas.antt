@@ -1,7 +1,8 @@
 -- A source describes fields that lie one behind another, and a key by some of them.
-use Rattle.std.proofs.Common.{◌≡◌, ℕ, ◌≤◌, ◌<◌, ◌&&◌, nat_lt, nat_eq, not, cond, if◌then◌else◌, Bool, true, false, Option, Some, None, is_some, Result, Ok, Err}
-use Rattle.std.proofs.Common.{List, [], ◌∷◌, ◌++◌, length, refl, sym, subst, arith, inl, inr}
+use Rattle.std.proofs.Common.{◌≡◌, ℕ, ◌≤◌, ◌<◌, ◌&&◌, ◌||◌, nat_lt, nat_eq, not, cond, if◌then◌else◌, Bool, true, false, Option, Some, None, is_some, Result, Ok, Err}
+use Rattle.std.proofs.Common.{List, [], ◌∷◌, ◌++◌, length, length-append, refl, sym, subst, arith, inl, inr}
 use lib.Pointwise.{pointwise}
+use Rattle.std.specs.Prelude.{codes}
 use Rattle.std.specs.List.{AllByRecursion}
 use Rattle.std.proofs.lemmas.Bool.{cond_both, ltb-true, ltb-false, or_parts, not-false}
 use Rattle.std.proofs.lemmas.List.Elements.{All-from_recursion}
@@ -16,6 +17,7 @@ use Rattle.key_spec.specs.declared.KeyPart.TheVariants.{Field as KeyField, Absen
 use Rattle.key_order.specs.declared.widths.TheConstants.{MOST_POSITIONS}
 use Rattle.file_model.proofs.PathLemmas.{weaker, all-append}
 use Rattle.dds_source.specs.declared.faults.DdsFault.{DdsFault}
+use Rattle.dds_source.specs.declared.faults.DdsCause.TheVariants.{Conflict}
 use Rattle.dds_source.specs.declared.keywords.Keyword.{Keyword}
 use Rattle.dds_source.specs.declared.specifications.Source.{Source}
 use Rattle.dds_source.specs.declared.specifications.Specification.{Specification}
@@ -30,7 +32,9 @@ use Rattle.dds_physical.specs.Described.{IsDescribed}
 use Rattle.dds_physical.specs.Draft.{nothing, key_part, key_length}
 use Rattle.dds_physical.specs.Lines.{key_place_faults, with_field, with_named_field, with_key, line_faults, line_faults_of, described, described_of}
 use Rattle.dds_physical.specs.Lines.{or_those, unless_faulty, lines_faults, lines_described}
-use Rattle.dds_physical.specs.WholeFile.{whole_faults}
+use Rattle.dds_physical.specs.Keywords.{first_named, is_there}
+use Rattle.dds_physical.specs.Places.{at_keyword}
+use Rattle.dds_physical.specs.WholeFile.{file_faults, has_key, is_key_kind, keyless_unique, whole_faults}
 use Rattle.dds_physical.specs.Physical.{physical_of, faults_of, draft_of, finished, specification}
 use Rattle.dds_physical.proofs.DescribedLemmas.{IsDescribed-more}
 use Rattle.dds_physical.proofs.FirstLemmas.{found_is}
@@ -144,6 +148,33 @@ key-keyed d (Some name) ks there keyed = record {
   positions = all-append (IsPartOf d.fields) d.key_parts (key_part (field_named name d.fields) ks ∷ []) keyed.positions (named-part name d.fields ks there, tt);
 }
 
+-- ---- how many positions there are
+
+no-less : (n : ℕ) → n ≤ n
+no-less n = omega arith
+
+named-longer : (d : _) (name : Option (List ℕ)) (r : Result FieldType DdsFault) (ks : List Keyword)
+    → length (finished d []).keys.parts ≤ length (finished (with_named_field d name r ks) []).keys.parts
+named-longer d None r ks = no-less (length d.key_parts)
+named-longer d (Some name) (Err fault) ks = no-less (length d.key_parts)
+named-longer d (Some name) (Ok t) ks = no-less (length d.key_parts)
+
+field-longer : (d : _) (name : Option (List ℕ)) (r : Result FieldType DdsFault) (ks : List Keyword)
+    → length (finished d []).keys.parts ≤ length (finished (with_field d name r ks) []).keys.parts
+field-longer d name r ks =
+    elim (nat_lt (length d.fields) 1000) as (λ b. length d.key_parts ≤ length (if not b then d else with_named_field d name r ks).key_parts) [
+      | true ↦ named-longer d name r ks
+      | false ↦ no-less (length d.key_parts)
+    ]
+
+key-longer : (d : _) (name : Option (List ℕ)) (ks : List Keyword) → length (finished d []).keys.parts ≤ length (finished (with_key d name ks) []).keys.parts
+key-longer d None ks = no-less (length d.key_parts)
+key-longer d (Some name) ks = (let more = length-append d.key_parts (key_part (field_named name d.fields) ks ∷ []) in omega (arith, more))
+
+key-first : (d : _) (name : Option (List ℕ)) (ks : List Keyword) → is_field name (finished d []).format.fields ≡ true → 1 ≤ length (finished (with_key d name ks) []).keys.parts
+key-first d None ks there = absurd cc
+key-first d (Some name) ks there = (let more = length-append d.key_parts (key_part (field_named name d.fields) ks ∷ []) in omega (arith, more))
+
 module _ (formats : List ℕ → Option Format) (file : Option (List ℕ)) where
   -- the field of a key's line is there
   key-there : (d : _) (s : Specification) → line_faults_of formats file d s kinds.Key ≡ [] → is_field (name_of s.name) (finished d []).format.fields ≡ true
@@ -177,6 +208,72 @@ module _ (formats : List ℕ → Option Format) (file : Option (List ℕ)) where
         | f ∷ fs ↦ λ is later. absurd cc
       ] refl none
 
+  -- ---- a key's line gives a position, which later lines leave
+
+  line-longer : (d : _) (s : Specification) (kind : SpecificationKind) → length (finished d []).keys.parts ≤ length (finished (described_of formats file d s kind) []).keys.parts
+  line-longer d s kinds.Record = no-less (length d.key_parts)
+  line-longer d s kinds.Field = field-longer d (name_of s.name) (typed formats file d.fields s) s.keywords
+  line-longer d s kinds.Key = key-longer d (name_of s.name) s.keywords
+  line-longer d s kinds.Select = no-less (length d.key_parts)
+  line-longer d s kinds.Omit = no-less (length d.key_parts)
+  line-longer d s kinds.And = no-less (length d.key_parts)
+  line-longer d s kinds.Join = no-less (length d.key_parts)
+
+  one-longer : (d : _) (s : Specification) → length (finished d []).keys.parts ≤ length (finished (described formats file d s) []).keys.parts
+  unfolding described
+  one-longer d s = line-longer d s s.kind
+
+  lines-longer : (d : _) (ss : List Specification) → lines_faults formats file d ss ≡ []
+      → length (finished d []).keys.parts ≤ length (finished (lines_described formats file d ss) []).keys.parts
+  lines-longer d [] none = no-less (length d.key_parts)
+  lines-longer d (s ∷ ss) none =
+      elim (line_faults formats file d s) as (λ fs. or_those fs (lines_faults formats file (described formats file d s) ss) ≡ []
+      → length d.key_parts ≤ length (unless_faulty fs (described formats file d s) (lines_described formats file (described formats file d s) ss)).key_parts) [
+        | [] ↦ λ later. (let first = one-longer d s in let rest = lines-longer (described formats file d s) ss later in omega (arith, first, rest))
+        | f ∷ fs ↦ λ later. absurd cc
+      ] none
+
+  line-first : (d : _) (s : Specification) (kind : SpecificationKind) → line_faults_of formats file d s kind ≡ [] → is_key_kind kind ≡ true
+      → 1 ≤ length (finished (described_of formats file d s kind) []).keys.parts
+  line-first d s kinds.Record none key = absurd cc
+  line-first d s kinds.Field none key = absurd cc
+  line-first d s kinds.Key none key = key-first d (name_of s.name) s.keywords (key-there d s none)
+  line-first d s kinds.Select none key = absurd cc
+  line-first d s kinds.Omit none key = absurd cc
+  line-first d s kinds.And none key = absurd cc
+  line-first d s kinds.Join none key = absurd cc
+
+  one-first : (d : _) (s : Specification) → line_faults formats file d s ≡ [] → is_key_kind s.kind ≡ true → 1 ≤ length (finished (described formats file d s) []).keys.parts
+  unfolding line_faults described
+  one-first d s none key = line-first d s s.kind none key
+
+  lines-first : (d : _) (ss : List Specification) → lines_faults formats file d ss ≡ [] → has_key ss ≡ true → 1 ≤ length (finished (lines_described formats file d ss) []).keys.parts
+  lines-first d [] none key = absurd cc
+  lines-first d (s ∷ ss) none key =
+      elim (line_faults formats file d s) as (λ fs. line_faults formats file d s ≡ fs → or_those fs (lines_faults formats file (described formats file d s) ss) ≡ []
+      → 1 ≤ length (unless_faulty fs (described formats file d s) (lines_described formats file (described formats file d s) ss)).key_parts) [
+        | [] ↦ λ clear later. either clear later (λ any. lines-first (described formats file d s) ss later any) (is_key_kind s.kind) refl key
+        | f ∷ fs ↦ λ is later. absurd cc
+      ] refl none
+    where
+      either : line_faults formats file d s ≡ [] → lines_faults formats file (described formats file d s) ss ≡ []
+          → (has_key ss ≡ true → 1 ≤ length (finished (lines_described formats file (described formats file d s) ss) []).keys.parts)
+          → (b : Bool) → is_key_kind s.kind ≡ b → (b || has_key ss) ≡ true → 1 ≤ length (finished (lines_described formats file (described formats file d s) ss) []).keys.parts
+      either clear later rest true here any =
+          let first = one-first d s clear here in
+          let more = lines-longer (described formats file d s) ss later in
+          omega (arith, first, more)
+      either clear later rest false here any = rest any
+
+-- UNIQUE stands in a file with a key
+unique-keyed : (has : Bool) (ks : List Keyword) → at_keyword Conflict (keyless_unique has ks) ≡ [] → is_there (codes "UNIQUE") ks ≡ true → has ≡ true
+unique-keyed true ks none there = refl
+unique-keyed false ks none there = by (first_named (codes "UNIQUE") ks) none there
+  where
+    by : (o : Option Keyword) → at_keyword Conflict o ≡ [] → is_some o ≡ true → false ≡ true
+    by None none there = absurd cc
+    by (Some k) none there = absurd cc
+
 -- ---- the file
 
 -- each position has a byte
@@ -191,12 +288,14 @@ parts-short fields lies (Absent ∷ parts) all = absurd all.0
 few-positions : (n most : ℕ) → n ≤ most → most ≤ 120 → n ≤ MOST_POSITIONS
 few-positions n most less low = let few : n ≤ 65535 = omega (arith, less, low) in few
 
-file-keyed : (spec : PhysicalSpec) → AreKeyed spec.format.fields spec.keys.parts → record_length spec.format.fields ≤ 32766 → key_length spec.keys.parts ≤ 120 → IsKeyed spec
-file-keyed spec keyed narrow short = record {
+file-keyed : (spec : PhysicalSpec) → AreKeyed spec.format.fields spec.keys.parts → record_length spec.format.fields ≤ 32766 → key_length spec.keys.parts ≤ 120
+    → (spec.keys.unique ≡ true → 1 ≤ length spec.keys.parts) → IsKeyed spec
+file-keyed spec keyed narrow short some = record {
   laid = record { few = keyed.described.few; narrow = narrow; lies = keyed.described.lies };
   parts = All-from_recursion (IsFieldPart spec.format.fields) spec.keys.parts
       (weaker (IsPartOf spec.format.fields) (IsFieldPart spec.format.fields) (of-part spec.format.fields) spec.keys.parts keyed.positions);
   few = few-positions (length spec.keys.parts) (key_length spec.keys.parts) (parts-short spec.format.fields keyed.described.lies spec.keys.parts keyed.positions) short;
+  some = some;
 }
 
 nothing-keyed : AreKeyed [] []
@@ -209,10 +308,13 @@ source-keyed formats source none =
     let whole : whole_faults source.last_line source.specifications (draft_of formats source) ≡ [] = none-right _ _ none in
     let keyed : AreKeyed (draft_of formats source).fields (draft_of formats source).key_parts =
     all-lines formats (reference_file source.file) nothing source.specifications lines nothing-keyed in
+    let file : file_faults formats source.file source.specifications ≡ [] = none-right _ _ (none-left _ _ none) in
+    let keyless : at_keyword Conflict (keyless_unique (has_key source.specifications) source.file) ≡ [] = none-right _ _ (none-left _ _ file) in
     let narrow : nat_lt 32766 (record_length (draft_of formats source).fields) ≡ false = not-said _ _ (none-left _ _ (none-left _ _ whole)) in
     let short : nat_lt 120 (key_length (draft_of formats source).key_parts) ≡ false = not-said _ _ (none-right _ _ (none-left _ _ whole)) in
     file-keyed (finished (draft_of formats source) source.file) keyed
     (ltb-false 32766 (record_length (draft_of formats source).fields) narrow) (ltb-false 120 (key_length (draft_of formats source).key_parts) short)
+    (λ unique. lines-first formats (reference_file source.file) nothing source.specifications lines (unique-keyed (has_key source.specifications) source.file keyless unique))
 
 pub described-keyed : (formats : List ℕ → Option Format) (source : Source) (spec : PhysicalSpec) → physical_of formats source ≡ Ok spec → IsKeyed spec
 described-keyed formats source spec h =

@@ -18,11 +18,12 @@ abbrev pub IsFieldPart : List Field → KeyPart → Type 0
 IsFieldPart fields (KeyField t offset descend absval) = Any (λ f. (f.ty ≡ t) × (f.offset ≡ offset)) fields
 IsFieldPart fields Absent = ⊥
 
--- its fields lie one behind another, and the positions of its key are some of them
+-- its fields lie one behind another, the positions of its key are some of them, and it has a key where no two records may have one key
 pub record IsKeyed (spec : PhysicalSpec) : Type 0 where
   pub laid : IsLaidOut spec.format.fields
   pub parts : All (IsFieldPart spec.format.fields) spec.keys.parts
   pub few : length spec.keys.parts ≤ MOST_POSITIONS
+  pub some : spec.keys.unique ≡ true → 1 ≤ length spec.keys.parts
 
 -- the image is one of a record with these fields: it has a value in each
 pub record IsRecord (fields : List Field) (image : List ℕ) : Type 0 where

@@ -14,7 +14,7 @@ use Rattle.journal_model.specs.Walks.{Numbered, number_change, numbered, is_met,
 use Rattle.range_images.specs.declared.slot_given.SlotGiven.{SlotGiven}
 use Rattle.range_images.specs.Given.{given_forward, AreInPlace, place_given}
 use Rattle.range_images.proofs.GivenLemmas.{slot_of-past}
-use Rattle.range_requests.specs.Walks.{AddRecords}
+use Rattle.library_parts.specs.Given.{AddRecords}
 
 elsewhere-none : (kind : EntryKind) (e : Entry) → change_of (act_elsewhere kind e) ≡ None
 elsewhere-none (FileCreated kind name source) e = refl

@@ -1,5 +1,5 @@
 -- What is answered once the slots of a plan were put and its entries deposited.
-use Rattle.std.proofs.Common.{◌≡◌, Result, Ok, true, refl, sym, ap, subst}
+use Rattle.std.proofs.Common.{◌≡◌, Bool, Result, Ok, Err, true, refl, sym, ap, subst, ◌∙◌}
 use Rattle.member_slots.specs.Members.{NumberedMembers}
 use Rattle.library_model.specs.declared.replies.Reply.{Reply}
 use Rattle.library_model.specs.declared.replies.Reply.TheVariants as replies
@@ -7,10 +7,12 @@ use Rattle.library_steps.specs.State.{State, memory_of}
 use Rattle.library_steps.specs.Change.{Change, does, journaled}
 use Rattle.library_steps.specs.Ranges.{RangeWork, range_change, with_range}
 use Rattle.library_parts.specs.Answers.{Answers}
+use Rattle.library_parts.specs.declared.stop.Stop.{Stop}
+use Rattle.library_steps.specs.Refusals.{◌>>=◌}
 use Rattle.draft_list.specs.Deposits.{Leaves}
 use Rattle.range_requests.specs.declared.plans.Plan.{Plan}
-use Rattle.range_requests.specs.Puts.{with_given}
-use Rattle.range_requests.specs.Plans.{IsPlanOf}
+use Rattle.library_parts.specs.Given.{with_given}
+use Rattle.range_requests.specs.Plans.{IsPlanOf, keys_apart}
 use Rattle.range_requests.proofs.PlanLemmas.{same-members}
 
 abbrev pub plan_change : State → Plan → Change
@@ -27,6 +29,18 @@ give-answers old new work plan is left =
     let same = change-is old work plan is in
     (range_change (memory_of old) work, refl, ap (λ (c : Change). c.reply) same, subst (Leaves old new) (sym same) left)
 
-pub done-answers : (old new : State) (reply : Reply) (plan : Result RangeWork Reply) (work : RangeWork) → plan ≡ Ok work → Answers old new (Ok reply) (Ok (range_change (memory_of old) work))
-    → Answers old new (Ok reply) (does (range_change (memory_of old)) plan)
-done-answers old new reply plan work is answers = subst (Answers old new (Ok reply)) (sym (ap (does (range_change (memory_of old))) is)) answers
+-- where the keys are apart, what is done is the change
+pub kept-answers : (old new : State) (result : Result Reply Stop) (work : RangeWork) → keys_apart old work ≡ Ok true → Answers old new result (Ok (range_change (memory_of old) work))
+    → Answers old new result (keys_apart old work >>= λ apart. Ok (range_change (memory_of old) work))
+kept-answers old new result work apart answers =
+    subst (Answers old new result) (sym (ap (λ (r : Result Bool Reply). r >>= λ v. Ok (range_change (memory_of old) work)) apart)) answers
+
+pub done-answers : (old new : State) (result : Result Reply Stop) (plan : Result RangeWork Reply) (work : RangeWork) → plan ≡ (keys_apart old work >>= λ apart. Ok work)
+    → Answers old new result (keys_apart old work >>= λ apart. Ok (range_change (memory_of old) work))
+    → Answers old new result (does (range_change (memory_of old)) plan)
+done-answers old new result plan work is answers =
+    subst (Answers old new result) (sym (ap (does (range_change (memory_of old))) is ∙ through (keys_apart old work))) answers
+  where
+    through : (r : Result Bool Reply) → does (range_change (memory_of old)) (r >>= λ apart. Ok work) ≡ (r >>= λ apart. Ok (range_change (memory_of old) work))
+    through (Ok b) = refl
+    through (Err reply) = refl

@@ -9,7 +9,7 @@ use Rattle.range_images.specs.declared.slot_given.SlotGiven.{SlotGiven}
 use Rattle.range_requests.specs.declared.found.Found.{Found}
 use Rattle.range_requests.specs.declared.walks.Walk.{Walk}
 use Rattle.range_requests.specs.Fits.{IsFit}
-use Rattle.range_requests.specs.Walks.{AddRecords}
+use Rattle.library_parts.specs.Given.{AddRecords}
 use Rattle.range_requests.specs.Plans.{IsKept}
 use Rattle.range_requests.specs.Steps.{IsFitWalk, slots_of}
 

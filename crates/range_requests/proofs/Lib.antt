@@ -1,8 +1,7 @@
 pub mod EndLemmas
 pub mod AddLemmas
 pub mod WalkLemmas
-pub mod PutLemmas
-pub mod StoodLemmas
+pub mod TellLemmas
 pub mod PlanLemmas
 pub mod AnswerLemmas
 pub mod ReadLemmas

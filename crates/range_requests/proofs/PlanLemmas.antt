@@ -23,8 +23,6 @@ use Rattle.library_model.specs.declared.requests.JournaledChanges.{JournaledChan
 use Rattle.library_model.specs.declared.replies.Reply.{Reply}
 use Rattle.library_model.specs.declared.replies.Reply.TheVariants as replies
 use Rattle.library_model.specs.declared.replies.LimitKind.TheVariants.{LibraryBytes, BlockBytes}
-use Rattle.library_model.specs.Named.{Named}
-use Rattle.built_state.specs.Unkeyed.{AreUnkeyed}
 use Rattle.file_catalogue.specs.Owners.{Owns}
 use Rattle.library_steps.specs.declared.limits.TheConstants.{MOST_LIBRARY_BYTES, MOST_BLOCK_BYTES, LAST_SEQUENCE}
 use Rattle.library_steps.specs.State.{State, Memory, FileState, MemberStatus, fields_of, memory_of}
@@ -33,7 +31,6 @@ use Rattle.library_steps.specs.Drafts.{Author, author_of}
 use Rattle.library_steps.specs.EntrySizes.{entry_bytes, entry_size, body_size}
 use Rattle.library_steps.specs.Refusals.{◌>>=◌, refuse_if}
 use Rattle.library_steps.specs.Ranges.{Range, RangeWork, Given, allowed, apply_plan, done_or_refused, given_forward, given_back, library_bytes, range_between, range_named, remove_plan, slots_now, told, with_range, work_of}
-use Rattle.library_steps.specs.UniqueKeys.{all_apart, unique_paths}
 use Rattle.library_parts.specs.declared.stop.Stop.{Stop}
 use Rattle.library_parts.specs.declared.stop.Stop.TheVariants.{NoMemory, Refused}
 use Rattle.library_parts.specs.Answers.{Allows}
@@ -49,10 +46,10 @@ use Rattle.range_requests.specs.declared.plans.Plan.{Plan}
 use Rattle.range_requests.specs.Kinds.{kind_of}
 use Rattle.range_requests.specs.Fits.{FitsFields, IsFit}
 use Rattle.range_requests.specs.Walks.{IsWalked, Walks, as_given}
-use Rattle.range_requests.specs.Puts.{IsGivable, MayGive, given_to, members_given}
-use Rattle.range_requests.proofs.PutLemmas.{grows}
-use Rattle.range_requests.specs.Plans.{Finds, GivesPlan, IsKept, IsPlanOf}
-use Rattle.built_state.proofs.UniqueLemmas.{all_apart-unkeyed}
+use Rattle.library_parts.specs.Slots.{MayStand}
+use Rattle.library_parts.specs.Given.{FitsMember, MayGive, members_given}
+use Rattle.library_parts.proofs.GivenLemmas.{grows}
+use Rattle.range_requests.specs.Plans.{Finds, GivesPlan, IsKept, IsPlanOf, keys_apart}
 use Rattle.range_requests.specs.Steps.{IsFitWalk, IsToldBy, IsWithin, limits, slots_of}
 
 -- ---- the steps of a plan
@@ -99,40 +96,34 @@ entry_bytes-numbered n [] = refl
 entry_bytes-numbered n (d ∷ drafts) =
     sum_by-cons entry_size (numbered d n) (numbered_from (n + 1) drafts) ∙ ap (λ (k : ℕ). 49 + body_size d.kind + k) (entry_bytes-numbered (n + 1) drafts) ∙ sym (sum_by-cons draft_size d drafts)
 
-paths-none : (member : ℕ) (m after : Memory) → AreUnkeyed m.files → all_apart (unique_paths member m) after ≡ Ok true
-paths-none member m after all = all_apart-unkeyed member m after all
-
-refusals-join : (a b : Bool) (r q : Reply) (work : RangeWork) → (refuse_if a r >>= λ t. refuse_if b q >>= λ u. Ok work) ≡ ((refuse_if a r >>= λ t. refuse_if b q) >>= λ u. Ok work)
-refusals-join true b r q work = refl
-refusals-join false true r q work = refl
-refusals-join false false r q work = refl
+refusals-join : {A : Type 0} (a b : Bool) (r q : Reply) (rest : Result A Reply) → (refuse_if a r >>= λ t. refuse_if b q >>= λ u. rest) ≡ ((refuse_if a r >>= λ t. refuse_if b q) >>= λ u. rest)
+refusals-join true b r q rest = refl
+refusals-join false true r q rest = refl
+refusals-join false false r q rest = refl
 
 pub same-members : (s : State) (work : RangeWork) (plan : Plan) → IsPlanOf s work plan → (with_range work.range work.done (memory_of s)).members ≡ members_given plan.member plan.given.items s.members
 same-members s work plan is =
     ap (λ (n : ℕ). with_member n (record (member_of n s.members) { slots = work.done.slots }) s.members) is.number
     ∙ ap (λ (slots : List Slot). with_member plan.member (record (member_of plan.member s.members) { slots = slots }) s.members) is.slots
 
-pub allowed-is : (s : State) (work : RangeWork) (plan : Plan) → IsPlanOf s work plan → AreUnkeyed s.files → allowed work (memory_of s) ≡ (limits s plan >>= λ t. Ok work)
-allowed-is s work plan is unkeyed =
+-- the limits come first, and then the keys
+pub allowed-is : (s : State) (work : RangeWork) (plan : Plan) → IsPlanOf s work plan → allowed work (memory_of s) ≡ (limits s plan >>= λ t. (keys_apart s work >>= λ v. Ok work))
+allowed-is s work plan is =
     let m = memory_of s in
     let members = same-members s work plan is in
     let bytes : entry_bytes (deposited m work.drafts) ≡ draft_bytes plan.drafts.items = entry_bytes-numbered (m.last_entry + 1) work.drafts ∙ ap (λ (ds : List Draft). draft_bytes ds) is.drafts in
     ap (λ (ms : NumberedMembers). refuse_if (nat_lt MOST_LIBRARY_BYTES (library_bytes ms)) (replies.LimitReached LibraryBytes MOST_LIBRARY_BYTES) >>= λ t.
-    refuse_if (nat_lt MOST_BLOCK_BYTES (entry_bytes (deposited m work.drafts))) (replies.LimitReached BlockBytes MOST_BLOCK_BYTES) >>= λ u.
-    all_apart (unique_paths work.range.status.number m) (with_range work.range work.done m) >>= λ v. Ok work) members
+    refuse_if (nat_lt MOST_BLOCK_BYTES (entry_bytes (deposited m work.drafts))) (replies.LimitReached BlockBytes MOST_BLOCK_BYTES) >>= λ u. keys_apart s work >>= λ v. Ok work) members
     ∙ ap (λ (k : ℕ). refuse_if (nat_lt MOST_LIBRARY_BYTES (library_bytes (members_given plan.member plan.given.items s.members))) (replies.LimitReached LibraryBytes MOST_LIBRARY_BYTES) >>= λ t.
-    refuse_if (nat_lt MOST_BLOCK_BYTES k) (replies.LimitReached BlockBytes MOST_BLOCK_BYTES) >>= λ u.
-    all_apart (unique_paths work.range.status.number m) (with_range work.range work.done m) >>= λ v. Ok work) bytes
-    ∙ ap (λ (r : Result Bool Reply). refuse_if (nat_lt MOST_LIBRARY_BYTES (library_bytes (members_given plan.member plan.given.items s.members))) (replies.LimitReached LibraryBytes MOST_LIBRARY_BYTES) >>= λ t.
-    refuse_if (nat_lt MOST_BLOCK_BYTES (draft_bytes plan.drafts.items)) (replies.LimitReached BlockBytes MOST_BLOCK_BYTES) >>= λ u. r >>= λ v. Ok work)
-    (paths-none work.range.status.number m (with_range work.range work.done m) unkeyed)
-    ∙ refusals-join (nat_lt MOST_LIBRARY_BYTES (library_bytes (members_given plan.member plan.given.items s.members))) (nat_lt MOST_BLOCK_BYTES (draft_bytes plan.drafts.items)) _ _ work
+    refuse_if (nat_lt MOST_BLOCK_BYTES k) (replies.LimitReached BlockBytes MOST_BLOCK_BYTES) >>= λ u. keys_apart s work >>= λ v. Ok work) bytes
+    ∙ refusals-join (nat_lt MOST_LIBRARY_BYTES (library_bytes (members_given plan.member plan.given.items s.members))) (nat_lt MOST_BLOCK_BYTES (draft_bytes plan.drafts.items)) _ _
+    (keys_apart s work >>= λ v. Ok work)
 
-pub limits-hold : (s : State) (work : RangeWork) (plan : Plan) → IsPlanOf s work plan → AreUnkeyed s.files → limits s plan ≡ Ok true → allowed work (memory_of s) ≡ Ok work
-limits-hold s work plan is unkeyed hold = allowed-is s work plan is unkeyed ∙ ap (λ (r : Result Bool Reply). r >>= λ t. Ok work) hold
+pub limits-hold : (s : State) (work : RangeWork) (plan : Plan) → IsPlanOf s work plan → limits s plan ≡ Ok true → allowed work (memory_of s) ≡ (keys_apart s work >>= λ v. Ok work)
+limits-hold s work plan is hold = allowed-is s work plan is ∙ ap (λ (r : Result Bool Reply). r >>= λ t. (keys_apart s work >>= λ v. Ok work)) hold
 
-pub limits-refuse : (s : State) (work : RangeWork) (plan : Plan) (reply : Reply) → IsPlanOf s work plan → AreUnkeyed s.files → limits s plan ≡ Err reply → allowed work (memory_of s) ≡ Err reply
-limits-refuse s work plan reply is unkeyed hold = allowed-is s work plan is unkeyed ∙ ap (λ (r : Result Bool Reply). r >>= λ t. Ok work) hold
+pub limits-refuse : (s : State) (work : RangeWork) (plan : Plan) (reply : Reply) → IsPlanOf s work plan → limits s plan ≡ Err reply → allowed work (memory_of s) ≡ Err reply
+limits-refuse s work plan reply is hold = allowed-is s work plan is ∙ ap (λ (r : Result Bool Reply). r >>= λ t. (keys_apart s work >>= λ v. Ok work)) hold
 
 limits-both : (a b : Bool) (r q : Reply) → (refuse_if a r >>= λ t. refuse_if b q) ≡ Ok true → (a ≡ false) × (b ≡ false)
 limits-both true b r q h = absurd cc
@@ -168,18 +159,23 @@ values-of : (fields : List Field) (slot : Slot) → FitsFields fields slot → H
 values-of fields (Live image) fits = fits.values
 values-of fields Deleted fits = tt
 
-each-givable : (s : State) (number : ℕ) (name : List ℕ) (file : FileState) (given : List SlotGiven) → Owns s.files name file number → (member_of number s.members).record_length ≡ record_length (fields_of file)
-    → ((name : List ℕ) (file : FileState) → Owns s.files name file number → AllByRecursion (IsFit (fields_of file)) given) → AllByRecursion (IsGivable s number) given
-each-givable s number name file [] owns long fit = tt
-each-givable s number name file (g ∷ given) owns long fit = (
+each-fits : (s : State) (number : ℕ) (name : List ℕ) (file : FileState) (given : List SlotGiven) → Owns s.files name file number → (member_of number s.members).record_length ≡ record_length (fields_of file)
+    → ((name : List ℕ) (file : FileState) → Owns s.files name file number → AllByRecursion (IsFit (fields_of file)) given) → AllByRecursion (FitsMember (member_of number s.members).record_length) given
+each-fits s number name file [] owns long fit = tt
+each-fits s number name file (g ∷ given) owns long fit = (
   record {
     fits = fits-slot (fields_of file) (member_of number s.members).record_length g.slot long (fit name file owns).0.slot;
-    values = λ other another owned. values-of (fields_of another) g.slot (fit other another owned).0.slot;
     few = (fit name file owns).0.place.few;
     small = subst (λ (n : ℕ). g.rrn * n ≤ MOST_BYTES) (sym long) (fit name file owns).0.place.small;
   },
-  each-givable s number name file given owns long (λ other another owned. (fit other another owned).1),
+  each-fits s number name file given owns long (λ other another owned. (fit other another owned).1),
 )
+
+each-stands : (s : State) (number : ℕ) (given : List SlotGiven)
+    → ((name : List ℕ) (file : FileState) → Owns s.files name file number → AllByRecursion (IsFit (fields_of file)) given) → AllByRecursion (λ (g : SlotGiven). MayStand s number g.slot) given
+each-stands s number [] fit = tt
+each-stands s number (g ∷ given) fit =
+    (λ name file owns. values-of (fields_of file) g.slot (fit name file owns).0.slot, each-stands s number given (λ other another owned. (fit other another owned).1))
 
 pub may-give : (s : State) (found : Found) (walk : Walk) (plan : Plan) (answer : Result RangeDone RangeFault) (gives : List Numbered → List Given) → IsKept s found → IsFitWalk s found walk
     → IsWalked answer (slots_of s found.member) gives walk → plan.member ≡ found.member → plan.given.items ≡ walk.given.items → limits s plan ≡ Ok true → MayGive s plan.member plan.given.items
@@ -190,9 +186,8 @@ may-give s found walk plan answer gives kept fit walked member given hold =
     let same : library_bytes (members_given found.member walk.given.items s.members) ≡ library_bytes (members_given plan.member plan.given.items s.members) = (λ i. library_bytes (members_given (sym member i) (sym given i) s.members)) in
     let may : MayGive s found.member walk.given.items = record {
       there = IsThere-IsSome (fields_of found.file.now) found.member s.members kept.has;
-      places = walked.places;
-      records = fit.records;
-      each = each-givable s found.member kept.name found.file.now walk.given.items kept.owns has.long fit.fit;
+      takes = record { places = walked.places; records = fit.records; each = each-fits s found.member kept.name found.file.now walk.given.items kept.owns has.long fit.fit };
+      values = each-stands s found.member walk.given.items fit.fit;
       bytes = omega (arith, same, bytes);
     } in
     subst (λ (n : ℕ). MayGive s n plan.given.items) (sym member) (subst (MayGive s found.member) (sym given) may)

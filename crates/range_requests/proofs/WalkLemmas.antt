@@ -25,7 +25,8 @@ use Rattle.range_images.specs.Images.{applied_answer, removed_answer, range_done
 use Rattle.range_images.specs.Sides.{first_sequence}
 use Rattle.range_requests.specs.declared.walks.Walk.{Walk}
 use Rattle.range_requests.specs.Stops.{bound_stop, images_stop}
-use Rattle.range_requests.specs.Walks.{IsWalked, Walks, AddRecords, as_given}
+use Rattle.library_parts.specs.Given.{AddRecords}
+use Rattle.range_requests.specs.Walks.{IsWalked, Walks, as_given}
 use Rattle.range_requests.proofs.EndLemmas.{first-take, first-numbered, numbered-drop, length-take, length-drop, same-first}
 use Rattle.range_requests.proofs.AddLemmas.{applied-adds}
 

@@ -1,7 +1,6 @@
 pub mod Fits
 pub mod Ends
 pub mod Walks
-pub mod Puts
 pub mod Plans
 pub mod Stops
 pub mod Kinds

@@ -1,10 +1,12 @@
 -- What a plan has of the work that a request does.
-use Rattle.std.specs.Prelude.{◌≡◌, ℕ, ◌+◌, ◌≤◌, Result, Ok, Err, List, length}
+use Rattle.std.specs.Prelude.{◌≡◌, ℕ, ◌+◌, ◌≤◌, Bool, Result, Ok, Err, List, length}
 use Rattle.member_slots.specs.Members.{member_at, member_of}
 use Rattle.file_catalogue.specs.Owners.{Owns}
 use Rattle.library_model.specs.declared.replies.Reply.{Reply}
 use Rattle.library_steps.specs.State.{State, MemberStatus, fields_of, memory_of}
-use Rattle.library_steps.specs.Ranges.{Range, RangeWork, range_between}
+use Rattle.library_steps.specs.Ranges.{Range, RangeWork, range_between, with_range}
+use Rattle.library_steps.specs.Refusals.{◌>>=◌}
+use Rattle.library_steps.specs.UniqueKeys.{all_apart, unique_paths}
 use Rattle.library_parts.specs.declared.stop.Stop.{Stop}
 use Rattle.library_parts.specs.declared.stop.Stop.TheVariants.{NoMemory, Refused}
 use Rattle.library_parts.specs.Lawful.{IsThere}
@@ -32,6 +34,10 @@ Finds s (Ok found) wanted = (range : Range) × (wanted ≡ Ok range) × IsFound 
 Finds s (Err NoMemory) wanted = ⊥
 Finds s (Err (Refused reply)) wanted = wanted ≡ Err reply
 
+-- no unique path of the member would have two records with one key
+abbrev pub keys_apart : State → RangeWork → Result Bool Reply
+keys_apart s work = all_apart (unique_paths work.range.status.number (memory_of s)) (with_range work.range work.done (memory_of s))
+
 -- the plan has the member, the slots and the entries of the work, and what is answered
 pub record IsPlanOf (s : State) (work : RangeWork) (plan : Plan) : Type 0 where
   pub number : work.range.status.number ≡ plan.member
@@ -41,7 +47,8 @@ pub record IsPlanOf (s : State) (work : RangeWork) (plan : Plan) : Type 0 where
   pub last : work.done.last ≡ plan.last
   pub count : length work.done.changes ≡ plan.changes
 
+-- the plan of the work, which equal keys may still refuse
 abbrev pub GivesPlan : State → Result Plan Stop → Result RangeWork Reply → Type 0
-GivesPlan s (Ok plan) wanted = (work : RangeWork) × (wanted ≡ Ok work) × IsPlanOf s work plan
+GivesPlan s (Ok plan) wanted = (work : RangeWork) × (wanted ≡ (keys_apart s work >>= λ apart. Ok work)) × IsPlanOf s work plan
 GivesPlan s (Err NoMemory) wanted = Unit {0}
 GivesPlan s (Err (Refused reply)) wanted = wanted ≡ Err reply

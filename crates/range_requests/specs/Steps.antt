@@ -28,8 +28,8 @@ use Rattle.range_requests.specs.declared.plans.Plan.{Plan}
 use Rattle.range_requests.specs.declared.plans.Read.{Read}
 use Rattle.range_requests.specs.Kinds.{kind_of}
 use Rattle.range_requests.specs.Fits.{IsFit}
-use Rattle.range_requests.specs.Walks.{AddRecords, Walks, as_given}
-use Rattle.range_requests.specs.Puts.{members_given}
+use Rattle.library_parts.specs.Given.{AddRecords, members_given}
+use Rattle.range_requests.specs.Walks.{Walks, as_given}
 
 -- the slots of the member as they stand
 abbrev pub slots_of : State → ℕ → List Slot

@@ -1,8 +1,6 @@
 -- What is known of the slots that going through a range gives to a member?
-use Rattle.std.specs.Prelude.{◌≡◌, ◌<◌, true, Result, Ok, Err, List, [], ◌∷◌, length, map}
+use Rattle.std.specs.Prelude.{◌≡◌, Result, Ok, Err, List, [], ◌∷◌, length, map}
 use Rattle.member_slots.specs.declared.slot.Slot.{Slot}
-use Rattle.member_slots.specs.Member.{is_live}
-use Rattle.journal_model.specs.Places.{put_slot}
 use Rattle.journal_model.specs.Walks.{Numbered, RangeFault}
 use Rattle.journal_model.specs.Ranges.{RangeDone}
 use Rattle.library_steps.specs.Ranges.{Given, done_or_refused}
@@ -31,8 +29,3 @@ abbrev pub Walks : Result Walk Stop → Result RangeDone RangeFault → List Slo
 Walks (Ok walk) answer slots gives = IsWalked answer slots gives walk
 Walks (Err NoMemory) answer slots gives = Unit {0}
 Walks (Err (Refused reply)) answer slots gives = done_or_refused answer ≡ Err reply
-
--- what is given behind the last slot is a record
-abbrev pub AddRecords : List SlotGiven → List Slot → Type 0
-AddRecords [] slots = Unit {0}
-AddRecords (g ∷ given) slots = (length slots < g.rrn → is_live g.slot ≡ true) × AddRecords given (put_slot slots (place_given g) g.slot)

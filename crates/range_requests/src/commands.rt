@@ -1,23 +1,23 @@
 //! APYJRNCHG and RMVJRNCHG.
-ghost use Rattle.std.specs.Prelude.{◌≡◌, ◌+◌, ◌≤◌, length, Ok, IsTrue, OnOk};
-ghost use Rattle.built_state.specs.Unkeyed.{AreUnkeyed};
+ghost use Rattle.std.specs.Prelude.{◌≡◌, ◌+◌, ◌≤◌, length, Ok, IsTrue, IfOk, OnOk};
 ghost use Rattle.member_slots.specs.Members.{member_of};
 ghost use Rattle.library_steps.specs.History.{is_running};
 ghost use Rattle.library_steps.specs.Ranges.{apply_changes, remove_changes, range_change, RangeWork};
+ghost use Rattle.library_steps.specs.Refusals.{◌>>=◌};
 ghost use Rattle.library_steps.specs.State.{job_at, memory_of};
 ghost use Rattle.library_parts.specs.Answers.{Answers};
 ghost use Rattle.range_images.specs.Given.{given_slots};
-ghost use Rattle.range_requests.specs.Plans.{IsPlanOf};
-ghost use Rattle.range_requests.specs.Puts.{HasRoomFor, MayGive};
+ghost use Rattle.range_requests.specs.Plans.{IsPlanOf, keys_apart};
+ghost use Rattle.library_parts.specs.Given.{AreMovesOfAll, HasRoomFor, MayGive};
 ghost use Rattle.range_requests.specs.Steps.{IsWithin};
 
 use crate::plans::{Plan, plan_apply, plan_remove};
-use crate::puts::put_all;
-use crate::stood::slots_after;
 use draft_list::{deposit_all, deposits_leave, reserve_all};
+use given_changes::slots_after;
 use library_model::replies::Reply;
 use library_model::requests::JournaledChanges;
 use library_parts::{Contents, Stop};
+use path_set::moves::Moves;
 use std::alloc::AllocError;
 
 /// Makes the changes of a range again in a member.
@@ -28,12 +28,11 @@ pub fn apply_changes(
     args: &JournaledChanges,
 ) -> Result<Reply, Stop>
     requires running { IsTrue (is_running (job_at job contents.old.state.jobs)) }
-    requires unkeyed { AreUnkeyed contents.old.state.files }
     ensures answers { Answers contents.old.state contents.new.state result (apply_changes contents.old.state.entries (memory_of contents.old.state) job timestamp args.now) }
 {
     let plan = plan_apply(contents, job, timestamp, args)?;
-    prepare(contents, &plan)?;
-    Ok(give(contents, plan))
+    let moves = prepare(contents, &plan)?;
+    give(contents, plan, moves)
 }
 
 /// Takes the changes of a range out of a member.
@@ -44,24 +43,26 @@ pub fn remove_changes(
     args: &JournaledChanges,
 ) -> Result<Reply, Stop>
     requires running { IsTrue (is_running (job_at job contents.old.state.jobs)) }
-    requires unkeyed { AreUnkeyed contents.old.state.files }
     ensures answers { Answers contents.old.state contents.new.state result (remove_changes contents.old.state.entries (memory_of contents.old.state) job timestamp args.now) }
 {
     let plan = plan_remove(contents, job, timestamp, args)?;
-    prepare(contents, &plan)?;
-    Ok(give(contents, plan))
+    let moves = prepare(contents, &plan)?;
+    give(contents, plan, moves)
 }
 
-fn prepare(contents: &mut Contents, plan: &Plan) -> Result<(), AllocError>
+/// Makes room for the slots and the entries, and prepares the moves in all paths.
+fn prepare(contents: &mut Contents, plan: &Plan) -> Result<Moves, AllocError>
     requires may { MayGive contents.old.state plan.now.member plan.now.given.items }
     requires within { IsWithin contents.old.state plan.now }
     ensures state { contents.new.state ≡ contents.old.state }
     ensures slots { OnOk result (HasRoomFor contents.new.state contents.new.room plan.now.member plan.now.given.items) }
     ensures entries { OnOk result (length plan.now.drafts.items ≤ contents.new.room.entries) }
+    ensures moves { IfOk result (λ moves. AreMovesOfAll contents.new plan.now.member plan.now.given.items moves) }
 {
     let more = slots_more(contents, plan);
     contents.reserve_slots(plan.member, more)?;
-    reserve_all(contents, plan.drafts.as_slice())
+    reserve_all(contents, plan.drafts.as_slice())?;
+    contents.prepare_given(plan.member, plan.given.as_slice())
 }
 
 /// How many slots are added.
@@ -73,12 +74,14 @@ fn slots_more(contents: &Contents, plan: &Plan) -> u32
     slots_after(member, plan.given.as_slice()) - member.slots()
 }
 
-fn give(contents: &mut Contents, plan: Plan) -> Reply
+/// Gives the slots, unless keys would be equal that may not, and tells of them.
+fn give(contents: &mut Contents, plan: Plan, moves: Moves) -> Result<Reply, Stop>
     requires may { MayGive contents.old.state plan.member plan.given.items }
     requires within { IsWithin contents.old.state plan }
     requires slots { HasRoomFor contents.old.state contents.old.room plan.member plan.given.items }
     requires entries { length plan.drafts.items ≤ contents.old.room.entries }
-    ensures { (work : RangeWork) → IsPlanOf contents.old.state work plan → Answers contents.old.state contents.new.state (Ok result) (Ok (range_change (memory_of contents.old.state) work)) }
+    requires moves { AreMovesOfAll contents.old plan.member plan.given.items moves }
+    ensures { (work : RangeWork) → IsPlanOf contents.old.state work plan → Answers contents.old.state contents.new.state result (keys_apart contents.old.state work >>= λ apart. Ok (range_change (memory_of contents.old.state) work)) }
 {
     deposits_leave();
     let Plan {
@@ -89,11 +92,11 @@ fn give(contents: &mut Contents, plan: Plan) -> Reply
         given,
         drafts,
     } = plan;
-    put_all(contents, member, given);
+    contents.give_slots(member, given, moves)?;
     deposit_all(contents, drafts);
-    Reply::Range {
+    Ok(Reply::Range {
         first,
         last,
         changes,
-    }
+    })
 }

@@ -8,8 +8,6 @@ mod fits;
 mod found;
 mod kept;
 mod plans;
-mod puts;
-mod stood;
 mod tells;
 mod walks;
 

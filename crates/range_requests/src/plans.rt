@@ -1,6 +1,5 @@
 //! What a request does with a range, once none of its refusals holds.
 ghost use Rattle.std.specs.Prelude.{◌≡◌, ◌≤◌, IfOk, IfErr, IsSome, IsTrue, OnOk};
-ghost use Rattle.built_state.specs.Unkeyed.{AreUnkeyed};
 ghost use Rattle.member_slots.specs.Members.{member_at, member_of};
 ghost use Rattle.journal_model.specs.Ranges.{apply_range, remove_range};
 ghost use Rattle.library_model.specs.declared.replies.Reply.TheVariants.{LimitReached};
@@ -11,20 +10,19 @@ ghost use Rattle.library_steps.specs.declared.limits.TheConstants.{LAST_SEQUENCE
 ghost use Rattle.library_parts.specs.Answers.{Allows};
 ghost use Rattle.library_parts.specs.declared.stop.Stop.TheVariants.{NoMemory, Refused};
 ghost use Rattle.range_images.specs.Given.{AreInPlace};
-ghost use Rattle.range_requests.specs.Puts.{MayGive};
+ghost use Rattle.library_parts.specs.Given.{AddRecords, MayGive};
 ghost use Rattle.range_requests.specs.Plans.{GivesPlan, IsKept};
 ghost use Rattle.range_requests.specs.Steps.{IsReadOf, IsToldBy, IsFitWalk, IsWithin, WalksRange, limits, slots_of};
-ghost use Rattle.range_requests.specs.Walks.{AddRecords};
 
 use crate::fits::check_fit;
 use crate::found::{Found, range_named};
 use crate::kept::{entry_before, kept_entries};
-use crate::stood::slots_after;
 use crate::tells::{Deed, Teller, Way, told};
 use crate::walks::{Walk, backward, forward};
 use draft_list::Author;
 use draft_list::sizes::bytes_of;
 use entry_codec::{Draft, Entry};
+use given_changes::slots_after;
 use library_model::replies::{LimitKind, Reply};
 use library_model::requests::JournaledChanges;
 use library_parts::{Contents, Stop};
@@ -55,7 +53,6 @@ pub(crate) fn plan_apply(
     args: &JournaledChanges,
 ) -> Result<Plan, Stop>
     requires running { IsTrue (is_running (job_at job contents.now.state.jobs)) }
-    requires unkeyed { AreUnkeyed contents.now.state.files }
     ensures plan { GivesPlan contents.now.state result (apply_plan contents.now.state.entries (memory_of contents.now.state) job timestamp args.now) }
     ensures may { IfOk result (λ plan. MayGive contents.now.state plan.member plan.given.items) }
     ensures within { IfOk result (λ plan. IsWithin contents.now.state plan) }
@@ -77,7 +74,6 @@ pub(crate) fn plan_remove(
     args: &JournaledChanges,
 ) -> Result<Plan, Stop>
     requires running { IsTrue (is_running (job_at job contents.now.state.jobs)) }
-    requires unkeyed { AreUnkeyed contents.now.state.files }
     ensures plan { GivesPlan contents.now.state result (remove_plan contents.now.state.entries (memory_of contents.now.state) job timestamp args.now) }
     ensures may { IfOk result (λ plan. MayGive contents.now.state plan.member plan.given.items) }
     ensures within { IfOk result (λ plan. IsWithin contents.now.state plan) }

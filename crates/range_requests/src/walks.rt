@@ -8,7 +8,8 @@ ghost use Rattle.library_steps.specs.Ranges.{fault_reply, given_forward, given_b
 ghost use Rattle.range_images.specs.Faults.{range_fault};
 ghost use Rattle.range_images.specs.Sides.{first_sequence};
 ghost use Rattle.range_requests.specs.Stops.{bound_stop, images_stop};
-ghost use Rattle.range_requests.specs.Walks.{AddRecords, Walks};
+ghost use Rattle.library_parts.specs.Given.{AddRecords};
+ghost use Rattle.range_requests.specs.Walks.{Walks};
 
 use crate::kept::entry_before;
 use entry_codec::Entry;

@@ -1,12 +1,17 @@
 -- What a changed slot leaves: the change in its commit cycle, and what the request makes of it.
 use Rattle.std.proofs.Common.{◌≡◌, ◌∙◌, ℕ, zero, suc, ◌+◌, ◌-◌, ◌≤◌, ◌==◌, ◌||◌, IsTrue, slice_get, Bool, true, false, if◌then◌else◌, nat_lt, Option, Some, None, IfSome, IsSome, Ok, List, [], ◌∷◌, ◌++◌, length, sym, ap, subst, refl, arith}
 use Rattle.std.proofs.lemmas.Bool.Decides.{nat_tests}
+use Rattle.std.specs.Option.{option_map}
 use Rattle.entry_codec.specs.declared.entries.Draft.{Draft}
 use Rattle.entry_codec.specs.declared.kinds.Images.{Images}
 use Rattle.member_slots.specs.declared.slot.Slot.{Slot}
 use Rattle.member_slots.specs.Member.{FitsSlot}
 use Rattle.member_slots.specs.Members.{member_of}
 use Rattle.journal_model.specs.Rollback.{MemberChange, numbered_from}
+use Rattle.path_set.specs.declared.moves.PathMove.{PathMove}
+use Rattle.path_set.specs.RecordChanges.{moves_in}
+use Rattle.path_set.specs.MemberSteps.{slot_replaced}
+use Rattle.job_table.specs.Changes.{KeptUndo}
 use Rattle.job_table.specs.Table.{JobTable, HasRoomFor}
 use Rattle.library_model.specs.declared.replies.Reply.{Reply}
 use Rattle.library_steps.specs.declared.limits.TheConstants.{MOST_GROUP_CHANGES, MOST_GROUP_BYTES}
@@ -22,11 +27,13 @@ use Rattle.library_steps.specs.Records.{slot_there}
 use Rattle.library_steps.specs.Drafts.{Author, author_of, slot_drafts}
 use Rattle.library_steps.specs.SlotChange.{NewSlot, are_both, begins_cycle, change_made, cycle_for, cycle_number, drafts_of, few_changes, images_of, is_behind_last, open_bytes, noted, open_changes, slot_change, slot_changed, touched, undo_bytes, with_cycle, with_slot, with_undo}
 use Rattle.library_parts.specs.Lawful.{HoldsValues}
+use Rattle.library_parts.specs.Moved.{HasMovesRoom}
 use Rattle.library_parts.specs.Parts.{LibraryParts, Room}
 use Rattle.record_changes.specs.declared.planned.PlannedSlot.{PlannedSlot}
 use Rattle.record_changes.specs.declared.planned.Prepared.{Prepared}
-use Rattle.record_changes.specs.Changes.{HasChanged, MayKeep, drafts_in, entries_kept, entries_left, with_kept}
-use Rattle.record_changes.specs.Places.{HasEntryRoom, HasUndoRoomIf, IsReady, MayReturn, undo_of}
+use Rattle.record_changes.specs.declared.planned.UndoSlots.{UndoSlots}
+use Rattle.record_changes.specs.Changes.{HasChanged, MayKeep, drafts_in, entries_kept, entries_left, kept_by, with_kept}
+use Rattle.record_changes.specs.Places.{HasEntryRoom, HasUndoRoomIf, IsReady, MayReturn, undo_of, undo_slots}
 use Rattle.record_changes.specs.Plans.{new_slot}
 
 -- ---- refusals that don't hold
@@ -46,20 +53,47 @@ neither true b one other is = absurd cc
 neither false true one other is = absurd cc
 neither false false one other is = (refl, refl)
 
+-- ---- the slots that are kept
+
+alike-by : (commit : Bool) (m : Memory) (job : JobState) (new : NewSlot) → IfSome (undo_slots commit m job new) (λ s. s.again ≡ s.before)
+alike-by false m job new = tt
+alike-by true m job new = refl
+
+-- the slot before is there twice
+pub slots-alike : (parts : LibraryParts) (job : ℕ) (planned : PlannedSlot) (prepared : Prepared) → IsReady parts job planned prepared → IfSome prepared.undo (λ s. s.again ≡ s.before)
+slots-alike parts job planned prepared ready =
+    subst (λ (o : Option UndoSlots). IfSome o (λ s. s.again ≡ s.before)) (sym ready.undo)
+    (alike-by planned.opened.commit (memory_of parts.state) (job_of job (memory_of parts.state)) (new_slot planned))
+
+kept-of : (commit : Bool) (m : Memory) (job : JobState) (new : NewSlot) (back : List PathMove)
+    → option_map (kept_by new.opened.member new.rrn back) (undo_slots commit m job new) ≡ undo_of commit m job new back
+kept-of false m job new back = refl
+kept-of true m job new back = refl
+
 -- ---- the slot is put, and its change is kept
 
-module _ (parts mid : LibraryParts) (job : ℕ) (planned : PlannedSlot) (prepared : Prepared) (old : Slot) (ready : IsReady parts job planned prepared)
+module _ (parts mid : LibraryParts) (job : ℕ) (planned : PlannedSlot) (prepared : Prepared) (old : Slot) (moves : List PathMove) (undo : Option KeptUndo)
+    (ready : IsReady parts job planned prepared)
     (stood : old ≡ slot_there planned.opened.member planned.rrn (memory_of parts.state)) (back : MayReturn mid.state planned.opened.member planned.rrn old)
     (put : memory_of mid.state ≡ with_slot planned.opened.member planned.rrn planned.slot (memory_of parts.state))
-    (room : mid.room ≡ record parts.room { spares = mid.room.spares }) where
+    (room : mid.room ≡ record parts.room { spares = mid.room.spares; paths = mid.room.paths })
+    (kept_as : undo ≡ option_map (kept_by planned.opened.member planned.rrn moves) prepared.undo) where
   abbrev before : Memory
   before = memory_of parts.state
 
-  may-by : (commit : Bool) → HasEntryRoom parts commit planned.opened.member → HasUndoRoomIf commit job parts
+  undo-is : undo ≡ undo_of planned.opened.commit before (job_of job before) (new_slot planned) moves
+  undo-is =
+      kept_as ∙ ap (λ (o : Option UndoSlots). option_map (kept_by planned.opened.member planned.rrn moves) o) ready.undo
+      ∙ kept-of planned.opened.commit before (job_of job before) (new_slot planned) moves
+
+  may-by : (commit : Bool) → moves ≡ moves_in (slot_replaced planned.opened.member planned.rrn planned.slot old) mid.room.paths.paths → HasMovesRoom mid planned.opened.member 1
+      → HasEntryRoom parts commit planned.opened.member → HasUndoRoomIf commit job parts
       → few_changes commit (slot_there planned.opened.member planned.rrn before) planned.slot before ≡ Ok true
-      → IfSome (undo_of commit before (job_of job before) (new_slot planned)) (MayKeep job mid)
-  may-by false entries undos few = tt
-  may-by true entries undos few =
+      → IfSome (undo_of commit before (job_of job before) (new_slot planned) moves) (MayKeep job mid)
+  may-by false moved moves_room entries undos few = tt
+  may-by true moved moves_room entries undos few =
+      let first = ready.may.first in
+      let place : planned.rrn ≡ planned.rrn - 1 + 1 = omega (arith, first) in
       let same : mid.room.entries ≡ parts.room.entries = ap (λ (r : Room). r.entries) room in
       let jobs : parts.state.jobs ≡ mid.state.jobs = sym (ap (λ (m : Memory). m.jobs) put) in
       let rooms : parts.room.undos ≡ mid.room.undos = sym (ap (λ (r : Room). r.undos) room) in
@@ -68,42 +102,46 @@ module _ (parts mid : LibraryParts) (job : ℕ) (planned : PlannedSlot) (prepare
       let both = neither (nat_lt MOST_GROUP_CHANGES (open_changes before + 1))
       (nat_lt MOST_GROUP_BYTES (open_bytes before + undo_bytes (slot_there planned.opened.member planned.rrn before) planned.slot)) _ _ few in
       record {
-        room = subst (λ (t : JobTable). HasRoomFor job t) (λ i. record { jobs = jobs i; rooms = rooms i }) undos;
+        room = subst (λ (t : JobTable). HasRoomFor job t) (λ i. record { jobs = jobs i; rooms = rooms i; orders = []; moves = [] }) undos;
         entries = omega (arith, same, entries);
         goes_back = record {
           cycle = sym (ap (λ (m : Memory). Some (cycle_for m (job_of job m)).sequence) put);
           place = record { there = back.there; place = back.place; fits = subst (λ (s : Slot). FitsSlot (member_of planned.opened.member mid.state.members).record_length s) stood back.fits };
           values = λ name file owns. subst (λ (s : Slot). HoldsValues (fields_of file) s) stood (back.values name file owns);
         };
+        moves = moved ∙ (λ i. moves_in (slot_replaced planned.opened.member (place i) planned.slot (stood i)) mid.room.paths.paths);
+        moves_room = moves_room;
         few_changes = subst (λ (n : ℕ). n + 1 ≤ MOST_GROUP_CHANGES) changes (most-of MOST_GROUP_CHANGES (open_changes before + 1) both.0);
         few_bytes = subst (λ (n : ℕ). n + undo_bytes (slot_there planned.opened.member planned.rrn before) planned.slot ≤ MOST_GROUP_BYTES) bytes (most-of MOST_GROUP_BYTES _ both.1);
       }
 
-  pub kept-may : IfSome prepared.undo (MayKeep job mid)
-  kept-may = subst (λ (o : Option MemberChange). IfSome o (MayKeep job mid)) (sym ready.undo) (may-by planned.opened.commit ready.entries ready.undo_room ready.few)
+  pub kept-may : moves ≡ moves_in (slot_replaced planned.opened.member planned.rrn planned.slot old) mid.room.paths.paths → HasMovesRoom mid planned.opened.member 1
+      → IfSome undo (MayKeep job mid)
+  kept-may moved moves_room =
+      subst (λ (o : Option KeptUndo). IfSome o (MayKeep job mid)) (sym undo-is) (may-by planned.opened.commit moved moves_room ready.entries ready.undo_room ready.few)
 
   changed-by : (commit : Bool) → with_status planned.opened.member touched
-      (with_kept job (undo_of commit before (job_of job before) (new_slot planned)) (with_slot planned.opened.member planned.rrn planned.slot before))
+      (with_kept job (undo_of commit before (job_of job before) (new_slot planned) moves) (with_slot planned.opened.member planned.rrn planned.slot before))
       ≡ with_undo commit job (change_made before (job_of job before) (new_slot planned)) (cycle_for before (job_of job before))
       (with_status planned.opened.member touched (with_slot planned.opened.member planned.rrn planned.slot before))
   changed-by false = refl
   changed-by true = refl
 
-  pub kept-changed : (kept after : Memory) → kept ≡ with_kept job prepared.undo (memory_of mid.state) → after ≡ with_status planned.opened.member touched kept
+  pub kept-changed : (kept after : Memory) → kept ≡ with_kept job undo (memory_of mid.state) → after ≡ with_status planned.opened.member touched kept
       → after ≡ slot_changed job (new_slot planned) before
   kept-changed kept after is touch =
-      touch ∙ ap (with_status planned.opened.member touched) (is ∙ (λ i. with_kept job (ready.undo i) (put i))) ∙ changed-by planned.opened.commit
+      touch ∙ ap (with_status planned.opened.member touched) (is ∙ (λ i. with_kept job (undo-is i) (put i))) ∙ changed-by planned.opened.commit
 
   left-by : (commit : Bool) (after : ℕ) → HasEntryRoom parts commit planned.opened.member → IsSome (images_of planned.opened.member before)
-      → mid.room.entries ≤ after + entries_kept (undo_of commit before (job_of job before) (new_slot planned)) → entries_left commit ≤ after
+      → mid.room.entries ≤ after + entries_kept (undo_of commit before (job_of job before) (new_slot planned) moves) → entries_left commit ≤ after
   left-by false after entries some kept =
       let same : mid.room.entries ≡ parts.room.entries = ap (λ (r : Room). r.entries) room in let two = entries some in omega (arith, same, two, kept)
   left-by true after entries some kept =
       let same : mid.room.entries ≡ parts.room.entries = ap (λ (r : Room). r.entries) room in omega (arith, same, entries, kept)
 
-  pub kept-left : (after : ℕ) → IsSome (images_of planned.opened.member before) → mid.room.entries ≤ after + entries_kept prepared.undo → entries_left planned.opened.commit ≤ after
+  pub kept-left : (after : ℕ) → IsSome (images_of planned.opened.member before) → mid.room.entries ≤ after + entries_kept undo → entries_left planned.opened.commit ≤ after
   kept-left after some kept =
-      left-by planned.opened.commit after ready.entries some (subst (λ (o : Option MemberChange). mid.room.entries ≤ after + entries_kept o) ready.undo kept)
+      left-by planned.opened.commit after ready.entries some (subst (λ (o : Option KeptUndo). mid.room.entries ≤ after + entries_kept o) undo-is kept)
 
 -- ---- its entries
 

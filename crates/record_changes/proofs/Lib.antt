@@ -2,5 +2,7 @@ mod AnswerLemmas
 mod ChangeLemmas
 mod FindLemmas
 mod LockLemmas
+mod MoveLemmas
+mod PhysicalLemmas
 mod PlaceLemmas
 mod WriteLemmas

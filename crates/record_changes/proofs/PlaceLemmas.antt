@@ -12,13 +12,14 @@ use Rattle.record_fmt.specs.Records.{record_held}
 use Rattle.file_catalogue.specs.Owners.{Owns, AreApart}
 use Rattle.library_model.specs.Named.{Named, named}
 use Rattle.library_steps.specs.State.{Memory, State, FileState, fields_of, memory_of}
-use Rattle.library_steps.specs.Records.{live_record, record_in}
+use Rattle.library_steps.specs.Records.{live_record, record_in, slot_there}
 use Rattle.library_steps.specs.SlotChange.{slot_put, with_slot}
 use Rattle.library_parts.specs.Finds.{HasMember}
 use Rattle.library_parts.specs.Lawful.{HoldsValues, HasRecords}
 use Rattle.library_parts.proofs.MemberLemmas.{IsThere-IsSome, HasRecords-member_of, item_at-with_item_same, length-changed, record_length-changed, slot_put-appended, slot_put-changed}
 use Rattle.library_parts.specs.Slots.{MayStand}
 use Rattle.record_changes.specs.Places.{MayPut, MayReturn}
+use Rattle.record_changes.proofs.MoveLemmas.{changed-there, appended-there}
 
 -- a place where a record stands, and in each field of it a value
 pub record IsLivePlace (fields : List Field) (slots : List Slot) (rrn : ℕ) (image : List ℕ) : Type 0 where
@@ -55,6 +56,18 @@ Owns-same files name other file another number apart one two =
     let found : Some file ≡ Some another = sym one.there ∙ ap (λ (n : List ℕ). named n files) same ∙ two.there in
     cc
 
+pub its-there : (s : State) (name : List ℕ) (file : FileState) (member : ℕ) → HasMember s name file member → IsSome (member_at member s.members)
+its-there s name file member has = IsThere-IsSome (fields_of file) member s.members has.there
+
+-- a slot with a record of the file may stand in its member
+module _ (s : State) (name : List ℕ) (file : FileState) (member : ℕ) (has : HasMember s name file member) (slot : Slot) where
+  pub its-fits : FitsSlot (record_length (fields_of file)) slot → FitsSlot (member_of member s.members).record_length slot
+  its-fits fits = subst (λ (n : ℕ). FitsSlot n slot) (sym (HasRecords-member_of (fields_of file) member s.members has.there).long) fits
+
+  pub its-values : AreApart s.files → HoldsValues (fields_of file) slot → MayStand s member slot
+  its-values apart holds other another owns =
+      subst (λ (f : FileState). HoldsValues (fields_of f) slot) (Owns-same s.files name other file another member apart has.owns owns) holds
+
 module _ (s : State) (name : List ℕ) (file : FileState) (member rrn : ℕ) (has : HasMember s name file member) (old : List ℕ) (found : live_record member rrn (memory_of s) ≡ Some old) where
   its-records : HasRecords (fields_of file) (member_of member s.members)
   its-records = HasRecords-member_of (fields_of file) member s.members has.there
@@ -73,8 +86,8 @@ module _ (s : State) (name : List ℕ) (file : FileState) (member rrn : ℕ) (ha
         there = IsThere-IsSome (fields_of file) member s.members has.there;
         first = its-place.first;
         near = omega (arith, within);
-        fits = subst (λ (n : ℕ). FitsSlot n slot) (sym its-records.long) fits;
-        values = λ other another owns. subst (λ (f : FileState). HoldsValues (fields_of f) slot) (Owns-same s.files name other file another member apart has.owns owns) holds;
+        fits = its-fits s name file member has slot fits;
+        values = its-values s name file member has slot apart holds;
         added = λ behind. absurd (omega (arith, within, behind));
       }
 
@@ -140,3 +153,26 @@ module _ (before after : State) (member rrn : ℕ) (slot old : Slot) (put : memo
       let live = live-of slot (may.added behind).live in
       let same = length-appended its live.0 in
       back-at (appended its live.0) ((λ i. slot_put (behind i) (live.1 i) its) ∙ slot_put-appended its live.0) (omega (arith, same, behind)) refl
+
+-- ---- it stands where it was put
+
+module _ (before after : State) (member rrn : ℕ) (slot : Slot) (put : memory_of after ≡ with_slot member rrn slot (memory_of before)) (may : MayPut before.files before.members member rrn slot) where
+  abbrev was : MemberState
+  was = member_of member before.members
+
+  there-at : (now : MemberState) → slot_put rrn slot was ≡ now → unwrap_or (slot_at now rrn) Deleted ≡ slot → slot_there member rrn (memory_of after) ≡ slot
+  there-at now is stands =
+      let there = may.there in
+      let members : after.members ≡ with_member member now before.members =
+      ap (λ (m : Memory). m.members) put ∙ ap (λ (s : MemberState). with_member member s before.members) is in
+      let here : member_at member after.members ≡ Some now = ap (λ (ms : NumberedMembers). member_at member ms) members ∙ item_at-with_item_same member now before.members there in
+      ap (λ (o : Option MemberState). unwrap_or (slot_at (unwrap_or o (empty_member 0)) rrn) Deleted) here ∙ stands
+
+  pub stands-within : rrn ≤ length was.slots → slot_there member rrn (memory_of after) ≡ slot
+  stands-within within = there-at (changed was rrn slot) (slot_put-changed was rrn slot within) (changed-there was rrn slot may.first within)
+
+  pub stands-behind : rrn ≡ length was.slots + 1 → slot_there member rrn (memory_of after) ≡ slot
+  stands-behind behind =
+      let live = live-of slot (may.added behind).live in
+      there-at (appended was live.0) ((λ i. slot_put (behind i) (live.1 i) was) ∙ slot_put-appended was live.0)
+      ((λ i. unwrap_or (slot_at (appended was live.0) (behind i)) Deleted) ∙ appended-there was live.0 ∙ sym live.1)

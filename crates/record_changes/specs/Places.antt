@@ -4,20 +4,23 @@ use Rattle.member_slots.specs.declared.slot.Slot.{Slot}
 use Rattle.member_slots.specs.Member.{FitsSlot, is_full, is_live}
 use Rattle.member_slots.specs.Members.{NumberedMembers, member_at, member_of}
 use Rattle.file_catalogue.specs.Owners.{Owns}
-use Rattle.journal_model.specs.Rollback.{MemberChange}
+use Rattle.path_set.specs.declared.moves.PathMove.{PathMove}
+use Rattle.job_table.specs.Changes.{KeptUndo}
 use Rattle.library_model.specs.Named.{Named}
 use Rattle.library_steps.specs.declared.limits.TheConstants.{LAST_SEQUENCE, MOST_LIBRARY_BYTES}
 use Rattle.library_steps.specs.State.{Memory, State, FileState, JobState, fields_of, job_of, memory_of}
 use Rattle.library_steps.specs.Records.{slot_there}
 use Rattle.library_steps.specs.Ranges.{library_bytes}
-use Rattle.library_steps.specs.SlotChange.{NewSlot, images_of, change_made, few_changes}
+use Rattle.library_steps.specs.SlotChange.{NewSlot, cycle_for, images_of, change_made, few_changes}
 use Rattle.library_steps.specs.WriteRecord.{next_place}
 use Rattle.library_parts.specs.Lawful.{HoldsValues}
+use Rattle.library_parts.specs.Moved.{AreMovesOf, HasMovesRoom}
 use Rattle.library_parts.specs.Parts.{LibraryParts}
 use Rattle.library_parts.specs.Rooms.{HasSlotRoom, HasUndoRoom}
 use Rattle.library_parts.specs.Slots.{MayStand}
 use Rattle.record_changes.specs.declared.planned.PlannedSlot.{PlannedSlot}
 use Rattle.record_changes.specs.declared.planned.Prepared.{Prepared}
+use Rattle.record_changes.specs.declared.planned.UndoSlots.{UndoSlots}
 use Rattle.record_changes.specs.Plans.{new_slot}
 
 -- the slot adds a record, for which the member and the library have room
@@ -49,10 +52,20 @@ pub record MayReturn (s : State) (member rrn : ℕ) (slot : Slot) : Type 0 where
 abbrev pub AreFewChanges : PlannedSlot → Memory → Type 0
 AreFewChanges planned m = few_changes planned.opened.commit (slot_there planned.opened.member planned.rrn m) planned.slot m ≡ Ok true
 
--- the change as the job's commit cycle keeps it, where it belongs to one
-abbrev pub undo_of : (commit : Bool) → Memory → JobState → NewSlot → Option MemberChange
-undo_of false m job new = None
-undo_of true m job new = Some (change_made m job new)
+-- the slots of the change as the job's commit cycle keeps it, where it belongs to one
+abbrev pub undo_slots : (commit : Bool) → Memory → JobState → NewSlot → Option UndoSlots
+undo_slots false m job new = None
+undo_slots true m job new = Some (record {
+  cycle = (cycle_for m job).sequence;
+  before = slot_there new.opened.member new.rrn m;
+  again = slot_there new.opened.member new.rrn m;
+  after = new.slot;
+})
+
+-- the change itself, with the moves that take it back
+abbrev pub undo_of : (commit : Bool) → Memory → JobState → NewSlot → (back : List PathMove) → Option KeptUndo
+undo_of false m job new back = None
+undo_of true m job new back = Some (record { change = change_made m job new; moves = back })
 
 abbrev pub HasUndoRoomIf : (commit : Bool) → ℕ → LibraryParts → Type 0
 HasUndoRoomIf false job parts = Unit {0}
@@ -76,5 +89,7 @@ pub record IsReady (parts : LibraryParts) (job : ℕ) (planned : PlannedSlot) (p
   pub place : HasPlaceRoom parts planned.opened.member planned.rrn
   pub entries : HasEntryRoom parts planned.opened.commit planned.opened.member
   pub again : IsSome (images_of planned.opened.member (memory_of parts.state)) → prepared.again ≡ planned.slot
-  pub undo : prepared.undo ≡ undo_of planned.opened.commit (memory_of parts.state) (job_of job (memory_of parts.state)) (new_slot planned)
+  pub undo : prepared.undo ≡ undo_slots planned.opened.commit (memory_of parts.state) (job_of job (memory_of parts.state)) (new_slot planned)
   pub undo_room : HasUndoRoomIf planned.opened.commit job parts
+  pub moves : AreMovesOf parts planned.opened.member planned.rrn planned.slot prepared.moves
+  pub moves_room : HasMovesRoom parts planned.opened.member 2

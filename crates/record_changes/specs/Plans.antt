@@ -1,8 +1,11 @@
 -- How a plan answers for a slot to change or a record to unlock: with it, the refusal, or out of memory. (Our own.)
-use Rattle.std.specs.Prelude.{◌≡◌, ℕ, None, Result, Ok, Err}
+use Rattle.std.specs.Prelude.{◌≡◌, ℕ, Option, None, Some, Result, Ok, Err, List, if◌then◌else◌}
+use Rattle.std.specs.Str.{bytes_eq}
 use Rattle.record_fmt.specs.Records.{record_given}
 use Rattle.library_model.specs.declared.requests.WriteRecord.{WriteRecord}
 use Rattle.library_model.specs.declared.replies.Reply.{Reply}
+use Rattle.library_model.specs.declared.replies.Reply.TheVariants.{NoSuchName}
+use Rattle.library_model.specs.declared.replies.Missing.TheVariants.{Name}
 use Rattle.library_steps.specs.State.{Memory, FileState, OpenState, fields_of}
 use Rattle.library_steps.specs.Refusals.{◌>>=◌, OpenedFile}
 use Rattle.library_steps.specs.SlotChange.{NewSlot}
@@ -23,7 +26,12 @@ last_read read = record { opened = read.opened; rrn = read.rrn }
 abbrev pub opened_with : OpenState → FileState → OpenedFile
 opened_with opened file = record { opened = opened; file = file }
 
--- a record to add through an open of a file without a key, from the values on
+-- the one format of a physical file is asked for, by its name or by none
+abbrev pub format_named : Option (List ℕ) → (own : List ℕ) → Result ℕ Reply
+format_named None own = Ok 0
+format_named (Some name) own = if bytes_eq name own then Ok 0 else Err (NoSuchName (Name name))
+
+-- a record to add through an open of a physical file, from the values on
 abbrev pub given_plan : Memory → (job : ℕ) → OpenedFile → WriteRecord → Result NewSlot Reply
 given_plan m job its args =
     packed (record_given (fields_of its.file) args.values None) >>= λ image. place_plan m job its.opened args.record_number image

@@ -1,25 +1,29 @@
 //! The effect of a changed slot: the slot itself, the job's commit cycle, the status of its member, and its entries. It takes no
 //! memory.
-ghost use Rattle.std.specs.Prelude.{◌≡◌, ◌+◌, ◌≤◌, ◌||◌, length, IfSome, IsSome, IsTrue};
+ghost use Rattle.std.specs.Prelude.{◌≡◌, ◌+◌, ◌≤◌, ◌||◌, length, IfSome, IsSome, IsTrue, option_map};
 ghost use Rattle.member_slots.specs.declared.slot.Slot.TheVariants.{Deleted};
 ghost use Rattle.member_slots.specs.Members.{member_of};
+ghost use Rattle.path_set.specs.RecordChanges.{moves_in};
+ghost use Rattle.path_set.specs.MemberSteps.{slot_replaced};
+ghost use Rattle.library_parts.specs.Moved.{AreMovesOf, HasMovesRoom};
 ghost use Rattle.library_parts.specs.Rooms.{HasSlotRoom};
 ghost use Rattle.library_steps.specs.State.{job_at, memory_of};
 ghost use Rattle.library_steps.specs.History.{is_running};
 ghost use Rattle.library_steps.specs.Records.{slot_there};
 ghost use Rattle.library_steps.specs.SlotChange.{are_both, images_of, slot_changed, with_slot};
-ghost use Rattle.record_changes.specs.Changes.{HasChanged, MayKeep, entries_kept, entries_left, with_kept};
+ghost use Rattle.record_changes.specs.Changes.{HasChanged, MayKeep, entries_kept, entries_left, kept_by, with_kept};
 ghost use Rattle.record_changes.specs.Places.{HasPlaceRoom, IsReady, MayPut, MayReturn};
 ghost use Rattle.record_changes.specs.Plans.{new_slot};
 
 use crate::cycles::{cycle_begun, cycle_of};
 use crate::entries::ChangeEntries;
-use crate::planned::{PlannedSlot, Prepared};
+use crate::planned::{PlannedSlot, Prepared, UndoSlots};
 use draft_list::Author;
 use entry_codec::Images;
 use job_table::Undo;
-use library_parts::Contents;
+use library_parts::{Contents, SlotTaken};
 use member_slots::slot::Slot;
+use path_set::moves::Moves;
 
 /// The slots of a change that its entries tell of.
 #[derive(Drop)]
@@ -87,12 +91,28 @@ fn put_kept(
     ensures left { IsSome (images_of planned.opened.member (memory_of contents.old.state)) → entries_left planned.opened.commit ≤ contents.new.room.entries }
 {
     let PlannedSlot { opened, rrn, slot } = planned;
-    let Prepared { again, undo } = prepared;
+    let Prepared { again, undo, moves } = prepared;
     let member = opened.member();
-    let old = put_slot(contents, member, rrn, slot);
-    keep_change(contents, job, undo);
+    let taken = put_slot(contents, member, rrn, slot, moves);
+    let kept = undo_by(member, rrn, undo, taken.back);
+    keep_change(contents, job, kept);
     contents.touch(member);
-    ToldSlots { old, new: again }
+    ToldSlots {
+        old: taken.slot,
+        new: again,
+    }
+}
+
+/// The change of these slots with the moves that take it back, where there are slots to keep.
+fn undo_by(member: u32, rrn: u32, slots: Option<UndoSlots>, back: Moves) -> Option<Undo>
+    requires first { 1 ≤ rrn }
+    requires alike { IfSome slots (λ s. s.again ≡ s.before) }
+    ensures { result ≡ option_map (kept_by member rrn back) slots }
+{
+    match slots {
+        Some(s) => Some(Undo::new(member, rrn, s.cycle, s.before, s.again, s.after, back)),
+        None => None,
+    }
 }
 
 /// Keeps the change in the job's commit cycle, if there is one to keep.
@@ -108,48 +128,64 @@ fn keep_change(contents: &mut Contents, job: u32, undo: Option<Undo>)
     }
 }
 
-/// Puts the slot at its place, and hands back the one that stood there.
-fn put_slot(contents: &mut Contents, member: u32, rrn: u32, slot: Slot) -> Slot
+/// Puts the slot at its place, and hands back the one that stood there with the moves that take it back.
+fn put_slot(contents: &mut Contents, member: u32, rrn: u32, slot: Slot, moves: Moves) -> SlotTaken
     requires may { MayPut contents.old.state.files contents.old.state.members member rrn slot }
     requires room { HasPlaceRoom contents.old member rrn }
-    ensures before { result ≡ slot_there member rrn (memory_of contents.old.state) }
-    ensures back { MayReturn contents.new.state member rrn result }
+    requires moves { AreMovesOf contents.old member rrn slot moves }
+    requires moves_room { HasMovesRoom contents.old member 2 }
+    ensures before { result.slot ≡ slot_there member rrn (memory_of contents.old.state) }
+    ensures back { MayReturn contents.new.state member rrn result.slot }
+    ensures moves { result.back ≡ moves_in (slot_replaced member rrn slot result.slot) contents.new.room.paths.paths }
+    ensures moves_room { HasMovesRoom contents.new member 1 }
     ensures memory { memory_of contents.new.state ≡ with_slot member rrn slot (memory_of contents.old.state) }
     ensures entries { contents.new.state.entries ≡ contents.old.state.entries }
-    ensures room { contents.new.room ≡ record contents.old.room { spares = contents.new.room.spares } }
+    ensures room { contents.new.room ≡ record contents.old.room { spares = contents.new.room.spares; paths = contents.new.room.paths } }
 {
     if !contents.is_behind_last(member, rrn) {
-        return replace(contents, member, rrn, slot);
+        return replace(contents, member, rrn, slot, moves);
     }
-    append(contents, member, rrn, slot);
-    Slot::Deleted
+    let back = append(contents, member, rrn, slot, moves);
+    SlotTaken {
+        slot: Slot::Deleted,
+        back,
+    }
 }
 
 /// Puts the slot at a place that the member has.
-fn replace(contents: &mut Contents, member: u32, rrn: u32, slot: Slot) -> Slot
+fn replace(contents: &mut Contents, member: u32, rrn: u32, slot: Slot, moves: Moves) -> SlotTaken
     requires may { MayPut contents.old.state.files contents.old.state.members member rrn slot }
     requires within { rrn ≤ length (member_of member contents.old.state.members).slots }
-    ensures before { result ≡ slot_there member rrn (memory_of contents.old.state) }
-    ensures back { MayReturn contents.new.state member rrn result }
+    requires moves { AreMovesOf contents.old member rrn slot moves }
+    requires moves_room { HasMovesRoom contents.old member 2 }
+    ensures before { result.slot ≡ slot_there member rrn (memory_of contents.old.state) }
+    ensures back { MayReturn contents.new.state member rrn result.slot }
+    ensures moves { result.back ≡ moves_in (slot_replaced member rrn slot result.slot) contents.new.room.paths.paths }
+    ensures moves_room { HasMovesRoom contents.new member 1 }
     ensures memory { memory_of contents.new.state ≡ with_slot member rrn slot (memory_of contents.old.state) }
     ensures entries { contents.new.state.entries ≡ contents.old.state.entries }
-    ensures room { contents.new.room ≡ contents.old.room }
+    ensures room { contents.new.room ≡ record contents.old.room { spares = contents.new.room.spares; paths = contents.new.room.paths } }
 {
-    contents.set_slot(member, rrn, slot)
+    contents.set_slot(member, rrn, slot, moves)
 }
 
-/// Puts the slot behind the last of the member. Only a record is put there.
-fn append(contents: &mut Contents, member: u32, rrn: u32, slot: Slot)
+/// Puts the slot behind the last of the member, and hands back the moves that take it back. Only a record is put there.
+fn append(contents: &mut Contents, member: u32, rrn: u32, slot: Slot, moves: Moves) -> Moves
     requires may { MayPut contents.old.state.files contents.old.state.members member rrn slot }
     requires behind { rrn ≡ length (member_of member contents.old.state.members).slots + 1 }
     requires room { HasSlotRoom contents.old.room member }
+    requires moves { AreMovesOf contents.old member rrn slot moves }
+    requires moves_room { HasMovesRoom contents.old member 2 }
     ensures before { slot_there member rrn (memory_of contents.old.state) ≡ Deleted }
     ensures back { MayReturn contents.new.state member rrn Deleted }
+    ensures moves { result ≡ moves_in (slot_replaced member rrn slot Deleted) contents.new.room.paths.paths }
+    ensures moves_room { HasMovesRoom contents.new member 1 }
     ensures memory { memory_of contents.new.state ≡ with_slot member rrn slot (memory_of contents.old.state) }
     ensures entries { contents.new.state.entries ≡ contents.old.state.entries }
-    ensures room { contents.new.room ≡ record contents.old.room { spares = contents.new.room.spares } }
+    ensures room { contents.new.room ≡ record contents.old.room { spares = contents.new.room.spares; paths = contents.new.room.paths } }
 {
-    if let Slot::Live(image) = slot {
-        contents.append_record(member, image);
+    match slot {
+        Slot::Live(image) => contents.append_record(member, image, moves),
+        Slot::Deleted => moves,
     }
 }

@@ -4,7 +4,6 @@ ghost use Rattle.library_steps.specs.declared.limits.TheConstants.{LAST_SEQUENCE
 ghost use Rattle.library_steps.specs.State.{job_at, memory_of};
 ghost use Rattle.library_steps.specs.ChangeRecord.{delete_change, delete_plan, delete_record};
 ghost use Rattle.library_steps.specs.History.{is_running};
-ghost use Rattle.built_state.specs.Unkeyed.{AreUnkeyed};
 ghost use Rattle.lock_table.specs.declared.levels.Call.TheVariants.{Delete};
 ghost use Rattle.library_parts.specs.Answers.{Answers};
 ghost use Rattle.library_parts.specs.Locks.{HasLockRoom};
@@ -32,7 +31,6 @@ pub fn delete_record(
     args: &OpenName,
 ) -> Result<Reply, Stop>
     requires running { IsTrue (is_running (job_at job contents.old.state.jobs)) }
-    requires unkeyed { AreUnkeyed contents.old.state.files }
     ensures answers { Answers contents.old.state contents.new.state result (delete_record (memory_of contents.old.state) job timestamp args.now) }
 {
     let planned = plan_delete(contents, job, args)?;

@@ -6,7 +6,6 @@ ghost use Rattle.logical_model.specs.Formats.{given_in};
 ghost use Rattle.library_steps.specs.State.{fields_of, memory_of};
 ghost use Rattle.library_steps.specs.LogicalFiles.{bases_of};
 ghost use Rattle.library_steps.specs.WriteRecord.{packed};
-ghost use Rattle.built_state.specs.Unkeyed.{IsPlain};
 ghost use Rattle.library_parts.specs.Answers.{Gives};
 
 use field_types::texts::Image;
@@ -61,7 +60,7 @@ pub(crate) fn changed_image(
     }
 }
 
-/// The image of a record that is changed through an open of a file without a key.
+/// The image of a record that is changed through an open.
 pub(crate) fn image_over(
     contents: &Contents,
     file: &File,
@@ -69,14 +68,13 @@ pub(crate) fn image_over(
     given: &[Option<Value>],
     old: &[u8],
 ) -> Result<Image, Stop>
-    requires plain { IsPlain file.now.spec }
     requires long { length old.now ≡ record_length (fields_of file.now) }
     requires held { is_some (record_held (fields_of file.now) old.now) ≡ true }
-    ensures packed { Gives result (packed (given_in (bases_of (memory_of contents.now.state)) file.now.spec opened.now.format given.now (Some old.now))) }
+    ensures packed { Gives result (packed (given_in (bases_of (memory_of contents.now.state)) file.now.spec opened.now.state.format given.now (Some old.now))) }
     ensures long { IfOk result (λ image. length image ≡ record_length (fields_of file.now)) }
     ensures held { IfOk result (λ image. is_some (record_held (fields_of file.now) image) ≡ true) }
 {
-    // A file without a key has one format, whichever the open read last.
+    // A physical file has one format, whichever the open read last.
     let _ = opened;
     changed_image(contents.alloc(), file.format(), given, old)
 }

@@ -37,7 +37,7 @@ pub(crate) fn may_lock(
 ) -> Result<(), AllocError>
     requires running { IsTrue (is_running (job_at job contents.now.state.jobs)) }
     requires call { IsOfCurrent call }
-    ensures { OnOk result (MayLock call job opened.now rrn (memory_of contents.now.state)) }
+    ensures { OnOk result (MayLock call job opened.now.state rrn (memory_of contents.now.state)) }
 {
     is_free(contents, call, job, opened, rrn)?;
     are_few(contents, job, opened, rrn)?;
@@ -53,7 +53,7 @@ fn is_free(
     rrn: u32,
 ) -> Result<(), AllocError>
     requires { IsTrue (is_running (job_at job contents.now.state.jobs)) }
-    ensures { OnOk result (clashing call job opened.now rrn (memory_of contents.now.state) ≡ None) }
+    ensures { OnOk result (clashing call job opened.now.state rrn (memory_of contents.now.state) ≡ None) }
 {
     match contents.clashing(call, job, opened, rrn) {
         Some(_) => Err(AllocError),
@@ -64,7 +64,7 @@ fn is_free(
 /// The locks are not too many with the one that a change keeps to the boundary.
 fn are_few(contents: &Contents, job: u32, opened: &Open, rrn: u32) -> Result<(), AllocError>
     requires { IsTrue (is_running (job_at job contents.now.state.jobs)) }
-    ensures { OnOk result (few_locks Write job opened.now rrn (memory_of contents.now.state) ≡ Ok true) }
+    ensures { OnOk result (few_locks Write job opened.now.state rrn (memory_of contents.now.state) ≡ Ok true) }
 {
     match contents.few_locks_to_write(Call::Write, job, opened, rrn) {
         Ok(()) => Ok(()),

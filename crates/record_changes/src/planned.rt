@@ -3,9 +3,10 @@ ghost use Rattle.std.specs.Prelude.{◌≡◌};
 ghost use Rattle.library_steps.specs.Locking.{holder_of, record_of};
 ghost use Rattle.record_changes.specs.Opens.{bare};
 
-use job_table::{Open, Undo};
+use job_table::Open;
 use lock_table::{Holder, RecordId};
 use member_slots::slot::Slot;
+use path_set::moves::Moves;
 use std::marker::Model;
 
 /// What effects read of the open through which a call is made.
@@ -27,7 +28,7 @@ impl Model for Through {
 
 impl Through {
     pub(crate) fn of(opened: &Open) -> Through
-        ensures { result ≡ bare opened.now }
+        ensures { result ≡ bare opened.now.state }
     {
         Through {
             number: opened.number(),
@@ -85,13 +86,26 @@ pub(crate) struct PlannedSlot {
     pub(crate) slot: Slot,
 }
 
-/// Copies of slots that a change wants besides, so that it takes no memory.
+/// The slots of a change as its commit cycle keeps it. The moves that take it back come from the change itself.
+#[derive(Drop)]
+pub(crate) struct UndoSlots {
+    /// The sequence of the entry with which the commit cycle began.
+    pub(crate) cycle: u64,
+    pub(crate) before: Slot,
+    /// The slot before once more, for the entry that tells that it was put back.
+    pub(crate) again: Slot,
+    pub(crate) after: Slot,
+}
+
+/// What a change wants besides, so that it takes no memory.
 #[derive(Drop)]
 pub(crate) struct Prepared {
     /// The new slot once more, for its entry, where the member is journaled.
     pub(crate) again: Slot,
-    /// The change as the commit cycle keeps it, where the open is under commitment control.
-    pub(crate) undo: Option<Undo>,
+    /// The slots that the commit cycle keeps, where the open is under commitment control.
+    pub(crate) undo: Option<UndoSlots>,
+    /// What the change moves in the access paths.
+    pub(crate) moves: Moves,
 }
 
 /// The record that the open read last, which is locked.

@@ -7,12 +7,11 @@ ghost use Rattle.library_steps.specs.History.{is_running};
 ghost use Rattle.library_steps.specs.Records.{slot_there};
 ghost use Rattle.library_steps.specs.SlotChange.{images_of};
 ghost use Rattle.library_parts.specs.Locks.{HasLockRoom};
-ghost use Rattle.record_changes.specs.Places.{AreFewChanges, HasEntryRoom, HasPlaceRoom, HasUndoRoomIf, IsReady, MayChange, undo_of};
+ghost use Rattle.record_changes.specs.Places.{AreFewChanges, HasEntryRoom, HasPlaceRoom, HasUndoRoomIf, IsReady, MayChange, undo_slots};
 ghost use Rattle.record_changes.specs.Plans.{new_slot};
 
 use crate::cycles::cycle_of;
-use crate::planned::{PlannedSlot, Prepared};
-use job_table::Undo;
+use crate::planned::{PlannedSlot, Prepared, UndoSlots};
 use library_parts::Contents;
 use member_slots::slot::Slot;
 use std::alloc::AllocError;
@@ -23,6 +22,9 @@ const SLOT_ENTRIES: u32 = 2;
 /// The most entries of a change under commitment control: the start of its cycle, those of the slot, and three that would take
 /// it back and end the cycle.
 const COMMITTED_ENTRIES: u32 = 6;
+
+/// No change more than those that are prepared: this one, and those that open commit cycles hold.
+const NO_MORE: u32 = 0;
 
 /// The bytes of an entry with an image, beside those of the image.
 const ENTRY_BYTES: u64 = 50;
@@ -41,13 +43,15 @@ pub(crate) fn prepare_change(
     ensures locks { OnOk result (HasLockRoom contents.new.state contents.new.room) }
     ensures ready { IfOk result (λ prepared. IsReady contents.new job planned.now prepared) }
 {
+    let member = planned.opened.member();
     contents.reserve_lock()?;
-    reserve_place(contents, planned.opened.member(), planned.rrn)?;
+    reserve_place(contents, member, planned.rrn)?;
+    let moves = contents.prepare_moves(member, planned.rrn, &planned.slot, NO_MORE)?;
     reserve_entries(contents, planned)?;
     reserve_undo(contents, job, planned)?;
     let again = copy_for_entry(contents, planned)?;
     let undo = copy_for_cycle(contents, job, planned)?;
-    Ok(Prepared { again, undo })
+    Ok(Prepared { again, undo, moves })
 }
 
 /// Makes room for a slot more, where the place is behind the last.
@@ -104,26 +108,28 @@ fn copy_for_entry(contents: &Contents, planned: &PlannedSlot) -> Result<Slot, Al
     planned.slot.copied(contents.alloc())
 }
 
-/// The change as the job's commit cycle keeps it, if it belongs to one.
+/// The slots of the change as the job's commit cycle keeps it, if it belongs to one.
 fn copy_for_cycle(
     contents: &Contents,
     job: u32,
     planned: &PlannedSlot,
-) -> Result<Option<Undo>, AllocError>
+) -> Result<Option<UndoSlots>, AllocError>
     requires running { IsTrue (is_running (job_at job contents.now.state.jobs)) }
     requires left { (memory_of contents.now.state).last_entry ≤ LAST_SEQUENCE }
-    requires first { 1 ≤ planned.now.rrn }
-    ensures { IfOk result (λ undo. undo ≡ undo_of planned.now.opened.commit (memory_of contents.now.state) (job_of job (memory_of contents.now.state)) (new_slot planned.now)) }
+    ensures { IfOk result (λ undo. undo ≡ undo_slots planned.now.opened.commit (memory_of contents.now.state) (job_of job (memory_of contents.now.state)) (new_slot planned.now)) }
 {
     let Some(cycle) = cycle_of(contents, job, &planned.opened) else {
         return Ok(None);
     };
-    let member = planned.opened.member();
-    let rrn = planned.rrn;
-    let before = slot_copied(contents, member, rrn)?;
+    let before = slot_copied(contents, planned.opened.member(), planned.rrn)?;
     let again = before.copied(contents.alloc())?;
     let after = planned.slot.copied(contents.alloc())?;
-    Ok(Some(Undo::new(member, rrn, cycle, before, again, after)))
+    Ok(Some(UndoSlots {
+        cycle,
+        before,
+        again,
+        after,
+    }))
 }
 
 /// A copy of the slot that stands at the place.

@@ -4,7 +4,6 @@ ghost use Rattle.library_steps.specs.declared.limits.TheConstants.{LAST_SEQUENCE
 ghost use Rattle.library_steps.specs.State.{job_at, memory_of};
 ghost use Rattle.library_steps.specs.ChangeRecord.{update_change, update_plan, update_record};
 ghost use Rattle.library_steps.specs.History.{is_running};
-ghost use Rattle.built_state.specs.Unkeyed.{AreUnkeyed};
 ghost use Rattle.lock_table.specs.declared.levels.Call.TheVariants.{Update};
 ghost use Rattle.library_parts.specs.Answers.{Answers};
 ghost use Rattle.library_parts.specs.Locks.{HasLockRoom};
@@ -33,7 +32,6 @@ pub fn update_record(
     args: &UpdateRecord,
 ) -> Result<Reply, Stop>
     requires running { IsTrue (is_running (job_at job contents.old.state.jobs)) }
-    requires unkeyed { AreUnkeyed contents.old.state.files }
     ensures answers { Answers contents.old.state contents.new.state result (update_record (memory_of contents.old.state) job timestamp args.now) }
 {
     let planned = plan_update(contents, job, args)?;
@@ -44,7 +42,6 @@ pub fn update_record(
 #[tactic(auto, unfolding(library_steps::specs::ChangeRecord::update_plan))]
 fn plan_update(contents: &Contents, job: u32, args: &UpdateRecord) -> Result<PlannedSlot, Stop>
     requires running { IsTrue (is_running (job_at job contents.now.state.jobs)) }
-    requires unkeyed { AreUnkeyed contents.now.state.files }
     ensures plan { PlansSlot result (update_plan (memory_of contents.now.state) job args.now) }
     ensures left { IfOk result (λ planned. (memory_of contents.now.state).last_entry ≤ LAST_SEQUENCE) }
     ensures few { IfOk result (λ planned. AreFewChanges planned (memory_of contents.now.state)) }
@@ -63,7 +60,7 @@ fn plan_update(contents: &Contents, job: u32, args: &UpdateRecord) -> Result<Pla
     };
     let image = image_over(contents, file, opened, args.values.as_slice(), old)?;
     contents.not_held(job, opened, rrn)?;
-    keys_free(contents, job, opened, rrn, &image)?;
+    keys_free(contents, job, opened, file, rrn, &image)?;
     let slot = Slot::Live(image);
     few_changes(contents, opened, rrn, &slot)?;
     may_lock(contents, Call::Update, job, opened, rrn)?;

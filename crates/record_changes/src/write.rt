@@ -7,7 +7,6 @@ ghost use Rattle.library_steps.specs.History.{is_running};
 ghost use Rattle.library_steps.specs.Locking.{clashing};
 ghost use Rattle.library_steps.specs.Records.{slot_there};
 ghost use Rattle.library_steps.specs.WriteRecord.{next_place, place_asked, write_call, write_change, write_plan, write_record};
-ghost use Rattle.built_state.specs.Unkeyed.{AreUnkeyed};
 ghost use Rattle.library_parts.specs.Answers.{Answers, Gives};
 ghost use Rattle.library_parts.specs.Finds.{HasMember};
 ghost use Rattle.library_parts.specs.Locks.{HasLockRoom, IsWrite};
@@ -20,7 +19,7 @@ use crate::images::new_image;
 use crate::locks::leave_locks;
 use crate::planned::{PlannedSlot, Prepared, Through};
 use crate::prepare::prepare_change;
-use crate::refusals::{format_asked, keys_free, may_change};
+use crate::refusals::{added_keys_free, format_asked, may_change};
 use draft_list::may_deposit;
 use file_catalogue::File;
 use job_table::Open;
@@ -38,7 +37,6 @@ pub fn write_record(
     args: &WriteRecord,
 ) -> Result<Reply, Stop>
     requires running { IsTrue (is_running (job_at job contents.old.state.jobs)) }
-    requires unkeyed { AreUnkeyed contents.old.state.files }
     ensures answers { Answers contents.old.state contents.new.state result (write_record (memory_of contents.old.state) job timestamp args.now) }
 {
     let planned = plan_write(contents, job, args)?;
@@ -50,7 +48,6 @@ pub fn write_record(
 #[tactic(auto, unfolding(library_steps::specs::WriteRecord::write_plan))]
 fn plan_write(contents: &Contents, job: u32, args: &WriteRecord) -> Result<PlannedSlot, Stop>
     requires running { IsTrue (is_running (job_at job contents.now.state.jobs)) }
-    requires unkeyed { AreUnkeyed contents.now.state.files }
     ensures plan { PlansSlot result (write_plan (memory_of contents.now.state) job args.now) }
     ensures left { IfOk result (λ planned. (memory_of contents.now.state).last_entry ≤ LAST_SEQUENCE) }
     ensures few { IfOk result (λ planned. AreFewChanges planned (memory_of contents.now.state)) }
@@ -75,9 +72,8 @@ fn plan_given(
     args: &WriteRecord,
 ) -> Result<PlannedSlot, Stop>
     requires running { IsTrue (is_running (job_at job contents.now.state.jobs)) }
-    requires unkeyed { AreUnkeyed contents.now.state.files }
-    requires there { HasMember contents.now.state opened.now.file file.now opened.now.member }
-    ensures plan { PlansSlot result (given_plan (memory_of contents.now.state) job (opened_with opened.now file.now) args.now) }
+    requires there { HasMember contents.now.state opened.now.state.file file.now opened.now.state.member }
+    ensures plan { PlansSlot result (given_plan (memory_of contents.now.state) job (opened_with opened.now.state file.now) args.now) }
     ensures few { IfOk result (λ planned. AreFewChanges planned (memory_of contents.now.state)) }
     ensures locks { IfOk result (λ planned. MayLock (write_call args.now.record_number) job planned.opened planned.rrn (memory_of contents.now.state)) }
     ensures may { IfOk result (λ planned. MayChange contents.now.state planned) }
@@ -90,7 +86,7 @@ fn plan_given(
         contents.is_behind_last(opened.member(), rrn),
         opened.member(),
     )?;
-    keys_free(contents, job, opened, rrn, &image)?;
+    added_keys_free(contents, job, opened, file, rrn, &image)?;
     contents.few_locks_to_write(write_call(args.record_number), job, opened, rrn)?;
     let slot = Slot::Live(image);
     contents.few_changes(opened.commit(), &Slot::Deleted, &slot)?;
@@ -109,11 +105,11 @@ fn place_asked(
     asked: Option<u32>,
 ) -> Result<u32, Stop>
     requires running { IsTrue (is_running (job_at job contents.now.state.jobs)) }
-    ensures place { Gives result (place_asked job opened.now asked (memory_of contents.now.state)) }
+    ensures place { Gives result (place_asked job opened.now.state asked (memory_of contents.now.state)) }
     ensures first { IfOk result (λ rrn. 1 ≤ rrn) }
-    ensures near { IfOk result (λ rrn. rrn ≤ next_place opened.now.member (memory_of contents.now.state)) }
-    ensures unlocked { IfOk result (λ rrn. clashing (write_call asked) job opened.now rrn (memory_of contents.now.state) ≡ None) }
-    ensures empty { IfOk result (λ rrn. slot_there opened.now.member rrn (memory_of contents.now.state) ≡ Deleted) }
+    ensures near { IfOk result (λ rrn. rrn ≤ next_place opened.now.state.member (memory_of contents.now.state)) }
+    ensures unlocked { IfOk result (λ rrn. clashing (write_call asked) job opened.now.state rrn (memory_of contents.now.state) ≡ None) }
+    ensures empty { IfOk result (λ rrn. slot_there opened.now.state.member rrn (memory_of contents.now.state) ≡ Deleted) }
 {
     let member = opened.member();
     let next = contents.next_place(member);

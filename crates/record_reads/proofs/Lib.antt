@@ -1,5 +1,7 @@
-pub mod SearchLemmas
-pub mod PositionLemmas
+pub mod PhysicalLemmas
 pub mod PlanLemmas
+pub mod StopLemmas
+pub mod ReadLemmas
+pub mod EffectLemmas
 pub mod LockLemmas
 pub mod ShownLemmas

@@ -1,181 +1,207 @@
--- What the definitions make of a request through an open of a file without a key, once the open is found.
-use Rattle.std.proofs.Common.{◌≡◌, ℕ, Bool, if◌then◌else◌, Option, Some, None, Result, Ok, Err, List, [], ◌∷◌, unwrap_or, slice_get, refl, sym, ◌∙◌, ap}
+-- What the definitions make of a request through an open of a physical file, once the open is found.
+use Rattle.std.proofs.Common.{◌≡◌, ℕ, Bool, true, false, IsTrue, if◌then◌else◌, Option, None, Result, Ok, Err, is_ok, List, refl, sym, ◌∙◌, ap}
 use Rattle.std.specs.Option.{option_map}
 use Rattle.field_types.specs.declared.values.Value.{Value}
-use Rattle.member_slots.specs.Members.{member_of}
+use Rattle.key_values.specs.KeyValues.{values_in}
 use Rattle.file_model.specs.KeyOrder.{KeyValue}
 use Rattle.file_model.specs.Paths.{PathEntry}
-use Rattle.file_model.specs.Joins.{RowPlace}
-use Rattle.file_model.specs.Positions.{Bound, KeyBound, NumberBound, Position, Start, End, Reading, arrival_reading, chain_key, chain_number}
-use Rattle.library_model.specs.declared.requests.Limit.{Limit}
-use Rattle.library_model.specs.declared.requests.Limit.TheVariants as limits
+use Rattle.file_model.specs.Positions.{Position, chain_key, chain_number}
+use Rattle.dds_logical.specs.declared.join_views.JoinView.{JoinView}
+use Rattle.open_position.specs.OpenStand.{AreGivenBytes, HasNoKey}
+use Rattle.open_position.specs.Reads.{side_of}
+use Rattle.open_position.specs.declared.position.Side.{Side}
 use Rattle.library_model.specs.declared.requests.SetPosition.{SetPosition}
 use Rattle.library_model.specs.declared.requests.ReadRecord.{ReadRecord}
-use Rattle.library_model.specs.declared.requests.LockOption.{LockOption}
 use Rattle.library_model.specs.declared.requests.ReadEqual.{ReadEqual}
 use Rattle.library_model.specs.declared.requests.ChainTo.{ChainTo}
 use Rattle.library_model.specs.declared.requests.ChainTo.TheVariants.{Key, RecordNumber}
 use Rattle.library_model.specs.declared.requests.ChainRecord.{ChainRecord}
+use Rattle.library_model.specs.declared.requests.LockOption.{LockOption}
 use Rattle.library_model.specs.declared.replies.Reply.{Reply}
-use Rattle.library_model.specs.declared.replies.Reply.TheVariants.{NotFound, WrongOpen, Record, Done}
+use Rattle.library_model.specs.declared.replies.Reply.TheVariants.{NotFound, Done, WrongOpen}
 use Rattle.lock_table.specs.declared.levels.Call.TheVariants.{Position as PositionCall}
-use Rattle.dds_logical.specs.declared.join_views.JoinView.{JoinView}
-use Rattle.logical_model.specs.Formats.{Shown}
-use Rattle.library_steps.specs.State.{State, Memory, FileState, OpenState, memory_of}
-use Rattle.library_steps.specs.Refusals.{◌>>=◌, found, OpenedFile, opened_file}
+use Rattle.file_catalogue.specs.Physical.{IsPhysical}
+use Rattle.library_steps.specs.State.{Memory, FileState, OpenState}
 use Rattle.library_steps.specs.Change.{Change, unjournaled, does}
-use Rattle.library_steps.specs.LogicalFiles.{bases_of}
-use Rattle.library_steps.specs.Records.{live_record, key_asked}
-use Rattle.library_steps.specs.Locking.{locks_left, with_locks, not_locked, few_locks}
-use Rattle.library_steps.specs.Reads.{FoundEntry, Found, entry_found, at_format, find_in, read_call, read_as, has_read, with_opened, positioned, bound_asked, whole_end, position_plan, position_change, lockable, if_lockable, read_plan, read_change, read_equal_plan, chained, chain_plan}
-use Rattle.library_parts.specs.Finds.{HasMember}
-use Rattle.built_state.specs.Unkeyed.{IsPlain, AreUnkeyed}
-use Rattle.record_reads.specs.Plans.{opened_with, plain_change, record_read}
-use Rattle.job_table.specs.Arrival.{entry_numbered}
-use Rattle.built_state.proofs.UnkeyedLemmas.{IsPlain-named, is_keyed-unkeyed, key_asked-unkeyed, number_asked-unkeyed, find_in-plain, join_in-plain, shown_in-plain}
+use Rattle.library_steps.specs.Refusals.{◌>>=◌, found, OpenedFile, opened_file}
+use Rattle.logical_model.specs.Formats.{parts_in}
+use Rattle.library_steps.specs.Records.{is_keyed, reading_of, key_fault, key_or_fault, key_asked, number_asked}
+use Rattle.library_steps.specs.Locking.{locks_left, with_locks}
+use Rattle.library_steps.specs.Reads.{Found, entry_found, find_in, with_opened, positioned, bound_asked, position_plan, position_change}
+use Rattle.library_steps.specs.Reads.{if_lockable, read_plan, read_change, read_equal_plan, chained, chain_plan, chain}
+use Rattle.library_parts.specs.declared.stop.Stop.{Stop}
+use Rattle.library_parts.specs.declared.stop.Stop.TheVariants.{NoMemory, Refused}
+use Rattle.library_parts.specs.Reads.{GivesKey, Stands, formats_read, parts_read}
+use Rattle.record_reads.specs.declared.asked.AskedBy.{AskedBy}
+use Rattle.record_reads.specs.declared.asked.AskedBy.TheVariants.{FirstEqual, Number}
+use Rattle.record_reads.specs.declared.asked.Direction.{Direction}
+use Rattle.record_reads.specs.declared.asked.Direction.TheVariants as directions
+use Rattle.record_reads.specs.Asked.{found_through, CanBeAsked, any_in, equal_in, any_from, equal_from, end_in}
+use Rattle.record_reads.specs.Plans.{AsksChain, AsksOf, PlansPosition, Plans, position_set, read_from, read_equal_from, read_found}
+use Rattle.record_reads.proofs.PhysicalLemmas.{join_in-physical, find_in-physical}
 
--- an open that is over its one member, by its one format
-pub at_format-only : (opened : OpenState) → opened.members ≡ opened.member ∷ [] → opened.format ≡ 0 → at_format 0 opened ≡ opened
-at_format-only opened only format =
-    ap (λ (members : List ℕ). record opened { format = 0; member = unwrap_or (slice_get members 0) opened.member }) only
-    ∙ ap (λ (n : ℕ). record opened { format = n }) (sym format)
+pub ok-value : {A B : Type 0} (r : Result A B) → is_ok r ≡ true → (a : A) × (r ≡ Ok a)
+ok-value (Ok a) is = (a, refl)
+ok-value (Err b) is = absurd cc
 
--- without a key only a relative record number bounds a position
-abbrev pub bound_by_number : (Bound → Position PathEntry) → Limit → Result (Position PathEntry) Reply
-bound_by_number side (limits.Key values) = Err WrongOpen
-bound_by_number side limits.LowValue = Err WrongOpen
-bound_by_number side limits.HighValue = Err WrongOpen
-bound_by_number side (limits.RecordNumber rrn) = Ok (side (NumberBound rrn))
+-- any read can be asked in a direction, and one of a key where the key was given
+pub any-asked : (direction : Direction) (file : FileState) (opened : OpenState) → CanBeAsked (any_in direction) file opened
+any-asked directions.Next file opened = record { formats = tt; looked = tt }
+any-asked directions.Prior file opened = record { formats = tt; looked = tt }
 
--- the record of a number among those that are found
-abbrev pub found_by_number : OpenedFile → Memory → ChainTo → Result (Option Found) Reply
-found_by_number its m (Key values) = Err WrongOpen
-found_by_number its m (RecordNumber rrn) = Ok (option_map entry_found (chain_number (arrival_reading (member_of its.opened.member m.members)) rrn))
+pub equal-asked : (direction : Direction) (key : List ℕ) (file : FileState) (opened : OpenState) → AreGivenBytes (parts_read file opened) key
+    → CanBeAsked (equal_in direction key) file opened
+equal-asked directions.Next key file opened given = record { formats = given; looked = tt }
+equal-asked directions.Prior key file opened given = record { formats = given; looked = tt }
 
-module _ (s : State) (job : ℕ) (opened : OpenState) (file : FileState) (none : AreUnkeyed s.files) (has : HasMember s opened.file file opened.member) where
-  abbrev m : Memory
-  m = memory_of s
+-- a key is given where the open reads by one
+keyed-by : (keyed : Bool) (asked : Result (List KeyValue) Reply) (given : List KeyValue) → (if keyed then asked else Err WrongOpen) ≡ Ok given → IsTrue keyed
+keyed-by true asked given is = refl
+keyed-by false asked given is = absurd cc
 
-  abbrev its : OpenedFile
-  its = opened_with opened file
+module _ (m : Memory) (job : ℕ) (its : OpenedFile) where
+  -- ---- positions
 
-  plain : IsPlain file.spec
-  plain = IsPlain-named opened.file s.files file none has.owns.there
-
-  whole_end-refused : (end : Position PathEntry) → whole_end its end ≡ Err WrongOpen
-  whole_end-refused end = ap (λ b. if b then Ok end else Err WrongOpen) (is_keyed-unkeyed file opened plain)
-
-  bound-unkeyed : (side : Bound → Position PathEntry) (to : Limit) → bound_asked its side to ≡ bound_by_number side to
-  bound-unkeyed side (limits.Key values) =
-      ap (λ (k : Result (List KeyValue) Reply). k >>= λ key. Ok (side (KeyBound key))) (key_asked-unkeyed file opened values plain)
-  bound-unkeyed side limits.LowValue = whole_end-refused Start
-  bound-unkeyed side limits.HighValue = whole_end-refused End
-  bound-unkeyed side (limits.RecordNumber rrn) =
-      ap (λ (n : Result ℕ Reply). n >>= λ number. Ok (side (NumberBound number))) (number_asked-unkeyed file opened rrn plain)
-
-  -- the open stands there, among the entries of its path
-  abbrev pub stands : Position PathEntry → Change
-  stands at = unjournaled Done (with_opened job opened (positioned None at) (with_locks (locks_left PositionCall job opened 0 m) m))
-
-  stands-there : (at : Result (Position PathEntry) Reply)
-      → does (position_change m job) (at >>= λ p. Ok (record { its = its; position = p })) ≡ does stands at
-  stands-there (Ok p) =
-      ap (λ (join : Option JoinView). Ok (unjournaled Done (with_opened job opened (positioned join p) (with_locks (locks_left PositionCall job opened 0 m) m))))
-      (join_in-plain file.spec plain)
-  stands-there (Err reply) = refl
-
-  pub position-unkeyed : (side : Bound → Position PathEntry) (args : SetPosition) → opened_file args.open_id job m ≡ Ok its
-      → does (position_change m job) (position_plan side m job args) ≡ does stands (bound_by_number side args.to)
+  pub position-made : (side : Side) (args : SetPosition) (position : Position PathEntry) → opened_file args.open_id job m ≡ Ok its → IsPhysical its.file.spec
+      → bound_asked its (side_of side) args.to ≡ Ok position
+      → position_set side m job args ≡ Ok (unjournaled Done (with_opened job its.opened (positioned None position) (with_locks (locks_left PositionCall job its.opened 0 m) m)))
   unfolding position_plan
-  position-unkeyed side args there =
-      ap (λ (r : Result OpenedFile Reply). does (position_change m job) (r >>= λ o. (bound_asked o side args.to >>= λ p. Ok (record { its = o; position = p })))) there
-      ∙ ap (λ (r : Result (Position PathEntry) Reply). does (position_change m job) (r >>= λ p. Ok (record { its = its; position = p }))) (bound-unkeyed side args.to)
-      ∙ stands-there (bound_by_number side args.to)
+  position-made side args position there physical at =
+      ap (λ (r : Result OpenedFile Reply). does (position_change m job) (r >>= λ o. (bound_asked o (side_of side) args.to >>= λ p. Ok (record { its = o; position = p })))) there
+      ∙ ap (λ (r : Result (Position PathEntry) Reply). does (position_change m job) (r >>= λ p. Ok (record { its = its; position = p }))) at
+      ∙ ap (λ (join : Option JoinView). Ok (unjournaled Done (with_opened job its.opened (positioned join position) (with_locks (locks_left PositionCall job its.opened 0 m) m))))
+      (join_in-physical its.file.spec physical)
 
-  -- what is read shows what the file's one format shows
-  shows-plainly : (it : FoundEntry) → IsPlain it.file.spec → read_change m job it ≡ plain_change m job it
-  shows-plainly it is_plain =
-      ap (λ (shown : Shown). unjournaled (Record (read_as it.found.entry.rrn shown))
-      (with_opened job it.opened (has_read it.call it.found) (with_locks (locks_left it.call job it.opened it.found.entry.rrn m) m)))
-      (shown_in-plain (bases_of m) m.members it.file.spec it.opened.format (unwrap_or (live_record it.opened.member it.found.entry.rrn m) []) it.found.row is_plain)
+  position-refused : (side : Side) (args : SetPosition) (reply : Reply) → opened_file args.open_id job m ≡ Ok its → bound_asked its (side_of side) args.to ≡ Err reply
+      → position_set side m job args ≡ Err reply
+  unfolding position_plan
+  position-refused side args reply there refused =
+      ap (λ (r : Result OpenedFile Reply). does (position_change m job) (r >>= λ o. (bound_asked o (side_of side) args.to >>= λ p. Ok (record { its = o; position = p })))) there
+      ∙ ap (λ (r : Result (Position PathEntry) Reply). does (position_change m job) (r >>= λ p. Ok (record { its = its; position = p }))) refused
 
-  -- where the open has that one format, the read of a record is that of the open itself
-  reads-plainly : (lock : LockOption) (rrn : ℕ) → at_format 0 opened ≡ opened
-      → does (read_change m job) (if_lockable job m its lock (entry_found (entry_numbered rrn))) ≡ record_read its lock rrn m job
-  reads-plainly lock rrn one =
-      ap (λ (o : OpenState). does (read_change m job) (lockable job m file o lock (entry_found (entry_numbered rrn)))) one
-      ∙ by (not_locked (read_call lock opened) job opened rrn m) (few_locks (read_call lock opened) job opened rrn m)
-    where
-      it : FoundEntry
-      it = record { file = file; opened = opened; call = read_call lock opened; found = entry_found (entry_numbered rrn) }
+  -- where it can't stand, the request is refused for that
+  pub stand-refused : (args : SetPosition) (stop : Stop) → opened_file args.open_id job m ≡ Ok its → Stands its args.to (Err stop) → PlansPosition m job args (Err stop)
+  stand-refused args NoMemory there stands = stands
+  stand-refused args (Refused reply) there stands = λ side. position-refused side args reply there (stands (side_of side))
 
-      by : (unlocked few : Result Bool Reply)
-          → does (read_change m job) (unlocked >>= λ _. (few >>= λ _. Ok it)) ≡ does (plain_change m job) (unlocked >>= λ _. (few >>= λ _. Ok it))
-      by (Err reply) few = refl
-      by (Ok _) (Err reply) = refl
-      by (Ok _) (Ok _) = ap Ok (shows-plainly it plain)
+  -- ---- reads
 
-  pub read-unkeyed : (entry_from : Reading PathEntry → Position PathEntry → Option PathEntry) (row_from : Reading RowPlace → Position RowPlace → Option RowPlace)
-      (nothing : Reply) (args : ReadRecord) (number : Option ℕ) → opened_file args.open_id job m ≡ Ok its → at_format 0 opened ≡ opened
-      → entry_from (arrival_reading (member_of opened.member s.members)) opened.position ≡ option_map entry_numbered number
-      → does (read_change m job) (read_plan entry_from row_from nothing m job args) ≡ (found number nothing >>= λ rrn. record_read its args.lock rrn m job)
+  -- the read of what was found, or the reply where that is nothing
+  abbrev pub read_of : LockOption → Reply → Option Found → Result Change Reply
+  read_of lock nothing item = does (read_change m job) (found item nothing >>= λ it. if_lockable job m its lock it)
+
+  pub read-through : (direction : Direction) (args : ReadRecord) → opened_file args.open_id job m ≡ Ok its → IsPhysical its.file.spec
+      → read_from direction m job args ≡ read_found m job its args.lock (any_in direction)
   unfolding read_plan
-  read-unkeyed entry_from row_from nothing args number there one is =
-      ap (λ (r : Result OpenedFile Reply). does (read_change m job) (r >>= λ o. (found (find_in o m (λ reading. entry_from reading o.opened.position)
-      (λ reading. row_from reading o.opened.rows)) nothing >>= λ it. if_lockable job m o args.lock it))) there
-      ∙ ap (λ (i : Option Found). does (read_change m job) (found i nothing >>= λ it. if_lockable job m its args.lock it))
-      (find_in-plain its m (λ reading. entry_from reading opened.position) (λ reading. row_from reading opened.rows) plain)
-      ∙ ap (λ (e : Option PathEntry). does (read_change m job) (found (option_map entry_found e) nothing >>= λ it. if_lockable job m its args.lock it)) is
-      ∙ by number
+  read-through direction args there physical =
+      ap (λ (r : Result OpenedFile Reply). does (read_change m job) (r >>= λ o. (found (find_in o m (λ reading. any_from direction reading o.opened.position)
+      (λ reading. any_from direction reading o.opened.rows)) (end_in direction) >>= λ it. if_lockable job m o args.lock it))) there
+      ∙ ap (λ (item : Option Found). read_of args.lock (end_in direction) item)
+      (find_in-physical its m (λ reading. any_from direction reading its.opened.position) (λ reading. any_from direction reading its.opened.rows) physical)
+      ∙ by direction
     where
-      by : (n : Option ℕ) → does (read_change m job) (found (option_map entry_found (option_map entry_numbered n)) nothing >>= λ it. if_lockable job m its args.lock it)
-          ≡ (found n nothing >>= λ rrn. record_read its args.lock rrn m job)
-      by None = refl
-      by (Some rrn) = reads-plainly args.lock rrn one
+      by : (d : Direction) → read_of args.lock (end_in d) (option_map entry_found (any_from d (reading_of its.file its.opened m) its.opened.position)) ≡ read_found m job its args.lock (any_in d)
+      by directions.Next = refl
+      by directions.Prior = refl
 
-  pub equal-unkeyed : (entry_from : Reading PathEntry → List KeyValue → Position PathEntry → Option PathEntry)
-      (row_from : Reading RowPlace → List KeyValue → Position RowPlace → Option RowPlace) (nothing : Reply) (args : ReadEqual)
-      → opened_file args.open_id job m ≡ Ok its → read_equal_plan entry_from row_from nothing m job args ≡ Err WrongOpen
+  -- a key that is asked for
+  abbrev equal_after : Direction → ReadEqual → Result (List KeyValue) Reply → Result Change Reply
+  equal_after direction args asked =
+      does (read_change m job) (asked >>= λ key. (found (find_in its m (λ reading. equal_from direction reading key its.opened.position)
+      (λ reading. equal_from direction reading key its.opened.rows)) (end_in direction) >>= λ it. if_lockable job m its args.lock it))
+
+  equal-of : (direction : Direction) (args : ReadEqual) (asked : Result (List KeyValue) Reply) → opened_file args.open_id job m ≡ Ok its → key_asked its.file its.opened args.key ≡ asked
+      → read_equal_from direction m job args ≡ equal_after direction args asked
   unfolding read_equal_plan
-  equal-unkeyed entry_from row_from nothing args there =
-      ap (λ (r : Result OpenedFile Reply). r >>= λ o. (key_asked o.file o.opened args.key >>= λ key. (found (find_in o m (λ reading. entry_from reading key o.opened.position)
-      (λ reading. row_from reading key o.opened.rows)) nothing >>= λ it. if_lockable job m o args.lock it))) there
-      ∙ ap (λ (k : Result (List KeyValue) Reply). k >>= λ key. (found (find_in its m (λ reading. entry_from reading key opened.position)
-      (λ reading. row_from reading key opened.rows)) nothing >>= λ it. if_lockable job m its args.lock it)) (key_asked-unkeyed file opened args.key plain)
+  equal-of direction args asked there is =
+      ap (λ (r : Result OpenedFile Reply). does (read_change m job) (r >>= λ o. (key_asked o.file o.opened args.key >>= λ key.
+      (found (find_in o m (λ reading. equal_from direction reading key o.opened.position)
+      (λ reading. equal_from direction reading key o.opened.rows)) (end_in direction) >>= λ it. if_lockable job m o args.lock it)))) there
+      ∙ ap (equal_after direction args) is
 
-  chained-unkeyed : (to : ChainTo) → chained its m to ≡ found_by_number its m to
-  chained-unkeyed (Key values) =
-      ap (λ (k : Result (List KeyValue) Reply). k >>= λ key. Ok (find_in its m (λ reading. chain_key reading key) (λ reading. chain_key reading key)))
-      (key_asked-unkeyed file opened values plain)
-  chained-unkeyed (RecordNumber rrn) =
-      ap (λ (n : Result ℕ Reply). n >>= λ number. Ok (find_in its m (λ reading. chain_number reading number) (λ reading. chain_number reading number)))
-      (number_asked-unkeyed file opened rrn plain)
-      ∙ ap Ok (find_in-plain its m (λ reading. chain_number reading rrn) (λ reading. chain_number reading rrn) plain)
-
-  -- the read of what a CHAIN asks for
-  abbrev chain_read : LockOption → Result (Option Found) Reply → Result Change Reply
-  chain_read lock items = does (read_change m job) (items >>= λ item. (found item NotFound >>= λ it. if_lockable job m its lock it))
-
-  chain-unkeyed : (args : ChainRecord) → opened_file args.open_id job m ≡ Ok its
-      → does (read_change m job) (chain_plan m job args) ≡ chain_read args.lock (found_by_number its m args.to)
-  unfolding chain_plan
-  chain-unkeyed args there =
-      ap (λ (r : Result OpenedFile Reply). does (read_change m job) (r >>= λ o. (chained o m args.to >>= λ item. (found item NotFound >>= λ it. if_lockable job m o args.lock it)))) there
-      ∙ ap (chain_read args.lock) (chained-unkeyed args.to)
-
-  pub chain-by-key : (args : ChainRecord) (values : List Value) → opened_file args.open_id job m ≡ Ok its → args.to ≡ Key values
-      → does (read_change m job) (chain_plan m job args) ≡ Err WrongOpen
-  chain-by-key args values there is = chain-unkeyed args there ∙ ap (λ (to : ChainTo). chain_read args.lock (found_by_number its m to)) is
-
-  pub chain-by-number : (args : ChainRecord) (rrn : ℕ) (number : Option ℕ) → opened_file args.open_id job m ≡ Ok its → at_format 0 opened ≡ opened → args.to ≡ RecordNumber rrn
-      → chain_number (arrival_reading (member_of opened.member s.members)) rrn ≡ option_map entry_numbered number
-      → does (read_change m job) (chain_plan m job args) ≡ (found number NotFound >>= λ n. record_read its args.lock n m job)
-  chain-by-number args rrn number there one is item =
-      chain-unkeyed args there
-      ∙ ap (λ (to : ChainTo). chain_read args.lock (found_by_number its m to)) is
-      ∙ ap (λ (e : Option PathEntry). chain_read args.lock (Ok (option_map entry_found e))) item
-      ∙ by number
+  equal-found : (direction : Direction) (args : ReadEqual) (given : List KeyValue) (key : List ℕ) → IsPhysical its.file.spec → values_in (parts_read its.file its.opened) key ≡ given
+      → equal_after direction args (Ok given) ≡ read_found m job its args.lock (equal_in direction key)
+  equal-found direction args given key physical is =
+      ap (λ (item : Option Found). read_of args.lock (end_in direction) item)
+      (find_in-physical its m (λ reading. equal_from direction reading given its.opened.position) (λ reading. equal_from direction reading given its.opened.rows) physical)
+      ∙ ap (λ (values : List KeyValue). read_of args.lock (end_in direction) (option_map entry_found (equal_from direction (reading_of its.file its.opened m) values its.opened.position))) (sym is)
+      ∙ by direction
     where
-      by : (n : Option ℕ) → chain_read args.lock (Ok (option_map entry_found (option_map entry_numbered n))) ≡ (found n NotFound >>= λ r. record_read its args.lock r m job)
-      by None = refl
-      by (Some r) = reads-plainly args.lock r one
+      by : (d : Direction)
+          → read_of args.lock (end_in d) (option_map entry_found (equal_from d (reading_of its.file its.opened m) (values_in (parts_read its.file its.opened) key) its.opened.position))
+          ≡ read_found m job its args.lock (equal_in d key)
+      by directions.Next = refl
+      by directions.Prior = refl
+
+  pub equal-through : (direction : Direction) (args : ReadEqual) (key : List ℕ) → opened_file args.open_id job m ≡ Ok its → IsPhysical its.file.spec
+      → GivesKey its.file its.opened args.key (Ok key) → read_equal_from direction m job args ≡ read_found m job its args.lock (equal_in direction key)
+  equal-through direction args key there physical gives =
+      equal-of direction args (Ok gives.0) there gives.1 ∙ equal-found direction args gives.0 key physical gives.2.values
+
+  pub equal-refused : (direction : Direction) (args : ReadEqual) (stop : Stop) → opened_file args.open_id job m ≡ Ok its → GivesKey its.file its.opened args.key (Err stop)
+      → Plans m job args.open_id (read_equal_from direction m job args) (Err stop)
+  equal-refused direction args NoMemory there gives = tt
+  equal-refused direction args (Refused reply) there gives = equal-of direction args (Err reply) there gives
+
+  -- ---- CHAIN
+
+  chain-of : (args : ChainRecord) (items : Result (Option Found) Reply) → opened_file args.open_id job m ≡ Ok its → chained its m args.to ≡ items
+      → chain m job args ≡ does (read_change m job) (items >>= λ item. (found item NotFound >>= λ it. if_lockable job m its args.lock it))
+  unfolding chain_plan
+  chain-of args items there is =
+      ap (λ (r : Result OpenedFile Reply). does (read_change m job) (r >>= λ o. (chained o m args.to >>= λ item. (found item NotFound >>= λ it. if_lockable job m o args.lock it)))) there
+      ∙ ap (λ (i : Result (Option Found) Reply). does (read_change m job) (i >>= λ item. (found item NotFound >>= λ it. if_lockable job m its args.lock it))) is
+
+  pub chain-through : (args : ChainRecord) (asks : AskedBy) → opened_file args.open_id job m ≡ Ok its → AsksChain m its args.to asks → chain m job args ≡ read_found m job its args.lock asks
+  chain-through args asks there chain_asks =
+      chain-of args (Ok (option_map entry_found (found_through asks its.file its.opened m))) there chain_asks.chains
+      ∙ ap (λ (reply : Reply). read_of args.lock reply (option_map entry_found (found_through asks its.file its.opened m))) (sym chain_asks.none)
+
+  pub chain-refused : (args : ChainRecord) (stop : Stop) → opened_file args.open_id job m ≡ Ok its → AsksOf m its args.to (Err stop) → Plans m job args.open_id (chain m job args) (Err stop)
+  chain-refused args NoMemory there asks = tt
+  chain-refused args (Refused reply) there asks = chain-of args (Err reply) there asks
+
+  -- by a key
+  chained-key : (values : List Value) (asked : Result (List KeyValue) Reply) → key_asked its.file its.opened values ≡ asked
+      → chained its m (Key values) ≡ (asked >>= λ key. Ok (find_in its m (λ reading. chain_key reading key) (λ reading. chain_key reading key)))
+  chained-key values asked is = ap (λ (k : Result (List KeyValue) Reply). k >>= λ key. Ok (find_in its m (λ reading. chain_key reading key) (λ reading. chain_key reading key))) is
+
+  pub key-chained : (values : List Value) (key : List ℕ) → IsPhysical its.file.spec → GivesKey its.file its.opened values (Ok key) → AsksChain m its (Key values) (FirstEqual key)
+  key-chained values key physical gives = record {
+    asked = record {
+      formats = gives.2.bytes;
+      looked = keyed-by (is_keyed its.file its.opened) (key_or_fault (parts_in its.file.spec) values (key_fault (parts_in its.file.spec) values)) gives.0 gives.1;
+    };
+    chains =
+        chained-key values (Ok gives.0) gives.1
+        ∙ ap (λ (item : Option Found). Ok item) (find_in-physical its m (λ reading. chain_key reading gives.0) (λ reading. chain_key reading gives.0) physical)
+        ∙ ap (λ (given : List KeyValue). Ok (option_map entry_found (chain_key (reading_of its.file its.opened m) given))) (sym gives.2.values);
+    none = refl;
+  }
+
+  key-not-chained : (values : List Value) (stop : Stop) → GivesKey its.file its.opened values (Err stop) → AsksOf m its (Key values) (Err stop)
+  key-not-chained values NoMemory gives = tt
+  key-not-chained values (Refused reply) gives = chained-key values (Err reply) gives
+
+  pub key-stopped : (values : List Value) (to : ChainTo) (result : Result AskedBy Stop) (stop : Stop) → to ≡ Key values → result ≡ Err stop
+      → GivesKey its.file its.opened values (Err stop) → AsksOf m its to result
+  key-stopped values to result stop key is gives = rw (key, is) (key-not-chained values stop gives)
+
+  -- by a relative record number
+  chained-number : (rrn : ℕ) (asked : Result ℕ Reply) → number_asked its.file its.opened rrn ≡ asked
+      → chained its m (RecordNumber rrn) ≡ (asked >>= λ number. Ok (find_in its m (λ reading. chain_number reading number) (λ reading. chain_number reading number)))
+  chained-number rrn asked is =
+      ap (λ (n : Result ℕ Reply). n >>= λ number. Ok (find_in its m (λ reading. chain_number reading number) (λ reading. chain_number reading number))) is
+
+  pub number-chained : (rrn : ℕ) → IsPhysical its.file.spec → HasNoKey (formats_read its.file its.opened) → number_asked its.file its.opened rrn ≡ Ok rrn
+      → AsksChain m its (RecordNumber rrn) (Number rrn)
+  number-chained rrn physical none is = record {
+    asked = record { formats = none; looked = tt };
+    chains =
+        chained-number rrn (Ok rrn) is
+        ∙ ap (λ (item : Option Found). Ok item) (find_in-physical its m (λ reading. chain_number reading rrn) (λ reading. chain_number reading rrn) physical);
+    none = refl;
+  }
+
+  pub number-not-chained : (rrn : ℕ) (reply : Reply) → number_asked its.file its.opened rrn ≡ Err reply → chained its m (RecordNumber rrn) ≡ Err reply
+  number-not-chained rrn reply is = chained-number rrn (Err reply) is

@@ -1,2 +1,2 @@
-pub mod Arrival
+pub mod Asked
 pub mod Plans

@@ -1,53 +1,50 @@
 -- What the plan of a request hands on to its effect, and the change that the effect makes of it. (Our own.)
-use Rattle.std.specs.Prelude.{◌≡◌, ℕ, ◌≤◌, None, IfSome, Result, Ok, Err, List, [], length, unwrap_or}
+use Rattle.std.specs.Prelude.{◌≡◌, ℕ, ◌≤◌, true, None, Some, IfSome, Result, Ok, Err, is_ok, List, [], ◌∷◌, length, unwrap_or}
+use Rattle.std.specs.Option.{option_map}
 use Rattle.lock_table.specs.declared.lock.Lock.{Lock}
 use Rattle.lock_table.specs.declared.lock.Holder.{Holder}
 use Rattle.lock_table.specs.declared.lock.RecordId.{RecordId}
 use Rattle.lock_table.specs.declared.levels.Call.{Call}
-use Rattle.lock_table.specs.declared.levels.Call.TheVariants.{Position as PositionCall}
 use Rattle.lock_table.specs.declared.table.TheConstants.{MOST_LOCKS}
 use Rattle.lock_table.specs.Levels.{asked, locks_after}
 use Rattle.lock_table.specs.Table.{blocker}
 use Rattle.file_model.specs.Paths.{PathEntry}
-use Rattle.file_model.specs.Positions.{Bound, Position, Before, Past}
+use Rattle.file_model.specs.Positions.{Bound, Position}
 use Rattle.logical_model.specs.Formats.{values_shown}
-use Rattle.job_table.specs.Arrival.{arrival_position, entry_numbered}
+use Rattle.open_position.specs.Reads.{side_of}
+use Rattle.open_position.specs.declared.position.Side.{Side}
 use Rattle.library_model.specs.declared.requests.SetPosition.{SetPosition}
 use Rattle.library_model.specs.declared.requests.ReadRecord.{ReadRecord}
+use Rattle.library_model.specs.declared.requests.ReadEqual.{ReadEqual}
+use Rattle.library_model.specs.declared.requests.ChainTo.{ChainTo}
 use Rattle.library_model.specs.declared.requests.LockOption.{LockOption}
 use Rattle.library_model.specs.declared.replies.RecordRead.{RecordRead}
 use Rattle.library_model.specs.declared.replies.Reply.{Reply}
-use Rattle.library_model.specs.declared.replies.Reply.TheVariants.{Record, Done}
+use Rattle.library_model.specs.declared.replies.Reply.TheVariants.{NotFound, Record}
+use Rattle.file_catalogue.specs.Physical.{IsPhysical}
 use Rattle.library_steps.specs.State.{Memory, FileState, OpenState, format_in, job_of, with_job}
 use Rattle.library_steps.specs.Change.{Change, unjournaled, does}
-use Rattle.library_steps.specs.Refusals.{OpenedFile}
+use Rattle.library_steps.specs.Refusals.{◌>>=◌, found, OpenedFile, opened_file}
 use Rattle.library_steps.specs.Records.{live_record}
-use Rattle.library_steps.specs.Locking.{level_of, is_committed, locks_left, with_locks}
-use Rattle.library_steps.specs.Reads.{FoundEntry, entry_found, open_changed, with_opened, positioned, position_plan, position_change, has_read, read_plan, read_change, lockable}
+use Rattle.library_steps.specs.Locking.{level_of, is_committed, with_locks, not_locked, few_locks}
+use Rattle.library_steps.specs.Reads.{entry_found, open_changed, bound_asked, position_plan, position_change, read_call, has_read, read_plan, read_equal_plan, read_change, if_lockable, chained}
 use Rattle.library_parts.specs.declared.stop.Stop.{Stop}
 use Rattle.library_parts.specs.declared.stop.Stop.TheVariants.{NoMemory, Refused}
 use Rattle.library_parts.specs.Locks.{IsRead}
-use Rattle.record_reads.specs.Arrival.{find_from, nothing_found}
-use Rattle.record_reads.specs.declared.reads.Direction.{Direction}
+use Rattle.record_reads.specs.Asked.{found_through, CanBeAsked, nothing_found, any_from, equal_from, end_in}
+use Rattle.record_reads.specs.declared.asked.AskedBy.{AskedBy}
+use Rattle.record_reads.specs.declared.asked.Direction.{Direction}
 use Rattle.record_reads.specs.declared.plans.UsedOpen.{UsedOpen}
-use Rattle.record_reads.specs.declared.plans.NewStand.{NewStand}
 use Rattle.record_reads.specs.declared.plans.PlannedRead.{PlannedRead}
-use Rattle.record_reads.specs.declared.positions.Side.{Side}
-use Rattle.record_reads.specs.declared.positions.Side.TheVariants as sides
-
--- a plan from which the effect makes the change that is wanted, or the refusal
-abbrev pub Plans : {A : Type 0} → (A → Change) → Result A Stop → Result Change Reply → Type 0
-Plans effect (Ok plan) wanted = wanted ≡ Ok (effect plan)
-Plans effect (Err NoMemory) wanted = Unit {0}
-Plans effect (Err (Refused reply)) wanted = wanted ≡ Err reply
-
--- the same, and memory is never short
-abbrev pub PlansAlways : {A : Type 0} → (A → Change) → Result A Stop → Result Change Reply → Type 0
-PlansAlways effect (Ok plan) wanted = wanted ≡ Ok (effect plan)
-PlansAlways effect (Err NoMemory) wanted = ⊥
-PlansAlways effect (Err (Refused reply)) wanted = wanted ≡ Err reply
+use Rattle.record_reads.specs.declared.plans.FoundRead.{FoundRead}
 
 -- ---- the open
+
+-- an open of a physical file, which is over one member and reads by one format
+pub record ReadsOneFormat (file : FileState) (opened : OpenState) : Type 0 where
+  pub physical : IsPhysical file.spec
+  pub only : opened.members ≡ opened.member ∷ []
+  pub format : opened.format ≡ 0
 
 abbrev pub opened_with : OpenState → FileState → OpenedFile
 opened_with opened file = record { opened = opened; file = file }
@@ -68,25 +65,51 @@ locks_through call job used rrn m =
 
 -- ---- positions
 
-abbrev pub bound_side : Side → Bound → Position PathEntry
-bound_side sides.Before = Before
-bound_side sides.Past = Past
-
 -- SETLL or SETGT
 abbrev pub position_set : Side → Memory → (job : ℕ) → SetPosition → Result Change Reply
-position_set side m job args = does (position_change m job) (position_plan (bound_side side) m job args)
+position_set side m job args = does (position_change m job) (position_plan (side_of side) m job args)
 
-abbrev pub stand_change : Memory → (job : ℕ) → NewStand → Change
-stand_change m job new =
-    unjournaled Done
-    (with_job job (open_changed new.used.number (positioned None (arrival_position new.position))) (with_locks (locks_through PositionCall job new.used 0 m) m))
+-- the open that the request names, which is no join's and can stand there
+pub record CanBeSet (m : Memory) (job : ℕ) (args : SetPosition) (used : UsedOpen) : Type 0 where
+  pub its : OpenedFile
+  pub opened : opened_file args.open_id job m ≡ Ok its
+  pub physical : IsPhysical its.file.spec
+  pub place : (side : Bound → Position PathEntry) → is_ok (bound_asked its side args.to) ≡ true
+  pub same : used ≡ used_of job its.opened m
+
+-- the open can be set, or there is a refusal, whichever side is wanted; memory is never short
+abbrev pub PlansPosition : Memory → (job : ℕ) → SetPosition → Result UsedOpen Stop → Type 0
+PlansPosition m job args (Ok used) = CanBeSet m job args used
+PlansPosition m job args (Err NoMemory) = ⊥
+PlansPosition m job args (Err (Refused reply)) = (side : Side) → position_set side m job args ≡ Err reply
 
 -- ---- reads
 
 -- READ or READP
 abbrev pub read_from : Direction → Memory → (job : ℕ) → ReadRecord → Result Change Reply
 read_from direction m job args =
-    does (read_change m job) (read_plan (find_from direction) (find_from direction) (nothing_found direction) m job args)
+    does (read_change m job) (read_plan (any_from direction) (any_from direction) (end_in direction) m job args)
+
+-- READE or READPE
+abbrev pub read_equal_from : Direction → Memory → (job : ℕ) → ReadEqual → Result Change Reply
+read_equal_from direction m job args =
+    does (read_change m job) (read_equal_plan (equal_from direction) (equal_from direction) (end_in direction) m job args)
+
+-- the read of what the open finds by this
+abbrev pub read_found : Memory → (job : ℕ) → OpenedFile → LockOption → AskedBy → Result Change Reply
+read_found m job its lock by =
+    does (read_change m job) (found (option_map entry_found (found_through by its.file its.opened m)) (nothing_found by) >>= λ it. if_lockable job m its lock it)
+
+-- by what CHAIN finds its record through the open, or its refusal
+pub record AsksChain (m : Memory) (its : OpenedFile) (to : ChainTo) (by : AskedBy) : Type 0 where
+  pub asked : CanBeAsked by its.file its.opened
+  pub chains : chained its m to ≡ Ok (option_map entry_found (found_through by its.file its.opened m))
+  pub none : nothing_found by ≡ NotFound
+
+abbrev pub AsksOf : Memory → OpenedFile → ChainTo → Result AskedBy Stop → Type 0
+AsksOf m its to (Ok by) = AsksChain m its to by
+AsksOf m its to (Err NoMemory) = Unit {0}
+AsksOf m its to (Err (Refused reply)) = chained its m to ≡ Err reply
 
 -- what the one format of a physical file shows of a record of the open's member
 abbrev pub record_shown : Memory → FileState → OpenState → (rrn : ℕ) → RecordRead
@@ -96,23 +119,69 @@ record_shown m file opened rrn = record {
   values = values_shown (format_in file.spec).fields (unwrap_or (live_record opened.member rrn m) []);
 }
 
--- the read of what was found, where it shows that
-abbrev pub plain_change : Memory → (job : ℕ) → FoundEntry → Change
-plain_change m job it =
-    unjournaled (Record (record_shown m it.file it.opened it.found.entry.rrn))
-    (with_opened job it.opened (has_read it.call it.found) (with_locks (locks_left it.call job it.opened it.found.entry.rrn m) m))
+-- the read of a record through the open, where the locks allow it
+abbrev pub record_planned : Memory → (job : ℕ) → OpenedFile → LockOption → (rrn : ℕ) → Result PlannedRead Reply
+record_planned m job its lock rrn = do
+  _ ← not_locked (read_call lock its.opened) job its.opened rrn m
+  _ ← few_locks (read_call lock its.opened) job its.opened rrn m
+  Ok (record { used = used_of job its.opened m; call = read_call lock its.opened; rrn = rrn; shown = record_shown m its.file its.opened rrn })
 
--- the read of a record that was found, where the locks allow it
-abbrev pub record_read : OpenedFile → LockOption → (rrn : ℕ) → Memory → (job : ℕ) → Result Change Reply
-record_read its lock rrn m job = does (plain_change m job) (lockable job m its.file its.opened lock (entry_found (entry_numbered rrn)))
-
-abbrev pub planned_change : Memory → (job : ℕ) → PlannedRead → Change
-planned_change m job plan =
+-- the change that reads the record, whose entry is that
+abbrev pub planned_change : Memory → (job : ℕ) → PlannedRead → PathEntry → Change
+planned_change m job plan entry =
     unjournaled (Record plan.shown)
-    (with_job job (open_changed plan.used.number (has_read plan.call (entry_found (entry_numbered plan.rrn)))) (with_locks (locks_through plan.call job plan.used plan.rrn m) m))
+    (with_job job (open_changed plan.used.number (has_read plan.call (entry_found entry))) (with_locks (locks_through plan.call job plan.used plan.rrn m) m))
 
 -- the locks allow the read
 pub record MayLock (m : Memory) (job : ℕ) (plan : PlannedRead) : Type 0 where
   pub call : IsRead plan.call
   pub unlocked : IfSome (asked plan.call plan.used.level) (λ wanted. blocker job (record_through plan.used plan.rrn) wanted.kind m.locks ≡ None)
   pub few : length (locks_through plan.call job plan.used plan.rrn m) ≤ MOST_LOCKS
+
+-- the open finds an entry by this, whose read is what is wanted
+pub record IsReadBy (m : Memory) (job : ℕ) (its : OpenedFile) (by : AskedBy) (wanted : Result Change Reply) (plan : PlannedRead) : Type 0 where
+  pub entry : PathEntry
+  pub finds : found_through by its.file its.opened m ≡ Some entry
+  pub change : wanted ≡ Ok (planned_change m job plan entry)
+  pub number : plan.used.number ≡ its.opened.number
+  pub lock : MayLock m job plan
+
+abbrev pub PlansReadBy : Memory → (job : ℕ) → OpenedFile → AskedBy → Result Change Reply → Result PlannedRead Stop → Type 0
+PlansReadBy m job its by wanted (Ok plan) = IsReadBy m job its by wanted plan
+PlansReadBy m job its by wanted (Err NoMemory) = Unit {0}
+PlansReadBy m job its by wanted (Err (Refused reply)) = wanted ≡ Err reply
+
+-- the same with what it is found by
+pub record IsFoundRead (m : Memory) (job : ℕ) (its : OpenedFile) (wanted : Result Change Reply) (plan : FoundRead) : Type 0 where
+  pub asked : CanBeAsked plan.by its.file its.opened
+  pub read : IsReadBy m job its plan.by wanted plan.read
+
+abbrev pub PlansFound : Memory → (job : ℕ) → OpenedFile → Result Change Reply → Result FoundRead Stop → Type 0
+PlansFound m job its wanted (Ok plan) = IsFoundRead m job its wanted plan
+PlansFound m job its wanted (Err NoMemory) = Unit {0}
+PlansFound m job its wanted (Err (Refused reply)) = wanted ≡ Err reply
+
+-- the job's open of this name finds an entry by this, which can be read as planned
+pub record CanRead (m : Memory) (job : ℕ) (name : List ℕ) (by : AskedBy) (plan : PlannedRead) : Type 0 where
+  pub its : OpenedFile
+  pub opened : opened_file name job m ≡ Ok its
+  pub asked : CanBeAsked by its.file its.opened
+  pub entry : PathEntry
+  pub finds : found_through by its.file its.opened m ≡ Some entry
+  pub number : plan.used.number ≡ its.opened.number
+  pub lock : MayLock m job plan
+
+-- the read of the entry that it finds is what is wanted
+abbrev pub IsWanted : Memory → (job : ℕ) → (name : List ℕ) → AskedBy → PlannedRead → Result Change Reply → Type 0
+IsWanted m job name by plan wanted =
+    (its : OpenedFile) (entry : PathEntry) → opened_file name job m ≡ Ok its → found_through by its.file its.opened m ≡ Some entry → wanted ≡ Ok (planned_change m job plan entry)
+
+pub record IsRequested (m : Memory) (job : ℕ) (name : List ℕ) (wanted : Result Change Reply) (plan : FoundRead) : Type 0 where
+  pub can : CanRead m job name plan.by plan.read
+  pub leads : IsWanted m job name plan.by plan.read wanted
+
+-- the plan of a request through the job's open of this name, or the first refusal that holds
+abbrev pub Plans : Memory → (job : ℕ) → (name : List ℕ) → Result Change Reply → Result FoundRead Stop → Type 0
+Plans m job name wanted (Ok plan) = IsRequested m job name wanted plan
+Plans m job name wanted (Err NoMemory) = Unit {0}
+Plans m job name wanted (Err (Refused reply)) = wanted ≡ Err reply

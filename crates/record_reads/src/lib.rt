@@ -1,8 +1,8 @@
 //! The requests that set positions and read records: SETLL, SETGT, READ, READP, READE, READPE and CHAIN, through opens of
-//! physical files without a key. Begin with `reads.rt`.
+//! physical files, by their keys and in arrival order. Begin with `reads.rt`.
 #![tactic(auto)]
 
-mod arrival;
+mod asked;
 mod plans;
 mod positions;
 mod reads;

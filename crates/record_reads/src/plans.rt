@@ -2,9 +2,11 @@
 ghost use Rattle.std.specs.Prelude.{◌≡◌, IsTrue};
 ghost use Rattle.library_steps.specs.State.{memory_of, job_at};
 ghost use Rattle.library_steps.specs.History.{is_running};
-ghost use Rattle.record_reads.specs.Plans.{used_of, holder_through, record_through};
+ghost use Rattle.record_reads.specs.Plans.{ReadsOneFormat, used_of, holder_through, record_through};
 
-use job_table::{ArrivalPosition, Open};
+use crate::asked::AskedBy;
+use file_catalogue::File;
+use job_table::Open;
 use library_model::replies::RecordRead;
 use library_parts::Contents;
 use lock_table::{Call, Holder, Level, RecordId};
@@ -39,13 +41,6 @@ impl UsedOpen {
     }
 }
 
-/// An open, and where it is to stand.
-#[derive(Clone, Copy)]
-pub(crate) struct NewStand {
-    pub used: UsedOpen,
-    pub position: ArrivalPosition,
-}
-
 /// A record that is to be read.
 #[derive(Drop)]
 pub(crate) struct PlannedRead {
@@ -55,14 +50,29 @@ pub(crate) struct PlannedRead {
     pub shown: RecordRead,
 }
 
+/// The same, and by what it is found.
+#[derive(Drop)]
+pub(crate) struct FoundRead {
+    pub by: AskedBy,
+    pub read: PlannedRead,
+}
+
 /// What an effect needs of an open of the job.
 pub(crate) fn used_open(contents: &Contents, job: u32, opened: &Open) -> UsedOpen
     requires { IsTrue (is_running (job_at job contents.now.state.jobs)) }
-    ensures { result ≡ used_of job opened.now (memory_of contents.now.state) }
+    ensures { result ≡ used_of job opened.now.state (memory_of contents.now.state) }
 {
     UsedOpen {
         number: opened.number(),
         member: opened.member(),
         level: contents.level_of(job, opened),
     }
+}
+
+/// The open is over one member of a physical file, and reads by its one format.
+pub(crate) fn reads_one_format(opened: &Open, file: &File)
+    ensures { ReadsOneFormat file.now opened.now.state }
+{
+    let _member = opened.only_member();
+    let _format = file.format();
 }

@@ -1,26 +1,26 @@
 //! READ, READP, READE, READPE and CHAIN.
-ghost use Rattle.std.specs.Prelude.{◌≡◌, Result, Ok, true, is_some, IfOk, IfSome, IsTrue, option_map};
-ghost use Rattle.member_slots.specs.Members.{member_at, member_of};
-ghost use Rattle.file_model.specs.Positions.{arrival_reading};
-ghost use Rattle.job_table.specs.Arrival.{entry_numbered};
+ghost use Rattle.std.specs.Prelude.{◌≡◌, Result, Ok, true, is_some, IfOk, IsTrue};
+ghost use Rattle.member_slots.specs.Members.{member_at};
 ghost use Rattle.library_model.specs.declared.replies.Reply.{Reply as AnyReply};
 ghost use Rattle.library_steps.specs.State.{memory_of, job_at, fields_of};
 ghost use Rattle.library_steps.specs.Change.{Change};
 ghost use Rattle.library_steps.specs.History.{is_running};
 ghost use Rattle.library_steps.specs.Records.{live_record};
 ghost use Rattle.library_steps.specs.Reads.{read, read_prior, read_equal, read_prior_equal, chain, read_call};
-ghost use Rattle.library_parts.specs.Answers.{Answers};
+ghost use Rattle.library_parts.specs.Answers.{Answers, Gives};
+ghost use Rattle.library_parts.specs.Finds.{HasMember};
 ghost use Rattle.library_parts.specs.Lawful.{IsThere};
 ghost use Rattle.library_parts.specs.Locks.{HasLockRoom, IsRead};
-ghost use Rattle.built_state.specs.Unkeyed.{AreUnkeyed};
-ghost use Rattle.record_reads.specs.Arrival.{HasRecord, find_from, nothing_found};
-ghost use Rattle.record_reads.specs.Plans.{Plans, MayLock, opened_with, planned_change, read_from, record_read};
+ghost use Rattle.library_parts.specs.Reads.{ReadsAs};
+ghost use Rattle.record_reads.specs.Asked.{CanBeAsked};
+ghost use Rattle.record_reads.specs.Plans.{AsksOf, CanRead, IsWanted, MayLock, Plans, PlansFound, PlansReadBy, ReadsOneFormat, opened_with, read_equal_from, read_found, read_from, record_planned, used_of};
 
-use crate::arrival::{next_record, prior_record};
-use crate::plans::{PlannedRead, used_open};
+use crate::asked::{AskedBy, Direction};
+use crate::plans::{FoundRead, PlannedRead, reads_one_format, used_open};
 use crate::shown::record_shown;
+use field_types::names::Name;
 use file_catalogue::File;
-use job_table::{FoundRecord, Open};
+use job_table::Open;
 use library_model::replies::Reply;
 use library_model::requests::{
     ChainRecord, ChainTo, LockOption, OpenOption, ReadEqual, ReadRecord,
@@ -29,73 +29,49 @@ use library_parts::laws::{effects_answer, locks_fit};
 use library_parts::{Contents, OpenFound, Stop};
 use lock_table::Call;
 
-/// In which direction a read goes from the position.
-#[derive(Clone, Copy)]
-pub(crate) enum Direction {
-    Next,
-    Prior,
-}
-
-impl Direction {
-    /// The reply where no record lies in this direction.
-    fn nothing_found(self) -> Reply
-        ensures { result ≡ nothing_found self }
-    {
-        match self {
-            Direction::Next => Reply::EndOfFile,
-            Direction::Prior => Reply::BeginOfFile,
-        }
-    }
-}
-
 /// READ: the next record.
 pub fn read(contents: &mut Contents, job: u32, args: &ReadRecord) -> Result<Reply, Stop>
     requires running { IsTrue (is_running (job_at job contents.old.state.jobs)) }
-    requires unkeyed { AreUnkeyed contents.old.state.files }
     ensures answers { Answers contents.old.state contents.new.state result (read (memory_of contents.old.state) job args.now) }
 {
     let plan = plan_read(contents, job, args, Direction::Next)?;
-    carry_out(contents, job, plan)
+    carry_out(contents, job, &args.open_id, plan)
 }
 
 /// READP: the prior record.
 pub fn read_prior(contents: &mut Contents, job: u32, args: &ReadRecord) -> Result<Reply, Stop>
     requires running { IsTrue (is_running (job_at job contents.old.state.jobs)) }
-    requires unkeyed { AreUnkeyed contents.old.state.files }
     ensures answers { Answers contents.old.state contents.new.state result (read_prior (memory_of contents.old.state) job args.now) }
 {
     let plan = plan_read(contents, job, args, Direction::Prior)?;
-    carry_out(contents, job, plan)
+    carry_out(contents, job, &args.open_id, plan)
 }
 
 /// READE: the next record, where it has the key.
 pub fn read_equal(contents: &mut Contents, job: u32, args: &ReadEqual) -> Result<Reply, Stop>
     requires running { IsTrue (is_running (job_at job contents.old.state.jobs)) }
-    requires unkeyed { AreUnkeyed contents.old.state.files }
     ensures answers { Answers contents.old.state contents.new.state result (read_equal (memory_of contents.old.state) job args.now) }
 {
-    let plan = plan_equal(contents, job, args)?;
-    carry_out(contents, job, plan)
+    let plan = plan_equal(contents, job, args, Direction::Next)?;
+    carry_out(contents, job, &args.open_id, plan)
 }
 
 /// READPE: the prior record, where it has the key.
 pub fn read_prior_equal(contents: &mut Contents, job: u32, args: &ReadEqual) -> Result<Reply, Stop>
     requires running { IsTrue (is_running (job_at job contents.old.state.jobs)) }
-    requires unkeyed { AreUnkeyed contents.old.state.files }
     ensures answers { Answers contents.old.state contents.new.state result (read_prior_equal (memory_of contents.old.state) job args.now) }
 {
-    let plan = plan_equal(contents, job, args)?;
-    carry_out(contents, job, plan)
+    let plan = plan_equal(contents, job, args, Direction::Prior)?;
+    carry_out(contents, job, &args.open_id, plan)
 }
 
-/// CHAIN: the record of a relative record number.
+/// CHAIN: the first record of a key, or the record of a relative record number.
 pub fn chain(contents: &mut Contents, job: u32, args: &ChainRecord) -> Result<Reply, Stop>
     requires running { IsTrue (is_running (job_at job contents.old.state.jobs)) }
-    requires unkeyed { AreUnkeyed contents.old.state.files }
     ensures answers { Answers contents.old.state contents.new.state result (chain (memory_of contents.old.state) job args.now) }
 {
     let plan = plan_chain(contents, job, args)?;
-    carry_out(contents, job, plan)
+    carry_out(contents, job, &args.open_id, plan)
 }
 
 #[tactic(auto, unfolding(library_steps::specs::Reads::read_plan))]
@@ -104,65 +80,107 @@ fn plan_read(
     job: u32,
     args: &ReadRecord,
     direction: Direction,
-) -> Result<PlannedRead, Stop>
-    requires running { IsTrue (is_running (job_at job contents.now.state.jobs)) }
-    requires unkeyed { AreUnkeyed contents.now.state.files }
-    ensures plan { Plans (planned_change (memory_of contents.now.state) job) result (read_from direction (memory_of contents.now.state) job args.now) }
-    ensures lockable { IfOk result (MayLock (memory_of contents.now.state) job) }
+) -> Result<FoundRead, Stop>
+    requires { IsTrue (is_running (job_at job contents.now.state.jobs)) }
+    ensures { Plans (memory_of contents.now.state) job args.now.open_id (read_from direction (memory_of contents.now.state) job args.now) result }
 {
     let OpenFound { opened, file } = contents.opened_file(job, &args.open_id)?;
-    let _member = opened.only_member();
-    let Some(rrn) = found_from(contents, opened, direction) else {
-        return Err(Stop::Refused(direction.nothing_found()));
-    };
-    plan_record(contents, job, opened, file, args.lock, rrn)
+    reads_one_format(opened, file);
+    plan_found(contents, job, opened, file, args.lock, direction.any())
 }
 
-/// A file without a key has no records of a key.
 #[tactic(auto, unfolding(library_steps::specs::Reads::read_equal_plan))]
-fn plan_equal(contents: &Contents, job: u32, args: &ReadEqual) -> Result<PlannedRead, Stop>
-    requires running { IsTrue (is_running (job_at job contents.now.state.jobs)) }
-    requires unkeyed { AreUnkeyed contents.now.state.files }
-    ensures next { Plans (planned_change (memory_of contents.now.state) job) result (read_equal (memory_of contents.now.state) job args.now) }
-    ensures prior { Plans (planned_change (memory_of contents.now.state) job) result (read_prior_equal (memory_of contents.now.state) job args.now) }
-    ensures lockable { IfOk result (MayLock (memory_of contents.now.state) job) }
+fn plan_equal(
+    contents: &Contents,
+    job: u32,
+    args: &ReadEqual,
+    direction: Direction,
+) -> Result<FoundRead, Stop>
+    requires { IsTrue (is_running (job_at job contents.now.state.jobs)) }
+    ensures { Plans (memory_of contents.now.state) job args.now.open_id (read_equal_from direction (memory_of contents.now.state) job args.now) result }
 {
-    let OpenFound { opened: _, file: _ } = contents.opened_file(job, &args.open_id)?;
-    Err(Stop::Refused(Reply::WrongOpen))
+    let OpenFound { opened, file } = contents.opened_file(job, &args.open_id)?;
+    reads_one_format(opened, file);
+    let key = contents.given_key(opened, file, args.key.as_slice())?;
+    plan_found(contents, job, opened, file, args.lock, direction.equal(key))
 }
 
 #[tactic(auto, unfolding(library_steps::specs::Reads::chain_plan))]
-fn plan_chain(contents: &Contents, job: u32, args: &ChainRecord) -> Result<PlannedRead, Stop>
-    requires running { IsTrue (is_running (job_at job contents.now.state.jobs)) }
-    requires unkeyed { AreUnkeyed contents.now.state.files }
-    ensures plan { Plans (planned_change (memory_of contents.now.state) job) result (chain (memory_of contents.now.state) job args.now) }
-    ensures lockable { IfOk result (MayLock (memory_of contents.now.state) job) }
+fn plan_chain(contents: &Contents, job: u32, args: &ChainRecord) -> Result<FoundRead, Stop>
+    requires { IsTrue (is_running (job_at job contents.now.state.jobs)) }
+    ensures { Plans (memory_of contents.now.state) job args.now.open_id (chain (memory_of contents.now.state) job args.now) result }
 {
     let OpenFound { opened, file } = contents.opened_file(job, &args.open_id)?;
-    let _member = opened.only_member();
-    match &args.to {
-        ChainTo::Key(_) => Err(Stop::Refused(Reply::WrongOpen)),
-        ChainTo::RecordNumber(rrn) => {
-            if contents.live_image(opened.member(), *rrn).is_none() {
-                return Err(Stop::Refused(Reply::NotFound));
-            }
-            plan_record(contents, job, opened, file, args.lock, *rrn)
+    reads_one_format(opened, file);
+    let by = chained_by(contents, opened, file, &args.to)?;
+    plan_found(contents, job, opened, file, args.lock, by)
+}
+
+/// By what CHAIN finds its record. An open that reads by a key takes no relative record number.
+fn chained_by(
+    contents: &Contents,
+    opened: &Open,
+    file: &File,
+    to: &ChainTo,
+) -> Result<AskedBy, Stop>
+    requires reads { ReadsAs contents.now opened.now file.now }
+    requires one { ReadsOneFormat file.now opened.now.state }
+    ensures { AsksOf (memory_of contents.now.state) (opened_with opened.now.state file.now) to.now result }
+{
+    match to {
+        ChainTo::Key(values) => {
+            let key = contents.given_key(opened, file, values.as_slice())?;
+            Ok(AskedBy::FirstEqual(key))
         }
+        ChainTo::RecordNumber(rrn) => match opened.path() {
+            Some(_) => Err(Stop::Refused(Reply::WrongOpen)),
+            None => Ok(AskedBy::Number(*rrn)),
+        },
     }
 }
 
-/// The number of the record that lies next in the direction.
-fn found_from(contents: &Contents, opened: &Open, direction: Direction) -> Option<u32>
-    ensures found { option_map entry_numbered result ≡ find_from direction (arrival_reading (member_of opened.now.member contents.now.state.members)) opened.now.position }
-    ensures live { IfSome result (HasRecord (member_of opened.now.member contents.now.state.members)) }
+/// The read of what the open finds by this, with that.
+fn plan_found(
+    contents: &Contents,
+    job: u32,
+    opened: &Open,
+    file: &File,
+    lock: LockOption,
+    by: AskedBy,
+) -> Result<FoundRead, Stop>
+    requires running { IsTrue (is_running (job_at job contents.now.state.jobs)) }
+    requires reads { ReadsAs contents.now opened.now file.now }
+    requires member { HasMember contents.now.state opened.now.state.file file.now opened.now.state.member }
+    requires one { ReadsOneFormat file.now opened.now.state }
+    requires asked { CanBeAsked by file.now opened.now.state }
+    ensures { PlansFound (memory_of contents.now.state) job (opened_with opened.now.state file.now) (read_found (memory_of contents.now.state) job (opened_with opened.now.state file.now) lock by) result }
 {
-    let Some(member) = contents.member(opened.member()) else {
-        return None;
-    };
-    match direction {
-        Direction::Next => next_record(member, opened.position()),
-        Direction::Prior => prior_record(member, opened.position()),
+    match plan_asked(contents, job, opened, file, lock, &by) {
+        Ok(read) => Ok(FoundRead { by, read }),
+        Err(stop) => Err(stop),
     }
+}
+
+/// The read of what the open finds by this.
+fn plan_asked(
+    contents: &Contents,
+    job: u32,
+    opened: &Open,
+    file: &File,
+    lock: LockOption,
+    by: &AskedBy,
+) -> Result<PlannedRead, Stop>
+    requires running { IsTrue (is_running (job_at job contents.now.state.jobs)) }
+    requires reads { ReadsAs contents.now opened.now file.now }
+    requires member { HasMember contents.now.state opened.now.state.file file.now opened.now.state.member }
+    requires one { ReadsOneFormat file.now opened.now.state }
+    requires asked { CanBeAsked by.now file.now opened.now.state }
+    ensures { PlansReadBy (memory_of contents.now.state) job (opened_with opened.now.state file.now) by.now (read_found (memory_of contents.now.state) job (opened_with opened.now.state file.now) lock by.now) result }
+{
+    let Some(found) = contents.find(opened, file, by.as_read()) else {
+        return Err(Stop::Refused(by.nothing_found()));
+    };
+    plan_record(contents, job, opened, file, lock, found.rrn)
 }
 
 /// The read of a record that was found, where no lock is in its way.
@@ -175,10 +193,11 @@ fn plan_record(
     rrn: u32,
 ) -> Result<PlannedRead, Stop>
     requires running { IsTrue (is_running (job_at job contents.now.state.jobs)) }
-    requires there { IsThere (fields_of file.now) (member_at opened.now.member contents.now.state.members) }
-    requires live { is_some (live_record opened.now.member rrn (memory_of contents.now.state)) ≡ true }
-    ensures plan { Plans (planned_change (memory_of contents.now.state) job) result (record_read (opened_with opened.now file.now) lock rrn (memory_of contents.now.state) job) }
+    requires there { IsThere (fields_of file.now) (member_at opened.now.state.member contents.now.state.members) }
+    requires live { is_some (live_record opened.now.state.member rrn (memory_of contents.now.state)) ≡ true }
+    ensures plan { Gives result (record_planned (memory_of contents.now.state) job (opened_with opened.now.state file.now) lock rrn) }
     ensures lockable { IfOk result (MayLock (memory_of contents.now.state) job) }
+    ensures through { IfOk result (λ plan. plan.used ≡ used_of job opened.now.state (memory_of contents.now.state)) }
 {
     let call = read_call(lock, opened);
     contents.not_locked(call, job, opened, rrn)?;
@@ -194,7 +213,7 @@ fn plan_record(
 
 /// What a read through the open asks of the locks.
 fn read_call(lock: LockOption, opened: &Open) -> Call
-    ensures call { result ≡ read_call lock opened.now }
+    ensures call { result ≡ read_call lock opened.now.state }
     ensures read { IsRead result }
 {
     match lock {
@@ -206,21 +225,43 @@ fn read_call(lock: LockOption, opened: &Open) -> Call
     }
 }
 
-/// Makes room for its lock, and reads the record.
-fn carry_out(contents: &mut Contents, job: u32, plan: PlannedRead) -> Result<Reply, Stop>
+/// Reads as it was planned.
+fn carry_out(contents: &mut Contents, job: u32, name: &Name, plan: FoundRead) -> Result<Reply, Stop>
     requires running { IsTrue (is_running (job_at job contents.old.state.jobs)) }
-    requires lockable { MayLock (memory_of contents.old.state) job plan }
-    ensures { (wanted : Result Change AnyReply) → wanted ≡ Ok (planned_change (memory_of contents.old.state) job plan) → Answers contents.old.state contents.new.state result wanted }
+    requires plan { CanRead (memory_of contents.old.state) job name.now plan.by plan.read }
+    ensures { (wanted : Result Change AnyReply) → IsWanted (memory_of contents.old.state) job name.now plan.by plan.read wanted → Answers contents.old.state contents.new.state result wanted }
 {
-    contents.reserve_lock()?;
-    Ok(apply_read(contents, job, plan))
+    let FoundRead { by, read } = plan;
+    read_by(contents, job, name, &by, read)
 }
 
-fn apply_read(contents: &mut Contents, job: u32, plan: PlannedRead) -> Reply
+/// Makes room for its lock, and reads what the open finds by this.
+fn read_by(
+    contents: &mut Contents,
+    job: u32,
+    name: &Name,
+    by: &AskedBy,
+    plan: PlannedRead,
+) -> Result<Reply, Stop>
     requires running { IsTrue (is_running (job_at job contents.old.state.jobs)) }
-    requires lockable { MayLock (memory_of contents.old.state) job plan }
+    requires plan { CanRead (memory_of contents.old.state) job name.now by.now plan }
+    ensures { (wanted : Result Change AnyReply) → IsWanted (memory_of contents.old.state) job name.now by.now plan wanted → Answers contents.old.state contents.new.state result wanted }
+{
+    contents.reserve_lock()?;
+    Ok(apply_read(contents, job, name, by, plan))
+}
+
+fn apply_read(
+    contents: &mut Contents,
+    job: u32,
+    name: &Name,
+    by: &AskedBy,
+    plan: PlannedRead,
+) -> Reply
+    requires running { IsTrue (is_running (job_at job contents.old.state.jobs)) }
+    requires plan { CanRead (memory_of contents.old.state) job name.now by.now plan }
     requires room { HasLockRoom contents.old.state contents.old.room }
-    ensures { (wanted : Result Change AnyReply) → wanted ≡ Ok (planned_change (memory_of contents.old.state) job plan) → Answers contents.old.state contents.new.state (Ok result) wanted }
+    ensures { (wanted : Result Change AnyReply) → IsWanted (memory_of contents.old.state) job name.now by.now plan wanted → Answers contents.old.state contents.new.state (Ok result) wanted }
 {
     effects_answer();
     locks_fit();
@@ -231,6 +272,6 @@ fn apply_read(contents: &mut Contents, job: u32, plan: PlannedRead) -> Reply
         shown,
     } = plan;
     contents.lock_for(call, used.level, used.holder(job), used.record_id(rrn));
-    contents.note_read(job, used.number, call, FoundRecord::arrival(rrn));
+    contents.note_read(job, name, call, by.as_read());
     Reply::Record(shown)
 }

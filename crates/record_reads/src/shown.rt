@@ -25,9 +25,9 @@ pub(crate) fn record_shown(
     opened: &Open,
     rrn: u32,
 ) -> Result<RecordRead, AllocError>
-    requires there { IsThere (fields_of file.now) (member_at opened.now.member contents.now.state.members) }
-    requires live { is_some (live_record opened.now.member rrn (memory_of contents.now.state)) ≡ true }
-    ensures { IfOk result (λ shown. shown ≡ record_shown (memory_of contents.now.state) file.now opened.now rrn) }
+    requires there { IsThere (fields_of file.now) (member_at opened.now.state.member contents.now.state.members) }
+    requires live { is_some (live_record opened.now.state.member rrn (memory_of contents.now.state)) ≡ true }
+    ensures { IfOk result (λ shown. shown ≡ record_shown (memory_of contents.now.state) file.now opened.now.state rrn) }
 {
     let image = contents.live_image(opened.member(), rrn).unwrap();
     let format = file.format();

@@ -1,6 +1,8 @@
-//! Runs of several jobs by a schedule: whose call comes when (`turns.rt`), and what jobs answer each other (`replies.rt`).
+//! Runs of several jobs by a schedule: whose call comes when (`turns.rt`), what jobs answer each other (`replies.rt`), and what they are answered by keys (`keys.rt`).
 #![tactic(auto)]
 
+#[cfg(test)]
+mod keys;
 #[cfg(test)]
 mod replies;
 #[cfg(test)]

@@ -21,17 +21,21 @@ abbrev IsSoundAt : Outcome → Type 0
 IsSoundAt (Standing s) = IsSound s
 IsSoundAt (Failed entries) = Unit {0}
 
-module _ (kept : IsKept IsSound) (sources : List NamedSource) where
-  answer-sound : (s t : State) (job timestamp : ℕ) (request : Request) (reply : Reply) → IsSound s → IsTrue (is_running (job_at job s.jobs))
-      → MayAnswer sources s job timestamp request reply t → IsSound t
-  answer-sound s t job timestamp request reply sound running (inl is) =
-      changed-sound s t reply (change sources s.entries (memory_of s) job timestamp request) sound
-      (λ done does. kept s done (record { sound = sound; sources = sources; job = job; timestamp = timestamp; request = request; running = running; does = does }))
-      is
-  answer-sound s t job timestamp request reply sound running (inr same) = subst IsSound (sym same.0) sound
+-- what may be answered to a job that runs leaves a sound library sound
+abbrev pub AnswersStaySound : Type 0
+AnswersStaySound = (sources : List NamedSource) (s t : State) (job timestamp : ℕ) (request : Request) (reply : Reply) → IsSound s → IsTrue (is_running (job_at job s.jobs))
+    → MayAnswer sources s job timestamp request reply t → IsSound t
 
+pub answer-sound : IsKept IsSound → AnswersStaySound
+answer-sound kept sources s t job timestamp request reply sound running (inl is) =
+    changed-sound s t reply (change sources s.entries (memory_of s) job timestamp request) sound
+    (λ done does. kept s done (record { sound = sound; sources = sources; job = job; timestamp = timestamp; request = request; running = running; does = does }))
+    is
+answer-sound kept sources s t job timestamp request reply sound running (inr same) = subst IsSound (sym same.0) sound
+
+module _ (answers : AnswersStaySound) (sources : List NamedSource) where
   comes-sound : (s : State) (mid : Outcome) (call : Call) → IsSound s → IsTrue (is_running (job_at call.job s.jobs)) → Comes sources s call mid → IsSoundAt mid
-  comes-sound s (Standing u) call sound running comes = answer-sound s u call.job call.timestamp call.request call.reply sound running comes
+  comes-sound s (Standing u) call sound running comes = answers sources s u call.job call.timestamp call.request call.reply sound running comes
   comes-sound s (Failed entries) call sound running comes = tt
 
   -- from wherever the calls begin

@@ -2,14 +2,18 @@
 //! that is removed or applied does what it says. Laws alone: the functions do nothing, and their contracts say it.
 #![tactic(auto)]
 
-ghost use Rattle.std.specs.Prelude.{◌≡◌, ℕ, List};
+ghost use Rattle.std.specs.Prelude.{◌≡◌, ℕ, IsTrue, List};
 ghost use Rattle.library_model.specs.declared.calls.Call.{Call};
 ghost use Rattle.library_model.specs.declared.sources.NamedSource.{NamedSource};
 ghost use Rattle.library_model.specs.declared.requests.JournaledChanges.{JournaledChanges};
 ghost use Rattle.library_model.specs.declared.requests.Request.TheVariants.{ApplyChanges, RemoveChanges};
 ghost use Rattle.library_model.specs.declared.replies.Reply.TheVariants.{Range};
-ghost use Rattle.library_steps.specs.State.{State};
+ghost use Rattle.library_model.specs.declared.requests.Request.{Request};
+ghost use Rattle.library_model.specs.declared.replies.Reply.{Reply};
+ghost use Rattle.library_steps.specs.State.{State, begun, empty_library, job_at};
 ghost use Rattle.library_steps.specs.Change.{Change};
+ghost use Rattle.library_steps.specs.History.{is_running};
+ghost use Rattle.library_steps.specs.Step.{MayAnswer};
 ghost use Rattle.joint_state.specs.Sound.{IsSound, after};
 ghost use Rattle.range_histories.specs.Ranges.{IsDone, Moves, IsAgain, to_before, to_end, again};
 ghost use Rattle.sound_histories.specs.Reached.{IsReached};
@@ -22,9 +26,12 @@ use range_histories::{
     a_removed_range_is_applied_again, applied_ranges_go_forward, removed_ranges_go_back,
 };
 
-/// A library is sound after each history that is legal, whatever its jobs asked and in whatever order.
-pub fn every_history_leaves_a_sound_library()
-    ensures { (sources : List NamedSource) (names : List (List ℕ)) (calls : List Call) (s : State) → IsReached sources names calls s → IsSound s }
+/// A library with nothing in it is sound, whichever jobs begin in it, and whatever may be answered to a job that runs leaves a sound
+/// library sound.
+pub fn each_call_leaves_a_sound_library()
+    ensures begun { (names : List (List ℕ)) → IsSound (begun empty_library names) }
+    ensures called { (sources : List NamedSource) (old new : State) (job timestamp : ℕ) (request : Request) (reply : Reply) → IsSound old
+        → IsTrue (is_running (job_at job old.jobs)) → MayAnswer sources old job timestamp request reply new → IsSound new }
 {
     empty_library_is_sound();
     library_is_kept();
@@ -37,6 +44,13 @@ pub fn every_history_leaves_a_sound_library()
     names_stay_apart();
     entries_stay_numbered();
     journal_is_kept();
+}
+
+/// A library is sound after each history that is legal, whatever its jobs asked and in whatever order.
+pub fn every_history_leaves_a_sound_library()
+    ensures { (sources : List NamedSource) (names : List (List ℕ)) (calls : List Call) (s : State) → IsReached sources names calls s → IsSound s }
+{
+    each_call_leaves_a_sound_library();
 }
 
 /// After each such history RMVJRNCHG takes each record of its range back to the sequence before the range, and APYJRNCHG on to its

@@ -1,35 +1,7 @@
 use Rattle.library_steps.specs.State.{begun, empty_library}
-use Rattle.joint_state.specs.Sound.{IsSound, IsKept}
 use Rattle.sound_histories.proofs.HistoryLemmas.{runs-sound}
 use Rattle.sound_histories.proofs.every_history_leaves_a_sound_library.Goals as goal
 
 pub returns : goal.returns
-returns c = λ sources names calls s runs. runs-sound kept sources (begun empty_library names) s calls (c.empty_library_is_sound.ensures names) runs
-  where
-    kept : IsKept IsSound
-    kept s done does = record {
-      library = c.library_is_kept.ensures.library s done does;
-      apart = c.library_is_kept.ensures.apart s done does;
-      formats = c.library_is_kept.ensures.formats s done does;
-      views = c.library_is_kept.ensures.views s done does;
-      defaults = c.library_is_kept.ensures.defaults s done does;
-      within = c.library_is_kept.ensures.within s done does;
-      names = c.names_stay_apart.ensures.kept s done does;
-      numbered = c.entries_stay_numbered.ensures.kept s done does;
-      joint = record {
-        compatible = c.locks_are_kept.ensures.compatible s done does;
-        locks = c.locks_are_kept.ensures.locks s done does;
-        jobs = λ place job at. record {
-          idle = c.jobs_are_kept.ensures.idle s done does place job at;
-          control = c.jobs_are_kept.ensures.control s done does place job at;
-          opens = c.jobs_are_kept.ensures.opens s done does place job at;
-          journaled = c.opens_stay_journaled.ensures.kept s done does place job at;
-          begun = c.cycles_are_kept.ensures.begun s done does place job at;
-          current = c.current_records_are_kept.ensures s done does place job at;
-          locked = c.cycles_are_kept.ensures.locked s done does place job at;
-          made = c.cycles_are_kept.ensures.made s done does place job at;
-        };
-        told = c.told_is_kept.ensures s done does;
-      };
-      agreed = c.journal_is_kept.ensures s done does;
-    }
+returns c = λ sources names calls s runs.
+    runs-sound c.each_call_leaves_a_sound_library.ensures.called sources (begun empty_library names) s calls (c.each_call_leaves_a_sound_library.ensures.begun names) runs

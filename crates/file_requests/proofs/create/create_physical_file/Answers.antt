@@ -22,5 +22,5 @@ returns c =
       answers = Answers-left old c.prepare_create.new.contents.state c.apply_create.new.contents.state (new.draft ∷ []) drafts (with_file args.file new.file)
           Done _ c.prepare_create.ensures.state (ap (λ (d : Draft). d ∷ []) c.in_ok-new.ensures.draft)
           (ap (does (create_change m c.args.job c.args.timestamp args)) c.in_ok-described.ensures.plan
-          ∙ ap (λ (f : FileState). Ok (journaled drafts true Done (with_file args.file f m))) (sym c.in_ok-new.ensures.file)) c.apply_create.ensures;
+          ∙ ap (λ (f : FileState). Ok (journaled drafts true Done (with_file args.file f m))) (sym c.in_ok-new.ensures.file)) c.in_ok-apply_create.ensures.added;
     }

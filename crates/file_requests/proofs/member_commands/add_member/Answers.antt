@@ -20,7 +20,7 @@ returns c =
     let same = c.reserve_member.ensures.state ∙ c.with_room.ensures.state in
     let draft : c.in_ok-draft.draft ≡ member_draft author m.next_member kind = c.in_ok-draft.ensures.draft ∙ c.member_draft.ensures ∙ ap (λ (a : Author). member_draft a c.counts-number.result.1 kind) c.of-author.ensures
     ∙ ap (λ (n : ℕ). member_draft author n kind) c.counts-number.ensures.next_member in
-    let left = c.apply_add.ensures file (rw same c.in_ok-_file.ensures.there) in
+    let left = c.in_ok-apply_add.ensures.added file (rw same c.in_ok-_file.ensures.there) in
     record {
       answers = Answers-left old c.reserve_member.new.self.state c.apply_add.new.contents.state (c.in_ok-draft.draft ∷ []) (member_draft author m.next_member kind ∷ []) (member_added args file)
           Done _ same (ap (λ (d : Draft). d ∷ []) draft)

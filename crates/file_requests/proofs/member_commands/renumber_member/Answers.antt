@@ -16,7 +16,7 @@ returns c =
     let status = c.in_ok-status.status in
     let author = author_of m c.args.job c.args.timestamp in
     let told = λ (a : Author). if_journaled (is_some status.images) (member_draft a status.number (kind_of c.args.way)) in
-    let left = rw c.number.ensures at c.apply_renumbering.ensures in
+    let left = rw c.number-number.ensures at c.apply_renumbering.ensures in
     Answers-left old c.prepare_renumbering.new.contents.state c.apply_renumbering.new.contents.state c.in_ok-drafts.drafts.items (told author)
     (renumbering_of c.args.way status.number) Done _ c.prepare_renumbering.ensures.state
     (c.in_ok-drafts.ensures.drafts ∙ ap told c.of-author.ensures)

@@ -18,6 +18,9 @@ deposit_if-requires c =
     let one = length-end c.args.job c.args.moment CommitCycleRolledBack c.args.cycle in
     omega (arith, room, kept, same, one)
 
+pub returns-clause-indexed : goal.returns-clause-indexed
+returns-clause-indexed c = c.take_all_back.ensures.indexed
+
 pub returns-clause-journal : goal.returns-clause-journal
 returns-clause-journal c =
     c.deposit_if.ensures.journal

@@ -3,7 +3,7 @@ use Rattle.member_slots.specs.Member.{MemberState, empty_member}
 use Rattle.member_slots.specs.Members.{member_at, member_of}
 use Rattle.range_images.specs.declared.slot_given.SlotGiven.{SlotGiven}
 use Rattle.range_images.specs.Given.{given_slots}
-use Rattle.range_requests.proofs.PutLemmas.{grows}
+use Rattle.library_parts.proofs.GivenLemmas.{grows}
 use Rattle.range_requests.proofs.PlanLemmas.{shown-member}
 use Rattle.range_requests.proofs.commands.slots_more.Goals as goal
 

@@ -4,7 +4,7 @@ use Rattle.member_slots.specs.Members.{member_at}
 use Rattle.draft_list.specs.Sizes.{draft_bytes}
 use Rattle.range_images.specs.declared.slot_given.SlotGiven.{SlotGiven}
 use Rattle.range_images.specs.Given.{given_slots}
-use Rattle.range_requests.proofs.PutLemmas.{grows}
+use Rattle.library_parts.proofs.GivenLemmas.{grows}
 use Rattle.range_requests.proofs.PlanLemmas.{bytes-after, limits-entries, limits-members, limits-ok, shown-member}
 use Rattle.range_requests.proofs.plans.check_limits.Goals as goal
 

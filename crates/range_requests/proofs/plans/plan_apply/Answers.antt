@@ -62,7 +62,7 @@ returns-in_err-check_limits-clause-plan c =
     let p = err_from_is_err_and c.from_residual-in_err-check_limits.result c.from_residual-in_err-check_limits.ensures.1 in
     rw (p.1, p.2)
     (allows-gives s c.in_err-check_limits.field-0.0 (limits s plan) _
-    (λ reply refused. apply-is s c.args.job c.args.timestamp args ∙ goes ∙ limits-refuse s (apply_work s c.args.job c.args.timestamp range walked.done) plan reply of c.requires.unkeyed refused)
+    (λ reply refused. apply-is s c.args.job c.args.timestamp args ∙ goes ∙ limits-refuse s (apply_work s c.args.job c.args.timestamp range walked.done) plan reply of refused)
     c.in_err-check_limits.ensures)
 
 pub returns-clause-plan : goal.returns-clause-plan
@@ -83,7 +83,7 @@ returns-clause-plan c =
     let told = subst (λ (a : Author). IsToldBy s a found walk Forward plan) c.of-author.ensures c.in_ok-plan.ensures.told in
     let of = plan-of s (author_of m c.args.job c.args.timestamp) found is.2.status walk Forward plan (λ d. ChangesApplied d.first d.last (length d.changes)) given_forward answer (λ d. refl) is.2.number walked told in (
       apply_work s c.args.job c.args.timestamp range walked.done,
-      apply-is s c.args.job c.args.timestamp args ∙ goes ∙ limits-hold s (apply_work s c.args.job c.args.timestamp range walked.done) plan of c.requires.unkeyed c.in_ok-check_limits.ensures,
+      apply-is s c.args.job c.args.timestamp args ∙ goes ∙ limits-hold s (apply_work s c.args.job c.args.timestamp range walked.done) plan of c.in_ok-check_limits.ensures,
       of,
     )
 

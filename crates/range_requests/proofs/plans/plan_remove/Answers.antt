@@ -62,7 +62,7 @@ returns-in_err-check_limits-clause-plan c =
     let p = err_from_is_err_and c.from_residual-in_err-check_limits.result c.from_residual-in_err-check_limits.ensures.1 in
     rw (p.1, p.2)
     (allows-gives s c.in_err-check_limits.field-0.0 (limits s plan) _
-    (λ reply refused. remove-is s c.args.job c.args.timestamp args ∙ goes ∙ limits-refuse s (remove_work s c.args.job c.args.timestamp range walked.done) plan reply of c.requires.unkeyed refused)
+    (λ reply refused. remove-is s c.args.job c.args.timestamp args ∙ goes ∙ limits-refuse s (remove_work s c.args.job c.args.timestamp range walked.done) plan reply of refused)
     c.in_err-check_limits.ensures)
 
 pub returns-clause-plan : goal.returns-clause-plan
@@ -83,7 +83,7 @@ returns-clause-plan c =
     let told = subst (λ (a : Author). IsToldBy s a found walk Back plan) c.of-author.ensures c.in_ok-plan.ensures.told in
     let of = plan-of s (author_of m c.args.job c.args.timestamp) found is.2.status walk Back plan (λ d. ChangesRemoved d.first d.last (length d.changes)) given_back answer (λ d. refl) is.2.number walked told in (
       remove_work s c.args.job c.args.timestamp range walked.done,
-      remove-is s c.args.job c.args.timestamp args ∙ goes ∙ limits-hold s (remove_work s c.args.job c.args.timestamp range walked.done) plan of c.requires.unkeyed c.in_ok-check_limits.ensures,
+      remove-is s c.args.job c.args.timestamp args ∙ goes ∙ limits-hold s (remove_work s c.args.job c.args.timestamp range walked.done) plan of c.in_ok-check_limits.ensures,
       of,
     )
 

@@ -1,7 +1,7 @@
 use Rattle.std.proofs.Common.{◌≡◌, IfOk, Option, unwrap_or, sym, ap, subst}
 use Rattle.member_slots.specs.Member.{MemberState, empty_member}
 use Rattle.member_slots.specs.Members.{member_at, member_of}
-use Rattle.range_requests.specs.Walks.{AddRecords}
+use Rattle.library_parts.specs.Given.{AddRecords}
 use Rattle.range_requests.proofs.PlanLemmas.{shown-member}
 use Rattle.range_requests.proofs.plans.walk_forward.Goals as goal
 

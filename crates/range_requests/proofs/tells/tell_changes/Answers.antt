@@ -1,7 +1,8 @@
 use Rattle.std.proofs.Common.{ℕ, ◌+◌, ◌-◌, ◌==◌, cond, Option, Some, unwrap_or, refl, sym, ap, ◌∙◌, subst, arith}
 use Rattle.std.specs.Option.{option_copied}
 use Rattle.member_slots.specs.declared.slot.Slot.TheVariants.{Deleted}
-use Rattle.range_requests.proofs.StoodLemmas.{IsStanding, latest-more, standing-more, telling-more}
+use Rattle.given_changes.proofs.StoodLemmas.{IsStanding, latest-more, standing-more}
+use Rattle.range_requests.proofs.TellLemmas.{telling-more}
 use Rattle.range_requests.proofs.tells.tell_changes.Goals as goal
 
 pub loop-index-preserved : goal.loop-index-preserved

@@ -3,7 +3,7 @@ use Rattle.std.specs.HashMap.{get}
 use Rattle.library_steps.specs.Ranges.{given_drafts}
 use Rattle.range_images.specs.Given.{given_slots, last_index}
 use Rattle.range_requests.specs.Walks.{as_given}
-use Rattle.range_requests.proofs.StoodLemmas.{IsStanding}
+use Rattle.given_changes.proofs.StoodLemmas.{IsStanding}
 use Rattle.range_requests.proofs.tells.tell_changes.Given as goal
 
 abbrev pub invariant-loop-index : goal.invariant-loop-index

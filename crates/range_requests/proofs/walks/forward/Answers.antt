@@ -7,7 +7,7 @@ use Rattle.range_images.specs.declared.slot_given.SlotGiven.{SlotGiven}
 use Rattle.range_images.specs.Given.{given_slots, AreInPlace}
 use Rattle.range_images.specs.Images.{range_done}
 use Rattle.range_images.specs.Sides.{first_sequence}
-use Rattle.range_requests.specs.Walks.{AddRecords}
+use Rattle.library_parts.specs.Given.{AddRecords}
 use Rattle.range_requests.proofs.EndLemmas.{first-take, length-take, numbered-take}
 use Rattle.range_requests.proofs.WalkLemmas.{first-part, forward-adds, forward-answer, forward-walked, images-refused}
 use Rattle.range_requests.proofs.walks.forward.Goals as goal

@@ -1,5 +1,4 @@
-use Rattle.std.proofs.Common.{List, refl, subst, sym}
-use Rattle.library_steps.specs.History.{is_running}
+use Rattle.std.proofs.Common.{refl}
 use Rattle.library_steps.specs.State.{memory_of, with_job, with_opens}
 use Rattle.library_steps.specs.ChangeRecord.{without_record}
 use Rattle.library_steps.specs.Locking.{locks_left}

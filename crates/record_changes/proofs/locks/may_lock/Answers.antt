@@ -9,7 +9,7 @@ use Rattle.record_changes.proofs.locks.may_lock.Goals as goal
 pub returns : goal.returns
 returns c =
     let state = c.args.contents.now.state in
-    let opened = c.args.opened.now in
+    let opened = c.args.opened.now.state in
     let its = job_of c.args.job (memory_of state) in
     let fewer = changed-fewer (holder_of c.args.job opened) (record_of opened c.args.rrn) (is_committed its) state.locks c.args.call (level_of its opened) c.requires.call in
     let few = few-of MOST_LOCKS _ _ c.in_ok-are_few.ensures in

@@ -1,5 +1,4 @@
-use Rattle.std.proofs.Common.{List, refl, subst, sym}
-use Rattle.library_steps.specs.History.{is_running}
+use Rattle.std.proofs.Common.{refl}
 use Rattle.library_steps.specs.State.{memory_of, with_job}
 use Rattle.library_steps.specs.Reads.{open_changed}
 use Rattle.library_steps.specs.ChangeRecord.{without_current}

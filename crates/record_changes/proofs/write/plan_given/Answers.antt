@@ -10,7 +10,7 @@ use Rattle.record_changes.proofs.write.plan_given.Goals as goal
 pub returns-clause-few : goal.returns-clause-few
 returns-clause-few c =
     let memory = memory_of c.args.contents.now.state in
-    let opened = c.args.opened.now in
+    let opened = c.args.opened.now.state in
     rw c.of.ensures
     (subst (λ (slot : Slot). few_changes opened.commit slot (Live c.in_ok-image.image) memory ≡ Ok true) (sym c.in_ok-rrn.ensures.empty) (rw c.commit.ensures at c.in_ok-few_changes.ensures))
 

@@ -1,17 +1,11 @@
-use Rattle.std.proofs.Common.{inl, inr, refl}
-use Rattle.record_reads.specs.Plans.{bound_side}
-use Rattle.record_reads.proofs.PlanLemmas.{position-unkeyed}
+use Rattle.record_reads.specs.Plans.{opened_with}
 use Rattle.record_reads.proofs.positions.plan_position.Goals as goal
 
-pub returns-in-RecordNumber : goal.returns-in-RecordNumber
-returns-in-RecordNumber c =
-    let planned = position-unkeyed _ _ _ _ c.requires.unkeyed c.in_ok-opened.ensures.there (bound_side c.args.side) c.args.args.now c.in_ok-opened.ensures.found in
-    rw (planned, c.in-RecordNumber.is, c.used_open.ensures, c.of.ensures) refl
-
-pub returns-in-Key : goal.returns-in-Key
-returns-in-Key c =
-    let planned = position-unkeyed _ _ _ _ c.requires.unkeyed c.in_ok-opened.ensures.there (bound_side c.args.side) c.args.args.now c.in_ok-opened.ensures.found in
-    rw planned (elim c.in-Key.is [
-      | inl key ↦ rw key.1 refl
-      | inr whole ↦ elim whole [ inl low ↦ rw low refl | inr high ↦ rw high refl ]
-    ])
+pub returns : goal.returns
+returns c = record {
+  its = opened_with c.in_ok-opened.field-0.opened.now.state c.in_ok-opened.field-0.file.now;
+  opened = c.in_ok-opened.ensures.found;
+  physical = c.reads_one_format.ensures.physical;
+  place = c.in_ok-may_stand.ensures;
+  same = c.used_open.ensures;
+}

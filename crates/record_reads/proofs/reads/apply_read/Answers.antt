@@ -1,7 +1,37 @@
+use Rattle.std.proofs.Common.{◌∙◌, refl}
+use Rattle.library_model.specs.declared.replies.Reply.TheVariants.{Record}
+use Rattle.library_steps.specs.State.{memory_of}
 use Rattle.record_reads.proofs.LockLemmas.{IsRead-IsOfOpen}
+use Rattle.record_reads.proofs.EffectLemmas.{opened-still, found-still, read-after}
 use Rattle.record_reads.proofs.reads.apply_read.Goals as goal
 
 pub lock_for-requires-clause-room : goal.lock_for-requires-clause-room
 lock_for-requires-clause-room c =
     rw (c.holder.ensures, c.record_id.ensures)
-    (c.locks_fit.ensures _ _ _ _ _ c.args.contents.now.state c.args.contents.now.room (IsRead-IsOfOpen _ c.requires.lockable.call) c.requires.room c.requires.lockable.few)
+    (c.locks_fit.ensures _ _ _ _ _ c.args.contents.now.state c.args.contents.now.room (IsRead-IsOfOpen _ c.requires.plan.lock.call) c.requires.room c.requires.plan.lock.few)
+
+pub note_read-requires-clause-found : goal.note_read-requires-clause-found
+note_read-requires-clause-found c =
+    let old = memory_of c.args.contents.now.state in
+    let left = memory_of c.lock_for.new.self.state in
+    let can = c.requires.plan in
+    record {
+      its = can.its;
+      opened = opened-still old left _ c.lock_for.ensures.memory c.args.name.now c.args.job can.its can.opened;
+      asked = c.as_read.ensures.formats _ can.asked.formats;
+      looked = c.as_read.ensures.looked _ can.asked.looked;
+      found = (can.entry, found-still old left _ c.lock_for.ensures.memory c.args.by.now c.as_read.result can.its.file can.its.opened can.entry c.as_read.ensures can.finds);
+    }
+
+pub returns : goal.returns
+returns c = λ wanted leads.
+    let old = memory_of c.args.contents.now.state in
+    let left = memory_of c.lock_for.new.self.state in
+    let can = c.requires.plan in
+    let still = opened-still old left _ c.lock_for.ensures.memory c.args.name.now c.args.job can.its can.opened in
+    let here = found-still old left _ c.lock_for.ensures.memory c.args.by.now c.as_read.result can.its.file can.its.opened can.entry c.as_read.ensures can.finds in
+    c.effects_answer.ensures.unjournaled c.args.contents.now.state c.note_read.new.self.state (Record c.args.plan.shown) _ wanted
+    (leads can.its can.entry can.opened can.finds)
+    (read-after old left (memory_of c.note_read.new.self.state) c.args.job can.its.opened.number c.args.plan can.entry can.number
+    (rw (c.holder.ensures, c.record_id.ensures) at c.lock_for.ensures.memory) (c.note_read.ensures.memory can.its can.entry still here))
+    refl (c.note_read.ensures.entries ∙ c.lock_for.ensures.entries)

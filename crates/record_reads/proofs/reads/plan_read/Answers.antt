@@ -1,20 +1,19 @@
-use Rattle.std.proofs.Common.{sym, refl}
-use Rattle.record_reads.specs.Arrival.{find_from, nothing_found}
-use Rattle.record_reads.proofs.PlanLemmas.{at_format-only, read-unkeyed}
+use Rattle.std.proofs.Common.{◌∙◌, sym, ap}
+use Rattle.library_steps.specs.State.{memory_of}
+use Rattle.record_reads.specs.declared.asked.AskedBy.{AskedBy}
+use Rattle.record_reads.specs.Plans.{opened_with, read_found}
+use Rattle.record_reads.proofs.PlanLemmas.{any-asked, read-through}
+use Rattle.record_reads.proofs.ReadLemmas.{requested}
 use Rattle.record_reads.proofs.reads.plan_read.Goals as goal
 
-pub returns-in_default-clause-plan : goal.returns-in_default-clause-plan
-returns-in_default-clause-plan c =
-    let planned =
-    read-unkeyed _ _ _ _ c.requires.unkeyed c.in_ok-opened.ensures.there (find_from c.args.direction) (find_from c.args.direction) (nothing_found c.args.direction) c.args.args.now
-    c.found_from.result c.in_ok-opened.ensures.found (at_format-only _ c.only_member-member.ensures.only c.only_member-member.ensures.format) (sym c.found_from.ensures.found)
-    in
-    rw (planned, c.in_default.is, c.nothing_found.ensures) refl
+pub plan_found-requires-clause-asked : goal.plan_found-requires-clause-asked
+plan_found-requires-clause-asked c = rw c.any.ensures (any-asked c.args.direction c.in_ok-opened.field-0.file.now c.in_ok-opened.field-0.opened.now.state)
 
-pub returns-clause-plan : goal.returns-clause-plan
-returns-clause-plan c =
-    let planned =
-    read-unkeyed _ _ _ _ c.requires.unkeyed c.in_ok-opened.ensures.there (find_from c.args.direction) (find_from c.args.direction) (nothing_found c.args.direction) c.args.args.now
-    c.found_from.result c.in_ok-opened.ensures.found (at_format-only _ c.only_member-member.ensures.only c.only_member-member.ensures.format) (sym c.found_from.ensures.found)
-    in
-    rw (planned, c.in-Some.is) c.plan_record.ensures.plan
+pub returns : goal.returns
+returns c =
+    let m = memory_of c.args.contents.now.state in
+    let its = opened_with c.in_ok-opened.field-0.opened.now.state c.in_ok-opened.field-0.file.now in
+    requested m c.args.job c.args.args.now.open_id its _ _ c.plan_found.result c.in_ok-opened.ensures.found
+    (read-through m c.args.job its c.args.direction c.args.args.now c.in_ok-opened.ensures.found c.reads_one_format.ensures.physical
+    ∙ ap (λ (by : AskedBy). read_found m c.args.job its c.args.args.now.lock by) (sym c.any.ensures))
+    c.plan_found.ensures

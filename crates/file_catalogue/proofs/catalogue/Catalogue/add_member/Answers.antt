@@ -6,7 +6,7 @@ use Rattle.library_model.specs.Named.{same_name}
 use Rattle.library_steps.specs.MemberCommands.{with_member_name}
 use Rattle.file_catalogue.proofs.MapLemmas.{on_ok}
 use Rattle.file_catalogue.proofs.ChangeLemmas.{owned-member_added, set_value-file_changed}
-use Rattle.file_catalogue.proofs.PhysicalLemmas.{physical-member_added}
+use Rattle.file_catalogue.proofs.KeyedLemmas.{keyed-member_added}
 use Rattle.file_catalogue.proofs.catalogue.Catalogue.add_member.Goals as goal
 
 pub add_member-requires : goal.add_member-requires
@@ -25,7 +25,7 @@ invariant_of-self c =
       owned-member_added entries (get nat_eq c.self.inside.owners) (get nat_eq c.insert.new.self) c.args.file.now c.args.member c.args.number c.self.invariant.0
           (rw (← c.self.view_is) at c.requires.fresh)
           (on_ok c.insert.result c.unwrap-replaced.result c.unwrap-replaced.ensures c.insert.ensures.updates).0,
-      physical-member_added c.args.file.now c.args.member c.args.number entries c.self.invariant.1,
+      keyed-member_added c.args.file.now c.args.member c.args.number entries c.self.invariant.1,
     )
 
 pub returns : goal.returns

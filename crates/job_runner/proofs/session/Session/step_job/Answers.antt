@@ -49,7 +49,7 @@ call-reply-requires-clause-ready g c =
     record {
       alive = sym c.failed.ensures ∙ c.if-failed.false;
       running = runs-still _ _ _ _ _ c.args.job c.index_mut-place.result.now c.self.invariant within.0 here c.if-place.false;
-      built = c.self.invariant.built;
+      sound = c.self.invariant.sound;
     }
 
 pub invariant_of-self-2 : goal.invariant_of-self-2

@@ -1,7 +1,7 @@
-use Rattle.std.proofs.Common.{◌-◌, refl, ap, ◌∙◌}
+use Rattle.std.proofs.Common.{[], ◌-◌, refl, ap, ◌∙◌}
 use Rattle.library_steps.specs.State.{job_changed}
 use Rattle.library_steps.specs.Commitment.{without_cycle}
-use Rattle.job_table.specs.Table.{closed_job}
+use Rattle.job_table.specs.Table.{closed_job, changed_at}
 use Rattle.job_table.proofs.TableLemmas.{running-after, job_changed-twice}
 use Rattle.job_table.proofs.jobs.Jobs.end.Goals as goal
 
@@ -13,3 +13,9 @@ returns-clause-jobs c =
     ap (λ t. t.jobs) c.close.ensures
     ∙ ap (job_changed (c.args.number - 1) closed_job) c.end_cycle-undos.ensures.jobs
     ∙ job_changed-twice (c.args.number - 1) without_cycle closed_job c.args.self.now.jobs
+
+pub returns-clause-orders : goal.returns-clause-orders
+returns-clause-orders c = ap (λ t. t.orders) c.close.ensures ∙ ap (changed_at (c.args.number - 1) (λ orders. [])) c.end_cycle-undos.ensures.orders
+
+pub returns-clause-moves : goal.returns-clause-moves
+returns-clause-moves c = ap (λ t. t.moves) c.close.ensures ∙ c.end_cycle-undos.ensures.moves

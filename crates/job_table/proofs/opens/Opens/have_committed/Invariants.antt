@@ -1,7 +1,7 @@
 use Rattle.std.proofs.Common.{◌≡◌, drop}
 use Rattle.std.specs.List.{list_any}
-use Rattle.job_table.specs.Opens.{has_committed}
+use Rattle.job_table.specs.Opens.{has_committed, states_of}
 use Rattle.job_table.proofs.opens.Opens.have_committed.Given as goal
 
 abbrev pub invariant-loop-entry : goal.invariant-loop-entry
-invariant-loop-entry l = list_any has_committed (drop l.entry-index l.entry-items) ≡ list_any has_committed l.self
+invariant-loop-entry l = list_any has_committed (states_of (drop l.entry-index l.entry-items)) ≡ list_any has_committed (states_of l.self)

@@ -13,6 +13,7 @@ use Rattle.library_parts.specs.Due.{cycle_due}
 use Rattle.library_parts.specs.Parts.{state_of}
 use Rattle.library_parts.proofs.BoundaryLemmas.{commit-answers, length-cycle_end}
 use Rattle.library_parts.proofs.DueLemmas.{HasDue-changed, job_due-part}
+use Rattle.library_parts.proofs.IndexChanges.{IsIndexed-committed}
 use Rattle.library_parts.proofs.LawfulLemmas.{AreOne-committed, AreOne-journal, committed-memory}
 use Rattle.library_parts.proofs.LockLemmas.{All-locks_after, running-HasBegun}
 use Rattle.library_parts.proofs.contents.Contents.commit.Goals as goal
@@ -52,12 +53,13 @@ invariant_of-self c =
     let fits = c.self.invariant.1.fits in
     let few = c.self.invariant.1.few in
     let kept = c.deposit_if.ensures.room in
-    rw (c.release_commit.ensures None 0 (record { member = 0; rrn = 0 }), c.commit.ensures) (
+    rw (c.release_commit.ensures None 0 (record { member = 0; rrn = 0 }), c.commit.ensures.jobs, c.commit.ensures.orders, c.commit.ensures.moves) (
       AreOne-journal (record state { jobs = job_changed (c.args.job - 1) (λ j. with_opens committed_open (without_cycle j)) state.jobs; locks = locks }) _ _ _ _ _
           (AreOne-committed state _ _ locks c.self.invariant.0 (All-locks_after (length inside.jobs.jobs) (record { job = c.args.job; opened = 0 }) (record { member = 0; rrn = 0 })
           (λ n. list_any (λ o. o == n) c.as_slice.result.now) begun Commit None inside.locks.held c.self.invariant.0.lawful.keepers)),
       HasDue-changed inside.jobs.jobs inside.due inside.journal.room _ _ c.args.job (λ j. with_opens committed_open (without_cycle j)) running c.self.invariant.1
           (omega (arith, due, part, counted)) (omega (arith, due, part, counted, fits, kept, drafts, fewer)) (omega (arith, few)),
+      IsIndexed-committed _ _ _ _ _ _ (c.args.job - 1) c.self.invariant.2,
     )
 
 pub returns : goal.returns
@@ -67,7 +69,7 @@ returns c =
     let job = job_of c.args.job (memory_of state) in
     let left = ap (λ (t : Locks). t.held) (c.release_commit.ensures job.level 0 (record { member = 0; rrn = 0 })) in
     let is = committed-memory state c.args.job c.release_commit.new.self.held c.commit.new.self.jobs c.as_slice.result.now (λ (n : ℕ). rw c.as_slice.ensures
-    (c.committed_opens-opens.ensures n)) left c.commit.ensures in
+    (c.committed_opens-opens.ensures n)) left c.commit.ensures.jobs in
     let same : c.committed-end.result ≡ cycle_end job.name c.args.timestamp CommitCycleCommitted (option_map (λ x. x.sequence) job.cycle) =
     c.committed-end.ensures ∙ (λ i. cycle_end (c.name.ensures i) c.args.timestamp CommitCycleCommitted (c.cycle.ensures i)) in
     rw (← c.self.view_is, c.deposit_if.ensures.journal, same) (commit-answers state c.args.job c.args.timestamp c.release_commit.new.self.held c.commit.new.self.jobs is)

@@ -11,4 +11,5 @@ invariant_of-self c =
     let kept = c.deposit.ensures.room in (
       AreOne-journal _ _ _ _ _ _ c.self.invariant.0,
       record { counted = c.self.invariant.1.counted; fits = omega (arith, room, kept); few = c.self.invariant.1.few },
+      c.self.invariant.2,
     )

@@ -8,4 +8,5 @@ invariant_of-self c =
     let kept = c.drop_before.ensures.room in (
       AreOne-journal _ _ _ _ _ _ c.self.invariant.0,
       record { counted = c.self.invariant.1.counted; fits = omega (arith, fits, kept); few = c.self.invariant.1.few },
+      c.self.invariant.2,
     )

@@ -13,6 +13,7 @@ use Rattle.library_parts.specs.Boundaries.{author}
 use Rattle.library_parts.specs.Due.{level_due}
 use Rattle.library_parts.specs.Parts.{state_of}
 use Rattle.library_parts.proofs.BoundaryLemmas.{ended-answers}
+use Rattle.library_parts.proofs.IndexOpens.{IsIndexed-with_level}
 use Rattle.library_parts.proofs.LawfulLemmas.{AreOne-commitment_ended, AreOne-journal}
 use Rattle.library_parts.proofs.DueLemmas.{HasDue-changed, job_due-part, started-due}
 use Rattle.library_parts.proofs.contents.Contents.end_commitment.Goals as goal
@@ -47,6 +48,7 @@ invariant_of-self c =
           (All-filter (λ lock. not (is_of_group c.args.job lock)) (λ lock. HasBegun (length inside.jobs.jobs) lock.job) inside.locks.held c.self.invariant.0.lawful.keepers)),
       HasDue-changed inside.jobs.jobs inside.due inside.journal.room _ _ c.args.job (with_level None) running c.self.invariant.1
           (omega (arith, one, part, counted)) (omega (arith, one, part, counted, fits, kept)) (omega (arith, few)),
+      IsIndexed-with_level _ _ _ _ _ _ (c.args.job - 1) None c.self.invariant.2,
     )
 
 pub returns : goal.returns

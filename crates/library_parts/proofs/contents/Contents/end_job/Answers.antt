@@ -6,6 +6,7 @@ use Rattle.std.proofs.Common.{length}
 use Rattle.library_steps.specs.State.{job_at, or_new}
 use Rattle.library_steps.specs.EndJob.{ended_job}
 use Rattle.library_parts.specs.Due.{cycle_due, level_due}
+use Rattle.library_parts.proofs.IndexChanges.{IsIndexed-ended}
 use Rattle.library_parts.proofs.LawfulLemmas.{AreOne-ended}
 use Rattle.library_parts.proofs.DueLemmas.{HasDue-changed, job_due-part}
 use Rattle.library_parts.proofs.contents.Contents.end_job.Goals as goal
@@ -30,8 +31,9 @@ invariant_of-self c =
     let counted = c.self.invariant.1.counted in
     let fits = c.self.invariant.1.fits in
     let few = c.self.invariant.1.few in
-    rw (c.release_job.ensures.locks, c.end-none.ensures.jobs) (
+    rw (c.release_job.ensures.locks, c.end-none.ensures.jobs, c.end-none.ensures.orders, c.end-none.ensures.moves) (
       AreOne-ended _ _ _ _ c.self.invariant.0 (All-filter (λ lock. not (is_by c.args.job lock)) (λ lock. HasBegun (length inside.jobs.jobs) lock.job) inside.locks.held c.self.invariant.0.lawful.keepers),
       HasDue-changed inside.jobs.jobs inside.due inside.journal.room _ _ c.args.job ended_job running c.self.invariant.1
           (omega (arith, before, none, part, counted)) (omega (arith, fits)) (omega (arith, few)),
+      IsIndexed-ended _ _ _ _ _ _ _ c.self.invariant.2,
     )

@@ -1,4 +1,4 @@
-use Rattle.std.proofs.Common.{◌≡◌, ◌∙◌, ◌-◌, ℕ, Option, List, not, length, option_to_list, subst, sym, ap, arith}
+use Rattle.std.proofs.Common.{◌≡◌, ◌∙◌, ◌-◌, ℕ, Option, List, not, length, option_to_list, refl, subst, sym, ap, arith}
 use Rattle.entry_codec.specs.declared.entries.Draft.{Draft}
 use Rattle.std.specs.List.{AllByRecursion}
 use Rattle.std.specs.Option.{option_map}
@@ -16,6 +16,7 @@ use Rattle.library_parts.specs.Due.{cycle_due, level_due}
 use Rattle.library_parts.specs.Lawful.{FitsPlace}
 use Rattle.library_parts.specs.Parts.{state_of}
 use Rattle.library_parts.proofs.BackLemmas.{CycleGoesBack-of}
+use Rattle.library_parts.proofs.UndoingLemmas.{can-take_back, indexed-as, undos-ended}
 use Rattle.library_parts.proofs.DueLemmas.{HasDue-changed, job_due-part}
 use Rattle.library_parts.proofs.LawfulLemmas.{AreOne-journal}
 use Rattle.library_steps.specs.EndJob.{ended_job}
@@ -28,6 +29,18 @@ roll_back-requires-clause-fit c =
     let cycle = (or_new (job_at c.args.job inside.jobs.jobs)).cycle in
     subst (AllByRecursion (FitsPlace inside.members.members)) (sym c.end-undos.ensures.changes)
     (cycle-places inside.catalogue.files inside.members.members cycle (CycleGoesBack-of inside.catalogue.files inside.members.members c.args.job inside.jobs.jobs c.self.invariant.0.lawful.changes))
+
+pub roll_back-requires-clause-can : goal.roll_back-requires-clause-can
+roll_back-requires-clause-can c =
+    let inside = c.self.inside in
+    let cycle = (or_new (job_at c.args.job inside.jobs.jobs)).cycle in
+    let running = rw (← c.self.view_is) at c.requires.running in
+    let fit = cycle-places inside.catalogue.files inside.members.members cycle
+    (CycleGoesBack-of inside.catalogue.files inside.members.members c.args.job inside.jobs.jobs c.self.invariant.0.lawful.changes) in
+    can-take_back _ _ _ _ _ _ _ _
+    (undos-ended inside.catalogue.files inside.members.members inside.jobs.jobs inside.jobs.orders inside.jobs.moves inside.paths c.args.job running c.end-undos.result.changes
+    c.end-undos.result.moves c.end-undos.ensures.changes c.end-undos.ensures.given c.self.invariant.2 fit
+    (rw (← c.self.view_is) at c.requires.stand))
 
 pub roll_back-requires-clause-room : goal.roll_back-requires-clause-room
 roll_back-requires-clause-room c =
@@ -65,7 +78,7 @@ invariant_of-self c =
     let inside = c.self.inside in
     let state = state_of inside.catalogue inside.members inside.next_member inside.journal inside.locks inside.jobs in
     let job = or_new (job_at c.args.job inside.jobs.jobs) in
-    let running = rw (← c.self.view_is) at c.requires in
+    let running = rw (← c.self.view_is) at c.requires.running in
     let back = CycleGoesBack-of inside.catalogue.files inside.members.members c.args.job inside.jobs.jobs c.self.invariant.0.lawful.changes in
     let due : c.cycle_due-due.result ≡ cycle_due job.cycle = rw (← c.self.view_is) at c.cycle_due-due.ensures in
     let level : c.level_due.result ≡ level_due job.level = c.level_due.ensures ∙ ap level_due c.level-level.ensures in
@@ -80,6 +93,11 @@ invariant_of-self c =
     let few = c.self.invariant.1.few in
     let kept = c.roll_back.ensures.room in
     let more = c.deposit_if.ensures.room in
+    let fit = cycle-places inside.catalogue.files inside.members.members job.cycle back in
+    let taking = undos-ended inside.catalogue.files inside.members.members inside.jobs.jobs inside.jobs.orders inside.jobs.moves inside.paths c.args.job running c.end-undos.result.changes
+    c.end-undos.result.moves c.end-undos.ensures.changes c.end-undos.ensures.given c.self.invariant.2 fit
+    (rw (← c.self.view_is) at c.requires.stand) in
+    let undone = c.roll_back.ensures.members ∙ ap (λ (us : List MemberChange). members_back us state.members) c.end-undos.ensures.changes in
     rw (c.roll_back.ensures.members, c.end-undos.ensures.changes, c.release_job.ensures.locks, c.end-undos.ensures.jobs) (
       AreOne-journal (record state {
         members = members_back (changes_in job.cycle) state.members;
@@ -90,6 +108,7 @@ invariant_of-self c =
           (All-filter (λ lock. not (is_by c.args.job lock)) (λ lock. HasBegun (length inside.jobs.jobs) lock.job) inside.locks.held c.self.invariant.0.lawful.keepers)),
       HasDue-changed inside.jobs.jobs inside.due inside.journal.room _ _ c.args.job ended_job running c.self.invariant.1
           (omega (arith, due, level, part, counted)) (omega (arith, due, level, part, counted, fits, kept, more, changes, one, end, sum)) (omega (arith, few)),
+      indexed-as _ _ _ _ _ _ _ _ _ _ (sym undone) refl c.end-undos.ensures.orders c.end-undos.ensures.moves (c.roll_back.ensures.indexed _ _ _ _ taking),
     )
 
 pub returns : goal.returns

@@ -11,4 +11,5 @@ invariant_of-self c =
       AreOne-locks _ _ _ c.self.invariant.0 (All-locks_after (length inside.jobs.jobs) c.args.holder c.args.at
           (λ n. false) begun c.args.call c.args.level inside.locks.held c.self.invariant.0.lawful.keepers),
       c.self.invariant.1,
+      c.self.invariant.2,
     )

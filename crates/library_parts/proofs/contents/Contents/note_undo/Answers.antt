@@ -3,6 +3,8 @@ use Rattle.library_steps.specs.State.{job_at, or_new}
 use Rattle.library_steps.specs.SlotChange.{noted, with_cycle}
 use Rattle.job_table.specs.Changes.{cycle_from}
 use Rattle.library_parts.specs.Lawful.{GoesBack}
+use Rattle.library_parts.proofs.IndexChanges.{IsIndexed-noted}
+use Rattle.library_parts.proofs.IndexMoves.{room-held}
 use Rattle.library_parts.proofs.LawfulLemmas.{AreOne-noted}
 use Rattle.library_parts.proofs.BackLemmas.{CycleGoesBack-noted, CycleGoesBack-of}
 use Rattle.library_parts.proofs.DueLemmas.{HasDue-changed, few-noted, noted-due, some-mapped}
@@ -17,18 +19,20 @@ invariant_of-self c =
     let sequence = c.bounds-last.result.1 + 1 in
     let running = rw (← c.self.view_is) at c.requires.running in
     let room = rw (← c.self.view_is) at c.requires.entries in
-    let goes : GoesBack files members (cycle_from sequence job.cycle).sequence c.args.undo =
-    subst (λ n. GoesBack files members (cycle_from (n + 1) job.cycle).sequence c.args.undo) (sym c.bounds-last.ensures.last) (rw (← c.self.view_is) at c.requires.goes_back) in
+    let goes : GoesBack files members (cycle_from sequence job.cycle).sequence c.args.undo.change =
+    subst (λ n. GoesBack files members (cycle_from (n + 1) job.cycle).sequence c.args.undo.change) (sym c.bounds-last.ensures.last) (rw (← c.self.view_is) at c.requires.goes_back) in
     let more : c.noted_due-more.result ≡ (if is_some job.cycle then 2 else 3) =
     c.noted_due-more.ensures ∙ ap (λ b. if b then 2 else 3) (c.is_some.ensures ∙ ap is_some c.cycle.ensures ∙ some-mapped _ job.cycle) in
-    let after = noted-due sequence job.cycle c.args.undo in
+    let after = noted-due sequence job.cycle c.args.undo.change in
     let few = few-noted (is_some job.cycle) in
     let most = c.bounds-last.ensures.room in
     rw c.note.ensures (
-      AreOne-noted _ _ _ (noted c.args.undo (cycle_from sequence job.cycle)) c.self.invariant.0
-          (CycleGoesBack-noted files members sequence job.cycle c.args.undo (CycleGoesBack-of files members c.args.job inside.jobs.jobs c.self.invariant.0.lawful.changes) goes),
-      HasDue-changed inside.jobs.jobs inside.due inside.journal.room _ _ c.args.job (with_cycle (noted c.args.undo (cycle_from sequence job.cycle))) running c.self.invariant.1
+      AreOne-noted _ _ _ (noted c.args.undo.change (cycle_from sequence job.cycle)) c.self.invariant.0
+          (CycleGoesBack-noted files members sequence job.cycle c.args.undo.change (CycleGoesBack-of files members c.args.job inside.jobs.jobs c.self.invariant.0.lawful.changes) goes),
+      HasDue-changed inside.jobs.jobs inside.due inside.journal.room _ _ c.args.job (with_cycle (noted c.args.undo.change (cycle_from sequence job.cycle))) running c.self.invariant.1
           (omega (arith, more, after)) (omega (arith, room, more, few)) (omega (arith, room, more, few, most)),
+      IsIndexed-noted files members inside.jobs.jobs inside.jobs.orders inside.jobs.moves inside.paths c.args.job sequence c.args.undo.change c.args.undo.moves running
+          (rw (← c.self.view_is) at c.requires.moves) (room-held c.args.undo.change.member 1 inside.jobs.jobs inside.paths (rw (← c.self.view_is) at c.requires.moves_room)) c.self.invariant.2,
     )
 
 pub returns-clause-left : goal.returns-clause-left

@@ -2,6 +2,7 @@ use Rattle.std.proofs.Common.{◌≡◌, ◌∙◌, Some, ap, arith}
 use Rattle.library_steps.specs.State.{job_at, or_new}
 use Rattle.library_steps.specs.Commitment.{with_level}
 use Rattle.library_parts.specs.Due.{level_due}
+use Rattle.library_parts.proofs.IndexOpens.{IsIndexed-with_level}
 use Rattle.library_parts.proofs.LawfulLemmas.{AreOne-job_changed}
 use Rattle.library_parts.proofs.DueLemmas.{HasDue-changed, job_due-part}
 use Rattle.library_parts.proofs.contents.Contents.start_commitment.Goals as goal
@@ -20,4 +21,5 @@ invariant_of-self c =
       AreOne-job_changed _ _ _ (with_level (Some c.args.level)) c.self.invariant.0 (λ job holds. holds) (λ job back. back),
       HasDue-changed inside.jobs.jobs inside.due inside.journal.room _ _ c.args.job (with_level (Some c.args.level)) running c.self.invariant.1
           (omega (arith, before, part, counted)) (omega (arith, room)) (omega (arith, room, most)),
+      IsIndexed-with_level _ _ _ _ _ _ _ (Some c.args.level) c.self.invariant.2,
     )

@@ -1,6 +1,7 @@
 use Rattle.file_catalogue.specs.declared.changes.StatusChange.TheVariants.{Touched}
+use Rattle.library_parts.proofs.IndexStatus.{IsIndexed-status}
 use Rattle.library_parts.proofs.LawfulLemmas.{AreOne-status}
 use Rattle.library_parts.proofs.contents.Contents.touch.Goals as goal
 
 pub invariant_of-self : goal.invariant_of-self
-invariant_of-self c = rw c.touch.ensures.files (AreOne-status _ _ c.args.member Touched c.self.invariant.0, c.self.invariant.1)
+invariant_of-self c = rw c.touch.ensures.files (AreOne-status _ _ c.args.member Touched c.self.invariant.0, c.self.invariant.1, IsIndexed-status _ _ _ _ _ _ c.args.member Touched c.self.invariant.2)

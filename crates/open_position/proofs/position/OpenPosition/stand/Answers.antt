@@ -1,13 +1,16 @@
-use Rattle.std.proofs.Common.{List}
+use Rattle.std.proofs.Common.{List, [], ◌∷◌, sym, subst}
 use Rattle.key_spec.specs.declared.KeyPart.{KeyPart}
-use Rattle.open_position.specs.Reads.{IsPlaceIn}
-use Rattle.open_position.proofs.StandLemmas.{in-one, place-fits}
+use Rattle.file_model.specs.KeyOrder.{merged_parts}
+use Rattle.open_position.specs.OpenStand.{AreGivenBytes}
+use Rattle.open_position.specs.Reads.{IsStandAt}
+use Rattle.open_position.proofs.StandLemmas.{in-one, given-fit}
 use Rattle.open_position.proofs.position.OpenPosition.stand.Goals as goal
 
-pub setll-requires : goal.setll-requires
-setll-requires c =
-    place-fits c.self.inside.parts c.self.inside.cursor.room c.self.invariant.room c.args.at (in-one _ _ c.self.view_is (λ (formats : List (List KeyPart)). IsPlaceIn formats c.args.at) c.requires)
+pub give-requires : goal.give-requires
+give-requires c =
+    subst (IsStandAt (c.self.inside.keys.parts ∷ [])) c.in-Values.is (in-one _ _ c.self.view_is (λ (formats : List (List KeyPart)). IsStandAt formats c.args.at) c.requires)
 
-pub setgt-requires : goal.setgt-requires
-setgt-requires c =
-    place-fits c.self.inside.parts c.self.inside.cursor.room c.self.invariant.room c.args.at (in-one _ _ c.self.view_is (λ (formats : List (List KeyPart)). IsPlaceIn formats c.args.at) c.requires)
+pub set-requires-in-Values : goal.set-requires-in-Values
+set-requires-in-Values c =
+    given-fit c.self.inside.keys.parts c.self.inside.cursor.room c.self.invariant.room c.bytes.result.now
+    (subst (AreGivenBytes (merged_parts (c.self.inside.keys.parts ∷ []))) (sym c.bytes.ensures) c.give.ensures.bytes)

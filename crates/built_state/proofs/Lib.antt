@@ -1,3 +1,0 @@
-pub mod SourceLemmas
-pub mod UniqueLemmas
-pub mod UnkeyedLemmas

@@ -1,3 +1,0 @@
-pub mod Unkeyed
-pub mod Plain
-pub mod Built

@@ -1,0 +1,276 @@
+-- What the kept paths are to files, opens and changes of commit cycles, where paths come, go, or change in their entries alone.
+use Rattle.std.proofs.Common.{ℕ, zero, suc, ◌+◌, ◌*◌, ◌≤◌, ◌≡◌, ◌≢◌, ◌==◌, ◌&&◌, ◌||◌, ◌⊎◌, inl, inr, Bool, true, false, if◌then◌else◌, List, [], ◌∷◌, ◌++◌, length, map, get_or, Option, Some}
+use Rattle.std.proofs.Common.{None, IfSome, refl}
+use Rattle.std.proofs.Common.{sym, ap, arith, ◌∙◌, subst}
+use Rattle.std.specs.Prelude.{All, Any, filter}
+use Rattle.std.specs.List.{AllByRecursion, AllZip, list_any}
+use Rattle.std.proofs.lemmas.Bool.{cond-false}
+use Rattle.std.proofs.lemmas.Bool.Decides.{nat_tests}
+use Rattle.std.proofs.lemmas.List.Elements.{All-map}
+use Rattle.std.proofs.lemmas.List.Sums.{sum_by-cons}
+use Rattle.std.proofs.Math.Nat.{mul-le-mul_right}
+use Rattle.key_pages.specs.declared.entries.Entry.{Entry}
+use Rattle.member_slots.specs.Members.{Numbered, NumberedMembers}
+use Rattle.file_model.specs.declared.paths.PathFormat.{PathFormat}
+use Rattle.file_model.specs.declared.paths.PathSpec.{PathSpec}
+use Rattle.file_model.specs.FilePaths.{every_record, own_fields, path_format, physical_path}
+use Rattle.logical_model.specs.Bases.{FileSpec, PhysicalFile, LogicalFile}
+use Rattle.logical_model.specs.Formats.{has_key}
+use Rattle.journal_model.specs.Rollback.{MemberChange}
+use Rattle.path_set.specs.declared.moves.PathMove.{PathMove}
+use Rattle.path_set.specs.KeptPaths.{KeptPath, KeptPaths, NumberedPaths, spare_of}
+use Rattle.path_set.specs.RecordChanges.{RecordChange, reversed, moves_of, in_path, moves_in, HaveRoom}
+use Rattle.path_set.specs.MemberSteps.{is_over}
+use Rattle.file_catalogue.proofs.NameLemmas.{some-equal}
+use Rattle.job_table.specs.Opens.{OpenOrder}
+use Rattle.library_model.specs.Named.{Named, named}
+use Rattle.library_steps.specs.Opens.{first_of}
+use Rattle.library_steps.specs.Records.{is_file_path}
+use Rattle.library_steps.specs.State.{FileState, OpenState, CycleState, JobState, job_changed}
+use Rattle.library_steps.specs.Uses.{changes_in}
+use Rattle.library_parts.specs.Indexed.{member_path, IsOfFile, HaveMembers, ReadsBy, ReadsFile, ReadsIn, OpensRead, record_change, moves_back, moves_of_job, changes_on, IsIndexed}
+use Rattle.library_parts.specs.Lawful.{GoesBack, CycleGoesBack, AllGoBack}
+use Rattle.library_parts.proofs.BaseLemmas.{IsKept}
+
+-- ---- lists
+
+pub any-none : {X : Type 0} (P : X → Type 0) → Any P [] → ⊥
+any-none P (k, x, low, at, is) = absurd (omega (arith, low))
+
+pub any-first : {X : Type 0} (P : X → Type 0) (x : X) (xs : List X) → P x → Any P (x ∷ xs)
+any-first P x xs is = (zero, x, (omega arith), refl, is)
+
+pub any-later : {X : Type 0} (P : X → Type 0) (x : X) (xs : List X) → Any P xs → Any P (x ∷ xs)
+any-later P x xs (k, y, low, at, is) = (suc k, y, (omega (arith, low)), at, is)
+
+pub any-cons : {X : Type 0} (P : X → Type 0) (x : X) (xs : List X) → Any P (x ∷ xs) → (P x) ⊎ Any P xs
+any-cons P x xs (zero, y, low, at, is) = inl (subst P (sym at) is)
+any-cons P x xs (suc k, y, low, at, is) = inr (k, y, (omega (arith, low)), at, is)
+
+pub any-each : {X : Type 0} (P Q : X → Type 0) (xs : List X) → ((x : X) → P x → Q x) → Any P xs → Any Q xs
+any-each P Q xs each (k, x, low, at, is) = (k, x, low, at, each x is)
+
+-- what holds of all holds of the one that is there
+pub any-both : {X : Type 0} (P Q : X → Type 0) (xs : List X) → All P xs → Any Q xs → (x : X) × P x × Q x
+any-both P Q xs all (k, x, low, at, is) = (x, subst P at (all k x low), is)
+
+pub any-map : {X Y : Type 0} (P : Y → Type 0) (f : X → Y) (xs : List X) → Any (λ (x : X). P (f x)) xs → Any P (map f xs)
+any-map {X = X} P f [] any = absurd (any-none (λ (x : X). P (f x)) any)
+any-map {X = X} P f (x ∷ xs) any =
+    elim (any-cons (λ (y : X). P (f y)) x xs any) [
+      | inl is ↦ any-first P (f x) (map f xs) is
+      | inr rest ↦ any-later P (f x) (map f xs) (any-map P f xs rest)
+    ]
+
+pub zip-each : {A B C : Type 0} (R : A → B → Type 0) (S : A → C → Type 0) (f : B → C) (xs : List A) (ys : List B) → ((x : A) (y : B) → R x y → S x (f y)) → AllZip R xs ys → AllZip S xs (map f ys)
+zip-each R S f [] [] each all = tt
+zip-each R S f [] (y ∷ ys) each all = absurd all
+zip-each R S f (x ∷ xs) [] each all = absurd all
+zip-each R S f (x ∷ xs) (y ∷ ys) each all = (each x y all.0, zip-each R S f xs ys each all.1)
+
+pub zip-all : {A B : Type 0} (R S : A → B → Type 0) (xs : List A) (ys : List B) → ((x : A) (y : B) → R x y → S x y) → AllZip R xs ys → AllZip S xs ys
+zip-all R S [] [] each all = tt
+zip-all R S [] (y ∷ ys) each all = absurd all
+zip-all R S (x ∷ xs) [] each all = absurd all
+zip-all R S (x ∷ xs) (y ∷ ys) each all = (each x y all.0, zip-all R S xs ys each all.1)
+
+-- ---- the path of a member
+
+-- it has one format, which is over the member
+pub record IsOfMember (number : ℕ) (spec : PathSpec) : Type 0 where
+  pub format : PathFormat
+  pub formats : spec.formats ≡ format ∷ []
+  pub member : format.member ≡ number
+
+pub member_path-is : (file : FileSpec) (number : ℕ) (spec : PathSpec) → member_path file number ≡ Some spec → IsOfMember number spec
+member_path-is (PhysicalFile s) number spec is =
+    elim (has_key (PhysicalFile s)) as (λ b. (if b then Some (physical_path number s.format.fields s.keys) else None) ≡ Some spec → IsOfMember number spec) [
+      | true ↦ λ e. subst (IsOfMember number) (some-equal e) (record { format = path_format number every_record (own_fields s.format.fields) s.keys.parts; formats = refl; member = refl })
+      | false ↦ λ e. absurd cc
+    ] is
+member_path-is (LogicalFile s) number spec is = absurd cc
+
+pub of-file : (files : Named FileState) (spec : PathSpec) → IsOfFile files spec → (number : ℕ) × IsOfMember number spec
+of-file files spec is = (is.owner.2, member_path-is is.owner.1.spec is.owner.2 spec is.owner.4)
+
+pub over-own : (number : ℕ) (spec : PathSpec) → IsOfMember number spec → is_over number spec ≡ true
+over-own number spec is =
+    ap (list_any (λ (f : PathFormat). f.member == number)) is.formats
+    ∙ ap (λ (b : Bool). b || false) (let m = is.member in let e : (is.format.member == number) ≡ true = grind (arith, nat_tests) in e)
+
+pub over-other : (number other : ℕ) (spec : PathSpec) → IsOfMember number spec → other ≢ number → is_over other spec ≡ false
+over-other number other spec is differs =
+    ap (list_any (λ (f : PathFormat). f.member == other)) is.formats
+    ∙ ap (λ (b : Bool). b || false) (let m = is.member in let e : (is.format.member == other) ≡ false = grind (arith, nat_tests) in e)
+
+-- a member that a format is over is the one
+pub any-own : (number member : ℕ) (spec : PathSpec) → IsOfMember number spec → Any (λ (f : PathFormat). f.member ≡ member) spec.formats → member ≡ number
+any-own number member spec is any =
+    elim (any-cons (λ (f : PathFormat). f.member ≡ member) is.format [] (subst (λ (fs : List PathFormat). Any (λ (f : PathFormat). f.member ≡ member) fs) is.formats any)) [
+      | inl same ↦ sym same ∙ is.member
+      | inr none ↦ absurd (any-none (λ (f : PathFormat). f.member ≡ member) none)
+    ]
+
+-- two members have no path in common
+pub one-member : (number other : ℕ) (spec : PathSpec) → IsOfMember number spec → IsOfMember other spec → number ≡ other
+one-member number other spec is also =
+    any-own other number spec also (subst (λ (fs : List PathFormat). Any (λ (f : PathFormat). f.member ≡ number) fs) (sym is.formats) (any-first (λ
+    (f : PathFormat). f.member ≡ number) is.format [] is.member))
+
+-- ---- paths with other entries
+
+abbrev pub with_entries : (Numbered KeptPath → List Entry) → Numbered KeptPath → Numbered KeptPath
+with_entries entries path = record { number = path.number; item = record { spec = path.item.spec; files = path.item.files; entries = entries path } }
+
+module _ (entries : Numbered KeptPath → List Entry) where
+  pub owned-with : (files : Named FileState) (paths : NumberedPaths) → All (λ (path : Numbered KeptPath). IsOfFile files path.item.spec) paths
+      → All (λ (path : Numbered KeptPath). IsOfFile files path.item.spec) (map (with_entries entries) paths)
+  owned-with files paths all = All-map (λ (path : Numbered KeptPath). IsOfFile files path.item.spec) (with_entries entries) paths all
+
+  pub single-with : (paths : NumberedPaths) → All (λ (path : Numbered KeptPath). path.item.files ≡ 1) paths → All (λ (path : Numbered KeptPath). path.item.files ≡ 1) (map (with_entries entries) paths)
+  single-with paths all = All-map (λ (path : Numbered KeptPath). path.item.files ≡ 1) (with_entries entries) paths all
+
+  pub have-with : (files : Named FileState) (paths : NumberedPaths) → HaveMembers files paths → HaveMembers files (map (with_entries entries) paths)
+  have-with files paths have name file number owns = by (member_path file.spec number) (have name file number owns)
+    where
+      by : (o : Option PathSpec) → IfSome o (λ spec. Any (λ (path : Numbered KeptPath). path.item.spec ≡ spec) paths)
+          → IfSome o (λ spec. Any (λ (path : Numbered KeptPath). path.item.spec ≡ spec) (map (with_entries entries) paths))
+      by None h = h
+      by (Some spec) h = any-map (λ (path : Numbered KeptPath). path.item.spec ≡ spec) (with_entries entries) paths h
+
+  pub any-with : (paths : NumberedPaths) (id : ℕ) (spec : PathSpec) → Any (λ (path : Numbered KeptPath). (path.number ≡ id) × (path.item.spec ≡ spec)) paths
+      → Any (λ (path : Numbered KeptPath). (path.number ≡ id) × (path.item.spec ≡ spec)) (map (with_entries entries) paths)
+  any-with paths id spec any = any-map (λ (path : Numbered KeptPath). (path.number ≡ id) × (path.item.spec ≡ spec)) (with_entries entries) paths any
+
+  pub moves-with : (c : RecordChange) (paths : NumberedPaths) → moves_in c (map (with_entries entries) paths) ≡ moves_in c paths
+  moves-with c [] = refl
+  moves-with c (path ∷ paths) = ap (λ (w : List PathMove). in_path path.number (moves_of c path.item.spec) ++ w) (moves-with c paths)
+
+-- ---- opens, and the moves of changes, where files and paths stay
+
+-- a path that is kept stays, under its number
+abbrev pub PathsStay : NumberedPaths → NumberedPaths → Type 0
+PathsStay old new =
+    (id : ℕ) (spec : PathSpec) → Any (λ path. (path.number ≡ id) × (path.item.spec ≡ spec)) old → Any (λ path. (path.number ≡ id) × (path.item.spec ≡ spec)) new
+
+abbrev pub FilesStay : Named FileState → Named FileState → Type 0
+FilesStay files others = (name : List ℕ) (file : FileState) → named name files ≡ Some file → IsKept others name file
+
+pub reads-by : (old new : NumberedPaths) (path : Option PathSpec) (order : OpenOrder) → PathsStay old new → ReadsBy old path order → ReadsBy new path order
+reads-by old new None order stay is = is
+reads-by old new (Some spec) order stay is = record { path = (is.path.0, is.path.1, stay is.path.0 spec is.path.2); formats = is.formats }
+
+-- the path by which an open reads, by what its file is
+abbrev pub path_by : FileSpec → OpenState → Option PathSpec
+path_by spec opened = if is_file_path opened.access_path && has_key spec then member_path spec (first_of opened.members) else None
+
+pub reads-in : (files others : Named FileState) (old new : NumberedPaths) → FilesStay files others → PathsStay old new → (entry : List ℕ × OpenState) (order : List ℕ × OpenOrder)
+    → ReadsIn files old entry order → ReadsIn others new entry order
+reads-in files others old new kept stay entry order reads = by (named entry.1.file files) refl reads
+  where
+    by : (o : Option FileState) → named entry.1.file files ≡ o → ReadsFile old entry.1 order.1 o → ReadsFile new entry.1 order.1 (named entry.1.file others)
+    by None is h = absurd h
+    by (Some file) is h =
+        let its = kept entry.1.file file is in
+        subst (ReadsFile new entry.1 order.1) (sym its.there)
+        (subst (λ (s : FileSpec). ReadsBy new (path_by s entry.1) order.1) (sym its.keeps.spec) (reads-by old new (path_by file.spec entry.1) order.1 stay h))
+
+pub orders-stay : (files others : Named FileState) (old new : NumberedPaths) → FilesStay files others → PathsStay old new → (jobs : List JobState) (orders : List (Named OpenOrder))
+    → AllZip (OpensRead files old) jobs orders → AllZip (OpensRead others new) jobs orders
+orders-stay files others old new kept stay jobs orders all =
+    zip-all (OpensRead files old) (OpensRead others new) jobs orders
+    (λ job its reads. zip-all (ReadsIn files old) (ReadsIn others new) job.opens its (reads-in files others old new kept stay) reads) all
+
+pub moves-stay : (old new : NumberedPaths) → ((c : RecordChange) → moves_in c new ≡ moves_in c old) → (jobs : List JobState) → map (moves_of_job new) jobs ≡ map (moves_of_job old) jobs
+moves-stay old new same jobs = λ i. map (λ (job : JobState). map (λ (undo : MemberChange). same (reversed (record_change undo)) i) (changes_in job.cycle)) jobs
+
+-- ---- room
+
+pub room-fewer : (member few many : ℕ) (kept : KeptPaths) → few ≤ many → HaveRoom member many kept → HaveRoom member few kept
+room-fewer member few many kept le had k d low any =
+    let h = had k d low any in
+    let m = mul-le-mul_right (length (get_or kept.paths k d).item.spec.formats) le in
+    omega (arith, h, m)
+
+pub room-more : (member changes : ℕ) (old new : KeptPaths) → new.paths ≡ old.paths → ((id : ℕ) → spare_of id old ≤ spare_of id new) → HaveRoom member changes old → HaveRoom member changes new
+room-more member changes old new same more had =
+    subst (λ (paths : NumberedPaths). All (λ (path : Numbered KeptPath). Any (λ (f : PathFormat). f.member ≡ member) path.item.spec.formats
+    → changes * length path.item.spec.formats ≤ spare_of path.number new) paths) (sym same)
+    (λ k d low any. let h = had k d low any in let m = more (get_or old.paths k d).number in omega (arith, h, m))
+
+-- memory is set aside
+pub IsIndexed-roomier : (files : Named FileState) (members : NumberedMembers) (jobs : List JobState) (orders : List (Named OpenOrder)) (moves : List (List (List PathMove))) (old new : KeptPaths)
+    → new.paths ≡ old.paths → ((id : ℕ) → spare_of id old ≤ spare_of id new) → IsIndexed files members jobs orders moves old → IsIndexed files members jobs orders moves new
+IsIndexed-roomier files members jobs orders moves old new same more indexed =
+    let rooms : (member : ℕ) → HaveRoom member (changes_on member jobs) new = λ member. room-more member (changes_on member jobs) old new same more (indexed.room member) in
+    record {
+      paths = rw same indexed.paths;
+      orders = rw same indexed.orders;
+      moves = rw same indexed.moves;
+      room = rooms;
+      bytes = indexed.bytes;
+    }
+
+-- ---- how many changes there are of a member
+
+abbrev pub count_on : (member : ℕ) → JobState → ℕ
+count_on member job = length (filter (λ (undo : MemberChange). undo.member == member) (changes_in job.cycle))
+
+pub changes_on-cons : (member : ℕ) (job : JobState) (jobs : List JobState) → changes_on member (job ∷ jobs) ≡ count_on member job + changes_on member jobs
+changes_on-cons member job jobs = sum_by-cons (count_on member) job jobs
+
+pub changes_on-fewer : (member place : ℕ) (change : JobState → JobState) (jobs : List JobState) → ((job : JobState) → count_on member (change job) ≤ count_on member job)
+    → changes_on member (job_changed place change jobs) ≤ changes_on member jobs
+changes_on-fewer member place change [] fewer = omega arith
+changes_on-fewer member zero change (job ∷ jobs) fewer =
+    let before = changes_on-cons member job jobs in let after = changes_on-cons member (change job) jobs in let f = fewer job in omega (arith, before, after, f)
+changes_on-fewer member (suc place) change (job ∷ jobs) fewer =
+    let before = changes_on-cons member job jobs in
+    let after = changes_on-cons member job (job_changed place change jobs) in
+    let rest = changes_on-fewer member place change jobs fewer in
+    omega (arith, before, after, rest)
+
+-- ---- all changes of open commit cycles
+
+-- it holds of each change
+abbrev pub OfChanges : (MemberChange → Type 0) → List JobState → Type 0
+OfChanges P jobs = AllByRecursion (λ job. AllByRecursion P (changes_in job.cycle)) jobs
+
+module _ (files : Named FileState) (members : NumberedMembers) (P : MemberChange → Type 0) (each : (sequence : ℕ) (undo : MemberChange) → GoesBack files members sequence undo → P undo) where
+  undos-all : (sequence : ℕ) (undos : List MemberChange) → AllByRecursion (GoesBack files members sequence) undos → AllByRecursion P undos
+  undos-all sequence [] all = tt
+  undos-all sequence (undo ∷ undos) all = (each sequence undo all.0, undos-all sequence undos all.1)
+
+  cycle-all : (cycle : Option CycleState) → CycleGoesBack files members cycle → AllByRecursion P (changes_in cycle)
+  cycle-all None back = tt
+  cycle-all (Some cycle) back = undos-all cycle.sequence cycle.undos back
+
+  -- what holds of each change that can be taken back
+  pub changes-all : (jobs : List JobState) → AllGoBack files members jobs → OfChanges P jobs
+  changes-all [] all = tt
+  changes-all (job ∷ jobs) all = (cycle-all job.cycle all.0, changes-all jobs all.1)
+
+-- where the moves of each change are the same
+pub moves-among : (old new : NumberedPaths) (jobs : List JobState) → OfChanges (λ undo. moves_back new undo ≡ moves_back old undo) jobs → map (moves_of_job new) jobs ≡ map (moves_of_job old) jobs
+moves-among old new [] all = refl
+moves-among old new (job ∷ jobs) all = λ i. those (changes_in job.cycle) all.0 i ∷ moves-among old new jobs all.1 i
+  where
+    those : (undos : List MemberChange) → AllByRecursion (λ (undo : MemberChange). moves_back new undo ≡ moves_back old undo) undos → map (moves_back new) undos ≡ map (moves_back old) undos
+    those [] same = refl
+    those (undo ∷ undos) same = λ i. same.0 i ∷ those undos same.1 i
+
+-- where none is of the member
+pub changes-none : (member : ℕ) (jobs : List JobState) → OfChanges (λ undo. undo.member ≢ member) jobs → changes_on member jobs ≡ 0
+changes-none member [] all = refl
+changes-none member (job ∷ jobs) all =
+    let sum = changes_on-cons member job jobs in
+    let rest = changes-none member jobs all.1 in
+    let own = those (changes_in job.cycle) all.0 in
+    omega (arith, sum, rest, own)
+  where
+    those : (undos : List MemberChange) → AllByRecursion (λ (undo : MemberChange). undo.member ≢ member) undos → length (filter (λ (undo : MemberChange). undo.member == member) undos) ≡ 0
+    those [] apart = refl
+    those (undo ∷ undos) apart =
+        ap length (cond-false (undo.member == member) (undo ∷ filter (λ (u : MemberChange). u.member == member) undos) (filter (λ (u : MemberChange). u.member == member) undos)
+        (let differs = apart.0 in let e : (undo.member == member) ≡ false = grind (arith, nat_tests) in e))
+        ∙ those undos apart.1

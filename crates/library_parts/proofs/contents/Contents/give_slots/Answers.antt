@@ -1,0 +1,110 @@
+use Rattle.std.proofs.Common.{◌≡◌, ◌∙◌, ◌+◌, ◌≤◌, List, Some, None, Option, Result, Ok, Err, Bool, sym, ap, subst, arith}
+use Rattle.std.specs.List.{AllByRecursion}
+use Rattle.member_slots.specs.Member.{MemberState}
+use Rattle.member_slots.specs.Members.{NumberedMembers, member_of}
+use Rattle.library_model.specs.declared.replies.Reply.{Reply}
+use Rattle.library_steps.specs.Refusals.{refuse_with}
+use Rattle.library_steps.specs.State.{memory_of}
+use Rattle.library_steps.specs.UniqueKeys.{all_apart, unique_paths}
+use Rattle.range_images.specs.declared.slot_given.SlotGiven.{SlotGiven}
+use Rattle.library_parts.specs.Given.{given_to, repeated_key, with_given}
+use Rattle.library_parts.specs.Indexed.{HasBytes}
+use Rattle.library_parts.specs.Parts.{state_of}
+use Rattle.library_parts.specs.Slots.{weight}
+use Rattle.library_parts.proofs.GivenKeys.{apart-told}
+use Rattle.library_parts.proofs.GivenLemmas.{given-one}
+use Rattle.library_parts.proofs.GivenSteps.{giving-back, giving-indexed, giving-made, giving-shared, giving-undone}
+use Rattle.library_parts.proofs.MemberLemmas.{is_some-IsSome, member_of-with}
+use Rattle.library_parts.proofs.contents.Contents.give_slots.Goals as goal
+
+pub change-back-requires : goal.change-back-requires
+change-back-requires c =
+    let parts = c.self.inside in
+    let state = state_of parts.catalogue parts.members parts.next_member parts.journal parts.locks parts.jobs in
+    let may = rw (← c.self.view_is) at c.requires.may in
+    let moves = rw (← c.self.view_is) at c.requires.moves in
+    giving-made state parts.jobs.orders parts.jobs.moves parts.paths c.args.member c.args.given.items c.args.moves c.kept-kept.ensures.shared c.self.invariant.2 may moves.same moves.room
+
+pub change_back-moves-requires : goal.change_back-moves-requires
+change_back-moves-requires c =
+    let parts = c.self.inside in
+    let state = state_of parts.catalogue parts.members parts.next_member parts.journal parts.locks parts.jobs in
+    let may = rw (← c.self.view_is) at c.requires.may in
+    let moves = rw (← c.self.view_is) at c.requires.moves in
+    giving-back state parts.jobs.orders parts.jobs.moves parts.paths c.args.member c.args.given.items c.args.moves c.kept-kept.ensures.shared c.self.invariant.2 may moves.same moves.room
+    c.change-back.new.self c.change-back.ensures.paths c.change-back.ensures.rooms c.change-back.result c.change-back.ensures.opposite
+
+pub invariant_of-self : goal.invariant_of-self
+invariant_of-self c =
+    let parts = c.self.inside in
+    let state = state_of parts.catalogue parts.members parts.next_member parts.journal parts.locks parts.jobs in
+    let may = rw (← c.self.view_is) at c.requires.may in
+    let moves = rw (← c.self.view_is) at c.requires.moves in (
+      c.self.invariant.0,
+      c.self.invariant.1,
+      giving-undone state parts.jobs.orders parts.jobs.moves parts.paths c.args.member c.args.given.items c.args.moves c.kept-kept.ensures.shared c.self.invariant.2 may moves.same moves.room
+          c.change-back.new.self c.change-back.ensures.paths c.change-back.ensures.rooms c.change-back.result c.change-back.ensures.opposite
+          c.change_back-moves.new.self c.change_back-moves.ensures.paths c.change_back-moves.ensures.rooms,
+    )
+
+pub returns-in-Some-clause-apart : goal.returns-in-Some-clause-apart
+returns-in-Some-clause-apart c =
+    let parts = c.self.inside in
+    let state = state_of parts.catalogue parts.members parts.next_member parts.journal parts.locks parts.jobs in
+    let may = rw (← c.self.view_is) at c.requires.may in
+    let moves = rw (← c.self.view_is) at c.requires.moves in
+    let bytes = subst (λ (gs : List SlotGiven). AllByRecursion (λ (g : SlotGiven). HasBytes g.slot) gs) c.as_slice.ensures.value c.are_of_bytes.ensures in
+    let now = c.change-back.new.self in
+    let indexed = giving-indexed state parts.jobs.orders parts.jobs.moves parts.paths c.args.member c.args.given.items c.args.moves c.kept-kept.ensures.shared c.self.invariant.2 may moves.same moves.room
+    now c.change-back.ensures.paths c.change-back.ensures.rooms bytes in
+    let shared = giving-shared state parts.jobs.orders parts.jobs.moves parts.paths c.args.member c.args.given.items c.args.moves c.kept-kept.ensures.shared c.self.invariant.2 may moves.same moves.room
+    now c.change-back.ensures.paths c.change-back.ensures.rooms in
+    let told = apart-told state c.args.member c.args.given.items parts.jobs.orders parts.jobs.moves parts.paths now c.self.invariant.0.lawful c.weight-before.ensures.lawful c.self.invariant.2 indexed shared
+    c.len-files.ensures.physical c.len-files.ensures.unique c.len-files.ensures.apart c.len-files.ensures.keyed may bytes in
+    rw (← c.self.view_is) (told ∙ ap (λ (o : Option Reply). refuse_with (λ (r : Reply). r) o) (sym c.repeated_key.ensures ∙ c.in-Some.is))
+
+pub overflow_sub-self : goal.overflow_sub-self
+overflow_sub-self c =
+    let counted = c.self.invariant.0.counted in
+    let few = c.weight-before.ensures.few in
+    omega (arith, counted, few)
+
+pub invariant_of-self-2 : goal.invariant_of-self-2
+invariant_of-self-2 c =
+    let parts = c.self.inside in
+    let state = state_of parts.catalogue parts.members parts.next_member parts.journal parts.locks parts.jobs in
+    let may = rw (← c.self.view_is) at c.requires.may in
+    let moves = rw (← c.self.view_is) at c.requires.moves in
+    let members = parts.members.members in
+    let member = member_of c.args.member members in
+    let bytes = subst (λ (gs : List SlotGiven). AllByRecursion (λ (g : SlotGiven). HasBytes g.slot) gs) c.as_slice.ensures.value c.are_of_bytes.ensures in
+    let counted = c.self.invariant.0.counted in
+    let few = c.weight-before.ensures.few in
+    let was = c.weight-before.ensures.value in
+    let after : c.weight-after.result ≡ weight (given_to c.args.given.items member) =
+    c.weight-after.ensures.value
+    ∙ ap (λ (ms : NumberedMembers). weight (member_of c.args.member ms)) c.put_all.ensures.members
+    ∙ ap weight (member_of-with c.args.member (given_to c.args.given.items member) members (is_some-IsSome _ may.there)) in
+    rw c.put_all.ensures.members (
+      given-one state parts.member_bytes (parts.member_bytes - c.weight-before.result + c.weight-after.result) c.args.member c.args.given.items c.self.invariant.0 may
+          (omega (arith, counted, few, was, after)),
+      c.self.invariant.1,
+      giving-indexed state parts.jobs.orders parts.jobs.moves parts.paths c.args.member c.args.given.items c.args.moves c.kept-kept.ensures.shared c.self.invariant.2 may moves.same moves.room
+          c.change-back.new.self c.change-back.ensures.paths c.change-back.ensures.rooms bytes,
+    )
+
+pub returns-in-None-clause-apart : goal.returns-in-None-clause-apart
+returns-in-None-clause-apart c =
+    let parts = c.self.inside in
+    let state = state_of parts.catalogue parts.members parts.next_member parts.journal parts.locks parts.jobs in
+    let may = rw (← c.self.view_is) at c.requires.may in
+    let moves = rw (← c.self.view_is) at c.requires.moves in
+    let bytes = subst (λ (gs : List SlotGiven). AllByRecursion (λ (g : SlotGiven). HasBytes g.slot) gs) c.as_slice.ensures.value c.are_of_bytes.ensures in
+    let now = c.change-back.new.self in
+    let indexed = giving-indexed state parts.jobs.orders parts.jobs.moves parts.paths c.args.member c.args.given.items c.args.moves c.kept-kept.ensures.shared c.self.invariant.2 may moves.same moves.room
+    now c.change-back.ensures.paths c.change-back.ensures.rooms bytes in
+    let shared = giving-shared state parts.jobs.orders parts.jobs.moves parts.paths c.args.member c.args.given.items c.args.moves c.kept-kept.ensures.shared c.self.invariant.2 may moves.same moves.room
+    now c.change-back.ensures.paths c.change-back.ensures.rooms in
+    let told = apart-told state c.args.member c.args.given.items parts.jobs.orders parts.jobs.moves parts.paths now c.self.invariant.0.lawful c.weight-before.ensures.lawful c.self.invariant.2 indexed shared
+    c.len-files.ensures.physical c.len-files.ensures.unique c.len-files.ensures.apart c.len-files.ensures.keyed may bytes in
+    rw (← c.self.view_is) (told ∙ ap (λ (o : Option Reply). refuse_with (λ (r : Reply). r) o) (sym c.repeated_key.ensures ∙ c.in-None.is))

@@ -1,0 +1,27 @@
+use Rattle.std.proofs.Common.{◌≡◌, ◌∙◌, IfOk, sym, ap, subst}
+use Rattle.member_slots.specs.Member.{MemberState, reorganized}
+use Rattle.member_slots.specs.Members.{member_of, with_member}
+use Rattle.path_set.specs.MemberSteps.{paths_over}
+use Rattle.path_set.specs.RebuiltPaths.{AreRebuilt, CanBeRebuilt}
+use Rattle.library_parts.specs.Parts.{state_of}
+use Rattle.library_parts.proofs.RemadeLemmas.{found-member, reorganized-can}
+use Rattle.library_parts.proofs.contents.Contents.paths_reorganized.Goals as goal
+
+pub prepare_rebuild-requires-clause-can : goal.prepare_rebuild-requires-clause-can
+prepare_rebuild-requires-clause-can c =
+    let parts = c.self.inside in
+    let state = state_of parts.catalogue parts.members parts.next_member parts.journal parts.locks parts.jobs in
+    let found = found-member c.args.member parts.members.members _ c.at.result c.unwrap.result c.at.ensures.found c.unwrap.ensures in
+    let same : c.in_ok-compact.compact.state ≡ reorganized (member_of c.args.member parts.members.members) = c.in_ok-compact.ensures ∙ ap reorganized found in
+    subst (λ (m : MemberState). CanBeRebuilt c.args.member (with_member c.args.member m parts.members.members) parts.paths.paths) (sym same)
+    (reorganized-can state c.args.member parts.jobs.orders parts.jobs.moves parts.paths c.len-files.ensures.keyed c.self.invariant.0.lawful c.self.invariant.2 (rw (← c.self.view_is) at c.requires)
+    c.at.ensures.lawful)
+
+pub returns : goal.returns
+returns c =
+    let parts = c.self.inside in
+    let found = found-member c.args.member parts.members.members _ c.at.result c.unwrap.result c.at.ensures.found c.unwrap.ensures in
+    let same : c.in_ok-compact.compact.state ≡ reorganized (member_of c.args.member parts.members.members) = c.in_ok-compact.ensures ∙ ap reorganized found in
+    rw (← c.self.view_is)
+    (subst (λ (m : MemberState). IfOk c.prepare_rebuild.result (AreRebuilt (with_member c.args.member m parts.members.members) 0 (paths_over c.args.member parts.paths.paths))) same
+    c.prepare_rebuild.ensures)

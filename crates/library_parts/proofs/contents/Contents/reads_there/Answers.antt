@@ -1,0 +1,27 @@
+use Rattle.library_parts.specs.Indexed.{path_read}
+use Rattle.library_parts.specs.Parts.{state_of}
+use Rattle.library_parts.proofs.IndexLooks.{reads-keyed}
+use Rattle.library_parts.proofs.ReadLemmas.{formats-by, reads-among}
+use Rattle.library_parts.proofs.contents.Contents.reads_there.Goals as goal
+
+pub returns-clause-among : goal.returns-clause-among
+returns-clause-among c =
+    let inside = c.self.inside in
+    let s = state_of inside.catalogue inside.members inside.next_member inside.journal inside.locks inside.jobs in
+    let opened = c.args.opened.now in
+    let has = rw (← c.self.view_is) at c.requires.member in
+    let reads = rw (← c.self.view_is) at c.requires.reads in
+    rw (← c.self.view_is)
+    (reads-among s inside.jobs.orders inside.jobs.moves inside.paths c.len-files.ensures.keyed c.self.invariant.0.lawful c.at-member.ensures.lawful c.kept-paths.ensures.shared
+    c.kept-paths.ensures.rooms c.self.invariant.2 opened.state opened.order opened.state.file c.args.file.now has c.only_member-only.ensures.only reads c.format-format.ensures.physical)
+
+pub returns-clause-formats : goal.returns-clause-formats
+returns-clause-formats c =
+    formats-by c.args.self.now.room.paths.paths (path_read c.args.file.now c.args.opened.now.state) c.args.opened.now.order c.requires.reads
+
+pub returns-clause-keyed : goal.returns-clause-keyed
+returns-clause-keyed c =
+    reads-keyed c.args.self.now.room.paths.paths c.args.opened.now.state c.args.opened.now.order c.args.file.now c.format-format.ensures.physical c.requires.reads
+
+pub returns-clause-physical : goal.returns-clause-physical
+returns-clause-physical c = c.format-format.ensures.physical

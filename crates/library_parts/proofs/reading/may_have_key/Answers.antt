@@ -1,0 +1,21 @@
+use Rattle.std.proofs.Common.{◌≡◌, ◌∙◌, ℕ, Bool, List, Option, Some, None, true, is_some, ap, sym, subst}
+use Rattle.key_spec.specs.declared.KeyPart.{KeyPart}
+use Rattle.file_model.specs.KeyOrder.{merged_parts}
+use Rattle.key_order.specs.GivenValues.{key_fault}
+use Rattle.library_parts.specs.Reads.{MayHaveKey, refusal}
+use Rattle.library_parts.proofs.reading.may_have_key.Goals as goal
+
+pub returns-in-Some : goal.returns-in-Some
+returns-in-Some c =
+    let opened = c.args.opened.now in
+    let values = c.args.values.now in
+    let path : opened.order.path ≡ Some c.in-Some.field-0 = sym c.path.ensures ∙ c.in-Some.is in
+    let parts = c.parts.ensures.parts ∙ ap merged_parts c.stand.ensures.formats in
+    subst (λ (b : Bool). MayHaveKey b (merged_parts opened.order.formats) values c.may_be_key.result) (sym (ap (λ (p : Option ℕ). is_some p) path))
+    (subst (λ (ps : List KeyPart). MayHaveKey true ps values c.may_be_key.result) parts c.may_be_key.ensures)
+
+pub returns-in-None : goal.returns-in-None
+returns-in-None c =
+    let opened = c.args.opened.now in
+    let path : opened.order.path ≡ None = sym c.path.ensures ∙ c.in-None.is in
+    ap (λ (p : Option ℕ). refusal (is_some p) (key_fault (merged_parts opened.order.formats) c.args.values.now)) path

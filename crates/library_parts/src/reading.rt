@@ -1,0 +1,351 @@
+//! What an open reads: the key that a request gives, the record that a read finds, and where the open stands then.
+ghost use Rattle.std.specs.Prelude.{◌≡◌, ◌≤◌, ◌&&◌, nat_lt, [], ◌∷◌, Ok, Some, None, true, false, is_some, length, IfOk, IfSome, IsSome, IsTrue, List, option_map};
+ghost use Rattle.std.specs.List.{find};
+ghost use Rattle.file_model.specs.FilePaths.{key_parts};
+ghost use Rattle.file_model.specs.KeyOrder.{merged_parts};
+ghost use Rattle.file_model.specs.Paths.{PathEntry};
+ghost use Rattle.file_model.specs.Positions.{Position, Reading, Start};
+ghost use Rattle.file_catalogue.specs.Physical.{IsPhysical};
+ghost use Rattle.file_cursor.specs.CursorPosition.{entry_of};
+ghost use Rattle.key_order.specs.declared.widths.TheConstants.{MOST_POSITIONS};
+ghost use Rattle.key_order.specs.KeyFields.{ArePositions};
+ghost use Rattle.key_spec.specs.declared.KeyPart.{KeyPart};
+ghost use Rattle.path_set.specs.MemberSteps.{is_over};
+ghost use Rattle.member_slots.specs.Members.{NumberedMembers};
+ghost use Rattle.job_table.specs.Opens.{AllOfNumber};
+ghost use Rattle.job_table.specs.Table.{job_of_number, orders_at};
+ghost use Rattle.library_model.specs.Named.{named};
+ghost use Rattle.library_steps.specs.History.{is_running};
+ghost use Rattle.library_steps.specs.Reads.{bound_asked, open_changed, positioned, has_read, entry_found};
+ghost use Rattle.library_steps.specs.Records.{is_file_path, is_keyed, live_record, reading_of};
+ghost use Rattle.library_steps.specs.Refusals.{OpenedFile, opened_file};
+ghost use Rattle.library_steps.specs.State.{memory_of, job_at, open_named, with_job};
+ghost use Rattle.open_position.specs.OpenStand.{IsEntryIn};
+ghost use Rattle.open_position.specs.Reads.{IsAskedOf, IsStandAt, asked_of, entry_hit, side_of, stood};
+ghost use Rattle.library_parts.specs.Finds.{HasMember, OpensMember};
+ghost use Rattle.library_parts.specs.Reads.{CanNote, CanStand, CanStandIn, FindsEntry, GivesKey, HasKeyOf, IsAlongPath, IsInArrival, IsLookedIn, MayHaveKey, Stands, ReadsAmong, ReadsAs, ReadsFor, ReadsSo, formats_read, found_by, orders_in, stood_at};
+
+use crate::contents::Contents;
+use crate::finds::OpenFound;
+use crate::stop::Stop;
+use crate::texts::are_of_bytes;
+use access_path::paths::Paths;
+use field_types::names::Name;
+use field_types::values::Value;
+use file_catalogue::File;
+use file_cursor::places::{Hit, Order};
+use job_table::{Jobs, Open, OpenReads};
+use key_order::given::{KeyFault, encode_values, key_fault};
+use key_pages::Key;
+use key_spec::{KeyPart, KeySpec};
+use key_values::laws::given_keys_are_read_back;
+use library_model::replies::Reply;
+use library_model::requests::{AccessPath, Limit, OpenFile};
+use lock_table::Call;
+use member_paths::path_positions;
+use member_slots::members::Members;
+use open_position::position::{OpenPosition, Side, StandAt};
+use open_position::reads::ReadBy;
+use path_set::set::PathSet;
+use std::alloc::{AllocError, Global};
+
+/// A record that a read found.
+#[derive(Clone, Copy)]
+pub struct Found {
+    pub rrn: u32,
+}
+
+impl Contents {
+    /// How a new open of the member reads: by the file's path over it, or in arrival order. It stands at the start.
+    pub fn reads_for(&self, args: &OpenFile, member: u32) -> Result<OpenReads, AllocError>
+        requires { OpensMember member (named args.now.file self.now.state.files) }
+        ensures { IfOk result (λ reads. ReadsFor self.now args.now member reads) }
+    {
+        // Each member of a file with a key has its path.
+        let _files = self.catalogue.len();
+        let _paths = self.paths.kept();
+        let file = self.catalogue.named(&args.file).unwrap();
+        let _format = file.format();
+        let keys = file.keys();
+        if is_by_key(args, keys) {
+            self.reads_by_path(args.commit, keys, member)
+        } else {
+            reads_in_arrival(self.alloc, args.commit)
+        }
+    }
+
+    /// How a new open reads by the path over the member.
+    fn reads_by_path(
+        &self,
+        commit: bool,
+        keys: &KeySpec,
+        member: u32,
+    ) -> Result<OpenReads, AllocError>
+        requires few { length (key_parts 0 keys.now.parts) ≤ MOST_POSITIONS }
+        requires allowed { ArePositions (key_parts 0 keys.now.parts) }
+        ensures path { IfOk result (λ reads. reads.path ≡ option_map (λ path. path.number) (find (λ path. is_over member path.item.spec) self.now.room.paths.paths)) }
+        ensures position { IfOk result (λ reads. reads.position ≡ record { position = Start; boundary = Start; formats = key_parts 0 keys.now.parts ∷ []; marks = commit }) }
+    {
+        let parts = path_positions(self.alloc, keys)?;
+        let position = OpenPosition::by_key(self.alloc, parts, commit)?;
+        let path = self.paths.first_over(member);
+        Ok(OpenReads { path, position })
+    }
+
+    /// The bytes of the key that a request gives through the open, or its refusal.
+    pub fn given_key(&self, opened: &Open, file: &File, values: &[Value]) -> Result<Key, Stop>
+        requires { ReadsAs self.now opened.now file.now }
+        ensures { GivesKey file.now opened.now.state values.now result }
+    {
+        // It is a physical file.
+        let _format = file.format();
+        key_of_values(self.alloc, opened, values)
+    }
+
+    /// The record that a read through the open finds.
+    pub fn find(&self, opened: &Open, file: &File, by: ReadBy<'_>) -> Option<Found>
+        requires reads { ReadsAs self.now opened.now file.now }
+        requires member { HasMember self.now.state opened.now.state.file file.now opened.now.state.member }
+        requires asked { IsAskedOf (formats_read file.now opened.now.state) by }
+        requires looked { IsLookedIn (is_keyed file.now opened.now.state) by }
+        ensures found { FindsEntry result (found_by by.entry file.now opened.now.state (memory_of self.now.state)) }
+        ensures live { IfSome result (λ found. is_some (live_record opened.now.state.member found.rrn (memory_of self.now.state)) ≡ true) }
+    {
+        self.reads_there(opened, file);
+        match hit_of(&self.members, &self.paths, opened, by) {
+            Some(hit) => Some(Found { rrn: hit.rrn }),
+            None => None,
+        }
+    }
+
+    /// The refusal of a place where a position is to be set. It takes no memory.
+    pub fn may_stand(&self, opened: &Open, file: &File, to: &Limit) -> Result<(), Stop>
+        requires { ReadsAs self.now opened.now file.now }
+        ensures { Stands (record { opened = opened.now.state; file = file.now }) to.now result }
+    {
+        // It is a physical file.
+        let _format = file.format();
+        match to {
+            Limit::Key(values) => may_have_key(opened, values.as_slice()),
+            Limit::LowValue => reads_so(opened, true),
+            Limit::HighValue => reads_so(opened, true),
+            Limit::RecordNumber(_) => reads_so(opened, false),
+        }
+    }
+
+    /// Sets the position of the job's open of that name to this side of a place. It takes no memory.
+    pub fn set_position(&mut self, job: u32, name: &Name, side: Side, to: &Limit)
+        requires running { IsTrue (is_running (job_at job self.old.state.jobs)) }
+        requires place { CanStand self.old job name.now to.now }
+        ensures memory { (its : OpenedFile) (position : Position PathEntry) → opened_file name.now job (memory_of self.old.state) ≡ Ok its → bound_asked its (side_of side) to.now ≡ Ok position
+            → memory_of self.new.state ≡ with_job job (open_changed its.opened.number (positioned None position)) (memory_of self.old.state) }
+        ensures entries { self.new.state.entries ≡ self.old.state.entries }
+        ensures room { self.new.room ≡ self.old.room }
+    {
+        let its = self.found_open(job, name);
+        self.reads_there(its.opened, its.file);
+        let number = its.opened.number();
+        let at = place_of(to);
+        self.jobs.set_position(job, number, side, at);
+    }
+
+    /// Notes that the job's open of that name has read what it finds so. It takes no memory.
+    pub fn note_read(&mut self, job: u32, name: &Name, call: Call, by: ReadBy<'_>)
+        requires running { IsTrue (is_running (job_at job self.old.state.jobs)) }
+        requires found { CanNote self.old job name.now by }
+        ensures memory { (its : OpenedFile) (entry : PathEntry) → opened_file name.now job (memory_of self.old.state) ≡ Ok its → found_by by.entry its.file its.opened (memory_of self.old.state) ≡ Some entry
+            → memory_of self.new.state ≡ with_job job (open_changed its.opened.number (has_read call (entry_found entry))) (memory_of self.old.state) }
+        ensures entries { self.new.state.entries ≡ self.old.state.entries }
+        ensures room { self.new.room ≡ self.old.room }
+    {
+        // All files are physical ones.
+        let _len = self.catalogue.len();
+        let its = self.found_open(job, name);
+        self.reads_there(its.opened, its.file);
+        let number = its.opened.number();
+        let opened = kept_open(&self.jobs, job, name);
+        let hit = hit_of(&self.members, &self.paths, opened, by).unwrap();
+        self.jobs.note_read(job, number, call, &hit);
+    }
+
+    /// The job's open of that name, which is there, and its file.
+    fn found_open(&self, job: u32, name: &Name) -> OpenFound<'_>
+        requires running { IsTrue (is_running (job_at job self.now.state.jobs)) }
+        requires named { (its : OpenedFile) × (opened_file name.now job (memory_of self.now.state) ≡ Ok its) }
+        ensures found { opened_file name.now job (memory_of self.now.state) ≡ Ok (record { opened = result.opened.now.state; file = result.file.now }) }
+        ensures shows { open_named name.now job (memory_of self.now.state) ≡ Some result.opened.now.state }
+        ensures order { named name.now (orders_in job self.now) ≡ Some result.opened.now.order }
+        ensures there { HasMember self.now.state result.opened.now.state.file result.file.now result.opened.now.state.member }
+        ensures reads { ReadsAs self.now result.opened.now result.file.now }
+        ensures alone { AllOfNumber result.opened.now.state.number (λ order. order ≡ result.opened.now.order) (orders_in job self.now) }
+    {
+        match self.opened_file(job, name) {
+            Ok(its) => its,
+            Err(_) => unreachable!(),
+        }
+    }
+
+    /// What an open reads is there: its path, or its member.
+    fn reads_there(&self, opened: &Open, file: &File)
+        requires reads { ReadsAs self.now opened.now file.now }
+        requires member { HasMember self.now.state opened.now.state.file file.now opened.now.state.member }
+        ensures among { ReadsAmong self.now.state.members self.now.room.paths opened.now.state.member opened.now.order.formats opened.now.order.path (reading_of file.now opened.now.state (memory_of self.now.state)) }
+        ensures formats { formats_read file.now opened.now.state ≡ opened.now.order.formats }
+        ensures keyed { is_some opened.now.order.path ≡ is_keyed file.now opened.now.state }
+        ensures physical { IsPhysical file.now.spec }
+    {
+        let _files = self.catalogue.len();
+        let _paths = self.paths.kept();
+        let _member = self.members.at(opened.member());
+        let _only = opened.only_member();
+        let _format = file.format();
+    }
+}
+
+/// The job's open of that name, which is there.
+fn kept_open<'a>(jobs: &'a Jobs, job: u32, name: &Name) -> &'a Open
+    requires running { IsTrue (is_running (job_at job jobs.now.jobs)) }
+    requires there { IsSome (named name.now (job_of_number job jobs.now.jobs).opens) }
+    ensures state { named name.now (job_of_number job jobs.now.jobs).opens ≡ Some result.now.state }
+    ensures order { named name.now (orders_at job jobs.now) ≡ Some result.now.order }
+{
+    jobs.open_named(job, name).unwrap()
+}
+
+/// Whether a new open reads by the key of its file.
+fn is_by_key(args: &OpenFile, keys: &KeySpec) -> bool
+    ensures { result ≡ (is_file_path args.now.access_path && nat_lt 0 (length keys.now.parts)) }
+{
+    match args.access_path {
+        AccessPath::File => !keys.parts.as_slice().is_empty(),
+        AccessPath::Arrival => false,
+    }
+}
+
+/// How a new open reads in arrival order.
+fn reads_in_arrival(alloc: Global, commit: bool) -> Result<OpenReads, AllocError>
+    ensures path { IfOk result (λ reads. reads.path ≡ None) }
+    ensures position { IfOk result (λ reads. reads.position ≡ record { position = Start; boundary = Start; formats = [] ∷ []; marks = commit }) }
+{
+    let position = OpenPosition::by_number(alloc, commit)?;
+    Ok(OpenReads {
+        path: None,
+        position,
+    })
+}
+
+/// A place as a position is set to it.
+fn place_of(to: &Limit) -> StandAt<'_>
+    ensures can { (formats : List (List KeyPart)) → CanStandIn formats to.now → IsStandAt formats result }
+    ensures stood { (side : Side) (parts : List KeyPart) → stood side parts result ≡ stood_at side parts to.now }
+{
+    match to {
+        Limit::Key(values) => StandAt::Values(values.as_slice()),
+        Limit::LowValue => StandAt::Low,
+        Limit::HighValue => StandAt::High,
+        Limit::RecordNumber(rrn) => StandAt::Number(*rrn),
+    }
+}
+
+/// What a read through the open finds, by its path or in arrival order.
+fn hit_of<'a>(
+    members: &'a Members,
+    paths: &'a PathSet,
+    opened: &Open,
+    by: ReadBy<'_>,
+) -> Option<Hit<'a>>
+    requires read { (reading : Reading PathEntry) × ReadsAmong members.now.members paths.now opened.now.state.member opened.now.order.formats opened.now.order.path reading }
+    requires asked { IsAskedOf opened.now.order.formats by }
+    requires looked { IsLookedIn (is_some opened.now.order.path) by }
+    ensures found { (reading : Reading PathEntry) → ReadsAmong members.now.members paths.now opened.now.state.member opened.now.order.formats opened.now.order.path reading
+        → option_map (entry_hit (merged_parts opened.now.order.formats)) result ≡ asked_of by.entry (merged_parts opened.now.order.formats) reading opened.now.state.position }
+    ensures bytes { IfSome result (λ hit. IsEntryIn opened.now.order.formats (entry_of hit)) }
+{
+    match opened.path() {
+        Some(id) => hit_along(paths, id, opened, by),
+        None => hit_in(members, opened, by),
+    }
+}
+
+/// What it finds along a path.
+fn hit_along<'a>(paths: &'a PathSet, id: u64, opened: &Open, by: ReadBy<'_>) -> Option<Hit<'a>>
+    requires read { (members : NumberedMembers) × (reading : Reading PathEntry) × IsAlongPath members paths.now id opened.now.order.formats reading }
+    requires asked { IsAskedOf opened.now.order.formats by }
+    ensures found { (members : NumberedMembers) (reading : Reading PathEntry) → IsAlongPath members paths.now id opened.now.order.formats reading
+        → option_map (entry_hit (merged_parts opened.now.order.formats)) result ≡ asked_of by.entry (merged_parts opened.now.order.formats) reading opened.now.state.position }
+    ensures bytes { IfSome result (λ hit. IsEntryIn opened.now.order.formats (entry_of hit)) }
+{
+    let path = paths.path(id).unwrap();
+    opened.stand().find(Order::Path(path), by)
+}
+
+/// What it finds among the records of its member.
+fn hit_in<'a>(members: &'a Members, opened: &Open, by: ReadBy<'_>) -> Option<Hit<'a>>
+    requires read { (reading : Reading PathEntry) × IsInArrival members.now.members opened.now.state.member opened.now.order.formats reading }
+    requires asked { IsAskedOf opened.now.order.formats by }
+    requires looked { IsLookedIn false by }
+    ensures found { (reading : Reading PathEntry) → IsInArrival members.now.members opened.now.state.member opened.now.order.formats reading
+        → option_map (entry_hit (merged_parts opened.now.order.formats)) result ≡ asked_of by.entry (merged_parts opened.now.order.formats) reading opened.now.state.position }
+    ensures bytes { IfSome result (λ hit. IsEntryIn opened.now.order.formats (entry_of hit)) }
+{
+    let member = members.at(opened.member()).unwrap();
+    opened.stand().find(Order::Arrival(member), by)
+}
+
+/// The bytes of values for the first positions of the open's key, or their refusal.
+fn key_of_values(alloc: Global, opened: &Open, values: &[Value]) -> Result<Key, Stop>
+    ensures { HasKeyOf (is_some opened.now.order.path) (merged_parts opened.now.order.formats) values.now result }
+{
+    match opened.path() {
+        Some(_) => bytes_of_values(alloc, opened.stand().parts(), values),
+        None => Err(Stop::Refused(Reply::WrongOpen)),
+    }
+}
+
+/// The bytes of values for the first positions of a key.
+fn bytes_of_values(alloc: Global, parts: &[KeyPart], values: &[Value]) -> Result<Key, Stop>
+    requires few { length parts.now ≤ MOST_POSITIONS }
+    requires allowed { ArePositions parts.now }
+    ensures { HasKeyOf true parts.now values.now result }
+{
+    given_keys_are_read_back();
+    are_of_bytes(values);
+    match encode_values(alloc, parts, values) {
+        Ok(key) => Ok(key),
+        Err(KeyFault::Refused(fault)) => Err(Stop::Refused(Reply::BadValue(fault))),
+        Err(KeyFault::NoMemory) => Err(Stop::NoMemory),
+    }
+}
+
+/// The refusal of values that are no key of the open.
+fn may_have_key(opened: &Open, values: &[Value]) -> Result<(), Stop>
+    ensures { MayHaveKey (is_some opened.now.order.path) (merged_parts opened.now.order.formats) values.now result }
+{
+    match opened.path() {
+        Some(_) => may_be_key(opened.stand().parts(), values),
+        None => Err(Stop::Refused(Reply::WrongOpen)),
+    }
+}
+
+/// The refusal of values that are none of a key.
+fn may_be_key(parts: &[KeyPart], values: &[Value]) -> Result<(), Stop>
+    requires few { length parts.now ≤ MOST_POSITIONS }
+    requires allowed { ArePositions parts.now }
+    ensures { MayHaveKey true parts.now values.now result }
+{
+    match key_fault(parts, values) {
+        Some(fault) => Err(Stop::Refused(Reply::BadValue(fault))),
+        None => Ok(()),
+    }
+}
+
+/// The refusal of an open that doesn't read by a key, or of one that does.
+fn reads_so(opened: &Open, by_key: bool) -> Result<(), Stop>
+    ensures { ReadsSo (is_some opened.now.order.path) by_key result }
+{
+    if opened.path().is_some() == by_key {
+        Ok(())
+    } else {
+        Err(Stop::Refused(Reply::WrongOpen))
+    }
+}
