@@ -26,7 +26,6 @@ pub fn image_changes<'a>(
 {
     let mut latest = HashMap::new(alloc);
     let mut changes = Vec::new(alloc);
-    let mut count = member.slots();
     let mut index = 0;
     while index < given.len() {
         let new = &given[index];
@@ -34,7 +33,6 @@ pub fn image_changes<'a>(
         let old = stood(&latest, &given[..index], member, place);
         changes.push(image_change(old, new))?;
         let _earlier = latest.insert(place, index)?;
-        count = count.max(new.rrn);
         index += 1;
     }
     Ok(changes)

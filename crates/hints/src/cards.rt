@@ -4,10 +4,6 @@ use crate::job_lines::JobLines;
 use crate::lines::{InputLine, card_before, is_card, section};
 use crate::names::name_hint;
 use crate::words::{first_word, has_word, in_capitals, next_word, trimmed, unindented};
-use dds_source::faults::SourceError;
-use dds_source::read_source;
-use dds_source::specifications::{Specification, SpecificationKind};
-use std::alloc::{AllocError, Global};
 use text_lines::lines::split_line;
 
 const CARDS: &[u8] = b"//DDS //JOB //SCHED //END";
@@ -18,24 +14,17 @@ const MOST_SOURCES: usize = 1_000;
 const MOST_JOBS: usize = 64;
 
 /// What is wrong with a line that begins as cards do.
-pub(crate) fn card_hint<'a>(
-    alloc: Global,
-    input: &'a [u8],
-    card: InputLine<'a>,
-) -> Result<Option<Hint<'a>>, AllocError> {
+pub(crate) fn card_hint<'a>(input: &'a [u8], card: InputLine<'a>) -> Option<Hint<'a>> {
     if let Some(hint) = word_hint(card.text) {
-        return Ok(Some(hint));
+        return Some(hint);
     }
     if let Some(hint) = earlier_hint(input, card) {
-        return Ok(Some(hint));
+        return Some(hint);
     }
     if let Some(hint) = open_block_hint(input, card.number) {
-        return Ok(Some(hint));
+        return Some(hint);
     }
-    match key_hint(alloc, card)? {
-        Some(hint) => Ok(Some(hint)),
-        None => Ok(number_hint(card.text)),
-    }
+    number_hint(card.text)
 }
 
 /// What is left to be wrong with the card of a source or a job: that there are too many.
@@ -211,39 +200,6 @@ fn open_block_hint(input: &[u8], line: u32) -> Option<Hint<'_>> {
     } else {
         None
     }
-}
-
-/// A source that has a key field.
-fn key_hint<'a>(alloc: Global, card: InputLine<'a>) -> Result<Option<Hint<'a>>, AllocError> {
-    if first_word(card.text).0 != b"//DDS".as_slice() {
-        return Ok(None);
-    }
-    match key_line(alloc, section(card.after))? {
-        Some(line) => Ok(Some(Hint::Number(
-            b"the source has a key field, in line ",
-            card.number.saturating_add(line),
-            b" of the input; keyed files aren't built yet",
-        ))),
-        None => Ok(None),
-    }
-}
-
-/// The line of the first key field of a source without a fault, from 1.
-fn key_line(alloc: Global, source: &[u8]) -> Result<Option<u32>, AllocError> {
-    match read_source(alloc, source) {
-        Ok(source) => Ok(first_key(source.specifications.as_slice())),
-        Err(SourceError::Fault(_)) => Ok(None),
-        Err(SourceError::NoMemory) => Err(AllocError),
-    }
-}
-
-fn first_key(specifications: &[Specification]) -> Option<u32> {
-    for specification in specifications {
-        if specification.kind == SpecificationKind::Key {
-            return Some(specification.line);
-        }
-    }
-    None
 }
 
 /// What is wrong with a first line that is no card.

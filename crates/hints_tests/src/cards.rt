@@ -8,11 +8,6 @@ type Rows = &'static [(&'static [u8], u32, &'static str)];
 
 const CARDS: Rows = &[
     (
-        b"//DDS C\n     A          R CR\n     A            N              5A\n     A          K N\n//END\n",
-        1,
-        "//DDS C\nhint: the source has a key field, in line 4 of the input; keyed files aren't built yet\n",
-    ),
-    (
         b"\xEF\xBB\xBF//JOB J1\n//END\n",
         1,
         "\\xEF\\xBB\\xBF//JOB J1\nhint: the input begins with a byte order mark (\\xEF\\xBB\\xBF): take it out\n",

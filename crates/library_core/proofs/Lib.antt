@@ -7,3 +7,4 @@ pub mod JournalSteps
 pub mod StandLemmas
 pub mod StepLemmas
 pub mod CallLemmas
+pub mod CallerLemmas

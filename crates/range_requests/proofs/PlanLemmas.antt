@@ -47,7 +47,7 @@ use Rattle.range_requests.specs.Kinds.{kind_of}
 use Rattle.range_requests.specs.Fits.{FitsFields, IsFit}
 use Rattle.range_requests.specs.Walks.{IsWalked, Walks, as_given}
 use Rattle.library_parts.specs.Slots.{MayStand}
-use Rattle.library_parts.specs.Given.{FitsMember, MayGive, members_given}
+use Rattle.library_parts.specs.Given.{FitsMember, MayGive, given_to, members_given}
 use Rattle.library_parts.proofs.GivenLemmas.{grows}
 use Rattle.range_requests.specs.Plans.{Finds, GivesPlan, IsKept, IsPlanOf, keys_apart}
 use Rattle.range_requests.specs.Steps.{IsFitWalk, IsToldBy, IsWithin, limits, slots_of}

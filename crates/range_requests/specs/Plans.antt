@@ -4,7 +4,8 @@ use Rattle.member_slots.specs.Members.{member_at, member_of}
 use Rattle.file_catalogue.specs.Owners.{Owns}
 use Rattle.library_model.specs.declared.replies.Reply.{Reply}
 use Rattle.library_steps.specs.State.{State, MemberStatus, fields_of, memory_of}
-use Rattle.library_steps.specs.Ranges.{Range, RangeWork, range_between, with_range}
+use Rattle.library_steps.specs.Ranges.{Range, RangeWork, range_between, range_change, with_range}
+use Rattle.library_steps.specs.Change.{Change}
 use Rattle.library_steps.specs.Refusals.{◌>>=◌}
 use Rattle.library_steps.specs.UniqueKeys.{all_apart, unique_paths}
 use Rattle.library_parts.specs.declared.stop.Stop.{Stop}
@@ -37,6 +38,10 @@ Finds s (Err (Refused reply)) wanted = wanted ≡ Err reply
 -- no unique path of the member would have two records with one key
 abbrev pub keys_apart : State → RangeWork → Result Bool Reply
 keys_apart s work = all_apart (unique_paths work.range.status.number (memory_of s)) (with_range work.range work.done (memory_of s))
+
+-- what the work does, unless keys would be equal that may not
+abbrev pub range_answer : State → RangeWork → Result Change Reply
+range_answer s work = keys_apart s work >>= λ apart. Ok (range_change (memory_of s) work)
 
 -- the plan has the member, the slots and the entries of the work, and what is answered
 pub record IsPlanOf (s : State) (work : RangeWork) (plan : Plan) : Type 0 where

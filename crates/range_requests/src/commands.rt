@@ -2,12 +2,11 @@
 ghost use Rattle.std.specs.Prelude.{◌≡◌, ◌+◌, ◌≤◌, length, Ok, IsTrue, IfOk, OnOk};
 ghost use Rattle.member_slots.specs.Members.{member_of};
 ghost use Rattle.library_steps.specs.History.{is_running};
-ghost use Rattle.library_steps.specs.Ranges.{apply_changes, remove_changes, range_change, RangeWork};
-ghost use Rattle.library_steps.specs.Refusals.{◌>>=◌};
+ghost use Rattle.library_steps.specs.Ranges.{apply_changes, remove_changes, RangeWork};
 ghost use Rattle.library_steps.specs.State.{job_at, memory_of};
 ghost use Rattle.library_parts.specs.Answers.{Answers};
 ghost use Rattle.range_images.specs.Given.{given_slots};
-ghost use Rattle.range_requests.specs.Plans.{IsPlanOf, keys_apart};
+ghost use Rattle.range_requests.specs.Plans.{IsPlanOf, range_answer};
 ghost use Rattle.library_parts.specs.Given.{AreMovesOfAll, HasRoomFor, MayGive};
 ghost use Rattle.range_requests.specs.Steps.{IsWithin};
 
@@ -81,7 +80,7 @@ fn give(contents: &mut Contents, plan: Plan, moves: Moves) -> Result<Reply, Stop
     requires slots { HasRoomFor contents.old.state contents.old.room plan.member plan.given.items }
     requires entries { length plan.drafts.items ≤ contents.old.room.entries }
     requires moves { AreMovesOfAll contents.old plan.member plan.given.items moves }
-    ensures { (work : RangeWork) → IsPlanOf contents.old.state work plan → Answers contents.old.state contents.new.state result (keys_apart contents.old.state work >>= λ apart. Ok (range_change (memory_of contents.old.state) work)) }
+    ensures { (work : RangeWork) → IsPlanOf contents.old.state work plan → Answers contents.old.state contents.new.state result (range_answer contents.old.state work) }
 {
     deposits_leave();
     let Plan {

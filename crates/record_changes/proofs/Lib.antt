@@ -5,4 +5,5 @@ mod LockLemmas
 mod MoveLemmas
 mod PhysicalLemmas
 mod PlaceLemmas
+mod ReadyLemmas
 mod WriteLemmas

@@ -1,4 +1,4 @@
-use Rattle.library_tests.proofs.ReadyLemmas.{IsReady-on}
+use Rattle.library_core.proofs.CallerLemmas.{IsReady-on}
 use Rattle.library_tests.proofs.calls.ask_library.Goals as goal
 
 pub returns-in-First-clause-first : goal.returns-in-First-clause-first
