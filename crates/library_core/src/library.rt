@@ -5,6 +5,7 @@ ghost use Rattle.joint_state.specs.Sound.{IsSound};
 ghost use Rattle.library_steps.specs.State.{State, empty_library, job_at, new_job};
 ghost use Rattle.library_steps.specs.History.{is_running};
 ghost use Rattle.library_parts.specs.Answers.{reply_of};
+ghost use Rattle.library_parts.specs.Indexed.{ArePaths};
 ghost use Rattle.library_core.specs.Running.{runs_after};
 ghost use Rattle.library_core.specs.Stands.{Stands, IsReady, Goes};
 
@@ -19,8 +20,8 @@ use std::alloc::{AllocError, Global};
 use std::marker::Model;
 use store_model::Store;
 
-/// A library. Contracts see its state, the store that it will keep its journal in, and whether a call has found the store
-/// at fault.
+/// A library. Contracts see its state, the store that it will keep its journal in, the access paths that it keeps, and whether
+/// a call has found the store at fault.
 pub struct Library<S: Store> {
     store: S,
     contents: Contents,
@@ -32,7 +33,7 @@ impl<S: Store> Model for Library<S> {
 
     ghost Value = { LibraryOver S };
 
-    ghost view = { λ l. record { store = l.store; state = l.contents.state; failed = l.failed } };
+    ghost view = { λ l. record { store = l.store; state = l.contents.state; paths = l.contents.room.paths.paths; failed = l.failed } };
 }
 
 impl<S: Store> Library<S> {
@@ -100,12 +101,15 @@ pub fn call<S: Store>(
     ensures goes { (s : State) → Stands library.old s → Goes sources.now library.new s (record { job = job; timestamp = timestamp; request = request.now; reply = result }) }
     ensures running { (other : ℕ) → is_running (job_at other library.new.state.jobs) ≡ runs_after job request.now library.old.state.jobs other }
     ensures kept { IsSound library.new.state }
+    ensures paths { ArePaths library.new.state.files library.new.state.members library.new.paths }
     ensures store { library.new.store ≡ library.old.store }
     ensures alive { library.new.failed ≡ false }
 {
     // A sound library stays sound, and each change of an open commit cycle stands in it as it was made.
     each_call_leaves_a_sound_library();
     let done = perform(&mut library.contents, job, timestamp, sources, request);
+    // The access paths follow the members.
+    let _jobs = library.contents.jobs_begun();
     reply_of(done)
 }
 

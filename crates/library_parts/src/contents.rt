@@ -3,6 +3,7 @@
 ghost use Rattle.std.specs.Prelude.{◌≡◌, ◌+◌, ◌<◌, [], ◌∷◌, ◌++◌, length, IfOk, IsTrue, OnOk, OnErr};
 ghost use Rattle.library_steps.specs.History.{is_running};
 ghost use Rattle.library_steps.specs.State.{empty_library, job_at, job_of, memory_of, new_job};
+ghost use Rattle.library_parts.specs.Indexed.{ArePaths};
 ghost use Rattle.library_parts.specs.Lawful.{IsLibrary};
 
 use field_types::names::Name;
@@ -70,10 +71,12 @@ impl Contents {
         self.alloc
     }
 
-    /// How many jobs have begun. What the parts need of each other holds.
+    /// How many jobs have begun. What the parts need of each other holds, and the access paths are those of the files, as their
+    /// members stand.
     pub fn jobs_begun(&self) -> usize
         ensures count { result ≡ length self.now.state.jobs }
         ensures lawful { IsLibrary self.now.state }
+        ensures paths { ArePaths self.now.state.files self.now.state.members self.now.room.paths.paths }
     {
         self.jobs.len()
     }
