@@ -13,7 +13,6 @@ use Rattle.input_cards.specs.declared.cards.Turns.TheVariants.{Jobs as JobNames,
 use Rattle.input_cards.specs.Sections.{Part, parts_of}
 use Rattle.input_cards.specs.CardFaults.{source_name, job_name, turns_in, names_of, plain_faults, repeated_cards, names_unknown, unknown_turns, card_faults}
 use Rattle.input_reader.specs.Input.{faults_of, first_turns, job_faults_in, job_number, schedule_by, turns_among}
-use Rattle.input_reader.specs.KeyedSources.{keyed_sources}
 use Rattle.input_reader.proofs.JobLemmas.{noted-none}
 use Rattle.input_reader.proofs.LeastLemmas.{both-empty}
 

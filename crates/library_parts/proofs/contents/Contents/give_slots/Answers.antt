@@ -11,6 +11,7 @@ use Rattle.library_parts.specs.Given.{given_to, repeated_key, with_given}
 use Rattle.library_parts.specs.Indexed.{HasBytes}
 use Rattle.library_parts.specs.Parts.{state_of}
 use Rattle.library_parts.specs.Slots.{weight}
+use Rattle.library_parts.proofs.DeleteLemmas.{bytes-without}
 use Rattle.library_parts.proofs.GivenKeys.{apart-told}
 use Rattle.library_parts.proofs.GivenLemmas.{given-one}
 use Rattle.library_parts.proofs.GivenSteps.{giving-back, giving-indexed, giving-made, giving-shared, giving-undone}
@@ -66,11 +67,12 @@ returns-in-Some-clause-apart c =
 pub overflow_sub-self : goal.overflow_sub-self
 overflow_sub-self c =
     let counted = c.self.invariant.0.counted in
-    let few = c.weight-before.ensures.few in
-    omega (arith, counted, few)
+    let was = c.weight-before.ensures.value in
+    let rest = bytes-without c.args.member c.self.inside.members.members c.weight-before.ensures.lawful in
+    omega (arith, counted, was, rest)
 
-pub invariant_of-self-2 : goal.invariant_of-self-2
-invariant_of-self-2 c =
+pub invariant_of-self-in-None-1 : goal.invariant_of-self-in-None-1
+invariant_of-self-in-None-1 c =
     let parts = c.self.inside in
     let state = state_of parts.catalogue parts.members parts.next_member parts.journal parts.locks parts.jobs in
     let may = rw (← c.self.view_is) at c.requires.may in
@@ -79,7 +81,7 @@ invariant_of-self-2 c =
     let member = member_of c.args.member members in
     let bytes = subst (λ (gs : List SlotGiven). AllByRecursion (λ (g : SlotGiven). HasBytes g.slot) gs) c.as_slice.ensures.value c.are_of_bytes.ensures in
     let counted = c.self.invariant.0.counted in
-    let few = c.weight-before.ensures.few in
+    let rest = bytes-without c.args.member members c.weight-before.ensures.lawful in
     let was = c.weight-before.ensures.value in
     let after : c.weight-after.result ≡ weight (given_to c.args.given.items member) =
     c.weight-after.ensures.value
@@ -87,7 +89,7 @@ invariant_of-self-2 c =
     ∙ ap weight (member_of-with c.args.member (given_to c.args.given.items member) members (is_some-IsSome _ may.there)) in
     rw c.put_all.ensures.members (
       given-one state parts.member_bytes (parts.member_bytes - c.weight-before.result + c.weight-after.result) c.args.member c.args.given.items c.self.invariant.0 may
-          (omega (arith, counted, few, was, after)),
+          (omega (arith, counted, rest, was, after)),
       c.self.invariant.1,
       giving-indexed state parts.jobs.orders parts.jobs.moves parts.paths c.args.member c.args.given.items c.args.moves c.kept-kept.ensures.shared c.self.invariant.2 may moves.same moves.room
           c.change-back.new.self c.change-back.ensures.paths c.change-back.ensures.rooms bytes,
