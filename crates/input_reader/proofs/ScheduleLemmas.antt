@@ -69,8 +69,7 @@ pub schedule-known : (lines : List (List ℕ)) (parts : List Part) → parts ≡
     → NamesJobs (length (names_of job_name parts)) (schedule_by (names_of job_name parts) (turns_among parts))
 schedule-known lines parts same sound =
     let all = parts_of lines in
-    let plain = both-empty (card_faults lines ++ job_faults_in all) (keyed_sources all) sound in
-    let cards = both-empty (card_faults lines) (job_faults_in all) plain.0 in
+    let cards = both-empty (card_faults lines) (job_faults_in all) sound in
     let sources = repeated_cards source_name MOST_SOURCES all [] in
     let jobs = repeated_cards job_name MOST_JOBS all [] in
     let named = both-empty (plain_faults lines all ++ sources ++ jobs) (unknown_turns (names_of job_name all) all) cards.0 in

@@ -1,4 +1,4 @@
-use Rattle.std.proofs.Common.{◌≡◌, ◌∙◌, ◌+◌, ◌≤◌, List, Some, None, Option, Result, Ok, Err, Bool, sym, ap, subst, arith}
+use Rattle.std.proofs.Common.{◌≡◌, ◌∙◌, ◌+◌, ◌-◌, ◌≤◌, List, Some, None, Option, Result, Ok, Err, Bool, sym, ap, subst, arith}
 use Rattle.std.specs.List.{AllByRecursion}
 use Rattle.member_slots.specs.Member.{MemberState}
 use Rattle.member_slots.specs.Members.{NumberedMembers, member_of}
