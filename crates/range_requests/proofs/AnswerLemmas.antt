@@ -9,7 +9,6 @@ use Rattle.library_steps.specs.Change.{Change, does, journaled}
 use Rattle.library_steps.specs.Ranges.{RangeWork, range_change, with_range}
 use Rattle.library_parts.specs.Answers.{Answers}
 use Rattle.library_parts.specs.declared.stop.Stop.{Stop}
-use Rattle.library_parts.specs.declared.stop.Stop.TheVariants.{Refused}
 use Rattle.library_steps.specs.Refusals.{◌>>=◌}
 use Rattle.draft_list.specs.Deposits.{Leaves}
 use Rattle.range_requests.specs.declared.plans.Plan.{Plan}
@@ -50,12 +49,8 @@ kept-answers old new result work apart answers =
 -- where the keys of what is given are apart, the change is what the work does
 pub given-answers : (old new : State) (work : RangeWork) (plan : Plan) → IsPlanOf old work plan → all_apart (unique_paths plan.member (memory_of old)) (with_given plan.member plan.given.items (memory_of old)) ≡ Ok true
     → Leaves old new (plan_change old plan) → Answers old new (Ok (replies.Range plan.first plan.last plan.changes)) (range_answer old work)
-given-answers old new work plan is apart left = kept-answers old new _ work (keys-given old work plan is ∙ apart) (give-answers old new work plan is left)
-
--- where they aren't, nothing is done
-pub refused-answers : (old new : State) (work : RangeWork) (plan : Plan) (reply : Reply) → IsPlanOf old work plan → all_apart (unique_paths plan.member (memory_of old)) (with_given plan.member plan.given.items (memory_of old)) ≡ Err reply
-    → new ≡ old → Answers old new (Err (Refused reply)) (range_answer old work)
-refused-answers old new work plan reply is equal same = (same, ap (λ (r : Result Bool Reply). r >>= λ apart. Ok (range_change (memory_of old) work)) (keys-given old work plan is ∙ equal))
+given-answers old new work plan is apart left =
+    kept-answers old new (Ok (replies.Range plan.first plan.last plan.changes)) work (keys-given old work plan is ∙ apart) (give-answers old new work plan is left)
 
 pub done-answers : (old new : State) (result : Result Reply Stop) (plan : Result RangeWork Reply) (work : RangeWork) → plan ≡ (keys_apart old work >>= λ apart. Ok work)
     → Answers old new result (range_answer old work)

@@ -1,4 +1,4 @@
-use Rattle.std.proofs.Common.{refl}
+use Rattle.std.proofs.Common.{true, refl}
 use Rattle.library_model.specs.declared.replies.Reply.TheVariants as replies
 use Rattle.library_steps.specs.State.{memory_of}
 use Rattle.library_parts.specs.Given.{with_given}
