@@ -1,5 +1,5 @@
 -- In a sound library the changes of a job's open commit cycle stand as they were made.
-use Rattle.std.proofs.Common.{◌≡◌, ℕ, ◌-◌, ◌==◌, true, false, if◌then◌else◌, List, [], ◌∷◌, Option, Some, None, slice_get, absurd}
+use Rattle.std.proofs.Common.{◌≡◌, ℕ, ◌-◌, ◌==◌, true, false, if◌then◌else◌, List, [], ◌∷◌, Option, Some, None, slice_get, refl}
 use Rattle.member_slots.specs.Members.{NumberedMembers}
 use Rattle.journal_model.specs.Rollback.{MemberChange}
 use Rattle.library_steps.specs.State.{State, JobState, memory_of, job_at, job_of, or_new}
