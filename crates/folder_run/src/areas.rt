@@ -63,15 +63,30 @@ fn nothing_there<S: Store>(rt: &HostRuntime, folder: &str, store: &mut S) -> io:
 /// Two areas, written and read back.
 fn two_areas<S: Store>(rt: &HostRuntime, store: &mut S) -> io::Result<()> {
     println!(rt; "write area 0: {}", word(store.write(0, 0, b"hello, area")))?;
-    println!(rt; "write over its middle: {}", word(store.write(0, 7, b"world")))?;
+    println!(rt;
+        "write over its middle: {}",
+        word(store.write(0, 7, b"world"))
+    )?;
     print_area(rt, store, 0)?;
     let mut many = vec![in rt.alloc(); b'x'; MANY]?;
-    println!(rt; "write area 7: {}", word(store.write(7, 0, many.as_slice())))?;
-    println!(rt; "write its last byte again: {}", word(store.write(7, 1_499_999, b"y")))?;
-    println!(rt; "read area 7: {}", word(store.read(7, 0, many.as_mut_slice())))?;
+    println!(rt;
+        "write area 7: {}",
+        word(store.write(7, 0, many.as_slice()))
+    )?;
+    println!(rt;
+        "write its last byte again: {}",
+        word(store.write(7, 1_499_999, b"y"))
+    )?;
+    println!(rt;
+        "read area 7: {}",
+        word(store.read(7, 0, many.as_mut_slice()))
+    )?;
     let front = many.iter().take_while(|&&byte| byte == b'x').count();
     println!(rt; "x in its front: {front}")?;
-    println!(rt; "read past its end: {}", word(store.read(7, 1_499_999, &mut [0; 2])))?;
+    println!(rt;
+        "read past its end: {}",
+        word(store.read(7, 1_499_999, &mut [0; 2]))
+    )?;
     println!(rt; "sync area 0: {}", word(store.sync(0)))?;
     println!(rt; "sync area 7: {}", word(store.sync(7)))?;
     println!(rt; "sync area 9, which has no file: {}", word(store.sync(9)))

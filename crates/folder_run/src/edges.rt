@@ -19,20 +19,41 @@ pub fn try_all(rt: &HostRuntime, folder: &str) -> io::Result<()> {
 fn made_by_another(rt: &HostRuntime, folder: &str) -> io::Result<()> {
     let mut store = opened(rt, folder)?;
     fs::create_dir(rt, folder)?;
-    println!(rt; "write where another made the folder: {}", word(store.write(0, 0, b"x")))?;
+    println!(rt;
+        "write where another made the folder: {}",
+        word(store.write(0, 0, b"x"))
+    )?;
     println!(rt; "faults: {}", store.faults())
 }
 
 /// Places beyond the greatest, and an area whose file is a disk that is always full and can't be synced.
 fn far_places(rt: &HostRuntime, folder: &str) -> io::Result<()> {
     let mut store = opened(rt, folder)?;
-    println!(rt; "write up to 2^62 + 1: {}", word(store.write(1, 1 << 62, b"x")))?;
-    println!(rt; "write nothing at 2^62: {}", word(store.write(1, 1 << 62, b"")))?;
-    println!(rt; "write nothing at 2^62 + 1: {}", word(store.write(1, (1 << 62) + 1, b"")))?;
-    println!(rt; "read at the greatest place: {}", word(store.read(1, u64::MAX, &mut [0])))?;
+    println!(rt;
+        "write up to 2^62 + 1: {}",
+        word(store.write(1, 1 << 62, b"x"))
+    )?;
+    println!(rt;
+        "write nothing at 2^62: {}",
+        word(store.write(1, 1 << 62, b""))
+    )?;
+    println!(rt;
+        "write nothing at 2^62 + 1: {}",
+        word(store.write(1, (1 << 62) + 1, b""))
+    )?;
+    println!(rt;
+        "read at the greatest place: {}",
+        word(store.read(1, u64::MAX, &mut [0]))
+    )?;
     println!(rt; "write at 3: {}", word(store.write(2, 3, b"x")))?;
-    println!(rt; "read at the greatest place: {}", word(store.read(2, u64::MAX, &mut [0])))?;
-    println!(rt; "read up to 2^63: {}", word(store.read(2, i64::MAX as u64, &mut [0, 0])))?;
+    println!(rt;
+        "read at the greatest place: {}",
+        word(store.read(2, u64::MAX, &mut [0]))
+    )?;
+    println!(rt;
+        "read up to 2^63: {}",
+        word(store.read(2, i64::MAX as u64, &mut [0, 0]))
+    )?;
     let area3 = format!(in rt.alloc(); "{folder}/area3")?;
     symlink(rt, "/dev/full", area3.as_str())?;
     println!(rt; "write to a full disk: {}", word(store.write(3, 0, b"x")))?;

@@ -46,11 +46,7 @@ pub fn open_folder<R: Files<File = File>>(rt: &R, path: &str) -> io::Result<File
 }
 
 /// Opens a file. What is meant for a standard stream that was closed mustn't land in it, so it gets none of their numbers.
-pub fn open_file<R: Files<File = File>>(
-    rt: &R,
-    path: &str,
-    how: &OpenOptions,
-) -> io::Result<File> {
+pub fn open_file<R: Files<File = File>>(rt: &R, path: &str, how: &OpenOptions) -> io::Result<File> {
     let file = how.open(rt, path)?;
     if file.as_raw_fd() <= 2 {
         return file.try_clone();

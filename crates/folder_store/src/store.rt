@@ -1,5 +1,5 @@
 //! The store over a folder: the calls of `folder.rt`, with each fault counted.
-ghost use Rattle.std.specs.Prelude.{◌≡◌, IfOk};
+ghost use Rattle.std.specs.Prelude.{◌≡◌, ◌≤◌, IfOk};
 ghost use Rattle.store_model.specs.Calls.{counted};
 
 use crate::folder::Folder;
@@ -44,7 +44,8 @@ impl<R: Files<File = File> + AllocGlobal + Drop> FolderStore<R> {
 
     /// One fault more.
     fn fault(&mut self) -> Failed
-        ensures { self.new ≡ counted self.old }
+        ensures counted { self.new ≡ counted self.old }
+        ensures never_falls { self.old ≤ self.new }
     {
         self.faults = self.faults.saturating_add(1);
         Failed
