@@ -1,6 +1,5 @@
 //! What may stand in the place of a folder, places that no area has, and a disk that is full.
-use crate::areas::{opened, word};
-use folder_store::{FolderStore, OpenError};
+use crate::areas::{opened, say, say_opening};
 use std::os::unix::fs::symlink;
 use std::{fs, io};
 use store_model::Store;
@@ -19,9 +18,10 @@ pub fn try_all(rt: &HostRuntime, folder: &str) -> io::Result<()> {
 fn made_by_another(rt: &HostRuntime, folder: &str) -> io::Result<()> {
     let mut store = opened(rt, folder)?;
     fs::create_dir(rt, folder)?;
-    println!(rt;
-        "write where another made the folder: {}",
-        word(store.write(0, 0, b"x"))
+    say(
+        rt,
+        "write where another made the folder",
+        store.write(0, 0, b"x"),
     )?;
     println!(rt; "faults: {}", store.faults())
 }
@@ -29,53 +29,47 @@ fn made_by_another(rt: &HostRuntime, folder: &str) -> io::Result<()> {
 /// Places beyond the greatest, and an area whose file is a disk that is always full and can't be synced.
 fn far_places(rt: &HostRuntime, folder: &str) -> io::Result<()> {
     let mut store = opened(rt, folder)?;
-    println!(rt;
-        "write up to 2^62 + 1: {}",
-        word(store.write(1, 1 << 62, b"x"))
+    say(rt, "write up to 2^62 + 1", store.write(1, 1 << 62, b"x"))?;
+    say(rt, "write nothing at 2^62", store.write(1, 1 << 62, b""))?;
+    say(
+        rt,
+        "write nothing at 2^62 + 1",
+        store.write(1, (1 << 62) + 1, b""),
     )?;
-    println!(rt;
-        "write nothing at 2^62: {}",
-        word(store.write(1, 1 << 62, b""))
+    say(
+        rt,
+        "read at the greatest place",
+        store.read(1, u64::MAX, &mut [0]),
     )?;
-    println!(rt;
-        "write nothing at 2^62 + 1: {}",
-        word(store.write(1, (1 << 62) + 1, b""))
+    say(rt, "write at 3", store.write(2, 3, b"x"))?;
+    say(
+        rt,
+        "read at the greatest place",
+        store.read(2, u64::MAX, &mut [0]),
     )?;
-    println!(rt;
-        "read at the greatest place: {}",
-        word(store.read(1, u64::MAX, &mut [0]))
-    )?;
-    println!(rt; "write at 3: {}", word(store.write(2, 3, b"x")))?;
-    println!(rt;
-        "read at the greatest place: {}",
-        word(store.read(2, u64::MAX, &mut [0]))
-    )?;
-    println!(rt;
-        "read up to 2^63: {}",
-        word(store.read(2, i64::MAX as u64, &mut [0, 0]))
+    say(
+        rt,
+        "read up to 2^63",
+        store.read(2, i64::MAX as u64, &mut [0, 0]),
     )?;
     let area3 = format!(in rt.alloc(); "{folder}/area3")?;
     symlink(rt, "/dev/full", area3.as_str())?;
-    println!(rt; "write to a full disk: {}", word(store.write(3, 0, b"x")))?;
-    println!(rt; "sync it: {}", word(store.sync(3)))?;
-    println!(rt; "sync after a fault in a sync: {}", word(store.sync(2)))?;
+    say(rt, "write to a full disk", store.write(3, 0, b"x"))?;
+    say(rt, "sync it", store.sync(3))?;
+    say(rt, "sync after a fault in a sync", store.sync(2))?;
     println!(rt; "faults: {}", store.faults())
 }
 
 /// A file in the place of the folder.
 fn a_file(rt: &HostRuntime, folder: &str) -> io::Result<()> {
     fs::write(rt, folder, "x")?;
-    match FolderStore::open(rt.clone()?, folder) {
-        Ok(_) => println!(rt; "a file: opened"),
-        Err(OpenError::InUse) => println!(rt; "a file: in use"),
-        Err(OpenError::Refused(_)) => println!(rt; "a file: refused"),
-    }
+    say_opening(rt, "a file", folder)
 }
 
 /// A folder below one that isn't there.
 fn below_nothing(rt: &HostRuntime, folder: &str) -> io::Result<()> {
     let path = format!(in rt.alloc(); "{folder}/below")?;
     let mut store = opened(rt, path.as_str())?;
-    println!(rt; "write below nothing: {}", word(store.write(0, 0, b"x")))?;
+    say(rt, "write below nothing", store.write(0, 0, b"x"))?;
     println!(rt; "faults: {}", store.faults())
 }
