@@ -32,7 +32,7 @@ pub(crate) enum Reading {
 
 /// Reads bytes as a listing.
 pub(crate) fn read_bytes(alloc: Global, bytes: &[u8]) -> Result<Reading, Fail> {
-    let names = job_names().ok_or("no names")?;
+    let names = job_names().ok_or("not a name")?;
     match read_listing(alloc, &names, bytes) {
         Ok(calls) => Ok(Reading::Calls(calls)),
         Err(ListingFault::BadLine { line }) => Ok(Reading::BadLine(line)),
@@ -42,7 +42,7 @@ pub(crate) fn read_bytes(alloc: Global, bytes: &[u8]) -> Result<Reading, Fail> {
 
 /// The listing of calls of the jobs.
 pub(crate) fn listed(alloc: Global, calls: &[Call]) -> Result<Vec<u8>, Fail> {
-    let names = job_names().ok_or("no names")?;
+    let names = job_names().ok_or("not a name")?;
     Ok(listing(alloc, &names, calls)?)
 }
 
@@ -59,10 +59,7 @@ pub(crate) fn check_listing(
             assert_eq!(rt; again.as_slice(), bytes, "{row}");
             Ok(())
         }
-        Reading::BadLine(line) => {
-            assert_eq!(rt; Some(line), None, "{row}");
-            Ok(())
-        }
+        Reading::BadLine(line) => panic!(rt; "line {line} is at fault: {row}"),
     }
 }
 

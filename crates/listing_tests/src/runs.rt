@@ -1,9 +1,9 @@
 //! The listing of a run of two jobs, worked out by hand from the rules of the job language.
 use crate::readings::{Reading, check_listing, read_bytes};
-use library_model::replies::Reply;
 use std::test::Fail;
 
-/// Two clerks at one record: J1 makes the file and holds the record until it is updated, and J2 tries twice.
+/// Two clerks at one record. J1 makes the file and reads the record for update, so that J2's CHAIN is refused until J1's
+/// UPDATE; J2 deletes the record, and J1's last CHAIN, at line 11 of the input, finds none.
 const RUN: &str = "HISTORY\n\
     1 J1 1700000000000000 CRTPF FILE(CUST) SRC(CUST) => OK\n\
     2 J1 1700000000000008 OPNDBF FILE(CUST) OPTION(*ALL) MBR(CUST) OPNID(CUST) COMMIT(*NO) ACCPTH(*FILE) => OK\n\
@@ -40,6 +40,11 @@ const MADE: [(u32, u64); 14] = [
 ];
 
 #[test]
+fn no_calls_are_listed_again(rt: HostRuntime) -> Result<(), Fail> {
+    check_listing(&rt, rt.alloc(), b"HISTORY\nEND 0\n", "no calls")
+}
+
+#[test]
 fn two_jobs_are_listed_again(rt: HostRuntime) -> Result<(), Fail> {
     check_listing(&rt, rt.alloc(), RUN.as_bytes(), "two jobs")
 }
@@ -47,7 +52,7 @@ fn two_jobs_are_listed_again(rt: HostRuntime) -> Result<(), Fail> {
 #[test]
 fn calls_of_two_jobs(rt: HostRuntime) -> Result<(), Fail> {
     let Reading::Calls(calls) = read_bytes(rt.alloc(), RUN.as_bytes())? else {
-        return Err(Fail::from("a listing"));
+        return Err(Fail::from("not a listing"));
     };
     assert_eq!(rt; calls.len(), MADE.len());
     for (call, (job, timestamp)) in calls.iter().zip(MADE) {
