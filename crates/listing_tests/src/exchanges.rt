@@ -131,8 +131,8 @@ const OTHER_REFUSALS: Replies = &[
     "LimitReached LIMIT(LibraryBytes) NBR(268435456)",
 ];
 
-/// What can be wrong with a source, and which limits there are.
-const CAUSES: Replies = &[
+/// What can be wrong with a source.
+const SOURCE_FAULTS: Replies = &[
     "DdsFault LINE(1) COL(1) CAUSE(BadColumn)",
     "DdsFault LINE(2) COL(7) CAUSE(BadName)",
     "DdsFault LINE(3) COL(19) CAUSE(BadNumber)",
@@ -156,6 +156,10 @@ const CAUSES: Replies = &[
     "DdsFault LINE(21) COL(1) CAUSE(ReadOnlyMapping)",
     "DdsFault LINE(22) COL(7) CAUSE(Narrowing)",
     "DdsFault LINE(4294967295) COL(80) CAUSE(BadColumn)",
+];
+
+/// Which limits there are.
+const LIMITS: Replies = &[
     "LimitReached LIMIT(Files) NBR(1000)",
     "LimitReached LIMIT(Members) NBR(32767)",
     "LimitReached LIMIT(MemberNumbers) NBR(4294967295)",
@@ -219,5 +223,6 @@ fn replies(rt: HostRuntime) -> Result<(), Fail> {
     check_replies(&rt, rt.alloc(), DONE)?;
     check_replies(&rt, rt.alloc(), RECORD_REFUSALS)?;
     check_replies(&rt, rt.alloc(), OTHER_REFUSALS)?;
-    check_replies(&rt, rt.alloc(), CAUSES)
+    check_replies(&rt, rt.alloc(), SOURCE_FAULTS)?;
+    check_replies(&rt, rt.alloc(), LIMITS)
 }
