@@ -107,10 +107,10 @@ only-format formats format is has = subst HaveRecords (sym is) has
 -- ---- lists that were built
 
 pub pushed-one : {A : Type 0} (a x : A) (none one : List A) → none ≡ [] → one ≡ none ++ x ∷ [] → x ≡ a → one ≡ a ∷ []
-pushed-one a x none one empty is same = is ∙ ap (λ (xs : List A). xs ++ x ∷ []) empty ∙ ap (λ (y : A). y ∷ []) same
+pushed-one {A = A} a x none one empty is same = is ∙ ap (λ (xs : List A). xs ++ x ∷ []) empty ∙ ap (λ (y : A). y ∷ []) same
 
 pub pushed-two : {A : Type 0} (a b x y : A) (none one two : List A) → none ≡ [] → one ≡ none ++ x ∷ [] → two ≡ one ++ y ∷ [] → x ≡ a → y ≡ b → two ≡ a ∷ b ∷ []
-pushed-two a b x y none one two empty first second same also =
+pushed-two {A = A} a b x y none one two empty first second same also =
     second
     ∙ ap (λ (xs : List A). xs ++ y ∷ []) (pushed-one a x none one empty first same)
     ∙ ap (λ (z : A). a ∷ z ∷ []) also
