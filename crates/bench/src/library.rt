@@ -1,12 +1,11 @@
 //! The library that is measured, with the job that asks it.
-ghost use Rattle.library_core.specs.Stands.{IsReady};
-
 use crate::requests::{Asker, PlainRequest};
 use library_core::library::{Library, call};
 use library_model::replies::Reply;
 use library_model::sources::Sources;
 use sound_histories::each_call_leaves_a_sound_library;
 use std::alloc::AllocError;
+use std::marker::Model;
 use store_model::MemoryStore;
 
 /// A library, and a job of it that may make a call. `end` gives it up.
@@ -14,7 +13,17 @@ pub(crate) struct Bench {
     library: Library<MemoryStore>,
     sources: Sources,
     job: u32,
-    ghost ready: { IsReady job library },
+}
+
+impl Model for Bench {
+    ghost use Rattle.std.specs.Prelude.{ℕ};
+    ghost use Rattle.library_core.specs.Stands.{IsReady};
+
+    ghost Value = { ℕ };
+
+    ghost view = { λ b. b.job };
+
+    ghost invariant = { λ b. IsReady b.job b.library };
 }
 
 impl Bench {
