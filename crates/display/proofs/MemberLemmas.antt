@@ -60,16 +60,8 @@ count-next m place slot found =
 pub count-end : (rrn place : ℕ) (slots : List Slot) → length slots ≤ place → length (records_from rrn (drop place slots)) ≡ 0
 count-end rrn place slots past = rw (drop_all place slots past) refl
 
--- ---- the member with a number
+-- ---- a member that isn't there has no slots
 
-pub member-there : (name : List ℕ) (status : MemberStatus) (number : ℕ) (members : NumberedMembers) (member : MemberState) (before after : List ℕ)
-    → number ≡ status.number → member_at number members ≡ Some member → after ≡ before ++ shown_member name status member
-    → after ≡ before ++ shown_member name status (member_of status.number members)
-member-there name status number members member before after same found grown =
-    let its : member_at status.number members ≡ Some member = subst (λ (n : ℕ). member_at n members ≡ Some member) same found in
-    grown ∙ ap (λ (o : Option MemberState). before ++ shown_member name status (unwrap_or o (empty_member 0))) (sym its)
-
--- one that isn't there has no slots
 pub member-absent : (name : List ℕ) (status : MemberStatus) (number : ℕ) (members : NumberedMembers) (before after : List ℕ)
     → number ≡ status.number → member_at number members ≡ None → after ≡ before ++ member_line name status 0 0
     → after ≡ before ++ shown_member name status (member_of status.number members)
