@@ -1,0 +1,16 @@
+use Rattle.std.proofs.Common.{length, map}
+use Rattle.std.specs.Option.{option_map}
+use Rattle.join_rows.specs.Reading.{left_list}
+use Rattle.join_rows.specs.Trials.{tried, trials_from}
+use Rattle.join_rows.proofs.BelowLemmas.{IsUnderway}
+use Rattle.join_rows.proofs.levels.+found_below.Given as goal
+
+abbrev pub decreases-found_below : goal.decreases-found_below
+decreases-found_below l = length l.files.now
+
+abbrev pub invariant-loop-trial : goal.invariant-loop-trial
+invariant-loop-trial l =
+    IsUnderway l.walk.members.now.members (length l.images) l.file l.further l.path (map (λ image. image.now) l.images) l.walk.keeps_missing l.walk.back (left_list l.left) l.wanted (option_map tried l.at)
+
+abbrev pub decreases-loop-trial : goal.decreases-loop-trial
+decreases-loop-trial l = length (trials_from l.walk.back l.wanted (option_map tried l.at) l.path)
