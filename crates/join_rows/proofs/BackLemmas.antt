@@ -38,7 +38,7 @@ sorted-pairs falling (a ∷ entries) sorted = (sorted.0, sorted-pairs falling en
 
 pub find-good : {A : Type 0} (P : A → Type 0) (test : A → Bool) (xs : List A) (x : A) → AllByRecursion P xs → find test xs ≡ Some x → P x × (test x ≡ true)
 find-good P test [] x all h = none-some x h
-find-good {A} P test (y ∷ ys) x all h = by (test y) refl (find-good P test ys x all.1)
+find-good {A = A} P test (y ∷ ys) x all h = by (test y) refl (find-good P test ys x all.1)
   where
     by : (b : Bool) → test y ≡ b → (find test ys ≡ Some x → P x × (test x ≡ true)) → P x × (test x ≡ true)
     by true is rest =

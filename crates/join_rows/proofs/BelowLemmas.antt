@@ -1,5 +1,5 @@
 -- A row below a row so far is found by trying the records of the next file, one after another.
-use Rattle.std.proofs.Common.{◌≡◌, ℕ, zero, suc, ◌+◌, ◌<◌, Bool, true, false, cond, Option, Some, None, List, [], ◌∷◌, ◌++◌, length, get_or, map, refl, sym, ◌∙◌, ap, subst, arith, inl, inr}
+use Rattle.std.proofs.Common.{◌≡◌, ℕ, Bor, zero, suc, ◌+◌, ◌<◌, Bool, true, false, cond, Option, Some, None, List, [], ◌∷◌, ◌++◌, length, get_or, map, refl, sym, ◌∙◌, ap, subst, arith, inl, inr}
 use Rattle.std.specs.Option.{option_map, option_or}
 use Rattle.std.specs.List.{AllByRecursion, slice_get}
 use Rattle.std.specs.Prelude.{unwrap_or}
@@ -48,6 +48,12 @@ fed-more images image (file ∷ files) fed also = (here, fed-more images image f
               let same : file.from ≡ length images = omega (arith, low, long, late) in
               subst (λ w. IsFrom w file) (ap (λ o. unwrap_or o []) (sym (ap (slice_get (images ++ image ∷ [])) same ∙ get-last images image))) (also.0 same)
         ]
+
+-- the image at a place of the slice
+pub image-at : (images : List (Bor (List ℕ))) (i : ℕ) (x : Bor (List ℕ)) → i < length images → x ≡ get_or images i x → x.now ≡ image_in i (map (λ image. image.now) images)
+image-at [] i x low is = absurd (omega (arith, low))
+image-at (y ∷ images) zero x low is = ap (λ (z : Bor (List ℕ)). z.now) is
+image-at (y ∷ images) (suc i) x low is = image-at images i x (omega (arith, low)) is
 
 -- ---- the last level
 

@@ -51,7 +51,7 @@ le-before c o x y z rises below = by (c x y) refl rises (c y z) refl below
 first-not-above : (first second : Ordering) → ordering_then first second ≡ Less → is_gt first ≡ false
 first-not-above Less second h = refl
 first-not-above Equal second h = refl
-first-not-above Greater second h = absurd (let e : Greater ≡ Less = h in cc)
+first-not-above Greater second h = cc
 
 opposite : (b c : Bool) → (c ≡ true → b ≡ true) → b ≡ false → c ≡ false
 opposite b true so h = true-false (sym (so refl) ∙ h)

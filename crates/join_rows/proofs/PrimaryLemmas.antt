@@ -1,5 +1,5 @@
 -- A row is found by trying the entries of the primary's path, one after another.
-use Rattle.std.proofs.Common.{◌≡◌, ℕ, zero, suc, ◌+◌, ◌-◌, ◌≤◌, ◌<◌, Bool, true, false, not, cond, Option, Some, None, List, [], ◌∷◌, ◌++◌, length, map, refl, sym, ◌∙◌, ap, subst, arith, inl, inr}
+use Rattle.std.proofs.Common.{◌≡◌, ℕ, zero, suc, ◌+◌, ◌-◌, ◌≤◌, ◌<◌, Bool, true, false, not, cond, ◌==◌, Option, Some, None, List, [], ◌∷◌, ◌++◌, length, map, refl, sym, ◌∙◌, ap, subst, arith, inl, inr}
 use Rattle.std.specs.Prelude.{find, filter, reverse, All}
 use Rattle.std.specs.Option.{option_map, option_or}
 use Rattle.std.specs.List.{AllByRecursion, slice_get}
@@ -7,7 +7,7 @@ use Rattle.std.specs.declared.cmp.Ordering.{Ordering}
 use Rattle.std.specs.declared.cmp.Ordering.TheVariants.{Less, Equal, Greater}
 use Rattle.std.specs.Ordering.{MatchOrdering, nat_cmp, ordering_then, is_eq, is_lt, is_gt}
 use Rattle.std.proofs.lemmas.Cmp.{ranked}
-use Rattle.std.proofs.lemmas.Bool.{cases_lt}
+use Rattle.std.proofs.lemmas.Bool.{cond-false, ne_eqb}
 use Rattle.std.proofs.lemmas.List.Elements.{recursion_from_All, All-from_recursion}
 use Rattle.key_spec.specs.declared.Ties.{Ties}
 use Rattle.key_pages.specs.declared.entries.Entry.{Entry}
@@ -47,7 +47,7 @@ use Rattle.join_rows.specs.declared.positions.MatchPlace.{MatchPlace}
 use Rattle.join_rows.specs.declared.positions.RowPosition.{RowPosition}
 use Rattle.join_rows.specs.declared.positions.RowPosition.TheVariants as rows
 use Rattle.join_rows.specs.declared.rows.Row.{Row}
-use Rattle.join_rows.specs.Reading.{IsFrom, Feeds, AreFed, IsLeft, found_below}
+use Rattle.join_rows.specs.Reading.{Feeds, AreFed, ArePlacesOf, IsLeft, found_below}
 use Rattle.join_rows.specs.Rows.{CanBeRead, IsPlace, parts_in, IsBound, IsAt, IsRow, IsFound, found_row, first_member, number_low, number_high, next_place, prior_place, place_by, found_entry, left_where, left_of_entry}
 use Rattle.join_rows.proofs.OptionLemmas.{true-false}
 use Rattle.join_rows.proofs.LevelLemmas.{filter-reverse, map-reverse}
@@ -64,12 +64,14 @@ use Rattle.join_rows.proofs.EntryLemmas.{entries_by, entries_at, entries-found, 
 other-image : (entry : PathEntry) (n : ℕ) (slots : List Slot) → entry.rrn < n → image_of_entry entry (records_from n slots) ≡ []
 other-image entry n [] low = refl
 other-image entry n (Deleted ∷ slots) low = other-image entry (n + 1) slots (omega (arith, low))
-other-image entry n (Live image ∷ slots) low = by (nat_cmp n entry.rrn) (ranked n entry.rrn (nat_cmp n entry.rrn) refl)
+other-image entry n (Live image ∷ slots) low =
+    by (other-image entry (n + 1) slots (omega (arith, low))) (nat_cmp n entry.rrn) (ranked n entry.rrn (nat_cmp n entry.rrn) refl)
   where
-    by : (o : Ordering) → MatchOrdering o (n < entry.rrn) (n ≡ entry.rrn) (entry.rrn < n) → cond (is_eq o) image (image_of_entry entry (records_from (n + 1) slots)) ≡ []
-    by Less h = other-image entry (n + 1) slots (omega (arith, low))
-    by Equal h = absurd (omega (arith, low, h))
-    by Greater h = other-image entry (n + 1) slots (omega (arith, low))
+    by : image_of_entry entry (records_from (n + 1) slots) ≡ [] → (o : Ordering) → MatchOrdering o (n < entry.rrn) (n ≡ entry.rrn) (entry.rrn < n)
+        → cond (is_eq o) image (image_of_entry entry (records_from (n + 1) slots)) ≡ []
+    by rest Less h = rest
+    by rest Equal h = absurd (omega (arith, low, h))
+    by rest Greater h = rest
 
 slot-image : (entry : PathEntry) (n k : ℕ) (slots : List Slot) → entry.rrn ≡ n + k → image_of_entry entry (records_from n slots) ≡ image_of (slice_get slots k)
 slot-image entry n k [] at = refl
@@ -81,12 +83,14 @@ slot-image entry n zero (Live image ∷ slots) at = by (nat_cmp n entry.rrn) (ra
     by Less h = absurd (omega (arith, at, h))
     by Equal h = refl
     by Greater h = absurd (omega (arith, at, h))
-slot-image entry n (suc k) (Live image ∷ slots) at = by (nat_cmp n entry.rrn) (ranked n entry.rrn (nat_cmp n entry.rrn) refl)
+slot-image entry n (suc k) (Live image ∷ slots) at =
+    by (slot-image entry (n + 1) k slots (omega (arith, at))) (nat_cmp n entry.rrn) (ranked n entry.rrn (nat_cmp n entry.rrn) refl)
   where
-    by : (o : Ordering) → MatchOrdering o (n < entry.rrn) (n ≡ entry.rrn) (entry.rrn < n) → cond (is_eq o) image (image_of_entry entry (records_from (n + 1) slots)) ≡ image_of (slice_get slots k)
-    by Less h = slot-image entry (n + 1) k slots (omega (arith, at))
-    by Equal h = absurd (omega (arith, at, h))
-    by Greater h = absurd (omega (arith, at, h))
+    by : image_of_entry entry (records_from (n + 1) slots) ≡ image_of (slice_get slots k) → (o : Ordering) → MatchOrdering o (n < entry.rrn) (n ≡ entry.rrn) (entry.rrn < n)
+        → cond (is_eq o) image (image_of_entry entry (records_from (n + 1) slots)) ≡ image_of (slice_get slots k)
+    by rest Less h = rest
+    by rest Equal h = absurd (omega (arith, at, h))
+    by rest Greater h = absurd (omega (arith, at, h))
 
 pub entry-image : (entry : PathEntry) (member : MemberState) → image_of_entry entry (records member) ≡ image_at member entry.rrn
 entry-image entry member = by entry.rrn refl
@@ -94,12 +98,18 @@ entry-image entry member = by entry.rrn refl
     by : (r : ℕ) → entry.rrn ≡ r → image_of_entry entry (records member) ≡ image_at member r
     by zero none = other-image entry 1 member.slots (omega (arith, none))
     by (suc k) some = slot-image entry 1 k member.slots (omega (arith, some)) ∙ ap (λ i. image_of (slice_get member.slots i)) (let e : k ≡ suc k - 1 = omega arith in e)
+        ∙ ap image_of (sym (cond-false (suc k == 0) None (slice_get member.slots (suc k - 1)) (ne_eqb (suc k) 0 (λ e. absurd (omega arith)))))
 
 -- ---- images of one file
 
 fed-none : (files : List Secondary) → AreFed [] files
 fed-none [] = tt
 fed-none (file ∷ files) = ((λ low. absurd (omega (arith, low))), fed-none files)
+
+left-where : (files : List Secondary) (places : List MatchPlace) (matches : List Match) → ArePlacesOf files places matches → (b : Bool)
+    → IsLeft files (left_where b places) (cond b (Some matches) None)
+left-where files places matches are true = are
+left-where files places matches are false = tt
 
 -- ---- a join file
 
@@ -296,17 +306,13 @@ module _ (spec : JoinSpec) (members : NumberedMembers) (primary : EntryList) (se
         by (rows.On key rrn matches) model.Start h = absurd h
         by (rows.On key rrn matches) model.End h = absurd h
         by (rows.On key rrn matches) (model.On place) h =
-            let own : Bool = is_eq (ordering_then (key_cmp e.key key.now) (nat_cmp e.rrn rrn)) in
-            let equal : own ≡ is_eq (compare_entries ties p place.primary) =
+            let there : Bool = is_eq (ordering_then (key_cmp e.key key.now) (nat_cmp e.rrn rrn)) in
+            let equal : there ≡ is_eq (compare_entries ties p place.primary) =
             equal-place falling (key_cmp e.key key.now) e.format e.rrn rrn first
             ∙ ap (λ x. is_eq (entry_cmp falling e x)) (sym h.primary)
             ∙ ap (λ x. is_eq (entry_cmp falling x (in_bytes formats place.primary))) (sym same)
             ∙ ap is_eq (side (model.On place.primary) h.is_entry p is) in
-            subst (λ b. IsLeft spec.secondaries (left_where own matches.now) (cond b (Some place.matches) None)) equal (both own)
-          where
-            both : (b : Bool) → IsLeft spec.secondaries (left_where b matches.now) (cond b (Some place.matches) None)
-            both true = h.secondaries
-            both false = tt
+            subst (λ b. IsLeft spec.secondaries (left_where there matches.now) (cond b (Some place.matches) None)) equal (left-where spec.secondaries matches.now place.matches h.secondaries there)
         by (rows.On key rrn matches) (model.Before bound) h = absurd h
         by (rows.On key rrn matches) (model.Past bound) h = absurd h
         by (rows.Before part) model.Start h = absurd h

@@ -39,7 +39,7 @@ use Rattle.join_rows.proofs.BackLemmas.{find-good, both-true, IsFirst, matches-b
 -- ---- lists
 
 some-nil : {A B : Type 0} (x : A) (xs : List A) → [] ≡ x ∷ xs → B
-some-nil {A} x xs h = absurd (let e : ◌≡◌ {A = List A} [] (x ∷ xs) = h in cc)
+some-nil {A = A} x xs h = absurd (let e : ◌≡◌ {A = List A} [] (x ∷ xs) = h in cc)
 
 none-reversed : {A : Type 0} (xs : List A) → reverse xs ≡ [] → xs ≡ []
 none-reversed xs h = sym (reverse-reverse xs) ∙ ap reverse h
@@ -73,18 +73,21 @@ level_by true keeps_missing members file row from = reverse (filter (λ m. isnt_
 
 -- ---- a level without records
 
+abbrev missing_one : Secondary → Matched
+missing_one file = record { match = NoRecord; image = file.default }
+
 abbrev missing_level : Bool → Secondary → List Matched
 missing_level keeps_missing file = or_missing keeps_missing file []
 
 none-next : (keeps_missing : Bool) (file : Secondary) (from : Option (List Match)) → isnt_before compare_matches from NoRecord ≡ true
     → filter (λ m. isnt_before compare_matches from (match_of m)) (missing_level keeps_missing file) ≡ missing_level keeps_missing file
 none-next false file from is = refl
-none-next true file from is = cond-true (isnt_before compare_matches from NoRecord) (record { match = NoRecord; image = file.default } ∷ []) [] is
+none-next true file from is = cond-true (isnt_before compare_matches from NoRecord) (missing_one file ∷ []) [] is
 
 none-prior : (keeps_missing : Bool) (file : Secondary) (from : Option (List Match)) → isnt_after compare_matches from NoRecord ≡ true
     → reverse (filter (λ m. isnt_after compare_matches from (match_of m)) (missing_level keeps_missing file)) ≡ missing_level keeps_missing file
 none-prior false file from is = refl
-none-prior true file from is = ap reverse (cond-true (isnt_after compare_matches from NoRecord) (record { match = NoRecord; image = file.default } ∷ []) [] is)
+none-prior true file from is = ap reverse (cond-true (isnt_after compare_matches from NoRecord) (missing_one file ∷ []) [] is)
 
 none-passed : (keeps_missing : Bool) (file : Secondary) (v : KeyValue) (rrn : ℕ) (rest : List Match)
     → filter (λ m. isnt_before compare_matches (Some (RecordAt v rrn ∷ rest)) (match_of m)) (missing_level keeps_missing file) ≡ []
@@ -190,7 +193,7 @@ module _ (file : Secondary) (members : NumberedMembers) (Q : List ℕ → Type 0
                 level = is ∙ ap (map shows) (matches-from list.falling part key rrn list.entries x sorted first some)
                     ∙ ap (λ ms'. shows x ∷ ms') (mapped (matches_by false part x.key x.rrn list))
                     ∙ ap (λ o. map shown (trials_from false o (Some (Some x)) list)) (sym want);
-                valid = subst (λ o. IsTried o (Some x)) (sym want) (its.0, (both-true (begins_with part x) _ its.1).0);
+                valid = subst (λ (o : Option (List ℕ)). IsTried o (Some x)) (sym want) (its.0, (both-true (begins_with part x) _ its.1).0);
               }
       found-start true key rrn ms is = by (prior_match list.falling part key rrn list.entries) refl
         where
@@ -202,7 +205,7 @@ module _ (file : Secondary) (members : NumberedMembers) (Q : List ℕ → Type 0
                     (matches-back list.falling part (is_match_before list.falling part key rrn) (still-before list.falling part key rrn) list.entries x sorted first some)
                     ∙ ap (λ ms'. shows x ∷ ms') (mapped (matches_by true part x.key x.rrn list))
                     ∙ ap (λ o. map shown (trials_from true o (Some (Some x)) list)) (sym want);
-                valid = subst (λ o. IsTried o (Some x)) (sym want) (its.0, (both-true (begins_with part x) _ its.1).0);
+                valid = subst (λ (o : Option (List ℕ)). IsTried o (Some x)) (sym want) (its.0, (both-true (begins_with part x) _ its.1).0);
               }
 
       last-start : (x : Entry) (ms : List Matched) → last_match part list.entries ≡ Some x → ms ≡ map shows (filter (begins_with part) (reverse list.entries)) → IsStart true (Some (Some x)) ms
@@ -211,7 +214,7 @@ module _ (file : Secondary) (members : NumberedMembers) (Q : List ℕ → Type 0
             level = is ∙ ap (map shows) (matches-back list.falling part (begins_with part) (λ a b less h. refl) list.entries x sorted first some)
                 ∙ ap (λ ms'. shows x ∷ ms') (mapped (matches_by true part x.key x.rrn list))
                 ∙ ap (λ o. map shown (trials_from true o (Some (Some x)) list)) (sym want);
-            valid = subst (λ o. IsTried o (Some x)) (sym want) its;
+            valid = subst (λ (o : Option (List ℕ)). IsTried o (Some x)) (sym want) its;
           }
 
     -- ---- the first
@@ -354,7 +357,7 @@ module _ (file : Secondary) (members : NumberedMembers) (Q : List ℕ → Type 0
 
             behind : (x : Entry) → last_match part list.entries ≡ Some x → (place' : Option MatchPlace) (from' : Option (List Match)) → IsHead file place' from'
                 → IsStart true (last_until x part place' (key_in (Some part) place') list) (reverse (filter (λ m. isnt_after compare_matches from' (match_of m)) ms))
-            behind x found None None is' = subst (λ l. IsStart true (Some (Some x)) (reverse l)) (sym (filter-always ms)) (last-start part want x (reverse ms) found all-back)
+            behind x found None None is' = subst (λ (l : List Matched). IsStart true (Some (Some x)) (reverse l)) (sym (filter-always ms)) (last-start part want x (reverse ms) found all-back)
             behind x found None (Some matches) is' = absurd is'
             behind x found (Some place') None is' = absurd is'
             behind x found (Some place') (Some []) is' = absurd is'
@@ -376,7 +379,7 @@ module _ (file : Secondary) (members : NumberedMembers) (Q : List ℕ → Type 0
                 unwanted-prior place from is
                 (none-reversed ms (all-back ∙ ap (map shows) (find-none (begins_with part) (reverse list.entries) none)))
             by (Some x) found =
-                subst (λ l. IsStart true (last_until x part place (key_in (Some part) place) list) (reverse (filter (λ m. isnt_after compare_matches from (match_of m)) l)))
+                subst (λ (l : List Matched). IsStart true (last_until x part place (key_in (Some part) place) list) (reverse (filter (λ m. isnt_after compare_matches from (match_of m)) l)))
                 (sym (at-last x found)) (behind x found place from is)
 
       -- what is tried first is the level

@@ -46,6 +46,7 @@ pub(crate) fn found_below<'a>(
     let [path, others @ ..] = paths else {
         return Ok(None);
     };
+    let path = *path;
     path.pages().in_order();
     let wanted = wanted_key(alloc, file.pairs.as_slice(), image_from(images, file.from))?;
     let key = key_in(alloc, &wanted, place(left))?;

@@ -12,8 +12,9 @@ ghost use Rattle.join_rows.specs.NextRow.{next_row, prior_row};
 ghost use Rattle.join_rows.specs.Reading.{left_list};
 ghost use Rattle.join_rows.specs.Rows.{CanBeRead, IsAt, IsFound, found_row, number_low, number_high, next_place, prior_place, place_by, found_entry, first_member, left_where, left_of_entry};
 
-use crate::levels::{Numbers, Walk, found_below};
+use crate::levels::{Numbers, Walk};
 use crate::positions::{Left, MatchPlace, RowPosition};
+use crate::stub::found_below;
 use crate::trials::{image_at, is_entry, next_number};
 use access_path::path::Path;
 use file_model::joins::JoinSpec;
@@ -143,15 +144,20 @@ fn first_entry<'a>(
 fn next_entry<'a>(back: bool, path: &'a Path, entry: &Entry) -> Option<&'a Entry>
     ensures { option_copied result ≡ found_entry back path.now (On entry.now) }
 {
-    let place = Position::On {
+    if back {
+        path.pages().prior_entry(&place_on(entry))
+    } else {
+        path.pages().next_entry(&place_on(entry))
+    }
+}
+
+fn place_on(entry: &Entry) -> Position<'_>
+    ensures { (f : Bool) (other : Entry) → pages.side_of f result other ≡ side_of f (On entry.now) other }
+{
+    Position::On {
         key: entry.key.as_bytes(),
         format: entry.format,
         rrn: entry.rrn,
-    };
-    if back {
-        path.pages().prior_entry(&place)
-    } else {
-        path.pages().next_entry(&place)
     }
 }
 

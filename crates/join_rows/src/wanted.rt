@@ -1,13 +1,13 @@
 //! The bytes with which the key of a record begins, in a secondary file's path, that a row is joined to. `matches.rt`
 //! looks for such records.
 ghost use Rattle.std.specs.Prelude.{◌≡◌, ◌≤◌, ◌++◌, Some, None, IfOk, OnOk, length, replicate, if◌then◌else◌};
-ghost use Rattle.std.specs.List.{AllByRecursion};
+ghost use Rattle.std.specs.List.{AllByRecursion, list_all};
 ghost use Rattle.std.specs.Option.{option_map};
 ghost use Rattle.field_values.specs.FieldTypes.{width};
 ghost use Rattle.field_values.specs.FieldBytes.{filled};
 ghost use Rattle.file_model.specs.Views.{field_value};
 ghost use Rattle.view_rules.specs.Shown.{HasValue};
-ghost use Rattle.join_rows.specs.Wanted.{cut_to, as_sought, sought_in};
+ghost use Rattle.join_rows.specs.Wanted.{is_blank, cut_to, as_sought, sought_in};
 ghost use Rattle.join_rows.specs.WantedBytes.{CanBeSought, sought_bytes, wanted_bytes, with_bytes};
 
 use field_types::kinds::FieldType;
@@ -100,11 +100,13 @@ fn cut_to(text: &[u8], width: usize) -> &[u8]
         return text;
     }
     let (front, rest) = text.split_at(width);
-    if rest.iter().all(|&byte| byte == BLANK) {
-        front
-    } else {
-        text
-    }
+    if are_blank(rest) { front } else { text }
+}
+
+fn are_blank(bytes: &[u8]) -> bool
+    ensures { result ≡ list_all is_blank bytes.now }
+{
+    bytes.iter().all(|&byte| byte == BLANK)
 }
 
 /// A text, and blanks to the width.

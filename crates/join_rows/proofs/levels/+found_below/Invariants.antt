@@ -8,9 +8,9 @@ use Rattle.join_rows.proofs.levels.+found_below.Given as goal
 abbrev pub decreases-found_below : goal.decreases-found_below
 decreases-found_below l = length l.files.now
 
-abbrev pub invariant-loop-trial : goal.invariant-loop-trial
-invariant-loop-trial l =
+abbrev pub invariant-loop-at : goal.invariant-loop-at
+invariant-loop-at l =
     IsUnderway l.walk.members.now.members (length l.images) l.file l.further l.path (map (λ image. image.now) l.images) l.walk.keeps_missing l.walk.back (left_list l.left) l.wanted (option_map tried l.at)
 
-abbrev pub decreases-loop-trial : goal.decreases-loop-trial
-decreases-loop-trial l = length (trials_from l.walk.back l.wanted (option_map tried l.at) l.path)
+abbrev pub decreases-loop-at : goal.decreases-loop-at
+decreases-loop-at l = length (trials_from l.walk.back l.wanted (option_map tried l.at) l.path)

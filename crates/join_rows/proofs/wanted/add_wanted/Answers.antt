@@ -11,5 +11,5 @@ returns-in-Ok c =
 
 pub returns-in-Err-Refused : goal.returns-in-Err-Refused
 returns-in-Err-Refused c =
-    sought-refused c.args.pair.now c.args.image.now c.in_ok-value.value c.in_ok-sought.sought c.args.key.now.items c.in-Err-Refused.field-0
-    c.in_ok-value.ensures c.in_ok-sought.ensures ((c.in-Err-Refused.ensures.refused c.in-Err-Refused.field-0).0 refl)
+    sought-refused c.args.pair.now c.args.image.now c.in_ok-value.value c.in_ok-sought.sought c.args.key.now.items c.in-Err-Refused.field-0-0
+    c.in_ok-value.ensures c.in_ok-sought.ensures ((c.encode_values.ensures.refused c.in-Err-Refused.field-0-0).0 (c.in-Err-Refused.is ∙ ap Err c.in-Err-Refused.field-0-is))
