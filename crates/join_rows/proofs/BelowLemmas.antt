@@ -1,10 +1,10 @@
 -- A row below a row so far is found by trying the records of the next file, one after another.
-use Rattle.std.proofs.Common.{◌≡◌, ℕ, Bor, zero, suc, ◌+◌, ◌<◌, Bool, true, false, cond, Option, Some, None, List, [], ◌∷◌, ◌++◌, length, get_or, map, refl, sym, ◌∙◌, ap, subst, arith, inl, inr}
+use Rattle.std.proofs.Common.{◌≡◌, ℕ, Bor, zero, suc, ◌+◌, ◌-◌, ◌≤◌, ◌<◌, Bool, true, false, cond, Option, Some, None, List, [], ◌∷◌, ◌++◌, length, take, drop, get_or, map, refl, sym, ◌∙◌, ap, subst, arith, inl, inr}
 use Rattle.std.specs.Option.{option_map, option_or}
 use Rattle.std.specs.List.{AllByRecursion, slice_get}
 use Rattle.std.specs.Prelude.{unwrap_or}
 use Rattle.std.proofs.lemmas.Bool.{cases_lt}
-use Rattle.std.proofs.lemmas.List.{length-append}
+use Rattle.std.proofs.lemmas.List.{length-append, take_all}
 use Rattle.std.proofs.lemmas.List.Elements.{recursion_from_All}
 use Rattle.key_pages.specs.declared.entries.Entry.{Entry}
 use Rattle.key_pages.specs.EntryList.{EntryList}
@@ -17,7 +17,7 @@ use Rattle.join_rows.specs.Levels.{first_of, below}
 use Rattle.join_rows.specs.NextRow.{match_of}
 use Rattle.join_rows.specs.Numbers.{matched_number, row_by}
 use Rattle.join_rows.specs.declared.positions.MatchPlace.{MatchPlace}
-use Rattle.join_rows.specs.Reading.{IsFrom, Feeds, AreFed, IsReadable, IsLeft, ArePlacesOf, place_in, leaf_numbers, found_below}
+use Rattle.join_rows.specs.Reading.{IsFrom, Feeds, AreFed, IsReadable, AreReadable, IsLeft, ArePlacesOf, place_in, leaf_numbers, found_below}
 use Rattle.join_rows.specs.Trials.{number_of, first_trial, next_trial, key_in, all_behind, trials_from, left_at, IsBegun}
 use Rattle.join_rows.specs.WantedBytes.{CanBeSought, wanted_bytes}
 use Rattle.join_rows.proofs.BackLemmas.{IsOwn, entries-own}
@@ -67,6 +67,30 @@ leaf-found false keeps_missing members row (Some []) (Some []) is = refl
 leaf-found true keeps_missing members row (Some []) (Some []) is = refl
 leaf-found back keeps_missing members row (Some []) (Some (m ∷ matches)) is = absurd is
 leaf-found back keeps_missing members row (Some (place ∷ places)) (Some matches) is = absurd is
+
+-- ---- the first of some files
+
+pub split-first : {X : Type 0} (xs : List X) (x : X) → 1 ≤ length xs → x ≡ get_or xs 0 x → xs ≡ x ∷ take (length xs - 1) (drop 1 xs)
+split-first [] x some is = absurd (omega (arith, some))
+split-first {X = X} (y ∷ xs) x some is =
+    ap (λ (z : X). z ∷ xs) (sym is) ∙ ap (λ w. x ∷ w) (sym (take_all (length (y ∷ xs) - 1) xs (omega arith)))
+
+-- what is asked of a level
+pub record IsAtLevel (members : NumberedMembers) (number : ℕ) (file : Secondary) (further : List Secondary) (list : EntryList) (others : List EntryList) (images : List (List ℕ)) : Type 0 where
+  pub readable : IsReadable members number file further list
+  pub rest : AreReadable members (number + 1) further others
+  pub fed : IsFrom (image_in file.from images) file
+  pub later : AreFed images further
+
+pub at-level : (members : NumberedMembers) (number : ℕ) (file : Secondary) (further : List Secondary) (list : EntryList) (others : List EntryList) (images : List (List ℕ)) → length images ≡ number
+    → AreReadable members number (file ∷ further) (list ∷ others) → AreFed images (file ∷ further) → IsAtLevel members number file further list others images
+at-level members number file further list others images count readable fed =
+    let low = readable.0.from in record {
+      readable = readable.0;
+      rest = readable.1;
+      fed = fed.0 (omega (arith, low, count));
+      later = fed.1;
+    }
 
 -- ---- a level
 

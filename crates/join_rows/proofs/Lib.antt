@@ -17,3 +17,4 @@ mod TrialLemmas
 mod BelowLemmas
 mod EntryLemmas
 mod PrimaryLemmas
+mod SequenceLemmas

@@ -454,3 +454,15 @@ pub fewer-entries : (back : Bool) (list : EntryList) (entry : Entry) (at : Optio
 fewer-entries back list entry at sorted is =
     let same : length (entries_by back list (On entry)) ≡ length (entries_at back list at) = ap length (entries-found back list (On entry) tt sorted at is) in
     omega arith
+
+-- what is found below an entry, by the values that stand for the file's
+pub below-entry : (back : Bool) (spec : JoinSpec) (members : NumberedMembers) (from : RowPosition) (entry : Entry) (files : List Secondary) → files ≡ spec.secondaries
+    → (images : List (List ℕ)) → images ≡ image_at (member_of (first_member spec.primary.formats) members) entry.rrn ∷ [] → (left : Option (List MatchPlace)) → left ≡ left_of_entry entry from
+    → (o found : Option (List (Option ℕ))) → o ≡ found
+    → ((row : JoinRow) (rest : Option (List Match)) → row.images ≡ images → IsLeft files left rest → option_map (row_by members files row) o ≡ found_below back spec.keeps_missing members files row rest)
+    → IsBelowEntry back spec members from entry found
+below-entry back spec members from entry files same images shown left rests o found is rec = λ row rest images-are left-is.
+    subst (λ (fs : List Secondary). option_map (row_by members fs row) found ≡ found_below back spec.keeps_missing members fs row rest) same
+    (ap (option_map (row_by members files row)) (sym is)
+    ∙ rec row rest (images-are ∙ sym shown)
+    (subst (λ (l : Option (List MatchPlace)). IsLeft files l rest) (sym rests) (subst (λ (fs : List Secondary). IsLeft fs (left_of_entry entry from) rest) (sym same) left-is)))

@@ -49,23 +49,26 @@ pub(crate) fn found_below<'a>(
     let path = *path;
     path.pages().in_order();
     let wanted = wanted_key(alloc, file.pairs.as_slice(), image_from(images, file.from))?;
-    let key = key_in(alloc, &wanted, place(left))?;
+    let sought = &wanted;
+    let key = key_in(alloc, sought, place(left))?;
+    let place_key = key.as_slice();
     let mut at = first_trial(
         walk.back,
         walk.keeps_missing,
         path,
-        &wanted,
+        sought,
         place(left),
-        key.as_slice(),
+        place_key,
     );
     while let Some(trial) = at {
         let more = with_image(alloc, images, image(walk.members, file, trial))?;
-        let below = left_below(left, key.as_slice(), trial);
+        let below = left_below(left, place_key, trial);
         let found = found_below(alloc, walk, further, others, below, more.as_slice())?;
         if let Some(numbers) = found {
-            return Ok(Some(with_number(number(trial), numbers)?));
+            let all = with_number(number(trial), numbers)?;
+            return Ok(Some(all));
         }
-        at = next_trial(walk.back, path, &wanted, trial);
+        at = next_trial(walk.back, path, sought, trial);
     }
     Ok(None)
 }

@@ -7,6 +7,5 @@ pub mod levels;
 pub mod matches;
 pub mod positions;
 pub mod rows;
-pub mod stub;
 pub mod trials;
 pub mod wanted;

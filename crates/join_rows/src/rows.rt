@@ -5,22 +5,25 @@ ghost use Rattle.access_path.specs.PathBytes.{is_falling};
 ghost use Rattle.file_cursor.specs.CursorPosition.{On};
 ghost use Rattle.file_cursor.specs.Finding.{side_of};
 ghost use Rattle.file_model.specs.Joins.{RowPlace};
+ghost use Rattle.file_model.specs.KeyOrder.{key_value};
 ghost use Rattle.file_model.specs.Positions as model;
 ghost use Rattle.key_pages.specs.declared.entries.Entry.{Entry};
 ghost use Rattle.key_pages.specs.Position as pages;
+ghost use Rattle.key_order.specs.KeyFields.{HasPosition};
+ghost use Rattle.join_rows.specs.Places.{sequence_bytes};
 ghost use Rattle.join_rows.specs.NextRow.{next_row, prior_row};
 ghost use Rattle.join_rows.specs.Reading.{left_list};
 ghost use Rattle.join_rows.specs.Rows.{CanBeRead, IsAt, IsFound, found_row, number_low, number_high, next_place, prior_place, place_by, found_entry, first_member, left_where, left_of_entry};
 
-use crate::levels::{Numbers, Walk};
+use crate::levels::{Numbers, Walk, found_below};
 use crate::positions::{Left, MatchPlace, RowPosition};
-use crate::stub::found_below;
 use crate::trials::{image_at, is_entry, next_number};
 use access_path::path::Path;
-use file_model::joins::JoinSpec;
+use file_model::joins::{JoinSpec, Secondary};
 use file_model::paths::PathFormat;
-use key_pages::{Entry, Position};
-use key_spec::Ties;
+use key_order::encoding::encode;
+use key_pages::{Entry, Key, Position};
+use key_spec::{KeyPart, Ties};
 use member_slots::members::Members;
 use std::alloc::{AllocError, Global};
 
@@ -68,6 +71,17 @@ pub fn prior_row<'a>(
         → IfOk result (λ found. IsFound join.entry.spec.now join.entry.members.now.members found (prior_row join.entry.spec.now join.entry.members.now.members position)) }
 {
     found_row(alloc, join, true, from)
+}
+
+/// The bytes of the value that a record has under JDUPSEQ, which a position on its row keeps.
+pub fn sequence_of(alloc: Global, file: &Secondary, image: &[u8]) -> Result<Key, AllocError>
+    requires { HasPosition file.now.sequence image.now }
+    ensures { IfOk result (λ key. key ≡ sequence_bytes file.now.sequence (key_value file.now.sequence image.now)) }
+{
+    match &file.sequence {
+        KeyPart::Absent => Ok(Key::new(alloc)),
+        KeyPart::Field { .. } => encode(alloc, std::slice::from_ref(&file.sequence), image),
+    }
 }
 
 fn found_row<'a>(

@@ -10,7 +10,7 @@ decreases-found_below l = length l.files.now
 
 abbrev pub invariant-loop-at : goal.invariant-loop-at
 invariant-loop-at l =
-    IsUnderway l.walk.members.now.members (length l.images) l.file l.further l.path (map (λ image. image.now) l.images) l.walk.keeps_missing l.walk.back (left_list l.left) l.wanted (option_map tried l.at)
+    IsUnderway l.walk.members.now.members (length l.images) l.file l.further l.path (map (λ image. image.now) l.images) l.walk.keeps_missing l.walk.back (left_list l.left) l.sought (option_map tried l.at)
 
 abbrev pub decreases-loop-at : goal.decreases-loop-at
-decreases-loop-at l = length (trials_from l.walk.back l.wanted (option_map tried l.at) l.path)
+decreases-loop-at l = length (trials_from l.walk.back l.sought (option_map tried l.at) l.path)
