@@ -10,6 +10,7 @@ use Rattle.key_pages.specs.declared.entries.Entry.{Entry}
 use Rattle.key_pages.specs.EntryList.{EntryList}
 use Rattle.key_pages.specs.Order.{IsInOrder}
 use Rattle.member_slots.specs.Members.{NumberedMembers}
+use Rattle.file_model.specs.declared.joins.JoinPair.{JoinPair}
 use Rattle.file_model.specs.declared.joins.Secondary.{Secondary}
 use Rattle.file_model.specs.Joins.{Match, Matched, JoinRow, image_in, compare_matches, row_with}
 use Rattle.key_order.proofs.FitLemmas.{Bytes}
@@ -75,29 +76,54 @@ split-first [] x some is = absurd (omega (arith, some))
 split-first {X = X} (y ∷ xs) x some is =
     ap (λ (z : X). z ∷ xs) (sym is) ∙ ap (λ w. x ∷ w) (sym (take_all (length (y ∷ xs) - 1) xs (omega arith)))
 
--- what is asked of a level
-pub record IsAtLevel (members : NumberedMembers) (number : ℕ) (file : Secondary) (further : List Secondary) (list : EntryList) (others : List EntryList) (images : List (List ℕ)) : Type 0 where
-  pub readable : IsReadable members number file further list
-  pub rest : AreReadable members (number + 1) further others
-  pub fed : IsFrom (image_in file.from images) file
-  pub later : AreFed images further
-
-pub at-level : (members : NumberedMembers) (number : ℕ) (file : Secondary) (further : List Secondary) (list : EntryList) (others : List EntryList) (images : List (List ℕ)) → length images ≡ number
-    → AreReadable members number (file ∷ further) (list ∷ others) → AreFed images (file ∷ further) → IsAtLevel members number file further list others images
-at-level members number file further list others images count readable fed =
-    let low = readable.0.from in record {
-      readable = readable.0;
-      rest = readable.1;
-      fed = fed.0 (omega (arith, low, count));
-      later = fed.1;
-    }
+pub wanted-same : (o : Option (List ℕ)) (pairs others : List JoinPair) (image another : List ℕ) → o ≡ wanted_bytes pairs image → pairs ≡ others → image ≡ another → o ≡ wanted_bytes others another
+wanted-same o pairs others image another is same also = is ∙ ap (λ ps. wanted_bytes ps image) same ∙ ap (wanted_bytes others) also
 
 -- ---- a level
 
-module _ (members : NumberedMembers) (number : ℕ) (file : Secondary) (further : List Secondary) (list : EntryList) (images : List (List ℕ))
-    (keeps_missing back : Bool) (left : Option (List MatchPlace)) (wanted : Option (List ℕ)) where
+-- a file that is reached from a row so far, the files after it, what is left of a position there, and the bytes that are
+-- looked for
+pub record Level : Type 0 where
+  pub members : NumberedMembers
+  pub file : Secondary
+  pub further : List Secondary
+  pub list : EntryList
+  pub images : List (List ℕ)
+  pub keeps_missing : Bool
+  pub back : Bool
+  pub left : Option (List MatchPlace)
+  pub wanted : Option (List ℕ)
+
+module _ (level : Level) where
+  abbrev members : NumberedMembers
+  members = level.members
+
+  abbrev file : Secondary
+  file = level.file
+
+  abbrev further : List Secondary
+  further = level.further
+
+  abbrev list : EntryList
+  list = level.list
+
+  abbrev images : List (List ℕ)
+  images = level.images
+
+  abbrev keeps_missing : Bool
+  keeps_missing = level.keeps_missing
+
+  abbrev back : Bool
+  back = level.back
+
+  abbrev left : Option (List MatchPlace)
+  left = level.left
+
+  abbrev wanted : Option (List ℕ)
+  wanted = level.wanted
+
   abbrev Q : List ℕ → Type 0
-  Q image = Feeds number further image
+  Q image = Feeds (length images) further image
 
   abbrev give : JoinRow → Option (List Match) → Matched → Option JoinRow
   give row from m = found_below back keeps_missing members further (row_with row m) (below compare_matches from (match_of m))
@@ -105,8 +131,12 @@ module _ (members : NumberedMembers) (number : ℕ) (file : Secondary) (further 
   abbrev whole : JoinRow → Option (List Match) → Option JoinRow
   whole row from = found_below back keeps_missing members (file ∷ further) row from
 
-  abbrev show : Option Entry → Matched
+  abbrev pub show : Option Entry → Matched
   show trial = matched_number file members (number_of trial)
+
+  -- the key at which the position stands
+  abbrev pub place_key : List ℕ
+  place_key = key_in wanted (place_in left)
 
   -- what is still to be tried gives what all give, and is of the file
   pub record IsUnderway (at : Option (Option Entry)) : Type 0 where
@@ -116,79 +146,102 @@ module _ (members : NumberedMembers) (number : ℕ) (file : Secondary) (further 
 
   -- what is found below a trial
   abbrev pub IsBelow : Option Entry → Option (List (Option ℕ)) → Type 0
-  IsBelow trial o = (row : JoinRow) (from : Option (List Match)) → row.images ≡ images ++ (show trial).image ∷ [] → IsLeft further (left_at left (key_in wanted (place_in left)) trial) from
+  IsBelow trial o = (row : JoinRow) (from : Option (List Match)) → row.images ≡ images ++ (show trial).image ∷ [] → IsLeft further (left_at left place_key trial) from
       → option_map (row_by members further row) o ≡ found_below back keeps_missing members further row from
 
-  module _ (readable : IsReadable members number file further list) (count : length images ≡ number) (fed : IsFrom (image_in file.from images) file) (later : AreFed images further)
-      (want : wanted ≡ wanted_bytes file.pairs (image_in file.from images)) where
-    -- what a level gives
-    by-level : (back' : Bool) (row : JoinRow) (from : Option (List Match))
-        → found_below back' keeps_missing members (file ∷ further) row from
-        ≡ first_of (λ m. found_below back' keeps_missing members further (row_with row m) (below compare_matches from (match_of m))) (level_by back' keeps_missing members file row from)
-    by-level false row from = refl
-    by-level true row from = refl
+  -- the file can be read, and so can the files after it
+  pub record IsHere (others : List EntryList) : Type 0 where
+    pub readable : IsReadable members (length images) file further list
+    pub rest : AreReadable members (length images + 1) further others
+    pub fed : IsFrom (image_in file.from images) file
+    pub later : AreFed images further
+    pub want : wanted ≡ wanted_bytes file.pairs (image_in file.from images)
+    pub sorted : IsInOrder list.falling list.entries
 
-    module _ (sorted : IsInOrder list.falling list.entries) where
-      own : AllByRecursion (IsOwn file members Q) list.entries
-      own = entries-own file members Q list readable.path readable.joinable readable.records
-
-      bytes-of : (row : JoinRow) → row.images ≡ images → Bytes (image_in file.from row.images)
-      bytes-of row same = subst (λ w. Bytes (image_in file.from w)) (sym same) (recursion_from_All (λ b. b < 256) (image_in file.from images) fed.bytes)
-
-      want-of : (row : JoinRow) → row.images ≡ images → wanted ≡ wanted_bytes file.pairs (image_in file.from row.images)
-      want-of row same = want ∙ ap (λ w. wanted_bytes file.pairs (image_in file.from w)) (sym same)
-
-      -- the first is tried
-      pub begin : (at : Option (Option Entry)) → at ≡ first_trial back keeps_missing wanted (place_in left) (key_in wanted (place_in left)) list → IsUnderway at
-      begin at is = record {
-        gives = λ row from same left-is.
-            ap (λ o. first_of (give row from) (map show (trials_from back wanted o list))) is
-            ∙ ap (first_of (give row from))
-            (sym (start file members Q list wanted readable.path readable.joinable sorted own row (bytes-of row same) keeps_missing back (place_in left) from (want-of row same) (head-place file further left from left-is)).level)
-            ∙ sym (by-level back row from);
-        valid = subst (IsTrial file members Q list wanted) (sym is) (first-valid file members Q list wanted readable.path readable.joinable sorted own back keeps_missing (place_in left) (key_in wanted (place_in left)));
+  pub here-of : (others lists : List EntryList) (files : List Secondary) → files ≡ file ∷ further → lists ≡ list ∷ others → (number : ℕ) → length images ≡ number
+      → AreReadable members number files lists → AreFed images files → wanted ≡ wanted_bytes file.pairs (image_in file.from images) → IsInOrder list.falling list.entries → IsHere others
+  here-of others lists files files-are lists-are number count readable fed want sorted =
+      let there : AreReadable members (length images) (file ∷ further) (list ∷ others) =
+      subst (λ (n : ℕ). AreReadable members n (file ∷ further) (list ∷ others)) (sym count)
+      (subst (λ (fs : List Secondary). AreReadable members number fs (list ∷ others)) files-are
+      (subst (λ (ls : List EntryList). AreReadable members number files ls) lists-are readable)) in
+      let all : AreFed images (file ∷ further) = subst (AreFed images) files-are fed in record {
+        readable = there.0;
+        rest = there.1;
+        fed = all.0 there.0.from;
+        later = all.1;
+        want = want;
+        sorted = sorted;
       }
 
-      module _ (trial : Option Entry) (way : IsUnderway (Some trial)) where
-        -- what is found below the trial
-        here : (o : Option (List (Option ℕ))) → IsBelow trial o → (row : JoinRow) (from : Option (List Match)) → row.images ≡ images → IsLeft (file ∷ further) left from
-            → option_map (row_by members further (row_with row (show trial))) o ≡ give row from (show trial)
-        here o rec row from same left-is =
-            rec (row_with row (show trial)) (below compare_matches from (match_of (show trial))) (ap (λ w. w ++ (show trial).image ∷ []) same)
-            (left-below file members Q list wanted readable.path readable.joinable sorted own row (bytes-of row same) keeps_missing further left from (want-of row same) left-is trial way.valid)
+  -- what a level gives
+  by-level : (back' : Bool) (row : JoinRow) (from : Option (List Match))
+      → found_below back' keeps_missing members (file ∷ further) row from
+      ≡ first_of (λ m. found_below back' keeps_missing members further (row_with row m) (below compare_matches from (match_of m))) (level_by back' keeps_missing members file row from)
+  by-level false row from = refl
+  by-level true row from = refl
 
-        -- a row is found
-        pub found : (numbers : List (Option ℕ)) → IsBelow trial (Some numbers) → (row : JoinRow) (from : Option (List Match)) → row.images ≡ images → IsLeft (file ∷ further) left from
-            → Some (row_by members (file ∷ further) row (number_of trial ∷ numbers)) ≡ whole row from
-        found numbers rec row from same left-is =
-            ap (λ o. option_or o (first_of (give row from) (map show (all_behind back wanted trial list)))) (here (Some numbers) rec row from same left-is)
-            ∙ way.gives row from same left-is
+  module _ (others : List EntryList) (here : IsHere others) where
+    own : AllByRecursion (IsOwn file members Q) list.entries
+    own = entries-own file members Q list here.readable.path here.readable.joinable here.readable.records
 
-        -- none is, so the next is tried
-        pub next : IsBelow trial None → (at : Option (Option Entry)) → at ≡ next_trial back wanted trial list → IsUnderway at
-        next rec at is =
-            let after = next-start-of file members Q list wanted readable.path readable.joinable sorted own back trial way.valid in record {
-              gives = λ row from same left-is.
-                  ap (λ o. first_of (give row from) (map show (trials_from back wanted o list))) is
-                  ∙ ap (first_of (give row from)) (sym after.level)
-                  ∙ ap (λ o. option_or o (first_of (give row from) (map show (all_behind back wanted trial list)))) (here None rec row from same left-is)
-                  ∙ way.gives row from same left-is;
-              valid = subst (IsTrial file members Q list wanted) (sym is) after.valid;
-            }
+    bytes-of : (row : JoinRow) → row.images ≡ images → Bytes (image_in file.from row.images)
+    bytes-of row same = subst (λ w. Bytes (image_in file.from w)) (sym same) (recursion_from_All (λ b. b < 256) (image_in file.from images) here.fed.bytes)
 
-        -- there are fewer behind it
-        pub less : (at : Option (Option Entry)) → at ≡ next_trial back wanted trial list → length (trials_from back wanted at list) < length (trials_from back wanted (Some trial) list)
-        less at is =
-            subst (λ o. length (trials_from back wanted o list) < length (trials_from back wanted (Some trial) list)) (sym is)
-            (fewer file members Q list wanted readable.path readable.joinable sorted own back trial way.valid)
+    want-of : (row : JoinRow) → row.images ≡ images → wanted ≡ wanted_bytes file.pairs (image_in file.from row.images)
+    want-of row same = here.want ∙ ap (λ w. wanted_bytes file.pairs (image_in file.from w)) (sym same)
 
-        -- the files after this one can be looked for by its image too
-        pub fed-below : AreFed (images ++ (show trial).image ∷ []) further
-        fed-below = fed-more images (show trial).image further later (subst (λ n. Feeds n further (show trial).image) (sym count) (good-image file members Q list wanted readable.default trial way.valid))
+    -- the first is tried
+    pub begin : (at : Option (Option Entry)) → at ≡ first_trial back keeps_missing wanted (place_in left) place_key list → IsUnderway at
+    begin at is = record {
+      gives = λ row from same left-is.
+          ap (λ o. first_of (give row from) (map show (trials_from back wanted o list))) is
+          ∙ ap (first_of (give row from))
+          (sym (start file members Q list wanted here.readable.path here.readable.joinable here.sorted own row (bytes-of row same) keeps_missing back (place_in left) from (want-of row same) (head-place file further left from left-is)).level)
+          ∙ sym (by-level back row from);
+      valid = subst (IsTrial file members Q list wanted) (sym is) (first-valid file members Q list wanted here.readable.path here.readable.joinable here.sorted own back keeps_missing (place_in left) place_key);
+    }
 
-        pub begins : IsBegun wanted trial
-        begins = begun file members Q list wanted trial way.valid
+    module _ (trial : Option Entry) (way : IsUnderway (Some trial)) where
+      -- what is found below the trial
+      below-trial : (o : Option (List (Option ℕ))) → IsBelow trial o → (row : JoinRow) (from : Option (List Match)) → row.images ≡ images → IsLeft (file ∷ further) left from
+          → option_map (row_by members further (row_with row (show trial))) o ≡ give row from (show trial)
+      below-trial o rec row from same left-is =
+          rec (row_with row (show trial)) (below compare_matches from (match_of (show trial))) (ap (λ w. w ++ (show trial).image ∷ []) same)
+          (left-below file members Q list wanted here.readable.path here.readable.joinable here.sorted own row (bytes-of row same) keeps_missing further left from (want-of row same) left-is trial way.valid)
 
-      -- there is none left
-      pub none-left : IsUnderway None → (row : JoinRow) (from : Option (List Match)) → row.images ≡ images → IsLeft (file ∷ further) left from → None ≡ whole row from
-      none-left way row from same left-is = way.gives row from same left-is
+      -- a row is found
+      pub found : (numbers : List (Option ℕ)) → IsBelow trial (Some numbers) → (row : JoinRow) (from : Option (List Match)) → row.images ≡ images → IsLeft (file ∷ further) left from
+          → Some (row_by members (file ∷ further) row (number_of trial ∷ numbers)) ≡ whole row from
+      found numbers rec row from same left-is =
+          ap (λ o. option_or o (first_of (give row from) (map show (all_behind back wanted trial list)))) (below-trial (Some numbers) rec row from same left-is)
+          ∙ way.gives row from same left-is
+
+      -- none is, so the next is tried
+      pub next : IsBelow trial None → (at : Option (Option Entry)) → at ≡ next_trial back wanted trial list → IsUnderway at
+      next rec at is =
+          let after = next-start-of file members Q list wanted here.readable.path here.readable.joinable here.sorted own back trial way.valid in record {
+            gives = λ row from same left-is.
+                ap (λ o. first_of (give row from) (map show (trials_from back wanted o list))) is
+                ∙ ap (first_of (give row from)) (sym after.level)
+                ∙ ap (λ o. option_or o (first_of (give row from) (map show (all_behind back wanted trial list)))) (below-trial None rec row from same left-is)
+                ∙ way.gives row from same left-is;
+            valid = subst (IsTrial file members Q list wanted) (sym is) after.valid;
+          }
+
+      -- there are fewer behind it
+      pub less : (at : Option (Option Entry)) → at ≡ next_trial back wanted trial list → length (trials_from back wanted at list) < length (trials_from back wanted (Some trial) list)
+      less at is =
+          subst (λ o. length (trials_from back wanted o list) < length (trials_from back wanted (Some trial) list)) (sym is)
+          (fewer file members Q list wanted here.readable.path here.readable.joinable here.sorted own back trial way.valid)
+
+      -- the files after this one can be looked for by its image too
+      pub fed-below : AreFed (images ++ (show trial).image ∷ []) further
+      fed-below = fed-more images (show trial).image further here.later (good-image file members Q list wanted here.readable.default trial way.valid)
+
+      pub begins : IsBegun wanted trial
+      begins = begun file members Q list wanted trial way.valid
+
+    -- there is none left
+    pub none-left : IsUnderway None → (row : JoinRow) (from : Option (List Match)) → row.images ≡ images → IsLeft (file ∷ further) left from → None ≡ whole row from
+    none-left way row from same left-is = way.gives row from same left-is
