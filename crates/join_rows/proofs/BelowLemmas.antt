@@ -1,5 +1,5 @@
 -- A row below a row so far is found by trying the records of the next file, one after another.
-use Rattle.std.proofs.Common.{◌≡◌, ℕ, Bor, zero, suc, ◌+◌, ◌-◌, ◌≤◌, ◌<◌, Bool, true, false, cond, Option, Some, None, List, [], ◌∷◌, ◌++◌, length, take, drop, get_or, map, refl, sym, ◌∙◌, ap, subst, arith, inl, inr}
+use Rattle.std.proofs.Common.{◌≡◌, ℕ, Bor, zero, suc, ◌+◌, ◌-◌, ◌≤◌, ◌<◌, Bool, true, false, Option, Some, None, List, [], ◌∷◌, ◌++◌, length, take, drop, get_or, map, refl, sym, ◌∙◌, ap, subst, arith, inl, inr}
 use Rattle.std.specs.Option.{option_map, option_or}
 use Rattle.std.specs.List.{AllByRecursion, slice_get}
 use Rattle.std.specs.Prelude.{unwrap_or}
@@ -18,9 +18,9 @@ use Rattle.join_rows.specs.Levels.{first_of, below}
 use Rattle.join_rows.specs.NextRow.{match_of}
 use Rattle.join_rows.specs.Numbers.{matched_number, row_by}
 use Rattle.join_rows.specs.declared.positions.MatchPlace.{MatchPlace}
-use Rattle.join_rows.specs.Reading.{IsFrom, Feeds, AreFed, IsReadable, AreReadable, IsLeft, ArePlacesOf, place_in, leaf_numbers, found_below}
+use Rattle.join_rows.specs.Reading.{IsFrom, Feeds, AreFed, IsReadable, AreReadable, IsLeft, place_in, leaf_numbers, found_below}
 use Rattle.join_rows.specs.Trials.{number_of, first_trial, next_trial, key_in, all_behind, trials_from, left_at, IsBegun}
-use Rattle.join_rows.specs.WantedBytes.{CanBeSought, wanted_bytes}
+use Rattle.join_rows.specs.WantedBytes.{wanted_bytes}
 use Rattle.join_rows.proofs.BackLemmas.{IsOwn, entries-own}
 use Rattle.join_rows.proofs.TrialLemmas.{level_by, head-place, IsTrial, first-valid, start, left-below, next-start-of, fewer, good-image, begun}
 

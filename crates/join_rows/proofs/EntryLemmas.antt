@@ -1,10 +1,10 @@
 -- Along a path the entries after a position are the first of them, and those after it; likewise those before.
 use Rattle.std.proofs.Common.{◌≡◌, ℕ, ◌+◌, ◌-◌, ◌≤◌, ◌<◌, Bool, true, false, not, cond, Option, Some, None, List, [], ◌∷◌, length, take, refl, sym, ◌∙◌, ap, arith}
-use Rattle.std.specs.Prelude.{find, filter, reverse, nat_lt}
+use Rattle.std.specs.Prelude.{filter, reverse}
 use Rattle.std.specs.List.{AllByRecursion}
 use Rattle.std.specs.declared.cmp.Ordering.{Ordering}
 use Rattle.std.specs.declared.cmp.Ordering.TheVariants.{Less, Equal, Greater}
-use Rattle.std.specs.Ordering.{MatchOrdering, nat_cmp, ordering_then, ordering_reverse, is_lt, is_le, is_eq, is_gt}
+use Rattle.std.specs.Ordering.{MatchOrdering, nat_cmp, ordering_then, ordering_reverse, is_lt, is_eq, is_gt}
 use Rattle.std.specs.Cmp.{IsTotalOrder}
 use Rattle.std.proofs.lemmas.Cmp.{ranked, tied_itself, alike_right, nat_cmp_total, nat_list_cmp_total}
 use Rattle.key_pages.specs.declared.entries.Entry.{Entry}
@@ -12,12 +12,10 @@ use Rattle.key_pages.specs.EntryList.{EntryList}
 use Rattle.key_pages.specs.Order.{key_cmp, entry_cmp, tie_cmp, IsInOrder}
 use Rattle.key_pages.proofs.SideLemmas.{cut_rises}
 use Rattle.key_pages.proofs.OrderLemmas.{entry_total}
-use Rattle.access_path.proofs.OrderedLemmas.{Pairwise}
 use Rattle.file_cursor.specs.CursorPosition.{CursorPosition, Start, End, On, Before, Past, ByKey, ByNumber}
-use Rattle.file_cursor.specs.Finding.{compare_part, is_after, is_before, next_from, prior_from}
+use Rattle.file_cursor.specs.Finding.{compare_part, is_after, is_before}
 use Rattle.file_cursor.specs.Reading.{IsByKey}
 use Rattle.join_rows.specs.Rows.{number_low, number_high, found_entry}
-use Rattle.join_rows.specs.Trials.{next_number}
 use Rattle.join_rows.proofs.OptionLemmas.{true-false}
 use Rattle.join_rows.proofs.WalkLemmas.{all-reverse, pair-reverse, find-none, walked}
 use Rattle.join_rows.proofs.PlaceLemmas.{number-from, number-until}

@@ -1,6 +1,6 @@
 -- A row is found by trying the entries of the primary's path, one after another.
-use Rattle.std.proofs.Common.{◌≡◌, ℕ, zero, suc, ◌+◌, ◌-◌, ◌≤◌, ◌<◌, Bool, true, false, not, cond, ◌==◌, Option, Some, None, List, [], ◌∷◌, ◌++◌, length, map, refl, sym, ◌∙◌, ap, subst, arith, inl, inr}
-use Rattle.std.specs.Prelude.{find, filter, reverse, All}
+use Rattle.std.proofs.Common.{◌≡◌, ℕ, zero, suc, ◌+◌, ◌-◌, ◌≤◌, ◌<◌, Bool, true, false, not, cond, ◌==◌, Option, Some, None, List, [], ◌∷◌, ◌++◌, length, map, refl, sym, ◌∙◌, ap, subst, arith}
+use Rattle.std.specs.Prelude.{filter, reverse, All}
 use Rattle.std.specs.Option.{option_map, option_or}
 use Rattle.std.specs.List.{AllByRecursion, slice_get}
 use Rattle.std.specs.declared.cmp.Ordering.{Ordering}
@@ -12,44 +12,39 @@ use Rattle.std.proofs.lemmas.List.Elements.{recursion_from_All, All-from_recursi
 use Rattle.key_spec.specs.declared.Ties.{Ties}
 use Rattle.key_pages.specs.declared.entries.Entry.{Entry}
 use Rattle.key_pages.specs.EntryList.{EntryList}
-use Rattle.key_pages.specs.Order.{key_cmp, entry_cmp, tie_cmp, IsInOrder}
+use Rattle.key_pages.specs.Order.{key_cmp, entry_cmp, IsInOrder}
 use Rattle.member_slots.specs.declared.slot.Slot.{Slot}
 use Rattle.member_slots.specs.declared.slot.Slot.TheVariants.{Live, Deleted}
 use Rattle.member_slots.specs.Member.{MemberState, records, records_from, slot_at}
 use Rattle.member_slots.specs.Members.{NumberedMembers, member_of}
 use Rattle.file_model.specs.declared.paths.PathFormat.{PathFormat}
-use Rattle.file_model.specs.declared.paths.PathSpec.{PathSpec}
 use Rattle.file_model.specs.declared.joins.Secondary.{Secondary}
 use Rattle.file_model.specs.declared.joins.JoinSpec.{JoinSpec}
-use Rattle.file_model.specs.KeyOrder.{KeyValue}
-use Rattle.file_model.specs.Joins.{Match, RowPlace, JoinRow, image_of_entry, primary_records, compare_matches}
+use Rattle.file_model.specs.Joins.{Match, RowPlace, JoinRow, image_of_entry, primary_records}
 use Rattle.file_model.specs.Paths.{PathEntry, compare_entries, entry_of, entries_of, path}
 use Rattle.file_model.specs.Paths as paths
 use Rattle.file_model.specs.Selection.{selects}
 use Rattle.file_model.specs.Sorting.{in_order}
 use Rattle.file_model.specs.Positions as model
 use Rattle.file_model.proofs.PathLemmas.{weaker, all-filter, all-map, all-append}
-use Rattle.key_order.specs.KeyBytes.{key_bytes}
 use Rattle.key_order.specs.KeyFields.{Matches}
 use Rattle.key_order.proofs.KeyLemmas.{Matches-itself}
-use Rattle.access_path.specs.KeptEntries.{entry_with}
 use Rattle.access_path.specs.PathBytes.{is_falling, in_bytes}
 use Rattle.access_path.proofs.OrderedLemmas.{all-in_order}
-use Rattle.file_cursor.specs.CursorPosition.{CursorPosition, Start, End, On, Before, Past, ByKey}
+use Rattle.file_cursor.specs.CursorPosition.{CursorPosition, On, Before, Past, ByKey}
 use Rattle.file_cursor.specs.Finding.{side_of, is_after, is_before}
 use Rattle.file_cursor.specs.PositionBytes.{IsEntryOf, position_in_bytes, IsPositionOf}
 use Rattle.file_cursor.specs.Reading.{IsByKey}
 use Rattle.file_cursor.proofs.EntryLemmas.{path-entries, side-same}
 use Rattle.join_rows.specs.Levels.{first_of}
-use Rattle.join_rows.specs.NextRow.{row_of_entry, below_entry, entry_isnt_before, entry_isnt_after, next_by_levels, prior_by_levels}
+use Rattle.join_rows.specs.NextRow.{row_of_entry, below_entry, entry_isnt_before, entry_isnt_after}
 use Rattle.join_rows.specs.Numbers.{image_of, image_at, row_by}
 use Rattle.join_rows.specs.declared.positions.MatchPlace.{MatchPlace}
 use Rattle.join_rows.specs.declared.positions.RowPosition.{RowPosition}
 use Rattle.join_rows.specs.declared.positions.RowPosition.TheVariants as rows
 use Rattle.join_rows.specs.declared.rows.Row.{Row}
 use Rattle.join_rows.specs.Reading.{Feeds, AreFed, ArePlacesOf, IsLeft, found_below}
-use Rattle.join_rows.specs.Rows.{CanBeRead, IsPlace, parts_in, IsBound, IsAt, IsRow, IsFound, found_row, first_member, number_low, number_high, next_place, prior_place, place_by, found_entry, left_where, left_of_entry}
-use Rattle.join_rows.proofs.OptionLemmas.{true-false}
+use Rattle.join_rows.specs.Rows.{CanBeRead, parts_in, IsAt, IsFound, found_row, first_member, next_place, prior_place, place_by, found_entry, left_where, left_of_entry}
 use Rattle.join_rows.proofs.LevelLemmas.{filter-reverse, map-reverse}
 use Rattle.join_rows.proofs.NextLemmas.{next-row, prior-row}
 use Rattle.join_rows.proofs.SoughtLemmas.{all-records}

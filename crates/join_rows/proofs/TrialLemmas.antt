@@ -1,12 +1,10 @@
 -- The records that are tried are those of the level, from a position on or before it, one after another.
-use Rattle.std.proofs.Common.{◌≡◌, ℕ, ◌+◌, ◌-◌, ◌≤◌, ◌<◌, Bool, true, false, not, cond, ◌&&◌, Option, Some, None, List, [], ◌∷◌, ◌++◌, length, take, map, refl, sym, ◌∙◌, ap, subst, arith}
-use Rattle.std.specs.Prelude.{find, filter, reverse, nat_lt}
+use Rattle.std.proofs.Common.{◌≡◌, ℕ, ◌+◌, ◌-◌, ◌<◌, Bool, true, false, not, cond, Option, Some, None, List, [], ◌∷◌, ◌++◌, length, take, map, refl, sym, ◌∙◌, ap, subst, arith}
+use Rattle.std.specs.Prelude.{filter, reverse, nat_lt}
 use Rattle.std.specs.Option.{option_map}
 use Rattle.std.specs.List.{AllByRecursion}
-use Rattle.std.specs.declared.cmp.Ordering.{Ordering}
-use Rattle.std.specs.declared.cmp.Ordering.TheVariants.{Less, Equal, Greater}
-use Rattle.std.specs.Ordering.{nat_cmp, ordering_then, is_eq, is_lt, is_gt}
-use Rattle.std.proofs.lemmas.Bool.{cond-true, cond-false, lt-ltb}
+use Rattle.std.specs.Ordering.{nat_cmp, ordering_then, is_eq, is_lt}
+use Rattle.std.proofs.lemmas.Bool.{cond-true, lt-ltb}
 use Rattle.std.proofs.lemmas.List.{reverse-reverse, length-map, take_at}
 use Rattle.std.proofs.lemmas.Map.Text.{is_eq-slice_cmp}
 use Rattle.std.proofs.lemmas.Slice.Eq.{bytes_eq-Decides}
@@ -25,11 +23,10 @@ use Rattle.join_rows.specs.Places.{IsPathOf, AreJoinable, IsSequence, IsMatchOf,
 use Rattle.join_rows.specs.Places as places
 use Rattle.join_rows.specs.declared.positions.MatchPlace.{MatchPlace}
 use Rattle.join_rows.specs.declared.positions.MatchPlace.TheVariants.{Missing, Record}
-use Rattle.join_rows.specs.Reading.{IsPlaceOf, ArePlacesOf, IsLeft, place_in, rest_in}
+use Rattle.join_rows.specs.Reading.{IsPlaceOf, IsLeft, place_in, rest_in}
 use Rattle.join_rows.specs.Search.{begins_with, is_match_after, is_match_before, next_match, prior_match, last_match}
-use Rattle.join_rows.specs.Trials.{number_of, missing, missing_from, record_or_missing, first_from, next_first, last_until, last_or_missing, prior_first, first_trial, next_number, key_in, found_match, next_behind, next_trial, matches_by, all_behind, trials_from, is_at, IsBegun, BeginsKey}
+use Rattle.join_rows.specs.Trials.{number_of, missing, missing_from, record_or_missing, first_from, last_until, last_or_missing, first_trial, next_number, key_in, found_match, next_trial, matches_by, all_behind, trials_from, is_at, IsBegun, BeginsKey}
 use Rattle.join_rows.specs.WantedBytes.{wanted_bytes}
-use Rattle.join_rows.proofs.OptionLemmas.{true-false, none-some, some-none, some-same}
 use Rattle.join_rows.proofs.LevelLemmas.{filter-reverse, map-reverse}
 use Rattle.join_rows.proofs.WalkLemmas.{all-reverse, find-none}
 use Rattle.join_rows.proofs.SearchLemmas.{matches-from}

@@ -1,5 +1,5 @@
 -- What does a join file need so that its rows can be read, and which rows are found? (Our own.)
-use Rattle.std.specs.Prelude.{◌≡◌, ℕ, ◌+◌, ◌-◌, ◌≤◌, ◌<◌, Bool, true, false, List, [], ◌∷◌, Option, Some, None, All, if◌then◌else◌}
+use Rattle.std.specs.Prelude.{◌≡◌, ℕ, ◌-◌, ◌≤◌, ◌<◌, Bool, List, [], ◌∷◌, Option, Some, None, All, if◌then◌else◌}
 use Rattle.std.specs.Ordering.{nat_cmp, ordering_then, is_eq}
 use Rattle.key_spec.specs.declared.KeyPart.{KeyPart}
 use Rattle.key_pages.specs.declared.entries.Entry.{Entry}
@@ -8,14 +8,13 @@ use Rattle.key_pages.specs.Order.{key_cmp}
 use Rattle.member_slots.specs.Member.{records}
 use Rattle.member_slots.specs.Members.{NumberedMembers, member_of}
 use Rattle.file_model.specs.declared.paths.PathFormat.{PathFormat}
-use Rattle.file_model.specs.declared.joins.Secondary.{Secondary}
 use Rattle.file_model.specs.declared.joins.JoinSpec.{JoinSpec}
 use Rattle.file_model.specs.Joins.{RowPlace, JoinRow}
 use Rattle.file_model.specs.Paths.{PathEntry}
 use Rattle.file_model.specs.Positions as model
 use Rattle.key_order.specs.KeyBytes.{key_bytes}
 use Rattle.access_path.specs.KeptEntries.{entry_with}
-use Rattle.access_path.specs.PathBytes.{is_falling, in_bytes, IsInBytes}
+use Rattle.access_path.specs.PathBytes.{in_bytes, IsInBytes}
 use Rattle.file_cursor.specs.CursorPosition.{CursorPosition, Start, End, On, Before, Past, ByKey}
 use Rattle.file_cursor.specs.Finding.{next_from, prior_from}
 use Rattle.file_cursor.specs.PositionBytes.{IsEntryOf, AreGiven}

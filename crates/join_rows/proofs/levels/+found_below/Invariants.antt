@@ -2,7 +2,7 @@ use Rattle.std.proofs.Common.{ℕ, Bor, List, length, map}
 use Rattle.std.specs.Option.{option_map}
 use Rattle.join_rows.specs.Reading.{left_list}
 use Rattle.join_rows.specs.Trials.{tried, trials_from}
-use Rattle.join_rows.proofs.BelowLemmas.{Level, IsUnderway}
+use Rattle.join_rows.proofs.BelowLemmas.{IsUnderway}
 use Rattle.join_rows.proofs.levels.+found_below.Given as goal
 
 abbrev pub decreases-found_below : goal.decreases-found_below

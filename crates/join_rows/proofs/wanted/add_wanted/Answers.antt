@@ -1,4 +1,4 @@
-use Rattle.std.proofs.Common.{◌≡◌, ◌++◌, ◌∙◌, Ok, Err, ap, refl}
+use Rattle.std.proofs.Common.{◌++◌, ◌∙◌, Err, ap}
 use Rattle.join_rows.proofs.StepLemmas.{sought-added, sought-refused}
 use Rattle.join_rows.proofs.wanted.add_wanted.Goals as goal
 
