@@ -12,9 +12,10 @@ use Rattle.member_slots.specs.Member.{records, slot_at}
 use Rattle.member_slots.specs.Members.{NumberedMembers, member_of}
 use Rattle.key_pages.specs.declared.entries.Entry.{Entry}
 use Rattle.key_pages.specs.EntryList.{EntryList}
+use Rattle.key_pages.specs.Order.{key_cmp}
 use Rattle.file_model.specs.declared.joins.Secondary.{Secondary}
 use Rattle.access_path.specs.PathBytes.{in_bytes}
-use Rattle.file_model.specs.KeyOrder.{KeyValue}
+use Rattle.file_model.specs.KeyOrder.{KeyValue, compare_key_values, key_value}
 use Rattle.file_model.specs.Joins.{Match, RecordAt, Matched, JoinRow, image_in, matched, compare_matches, matches_of, secondary_path}
 use Rattle.file_model.specs.Paths.{compare_entries, entry_of}
 use Rattle.file_model.specs.Views.{field_value}
@@ -32,7 +33,7 @@ use Rattle.join_rows.specs.Places.{IsPathOf, sequence_bytes, IsSequence, AreJoin
 use Rattle.join_rows.specs.Search.{begins_with, is_match_after, is_match_before}
 use Rattle.join_rows.proofs.OptionLemmas.{none-some, some-none, some-same}
 use Rattle.join_rows.proofs.SoughtLemmas.{all-records, AreSought, wanted-values, wanted-sought}
-use Rattle.join_rows.proofs.PlaceLemmas.{IsRecord, joined-test, test-same, until-same}
+use Rattle.join_rows.proofs.PlaceLemmas.{IsRecord, joined-test, test-same, until-same, key-order}
 use Rattle.join_rows.proofs.MatchLemmas.{IsThere, joins, joined-wanted, path-records, matches-records}
 
 -- ---- lists
@@ -41,11 +42,11 @@ and-true : (b : Bool) → (b && true) ≡ b
 and-true true = refl
 and-true false = refl
 
-filter-always : {A : Type 0} (xs : List A) → filter (λ x. true) xs ≡ xs
+pub filter-always : {A : Type 0} (xs : List A) → filter (λ x. true) xs ≡ xs
 filter-always [] = refl
 filter-always (x ∷ xs) = ap (λ w. x ∷ w) (filter-always xs)
 
-filter-map : {A B : Type 0} (test : B → Bool) (f : A → B) (xs : List A) → filter test (map f xs) ≡ map f (filter (λ x. test (f x)) xs)
+pub filter-map : {A B : Type 0} (test : B → Bool) (f : A → B) (xs : List A) → filter test (map f xs) ≡ map f (filter (λ x. test (f x)) xs)
 filter-map test f [] = refl
 filter-map test f (x ∷ xs) = by (test (f x)) refl (filter-map test f xs)
   where
@@ -73,7 +74,7 @@ filter-twice p q (x ∷ xs) = by (p x) refl (filter-twice p q xs)
         ∙ rest
         ∙ sym (ap (λ (b : Bool). cond (b && q x) (x ∷ filter (λ y. p y && q y) xs) (filter (λ y. p y && q y) xs)) is)
 
-filter-same : {A : Type 0} (P : A → Type 0) (test other : A → Bool) → ((x : A) → P x → test x ≡ other x) → (xs : List A) → AllByRecursion P xs → filter test xs ≡ filter other xs
+pub filter-same : {A : Type 0} (P : A → Type 0) (test other : A → Bool) → ((x : A) → P x → test x ≡ other x) → (xs : List A) → AllByRecursion P xs → filter test xs ≡ filter other xs
 filter-same P test other same [] all = refl
 filter-same P test other same (x ∷ xs) all =
     ap (λ (b : Bool). cond b (x ∷ filter test xs) (filter test xs)) (same x all.0)
@@ -83,7 +84,7 @@ map-same : {A B : Type 0} (P : A → Type 0) (f g : A → B) → ((x : A) → P 
 map-same P f g same [] all = refl
 map-same P f g same (x ∷ xs) all = ap (λ y. y ∷ map f xs) (same x all.0) ∙ ap (λ w. g x ∷ w) (map-same P f g same xs all.1)
 
-map-map : {A B C : Type 0} (g : B → C) (f : A → B) (xs : List A) → map g (map f xs) ≡ map (λ x. g (f x)) xs
+pub map-map : {A B C : Type 0} (g : B → C) (f : A → B) (xs : List A) → map g (map f xs) ≡ map (λ x. g (f x)) xs
 map-map g f [] = refl
 map-map g f (x ∷ xs) = ap (λ w. g (f x) ∷ w) (map-map g f xs)
 
@@ -91,7 +92,7 @@ filter-never : {A : Type 0} (P : A → Type 0) (test : A → Bool) → ((x : A) 
 filter-never P test never [] all = refl
 filter-never P test never (x ∷ xs) all = cond-false (test x) (x ∷ filter test xs) (filter test xs) (never x all.0) ∙ filter-never P test never xs all.1
 
-both-all : {A : Type 0} (P Q R : A → Type 0) → ((x : A) → P x → Q x → R x) → (xs : List A) → AllByRecursion P xs → AllByRecursion Q xs → AllByRecursion R xs
+pub both-all : {A : Type 0} (P Q R : A → Type 0) → ((x : A) → P x → Q x → R x) → (xs : List A) → AllByRecursion P xs → AllByRecursion Q xs → AllByRecursion R xs
 both-all P Q R so [] all also = tt
 both-all P Q R so (x ∷ xs) all also = (so x all.0 also.0, both-all P Q R so xs all.1 also.1)
 
@@ -201,3 +202,17 @@ module _ (file : Secondary) (members : NumberedMembers) (row : JoinRow) (good : 
   joined-until part some list is v rrn rest seq =
       joined-tests part some list is (λ m. isnt_after compare_matches (Some (RecordAt v rrn ∷ rest)) (match_of m)) (is_match_before false part (part ++ sequence_bytes file.sequence v) (rrn + 1))
       (λ values wants sought same pair r. ap (λ w. is_match_before false w (w ++ sequence_bytes file.sequence v) (rrn + 1) (entry_in_path file pair)) same ∙ until-same file image values wants sought pair r v rrn seq)
+
+  -- where a record whose key begins with the bytes stands to a key that begins with them
+  pub order-of : (part : List ℕ) → wanted_bytes file.pairs image ≡ Some part → (pair : ℕ × List ℕ) → IsRecord file pair → begins_with part (entry_in_path file pair) ≡ true
+      → (v : KeyValue) → IsSequence file v → key_cmp (entry_in_path file pair).key (part ++ sequence_bytes file.sequence v) ≡ compare_key_values (key_value file.sequence pair.1) v
+  order-of part some pair r begins v seq = by (wanted file.pairs image) refl
+    where
+      by : (o : Option (List Value)) → wanted file.pairs image ≡ o → key_cmp (entry_in_path file pair).key (part ++ sequence_bytes file.sequence v) ≡ compare_key_values (key_value file.sequence pair.1) v
+      by None wants = some-none part (value-given None wants (Some part) some)
+      by (Some values) wants =
+          let same : part ≡ values_bytes file.pairs values = some-same part (values_bytes file.pairs values) (value-given (Some values) wants (Some part) some) in
+          let sought : AreSought file.pairs values = wanted-sought file.pairs image values bytes wants in
+          ap (λ w. key_cmp (entry_in_path file pair).key (w ++ sequence_bytes file.sequence v)) same
+          ∙ key-order file image values wants sought pair r
+          (sym (joined-test file image values wants sought pair r) ∙ ap (λ w. begins_with w (entry_in_path file pair)) (sym same) ∙ begins) v seq

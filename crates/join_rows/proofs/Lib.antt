@@ -10,3 +10,11 @@ mod SoughtLemmas
 mod PlaceLemmas
 mod JoinedLemmas
 mod OrderLemmas
+mod StepLemmas
+mod KeyLemmas
+mod BackLemmas
+mod TrialLemmas
+mod BelowLemmas
+mod EntryLemmas
+mod PrimaryLemmas
+mod SequenceLemmas

@@ -76,7 +76,7 @@ sequences-cmp (Field t offset descend absval) a b = last (compare_key_values (ke
 
 -- ---- one record of the file
 
-number-from : (r n : ℕ) → 1 ≤ n → is_gt (nat_cmp r (n - 1)) ≡ not (is_lt (nat_cmp r n))
+pub number-from : (r n : ℕ) → 1 ≤ n → is_gt (nat_cmp r (n - 1)) ≡ not (is_lt (nat_cmp r n))
 number-from r n some = by (nat_cmp r (n - 1)) (nat_cmp r n) (ranked r (n - 1) (nat_cmp r (n - 1)) refl) (ranked r n (nat_cmp r n) refl)
   where
     by : (o p : Ordering) → MatchOrdering o (r < n - 1) (r ≡ n - 1) (n - 1 < r) → MatchOrdering p (r < n) (r ≡ n) (n < r) → is_gt o ≡ not (is_lt p)
@@ -95,7 +95,7 @@ place-from Less r n some = refl
 place-from Equal r n some = number-from r n some
 place-from Greater r n some = refl
 
-number-until : (r n : ℕ) → is_lt (nat_cmp r (n + 1)) ≡ not (is_gt (nat_cmp r n))
+pub number-until : (r n : ℕ) → is_lt (nat_cmp r (n + 1)) ≡ not (is_gt (nat_cmp r n))
 number-until r n = by (nat_cmp r (n + 1)) (nat_cmp r n) (ranked r (n + 1) (nat_cmp r (n + 1)) refl) (ranked r n (nat_cmp r n) refl)
   where
     by : (o p : Ordering) → MatchOrdering o (r < n + 1) (r ≡ n + 1) (n + 1 < r) → MatchOrdering p (r < n) (r ≡ n) (n < r) → is_lt o ≡ not (is_gt p)
@@ -176,7 +176,7 @@ module _ (file : Secondary) (from : List ℕ) (values : List Value) (is : wanted
       by (Field t offset descend absval) = refl
 
   -- where a record stands to a key that begins with the bytes
-  key-order : (pair : ℕ × List ℕ) → IsRecord file pair → joins file from pair ≡ true → (v : KeyValue) → IsSequence file v
+  pub key-order : (pair : ℕ × List ℕ) → IsRecord file pair → joins file from pair ≡ true → (v : KeyValue) → IsSequence file v
       → key_cmp (key_bytes (format_of file).key (own_key pair)) (part ++ sequence_bytes file.sequence v) ≡ compare_key_values (key_value file.sequence pair.1) v
   key-order pair r joined v seq =
       ap (key_cmp (key_bytes (format_of file).key (own_key pair))) whole

@@ -6,3 +6,6 @@ pub mod WantedBytes
 pub mod Search
 pub mod Numbers
 pub mod Places
+pub mod Reading
+pub mod Trials
+pub mod Rows

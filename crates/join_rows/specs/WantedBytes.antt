@@ -2,13 +2,20 @@
 use Rattle.std.specs.Prelude.{ℕ, false, List, [], ◌∷◌, ◌++◌, map, Option, Some, None}
 use Rattle.std.specs.Option.{option_map}
 use Rattle.field_types.specs.declared.values.Value.{Value}
+use Rattle.field_values.specs.FieldTypes.{IsFieldType}
 use Rattle.key_spec.specs.declared.KeyPart.{KeyPart}
 use Rattle.key_spec.specs.declared.KeyPart.TheVariants.{Field}
 use Rattle.file_model.specs.declared.joins.JoinPair.{JoinPair}
 use Rattle.file_model.specs.KeyOrder.{Ascending}
 use Rattle.file_model.specs.Views.{field_value}
 use Rattle.key_order.specs.KeyBytes.{position_bytes, key_bytes}
+use Rattle.view_rules.specs.Shown.{HasValue}
 use Rattle.join_rows.specs.Wanted.{as_key, sought_in}
+
+-- the record shows a value to look for, in a field that may have values of its type
+pub record CanBeSought (image : List ℕ) (pair : JoinPair) : Type 0 where
+  pub from : HasValue image pair.from
+  pub to : IsFieldType pair.to.ty
 
 -- the bytes of the value that is looked for, where the field can hold it
 abbrev pub sought_bytes : JoinPair → List ℕ → Option (List ℕ)
