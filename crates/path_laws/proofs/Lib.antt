@@ -1,0 +1,5 @@
+pub mod TestLemmas
+pub mod FieldLemmas
+pub mod RuleLemmas
+pub mod PathLemmas
+pub mod CountLemmas
