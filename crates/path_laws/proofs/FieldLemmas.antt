@@ -83,10 +83,11 @@ kind-own Stamp = refl
 
 pub type-told : (t u : FieldType) → same_type t u ≡ true → t ≡ u
 type-told t u same =
-    let front = first_so _ _ same in
-    let kinds = kind-told t.kind u.kind (with-two (first_so _ _ front)) in
-    let lengths = number-told t.length u.length (second_so _ _ front) in
-    let decimals = number-told t.decimals u.decimals (second_so _ _ same) in
+    let front = first_so _ (t.decimals == u.decimals) same in
+    let named = with-two (first_so _ (t.length == u.length) front) in
+    let kinds = kind-told t.kind u.kind named in
+    let lengths = number-told t.length u.length (second_so _ (t.length == u.length) front) in
+    let decimals = number-told t.decimals u.decimals (second_so _ (t.decimals == u.decimals) same) in
     λ i. record { kind = kinds i; length = lengths i; decimals = decimals i }
 
 pub type-own : (t : FieldType) → same_type t t ≡ true
@@ -94,12 +95,12 @@ type-own t = let kinds = but-two (kind-own t.kind) in λ i. (kinds i && number-o
 
 -- ---- values
 
-abbrev pub whole : ℤ → Value
+abbrev whole : ℤ → Value
 whole units = Number (record { units = units; scale = 0 })
 
 units-told : (a b : ℤ) → same_value (whole a) (whole b) ≡ true → a ≡ b
-units-told (pos n) (pos k) same = ap pos (number-told n k (but-one same))
-units-told (negsuc n) (negsuc k) same = ap negsuc (number-told n k (but-one same))
+units-told (pos n) (pos k) same = ap pos (number-told n k (first_so (n == k) true same))
+units-told (negsuc n) (negsuc k) same = ap negsuc (number-told n k (first_so (n == k) true same))
 units-told (pos n) (negsuc k) same = absurd (false≢true same)
 units-told (negsuc n) (pos k) same = absurd (false≢true same)
 
@@ -110,8 +111,9 @@ units-own (negsuc n) = with-one (number-own n)
 pub value-told : (v w : Value) → same_value v w ≡ true → v ≡ w
 value-told (Chars text) (Chars other) same = ap Chars ((bytes_eq-Decides text other).0 same)
 value-told (Number n) (Number k) same =
-    let units = units-told n.units k.units (with-one (first_so _ _ same)) in
-    let scales = number-told n.scale k.scale (second_so _ _ same) in
+    let alone = with-one (first_so _ (n.scale == k.scale) same) in
+    let units = units-told n.units k.units alone in
+    let scales = number-told n.scale k.scale (second_so _ (n.scale == k.scale) same) in
     λ i. Number (record { units = units i; scale = scales i })
 value-told (Chars text) (Number k) same = absurd (false≢true same)
 value-told (Number n) (Chars other) same = absurd (false≢true same)
@@ -126,29 +128,32 @@ value-own (Number n) = let units = but-one (units-own n.units) in λ i. units i 
 abbrev pub showing : FieldSource → ViewField
 showing source = record { ty = of_kind Char; source = source }
 
-piece-told : (p q : Piece) → same_field (showing (Substring p)) (showing (Substring q)) ≡ true → p ≡ q
+abbrev are_alike : FieldSource → FieldSource → Bool
+are_alike source other = same_field (showing source) (showing other)
+
+piece-told : (p q : Piece) → are_alike (Substring p) (Substring q) ≡ true → p ≡ q
 piece-told p q same =
-    let offsets = number-told p.offset q.offset (first_so _ _ same) in
-    let lengths = number-told p.length q.length (second_so _ _ same) in
+    let offsets = number-told p.offset q.offset (first_so (p.offset == q.offset) (p.length == q.length) same) in
+    let lengths = number-told p.length q.length (second_so (p.offset == q.offset) (p.length == q.length) same) in
     λ i. record { offset = offsets i; length = lengths i }
 
-piece-own : (p : Piece) → same_field (showing (Substring p)) (showing (Substring p)) ≡ true
+piece-own : (p : Piece) → are_alike (Substring p) (Substring p) ≡ true
 piece-own p = λ i. number-own p.offset i && number-own p.length i
 
-pieces-told : (ps qs : List Piece) → same_field (showing (Concatenated ps)) (showing (Concatenated qs)) ≡ true → ps ≡ qs
+pieces-told : (ps qs : List Piece) → are_alike (Concatenated ps) (Concatenated qs) ≡ true → ps ≡ qs
 pieces-told [] [] same = refl
 pieces-told [] (q ∷ qs) same = absurd (false≢true same)
 pieces-told (p ∷ ps) [] same = absurd (false≢true same)
 pieces-told (p ∷ ps) (q ∷ qs) same =
-    let here = piece-told p q (first_so _ _ same) in
-    let rest = pieces-told ps qs (second_so _ _ same) in
+    let here = piece-told p q (first_so (are_alike (Substring p) (Substring q)) (are_alike (Concatenated ps) (Concatenated qs)) same) in
+    let rest = pieces-told ps qs (second_so (are_alike (Substring p) (Substring q)) (are_alike (Concatenated ps) (Concatenated qs)) same) in
     λ i. here i ∷ rest i
 
-pieces-own : (ps : List Piece) → same_field (showing (Concatenated ps)) (showing (Concatenated ps)) ≡ true
+pieces-own : (ps : List Piece) → are_alike (Concatenated ps) (Concatenated ps) ≡ true
 pieces-own [] = refl
 pieces-own (p ∷ ps) = λ i. piece-own p i && pieces-own ps i
 
-source-told : (s t : FieldSource) → same_field (showing s) (showing t) ≡ true → s ≡ t
+source-told : (s t : FieldSource) → are_alike s t ≡ true → s ≡ t
 source-told (Copied at) (Copied offset) same = ap Copied (number-told at offset same)
 source-told (Converted t at) (Converted u offset) same =
     let types = type-told t u (first_so (same_type t u) (at == offset) same) in
@@ -169,7 +174,7 @@ source-told (Substring p) (Copied offset) same = absurd (false≢true same)
 source-told (Substring p) (Converted u offset) same = absurd (false≢true same)
 source-told (Substring p) (Concatenated qs) same = absurd (false≢true same)
 
-source-own : (s : FieldSource) → same_field (showing s) (showing s) ≡ true
+source-own : (s : FieldSource) → are_alike s s ≡ true
 source-own (Copied at) = number-own at
 source-own (Converted t at) = λ i. type-own t i && number-own at i
 source-own (Concatenated ps) = pieces-own ps

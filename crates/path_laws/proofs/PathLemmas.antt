@@ -44,8 +44,10 @@ part-told (Field t at descend absval) (Field u offset other_descend other_absval
     let place = first_so _ _ front in
     let types = type-told t u (first_so (same_type t u) (at == offset) place) in
     let offsets = number-told at offset (second_so (same_type t u) (at == offset) place) in
-    let descends = flag-told descend other_descend (second_so _ _ front) in
-    let absvals = flag-told absval other_absval (second_so _ _ same) in
+    let by_descend = second_so _ _ front in
+    let by_absval = second_so _ _ same in
+    let descends = flag-told descend other_descend by_descend in
+    let absvals = flag-told absval other_absval by_absval in
     λ i. Field (types i) (offsets i) (descends i) (absvals i)
 part-told Absent Absent same = refl
 part-told (Field t at descend absval) Absent same = absurd (false≢true same)
@@ -93,8 +95,10 @@ pub path-told : (p q : PathSpec) → same_path p q ≡ true → p ≡ q
 path-told p q same =
     let front = first_so _ _ same in
     let formats = list-told same_format format-told p.formats q.formats (first_so (pointwise same_format p.formats q.formats) _ front) in
-    let flags = flag-told p.unique q.unique (second_so (pointwise same_format p.formats q.formats) _ front) in
-    let orders = ties-told p.ties q.ties (second_so _ _ same) in
+    let by_flag = second_so (pointwise same_format p.formats q.formats) _ front in
+    let by_ties = second_so _ _ same in
+    let flags = flag-told p.unique q.unique by_flag in
+    let orders = ties-told p.ties q.ties by_ties in
     λ i. record { formats = formats i; unique = flags i; ties = orders i }
 
 pub path-own : (p : PathSpec) → same_path p p ≡ true

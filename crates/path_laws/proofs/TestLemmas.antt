@@ -13,23 +13,17 @@ with-one same = λ i. same i && true
 pub with-two : {b : Bool} → b ≡ true → ((b && true) && true) ≡ true
 with-two same = λ i. (same i && true) && true
 
-pub with-three : {b : Bool} → b ≡ true → (((b && true) && true) && true) ≡ true
-with-three same = λ i. ((same i && true) && true) && true
-
-pub with-four : {b : Bool} → b ≡ true → ((((b && true) && true) && true) && true) ≡ true
-with-four same = λ i. (((same i && true) && true) && true) && true
+pub with-three : (b : Bool) → b ≡ true → (((b && true) && true) && true) ≡ true
+with-three b same = λ i. ((same i && true) && true) && true
 
 pub but-one : {b : Bool} → (b && true) ≡ true → b ≡ true
 but-one {b = b} same = first_so b true same
 
 pub but-two : {b : Bool} → ((b && true) && true) ≡ true → b ≡ true
-but-two {b = b} same = but-one (but-one same)
+but-two {b = b} same = first_so b true (first_so (b && true) true same)
 
-pub but-three : {b : Bool} → (((b && true) && true) && true) ≡ true → b ≡ true
-but-three {b = b} same = but-two (but-one same)
-
-pub but-four : {b : Bool} → ((((b && true) && true) && true) && true) ≡ true → b ≡ true
-but-four {b = b} same = but-three (but-one same)
+pub but-three : (b : Bool) → (((b && true) && true) && true) ≡ true → b ≡ true
+but-three b same = first_so b true (first_so (b && true) true (first_so ((b && true) && true) true same))
 
 -- ---- numbers
 
