@@ -1,5 +1,5 @@
 -- A list has at most as many different paths as specifications; one more counts where it isn't there yet.
-use Rattle.std.proofs.Common.{◌≡◌, refl, sym, ap, ◌∙◌, ◌≤◌, ◌<◌, ℕ, zero, suc, ◌+◌, Bool, true, false, ◌||◌, cond, List, [], ◌∷◌, length, slice_index_or, Contains, ◌⊎◌, inl, inr, ⊎_elim, arith}
+use Rattle.std.proofs.Common.{◌≡◌, refl, sym, ap, ◌≤◌, ◌<◌, ℕ, zero, suc, ◌+◌, Bool, true, false, ◌||◌, cond, List, [], ◌∷◌, length, slice_index_or, Contains, ◌⊎◌, inl, inr, ⊎_elim, arith}
 use Rattle.std.specs.List.{list_any}
 use Rattle.std.proofs.lemmas.Bool.{false≢true}
 use Rattle.file_model.specs.declared.paths.PathSpec.{PathSpec}
@@ -10,11 +10,11 @@ use Rattle.path_laws.proofs.PathLemmas.{path-told, path-decides}
 
 there-told : (p : PathSpec) (paths : List PathSpec) → list_any (same_path p) paths ≡ true → Contains paths p
 there-told p [] there = absurd (false≢true there)
-there-told p (q ∷ paths) there = by (same_path p q) refl there
+there-told p (q ∷ paths) there = by (same_path p q) refl there (λ h. there-told p paths h)
   where
-    by : (b : Bool) → same_path p q ≡ b → (b || list_any (same_path p) paths) ≡ true → Contains (q ∷ paths) p
-    by true same h = (0, omega arith, sym (path-told p q same))
-    by false apart h = let rest = there-told p paths h in let lt = rest.1 in (suc rest.0, omega arith, rest.2)
+    by : (b : Bool) → same_path p q ≡ b → (b || list_any (same_path p) paths) ≡ true → (list_any (same_path p) paths ≡ true → Contains paths p) → Contains (q ∷ paths) p
+    by true same h later = (0, omega arith, sym (path-told p q same))
+    by false apart h later = let rest = later h in let lt = rest.1 in (suc rest.0, omega arith, rest.2)
 
 -- its place is before those of the rest, or in them
 here-or : (p q : PathSpec) (paths : List PathSpec) → Contains (q ∷ paths) p → (p ≡ q) ⊎ Contains paths p
@@ -24,19 +24,17 @@ here-or p q paths found = by found.0 found.1 found.2
     by zero lt at = inl (sym at)
     by (suc k) lt at = inr (k, omega arith, at)
 
+or-true : (b c : Bool) → c ≡ true → (b || c) ≡ true
+or-true true c there = refl
+or-true false c there = there
+
+here : (p q : PathSpec) (paths : List PathSpec) → p ≡ q → list_any (same_path p) (q ∷ paths) ≡ true
+here p q paths same = λ i. (path-decides p q).1 same i || list_any (same_path p) paths
+
 there-own : (p : PathSpec) (paths : List PathSpec) → Contains paths p → list_any (same_path p) paths ≡ true
 there-own p [] found = let lt = found.1 in absurd (omega arith)
-there-own p (q ∷ paths) found = ⊎_elim here later (here-or p q paths found)
-  where
-    here : p ≡ q → list_any (same_path p) (q ∷ paths) ≡ true
-    here e = λ i. (path-decides p q).1 e i || list_any (same_path p) paths
-
-    or-true : (b c : Bool) → c ≡ true → (b || c) ≡ true
-    or-true true c h = refl
-    or-true false c h = h
-
-    later : Contains paths p → list_any (same_path p) (q ∷ paths) ≡ true
-    later rest = or-true (same_path p q) (list_any (same_path p) paths) (there-own p paths rest)
+there-own p (q ∷ paths) found =
+    ⊎_elim (here p q paths) (λ rest. or-true (same_path p q) (list_any (same_path p) paths) (there-own p paths rest)) (here-or p q paths found)
 
 -- ---- how many are there?
 
