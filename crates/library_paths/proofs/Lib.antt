@@ -5,3 +5,4 @@ pub mod KeptLemmas
 pub mod NameLemmas
 pub mod BaseLemmas
 pub mod PathsLemmas
+pub mod OverLemmas

@@ -1,5 +1,5 @@
 //! Contracts of functions that do nothing.
-ghost use Rattle.std.specs.Prelude.{◌≡◌, ◌⊎◌, ℕ, ◌+◌, ◌==◌, nat_lt, if◌then◌else◌, Option, Some, None, List, [], ◌∷◌, ◌++◌, length, map, All, Contains};
+ghost use Rattle.std.specs.Prelude.{◌≡◌, ◌⊎◌, ℕ, ◌+◌, ◌==◌, nat_lt, if◌then◌else◌, Option, Some, None, List, [], ◌∷◌, ◌++◌, length, map, filter, All, Contains};
 ghost use Rattle.std.specs.List.{IsDistinct};
 ghost use Rattle.std.specs.Map.{keys_of};
 ghost use Rattle.key_pages.specs.declared.entries.Entry.{Entry};
@@ -8,14 +8,17 @@ ghost use Rattle.dds_physical.specs.declared.physical_files.PhysicalSpec.{Physic
 ghost use Rattle.file_model.specs.declared.paths.PathSpec.{PathSpec};
 ghost use Rattle.file_model.specs.FilePaths.{physical_path};
 ghost use Rattle.logical_model.specs.Bases.{PhysicalFile};
+ghost use Rattle.logical_model.specs.FilePaths.{is_over};
+ghost use Rattle.logical_model.specs.SamePaths.{count_paths};
 ghost use Rattle.path_set.specs.KeptPaths.{KeptPath, NumberedPaths, AreOver, AreShared};
+ghost use Rattle.path_set.specs.MemberSteps.{paths_over as kept_over};
 ghost use Rattle.path_set.specs.Sharing.{IsShared, IsPut, detached};
 ghost use Rattle.library_model.specs.Named.{Named, named, same_name};
 ghost use Rattle.library_steps.specs.CreatePhysicalFile.{new_status};
 ghost use Rattle.library_steps.specs.DeleteFile.{first_dependent, without_file};
-ghost use Rattle.library_steps.specs.LogicalFiles.{physical_paths};
+ghost use Rattle.library_steps.specs.LogicalFiles.{physical_paths, paths_over};
 ghost use Rattle.library_steps.specs.MemberCommands.{file_changed, with_member_name};
-ghost use Rattle.library_steps.specs.State.{FileState, MemberStatus, physical_among, status_changed};
+ghost use Rattle.library_steps.specs.State.{Memory, FileState, MemberStatus, physical_among, status_changed};
 ghost use Rattle.library_paths.specs.AllPaths.{paths_by, all_paths, count_in, AreKeptFor, StandsBy, AllStand};
 ghost use Rattle.library_paths.specs.KeptOnce.{IsKeptOnce, with_entries};
 
@@ -65,4 +68,11 @@ pub fn paths_are_kept_for_files()
     ensures members { (entries : Numbered KeptPath → List Entry) (kept : NumberedPaths) (specs : List PathSpec) (members others : NumberedMembers)
         → AreOver others (map (with_entries entries) kept) → AreKeptFor specs members kept → AreKeptFor specs others (map (with_entries entries) kept) }
     ensures members_shared { (entries : Numbered KeptPath → List Entry) (kept : NumberedPaths) → AreShared kept → AreShared (map (with_entries entries) kept) }
+{}
+
+/// How many different paths over a member there are among those of files: as many as are kept.
+pub fn kept_paths_over_a_member_are_counted()
+    ensures all { (member : ℕ) (m : Memory) → paths_over member m ≡ filter (is_over member) (all_paths m.files) }
+    ensures kept { (member : ℕ) (specs : List PathSpec) (members : NumberedMembers) (kept : NumberedPaths) → AreShared kept → AreKeptFor specs members kept
+        → count_paths (filter (is_over member) specs) ≡ length (kept_over member kept) }
 {}

@@ -8,7 +8,7 @@ use Rattle.path_laws.proofs.PathLemmas.{path-told, path-decides}
 
 -- ---- is a specification there?
 
-there-told : (p : PathSpec) (paths : List PathSpec) → list_any (same_path p) paths ≡ true → Contains paths p
+pub there-told : (p : PathSpec) (paths : List PathSpec) → list_any (same_path p) paths ≡ true → Contains paths p
 there-told p [] there = absurd (false≢true there)
 there-told p (q ∷ paths) there = by (same_path p q) refl there (λ h. there-told p paths h)
   where
@@ -31,7 +31,7 @@ or-true false c there = there
 here : (p q : PathSpec) (paths : List PathSpec) → p ≡ q → list_any (same_path p) (q ∷ paths) ≡ true
 here p q paths same = λ i. (path-decides p q).1 same i || list_any (same_path p) paths
 
-there-own : (p : PathSpec) (paths : List PathSpec) → Contains paths p → list_any (same_path p) paths ≡ true
+pub there-own : (p : PathSpec) (paths : List PathSpec) → Contains paths p → list_any (same_path p) paths ≡ true
 there-own p [] found = let lt = found.1 in absurd (omega arith)
 there-own p (q ∷ paths) found =
     ⊎_elim (here p q paths) (λ rest. or-true (same_path p q) (list_any (same_path p) paths) (there-own p paths rest)) (here-or p q paths found)

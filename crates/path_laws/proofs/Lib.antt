@@ -3,3 +3,4 @@ pub mod FieldLemmas
 pub mod RuleLemmas
 pub mod PathLemmas
 pub mod CountLemmas
+pub mod DifferentLemmas

@@ -1,5 +1,5 @@
 //! Contracts of functions that do nothing.
-ghost use Rattle.std.specs.Prelude.{◌≡◌, ◌≤◌, ◌+◌, IsTrue, List, ◌∷◌, length, Contains};
+ghost use Rattle.std.specs.Prelude.{◌≡◌, ◌≢◌, ◌≤◌, ◌+◌, IsTrue, List, ◌∷◌, length, AllPairs, Contains};
 ghost use Rattle.member_slots.specs.Members.{NumberedMembers};
 ghost use Rattle.file_model.specs.declared.paths.PathSpec.{PathSpec};
 ghost use Rattle.file_model.specs.Paths.{path};
@@ -18,4 +18,6 @@ pub fn paths_are_counted_once()
     ensures at_most { (paths : List PathSpec) → count_paths paths ≤ length paths }
     ensures counted { (spec : PathSpec) (paths : List PathSpec) → Contains paths spec → count_paths (spec ∷ paths) ≡ count_paths paths }
     ensures added { (spec : PathSpec) (paths : List PathSpec) → (Contains paths spec → ⊥) → count_paths (spec ∷ paths) ≡ count_paths paths + 1 }
+    ensures different { (paths others : List PathSpec) → AllPairs (λ p q. p ≢ q) others → ((spec : PathSpec) → Contains paths spec → Contains others spec)
+        → ((spec : PathSpec) → Contains others spec → Contains paths spec) → count_paths paths ≡ length others }
 {}
