@@ -109,6 +109,9 @@ physical-kept change (Some file) described there =
 
 -- ---- a member more
 
+abbrev pub wider_files : (file member : List ℕ) → ℕ → Named FileState → Named FileState
+wider_files file member number files = file_changed file (with_member_name member number) files
+
 pub base-wider : (files : Named FileState) (file member : List ℕ) (number : ℕ) (base : List ℕ) → IsSome (physical_among base files)
     → IsSome (physical_among base (file_changed file (with_member_name member number) files))
 base-wider files file member number base there =
@@ -139,25 +142,25 @@ all-alike-wider files file member number stand some =
 pub stand-wider : (files : Named FileState) (file member : List ℕ) (number : ℕ) → AllStand files → AllStand (file_changed file (with_member_name member number) files)
 stand-wider files file member number stand = each files stand
   where
-    wider : Named FileState
-    wider = file_changed file (with_member_name member number) files
-
-    kind : (name : List ℕ) (members : Named MemberStatus) (spec : FileSpec) → StandsBy files name members spec → StandsBy wider name (members ++ (member, new_status number) ∷ []) spec
+    kind : (name : List ℕ) (members : Named MemberStatus) (spec : FileSpec) → StandsBy files name members spec → StandsBy (wider_files file member number files) name (members ++ (member, new_status number) ∷ []) spec
     kind name members (PhysicalFile spec) stands = named-more name members (member, new_status number) stands
-    kind name members (LogicalFile spec) stands = stands-still files wider name members (LogicalFile spec) (base-wider files file member number) stands
+    kind name members (LogicalFile spec) stands = stands-still files (wider_files file member number files) name members (LogicalFile spec) (base-wider files file member number) stands
 
     one : (b : Bool) (name : List ℕ) (its : FileState) → StandsBy files name its.members its.spec
-        → StandsBy wider name (cond b (with_member_name member number its) its).members (cond b (with_member_name member number its) its).spec
+        → StandsBy (wider_files file member number files) name (cond b (with_member_name member number its) its).members (cond b (with_member_name member number its) its).spec
     one true name its stands = kind name its.members its.spec stands
-    one false name its stands = stands-still files wider name its.members its.spec (base-wider files file member number) stands
+    one false name its stands = stands-still files (wider_files file member number files) name its.members its.spec (base-wider files file member number) stands
 
-    each : (some : Named FileState) → AllByRecursion (Stands files) some → AllByRecursion (Stands wider) (file_changed file (with_member_name member number) some)
+    each : (some : Named FileState) → AllByRecursion (Stands files) some → AllByRecursion (Stands (wider_files file member number files)) (file_changed file (with_member_name member number) some)
     each [] all = tt
     each (entry ∷ some) all = (one (same_name file entry.0) entry.0 entry.1 all.0, each some all.1)
 
 -- ---- the status of a member changed in all files
 
 module _ (number : ℕ) (change : MemberStatus → MemberStatus) where
+  abbrev restated : Named FileState → Named FileState
+  restated files = each_changed (status_changed number change) files
+
   status-number : ((status : MemberStatus) → (change status).number ≡ status.number) → (name : List ℕ) (members : Named MemberStatus)
       → own_number name (map (λ entry. (entry.0, if entry.1.number == number then change entry.1 else entry.1)) members) ≡ own_number name members
   status-number keeps name [] = refl
@@ -205,15 +208,12 @@ module _ (number : ℕ) (change : MemberStatus → MemberStatus) where
   pub stand-status : (files : Named FileState) → AllStand files → AllStand (each_changed (status_changed number change) files)
   stand-status files stand = each files stand
     where
-      after : Named FileState
-      after = each_changed (status_changed number change) files
-
       kind : (name : List ℕ) (members : Named MemberStatus) (spec : FileSpec) → StandsBy files name members spec
-          → StandsBy after name (map (λ entry. (entry.0, if entry.1.number == number then change entry.1 else entry.1)) members) spec
+          → StandsBy (restated files) name (map (λ entry. (entry.0, if entry.1.number == number then change entry.1 else entry.1)) members) spec
       kind name members (PhysicalFile spec) stands = status-there name members stands
-      kind name members (LogicalFile spec) stands = stands-still files after name members (LogicalFile spec) (base-status files) stands
+      kind name members (LogicalFile spec) stands = stands-still files (restated files) name members (LogicalFile spec) (base-status files) stands
 
-      each : (some : Named FileState) → AllByRecursion (Stands files) some → AllByRecursion (Stands after) (each_changed (status_changed number change) some)
+      each : (some : Named FileState) → AllByRecursion (Stands files) some → AllByRecursion (Stands (restated files)) (each_changed (status_changed number change) some)
       each [] all = tt
       each (entry ∷ some) all = (kind entry.0 entry.1.members entry.1.spec all.0, each some all.1)
 

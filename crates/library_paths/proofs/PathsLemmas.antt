@@ -18,10 +18,10 @@ use Rattle.library_steps.specs.LogicalFiles.{bases_in, physical_paths}
 use Rattle.library_steps.specs.MemberCommands.{file_changed, with_member_name}
 use Rattle.library_steps.specs.State.{FileState, MemberStatus, if_physical, physical_among, status_changed}
 use Rattle.library_paths.specs.AllPaths.{AllStand, StandsBy, all_paths, count_in, paths_among, paths_by}
-use Rattle.library_paths.proofs.ListLemmas.{each-filter}
+use Rattle.library_paths.proofs.ListLemmas.{each-filter, each-of}
 use Rattle.library_paths.proofs.CountLemmas.{count-append}
 use Rattle.library_paths.proofs.NameLemmas.{each_changed, file_changed-others, name-equal, name-self, some-same, without-others}
-use Rattle.library_paths.proofs.BaseLemmas.{AllAlike, AreAlike, Stands, all-alike-left, all-alike-more, all-alike-status, all-alike-wider, alike-more, base-more, stands-still}
+use Rattle.library_paths.proofs.BaseLemmas.{AllAlike, AreAlike, Stands, all-alike-left, all-alike-more, all-alike-status, all-alike-wider, alike-more, base-more, stands-still, wider_files}
 
 -- ---- paths over bases that stay
 
@@ -54,10 +54,7 @@ paths-first spec members name status only = ap (physical_paths spec) only
 pub stand-first : (all : Named FileState) (name : List ℕ) (members : Named MemberStatus) (status : MemberStatus) (spec : PhysicalSpec) → members ≡ (name, status) ∷ []
     → StandsBy all name members (PhysicalFile spec)
 stand-first all name members status spec only =
-    subst (λ (m : Named MemberStatus). IsSome (named name m)) (sym only) (ap (λ (b : Bool). is_there b) (name-self name))
-  where
-    is_there : Bool → Bool
-    is_there b = is_some (cond b (Some status) None)
+    subst (λ (m : Named MemberStatus). IsSome (named name m)) (sym only) (ap (λ (b : Bool). is_some (cond b (Some status) None)) (name-self name))
 
 append-all : (all : Named FileState) (some : Named FileState) (last : List ℕ × FileState) → AllByRecursion (Stands all) some → Stands all last → AllByRecursion (Stands all) (some ++ last ∷ [])
 append-all all [] last each own = (own, tt)
@@ -65,14 +62,10 @@ append-all all (entry ∷ some) last each own = (each.0, append-all all some las
 
 pub stand-more : (files : Named FileState) (name : List ℕ) (file : FileState) → AllStand files → StandsBy files name file.members file.spec → AllStand (files ++ (name, file) ∷ [])
 stand-more files name file stand stands =
-    append-all after files (name, file) (each files stand) (stands-still files after name file.members file.spec (base-more files (name, file)) stands)
-  where
-    after : Named FileState
-    after = files ++ (name, file) ∷ []
-
-    each : (some : Named FileState) → AllByRecursion (Stands files) some → AllByRecursion (Stands (files ++ (name, file) ∷ [])) some
-    each [] all = tt
-    each (entry ∷ some) all = (stands-still files (files ++ (name, file) ∷ []) entry.0 entry.1.members entry.1.spec (base-more files (name, file)) all.0, each some all.1)
+    append-all (files ++ (name, file) ∷ []) files (name, file)
+    (each-of (Stands files) (Stands (files ++ (name, file) ∷ []))
+    (λ entry its. stands-still files (files ++ (name, file) ∷ []) entry.0 entry.1.members entry.1.spec (base-more files (name, file)) its) files stand)
+    (stands-still files (files ++ (name, file) ∷ []) name file.members file.spec (base-more files (name, file)) stands)
 
 -- ---- sums
 
@@ -90,17 +83,17 @@ sum-left first left rest gone same = omega (arith, same)
 
 -- ---- a member more
 
+abbrev path_over : PhysicalSpec → List ℕ × MemberStatus → PathSpec
+path_over spec entry = physical_path entry.1.number spec.format.fields spec.keys
+
 grown : (path : PathSpec) (spec : PhysicalSpec) (members : Named MemberStatus) (new : List ℕ × MemberStatus)
     → count_in path (physical_paths spec (members ++ new ∷ [])) ≡ count_in path (physical_paths spec members) + count_in path (physical_paths spec (new ∷ []))
 grown path spec members new =
-    elim (nat_lt 0 (length spec.keys.parts)) as (λ b. count_in path (if b then map over (members ++ new ∷ []) else [])
-    ≡ count_in path (if b then map over members else []) + count_in path (if b then map over (new ∷ []) else [])) [
-      | true ↦ ap (count_in path) (map-append over members (new ∷ [])) ∙ count-append path (map over members) (map over (new ∷ []))
+    elim (nat_lt 0 (length spec.keys.parts)) as (λ b. count_in path (if b then map (path_over spec) (members ++ new ∷ []) else [])
+    ≡ count_in path (if b then map (path_over spec) members else []) + count_in path (if b then map (path_over spec) (new ∷ []) else [])) [
+      | true ↦ ap (count_in path) (map-append (path_over spec) members (new ∷ [])) ∙ count-append path (map (path_over spec) members) (map (path_over spec) (new ∷ []))
       | false ↦ refl
     ]
-  where
-    over : List ℕ × MemberStatus → PathSpec
-    over entry = physical_path entry.1.number spec.format.fields spec.keys
 
 module _ (all : Named FileState) (path : PathSpec) (name member : List ℕ) (number : ℕ) (file : FileState) (spec : PhysicalSpec) (physical : file.spec ≡ PhysicalFile spec) where
   abbrev news : ℕ
@@ -151,11 +144,9 @@ pub paths-wider : (files : Named FileState) (path : PathSpec) (name member : Lis
     → count_in path (all_paths (file_changed name (with_member_name member number) files))
     ≡ count_in path (all_paths files) + count_in path (physical_paths spec ((member, new_status number) ∷ []))
 paths-wider files path name member number file spec found physical distinct stand =
-    ap (count_in path) (among-alike files wider wider (all-alike-wider files name member number stand wider))
+    ap (count_in path) (among-alike files (wider_files name member number files) (wider_files name member number files)
+    (all-alike-wider files name member number stand (wider_files name member number files)))
     ∙ among-wider files path name member number file spec physical files distinct (physical-named name files file found)
-  where
-    wider : Named FileState
-    wider = file_changed name (with_member_name member number) files
 
 -- ---- a status
 
