@@ -39,7 +39,7 @@ at-place P [] k x low is holds = absurd (omega arith)
 at-place P (y ∷ xs) zero x low is holds = inl (subst P (sym is) holds)
 at-place P (y ∷ xs) (suc k) x low is holds = inr (at-place P xs k x (omega arith) is holds)
 
-among-lies : (base : List Field) (f : Field) → lies_from 0 base ≡ true → Contains base f → LiesIn 0 base f.ty f.offset
+pub among-lies : (base : List Field) (f : Field) → lies_from 0 base ≡ true → Contains base f → LiesIn 0 base f.ty f.offset
 among-lies base f lies among = lies-in 0 base f.ty f.offset lies (at-place (IsThere f.ty f.offset) base among.0 f among.1 among.2 (refl, refl))
 
 pub at-lies : (base : List Field) (t : FieldType) (offset : ℕ) → lies_from 0 base ≡ true → IsFieldAt base t offset → LiesIn 0 base t offset
