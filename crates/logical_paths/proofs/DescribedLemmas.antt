@@ -1,5 +1,5 @@
 -- A logical file that a data description describes can have its paths.
-use Rattle.std.proofs.Common.{◌≡◌, ℕ, suc, ◌+◌, ◌≤◌, ◌<◌, nat_lt, Bool, true, false, cond, Option, Some, None, is_some, IsSome, Result, Ok, Err, List, [], ◌∷◌, ◌++◌, length, map, drop, refl, sym, ◌∙◌, ap, subst, arith}
+use Rattle.std.proofs.Common.{◌≡◌, ℕ, ◌+◌, ◌≤◌, ◌<◌, Bool, true, false, Option, Some, None, is_some, IsSome, Ok, List, [], ◌∷◌, ◌++◌, length, map, refl, sym, ◌∙◌, ap, subst, arith}
 use Rattle.std.specs.Prelude.{AllPairs}
 use Rattle.std.specs.List.{AllByRecursion, flat_map}
 use Rattle.std.proofs.lemmas.Bool.{cond_both}
@@ -7,7 +7,6 @@ use Rattle.std.proofs.lemmas.List.{length-map}
 use Rattle.record_fmt.specs.declared.formats.Field.{Field}
 use Rattle.record_fmt.specs.Layout.{IsLaidOut}
 use Rattle.key_spec.specs.declared.KeyPart.{KeyPart}
-use Rattle.key_order.specs.declared.widths.TheConstants.{MOST_POSITIONS}
 use Rattle.key_order.specs.KeyFields.{Matches}
 use Rattle.dds_source.specs.declared.faults.DdsFault.{DdsFault}
 use Rattle.dds_source.specs.declared.keywords.Keyword.{Keyword}
@@ -26,11 +25,12 @@ use Rattle.dds_logical.specs.Bases.{fields_of_base, fields_of_name}
 use Rattle.dds_logical.specs.Complete.{IsComplete, AreComplete, IsFileComplete}
 use Rattle.dds_logical.specs.JoinViews.{join_faults}
 use Rattle.dds_logical.specs.JoinWhole.{IsFirstComplete}
-use Rattle.dds_logical.specs.Fields.{mapping_of, named_fields, field_entry_faults, made_faults, file_number_faults, field_lines_faults, too_many_faults}
+use Rattle.dds_logical.specs.Fields.{mapping_of, field_entry_faults, made_faults, file_number_faults, field_lines_faults, too_many_faults}
 use Rattle.dds_logical.specs.FormatLines.{FormatLines, formats_in, field_lines, key_lines, selection_lines, is_join_file, is_multi_format}
 use Rattle.dds_logical.specs.Keys.{key_lines_faults, mismatch_faults, padded}
 use Rattle.dds_logical.specs.LineOrder.{later_of}
-use Rattle.dds_logical.specs.Logical.{base_name, base_of, fields_named, format_fields, format_parts, most_parts, find_field, view_described, one_or_several, view_faults, join_described_by, described_by}
+use Rattle.dds_logical.specs.Logical.{base_name, base_of, fields_named, format_fields, format_parts, most_parts, find_field, view_described}
+use Rattle.dds_logical.specs.Logical.{one_or_several, view_faults, join_described_by, described_by}
 use Rattle.dds_logical.specs.Logical.{formats_at_fault, faults_over, unless_fault, logical_specification, logical_faults, logical_of}
 use Rattle.dds_logical.specs.WholeFile.{formats_faults}
 use Rattle.dds_logical.proofs.CompleteLemmas.{complete_file, few_left, nothing_in}
@@ -203,7 +203,8 @@ IsFileKeyed described bases spec = AllByRecursion (λ name. IsSome (described na
 join-complete : (described : List ℕ → Option PhysicalSpec) (source : Source) (fs : List FormatLines) → faults_over described source (is_join_file fs) fs ≡ [] → is_join_file fs ≡ true
     → IsFirstComplete described fs
 join-complete described source fs none join =
-    let whole : IsFileComplete described (is_join_file fs) fs = complete_unless described source fs None (ap (first_after None) none) in
+    let found : None ≡ first_after None (faults_over described source (is_join_file fs) fs) = sym (ap (first_after None) none) in
+    let whole : IsFileComplete described (is_join_file fs) fs = complete_unless described source fs None found in
     subst (λ (b : Bool). IsFileComplete described b fs) join whole
 
 file-keyed : (described : List ℕ → Option PhysicalSpec) (bases : Bases) (source : Source) (fs : List FormatLines) → AreBasesOf described bases → faults_over described source (is_join_file fs) fs ≡ []
@@ -212,7 +213,8 @@ unfolding IsFileKeyed
 file-keyed described bases source fs are none =
     let P : LogicalSpec → Type 0 = λ spec. AllByRecursion (λ name. IsSome (described name)) (base_names spec) → AreLaidOut bases spec → HaveFewPairs spec → IsKeyedLogical bases spec in
     cond_both (is_join_file fs) (join_described_by described source.file fs) (one_or_several (map (view_described described source.file (is_multi_format fs) (most_parts fs)) fs)) P
-    (λ join there laid few. join-file described bases source fs are (subst (λ (b : Bool). faults_over described source b fs ≡ []) join none) (join-complete described source fs none join) there laid few)
+    (λ join there laid few. join-file described bases source fs are (subst (λ (b : Bool). faults_over described source b fs ≡ []) join none)
+    (join-complete described source fs none join) there laid few)
     (λ other there laid few. views-keyed described bases source fs are (subst (λ (b : Bool). faults_over described source b fs ≡ []) other none) there laid)
 
 found-right : (spec made : LogicalSpec) (o : Option DdsFault) → unless_fault made o ≡ Ok spec → (o ≡ None) × (made ≡ spec)

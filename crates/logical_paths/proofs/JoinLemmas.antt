@@ -1,5 +1,6 @@
 -- A join that a data description describes has a key of its primary file, and reaches its secondary files by fields of theirs.
-use Rattle.std.proofs.Common.{◌≡◌, ℕ, zero, suc, ◌+◌, ◌≤◌, ◌<◌, ◌==◌, nat_eq, Bool, true, false, not, cond, codes, Option, Some, None, is_some, IfSome, IsSome, List, [], ◌∷◌, ◌++◌, length, map, drop, slice_get, Contains, refl, sym, ◌∙◌, ap, subst, arith}
+use Rattle.std.proofs.Common.{◌≡◌, ℕ, suc, ◌+◌, ◌≤◌, ◌<◌, ◌==◌, nat_eq, Bool, true, false, not, cond, codes, Option, Some, None, IfSome, IsSome, List, [], ◌∷◌}
+use Rattle.std.proofs.Common.{length, map, drop, slice_get, Contains, refl, sym, ◌∙◌, ap, subst, arith}
 use Rattle.std.specs.Prelude.{unwrap_or}
 use Rattle.std.specs.Option.{option_map}
 use Rattle.std.specs.List.{AllByRecursion, filter_map, flat_map}
@@ -9,30 +10,26 @@ use lib.Pointwise.{pointwise}
 use Rattle.field_values.specs.FieldTypes.{IsFieldType, width}
 use Rattle.record_fmt.specs.declared.formats.Field.{Field}
 use Rattle.record_fmt.specs.Layout.{IsLaidOut, lies_from}
-use Rattle.key_spec.specs.declared.KeyPart.{KeyPart}
 use Rattle.key_order.specs.declared.widths.TheConstants.{MOST_POSITIONS}
 use Rattle.file_model.specs.declared.joins.JoinPair.{JoinPair}
 use Rattle.file_model.specs.declared.views.ViewField.{ViewField}
 use Rattle.file_model.proofs.PathLemmas.{all-append}
-use Rattle.dds_source.specs.declared.arguments.Argument.{Argument}
-use Rattle.dds_source.specs.declared.faults.DdsFault.{DdsFault}
 use Rattle.dds_source.specs.declared.keywords.Keyword.{Keyword}
 use Rattle.dds_source.specs.declared.specifications.Specification.{Specification}
-use Rattle.dds_source.specs.Entries.{when}
 use Rattle.dds_physical.specs.declared.physical_files.PhysicalSpec.{PhysicalSpec}
 use Rattle.dds_physical.specs.Keywords.{has_name, first_named, arguments_of}
 use Rattle.dds_physical.specs.Names.{name_of, field_named}
 use Rattle.dds_physical.specs.References.{file_of_keyword}
 use Rattle.dds_logical.specs.declared.join_links.Link.{Link}
 use Rattle.dds_logical.specs.declared.join_views.JoinedFile.{JoinedFile}
-use Rattle.dds_logical.specs.declared.limits.TheConstants.{MOST_KEY_FIELDS}
 use Rattle.dds_logical.specs.declared.named_fields.NamedField.{NamedField}
 use Rattle.dds_logical.specs.Bases.{fields_of_file}
 use Rattle.dds_logical.specs.Fields.{field_entry_faults, field_of_line, laid_out, made_faults}
 use Rattle.dds_logical.specs.FormatLines.{FormatLines, field_lines, join_lines, key_lines}
 use Rattle.dds_logical.specs.JoinFields.{PlacedField, place_of_line, placed, placed_at, placed_fields, placed_faults, several_faults, join_field_faults, join_fields_faults}
-use Rattle.dds_logical.specs.JoinFields.{place_of_field, is_secondary, is_of_secondary, primary_key_faults, is_visible}
-use Rattle.dds_logical.specs.JoinLines.{pair_of_fields, pair_of_names, pair_said, is_descending, sequence_by, sequence_of_name, sequence_said, fields_at, place_or_first, joined_by, joined_by_first, joined_from, lines_to, link_of}
+use Rattle.dds_logical.specs.JoinFields.{place_of_field, is_secondary, is_of_secondary, primary_key_faults}
+use Rattle.dds_logical.specs.JoinLines.{pair_of_fields, pair_of_names, pair_said, is_descending, sequence_by, sequence_of_name, sequence_said, fields_at, place_or_first}
+use Rattle.dds_logical.specs.JoinLines.{joined_by, joined_by_first, joined_from, lines_to, link_of}
 use Rattle.dds_logical.specs.JoinViews.{fields_joined, fields_placed, files_joined, first_file, join_described, join_faults, join_format_fields, join_parts, joined_field}
 use Rattle.dds_logical.specs.JoinWhole.{IsJoinComplete}
 use Rattle.dds_logical.specs.KeywordArguments.{names_among}
@@ -40,9 +37,8 @@ use Rattle.dds_logical.specs.Keys.{field_of_name, parts_of_lines, key_lines_faul
 use Rattle.dds_logical.specs.WholeFile.{size_faults}
 use Rattle.dds_logical.proofs.CompleteLemmas.{nothing_in, not_wrong}
 use Rattle.logical_model.specs.Bases.{Bases}
-use Rattle.logical_laws.specs.Mapped.{IsFieldAt, AreBasesOf}
 use Rattle.logical_paths.specs.Steps.{shown_in_join}
-use Rattle.logical_paths.specs.KeyedViews.{IsShownOf, IsPartOver, IsSequenceOf, IsKeyedFile, IsFileOver, IsKeyedJoin}
+use Rattle.logical_paths.specs.KeyedViews.{IsShownOf, IsPartOver, IsSequenceOf, IsFileOver, IsKeyedJoin}
 use Rattle.logical_paths.proofs.OriginLemmas.{each-filter_map, field-there, flat-nothing, if-some, line-allowed, line-shown, own-shown}
 use Rattle.logical_paths.proofs.PartLemmas.{IsPartFrom, first-part, later-part, line-part, lines-long, keys-few, few-positions}
 

@@ -1,5 +1,5 @@
 -- What lines of fields describe shows a value of each record of the base file.
-use Rattle.std.proofs.Common.{◌≡◌, ℕ, suc, ◌+◌, ◌-◌, ◌<◌, ◌≤◌, ◌==◌, nat_eq, nat_lt, nat_le, Bool, true, false, not, cond, ◌&&◌, ◌||◌, codes, Option, Some, None, is_some, IfSome, Result, Ok, Err}
+use Rattle.std.proofs.Common.{◌≡◌, ℕ, suc, ◌+◌, ◌-◌, ◌≤◌, ◌==◌, nat_eq, nat_lt, nat_le, Bool, true, false, not, cond, ◌&&◌, ◌||◌, codes, Option, Some, None, is_some, IfSome, Result, Ok, Err}
 use Rattle.std.proofs.Common.{List, [], ◌∷◌, ◌++◌, length, map, Contains, refl, sym, ◌∙◌, ap, subst, arith}
 use Rattle.std.specs.List.{AllByRecursion, filter_map, flat_map, cons_option}
 use Rattle.std.proofs.lemmas.Bool.{and_parts, cond_both, eqb-true, not-false, or_parts}
@@ -9,7 +9,7 @@ use lib.Pointwise.{pointwise}
 use Rattle.field_types.specs.declared.kinds.Kind.{Kind}
 use Rattle.field_types.specs.declared.kinds.Kind.TheVariants.{Char, Zoned, Packed, Binary, Date, Time, Stamp}
 use Rattle.field_types.specs.declared.kinds.FieldType.{FieldType}
-use Rattle.field_values.specs.FieldTypes.{IsFieldType, is_allowed, is_numeric, width}
+use Rattle.field_values.specs.FieldTypes.{IsFieldType, is_allowed, is_numeric}
 use Rattle.record_fmt.specs.declared.formats.Field.{Field}
 use Rattle.record_fmt.specs.Layout.{lies_from}
 use Rattle.dds_source.specs.declared.arguments.Argument.{Argument}
@@ -32,7 +32,7 @@ use Rattle.dds_logical.specs.Origins.{part_origin, substring_of, arguments_said,
 use Rattle.dds_logical.proofs.CompleteLemmas.{nothing_in, not_wrong}
 use Rattle.logical_laws.specs.Mapped.{IsFieldAt, IsTextAt}
 use Rattle.logical_laws.proofs.ListLemmas.{each-map, each-weaker}
-use Rattle.logical_paths.specs.KeyedViews.{IsWidened, AreTexts, IsTextPart, ShowsSource, IsShownOf}
+use Rattle.logical_paths.specs.KeyedViews.{ShowsSource, IsShownOf}
 use Rattle.logical_paths.proofs.ShownLemmas.{among-lies, at-lies}
 use Rattle.logical_paths.proofs.WideningLemmas.{same-kind, alike-text, widened}
 

@@ -1,10 +1,10 @@
 -- The positions that key lines describe are fields of their format, as many as the file has, and match those of its other formats.
-use Rattle.std.proofs.Common.{◌≡◌, ℕ, zero, suc, ◌+◌, ◌-◌, ◌<◌, ◌≤◌, ◌==◌, nat_eq, nat_lt, Bool, true, false, not, cond, ◌&&◌, ◌||◌, Option, Some, None, IfSome, List, [], ◌∷◌, ◌++◌, length, map, drop, replicate, refl, sym, ◌∙◌, ap, subst}
+use Rattle.std.proofs.Common.{◌≡◌, ℕ, zero, suc, ◌+◌, ◌-◌, ◌<◌, ◌≤◌, ◌==◌, nat_eq, Bool, true, false, not, ◌&&◌, ◌||◌, Option, Some, None, IfSome}
+use Rattle.std.proofs.Common.{List, [], ◌∷◌, ◌++◌, length, map, drop, replicate, refl, ◌∙◌, ap}
 use Rattle.std.proofs.Common.{arith, length-append}
-use Rattle.std.specs.Prelude.{All, AllPairs}
+use Rattle.std.specs.Prelude.{AllPairs}
 use Rattle.std.specs.List.{AllByRecursion, list_any}
-use Rattle.std.proofs.lemmas.Bool.{cond_both, cond-true, cond-false, eq-eqb, ne_eqb, and_parts}
-use Rattle.std.proofs.lemmas.Bool.Decides.{nat_tests}
+use Rattle.std.proofs.lemmas.Bool.{cond_both, cond-true, cond-false, eq-eqb, ne_eqb}
 use Rattle.std.proofs.lemmas.List.{length-replicate}
 use Rattle.std.proofs.lemmas.List.Elements.{All-from_recursion}
 use Rattle.std.proofs.lemmas.List.Kept.{AllPairs-cons}
@@ -19,7 +19,6 @@ use Rattle.key_order.specs.KeyFields.{MatchesAt, Matches}
 use Rattle.file_model.specs.declared.views.ViewField.{ViewField}
 use Rattle.file_model.specs.FilePaths.{field_from}
 use Rattle.file_model.proofs.PathLemmas.{all-append}
-use Rattle.dds_source.specs.declared.faults.DdsFault.{DdsFault}
 use Rattle.dds_source.specs.declared.keywords.Keyword.{Keyword}
 use Rattle.dds_source.specs.declared.specifications.Specification.{Specification}
 use Rattle.dds_source.specs.Entries.{when}
@@ -33,7 +32,7 @@ use Rattle.dds_logical.specs.Keys.{field_of_name, parts_of_lines, padded, is_sam
 use Rattle.dds_logical.proofs.CompleteLemmas.{few_left, nothing_in, not_wrong}
 use Rattle.physical_paths.proofs.FieldLemmas.{width-some}
 use Rattle.logical_paths.specs.Steps.{shown_of}
-use Rattle.logical_paths.specs.KeyedViews.{IsShownOf, IsPartAt, IsPartOver}
+use Rattle.logical_paths.specs.KeyedViews.{IsShownOf, IsPartOver}
 use Rattle.logical_paths.proofs.OriginLemmas.{if-some, same-type}
 
 -- ---- a field of a name, where the fields lie one behind another

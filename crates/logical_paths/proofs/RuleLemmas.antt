@@ -1,6 +1,6 @@
 -- What select and omit lines compare are fields of the format or of its base file.
-use Rattle.std.proofs.Common.{◌≡◌, ℕ, Bool, true, Contains, cond, nat_eq, ◌&&◌, ◌||◌, not, codes, Option, Some, None, IfSome, List, [], ◌∷◌, ◌++◌}
-use Rattle.std.specs.List.{AllByRecursion, filter_map, flat_map}
+use Rattle.std.proofs.Common.{◌≡◌, ℕ, true, Contains, cond, nat_eq, codes, Option, Some, None, IfSome, List, [], ◌∷◌}
+use Rattle.std.specs.List.{AllByRecursion, filter_map}
 use Rattle.std.proofs.lemmas.Bool.{cond_both}
 use lib.Pointwise.{pointwise}
 use Rattle.field_types.specs.declared.values.Value.{Value}
@@ -8,9 +8,7 @@ use Rattle.record_fmt.specs.declared.formats.Field.{Field}
 use Rattle.record_fmt.specs.Layout.{lies_from}
 use Rattle.file_model.specs.declared.rules.Choice.{Choice}
 use Rattle.file_model.specs.declared.rules.Choice.TheVariants.{Select, Omit}
-use Rattle.file_model.specs.declared.rules.Condition.{Condition}
 use Rattle.file_model.specs.declared.rules.Relation.{Relation}
-use Rattle.file_model.specs.declared.rules.Statement.{Statement}
 use Rattle.file_model.specs.declared.rules.Test.{Test}
 use Rattle.file_model.specs.declared.rules.Test.TheVariants as tests
 use Rattle.file_model.specs.declared.views.ViewField.{ViewField}

@@ -1,12 +1,10 @@
 -- The records of base files can stand in the paths of a logical file over them.
-use Rattle.std.proofs.Common.{◌≡◌, ℕ, zero, suc, ◌+◌, ◌<◌, ◌≤◌, Option, Some, None, List, [], ◌∷◌, ◌++◌, length, map, get_or, refl, sym, ◌∙◌, ap, subst, arith}
+use Rattle.std.proofs.Common.{◌≡◌, ℕ, zero, suc, ◌+◌, ◌<◌, ◌≤◌, Some, None, List, [], ◌∷◌, length, map, get_or, refl, sym, ◌∙◌, ap, subst, arith}
 use Rattle.std.specs.Prelude.{All, AllPairs}
 use Rattle.std.specs.List.{AllByRecursion}
-use Rattle.std.proofs.lemmas.List.{length-map}
-use Rattle.std.proofs.lemmas.List.Elements.{All-from_recursion, recursion_from_All}
-use Rattle.field_types.specs.declared.kinds.FieldType.{FieldType}
+use Rattle.std.proofs.lemmas.List.Elements.{All-from_recursion}
 use Rattle.record_fmt.specs.declared.formats.Field.{Field}
-use Rattle.record_fmt.specs.Layout.{IsLaidOut, lies_from}
+use Rattle.record_fmt.specs.Layout.{IsLaidOut}
 use Rattle.key_spec.specs.declared.KeyPart.{KeyPart}
 use Rattle.key_spec.specs.declared.KeyPart.TheVariants.{Field as KeyField, Absent}
 use Rattle.key_order.specs.declared.widths.TheConstants.{MOST_POSITIONS}
@@ -16,10 +14,9 @@ use Rattle.file_model.specs.declared.joins.JoinPair.{JoinPair}
 use Rattle.file_model.specs.declared.paths.PathFormat.{PathFormat}
 use Rattle.file_model.specs.declared.paths.PathSpec.{PathSpec}
 use Rattle.file_model.specs.declared.rules.Rules.{Rules}
-use Rattle.file_model.specs.declared.views.FieldSource.TheVariants.{Copied}
 use Rattle.file_model.specs.declared.views.ViewField.{ViewField}
 use Rattle.file_model.specs.FilePaths.{key_parts, path_format}
-use Rattle.file_model.specs.Joins.{joined_fields, secondary_path, sequence_field, total_width}
+use Rattle.file_model.specs.Joins.{secondary_path, sequence_field, total_width}
 use Rattle.file_model.proofs.PathLemmas.{all-append, all-map, weaker}
 use Rattle.access_path.specs.PathBytes.{IsInBytes, ShowsBytes}
 use Rattle.path_entrants.specs.declared.entrant.TheConstants.{MOST_FORMATS}
@@ -28,17 +25,14 @@ use Rattle.path_set.specs.Sharing.{CanBeKept}
 use Rattle.path_set.specs.RecordChanges.{TakesImage}
 use Rattle.file_cursor.specs.PositionBytes.{HasKeysWithin}
 use Rattle.dds_logical.specs.declared.join_views.JoinedFile.{JoinedFile}
-use Rattle.dds_logical.specs.declared.join_views.JoinView.{JoinView}
 use Rattle.dds_logical.specs.declared.views.LogicalSpec.{LogicalSpec}
 use Rattle.dds_logical.specs.declared.views.LogicalSpec.TheVariants.{Simple, Multi, Join}
 use Rattle.dds_logical.specs.declared.views.View.{View}
 use Rattle.logical_model.specs.Bases.{Bases, base_names}
 use Rattle.logical_model.specs.FilePaths.{logical_paths, secondary_of, view_format}
-use Rattle.logical_laws.specs.Mapped.{IsFieldAt}
 use Rattle.physical_paths.specs.KeyedFiles.{IsRecord, HasRecordsOf}
-use Rattle.physical_paths.proofs.FieldLemmas.{LiesIn}
 use Rattle.logical_paths.specs.Steps.{shown_in_join, shown_of}
-use Rattle.logical_paths.specs.KeyedViews.{IsShownOf, IsPartOver, AreRulesOver, IsKeyedView, IsViewOver, IsSequenceOf, IsKeyedFile, IsFileOver, IsKeyedLogical, IsRecordOfBases, HaveRecords}
+use Rattle.logical_paths.specs.KeyedViews.{IsShownOf, IsPartOver, AreRulesOver, IsKeyedView, IsViewOver, IsSequenceOf, IsFileOver, IsKeyedLogical, IsRecordOfBases, HaveRecords}
 use Rattle.logical_paths.proofs.ShownLemmas.{at-lies}
 use Rattle.logical_paths.proofs.KeyLemmas.{parts-allowed, parts-behind, parts-length, parts-match, parts-shown, secondary-behind, secondary-length}
 use Rattle.logical_paths.proofs.FormatLemmas.{IsFormatOver, IsFilled, askable, keys-within, path-kept, shows-bytes}

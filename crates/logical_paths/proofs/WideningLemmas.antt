@@ -1,5 +1,6 @@
 -- Each value of a field fits one of another type that doesn't narrow it.
-use Rattle.std.proofs.Common.{◌≡◌, ℕ, suc, ◌+◌, ◌-◌, ◌*◌, ◌^◌, ◌<◌, ◌≤◌, Bool, true, false, not, cond, ◌&&◌, ◌==◌, nat_lt, nat_le, ℤ, unsigned_abs, Option, Some, None, List, length, refl, sym, ◌∙◌, ap, subst, arith, lit<}
+use Rattle.std.proofs.Common.{◌≡◌, ℕ, ◌+◌, ◌-◌, ◌*◌, ◌^◌, ◌<◌, ◌≤◌, Bool, true, false, not, cond, ◌&&◌, ◌==◌, nat_lt, nat_le, ℤ, unsigned_abs, Option}
+use Rattle.std.proofs.Common.{Some, None, List, length, refl, sym, ◌∙◌, ap, subst, arith, lit<}
 use Rattle.std.proofs.lemmas.Bool.{and_parts, eqb-true, le-ltb, lt-leb, ltb-false}
 use Rattle.std.proofs.lemmas.Bool.Decides.{nat_tests}
 use Rattle.std.proofs.lemmas.Nat.{pow-add}
@@ -11,9 +12,9 @@ use Rattle.field_types.specs.declared.values.Dec.{Dec}
 use Rattle.field_types.specs.declared.values.Value.{Value}
 use Rattle.field_types.specs.declared.values.Value.TheVariants.{Chars, Number}
 use Rattle.field_types.specs.declared.faults.ValueFault.{ValueFault}
-use Rattle.field_types.specs.declared.faults.ValueFault.TheVariants.{WrongKind, TooManyDecimals, TooWide, BadDate}
+use Rattle.field_types.specs.declared.faults.ValueFault.TheVariants.{WrongKind, TooWide, BadDate}
 use Rattle.field_values.specs.FieldTypes.{IsFieldType, is_allowed, is_between, is_numeric, is_moment_kind, width, width_of}
-use Rattle.field_values.specs.FieldBytes.{held, as_held, decimal, fault_of, text_fault, number_fault, units_at}
+use Rattle.field_values.specs.FieldBytes.{held, as_held, fault_of, number_fault, units_at}
 use Rattle.field_values.specs.Moments.{is_moment}
 use Rattle.field_values.proofs.ScaleLemmas.{some-power, number_fault-Ok}
 use Rattle.field_laws.proofs.AcceptedLemmas.{held-kept}

@@ -1,6 +1,6 @@
 -- Which logical files can have their access paths, and whose records can stand in them? (DDS for Physical and Logical Files, "RENAME", "CONCAT",
 -- "SST", "Data type" of a logical field, key field level; that a value which is shown at another type fits there is our own.)
-use Rattle.std.specs.Prelude.{◌≡◌, ℕ, ◌+◌, ◌<◌, ◌≤◌, true, List, [], ◌∷◌, length, map, Some, None, AllPairs, Contains}
+use Rattle.std.specs.Prelude.{◌≡◌, ℕ, ◌+◌, ◌<◌, ◌≤◌, List, length, map, Some, None, AllPairs, Contains}
 use Rattle.std.specs.List.{AllByRecursion}
 use Rattle.field_types.specs.declared.kinds.Kind.TheVariants.{Char}
 use Rattle.field_types.specs.declared.kinds.FieldType.{FieldType}
