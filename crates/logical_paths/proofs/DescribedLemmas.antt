@@ -124,9 +124,6 @@ positions-low described [] sound = (let none : 0 ≤ 32 = omega arith in none)
 positions-low described (f ∷ fs) sound = later-low (length (key_lines f)) (most_parts fs) MOST_KEY_FIELDS sound.0.few (positions-low described fs sound.1)
 
 module _ (described : List ℕ → Option PhysicalSpec) (bases : Bases) (are : AreBasesOf described bases) (ks : List Keyword) (is_multi : Bool) (positions : ℕ) (low : positions ≤ MOST_KEY_FIELDS) where
-  view-of : FormatLines → View
-  view-of f = view_described described ks is_multi positions f
-
   each-over : (fs : List FormatLines) → AllByRecursion (λ (view : View). IsSome (described view.base)) (map (view_described described ks is_multi positions) fs)
       → AllByRecursion (λ (view : View). IsLaidOut (bases view.base).fields) (map (view_described described ks is_multi positions) fs)
       → AreComplete described fs → AllByRecursion (IsSound described) fs → AllByRecursion (IsViewOver bases) (map (view_described described ks is_multi positions) fs)

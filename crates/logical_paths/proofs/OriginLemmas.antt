@@ -2,8 +2,7 @@
 use Rattle.std.proofs.Common.{◌≡◌, ℕ, suc, ◌+◌, ◌-◌, ◌≤◌, ◌==◌, nat_eq, nat_lt, nat_le, Bool, true, false, not, cond, ◌&&◌, ◌||◌, codes, Option, Some, None, is_some, IfSome, Result, Ok, Err}
 use Rattle.std.proofs.Common.{List, [], ◌∷◌, ◌++◌, length, map, Contains, refl, sym, ◌∙◌, ap, subst, arith}
 use Rattle.std.specs.List.{AllByRecursion, filter_map, flat_map, cons_option}
-use Rattle.std.proofs.lemmas.Bool.{and_parts, cond_both, eqb-true, not-false, or_parts}
-use Rattle.std.proofs.lemmas.Bool.Decides.{nat_tests}
+use Rattle.std.proofs.lemmas.Bool.{and_parts, cond_both, eqb-true, leb-true, ltb-false, not-false, or_parts}
 use Rattle.std.proofs.lemmas.List.Elements.{recursion_from_All, All-contains_itself}
 use lib.Pointwise.{pointwise}
 use Rattle.field_types.specs.declared.kinds.Kind.{Kind}
@@ -117,7 +116,7 @@ record IsWide (t own : FieldType) : Type 0 where
   room : own.length - own.decimals ≤ t.length - t.decimals
 
 less-not : (alike : Bool) (a b : ℕ) → alike ≡ true → (alike && nat_lt a b) ≡ false → b ≤ a
-less-not true a b is h = grind (arith, nat_tests, h)
+less-not true a b is h = (let low : nat_lt a b ≡ false = h in ltb-false a b low)
 less-not false a b is h = absurd cc
 
 not-narrowed : (s : Specification) (t own : FieldType) → narrowing_faults s t own ≡ [] → IsWide t own
@@ -193,9 +192,7 @@ within-said n (Some p) =
     cond_both (lies_within n p) (Some p) None (λ (o : Option Part). IfSome o (λ q. (1 ≤ q.start) × (q.start + q.size ≤ n + 1)))
     (λ lies. (
       let parts = all-three (nat_le 1 p.start) (nat_le 1 p.size) (nat_le (p.start + p.size) (n + 1)) lies in
-      let first : nat_le 1 p.start ≡ true = parts.0 in
-      let last : nat_le (p.start + p.size) (n + 1) ≡ true = parts.2 in
-      (grind (arith, nat_tests, first), grind (arith, nat_tests, last))
+      (leb-true 1 p.start parts.0, leb-true (p.start + p.size) (n + 1) parts.2)
     )) (λ _. tt)
 
 part-made : (base : List Field) (f : Field) (o : Option Part) → Contains base f → f.ty.kind ≡ Char → IfSome o (λ p. (1 ≤ p.start) × (p.start + p.size ≤ f.ty.length + 1))

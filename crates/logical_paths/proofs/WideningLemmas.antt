@@ -1,8 +1,7 @@
 -- Each value of a field fits one of another type that doesn't narrow it.
 use Rattle.std.proofs.Common.{◌≡◌, ℕ, ◌+◌, ◌-◌, ◌*◌, ◌^◌, ◌<◌, ◌≤◌, Bool, true, false, not, cond, ◌&&◌, ◌==◌, nat_lt, nat_le, ℤ, unsigned_abs, Option}
 use Rattle.std.proofs.Common.{Some, None, List, length, refl, sym, ◌∙◌, ap, subst, arith, lit<}
-use Rattle.std.proofs.lemmas.Bool.{and_parts, eqb-true, le-ltb, lt-leb, ltb-false}
-use Rattle.std.proofs.lemmas.Bool.Decides.{nat_tests}
+use Rattle.std.proofs.lemmas.Bool.{and_parts, eqb-true, le-ltb, leb-true, lt-leb, ltb-false}
 use Rattle.std.proofs.lemmas.Nat.{pow-add}
 use Rattle.std.proofs.Math.Nat.{pow-le-pow_right, mul_assoc, mul-lt-mul_of_pos_right}
 use Rattle.field_types.specs.declared.kinds.Kind.{Kind}
@@ -58,9 +57,9 @@ alike-text t from alike text = by t.kind alike
   where
     by : (k : Kind) → cond (is_numeric k) (is_numeric from.kind) (kind_letter k == kind_letter from.kind) ≡ true → k ≡ from.kind
     by Char h = same-kind Char from.kind h
-    by Zoned h = absurd cc
-    by Packed h = absurd cc
-    by Binary h = absurd cc
+    by Zoned h = absurd (let both : false ≡ true = sym text ∙ h in cc)
+    by Packed h = absurd (let both : false ≡ true = sym text ∙ h in cc)
+    by Binary h = absurd (let both : false ≡ true = sym text ∙ h in cc)
     by Date h = same-kind Date from.kind h
     by Time h = same-kind Time from.kind h
     by Stamp h = same-kind Stamp from.kind h
@@ -84,7 +83,7 @@ text-width Time n text = refl
 text-width Stamp n text = refl
 
 low-decimals : (a : Bool) (d n : ℕ) → (a && nat_le d n) ≡ true → d ≤ n
-low-decimals a d n h = (let low : nat_le d n ≡ true = (and_parts a (nat_le d n) h).1 in grind (arith, nat_tests, low))
+low-decimals a d n h = leb-true d n (and_parts a (nat_le d n) h).1
 
 number-decimals : (k : Kind) (n d : ℕ) → is_allowed k n d ≡ true → is_numeric k ≡ true → d ≤ n
 number-decimals Char n d allowed number = absurd cc
@@ -162,18 +161,21 @@ more-digits m n e low = subst (λ (k : ℕ). m * 10 ^ e < k) (sym (pow-add 10 n 
 number-scaled : (m d more : ℕ) → (m * 10 ^ more) * 10 ^ d ≡ m * 10 ^ (more + d)
 number-scaled m d more = mul_assoc m (10 ^ more) (10 ^ d) ∙ ap (λ (k : ℕ). m * k) (sym (pow-add 10 more d))
 
-number-widened : (t from : FieldType) (n : Dec) → is_numeric t.kind ≡ true → from.decimals ≤ t.decimals → from.length - from.decimals ≤ t.length - t.decimals → from.decimals ≤ from.length
-    → t.decimals ≤ t.length → n.scale ≡ from.decimals → unsigned_abs n.units < 10 ^ from.length → fault_of t (Number n) ≡ None
-number-widened t from n number scale room own wide is small =
-    let more : ℕ = t.decimals - from.decimals in
-    let k : ℕ = unsigned_abs n.units * 10 ^ more in
+below-all : (k a b : ℕ) → k < a → a ≤ b → k < b
+below-all k a b low high = omega (arith, low, high)
+
+number-widened : (t from : FieldType) (n : Dec) (more : ℕ) → is_numeric t.kind ≡ true → more + from.decimals ≡ t.decimals → from.length - from.decimals ≤ t.length - t.decimals
+    → from.decimals ≤ from.length → t.decimals ≤ t.length → n.scale ≡ from.decimals → unsigned_abs n.units < 10 ^ from.length → fault_of t (Number n) ≡ None
+number-widened t from n more number scale room own wide is small =
     let all : more + n.scale ≡ t.decimals = omega (arith, scale, is) in
-    let same : k * 10 ^ n.scale ≡ unsigned_abs n.units * 10 ^ t.decimals = number-scaled (unsigned_abs n.units) n.scale more ∙ ap (λ (d : ℕ). unsigned_abs n.units * 10 ^ d) all in
-    let low : k < 10 ^ (from.length + more) = more-digits (unsigned_abs n.units) from.length more small in
+    let same : (unsigned_abs n.units * 10 ^ more) * 10 ^ n.scale ≡ unsigned_abs n.units * 10 ^ t.decimals =
+    number-scaled (unsigned_abs n.units) n.scale more ∙ ap (λ (d : ℕ). unsigned_abs n.units * 10 ^ d) all in
+    let low : unsigned_abs n.units * 10 ^ more < 10 ^ (from.length + more) = more-digits (unsigned_abs n.units) from.length more small in
     let digits : from.length + more ≤ t.length = omega (arith, scale, room, own, wide) in
     let high : 10 ^ (from.length + more) ≤ 10 ^ t.length = pow-le-pow_right (lit< tt) digits in
-    let below : k < 10 ^ t.length = omega (arith, low, high) in
-    number-put t n number (number_fault-Ok t.length t.decimals k n same ∙ ap (λ (b : Bool). cond b (Some TooWide) None) (lt-leb (10 ^ t.length) k below))
+    let below : unsigned_abs n.units * 10 ^ more < 10 ^ t.length = below-all (unsigned_abs n.units * 10 ^ more) (10 ^ (from.length + more)) (10 ^ t.length) low high in
+    number-put t n number (number_fault-Ok t.length t.decimals (unsigned_abs n.units * 10 ^ more) n same
+    ∙ ap (λ (b : Bool). cond b (Some TooWide) None) (lt-leb (10 ^ t.length) (unsigned_abs n.units * 10 ^ more) below))
 
 -- ---- each value
 
@@ -187,4 +189,5 @@ widened t from allowed also alike scale room image (Number n) stands =
     let is = held-decimals from n kept.same in
     let small : unsigned_abs n.units < 10 ^ from.length =
     subst (λ (z : ℤ). unsigned_abs z < 10 ^ from.length) is.1 (number-small from.length from.decimals n fits.1) in
-    number-widened t from n number scale room (number-decimals from.kind from.length from.decimals also fits.0) (number-decimals t.kind t.length t.decimals allowed number) is.0 small
+    let more : t.decimals - from.decimals + from.decimals ≡ t.decimals = omega (arith, scale) in
+    number-widened t from n (t.decimals - from.decimals) number more room (number-decimals from.kind from.length from.decimals also fits.0) (number-decimals t.kind t.length t.decimals allowed number) is.0 small

@@ -23,7 +23,7 @@ ghost use Rattle.logical_paths.specs.KeyedViews.{AreLaidOut, HaveFewPairs, IsKey
 /// compared by their bytes.
 pub fn records_stand_in_views()
     ensures image { (bases : Bases) (spec : LogicalSpec) (member : ℕ) (image : List ℕ) → IsKeyedLogical bases spec → IsRecordOfBases bases spec member image
-        → All (TakesImage member (Some image)) (logical_paths bases spec) }
+        → All (λ path. TakesImage member (Some image) path) (logical_paths bases spec) }
     ensures kept { (bases : Bases) (spec : LogicalSpec) (members : NumberedMembers) → IsKeyedLogical bases spec → HaveRecords bases spec members
         → All (λ path. CanBeKept path members) (logical_paths bases spec) }
     ensures bytes { (bases : Bases) (spec : LogicalSpec) (members : NumberedMembers) → IsKeyedLogical bases spec → HaveRecords bases spec members
