@@ -211,7 +211,7 @@ file-keyed described bases source fs are none =
     (join-complete described source fs none join) there laid few)
     (λ other there laid few. views-keyed described bases source fs are (subst (λ (b : Bool). faults_over described source b fs ≡ []) other none) there laid)
 
-found-right : (spec made : LogicalSpec) (o : Option DdsFault) → unless_fault made o ≡ Ok spec → (o ≡ None) × (made ≡ spec)
+pub found-right : (spec made : LogicalSpec) (o : Option DdsFault) → unless_fault made o ≡ Ok spec → (o ≡ None) × (made ≡ spec)
 found-right spec made None h = (refl, (let same : made ≡ spec = cc in same))
 found-right spec made (Some fault) h = absurd cc
 
