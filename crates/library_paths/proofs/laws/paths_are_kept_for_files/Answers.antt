@@ -1,5 +1,5 @@
 use Rattle.library_paths.proofs.CountLemmas.{count-append}
-use Rattle.library_paths.proofs.KeptLemmas.{attached, attached-shared, counted-alike, detached-kept, detached-shared, kept-contained, kept-once, kept-with, none-kept, shared-with}
+use Rattle.library_paths.proofs.KeptLemmas.{attached, attached-last, attached-shared, counted-alike, detached-kept, detached-shared, kept-contained, kept-once, kept-with, none-kept, shared-with}
 use Rattle.library_paths.proofs.laws.paths_are_kept_for_files.Goals as goal
 
 pub returns-clause-none : goal.returns-clause-none
@@ -7,6 +7,9 @@ returns-clause-none c = none-kept
 
 pub returns-clause-attached : goal.returns-clause-attached
 returns-clause-attached c = attached
+
+pub returns-clause-attached_last : goal.returns-clause-attached_last
+returns-clause-attached_last c = attached-last
 
 pub returns-clause-attached_shared : goal.returns-clause-attached_shared
 returns-clause-attached_shared c = attached-shared
