@@ -1,5 +1,6 @@
 use Rattle.library_paths.proofs.CountLemmas.{count-append}
-use Rattle.library_paths.proofs.KeptLemmas.{attached, attached-last, attached-shared, counted-alike, detached-kept, detached-shared, kept-contained, kept-elsewhere, kept-once, kept-with, none-kept, shared-with}
+use Rattle.library_paths.proofs.KeptLemmas.{attached, attached-last, attached-shared, counted-alike, detached-kept, detached-shared}
+use Rattle.library_paths.proofs.KeptLemmas.{kept-contained, kept-elsewhere, kept-once, kept-with, none-kept, shared-with}
 use Rattle.library_paths.proofs.laws.paths_are_kept_for_files.Goals as goal
 
 pub returns-clause-none : goal.returns-clause-none
