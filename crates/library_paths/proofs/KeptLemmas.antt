@@ -282,6 +282,10 @@ kept-once specs members kept spec shared is among =
 pub none-kept : (members : NumberedMembers) → AreKeptFor [] members []
 none-kept members = of-those [] members [] (record { over = tt; there = tt; counted = tt })
 
+-- members change that give none of them another entry
+pub kept-elsewhere : (specs : List PathSpec) (members others : NumberedMembers) (kept : NumberedPaths) → AreOver others kept → AreKeptFor specs members kept → AreKeptFor specs others kept
+kept-elsewhere specs members others kept over is = record { over = over; there = is.there; counted = is.counted }
+
 module _ (entries : Numbered KeptPath → List Entry) (kept : NumberedPaths) where
   pub kept-with : (specs : List PathSpec) (members others : NumberedMembers) → AreOver others (map (with_entries entries) kept) → AreKeptFor specs members kept
       → AreKeptFor specs others (map (with_entries entries) kept)

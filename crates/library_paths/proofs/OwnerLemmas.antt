@@ -1,10 +1,13 @@
 -- Whose paths are those of all files? And over which members are none?
-use Rattle.std.proofs.Common.{◌≡◌, ◌⊎◌, inl, inr, ◌∙◌, ℕ, ◌==◌, ◌||◌, nat_lt, cond, if◌then◌else◌, Bool, true, false, List, [], ◌∷◌, ◌++◌, length, map, find, Option, Some, None, is_some, IsSome, Contains}
+use Rattle.std.proofs.Common.{◌≡◌, ◌⊎◌, inl, inr, ◌∙◌, ℕ, ◌==◌, ◌||◌, nat_lt, cond, if◌then◌else◌, Bool, true}
+use Rattle.std.proofs.Common.{false, List, [], ◌∷◌, ◌++◌, length, map, find, Option, Some, None, is_some, IsSome, Contains}
 use Rattle.std.proofs.Common.{refl, sym, ap, arith, subst}
+use Rattle.std.specs.Prelude.{All}
 use Rattle.std.specs.List.{AllByRecursion, IsDistinct, list_any}
 use Rattle.std.specs.Map.{keys_of}
 use Rattle.std.specs.Option.{option_and_then, option_map, option_map_or}
 use Rattle.std.proofs.lemmas.Bool.Decides.{nat_tests}
+use Rattle.std.proofs.lemmas.List.Elements.{All-from_recursion, recursion_from_All}
 use Rattle.std.proofs.lemmas.Bool.{cond-false, cond-true, eqb-true}
 use Rattle.dds_physical.specs.declared.physical_files.PhysicalSpec.{PhysicalSpec}
 use Rattle.dds_logical.specs.declared.views.View.{View}
@@ -15,15 +18,19 @@ use Rattle.file_model.specs.declared.paths.PathFormat.{PathFormat}
 use Rattle.file_model.specs.declared.paths.PathSpec.{PathSpec}
 use Rattle.file_model.specs.FilePaths.{physical_path}
 use Rattle.file_model.specs.Joins.{secondary_path}
+use Rattle.member_slots.specs.Members.{Numbered, NumberedMembers}
+use Rattle.path_set.specs.KeptPaths.{KeptPath, NumberedPaths, AreShared}
+use Rattle.path_set.specs.MemberSteps.{is_over as over_member}
 use Rattle.logical_model.specs.Bases.{Bases, FileSpec, PhysicalFile, LogicalFile, base_names}
 use Rattle.logical_model.specs.FilePaths.{is_over, logical_paths, secondary_of, view_format}
 use Rattle.library_model.specs.Named.{Named, named, same_name}
 use Rattle.library_steps.specs.LogicalFiles.{base_in, bases_in, physical_paths}
 use Rattle.library_steps.specs.SlotChange.{status_in}
 use Rattle.library_steps.specs.State.{FileState, MemberStatus, if_physical, physical_among}
-use Rattle.library_paths.specs.AllPaths.{AllStand, StandsBy, all_paths, paths_among, paths_by}
+use Rattle.library_paths.specs.AllPaths.{AllStand, AreKeptFor, StandsBy, all_paths, paths_among, paths_by}
 use Rattle.library_paths.specs.PathOwners.{IsOfFile, IsOfMember}
 use Rattle.library_paths.proofs.BaseLemmas.{Stands}
+use Rattle.library_paths.proofs.KeptLemmas.{kept-contained}
 use Rattle.library_paths.proofs.ListLemmas.{each-of}
 use Rattle.library_paths.proofs.NameLemmas.{each-named, name-equal, name-self, name-symm, some-same}
 use Rattle.library_paths.proofs.OverLemmas.{IsIn, contained-in, in-contained}
@@ -273,3 +280,18 @@ module _ (files : Named FileState) (number : ℕ) (stand : AllStand files)
 
   pub paths-apart : AllByRecursion (λ spec. is_over number spec ≡ false) (all_paths files)
   paths-apart = these-apart files stand lack
+
+-- so none that is kept
+pub kept-apart : (files : Named FileState) (number : ℕ) (members : NumberedMembers) (kept : NumberedPaths) → AllStand files
+    → AllByRecursion (λ (entry : List ℕ × FileState). is_some (status_in number entry.1.members) ≡ false) files → AreShared kept → AreKeptFor (all_paths files) members kept
+    → All (λ path. over_member number path.item.spec ≡ false) kept
+kept-apart files number members kept stand lack shared is =
+    All-from_recursion (λ (path : Numbered KeptPath). over_member number path.item.spec ≡ false) kept
+    (each-of (λ (path : Numbered KeptPath). Contains (all_paths files) path.item.spec) (λ (path : Numbered KeptPath). over_member number path.item.spec ≡ false)
+    (λ path among. each-contained (all_paths files) (paths-apart files number stand lack) path.item.spec (contained-in path.item.spec (all_paths files) among)) kept
+    (recursion_from_All (λ (path : Numbered KeptPath). Contains (all_paths files) path.item.spec) kept (kept-contained (all_paths files) members kept shared is)))
+  where
+    each-contained : (specs : List PathSpec) → AllByRecursion (IsApart number) specs → (spec : PathSpec) → IsIn spec specs → over_member number spec ≡ false
+    each-contained [] all spec its = absurd its
+    each-contained (first ∷ specs) all spec (inl same) = subst (IsApart number) same all.0
+    each-contained (first ∷ specs) all spec (inr later) = each-contained specs all.1 spec later

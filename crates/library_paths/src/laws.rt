@@ -11,7 +11,7 @@ ghost use Rattle.logical_model.specs.Bases.{PhysicalFile};
 ghost use Rattle.logical_model.specs.FilePaths.{is_over};
 ghost use Rattle.logical_model.specs.SamePaths.{count_paths};
 ghost use Rattle.path_set.specs.KeptPaths.{KeptPath, NumberedPaths, AreOver, AreShared};
-ghost use Rattle.path_set.specs.MemberSteps.{paths_over as kept_over};
+ghost use Rattle.path_set.specs.MemberSteps.{is_over as over_member, paths_over as kept_over};
 ghost use Rattle.path_set.specs.Sharing.{IsShared, IsPut, detached};
 ghost use Rattle.library_model.specs.Named.{Named, named, same_name};
 ghost use Rattle.library_steps.specs.CreatePhysicalFile.{new_status};
@@ -67,6 +67,9 @@ pub fn paths_have_their_files()
     ensures of_member { (spec : PhysicalSpec) (members : Named MemberStatus) (path : PathSpec) → Contains (physical_paths spec members) path → IsOfMember spec members path }
     ensures apart { (files : Named FileState) (number : ℕ) → AllStand files → AllByRecursion (λ entry. is_some (status_in number entry.1.members) ≡ false) files
         → AllByRecursion (λ spec. is_over number spec ≡ false) (all_paths files) }
+    ensures kept_apart { (files : Named FileState) (number : ℕ) (members : NumberedMembers) (kept : NumberedPaths) → AllStand files
+        → AllByRecursion (λ entry. is_some (status_in number entry.1.members) ≡ false) files → AreShared kept → AreKeptFor (all_paths files) members kept
+        → All (λ path. over_member number path.item.spec ≡ false) kept }
 {}
 
 /// What is kept are the paths that files have, where a file gets one or gives one up, and where members change.
@@ -90,6 +93,7 @@ pub fn paths_are_kept_for_files()
         → IsKeptOnce spec kept }
     ensures members { (entries : Numbered KeptPath → List Entry) (kept : NumberedPaths) (specs : List PathSpec) (members others : NumberedMembers)
         → AreOver others (map (with_entries entries) kept) → AreKeptFor specs members kept → AreKeptFor specs others (map (with_entries entries) kept) }
+    ensures elsewhere { (specs : List PathSpec) (members others : NumberedMembers) (kept : NumberedPaths) → AreOver others kept → AreKeptFor specs members kept → AreKeptFor specs others kept }
     ensures members_shared { (entries : Numbered KeptPath → List Entry) (kept : NumberedPaths) → AreShared kept → AreShared (map (with_entries entries) kept) }
 {}
 

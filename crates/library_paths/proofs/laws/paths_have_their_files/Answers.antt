@@ -1,4 +1,4 @@
-use Rattle.library_paths.proofs.OwnerLemmas.{member-path, path-member, paths-apart, paths-contain, paths-owner}
+use Rattle.library_paths.proofs.OwnerLemmas.{kept-apart, member-path, path-member, paths-apart, paths-contain, paths-owner}
 use Rattle.library_paths.proofs.laws.paths_have_their_files.Goals as goal
 
 pub returns-clause-contain : goal.returns-clause-contain
@@ -15,3 +15,6 @@ returns-clause-of_member c = path-member
 
 pub returns-clause-apart : goal.returns-clause-apart
 returns-clause-apart c = paths-apart
+
+pub returns-clause-kept_apart : goal.returns-clause-kept_apart
+returns-clause-kept_apart c = kept-apart
