@@ -1,5 +1,5 @@
 -- A position can be on each row that is found.
-use Rattle.std.proofs.Common.{◌≡◌, ℕ, ◌+◌, ◌≤◌, ◌<◌, Bool, true, false, cond, ◌==◌, Option, Some, None, List, [], ◌∷◌, ◌++◌, length, map, refl, sym, ◌∙◌, ap, subst, arith, append_assoc, append-nil}
+use Rattle.std.proofs.Common.{◌≡◌, ℕ, ◌+◌, ◌≤◌, ◌<◌, Bool, true, false, cond, ◌==◌, Some, List, [], ◌∷◌, ◌++◌, length, map, refl, sym, ◌∙◌, ap, subst, arith, append_assoc, append-nil}
 use Rattle.std.specs.Prelude.{filter, flat_map, reverse, unwrap_or}
 use Rattle.std.specs.List.{AllByRecursion, list_all}
 use Rattle.std.specs.Ordering.{is_lt, is_gt}
@@ -9,10 +9,9 @@ use Rattle.key_pages.specs.EntryList.{EntryList}
 use Rattle.member_slots.specs.declared.slot.Slot.{Slot}
 use Rattle.member_slots.specs.declared.slot.Slot.TheVariants.{Live, Deleted}
 use Rattle.member_slots.specs.Member.{MemberState, IsMember, FitsSlot, empty_member, records, records_from, slot_at}
-use Rattle.member_slots.specs.Members.{NumberedMembers, Numbered, AreMembers, item_at, member_of}
+use Rattle.member_slots.specs.Members.{NumberedMembers, AreMembers, item_at, member_of}
 use Rattle.file_model.specs.declared.joins.Secondary.{Secondary}
 use Rattle.file_model.specs.declared.joins.JoinSpec.{JoinSpec}
-use Rattle.file_model.specs.KeyOrder.{key_value}
 use Rattle.file_model.specs.Joins.{Match, NoRecord, RecordAt, RowPlace, Matched, JoinRow, image_in, is_joined, matched, compare_matched, matches_of, or_missing, row_with, joined_rows, rows_of}
 use Rattle.file_model.specs.Paths.{PathEntry, compare_entries, entry_of, entries_of, path}
 use Rattle.file_model.specs.Paths as paths

@@ -1,5 +1,5 @@
 -- Which rows can a position of an open be on, and what does it keep of them? (Our own.)
-use Rattle.std.specs.Prelude.{◌≡◌, ℕ, ◌≤◌, ◌<◌, List, [], ◌∷◌}
+use Rattle.std.specs.Prelude.{◌≡◌, ◌≤◌, ◌<◌, List, [], ◌∷◌}
 use Rattle.file_model.specs.declared.joins.Secondary.{Secondary}
 use Rattle.file_model.specs.declared.joins.JoinSpec.{JoinSpec}
 use Rattle.file_model.specs.Joins.{Match, NoRecord, RecordAt, RowPlace}
