@@ -79,7 +79,8 @@ module _ (falling : Bool) (part : List ℕ) where
     matches-back entries x sorted first h =
         walked IsFirst Later test (λ a b. is_match_before falling part a.key a.rrn b)
         (λ a b here less is. lower a b less is ∙ sym (before-place a b here less))
-        (λ a here. ap (λ (t : Bool). begins_with part a && t) (ap (λ e. is_lt (entry_cmp falling a e)) (at-place a here) ∙ ap is_lt (tied_itself (entry_total falling) a)) ∙ and-false (begins_with part a))
+        (λ a here. ap (λ (t : Bool). begins_with part a && t)
+        (ap (λ e. is_lt (entry_cmp falling a e)) (at-place a here) ∙ ap is_lt (tied_itself (entry_total falling) a)) ∙ and-false (begins_with part a))
         (λ a b there less. ap (λ (t : Bool). begins_with part a && t) (ap (λ e. is_lt (entry_cmp falling a e)) (at-place b there) ∙ ap is_lt (turned a b less)) ∙ and-false (begins_with part a))
         (reverse entries) x (all-reverse IsFirst entries first) (pair-reverse (λ a b. entry_cmp falling a b ≡ Less) entries (sorted-pairs falling entries sorted)) h
       where

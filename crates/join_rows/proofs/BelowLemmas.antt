@@ -197,9 +197,11 @@ module _ (level : Level) where
       gives = λ row from same left-is.
           ap (λ o. first_of (give row from) (map show (trials_from back wanted o list))) is
           ∙ ap (first_of (give row from))
-          (sym (start file members Q list wanted here.readable.path here.readable.joinable here.sorted own row (bytes-of row same) keeps_missing back (place_in left) from (want-of row same) (head-place file further left from left-is)).level)
+          (sym (start file members Q list wanted here.readable.path here.readable.joinable here.sorted own row (bytes-of row same) keeps_missing
+          back (place_in left) from (want-of row same) (head-place file further left from left-is)).level)
           ∙ sym (by-level back row from);
-      valid = subst (IsTrial file members Q list wanted) (sym is) (first-valid file members Q list wanted here.readable.path here.readable.joinable here.sorted own back keeps_missing (place_in left) place_key);
+      valid = subst (IsTrial file members Q list wanted) (sym is)
+          (first-valid file members Q list wanted here.readable.path here.readable.joinable here.sorted own back keeps_missing (place_in left) place_key);
     }
 
     module _ (trial : Option Entry) (way : IsUnderway (Some trial)) where
@@ -208,7 +210,8 @@ module _ (level : Level) where
           → option_map (row_by members further (row_with row (show trial))) o ≡ give row from (show trial)
       below-trial o rec row from same left-is =
           rec (row_with row (show trial)) (below compare_matches from (match_of (show trial))) (ap (λ w. w ++ (show trial).image ∷ []) same)
-          (left-below file members Q list wanted here.readable.path here.readable.joinable here.sorted own row (bytes-of row same) keeps_missing further left from (want-of row same) left-is trial way.valid)
+          (left-below file members Q list wanted here.readable.path here.readable.joinable here.sorted own row (bytes-of row same) keeps_missing
+          further left from (want-of row same) left-is trial way.valid)
 
       -- a row is found
       pub found : (numbers : List (Option ℕ)) → IsBelow trial (Some numbers) → (row : JoinRow) (from : Option (List Match)) → row.images ≡ images → IsLeft (file ∷ further) left from

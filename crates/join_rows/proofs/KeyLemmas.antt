@@ -31,6 +31,7 @@ module _ (pairs : List JoinPair) (image : List ℕ) (i : ℕ) (pair : JoinPair) 
   pub wanted-stop : with_bytes old (sought_bytes pair image) ≡ None → None ≡ wanted_bytes pairs image
   wanted-stop none = bytes-none old (sought_bytes pair image) (wanted_bytes (drop (suc i) pairs) image) (wanted_bytes pairs image) none here
 
-pub wanted-end : (pairs : List JoinPair) (image : List ℕ) (i : ℕ) (key : List ℕ) → length pairs ≤ i → with_bytes key (wanted_bytes (drop i pairs) image) ≡ wanted_bytes pairs image → Some key ≡ wanted_bytes pairs image
+pub wanted-end : (pairs : List JoinPair) (image : List ℕ) (i : ℕ) (key : List ℕ) → length pairs ≤ i
+    → with_bytes key (wanted_bytes (drop i pairs) image) ≡ wanted_bytes pairs image → Some key ≡ wanted_bytes pairs image
 wanted-end pairs image i key past before =
     bytes-whole key (wanted_bytes pairs image) (ap (λ (ps : List JoinPair). with_bytes key (wanted_bytes ps image)) (sym (drop_all i pairs past)) ∙ before)

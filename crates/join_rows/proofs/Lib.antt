@@ -18,3 +18,4 @@ mod BelowLemmas
 mod EntryLemmas
 mod PrimaryLemmas
 mod SequenceLemmas
+mod StandLemmas

@@ -212,7 +212,8 @@ module _ (spec : JoinSpec) (members : NumberedMembers) (primary : EntryList) (se
     next-same : (p : PathEntry) → IsEntryOf formats p → is_after falling (next_place falling from) (in_bytes formats p) ≡ entry_isnt_before ties position p
     next-same p is = by from position at-it
       where
-        by : (from' : RowPosition) (position' : model.Position RowPlace) → IsAt spec from' position' → is_after falling (next_place falling from') (in_bytes formats p) ≡ entry_isnt_before ties position' p
+        by : (from' : RowPosition) (position' : model.Position RowPlace) → IsAt spec from' position'
+            → is_after falling (next_place falling from') (in_bytes formats p) ≡ entry_isnt_before ties position' p
         by rows.Start model.Start h = refl
         by rows.Start model.End h = absurd h
         by rows.Start (model.On place) h = absurd h
@@ -249,7 +250,8 @@ module _ (spec : JoinSpec) (members : NumberedMembers) (primary : EntryList) (se
     prior-same : (p : PathEntry) → IsEntryOf formats p → is_before falling (prior_place falling from) (in_bytes formats p) ≡ entry_isnt_after ties position p
     prior-same p is = by from position at-it
       where
-        by : (from' : RowPosition) (position' : model.Position RowPlace) → IsAt spec from' position' → is_before falling (prior_place falling from') (in_bytes formats p) ≡ entry_isnt_after ties position' p
+        by : (from' : RowPosition) (position' : model.Position RowPlace) → IsAt spec from' position'
+            → is_before falling (prior_place falling from') (in_bytes formats p) ≡ entry_isnt_after ties position' p
         by rows.Start model.Start h = refl
         by rows.Start model.End h = absurd h
         by rows.Start (model.On place) h = absurd h
@@ -332,13 +334,15 @@ module _ (spec : JoinSpec) (members : NumberedMembers) (primary : EntryList) (se
     path-bytes : (back : Bool) → map (in_bytes formats) (path_by back) ≡ entries_by back primary (place_by back falling from)
     path-bytes false =
         ap (map (in_bytes formats))
-        (sym (filter-same (IsEntryOf formats) (λ p. is_after falling (next_place falling from) (in_bytes formats p)) (entry_isnt_before ties position) next-same (path spec.primary members) are-entries))
+        (sym (filter-same (IsEntryOf formats) (λ p. is_after falling (next_place falling from) (in_bytes formats p))
+        (entry_isnt_before ties position) next-same (path spec.primary members) are-entries))
         ∙ sym (filter-map (is_after falling (next_place falling from)) (in_bytes formats) (path spec.primary members))
         ∙ ap (filter (is_after falling (next_place falling from))) (sym can.path.entries)
         ∙ ap (λ f. filter (is_after f (next_place falling from)) primary.entries) (sym can.path.falling)
     path-bytes true =
         ap (λ ps. map (in_bytes formats) (reverse ps))
-        (sym (filter-same (IsEntryOf formats) (λ p. is_before falling (prior_place falling from) (in_bytes formats p)) (entry_isnt_after ties position) prior-same (path spec.primary members) are-entries))
+        (sym (filter-same (IsEntryOf formats) (λ p. is_before falling (prior_place falling from) (in_bytes formats p))
+        (entry_isnt_after ties position) prior-same (path spec.primary members) are-entries))
         ∙ sym (map-reverse (in_bytes formats) (filter (λ p. is_before falling (prior_place falling from) (in_bytes formats p)) (path spec.primary members)))
         ∙ ap reverse (sym (filter-map (is_before falling (prior_place falling from)) (in_bytes formats) (path spec.primary members)))
         ∙ ap (λ es. reverse (filter (is_before falling (prior_place falling from)) es)) (sym can.path.entries)
@@ -400,7 +404,8 @@ module _ (spec : JoinSpec) (members : NumberedMembers) (primary : EntryList) (se
         no-entry : {A : Type 0} (entry : Entry) (es : List Entry) → [] ≡ entry ∷ es → A
         no-entry entry es h = absurd (let e : ◌≡◌ {A = List Entry} [] (entry ∷ es) = h in cc)
 
-        head-same : (p : PathEntry) (ps : List PathEntry) (entry : Entry) (es : List Entry) → map (in_bytes formats) (p ∷ ps) ≡ entry ∷ es → (in_bytes formats p ≡ entry) × (map (in_bytes formats) ps ≡ es)
+        head-same : (p : PathEntry) (ps : List PathEntry) (entry : Entry) (es : List Entry) → map (in_bytes formats) (p ∷ ps) ≡ entry ∷ es
+            → (in_bytes formats p ≡ entry) × (map (in_bytes formats) ps ≡ es)
         head-same p ps entry es h =
             let e : ◌≡◌ {A = List Entry} (in_bytes formats p ∷ map (in_bytes formats) ps) (entry ∷ es) = h in
             let one : in_bytes formats p ≡ entry = cc in
@@ -412,7 +417,8 @@ module _ (spec : JoinSpec) (members : NumberedMembers) (primary : EntryList) (se
             → IsFound spec members (Some found) (found_row back spec members position)
         found-on entry fine on found same rec = by on.entries on.bytes on.gives on.good
           where
-            by : (ps : List PathEntry) → map (in_bytes formats) ps ≡ entries_at back primary (Some entry) → first_of give ps ≡ found_row back spec members position → AllByRecursion (IsEntryOf formats) ps
+            by : (ps : List PathEntry) → map (in_bytes formats) ps ≡ entries_at back primary (Some entry) → first_of give ps ≡ found_row back spec members position
+                → AllByRecursion (IsEntryOf formats) ps
                 → IsFound spec members (Some found) (found_row back spec members position)
             by [] bytes gives good = no-entry entry (entries_by back primary (On entry)) bytes
             by (p ∷ ps) bytes gives good =
@@ -425,7 +431,8 @@ module _ (spec : JoinSpec) (members : NumberedMembers) (primary : EntryList) (se
         pub next-on : (entry : Entry) → IsFine spec members entry → Underway (Some entry) → Below entry None → (at : Option Entry) → at ≡ found_entry back primary (On entry) → Underway at
         next-on entry fine on rec at is = by on.entries on.bytes on.gives on.good
           where
-            by : (ps : List PathEntry) → map (in_bytes formats) ps ≡ entries_at back primary (Some entry) → first_of give ps ≡ found_row back spec members position → AllByRecursion (IsEntryOf formats) ps → Underway at
+            by : (ps : List PathEntry) → map (in_bytes formats) ps ≡ entries_at back primary (Some entry) → first_of give ps ≡ found_row back spec members position
+                → AllByRecursion (IsEntryOf formats) ps → Underway at
             by [] bytes gives good = no-entry entry (entries_by back primary (On entry)) bytes
             by (p ∷ ps) bytes gives good =
                 let its = head-same p ps entry (entries_by back primary (On entry)) bytes in record {
@@ -454,7 +461,8 @@ fewer-entries back list entry at sorted is =
 pub below-entry : (back : Bool) (spec : JoinSpec) (members : NumberedMembers) (from : RowPosition) (entry : Entry) (files : List Secondary) → files ≡ spec.secondaries
     → (images : List (List ℕ)) → images ≡ image_at (member_of (first_member spec.primary.formats) members) entry.rrn ∷ [] → (left : Option (List MatchPlace)) → left ≡ left_of_entry entry from
     → (o found : Option (List (Option ℕ))) → o ≡ found
-    → ((row : JoinRow) (rest : Option (List Match)) → row.images ≡ images → IsLeft files left rest → option_map (row_by members files row) o ≡ found_below back spec.keeps_missing members files row rest)
+    → ((row : JoinRow) (rest : Option (List Match)) → row.images ≡ images → IsLeft files left rest
+    → option_map (row_by members files row) o ≡ found_below back spec.keeps_missing members files row rest)
     → IsBelowEntry back spec members from entry found
 below-entry back spec members from entry files same images shown left rests o found is rec = λ row rest images-are left-is.
     subst (λ (fs : List Secondary). option_map (row_by members fs row) found ≡ found_below back spec.keeps_missing members fs row rest) same

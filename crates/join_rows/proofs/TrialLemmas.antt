@@ -168,7 +168,8 @@ module _ (file : Secondary) (members : NumberedMembers) (Q : List ℕ → Type 0
   none-start : (back : Bool) (ms : List Matched) → ms ≡ [] → IsStart back None ms
   none-start back ms is = record { level = is; valid = tt }
 
-  module _ (is_path : IsPathOf list (secondary_path file) members) (good : AreJoinable file members) (sorted : IsInOrder list.falling list.entries) (own : AllByRecursion (IsOwn file members Q) list.entries) where
+  module _ (is_path : IsPathOf list (secondary_path file) members) (good : AreJoinable file members) (sorted : IsInOrder list.falling list.entries)
+      (own : AllByRecursion (IsOwn file members Q) list.entries) where
     first : AllByRecursion IsFirst list.entries
     first = entries-first file members Q list.entries own
 
@@ -263,7 +264,8 @@ module _ (file : Secondary) (members : NumberedMembers) (Q : List ℕ → Type 0
       unwanted-next (Some place) None is none = absurd is
       unwanted-next (Some place) (Some []) is none = absurd is
       unwanted-next (Some Missing) (Some (NoRecord ∷ rest)) is none =
-          missing-start false keeps_missing _ (ap (filter (λ m. isnt_before compare_matches (Some (NoRecord ∷ rest)) (match_of m))) (level-none none) ∙ none-next keeps_missing file (Some (NoRecord ∷ rest)) refl)
+          missing-start false keeps_missing _
+          (ap (filter (λ m. isnt_before compare_matches (Some (NoRecord ∷ rest)) (match_of m))) (level-none none) ∙ none-next keeps_missing file (Some (NoRecord ∷ rest)) refl)
       unwanted-next (Some Missing) (Some (RecordAt v rrn ∷ rest)) is none = absurd is
       unwanted-next (Some (Record sequence number)) (Some (NoRecord ∷ rest)) is none = absurd is
       unwanted-next (Some (Record sequence number)) (Some (RecordAt v rrn ∷ rest)) is none =
@@ -443,7 +445,8 @@ module _ (file : Secondary) (members : NumberedMembers) (Q : List ℕ → Type 0
         by (Some part) some (Some e) t' = found-start part some back e.key e.rrn _ (sym (mapped part some (matches_by back part e.key e.rrn list)))
 
     -- there are fewer of them
-    pub fewer : (back : Bool) (trial : Option Entry) → IsTried wanted trial → length (trials_from back wanted (next_trial back wanted trial list) list) < length (trials_from back wanted (Some trial) list)
+    pub fewer : (back : Bool) (trial : Option Entry) → IsTried wanted trial
+        → length (trials_from back wanted (next_trial back wanted trial list) list) < length (trials_from back wanted (Some trial) list)
     fewer back trial t =
         let start' = next-start-of back trial t in
         let same : length (map shown (all_behind back wanted trial list)) ≡ length (map shown (trials_from back wanted (next_trial back wanted trial list) list)) = ap length start'.level in

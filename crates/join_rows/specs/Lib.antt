@@ -9,3 +9,4 @@ pub mod Places
 pub mod Reading
 pub mod Trials
 pub mod Rows
+pub mod Standing

@@ -5,7 +5,9 @@ ghost use Rattle.std.specs.Option.{option_map};
 ghost use Rattle.field_types.specs.declared.kinds.FieldType.{FieldType};
 ghost use Rattle.field_types.specs.declared.values.Value.{Value};
 ghost use Rattle.field_values.specs.FieldBytes.{held};
-ghost use Rattle.member_slots.specs.Members.{NumberedMembers};
+ghost use Rattle.member_slots.specs.Members.{NumberedMembers, AreMembers};
+ghost use Rattle.access_path.specs.KeptEntries.{entry_with};
+ghost use Rattle.access_path.specs.PathBytes.{in_bytes};
 ghost use Rattle.key_pages.specs.declared.entries.Entry.{Entry};
 ghost use Rattle.key_pages.specs.EntryList.{EntryList};
 ghost use Rattle.key_pages.specs.Order.{IsInOrder};
@@ -17,6 +19,9 @@ ghost use Rattle.file_model.specs.Joins.{Match, RecordAt, RowPlace, JoinRow, ima
 ghost use Rattle.file_model.specs.Positions.{Position, next_from, prior_from};
 ghost use Rattle.file_model.specs.Selection.{is_related};
 ghost use Rattle.key_order.specs.KeyFields.{AreBytes};
+ghost use Rattle.join_rows.specs.declared.positions.MatchPlace.{MatchPlace};
+ghost use Rattle.join_rows.specs.Rows.{CanBeRead, IsPlace, found_row};
+ghost use Rattle.join_rows.specs.Standing.{CanBeStoodOn, AreKept};
 ghost use Rattle.join_rows.specs.Levels.{isnt_before, isnt_after};
 ghost use Rattle.join_rows.specs.Places.{AreJoinable, IsPathOf, IsFrom, IsSequence, key_from, number_from, sequence_bytes};
 ghost use Rattle.join_rows.specs.NextRow.{rows_reading, next_row, prior_row, match_of, next_by_levels, prior_by_levels};
@@ -73,4 +78,12 @@ pub fn matches_follow_one_another()
         → filter (is_match_after falling part key rrn) entries ≡ found ∷ filter (is_match_after falling part found.key found.rrn) entries }
     ensures none { (falling : Bool) (part key : List ℕ) (rrn : ℕ) (entries : List Entry) → next_match falling part key rrn entries ≡ None
         → filter (is_match_after falling part key rrn) entries ≡ [] }
+{}
+
+/// A position can be on each row that is found, and the bytes that it keeps of the row stand for the row's place.
+pub fn found_rows_are_stood_on()
+    ensures found { (spec : JoinSpec) (members : NumberedMembers) (primary : EntryList) (secondaries : List EntryList) → CanBeRead spec members primary secondaries → AreMembers members
+        → (back : Bool) (position : Position RowPlace) (row : JoinRow) → found_row back spec members position ≡ Some row → CanBeStoodOn spec row.place }
+    ensures kept { (spec : JoinSpec) (key : List ℕ) (rrn : ℕ) (places : List MatchPlace) (place : RowPlace) → CanBeStoodOn spec place
+        → in_bytes spec.primary.formats place.primary ≡ entry_with 0 rrn key → AreKept spec.secondaries places place.matches → IsPlace spec key rrn places place }
 {}

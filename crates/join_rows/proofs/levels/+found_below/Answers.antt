@@ -32,9 +32,11 @@ loop-at-init t c =
     let paths-are : map (λ (path : Bor EntryList). path.now) c.args.paths.now ≡ level.list ∷ others =
     ap (map (λ (path : Bor EntryList). path.now)) (split-first c.args.paths.now c.path-item.result (omega (arith, c.in-len1-up-paths.len_at_least)) c.path-item.is) in
     let here : IsHere level others =
-    here-of level others (map (λ (path : Bor EntryList). path.now) c.args.paths.now) c.args.files.now files-are paths-are (length c.args.images.now) (length-map c.args.images.now (λ (image : Bor (List ℕ)). image.now))
+    here-of level others (map (λ (path : Bor EntryList). path.now) c.args.paths.now) c.args.files.now files-are paths-are (length c.args.images.now)
+    (length-map c.args.images.now (λ (image : Bor (List ℕ)). image.now))
     c.requires.readable c.requires.fed
-    (wanted-same c.in_ok-wanted.wanted c.as_slice.result.now level.file.pairs c.image_from.result.now (image_in level.file.from level.images) c.in_ok-wanted.ensures c.as_slice.ensures c.image_from.ensures)
+    (wanted-same c.in_ok-wanted.wanted c.as_slice.result.now level.file.pairs c.image_from.result.now
+    (image_in level.file.from level.images) c.in_ok-wanted.ensures c.as_slice.ensures c.image_from.ensures)
     (subst (λ (l : EntryList). IsInOrder l.falling l.entries) c.pages.ensures c.in_order.ensures.order) in
     let key-is : c.as_slice-place_key.result.now ≡ place_key level = c.as_slice-place_key.ensures.value ∙ c.in_ok-key.ensures ∙ ap (key_in level.wanted) c.place.ensures in
     begin level others here (option_map tried c.first_trial-at.result)
@@ -60,9 +62,11 @@ found_below-requires t c =
     let paths-are : map (λ (path : Bor EntryList). path.now) c.args.paths.now ≡ level.list ∷ others =
     ap (map (λ (path : Bor EntryList). path.now)) (split-first c.args.paths.now c.path-item.result (omega (arith, c.in-len1-up-paths.len_at_least)) c.path-item.is) in
     let here : IsHere level others =
-    here-of level others (map (λ (path : Bor EntryList). path.now) c.args.paths.now) c.args.files.now files-are paths-are (length c.args.images.now) (length-map c.args.images.now (λ (image : Bor (List ℕ)). image.now))
+    here-of level others (map (λ (path : Bor EntryList). path.now) c.args.paths.now) c.args.files.now files-are paths-are (length c.args.images.now)
+    (length-map c.args.images.now (λ (image : Bor (List ℕ)). image.now))
     c.requires.readable c.requires.fed
-    (wanted-same c.in_ok-wanted.wanted c.as_slice.result.now level.file.pairs c.image_from.result.now (image_in level.file.from level.images) c.in_ok-wanted.ensures c.as_slice.ensures c.image_from.ensures)
+    (wanted-same c.in_ok-wanted.wanted c.as_slice.result.now level.file.pairs c.image_from.result.now
+    (image_in level.file.from level.images) c.in_ok-wanted.ensures c.as_slice.ensures c.image_from.ensures)
     (subst (λ (l : EntryList). IsInOrder l.falling l.entries) c.pages.ensures c.in_order.ensures.order) in
     let trial : Option Entry = tried c.in-Some.trial in
     let way : IsUnderway level (Some trial) = subst (λ (o : Option Trial). IsUnderway level (option_map tried o)) c.in-Some.is c.loop-at.invariant in
@@ -96,9 +100,11 @@ returns-in-Some-found t c =
     let paths-are : map (λ (path : Bor EntryList). path.now) c.args.paths.now ≡ level.list ∷ others =
     ap (map (λ (path : Bor EntryList). path.now)) (split-first c.args.paths.now c.path-item.result (omega (arith, c.in-len1-up-paths.len_at_least)) c.path-item.is) in
     let here : IsHere level others =
-    here-of level others (map (λ (path : Bor EntryList). path.now) c.args.paths.now) c.args.files.now files-are paths-are (length c.args.images.now) (length-map c.args.images.now (λ (image : Bor (List ℕ)). image.now))
+    here-of level others (map (λ (path : Bor EntryList). path.now) c.args.paths.now) c.args.files.now files-are paths-are (length c.args.images.now)
+    (length-map c.args.images.now (λ (image : Bor (List ℕ)). image.now))
     c.requires.readable c.requires.fed
-    (wanted-same c.in_ok-wanted.wanted c.as_slice.result.now level.file.pairs c.image_from.result.now (image_in level.file.from level.images) c.in_ok-wanted.ensures c.as_slice.ensures c.image_from.ensures)
+    (wanted-same c.in_ok-wanted.wanted c.as_slice.result.now level.file.pairs c.image_from.result.now
+    (image_in level.file.from level.images) c.in_ok-wanted.ensures c.as_slice.ensures c.image_from.ensures)
     (subst (λ (l : EntryList). IsInOrder l.falling l.entries) c.pages.ensures c.in_order.ensures.order) in
     let key-is : c.as_slice-place_key.result.now ≡ place_key level = c.as_slice-place_key.ensures.value ∙ c.in_ok-key.ensures ∙ ap (key_in level.wanted) c.place.ensures in
     let trial : Option Entry = tried c.in-Some.trial in
@@ -132,9 +138,11 @@ next_trial-at-requires t c =
     let paths-are : map (λ (path : Bor EntryList). path.now) c.args.paths.now ≡ level.list ∷ others =
     ap (map (λ (path : Bor EntryList). path.now)) (split-first c.args.paths.now c.path-item.result (omega (arith, c.in-len1-up-paths.len_at_least)) c.path-item.is) in
     let here : IsHere level others =
-    here-of level others (map (λ (path : Bor EntryList). path.now) c.args.paths.now) c.args.files.now files-are paths-are (length c.args.images.now) (length-map c.args.images.now (λ (image : Bor (List ℕ)). image.now))
+    here-of level others (map (λ (path : Bor EntryList). path.now) c.args.paths.now) c.args.files.now files-are paths-are (length c.args.images.now)
+    (length-map c.args.images.now (λ (image : Bor (List ℕ)). image.now))
     c.requires.readable c.requires.fed
-    (wanted-same c.in_ok-wanted.wanted c.as_slice.result.now level.file.pairs c.image_from.result.now (image_in level.file.from level.images) c.in_ok-wanted.ensures c.as_slice.ensures c.image_from.ensures)
+    (wanted-same c.in_ok-wanted.wanted c.as_slice.result.now level.file.pairs c.image_from.result.now
+    (image_in level.file.from level.images) c.in_ok-wanted.ensures c.as_slice.ensures c.image_from.ensures)
     (subst (λ (l : EntryList). IsInOrder l.falling l.entries) c.pages.ensures c.in_order.ensures.order) in
     let trial : Option Entry = tried c.in-Some.trial in
     let way : IsUnderway level (Some trial) = subst (λ (o : Option Trial). IsUnderway level (option_map tried o)) c.in-Some.is c.loop-at.invariant in
@@ -158,14 +166,17 @@ loop-at-smaller t c =
     let paths-are : map (λ (path : Bor EntryList). path.now) c.args.paths.now ≡ level.list ∷ others =
     ap (map (λ (path : Bor EntryList). path.now)) (split-first c.args.paths.now c.path-item.result (omega (arith, c.in-len1-up-paths.len_at_least)) c.path-item.is) in
     let here : IsHere level others =
-    here-of level others (map (λ (path : Bor EntryList). path.now) c.args.paths.now) c.args.files.now files-are paths-are (length c.args.images.now) (length-map c.args.images.now (λ (image : Bor (List ℕ)). image.now))
+    here-of level others (map (λ (path : Bor EntryList). path.now) c.args.paths.now) c.args.files.now files-are paths-are (length c.args.images.now)
+    (length-map c.args.images.now (λ (image : Bor (List ℕ)). image.now))
     c.requires.readable c.requires.fed
-    (wanted-same c.in_ok-wanted.wanted c.as_slice.result.now level.file.pairs c.image_from.result.now (image_in level.file.from level.images) c.in_ok-wanted.ensures c.as_slice.ensures c.image_from.ensures)
+    (wanted-same c.in_ok-wanted.wanted c.as_slice.result.now level.file.pairs c.image_from.result.now
+    (image_in level.file.from level.images) c.in_ok-wanted.ensures c.as_slice.ensures c.image_from.ensures)
     (subst (λ (l : EntryList). IsInOrder l.falling l.entries) c.pages.ensures c.in_order.ensures.order) in
     let trial : Option Entry = tried c.in-Some.trial in
     let way : IsUnderway level (Some trial) = subst (λ (o : Option Trial). IsUnderway level (option_map tried o)) c.in-Some.is c.loop-at.invariant in
     subst
-    (λ (o : Option Trial). length (trials_from level.back level.wanted (option_map tried c.next_trial-at.result) level.list) < length (trials_from level.back level.wanted (option_map tried o) level.list))
+    (λ (o : Option Trial). length (trials_from level.back level.wanted (option_map tried c.next_trial-at.result) level.list)
+    < length (trials_from level.back level.wanted (option_map tried o) level.list))
     (sym c.in-Some.is)
     (less level others here trial way (option_map tried c.next_trial-at.result) c.next_trial-at.ensures)
 
@@ -187,9 +198,11 @@ loop-at-preserved t c =
     let paths-are : map (λ (path : Bor EntryList). path.now) c.args.paths.now ≡ level.list ∷ others =
     ap (map (λ (path : Bor EntryList). path.now)) (split-first c.args.paths.now c.path-item.result (omega (arith, c.in-len1-up-paths.len_at_least)) c.path-item.is) in
     let here : IsHere level others =
-    here-of level others (map (λ (path : Bor EntryList). path.now) c.args.paths.now) c.args.files.now files-are paths-are (length c.args.images.now) (length-map c.args.images.now (λ (image : Bor (List ℕ)). image.now))
+    here-of level others (map (λ (path : Bor EntryList). path.now) c.args.paths.now) c.args.files.now files-are paths-are (length c.args.images.now)
+    (length-map c.args.images.now (λ (image : Bor (List ℕ)). image.now))
     c.requires.readable c.requires.fed
-    (wanted-same c.in_ok-wanted.wanted c.as_slice.result.now level.file.pairs c.image_from.result.now (image_in level.file.from level.images) c.in_ok-wanted.ensures c.as_slice.ensures c.image_from.ensures)
+    (wanted-same c.in_ok-wanted.wanted c.as_slice.result.now level.file.pairs c.image_from.result.now
+    (image_in level.file.from level.images) c.in_ok-wanted.ensures c.as_slice.ensures c.image_from.ensures)
     (subst (λ (l : EntryList). IsInOrder l.falling l.entries) c.pages.ensures c.in_order.ensures.order) in
     let key-is : c.as_slice-place_key.result.now ≡ place_key level = c.as_slice-place_key.ensures.value ∙ c.in_ok-key.ensures ∙ ap (key_in level.wanted) c.place.ensures in
     let trial : Option Entry = tried c.in-Some.trial in
@@ -220,9 +233,11 @@ returns t c =
     let paths-are : map (λ (path : Bor EntryList). path.now) c.args.paths.now ≡ level.list ∷ others =
     ap (map (λ (path : Bor EntryList). path.now)) (split-first c.args.paths.now c.path-item.result (omega (arith, c.in-len1-up-paths.len_at_least)) c.path-item.is) in
     let here : IsHere level others =
-    here-of level others (map (λ (path : Bor EntryList). path.now) c.args.paths.now) c.args.files.now files-are paths-are (length c.args.images.now) (length-map c.args.images.now (λ (image : Bor (List ℕ)). image.now))
+    here-of level others (map (λ (path : Bor EntryList). path.now) c.args.paths.now) c.args.files.now files-are paths-are (length c.args.images.now)
+    (length-map c.args.images.now (λ (image : Bor (List ℕ)). image.now))
     c.requires.readable c.requires.fed
-    (wanted-same c.in_ok-wanted.wanted c.as_slice.result.now level.file.pairs c.image_from.result.now (image_in level.file.from level.images) c.in_ok-wanted.ensures c.as_slice.ensures c.image_from.ensures)
+    (wanted-same c.in_ok-wanted.wanted c.as_slice.result.now level.file.pairs c.image_from.result.now
+    (image_in level.file.from level.images) c.in_ok-wanted.ensures c.as_slice.ensures c.image_from.ensures)
     (subst (λ (l : EntryList). IsInOrder l.falling l.entries) c.pages.ensures c.in_order.ensures.order) in
     let way : IsUnderway level None = subst (λ (o : Option Trial). IsUnderway level (option_map tried o)) c.in_default-at.is c.loop-at.invariant in
     λ row from same rest-is.

@@ -58,7 +58,8 @@ returns-in-Some-found c =
     let below : IsBelowEntry c.args.back spec members c.args.from c.in-Some.entry.now (Some c.in-Some-found.numbers.items) =
     below-entry c.args.back spec members c.args.from c.in-Some.entry.now c.as_slice-files.result.now c.as_slice-files.ensures
     (map (λ (image : Bor (List ℕ)). image.now) c.from_ref-images.result.now) images-are (left_list c.left_of_entry-left.result) c.left_of_entry-left.ensures
-    (option_map (λ (numbers : Vec (Option ℕ)). numbers.items) c.in_ok-found.found) (Some c.in-Some-found.numbers.items) (ap (option_map (λ (numbers : Vec (Option ℕ)). numbers.items)) c.in-Some-found.is) c.in_ok-found.ensures in
+    (option_map (λ (numbers : Vec (Option ℕ)). numbers.items) c.in_ok-found.found) (Some c.in-Some-found.numbers.items)
+    (ap (option_map (λ (numbers : Vec (Option ℕ)). numbers.items)) c.in-Some-found.is) c.in_ok-found.ensures in
     λ position at-it.
     found-on spec members primary secondaries c.requires c.args.from position at-it c.args.back sorted c.in-Some.entry.now fine
     (subst (λ (o : Option (Bor Entry)). IsOn c.args.back spec members primary position (option_copied o)) c.in-Some.is (c.loop-at.invariant.on position at-it))
@@ -106,4 +107,5 @@ returns c =
     let secondaries : List EntryList = map (λ (path : Bor EntryList). path.now) c.args.join.secondaries.now in
     let sorted : IsInOrder primary.falling primary.entries = subst (λ (l : EntryList). IsInOrder l.falling l.entries) c.pages.ensures c.in_order.ensures.order in
     λ position at-it.
-    none-on spec members primary secondaries c.requires c.args.from position at-it c.args.back sorted (subst (λ (o : Option (Bor Entry)). IsOn c.args.back spec members primary position (option_copied o)) c.in_default.is (c.loop-at.invariant.on position at-it))
+    none-on spec members primary secondaries c.requires c.args.from position at-it c.args.back sorted
+    (subst (λ (o : Option (Bor Entry)). IsOn c.args.back spec members primary position (option_copied o)) c.in_default.is (c.loop-at.invariant.on position at-it))
