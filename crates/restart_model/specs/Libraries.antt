@@ -11,7 +11,7 @@ use Rattle.member_slots.specs.Members.{Numbered, NumberedMembers}
 use Rattle.record_fmt.specs.Layout.{record_length}
 use Rattle.journal_model.specs.Catalogue.{Catalogue, CatalogFile, CatalogMember, is_in_file, file_named}
 use Rattle.journal_model.specs.Journal.{Journal, catalogue_of, entries, restarted, state_of}
-use Rattle.journal_replay.specs.Left.{last_break_of}
+use Rattle.journal_replay.specs.Left.{empty_journal, last_break_of}
 use Rattle.library_model.specs.Named.{Named, named}
 use Rattle.library_steps.specs.State.{State, FileState, MemberStatus, fields_of}
 use Rattle.restart_model.specs.Sources.{described_files}
@@ -69,3 +69,9 @@ library_left breaks attached j = record {
 -- the library after a restart at this time, without a job's name on what it deposits
 abbrev pub library_restarted : (breaks : ℕ → ℕ) → (attached moment : ℕ) → Journal → State
 library_restarted breaks attached moment j = library_left breaks attached (restarted None moment j)
+
+-- ---- a journal from the beginning
+
+-- the journal of a store from which nothing is gone, and which has no checkpoint
+abbrev pub journal_with : List Entry → Journal
+journal_with entries = record empty_journal { later = entries }

@@ -1,0 +1,5 @@
+pub mod CatalogueLemmas
+pub mod RestartedLemmas
+pub mod DescribedLemmas
+pub mod LeftLemmas
+pub mod LibraryLemmas

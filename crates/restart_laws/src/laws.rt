@@ -1,0 +1,38 @@
+//! Contracts of functions that do nothing.
+
+ghost use Rattle.std.specs.Prelude.{ℕ, ◌<◌, ◌+◌, List};
+ghost use Rattle.std.specs.List.{AllByRecursion, IsDistinct};
+ghost use Rattle.std.specs.Map.{keys_of};
+ghost use Rattle.entry_codec.specs.declared.entries.Entry.{Entry};
+ghost use Rattle.member_slots.specs.Member.{MemberState};
+ghost use Rattle.member_slots.specs.Members.{Numbered};
+ghost use Rattle.journal_model.specs.Journal.{AreNumbered, CanReplayJournal};
+ghost use Rattle.file_catalogue.specs.Owners.{AreApart};
+ghost use Rattle.library_model.specs.Named.{same_name};
+ghost use Rattle.library_parts.specs.Lawful.{AreBased};
+ghost use Rattle.joint_state.specs.Limits.{AreFormats};
+ghost use Rattle.joint_state.specs.Views.{AreMapped, HaveDefaults};
+ghost use Rattle.restart_model.specs.Sources.{descriptions};
+ghost use Rattle.restart_model.specs.Libraries.{journal_with, library_restarted};
+
+/// The files and members that a restart finds fit each other, where the journal can be replayed: no two files have one name, no two members one number,
+/// each file's fields lie one behind the other and may hold their default values, and logical files stand over physical files that are there.
+pub fn restarted_files_are_sound()
+    ensures names { (entries : List Entry) (attached moment : ℕ) → CanReplayJournal descriptions (journal_with entries)
+        → IsDistinct same_name (keys_of (library_restarted (λ _. 0) attached moment (journal_with entries)).files) }
+    ensures apart { (entries : List Entry) (attached moment : ℕ) → CanReplayJournal descriptions (journal_with entries)
+        → AreApart (library_restarted (λ _. 0) attached moment (journal_with entries)).files }
+    ensures formats { (entries : List Entry) (attached moment : ℕ) → CanReplayJournal descriptions (journal_with entries)
+        → AreFormats (library_restarted (λ _. 0) attached moment (journal_with entries)).files }
+    ensures defaults { (entries : List Entry) (attached moment : ℕ) → CanReplayJournal descriptions (journal_with entries)
+        → HaveDefaults (library_restarted (λ _. 0) attached moment (journal_with entries)).files }
+    ensures views { (entries : List Entry) (attached moment : ℕ) → CanReplayJournal descriptions (journal_with entries)
+        → AreMapped (library_restarted (λ _. 0) attached moment (journal_with entries)).files }
+    ensures bases { (entries : List Entry) (attached moment : ℕ) → CanReplayJournal descriptions (journal_with entries)
+        → AreBased (library_restarted (λ _. 0) attached moment (journal_with entries)).files }
+    ensures numbers { (entries : List Entry) (attached moment : ℕ) → CanReplayJournal descriptions (journal_with entries)
+        → AllByRecursion (λ (entry : Numbered MemberState). entry.number < (library_restarted (λ _. 0) attached moment (journal_with entries)).next_member)
+            (library_restarted (λ _. 0) attached moment (journal_with entries)).members }
+    ensures numbered { (entries : List Entry) (attached moment : ℕ) → CanReplayJournal descriptions (journal_with entries)
+        → AreNumbered ((library_restarted (λ _. 0) attached moment (journal_with entries)).gone + 1) (library_restarted (λ _. 0) attached moment (journal_with entries)).entries }
+{}
