@@ -26,14 +26,14 @@ use Rattle.restart_laws.proofs.CatalogueLemmas.{AreNamesApart, Differs}
 
 -- ---- files of a list
 
-abbrev pub Among : CatalogFile → List CatalogFile → Type 0
-Among file [] = ⊥
-Among file (other ∷ files) = (other ≡ file) ⊎ Among file files
+abbrev pub Among : {X : Type 0} → X → List X → Type 0
+Among x [] = ⊥
+Among x (y ∷ ys) = (y ≡ x) ⊎ Among x ys
 
-pub each-among : (P : CatalogFile → Type 0) (file : CatalogFile) (files : List CatalogFile) → AllByRecursion P files → Among file files → P file
-each-among P file [] all among = absurd among
-each-among P file (other ∷ files) all (inl same) = subst P same all.0
-each-among P file (other ∷ files) all (inr among) = each-among P file files all.1 among
+pub each-among : {X : Type 0} (P : X → Type 0) (x : X) (xs : List X) → AllByRecursion P xs → Among x xs → P x
+each-among P x [] all among = absurd among
+each-among P x (y ∷ ys) all (inl same) = subst P same all.0
+each-among P x (y ∷ ys) all (inr among) = each-among P x ys all.1 among
 
 -- where no two have one name, each is found by its own
 pub find-among : (file : CatalogFile) (files : List CatalogFile) → AreNamesApart files → Among file files → find (is_named file.name) files ≡ Some file
