@@ -291,7 +291,7 @@ created-is d Physical name source e c is may =
     may.unnamed refl (ap (λ (o : Option ℕ). unwrap_or o 0) may.numbered.next) refl (λ i. same_name-self name i && same_name-self name i)
 created-is d Logical name source e c is may = logical-more c is (record { created = e.sequence; kind = Logical; name = name; source = source }) may.unnamed refl
 
-entry-is : (d : Descriptions) (kind : EntryKind) (e : Entry) (c : Catalogue) → IsCatalogue c → MayEnterBy d kind e c → IsCatalogue (catalogue_by kind e c)
+pub entry-is : (d : Descriptions) (kind : EntryKind) (e : Entry) (c : Catalogue) → IsCatalogue c → MayEnterBy d kind e c → IsCatalogue (catalogue_by kind e c)
 entry-is d (FileCreated kind name source) e c is may = created-is d kind name source e c is may
 entry-is d (FileDeleted name) e c is may = file-less c is name
 entry-is d (MemberAdded file name) e c is may =

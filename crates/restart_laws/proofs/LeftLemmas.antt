@@ -185,7 +185,7 @@ pub record IsLeft (breaks : ℕ → ℕ) (j : Journal) (name : List ℕ) (file :
   pub spec : base.spec ≡ file.spec
 
 module _ (breaks : ℕ → ℕ) (j : Journal) where
-  named-files : (name : List ℕ) → named name (files_left breaks j) ≡ option_map (with_members breaks j name) (named name (described_files (catalogue_of j).files))
+  pub named-files : (name : List ℕ) → named name (files_left breaks j) ≡ option_map (with_members breaks j name) (named name (described_files (catalogue_of j).files))
   named-files name = named-left (with_members breaks j) name (described_files (catalogue_of j).files)
 
   pub left-file : (name : List ℕ) (file : FileState) → named name (files_left breaks j) ≡ Some file → IsLeft breaks j name file

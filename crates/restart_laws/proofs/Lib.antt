@@ -4,5 +4,8 @@ pub mod DescribedLemmas
 pub mod ReferenceLemmas
 pub mod StableLemmas
 pub mod HeldLemmas
+pub mod GoesLemmas
+pub mod StandLemmas
 pub mod LeftLemmas
 pub mod LibraryLemmas
+pub mod SoundLemmas

@@ -29,7 +29,7 @@ use Rattle.restart_laws.proofs.CatalogueLemmas.{AreNamesApart, Differs, none-nam
 use Rattle.restart_laws.proofs.DescribedLemmas.{IsPhysicalBy, described_state, physical-by}
 use Rattle.restart_laws.proofs.ReferenceLemmas.{NamesOnly, physical-stays}
 
-abbrev spec_found : Option FileState → Option PhysicalSpec
+abbrev pub spec_found : Option FileState → Option PhysicalSpec
 spec_found o = option_and_then (λ (file : FileState). physical_in file.spec) o
 
 -- ---- one file behind others

@@ -1,6 +1,6 @@
 //! Contracts of functions that do nothing.
 
-ghost use Rattle.std.specs.Prelude.{ℕ, ◌<◌, ◌+◌, List};
+ghost use Rattle.std.specs.Prelude.{ℕ, ◌<◌, ◌≤◌, ◌+◌, List};
 ghost use Rattle.std.specs.List.{AllByRecursion, IsDistinct};
 ghost use Rattle.std.specs.Map.{keys_of};
 ghost use Rattle.entry_codec.specs.declared.entries.Entry.{Entry};
@@ -10,6 +10,10 @@ ghost use Rattle.journal_model.specs.Journal.{AreNumbered, CanReplayJournal};
 ghost use Rattle.file_catalogue.specs.Owners.{AreApart};
 ghost use Rattle.library_model.specs.Named.{same_name};
 ghost use Rattle.library_parts.specs.Lawful.{AreBased};
+ghost use Rattle.library_steps.specs.Ranges.{library_bytes};
+ghost use Rattle.library_steps.specs.declared.limits.TheConstants.{MOST_LIBRARY_BYTES};
+ghost use Rattle.joint_state.specs.Sound.{IsSound};
+ghost use Rattle.restart_laws.specs.Given.{IsDeposited};
 ghost use Rattle.joint_state.specs.Limits.{AreFormats};
 ghost use Rattle.joint_state.specs.Views.{AreMapped, HaveDefaults};
 ghost use Rattle.restart_model.specs.Sources.{descriptions};
@@ -35,4 +39,12 @@ pub fn restarted_files_are_sound()
             (library_restarted (λ _. 0) attached moment (journal_with entries)).members }
     ensures numbered { (entries : List Entry) (attached moment : ℕ) → CanReplayJournal descriptions (journal_with entries)
         → AreNumbered ((library_restarted (λ _. 0) attached moment (journal_with entries)).gone + 1) (library_restarted (λ _. 0) attached moment (journal_with entries)).entries }
+{}
+
+/// A library is sound after its restart, where its journal can be replayed and holds only what libraries deposit.
+pub fn restarted_libraries_are_sound()
+    ensures { (entries : List Entry) (attached moment : ℕ) → CanReplayJournal descriptions (journal_with entries)
+        → IsDeposited (library_restarted (λ _. 0) attached moment (journal_with entries))
+        → library_bytes (library_restarted (λ _. 0) attached moment (journal_with entries)).members ≤ MOST_LIBRARY_BYTES
+        → IsSound (library_restarted (λ _. 0) attached moment (journal_with entries)) }
 {}
