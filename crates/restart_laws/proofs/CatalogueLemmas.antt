@@ -178,7 +178,8 @@ module _ (c : Catalogue) (is : IsCatalogue c) where
     owned = each-append (λ (m : CatalogMember). HasPhysical (c.files ++ new ∷ []) m.file) c.members (first ∷ [])
         (each-weaker (λ (m : CatalogMember). HasPhysical c.files m.file) (λ (m : CatalogMember). HasPhysical (c.files ++ new ∷ []) m.file)
         (λ m has. owned-more c.files new m.file has) c.members is.owned)
-        (subst (HasPhysical (c.files ++ new ∷ [])) (sym of) (record { file = new; there = find-behind new.name c.files new (none-named new.name c.files unnamed) (same_name-self new.name); physical = kind }), tt);
+        (subst (HasPhysical (c.files ++ new ∷ [])) (sym of)
+        (record { file = new; there = find-behind new.name c.files new (none-named new.name c.files unnamed) (same_name-self new.name); physical = kind }), tt);
     firsts = each-append (HasFirst (c.members ++ first ∷ [])) c.files (new ∷ [])
         (each-weaker (HasFirst c.members) (HasFirst (c.members ++ first ∷ [])) (λ file has. first-more c.members first file has) c.files is.firsts)
         ((λ physical. any-behind (is_first new.name) c.members first its), tt);
@@ -274,7 +275,7 @@ module _ (c : Catalogue) (is : IsCatalogue c) where
 
 -- ---- an entry more
 
-abbrev set_images : Option ℕ → Option Images → CatalogMember → CatalogMember
+abbrev pub set_images : Option ℕ → Option Images → CatalogMember → CatalogMember
 set_images which images m = if has_number which m then record m { images = images } else m
 
 images-alike : (c : Catalogue) (which : Option ℕ) (images : Option Images) → IsCatalogue c → IsCatalogue (record c { members = map (set_images which images) c.members })

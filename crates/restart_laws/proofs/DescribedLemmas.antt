@@ -82,15 +82,8 @@ with-finds from (Some spec) before name file found =
 pub described-from : (files : List CatalogFile) (before : Named FileState) (name : List ℕ) (file : FileState) → named name (described_behind before files) ≡ Some file
     → (named name before ≡ Some file) ⊎ IsMade files (described_behind before files) name file
 described-from [] before name file found = inl found
-described-from (from ∷ files) before name file found = by (described-from files next name file found)
+described-from (from ∷ files) before name file found = by (described-from files (with_described from (spec_beside before from.kind from.source) before) name file found)
   where
-    o : Option FileSpec
-    o = spec_beside before from.kind from.source
-
-    next : Named FileState
-    unfolding o
-    next = with_described from o before
-
     at : (named name before ≡ Some file) ⊎ ((name ≡ from.name) × (spec : FileSpec) × (spec_beside before from.kind from.source ≡ Some spec) × (described_state from spec ≡ file))
         → (named name before ≡ Some file) ⊎ IsMade (from ∷ files) (described_behind before (from ∷ files)) name file
     at (inl was) = inl was
@@ -136,7 +129,8 @@ distinct-push (entry ∷ before) name file distinct others =
 abbrev pub IsNew : Named FileState → CatalogFile → Type 0
 IsNew before file = AllByRecursion (λ n. same_name n file.name ≡ false) (keys_of before)
 
-with-distinct : (file : CatalogFile) (o : Option FileSpec) (before : Named FileState) → IsDistinct same_name (keys_of before) → IsNew before file → IsDistinct same_name (keys_of (with_described file o before))
+with-distinct : (file : CatalogFile) (o : Option FileSpec) (before : Named FileState) → IsDistinct same_name (keys_of before) → IsNew before file
+    → IsDistinct same_name (keys_of (with_described file o before))
 with-distinct file None before distinct new = distinct
 with-distinct file (Some spec) before distinct new = distinct-push before file.name (described_state file spec) distinct new
 

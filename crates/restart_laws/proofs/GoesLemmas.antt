@@ -26,7 +26,7 @@ use Rattle.library_model.specs.Named.{Named, same_name}
 use Rattle.library_steps.specs.CreatePhysicalFile.{described_by}
 use Rattle.joint_state.specs.Told.{IsRecordOf}
 use Rattle.restart_model.specs.Sources.{described_files, descriptions, fields_beside, fields_if, format_named, if_physical, spec_named}
-use Rattle.restart_laws.proofs.CatalogueLemmas.{AreNumbersApart, HasOther, HasPhysical, IsCatalogue}
+use Rattle.restart_laws.proofs.CatalogueLemmas.{AreNumbersApart, HasOther, HasPhysical, IsCatalogue, set_images}
 use Rattle.restart_laws.proofs.DescribedLemmas.{Among, each-among}
 use Rattle.restart_laws.proofs.StableLemmas.{ArePlain, IsPlain, NotGone, all-free, plain-less, plain-more, spec-less, spec-more}
 
@@ -139,21 +139,16 @@ pub record Goes (c later : Catalogue) : Type 0 where
 same-goes : (c : Catalogue) → Goes c c
 same-goes c = record { further = omega arith; comes = λ m among. inl (record { was = m; among = among; number = refl; fields = refl }) }
 
-set-goes : (c : Catalogue) (which : Option ℕ) (images : Option Images)
-    → Goes c (record c { members = map (λ (m : CatalogMember). if has_number which m then record m { images = images } else m) c.members })
-set-goes c which images = record { further = omega arith; comes = λ m among. inl (by m (among-map set c.members m among)) }
+set-goes : (c : Catalogue) (which : Option ℕ) (images : Option Images) → Goes c (record c { members = map (set_images which images) c.members })
+set-goes c which images = record { further = omega arith; comes = λ m among. inl (by m (among-map (set_images which images) c.members m among)) }
   where
-    set : CatalogMember → CatalogMember
-    set m = if has_number which m then record m { images = images } else m
-
-    number-stays : (m : CatalogMember) → (if has_number which m then record m { images = images } else m).number ≡ m.number
+    number-stays : (m : CatalogMember) → (set_images which images m).number ≡ m.number
     number-stays m = elim (has_number which m) as (λ b. (if b then record m { images = images } else m).number ≡ m.number) [ true ↦ refl | false ↦ refl ]
 
-    file-stays : (m : CatalogMember) → (if has_number which m then record m { images = images } else m).file ≡ m.file
+    file-stays : (m : CatalogMember) → (set_images which images m).file ≡ m.file
     file-stays m = elim (has_number which m) as (λ b. (if b then record m { images = images } else m).file ≡ m.file) [ true ↦ refl | false ↦ refl ]
 
-    by : (m : CatalogMember) → (y : CatalogMember) × Among y c.members × ((if has_number which y then record y { images = images } else y) ≡ m)
-        → Was c (record c { members = map (λ (x : CatalogMember). if has_number which x then record x { images = images } else x) c.members }) m
+    by : (m : CatalogMember) → (y : CatalogMember) × Among y c.members × (set_images which images y ≡ m) → Was c (record c { members = map (set_images which images) c.members }) m
     by m its = record {
       was = its.0;
       among = its.1;

@@ -114,7 +114,8 @@ module _ (status : CatalogMember → List ℕ × MemberStatus) (same : (m : Cata
             | false ↦ λ e. e
           ] has
 
-  differ-numbers : (members : List CatalogMember) (name : List ℕ) (number : ℕ) → AllByRecursion (HasOther number) members → AllByRecursion (λ o. nat_eq number o ≡ false) (numbers_of (its name members))
+  differ-numbers : (members : List CatalogMember) (name : List ℕ) (number : ℕ) → AllByRecursion (HasOther number) members
+      → AllByRecursion (λ o. nat_eq number o ≡ false) (numbers_of (its name members))
   differ-numbers [] name number others = tt
   differ-numbers (m ∷ members) name number others =
       elim (bytes_eq m.file name) as (λ b. AllByRecursion (λ o. nat_eq number o ≡ false) (numbers_of (map status (cond b (m ∷ filter (is_in_file name) members) (filter (is_in_file name) members))))) [
@@ -137,7 +138,8 @@ module _ (status : CatalogMember → List ℕ × MemberStatus) (same : (m : Cata
   first-named (m ∷ members) name some =
       elim (bytes_eq m.file name) as (λ b. ((b && bytes_eq name m.name) || list_any (is_first name) members) ≡ true
       → IsSome (named name (map status (cond b (m ∷ filter (is_in_file name) members) (filter (is_in_file name) members))))) [
-        | true ↦ λ e. subst (λ (n : List ℕ). (bytes_eq name n || list_any (is_first name) members) ≡ true → IsSome (cond (same_name name (status m).0) (Some (status m).1) (named name (its name members))))
+        | true ↦ λ e. subst (λ (n : List ℕ). (bytes_eq name n || list_any (is_first name) members) ≡ true
+            → IsSome (cond (same_name name (status m).0) (Some (status m).1) (named name (its name members))))
             (named_so m)
             (elim (same_name name (status m).0) as (λ b. (b || list_any (is_first name) members) ≡ true → IsSome (cond b (Some (status m).1) (named name (its name members)))) [
               | true ↦ λ h. refl

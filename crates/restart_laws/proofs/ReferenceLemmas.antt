@@ -90,7 +90,8 @@ module _ (P : List ℕ → Type 0) (formats others : List ℕ → Option Format)
         by (Err fault) is h = absurd cc
 
     -- what is named for nothing but has to be there
-    faults-stay : (own : List Field) (s : Specification) → IfSome (file_of_line s) P → reference_faults formats file own s ≡ [] → reference_faults others file own s ≡ reference_faults formats file own s
+    faults-stay : (own : List Field) (s : Specification) → IfSome (file_of_line s) P → reference_faults formats file own s ≡ []
+        → reference_faults others file own s ≡ reference_faults formats file own s
     faults-stay own s q none =
         elim (names_more s) as (λ b. (if b then error_list (referenced formats file own s) else []) ≡ []
         → (if b then error_list (referenced others file own s) else []) ≡ (if b then error_list (referenced formats file own s) else [])) [

@@ -88,7 +88,8 @@ with-alike : (file : CatalogFile) (o : Option FileSpec) (a b : Named FileState) 
     → spec_named a name ≡ spec_named b name → spec_named (with_described file o a) name ≡ spec_named (with_described file o b) name
 with-alike file None a b no none name alike = alike
 with-alike file (Some spec) a b no none name alike =
-    elim (same_name name file.name) as (λ t. same_name name file.name ≡ t → spec_named (a ++ (file.name, described_state file spec) ∷ []) name ≡ spec_named (b ++ (file.name, described_state file spec) ∷ []) name) [
+    elim (same_name name file.name) as (λ t. same_name name file.name ≡ t
+    → spec_named (a ++ (file.name, described_state file spec) ∷ []) name ≡ spec_named (b ++ (file.name, described_state file spec) ∷ []) name) [
       | true ↦ λ same. subst (λ (n : List ℕ). spec_named (a ++ (file.name, described_state file spec) ∷ []) n ≡ spec_named (b ++ (file.name, described_state file spec) ∷ []) n)
           (sym (same_name-equal name file.name same))
           (ap spec_found (named-new a file.name (described_state file spec) no ∙ sym (named-new b file.name (described_state file spec) none)))

@@ -7,6 +7,7 @@ use Rattle.entry_codec.specs.declared.entries.Entry.{Entry}
 use Rattle.entry_codec.specs.declared.kinds.EntryKind.{EntryKind}
 use Rattle.entry_codec.specs.declared.kinds.EntryKind.TheVariants.{FileCreated, FileDeleted, MemberAdded, JournalingStarted, InitialSlot, JournalingEnded, MemberCleared, MemberReorganized, ChangesApplied, ChangesRemoved, RecordAdded, RecordAddedAtNumber, BeforeImage, AfterImage, RecordDeleted, UndoBeforeImage, UndoAfterImage, UndoDelete, CommitmentStarted, CommitCycleStarted, CommitCycleCommitted, CommitCycleRolledBack, CommitmentEnded, AbnormalEnd, NextReceiver, PreviousReceiver}
 use Rattle.member_slots.specs.declared.slot.Slot.{Slot}
+use Rattle.record_fmt.specs.declared.formats.Field.{Field}
 use Rattle.logical_laws.proofs.ListLemmas.{each-append, each-weaker}
 use Rattle.journal_model.specs.Acts.{Change, act, act_elsewhere, act_there, acts, is_number}
 use Rattle.journal_model.specs.Catalogue.{Catalogue, CatalogMember, IsOfMember, MayEnterAll, MayEnterBy, catalogue_after, catalogue_by, empty_catalogue, has_number, member_numbered}
@@ -46,7 +47,7 @@ told-goes c later e goes it = record {
 } where
   by : (m : CatalogMember) → e.member ≡ Some m.number → Was c later m ⊎ (m.number ≡ c.next_member) → AllByRecursion (IsRecordOf (fields_at later m.file)) (images_of e.kind)
   by m names (inl was) =
-      subst (λ fields. AllByRecursion (IsRecordOf fields) (images_of e.kind)) was.fields (it.told was.was was.among (names ∙ ap (λ (n : ℕ). Some n) (sym was.number)))
+      subst (λ (fields : List Field). AllByRecursion (IsRecordOf fields) (images_of e.kind)) was.fields (it.told was.was was.among (names ∙ ap (λ (n : ℕ). Some n) (sym was.number)))
   by m names (inr new) = elim (it.below m.number names) [
     | inl none ↦ subst (λ (images : List (List ℕ)). AllByRecursion (IsRecordOf (fields_at later m.file)) images) (sym none) tt
     | inr low ↦ absurd (omega (arith, new, low))
@@ -166,7 +167,8 @@ module _ (c : Catalogue) (is : IsCatalogue c) (e : Entry) where
 
 -- ---- an entry more
 
-module _ (c : Catalogue) (s : ℕ → State) (past : List Entry) (st : Stands c s past) (prior : Option Entry) (e : Entry) (may : MayEnterBy descriptions e.kind e c) (records : HasRecords descriptions c e)
+module _ (c : Catalogue) (s : ℕ → State) (past : List Entry) (st : Stands c s past) (prior : Option Entry) (e : Entry) (may : MayEnterBy descriptions e.kind e c)
+    (records : HasRecords descriptions c e)
     (follow : (member : ℕ) → MayFollow (s member) (act member prior e)) where
   abbrev later : Catalogue
   later = catalogue_by e.kind e c
@@ -182,11 +184,10 @@ module _ (c : Catalogue) (s : ℕ → State) (past : List Entry) (st : Stands c 
 
   holds-now : (m : CatalogMember) → Was c later m ⊎ (m.number ≡ c.next_member) → Holds (HoldsValues (fields_at later m.file)) (step (s m.number) (act m.number prior e))
   holds-now m (inl was) =
-      let n = was.was.number in
-      subst (λ fields. Holds (HoldsValues fields) (step (s m.number) (act m.number prior e))) was.fields
+      subst (λ (fields : List Field). Holds (HoldsValues fields) (step (s m.number) (act m.number prior e))) was.fields
       (subst (λ (k : ℕ). Holds (HoldsValues (fields_at c was.was.file)) (step (s k) (act k prior e))) was.number
-      (step-holds (HoldsValues (fields_at c was.was.file)) tt (s n) (act n prior e) (follow n)
-      (gives-act (fields_at c was.was.file) n prior e (λ names. member-records c st.is st.plain e records was.was was.among (number-of e.member n names)))
+      (step-holds (HoldsValues (fields_at c was.was.file)) tt (s was.was.number) (act was.was.number prior e) (follow was.was.number)
+      (gives-act (fields_at c was.was.file) was.was.number prior e (λ names. member-records c st.is st.plain e records was.was was.among (number-of e.member was.was.number names)))
       (st.holds was.was was.among)))
   holds-now m (inr new) =
       let empty = fresh-now m.number (omega (arith, new)) in record {
