@@ -1,13 +1,12 @@
 -- What a physical file's source describes doesn't change where the files that it names stay.
-use Rattle.std.proofs.Common.{◌≡◌, ℕ, ◌&&◌, ◌||◌, not, nat_lt, cond, if◌then◌else◌, Bool, true, false, Option, Some, None, IfSome, Result, Ok, Err, List, [], ◌∷◌, ◌++◌, length, refl, sym, ◌∙◌, ap, codes}
+use Rattle.std.proofs.Common.{◌≡◌, ℕ, if◌then◌else◌, Bool, true, false, Option, Some, None, IfSome, Result, Ok, Err, List, [], ◌∷◌, ◌++◌, refl, sym, ◌∙◌, ap, codes}
 use Rattle.std.specs.List.{AllByRecursion}
 use Rattle.field_types.specs.declared.kinds.FieldType.{FieldType}
 use Rattle.record_fmt.specs.declared.formats.Field.{Field}
 use Rattle.record_fmt.specs.declared.formats.Format.{Format}
-use Rattle.record_fmt.specs.declared.formats.TheConstants.{MOST_FIELDS}
 use Rattle.dds_source.specs.declared.arguments.Argument.{Argument}
 use Rattle.dds_source.specs.declared.faults.DdsFault.{DdsFault}
-use Rattle.dds_source.specs.declared.faults.DdsCause.TheVariants.{Conflict, TooLarge, UnknownReference}
+use Rattle.dds_source.specs.declared.faults.DdsCause.TheVariants.{UnknownReference}
 use Rattle.dds_source.specs.declared.keywords.Keyword.{Keyword}
 use Rattle.dds_source.specs.declared.specifications.Source.{Source}
 use Rattle.dds_source.specs.declared.specifications.Specification.{Specification}
@@ -15,18 +14,17 @@ use Rattle.dds_source.specs.declared.specifications.SpecificationKind.{Specifica
 use Rattle.dds_source.specs.declared.specifications.SpecificationKind.TheVariants as kinds
 use Rattle.dds_source.specs.Entries.{when}
 use Rattle.dds_source.specs.Faults.{first_after}
-use Rattle.dds_physical.specs.declared.keyword_names.Place.TheVariants as places
 use Rattle.dds_physical.specs.declared.physical_files.PhysicalSpec.{PhysicalSpec}
 use Rattle.dds_physical.specs.Attributes.{attributes}
 use Rattle.dds_physical.specs.Draft.{nothing}
-use Rattle.dds_physical.specs.KeywordRules.{argument_name, is_special, keyword_faults}
+use Rattle.dds_physical.specs.KeywordRules.{argument_name, is_special}
 use Rattle.dds_physical.specs.Keywords.{arguments_of, first_named}
-use Rattle.dds_physical.specs.Lines.{described, described_of, entry_faults, line_faults, line_faults_of, lines_described, lines_faults, or_those, place_faults, type_faults, unless_faulty, with_field}
+use Rattle.dds_physical.specs.Lines.{described, described_of, line_faults, line_faults_of, lines_described, lines_faults, or_those, type_faults, unless_faulty, with_field}
 use Rattle.dds_physical.specs.Names.{name_of}
 use Rattle.dds_physical.specs.Physical.{draft_of, faults_of, finished, physical_of, specification, specification_unless}
-use Rattle.dds_physical.specs.Places.{at_keyword, error_list, fault_at, fault_of_keyword}
+use Rattle.dds_physical.specs.Places.{error_list, fault_of_keyword}
 use Rattle.dds_physical.specs.References.{file_of, file_of_keyword, found_or, is_file_missing, is_format_missing, is_missing, names_more, own_type, reference_faults, reference_file, reference_type, referenced, referenced_by, type_in_file, type_in_format, typed, typed_by}
-use Rattle.dds_physical.specs.WholeFile.{file_faults, has_key, keyless_unique, other_order, reference_file_faults, whole_faults}
+use Rattle.dds_physical.specs.WholeFile.{file_faults, reference_file_faults, whole_faults}
 use Rattle.dds_physical.proofs.FaultLemmas.{nothing_noted}
 use Rattle.library_kept.proofs.DefaultLemmas.{none-left, none-right, not-said}
 use Rattle.library_kept.proofs.FieldLemmas.{unless-ok}
@@ -35,6 +33,17 @@ use Rattle.restart_model.specs.Sources.{file_in_keyword, file_of_line, second_na
 found-ok : (o : Option FieldType) (fault : DdsFault) (t : FieldType) → found_or o fault ≡ Ok t → o ≡ Some t
 found-ok None fault t e = absurd cc
 found-ok (Some u) fault t e = let same : u ≡ t = cc in ap (λ (x : FieldType). Some x) same
+
+-- ---- other faults in their place
+
+in-the-middle : (xs ys ws zs vs ts : List DdsFault) → ws ≡ ys → vs ≡ zs → xs ++ ys ++ zs ++ ts ≡ [] → xs ++ ws ++ vs ++ ts ≡ []
+in-the-middle xs ys ws zs vs ts one other none = (λ i. xs ++ one i ++ other i ++ ts) ∙ none
+
+at-the-end : (xs ys zs : List DdsFault) → zs ≡ ys → xs ++ ys ≡ [] → xs ++ zs ≡ []
+at-the-end xs ys zs same none = (λ i. xs ++ same i) ∙ none
+
+all-none : (xs ys zs : List DdsFault) → xs ≡ [] → ys ≡ [] → zs ≡ [] → xs ++ ys ++ zs ≡ []
+all-none xs ys zs a b c = λ i. a i ++ b i ++ c i
 
 -- all that the source names is so
 pub record NamesOnly (P : List ℕ → Type 0) (source : Source) : Type 0 where
@@ -118,8 +127,8 @@ module _ (P : List ℕ → Type 0) (formats others : List ℕ → Option Format)
         let type_said = none-right _ (type_faults (typed formats file d.fields s) s.keywords) (none-left _ _ none) in
         let refs = faults-stay d.fields s q others_said in
         let its = type-same d.fields s q type_said in
-        ((λ i. place_faults d s ++ entry_faults s ++ keyword_faults places.Field s.keywords ++ refs i ++ type_faults (its i) s.keywords
-            ++ when (not (nat_lt (length d.fields) MOST_FIELDS)) (fault_at s 19 TooLarge)) ∙ none,
+        (in-the-middle _ (reference_faults formats file d.fields s) (reference_faults others file d.fields s) (type_faults (typed formats file d.fields s) s.keywords)
+        (type_faults (typed others file d.fields s) s.keywords) _ refs (ap (λ (r : Result FieldType DdsFault). type_faults r s.keywords) its) none,
         (λ i. with_field d (name_of s.name) (its i) s.keywords))
     line-same d s kinds.Key q none = (none, refl)
     line-same d s kinds.Select q none = (none, refl)
@@ -190,13 +199,14 @@ module _ (P : List ℕ → Type 0) (formats others : List ℕ → Option Format)
   unfolding faults_of
   faults-same source only none =
       let parts = faults-parts source none in
-      let lines = (lines-same (reference_file source.file) only.file source.specifications nothing only.lines parts.0).0 ∙ sym parts.0 in
+      let lines = (lines-same (reference_file source.file) only.file source.specifications nothing only.lines parts.0).0 in
       let refs = file-stays (first_named (codes "REF") source.file) only.file
           (none-right _ (reference_file_faults formats (first_named (codes "REF") source.file)) parts.1) in
-      let draft = draft-same source only none in
-      (λ i. lines i
-          ++ (keyword_faults places.File source.file ++ at_keyword Conflict (other_order source.file) ++ at_keyword Conflict (keyless_unique (has_key source.specifications) source.file) ++ refs i)
-          ++ whole_faults source.last_line source.specifications (draft i)) ∙ none
+      let files = at-the-end _ (reference_file_faults formats (first_named (codes "REF") source.file)) (reference_file_faults others (first_named (codes "REF") source.file)) refs parts.1 in
+      let whole = none-right _ (whole_faults source.last_line source.specifications (draft_of formats source)) none in
+      all-none (lines_faults others (reference_file source.file) nothing source.specifications) (file_faults others source.file source.specifications)
+      (whole_faults source.last_line source.specifications (draft_of others source)) lines files
+      (ap (whole_faults source.last_line source.specifications) (draft-same source only none) ∙ whole)
 
   pub physical-stays : (source : Source) (spec : PhysicalSpec) → NamesOnly P source → physical_of formats source ≡ Ok spec → physical_of others source ≡ Ok spec
   unfolding physical_of specification
