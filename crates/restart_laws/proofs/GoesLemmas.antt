@@ -49,13 +49,12 @@ among-filter : {X : Type 0} (keep : X → Bool) (xs : List X) (x : X) → Among 
 among-filter keep [] x among = absurd among
 among-filter keep (y ∷ ys) x among =
     elim (keep y) as (λ b. keep y ≡ b → Among x (cond b (y ∷ filter keep ys) (filter keep ys)) → (((y ≡ x) ⊎ Among x ys) × (keep x ≡ true))) [
-      | true ↦ λ is a. first is a
+      | true ↦ λ is a. elim a [
+        | inl same ↦ (inl same, ap keep (sym same) ∙ is)
+        | inr later ↦ (let rest = among-filter keep ys x later in (inr rest.0, rest.1))
+      ]
       | false ↦ λ is a. (let rest = among-filter keep ys x a in (inr rest.0, rest.1))
     ] refl among
-  where
-    first : keep y ≡ true → (y ≡ x) ⊎ Among x (filter keep ys) → (((y ≡ x) ⊎ Among x ys) × (keep x ≡ true))
-    first is (inl same) = (inl same, ap keep (sym same) ∙ is)
-    first is (inr a) = let rest = among-filter keep ys x a in (inr rest.0, rest.1)
 
 among-append : {X : Type 0} (xs : List X) (new x : X) → Among x (xs ++ new ∷ []) → Among x xs ⊎ (new ≡ x)
 among-append [] new x (inl same) = inr same
@@ -63,7 +62,7 @@ among-append [] new x (inr none) = absurd none
 among-append (y ∷ ys) new x (inl same) = inl (inl same)
 among-append (y ∷ ys) new x (inr among) = elim (among-append ys new x among) [ inl a ↦ inl (inr a) | inr same ↦ inr same ]
 
-numbered-among : (members : List CatalogMember) (m : CatalogMember) → AreNumbersApart members → Among m members → find (has_number (Some m.number)) members ≡ Some m
+pub numbered-among : (members : List CatalogMember) (m : CatalogMember) → AreNumbersApart members → Among m members → find (has_number (Some m.number)) members ≡ Some m
 numbered-among [] m apart among = absurd among
 numbered-among (other ∷ members) m apart (inl same) =
     rw (eq-eqb m.number other.number (ap (λ (x : CatalogMember). x.number) (sym same))) (ap (λ (x : CatalogMember). Some x) same)

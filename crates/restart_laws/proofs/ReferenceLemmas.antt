@@ -34,6 +34,9 @@ found-ok : (o : Option FieldType) (fault : DdsFault) (t : FieldType) → found_o
 found-ok None fault t e = absurd cc
 found-ok (Some u) fault t e = let same : u ≡ t = cc in ap (λ (x : FieldType). Some x) same
 
+found-so : (o : Option FieldType) (fault : DdsFault) (t : FieldType) → o ≡ Some t → found_or o fault ≡ Ok t
+found-so o fault t e = ap (λ (x : Option FieldType). found_or x fault) e
+
 -- ---- other faults in their place
 
 in-the-middle : (xs ys ws zs vs ts : List DdsFault) → ws ≡ ys → vs ≡ zs → xs ++ ys ++ zs ++ ts ≡ [] → xs ++ ws ++ vs ++ ts ≡ []
@@ -79,9 +82,11 @@ module _ (P : List ℕ → Type 0) (formats others : List ℕ → Option Format)
   module _ (file : Option (List ℕ)) (p : IfSome file P) where
     by-keyword : (own : List Field) (s : Specification) (o : Option Keyword) (t : FieldType) → IfSome (file_in_keyword o) P → referenced_by formats file own s o ≡ Ok t
         → referenced_by others file own s o ≡ Ok t
-    by-keyword own s None t q e = ap (λ (o : Option FieldType). found_or o _) (type-stays file (name_of s.name) t p (found-ok (type_in_file formats file (name_of s.name)) _ t e))
+    by-keyword own s None t q e =
+        found-so (type_in_file others file (name_of s.name)) _ t (type-stays file (name_of s.name) t p (found-ok (type_in_file formats file (name_of s.name)) _ t e))
     by-keyword own s (Some k) t q e =
-        ap (λ (o : Option FieldType). found_or o _) (reference-stays file own (arguments_of k) t p q (found-ok (reference_type formats file own (arguments_of k)) _ t e))
+        found-so (reference_type others file own (arguments_of k)) _ t
+        (reference-stays file own (arguments_of k) t p q (found-ok (reference_type formats file own (arguments_of k)) _ t e))
 
     referenced-stays : (own : List Field) (s : Specification) (t : FieldType) → IfSome (file_of_line s) P → referenced formats file own s ≡ Ok t → referenced others file own s ≡ Ok t
     referenced-stays own s t q e = by-keyword own s (first_named (codes "REFFLD") s.keywords) t q e

@@ -86,13 +86,13 @@ nones-with file o before (next ∷ files) none others = (with-none file o before
 
 with-alike : (file : CatalogFile) (o : Option FileSpec) (a b : Named FileState) → named file.name a ≡ None → named file.name b ≡ None → (name : List ℕ)
     → spec_named a name ≡ spec_named b name → spec_named (with_described file o a) name ≡ spec_named (with_described file o b) name
-with-alike file None a b no none name alike = alike
-with-alike file (Some spec) a b no none name alike =
+with-alike file None a b first second name alike = alike
+with-alike file (Some spec) a b first second name alike =
     elim (same_name name file.name) as (λ t. same_name name file.name ≡ t
     → spec_named (a ++ (file.name, described_state file spec) ∷ []) name ≡ spec_named (b ++ (file.name, described_state file spec) ∷ []) name) [
       | true ↦ λ same. subst (λ (n : List ℕ). spec_named (a ++ (file.name, described_state file spec) ∷ []) n ≡ spec_named (b ++ (file.name, described_state file spec) ∷ []) n)
           (sym (same_name-equal name file.name same))
-          (ap spec_found (named-new a file.name (described_state file spec) no ∙ sym (named-new b file.name (described_state file spec) none)))
+          (ap spec_found (named-new a file.name (described_state file spec) first ∙ sym (named-new b file.name (described_state file spec) second)))
       | false ↦ λ differs. ap spec_found (named-other a name file.name (described_state file spec) differs) ∙ alike
           ∙ sym (ap spec_found (named-other b name file.name (described_state file spec) differs))
     ] refl
@@ -201,11 +201,11 @@ module _ (files : List CatalogFile) (new : CatalogFile) (unnamed : find (is_name
 
 -- ---- a file less
 
-abbrev NotGone : List ℕ → List ℕ → Type 0
+abbrev pub NotGone : List ℕ → List ℕ → Type 0
 NotGone gone name = same_name gone name ≡ false
 
 -- where it stays, its source doesn't name the one that is gone
-abbrev IsFree : List ℕ → CatalogFile → Type 0
+abbrev pub IsFree : List ℕ → CatalogFile → Type 0
 IsFree gone file = bytes_eq file.name gone ≡ false → file.kind ≡ Physical → (source : Source) → source_of file.source ≡ Ok source → NamesOnly (NotGone gone) source
 
 any-append : (test : List ℕ → Bool) (xs ys : List (List ℕ)) → list_any test (xs ++ ys) ≡ false → (list_any test xs ≡ false) × (list_any test ys ≡ false)
@@ -279,13 +279,13 @@ module _ (gone : List ℕ) where
   alike-with : (others before : Named FileState) (file : CatalogFile) → AreAlike others before → IsFree gone file → bytes_eq file.name gone ≡ false → named file.name others ≡ None
       → named file.name before ≡ None
       → AreAlike (with_described file (spec_beside others file.kind file.source) others) (with_described file (spec_beside before file.kind file.source) before)
-  alike-with others before file alike free differs no none name not_gone = by file.kind refl
+  alike-with others before file alike free differs first second name not_gone = by file.kind refl
     where
       by : (kind : FileKind) → file.kind ≡ kind
           → spec_named (with_described file (spec_beside others kind file.source) others) name ≡ spec_named (with_described file (spec_beside before kind file.source) before) name
       by Physical is =
           ap (λ (o : Option FileSpec). spec_named (with_described file o others) name) (same-spec others before file alike free differs is)
-          ∙ with-alike file (spec_beside before Physical file.source) others before no none name (alike name not_gone)
+          ∙ with-alike file (spec_beside before Physical file.source) others before first second name (alike name not_gone)
       by Logical is =
           with-silent file (logical_by (spec_named others) (source_of file.source)) others name ∙ alike name not_gone
           ∙ sym (with-silent file (logical_by (spec_named before) (source_of file.source)) before name)
@@ -300,20 +300,20 @@ module _ (gone : List ℕ) where
   behind-less : (files : List CatalogFile) (others before : Named FileState) → AreAlike others before → AreNamesApart files → AllByRecursion (λ (f : CatalogFile). named f.name others ≡ None) files
       → AllByRecursion (λ (f : CatalogFile). named f.name before ≡ None) files → AllByRecursion (IsFree gone) files
       → AreAlike (described_behind others (filter stays files)) (described_behind before files)
-  behind-less [] others before alike apart no none free = alike
-  behind-less (file ∷ files) others before alike apart no none free =
+  behind-less [] others before alike apart first second free = alike
+  behind-less (file ∷ files) others before alike apart first second free =
       elim (bytes_eq file.name gone) as (λ b. bytes_eq file.name gone ≡ b
       → AreAlike (described_behind others (cond (not b) (file ∷ filter stays files) (filter stays files))) (described_behind before (file ∷ files))) [
         | true ↦ λ same. behind-less files others (with_described file (spec_beside before file.kind file.source) before)
-            (alike-gone others before file (spec_beside before file.kind file.source) alike same) apart.1 no.1
-            (nones-with file (spec_beside before file.kind file.source) before files none.1 apart.0) free.1
+            (alike-gone others before file (spec_beside before file.kind file.source) alike same) apart.1 first.1
+            (nones-with file (spec_beside before file.kind file.source) before files second.1 apart.0) free.1
         | false ↦ λ differs. behind-less files (with_described file (spec_beside others file.kind file.source) others) (with_described file (spec_beside before file.kind file.source) before)
-            (alike-with others before file alike free.0 differs no.0 none.0) apart.1
-            (nones-with file (spec_beside others file.kind file.source) others files no.1 apart.0)
-            (nones-with file (spec_beside before file.kind file.source) before files none.1 apart.0) free.1
+            (alike-with others before file alike free.0 differs first.0 second.0) apart.1
+            (nones-with file (spec_beside others file.kind file.source) others files first.1 apart.0)
+            (nones-with file (spec_beside before file.kind file.source) before files second.1 apart.0) free.1
       ] refl
 
-  nothing-named : (files : List CatalogFile) → AllByRecursion (λ (f : CatalogFile). named f.name [] ≡ None) files
+  nothing-named : (files : List CatalogFile) → AllByRecursion (λ (f : CatalogFile). named {A = FileState} f.name [] ≡ None) files
   nothing-named [] = tt
   nothing-named (file ∷ files) = (refl, nothing-named files)
 
