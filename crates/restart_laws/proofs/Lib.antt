@@ -6,6 +6,7 @@ pub mod StableLemmas
 pub mod HeldLemmas
 pub mod GoesLemmas
 pub mod StandLemmas
+pub mod RoomLemmas
 pub mod LeftLemmas
 pub mod LibraryLemmas
 pub mod SoundLemmas

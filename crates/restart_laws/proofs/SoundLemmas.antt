@@ -3,6 +3,8 @@ use Rattle.std.proofs.Common.{◌≡◌, ◌⊎◌, inl, inr, ℕ, ◌+◌, ◌*
 use Rattle.std.proofs.lemmas.Bool.{cases_eq, eq-eqb, eqb-true, ne_eqb}
 use Rattle.std.specs.List.{AllByRecursion, filter, find}
 use Rattle.std.specs.Option.{option_map}
+use Rattle.std.specs.Prelude.{IsTrue}
+use Rattle.entry_codec.specs.Placing.{is_placed}
 use Rattle.entry_codec.specs.declared.entries.Draft.{Draft}
 use Rattle.entry_codec.specs.declared.entries.Entry.{Entry}
 use Rattle.entry_codec.specs.declared.kinds.EntryKind.{EntryKind}
@@ -43,11 +45,11 @@ use Rattle.joint_state.specs.Agreed.{Agrees, IsAsTold}
 use Rattle.joint_state.specs.Joint.{IsJoint}
 use Rattle.joint_state.specs.Limits.{AreWithin, IsWithin}
 use Rattle.joint_state.specs.Sound.{IsSound}
-use Rattle.joint_state.specs.Told.{AreTold, IsRecordOf, IsTold, TellsRecord}
+use Rattle.joint_state.specs.Told.{AreTold, IsRecordOf, IsTold, MayHavePlace, NamesPlace, TellsRecord}
 use Rattle.library_kept.proofs.FieldLemmas.{length-record}
 use Rattle.restart_model.specs.Libraries.{files_left, journal_with, library_restarted, member_left, record_length_in}
 use Rattle.restart_model.specs.Sources.{described_files, descriptions, spec_named}
-use Rattle.restart_laws.specs.Given.{IsDeposited, NamesItsPlace}
+use Rattle.restart_laws.specs.Given.{IsDeposited}
 use Rattle.restart_laws.proofs.CatalogueLemmas.{IsCatalogue, empty-is}
 use Rattle.restart_laws.proofs.DescribedLemmas.{Among, each-among}
 use Rattle.restart_laws.proofs.GoesLemmas.{beside-at, fields_at, fields_found, found-among, numbered-among, own-file}
@@ -55,6 +57,7 @@ use Rattle.restart_laws.proofs.HeldLemmas.{Holds, IsUndo, undone-holds, undone-l
 use Rattle.restart_laws.proofs.LeftLemmas.{IsLeft, left-apart, left-based, left-defaults, left-file, left-formats, left-mapped, left-member, left-names, left-numbers, named-files, with_members}
 use Rattle.restart_laws.proofs.LibraryLemmas.{catalogue-is, numbered-is}
 use Rattle.restart_laws.proofs.RestartedLemmas.{catalogue-restarted}
+use Rattle.restart_laws.proofs.RoomLemmas.{ChangeHasRoom, EntryHasRoom, changes-have-room, long-at, may-place, restart-has-room, rooms-all}
 use Rattle.restart_laws.proofs.StableLemmas.{spec_found}
 use Rattle.restart_laws.proofs.StandLemmas.{IsToldIn, Stands, stands-all}
 
@@ -266,10 +269,11 @@ module _ (entries : List Entry) (attached moment : ℕ) (can : CanReplayJournal 
   abbrev s : State
   s = library_restarted (λ _. 0) attached moment (journal_with entries)
 
+  beginning : Stands empty_catalogue (λ member. start_of (journal_with entries) member) []
+  beginning = record { is = empty-is; plain = tt; holds = λ m among. absurd among; fresh = λ number above. (refl, refl); told = tt }
+
   at-first : Stands (catalogue_of j) (λ member. state_of j member) entries
-  at-first =
-      stands-all entries empty_catalogue (λ member. start_of (journal_with entries) member) [] None
-      (record { is = empty-is; plain = tt; holds = λ m among. absurd among; fresh = λ number above. (refl, refl); told = tt }) can.enters can.records can.replays
+  at-first = stands-all entries empty_catalogue (λ member. start_of (journal_with entries) member) [] None beginning can.enters can.records can.replays
 
   stands : Stands (catalogue_of r) (λ member. state_of j member) entries
   stands = subst (λ (c : Catalogue). Stands c (λ member. state_of (journal_with entries) member) entries) (sym (catalogue-restarted None moment j)) at-first
@@ -318,11 +322,42 @@ module _ (entries : List Entry) (attached moment : ℕ) (can : CanReplayJournal 
 
   -- ---- the entries
 
+  undos-are : (member : ℕ) → (state_of j member).undos ≡ of_member member (undos_of [] None entries)
+  undos-are member =
+      let all = linked entries (λ n. start_of j n) [] None (record { cycles = λ n. refl; undos = λ n. refl; real = tt }) can.replays in all.undos member
+
   sides : AllByRecursion (SidesOf (catalogue_of r)) (undos_of [] None entries)
   sides =
-      let all = linked entries (λ member. start_of j member) [] None (record { cycles = λ member. refl; undos = λ member. refl; real = tt }) can.replays in
       sides-from (catalogue_of r) (undos_of [] None entries)
-      (λ m among. subst (λ (undos : List Change). AllByRecursion (IsUndo (HoldsValues (fields_at (catalogue_of r) m.file))) undos) (all.undos m.number) (stands.holds m among).undos)
+      (λ m among. subst (λ (undos : List Change). AllByRecursion (IsUndo (HoldsValues (fields_at (catalogue_of r) m.file))) undos) (undos-are m.number) (stands.holds m among).undos)
+
+  undos-within : (m : CatalogMember) → Among m (catalogue_of r).members
+      → AllByRecursion (λ (change : Change). MayHavePlace (fields_at (catalogue_of r) m.file) (change.place + 1)) (state_of j m.number).undos
+  undos-within m among =
+      let limits : IsMember (record { record_length = layout.record_length (fields_at (catalogue_of r) m.file); slots = (state_of j m.number).slots }) =
+          subst (λ (long : ℕ). IsMember (record { record_length = long; slots = (state_of j m.number).slots })) (long-at (catalogue_of r) stands.is stands.plain m among) (member-limits m among) in
+      each-weaker (λ (change : Change). change.place < length (state_of j m.number).slots) (λ (change : Change). MayHavePlace (fields_at (catalogue_of r) m.file) (change.place + 1))
+      (λ change low. may-place (fields_at (catalogue_of r) m.file) (state_of j m.number).slots (change.place + 1) (omega arith) (omega (arith, low)) limits) (state_of j m.number).undos
+      (sound-replay (start_of j m.number) (acts_after j m.number) (sound-start _ _) (can.replays m.number)).within
+
+  changes-room : AllByRecursion (ChangeHasRoom (catalogue_of r)) (undos_of [] None entries)
+  changes-room =
+      changes-have-room (catalogue_of r) (undos_of [] None entries) (λ number above. sym (undos-are number) ∙ (stands.fresh number above).1)
+      (λ m among. subst (λ (undos : List Change). AllByRecursion (λ (change : Change). MayHavePlace (fields_at (catalogue_of r) m.file) (change.place + 1)) undos) (undos-are m.number) (undos-within m among))
+
+  rooms : AllByRecursion (λ (e : Entry). IsTrue (is_placed e)) entries → AllByRecursion (EntryHasRoom (catalogue_of r)) s.entries
+  rooms placed =
+      each-append (EntryHasRoom (catalogue_of r)) entries (restart_entries None moment j)
+      (subst (λ (c : Catalogue). AllByRecursion (EntryHasRoom c) entries) (sym (catalogue-restarted None moment j))
+      (rooms-all entries empty_catalogue (λ member. start_of (journal_with entries) member) [] None beginning tt can.enters can.records can.replays can.pairs placed can.limits))
+      (restart-has-room (catalogue_of r) None moment j changes-room)
+
+  names-made : (e : Entry) → EntryHasRoom (catalogue_of r) e → IfSome e.member (λ number. number < (catalogue_of r).next_member)
+  names-made e room = by e.member refl
+    where
+      by : (o : Option ℕ) → e.member ≡ o → IfSome o (λ number. number < (catalogue_of r).next_member)
+      by None is = tt
+      by (Some number) is = room.below number is
 
   images-told : AllByRecursion (EntryTold (catalogue_of r)) s.entries
   images-told =
@@ -330,25 +365,26 @@ module _ (entries : List Entry) (attached moment : ℕ) (can : CanReplayJournal 
       (each-weaker (IsToldIn (catalogue_of r)) (EntryTold (catalogue_of r)) (λ e it. it.told) entries stands.told)
       (entries-told (catalogue_of r) None moment j sides)
 
-  one-is-told : (e : Entry) → EntryTold (catalogue_of r) e → NamesItsPlace files e → IsTold files e
-  one-is-told e told places name file number owns names =
+  one-is-told : (e : Entry) → EntryTold (catalogue_of r) e → EntryHasRoom (catalogue_of r) e → IsTold files e
+  one-is-told e told room name file number owns names =
       let its = left-member (λ _. 0) r (catalogue-is entries attached moment can) name file number owns in
-      let found = found-among (λ (o : CatalogMember). o.number == number) (catalogue_of r).members its.0 its.1 in record {
-        images = subst (λ (fs : List Field). AllByRecursion (IsRecordOf fs) (images_of e.kind)) (ap (fields_at (catalogue_of r)) its.2 ∙ fields-left (λ _. 0) r name file owns.there)
-            (told its.0 found.0 (names ∙ ap (λ (n : ℕ). Some n) (sym (eqb-true its.0.number number found.1))));
-        place = places name file number owns names;
+      let found = found-among (λ (o : CatalogMember). o.number == number) (catalogue_of r).members its.0 its.1 in
+      let same = ap (fields_at (catalogue_of r)) its.2 ∙ fields-left (λ _. 0) r name file owns.there in
+      let own : e.member ≡ Some its.0.number = names ∙ ap (λ (n : ℕ). Some n) (sym (eqb-true its.0.number number found.1)) in record {
+        images = subst (λ (fs : List Field). AllByRecursion (IsRecordOf fs) (images_of e.kind)) same (told its.0 found.0 own);
+        place = λ of. subst (λ (fs : List Field). NamesPlace fs e.rrn) same (room.places its.0 found.0 own of);
       }
 
-  all-are-told : (some : List Entry) → AllByRecursion (EntryTold (catalogue_of r)) some → AllByRecursion (NamesItsPlace files) some → AllByRecursion (IsTold files) some
-  all-are-told [] told places = tt
-  all-are-told (e ∷ some) told places = (one-is-told e told.0 places.0, all-are-told some told.1 places.1)
+  all-are-told : (some : List Entry) → AllByRecursion (EntryTold (catalogue_of r)) some → AllByRecursion (EntryHasRoom (catalogue_of r)) some → AllByRecursion (IsTold files) some
+  all-are-told [] told have = tt
+  all-are-told (e ∷ some) told have = (one-is-told e told.0 have.0, all-are-told some told.1 have.1)
 
   so-now : (member at : ℕ) → is_some (member_at member s.members) ≡ true → IsSo (known_after at None (acts member None s.entries)) (slot_of (member_of member s.members).slots at)
   so-now member at there =
       subst (λ (slots : List Slot). IsSo (known_after at None (acts_after r member)) (slot_of slots at)) (sym (slots-left (λ _. 0) r files (catalogue_of r).members member there))
       (so-after at (acts_after r member) (start_of r member) None tt)
 
-  pub restarted-sound : IsDeposited s → library_bytes s.members ≤ MOST_LIBRARY_BYTES → IsSound s
+  pub restarted-sound : IsDeposited entries s → library_bytes s.members ≤ MOST_LIBRARY_BYTES → IsSound s
   restarted-sound deposited few = record {
     library = record {
       members = members-there;
@@ -370,7 +406,10 @@ module _ (entries : List Entry) (attached moment : ℕ) (can : CanReplayJournal 
       compatible = λ k d lt. absurd (omega arith);
       locks = tt;
       jobs = λ number job there. absurd cc;
-      told = record { records = all-are-told s.entries images-told deposited.places; members = deposited.members };
+      told = record {
+        records = all-are-told s.entries images-told (rooms deposited.placed);
+        members = each-weaker (EntryHasRoom (catalogue_of r)) (λ (e : Entry). IfSome e.member (λ number. number < (catalogue_of r).next_member)) names-made s.entries (rooms deposited.placed);
+      };
     };
     agreed = record {
       chained = λ member at. IsChained-replayed at (acts_after r member) (start_of r member) None tt (restarted-replays None moment j can.replays member);

@@ -60,7 +60,7 @@ number-of None n h = absurd cc
 number-of (Some m) n h = ap (λ (x : ℕ). Some x) (eqb-true m n h)
 
 module _ (c : Catalogue) (is : IsCatalogue c) (e : Entry) where
-  member-below : (number : ℕ) → IsOfMember e c → e.member ≡ Some number → number < c.next_member
+  pub member-below : (number : ℕ) → IsOfMember e c → e.member ≡ Some number → number < c.next_member
   member-below number of names =
       let found = found-among (has_number e.member) c.members of.0 of.1 in
       let low = each-among (λ (m : CatalogMember). m.number < c.next_member) of.0 c.members is.below found.0 in

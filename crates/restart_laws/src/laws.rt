@@ -44,7 +44,7 @@ pub fn restarted_files_are_sound()
 /// A library is sound after its restart, where its journal can be replayed and holds only what libraries deposit.
 pub fn restarted_libraries_are_sound()
     ensures { (entries : List Entry) (attached moment : ℕ) → CanReplayJournal descriptions (journal_with entries)
-        → IsDeposited (library_restarted (λ _. 0) attached moment (journal_with entries))
+        → IsDeposited entries (library_restarted (λ _. 0) attached moment (journal_with entries))
         → library_bytes (library_restarted (λ _. 0) attached moment (journal_with entries)).members ≤ MOST_LIBRARY_BYTES
         → IsSound (library_restarted (λ _. 0) attached moment (journal_with entries)) }
 {}
