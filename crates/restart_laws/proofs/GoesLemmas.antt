@@ -40,12 +40,12 @@ found-among test (y ∷ ys) x found =
       | false ↦ λ is e. (let rest = found-among test ys x e in (inr rest.0, rest.1))
     ] refl found
 
-among-map : {X : Type 0} (change : X → X) (xs : List X) (x : X) → Among x (map change xs) → (y : X) × Among y xs × (change y ≡ x)
+pub among-map : {X : Type 0} (change : X → X) (xs : List X) (x : X) → Among x (map change xs) → (y : X) × Among y xs × (change y ≡ x)
 among-map change [] x among = absurd among
 among-map change (y ∷ ys) x (inl same) = (y, inl refl, same)
 among-map change (y ∷ ys) x (inr among) = let rest = among-map change ys x among in (rest.0, inr rest.1, rest.2)
 
-among-filter : {X : Type 0} (keep : X → Bool) (xs : List X) (x : X) → Among x (filter keep xs) → Among x xs × (keep x ≡ true)
+pub among-filter : {X : Type 0} (keep : X → Bool) (xs : List X) (x : X) → Among x (filter keep xs) → Among x xs × (keep x ≡ true)
 among-filter keep [] x among = absurd among
 among-filter keep (y ∷ ys) x among =
     elim (keep y) as (λ b. keep y ≡ b → Among x (cond b (y ∷ filter keep ys) (filter keep ys)) → (((y ≡ x) ⊎ Among x ys) × (keep x ≡ true))) [
@@ -56,7 +56,7 @@ among-filter keep (y ∷ ys) x among =
       | false ↦ λ is a. (let rest = among-filter keep ys x a in (inr rest.0, rest.1))
     ] refl among
 
-among-append : {X : Type 0} (xs : List X) (new x : X) → Among x (xs ++ new ∷ []) → Among x xs ⊎ (new ≡ x)
+pub among-append : {X : Type 0} (xs : List X) (new x : X) → Among x (xs ++ new ∷ []) → Among x xs ⊎ (new ≡ x)
 among-append [] new x (inl same) = inr same
 among-append [] new x (inr none) = absurd none
 among-append (y ∷ ys) new x (inl same) = inl (inl same)

@@ -77,7 +77,7 @@ module _ (status : CatalogMember → List ℕ × MemberStatus) (same : (m : Cata
   cons-number : (number : ℕ) (m : CatalogMember) (rest : Named MemberStatus) → has_number number (status m ∷ rest) ≡ ((m.number == number) || has_number number rest)
   cons-number number m rest = has_number-cons number (status m) rest ∙ ap (λ (n : ℕ). (n == number) || has_number number rest) (same m)
 
-  none-numbered : (members : List CatalogMember) (name : List ℕ) (number : ℕ) → AllByRecursion (HasOther number) members → has_number number (its name members) ≡ false
+  pub none-numbered : (members : List CatalogMember) (name : List ℕ) (number : ℕ) → AllByRecursion (HasOther number) members → has_number number (its name members) ≡ false
   none-numbered [] name number others = refl
   none-numbered (m ∷ members) name number others =
       elim (bytes_eq m.file name) as (λ b. has_number number (map status (cond b (m ∷ filter (is_in_file name) members) (filter (is_in_file name) members))) ≡ false) [

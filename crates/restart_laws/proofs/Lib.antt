@@ -7,6 +7,8 @@ pub mod HeldLemmas
 pub mod GoesLemmas
 pub mod StandLemmas
 pub mod RoomLemmas
+pub mod SilentLemmas
 pub mod LeftLemmas
+pub mod KeptLemmas
 pub mod LibraryLemmas
 pub mod SoundLemmas

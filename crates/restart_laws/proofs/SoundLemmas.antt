@@ -31,15 +31,18 @@ use Rattle.journal_model.specs.Restart.{all_undone}
 use Rattle.journal_model.specs.Rollback.{MemberChange, all_rollback_drafts, change_drafts, missing_behind, missing_draft, missing_kind, numbered_from, of_member, restart_drafts, rollback_drafts, undo_drafts, undo_kinds, undos_of}
 use Rattle.journal_model.proofs.JournalLemmas.{restarted-replays, restarted-slots}
 use Rattle.journal_model.proofs.LibraryLemmas.{linked}
+use Rattle.journal_model.proofs.MemberLemmas.{acts-append}
 use Rattle.journal_model.proofs.PlaceLemmas.{slot_of-put_other, slot_of-put_same}
 use Rattle.journal_model.proofs.ReplayLemmas.{IsChained-replayed}
+use Rattle.journal_model.proofs.SequenceLemmas.{known_after-append}
 use Rattle.journal_model.proofs.SoundLemmas.{sound-replay, sound-start}
 use Rattle.file_catalogue.specs.Owners.{Owns}
 use Rattle.file_catalogue.proofs.NameLemmas.{some-equal}
 use Rattle.library_model.specs.Named.{Named, named}
 use Rattle.library_steps.specs.declared.limits.TheConstants.{MOST_LIBRARY_BYTES}
 use Rattle.library_steps.specs.Ranges.{library_bytes}
-use Rattle.library_steps.specs.State.{State, FileState, fields_of, format_in, physical_in}
+use Rattle.library_steps.specs.SlotChange.{images_of as images_kept}
+use Rattle.library_steps.specs.State.{State, FileState, fields_of, format_in, memory_of, physical_in}
 use Rattle.library_parts.specs.Lawful.{HasRecords, HoldsValues, IsLibrary, IsThere}
 use Rattle.joint_state.specs.Agreed.{Agrees, IsAsTold}
 use Rattle.joint_state.specs.Joint.{IsJoint}
@@ -49,15 +52,17 @@ use Rattle.joint_state.specs.Told.{AreTold, IsRecordOf, IsTold, MayHavePlace, Na
 use Rattle.library_kept.proofs.FieldLemmas.{length-record}
 use Rattle.restart_model.specs.Libraries.{files_left, journal_with, library_restarted, member_left, record_length_in}
 use Rattle.restart_model.specs.Sources.{described_files, descriptions, spec_named}
-use Rattle.restart_laws.specs.Given.{IsDeposited}
+use Rattle.restart_laws.specs.Given.{AreDeposited, AreJournaled}
 use Rattle.restart_laws.proofs.CatalogueLemmas.{IsCatalogue, empty-is}
 use Rattle.restart_laws.proofs.DescribedLemmas.{Among, each-among}
 use Rattle.restart_laws.proofs.GoesLemmas.{beside-at, fields_at, fields_found, found-among, numbered-among, own-file}
 use Rattle.restart_laws.proofs.HeldLemmas.{Holds, IsUndo, undone-holds, undone-long}
+use Rattle.restart_laws.proofs.KeptLemmas.{has-own, images-kept, there-found}
 use Rattle.restart_laws.proofs.LeftLemmas.{IsLeft, left-apart, left-based, left-defaults, left-file, left-formats, left-mapped, left-member, left-names, left-numbers, named-files, with_members}
 use Rattle.restart_laws.proofs.LibraryLemmas.{catalogue-is, numbered-is}
 use Rattle.restart_laws.proofs.RestartedLemmas.{catalogue-restarted}
 use Rattle.restart_laws.proofs.RoomLemmas.{ChangeHasRoom, EntryHasRoom, changes-have-room, long-at, may-place, restart-has-room, rooms-all}
+use Rattle.restart_laws.proofs.SilentLemmas.{restart-known, silent-all}
 use Rattle.restart_laws.proofs.StableLemmas.{spec_found}
 use Rattle.restart_laws.proofs.StandLemmas.{IsToldIn, Stands, stands-all}
 
@@ -343,7 +348,8 @@ module _ (entries : List Entry) (attached moment : ℕ) (can : CanReplayJournal 
   changes-room : AllByRecursion (ChangeHasRoom (catalogue_of r)) (undos_of [] None entries)
   changes-room =
       changes-have-room (catalogue_of r) (undos_of [] None entries) (λ number above. sym (undos-are number) ∙ (stands.fresh number above).1)
-      (λ m among. subst (λ (undos : List Change). AllByRecursion (λ (change : Change). MayHavePlace (fields_at (catalogue_of r) m.file) (change.place + 1)) undos) (undos-are m.number) (undos-within m among))
+      (λ m among. subst (λ (undos : List Change). AllByRecursion (λ (change : Change). MayHavePlace (fields_at (catalogue_of r) m.file) (change.place + 1)) undos)
+      (undos-are m.number) (undos-within m among))
 
   rooms : AllByRecursion (λ (e : Entry). IsTrue (is_placed e)) entries → AllByRecursion (EntryHasRoom (catalogue_of r)) s.entries
   rooms placed =
@@ -384,7 +390,40 @@ module _ (entries : List Entry) (attached moment : ℕ) (can : CanReplayJournal 
       subst (λ (slots : List Slot). IsSo (known_after at None (acts_after r member)) (slot_of slots at)) (sym (slots-left (λ _. 0) r files (catalogue_of r).members member there))
       (so-after at (acts_after r member) (start_of r member) None tt)
 
-  pub restarted-sound : IsDeposited entries s → library_bytes s.members ≤ MOST_LIBRARY_BYTES → IsSound s
+  -- ---- members that aren't journaled
+
+  own-file-left : (m : CatalogMember) → Among m (catalogue_of r).members → (file : FileState) × (named m.file files ≡ Some (with_members (λ _. 0) r m.file file))
+  own-file-left m among =
+      let its = own-file (catalogue_of r) stands.is stands.plain m among in
+      by (named m.file (described_files (catalogue_of r).files)) its.plain.spec refl (ap (spec_named (described_files (catalogue_of r).files)) (sym its.called) ∙ its.plain.found)
+    where
+      by : (o : Option FileState) (spec : PhysicalSpec) → named m.file (described_files (catalogue_of r).files) ≡ o → spec_found o ≡ Some spec
+          → (file : FileState) × (named m.file files ≡ Some (with_members (λ _. 0) r m.file file))
+      by None spec is found = absurd cc
+      by (Some base) spec is found = (base, named-files (λ _. 0) r m.file ∙ ap (option_map (with_members (λ _. 0) r m.file)) is)
+
+  images-none : (number : ℕ) (m : CatalogMember) → find (λ (o : CatalogMember). o.number == number) (catalogue_of r).members ≡ Some m → images_kept number (memory_of s) ≡ None → m.images ≡ None
+  images-none number m found none =
+      let its = own-file-left m (found-among (λ (o : CatalogMember). o.number == number) (catalogue_of r).members m found).0 in
+      sym (images-kept (λ _. 0) r (described_files (catalogue_of r).files) number m m.file (with_members (λ _. 0) r m.file its.0) stands.is.numbers found
+      (record { there = its.1; has = has-own (λ _. 0) r (catalogue_of r).members number m found })) ∙ none
+
+  silent-now : AreJournaled empty_catalogue entries → (member at : ℕ) → is_some (member_at member s.members) ≡ true → images_kept member (memory_of s) ≡ None
+      → known_after at None (acts member None s.entries) ≡ None
+  silent-now journaled member at there none =
+      let its = there-found (λ _. 0) r files (catalogue_of r).members member there in
+      let found = found-among (λ (o : CatalogMember). o.number == member) (catalogue_of r).members its.0 its.1 in
+      let among = subst (λ (c : Catalogue). Among its.0 c.members) (catalogue-restarted None moment j) found.0 in
+      let quiet = silent-all entries at empty_catalogue (λ n. None) (λ n. start_of (journal_with entries) n) None empty-is tt
+          (record { silent = λ m nowhere images. absurd nowhere; fresh = λ n above. record { known = refl; undos = refl } }) can.enters journaled can.replays in
+      let nothing = quiet.silent its.0 among (images-none member its.0 its.1 none) in
+      subst (λ (n : ℕ). known_after at None (acts n None s.entries) ≡ None) (eqb-true its.0.number member found.1)
+      (ap (known_after at None) (acts-append its.0.number None entries (restart_entries None moment j))
+      ∙ known_after-append at None (acts its.0.number None entries) (acts its.0.number (entry_before None entries) (restart_entries None moment j))
+      ∙ ap (λ (k : Option Slot). known_after at k (acts its.0.number (entry_before None entries) (restart_entries None moment j))) nothing.known
+      ∙ restart-known its.0.number None moment at j (entry_before None entries) None (sym (undos-are its.0.number) ∙ nothing.undos))
+
+  pub restarted-sound : AreDeposited entries → library_bytes s.members ≤ MOST_LIBRARY_BYTES → IsSound s
   restarted-sound deposited few = record {
     library = record {
       members = members-there;
@@ -408,12 +447,13 @@ module _ (entries : List Entry) (attached moment : ℕ) (can : CanReplayJournal 
       jobs = λ number job there. absurd cc;
       told = record {
         records = all-are-told s.entries images-told (rooms deposited.placed);
-        members = each-weaker (EntryHasRoom (catalogue_of r)) (λ (e : Entry). IfSome e.member (λ number. number < (catalogue_of r).next_member)) names-made s.entries (rooms deposited.placed);
+        members = each-weaker (EntryHasRoom (catalogue_of r)) (λ (e : Entry). IfSome e.member (λ number. number < (catalogue_of r).next_member)) names-made s.entries
+            (rooms deposited.placed);
       };
     };
     agreed = record {
       chained = λ member at. IsChained-replayed at (acts_after r member) (start_of r member) None tt (restarted-replays None moment j can.replays member);
-      told = λ member at there. record { so = so-now member at there; silent = deposited.silent member at };
+      told = λ member at there. record { so = so-now member at there; silent = silent-now deposited.journaled member at there };
       committed = tt;
     };
   }

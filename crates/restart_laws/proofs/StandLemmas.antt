@@ -55,7 +55,7 @@ told-goes c later e goes it = record {
 
 -- ---- a new entry
 
-number-of : (o : Option ℕ) (n : ℕ) → is_number o n ≡ true → o ≡ Some n
+pub number-of : (o : Option ℕ) (n : ℕ) → is_number o n ≡ true → o ≡ Some n
 number-of None n h = absurd cc
 number-of (Some m) n h = ap (λ (x : ℕ). Some x) (eqb-true m n h)
 
@@ -67,7 +67,7 @@ module _ (c : Catalogue) (is : IsCatalogue c) (e : Entry) where
       let same : number ≡ of.0.number = eqb-true number of.0.number (ap (λ (o : Option ℕ). is_number o of.0.number) (sym names) ∙ found.1) in
       omega (arith, low, same)
 
-  none-above : (number : ℕ) → c.next_member ≤ number → IsOfMember e c → is_number e.member number ≡ true → ⊥
+  pub none-above : (number : ℕ) → c.next_member ≤ number → IsOfMember e c → is_number e.member number ≡ true → ⊥
   none-above number above of names = let low = member-below number of (number-of e.member number names) in absurd (omega (arith, above, low))
 
   images-below : (kind : EntryKind) (number : ℕ) → MayEnterBy descriptions kind e c → e.member ≡ Some number → (images_of kind ≡ []) ⊎ (number < c.next_member)

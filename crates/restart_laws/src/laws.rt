@@ -13,7 +13,7 @@ ghost use Rattle.library_parts.specs.Lawful.{AreBased};
 ghost use Rattle.library_steps.specs.Ranges.{library_bytes};
 ghost use Rattle.library_steps.specs.declared.limits.TheConstants.{MOST_LIBRARY_BYTES};
 ghost use Rattle.joint_state.specs.Sound.{IsSound};
-ghost use Rattle.restart_laws.specs.Given.{IsDeposited};
+ghost use Rattle.restart_laws.specs.Given.{AreDeposited};
 ghost use Rattle.joint_state.specs.Limits.{AreFormats};
 ghost use Rattle.joint_state.specs.Views.{AreMapped, HaveDefaults};
 ghost use Rattle.restart_model.specs.Sources.{descriptions};
@@ -44,7 +44,7 @@ pub fn restarted_files_are_sound()
 /// A library is sound after its restart, where its journal can be replayed and holds only what libraries deposit.
 pub fn restarted_libraries_are_sound()
     ensures { (entries : List Entry) (attached moment : ℕ) → CanReplayJournal descriptions (journal_with entries)
-        → IsDeposited entries (library_restarted (λ _. 0) attached moment (journal_with entries))
+        → AreDeposited entries
         → library_bytes (library_restarted (λ _. 0) attached moment (journal_with entries)).members ≤ MOST_LIBRARY_BYTES
         → IsSound (library_restarted (λ _. 0) attached moment (journal_with entries)) }
 {}
