@@ -60,7 +60,7 @@ defaults-by : (before : Named FileState) (kind : FileKind) (text : List ℕ) (sp
 defaults-by before kind text spec (inl p) = subst (λ (s : FileSpec). HoldDefaults (format_in s).fields) p.1.is (physical-defaults (format_named before) p.1.source p.1.its p.1.gives)
 defaults-by before kind text spec (inr l) = subst (λ (s : FileSpec). HoldDefaults (format_in s).fields) l.1.is tt
 
-physical-is : (s : FileSpec) (spec : PhysicalSpec) → physical_in s ≡ Some spec → s ≡ PhysicalFile spec
+pub physical-is : (s : FileSpec) (spec : PhysicalSpec) → physical_in s ≡ Some spec → s ≡ PhysicalFile spec
 physical-is (PhysicalFile other) spec e = ap PhysicalFile (some-equal e)
 physical-is (LogicalFile other) spec e = absurd cc
 

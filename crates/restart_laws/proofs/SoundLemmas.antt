@@ -7,6 +7,7 @@ use Rattle.std.specs.Prelude.{IsTrue}
 use Rattle.entry_codec.specs.Placing.{is_placed}
 use Rattle.entry_codec.specs.declared.entries.Draft.{Draft}
 use Rattle.entry_codec.specs.declared.entries.Entry.{Entry}
+use Rattle.entry_codec.specs.declared.kinds.FileKind.TheVariants.{Physical}
 use Rattle.entry_codec.specs.declared.kinds.EntryKind.{EntryKind}
 use Rattle.entry_codec.specs.declared.kinds.EntryKind.TheVariants.{FileCreated, FileDeleted, MemberAdded, JournalingStarted, InitialSlot, JournalingEnded, MemberCleared, MemberReorganized, ChangesApplied, ChangesRemoved, RecordAdded, RecordAddedAtNumber, BeforeImage, AfterImage, RecordDeleted, UndoBeforeImage, UndoAfterImage, UndoDelete, CommitmentStarted, CommitCycleStarted, CommitCycleCommitted, CommitCycleRolledBack, CommitmentEnded, AbnormalEnd, NextReceiver, PreviousReceiver}
 use Rattle.member_slots.specs.declared.member.TheConstants.{MOST_SLOTS, MOST_BYTES}
@@ -22,7 +23,7 @@ use Rattle.logical_model.specs.Bases.{FileSpec, PhysicalFile, LogicalFile}
 use Rattle.logical_laws.proofs.ListLemmas.{each-append, each-filter, each-map, each-weaker}
 use Rattle.journal_model.specs.Acts.{Act, Changed, Began, Committed, RolledBack, Journaled, Stood, Cleared, Reorganized, Ended, Nothing, Change, acts, entry_before}
 use Rattle.journal_model.specs.AtSequence.{IsChained, IsSo, known_after, known_by}
-use Rattle.journal_model.specs.Catalogue.{Catalogue, CatalogFile, CatalogMember, catalogue_after, empty_catalogue, file_named, member_numbered}
+use Rattle.journal_model.specs.Catalogue.{Catalogue, CatalogFile, CatalogMember, empty_catalogue, is_named, member_numbered}
 use Rattle.journal_model.specs.Images.{images_of}
 use Rattle.journal_model.specs.Journal.{Journal, CanReplayJournal, acts_after, catalogue_of, entries as entries_of, last_sequence, length_in, open_cycles, record_length, restart_entries, restarted, start_of, state_of}
 use Rattle.journal_model.specs.Places.{put_slot, slot_of}
@@ -37,6 +38,7 @@ use Rattle.journal_model.proofs.ReplayLemmas.{IsChained-replayed}
 use Rattle.journal_model.proofs.SequenceLemmas.{known_after-append}
 use Rattle.journal_model.proofs.SoundLemmas.{sound-replay, sound-start}
 use Rattle.file_catalogue.specs.Owners.{Owns}
+use Rattle.file_catalogue.specs.Physical.{IsPhysical}
 use Rattle.file_catalogue.proofs.NameLemmas.{some-equal}
 use Rattle.library_model.specs.Named.{Named, named}
 use Rattle.library_steps.specs.declared.limits.TheConstants.{MOST_LIBRARY_BYTES}
@@ -52,18 +54,18 @@ use Rattle.joint_state.specs.Told.{AreTold, IsRecordOf, IsTold, MayHavePlace, Na
 use Rattle.library_kept.proofs.FieldLemmas.{length-record}
 use Rattle.restart_model.specs.Libraries.{files_left, journal_with, library_restarted, member_left, record_length_in}
 use Rattle.restart_model.specs.Sources.{described_files, descriptions, spec_named}
-use Rattle.restart_laws.specs.Given.{AreDeposited, AreJournaled}
+use Rattle.restart_laws.specs.Given.{AreDeposited, AreJournaled, IsLeftAs}
 use Rattle.restart_laws.proofs.CatalogueLemmas.{IsCatalogue, empty-is}
-use Rattle.restart_laws.proofs.DescribedLemmas.{Among, each-among}
+use Rattle.restart_laws.proofs.DescribedLemmas.{Among, each-among, find-among}
 use Rattle.restart_laws.proofs.GoesLemmas.{beside-at, fields_at, fields_found, found-among, numbered-among, own-file}
 use Rattle.restart_laws.proofs.HeldLemmas.{Holds, IsUndo, undone-holds, undone-long}
 use Rattle.restart_laws.proofs.KeptLemmas.{has-own, images-kept, there-found}
-use Rattle.restart_laws.proofs.LeftLemmas.{IsLeft, left-apart, left-based, left-defaults, left-file, left-formats, left-mapped, left-member, left-names, left-numbers, named-files, with_members}
+use Rattle.restart_laws.proofs.LeftLemmas.{IsLeft, left-apart, left-based, left-defaults, left-file, left-formats, left-mapped, left-member, left-names, left-numbers, named-files, physical-is, with_members}
 use Rattle.restart_laws.proofs.LibraryLemmas.{catalogue-is, numbered-is}
 use Rattle.restart_laws.proofs.RestartedLemmas.{catalogue-restarted}
 use Rattle.restart_laws.proofs.RoomLemmas.{ChangeHasRoom, EntryHasRoom, changes-have-room, long-at, may-place, restart-has-room, rooms-all}
 use Rattle.restart_laws.proofs.SilentLemmas.{restart-known, silent-all}
-use Rattle.restart_laws.proofs.StableLemmas.{spec_found}
+use Rattle.restart_laws.proofs.StableLemmas.{IsPlain, spec_found}
 use Rattle.restart_laws.proofs.StandLemmas.{IsToldIn, Stands, stands-all}
 
 -- ---- each of a list by its place in it
@@ -457,3 +459,29 @@ module _ (entries : List Entry) (attached moment : ℕ) (can : CanReplayJournal 
       committed = tt;
     };
   }
+
+  -- ---- physical files are there
+
+  pub files-left-as : AllByRecursion (λ (file : CatalogFile). file.kind ≡ Physical → IsLeftAs (catalogue_of r).files files file) (catalogue_of r).files
+  files-left-as =
+      each-of-among (λ (file : CatalogFile). file.kind ≡ Physical → IsLeftAs (catalogue_of r).files files file) (catalogue_of r).files
+      (λ file among physical. one file among (each-among (λ (f : CatalogFile). f.kind ≡ Physical → IsPlain (described_files (catalogue_of r).files) f) file (catalogue_of r).files stands.plain among physical))
+    where
+      one : (file : CatalogFile) → Among file (catalogue_of r).files → IsPlain (described_files (catalogue_of r).files) file → IsLeftAs (catalogue_of r).files files file
+      one file among plain = by (named file.name (described_files (catalogue_of r).files)) refl plain.found
+        where
+          by : (o : Option FileState) → named file.name (described_files (catalogue_of r).files) ≡ o → spec_found o ≡ Some plain.spec → IsLeftAs (catalogue_of r).files files file
+          by None is found = absurd cc
+          by (Some base) is found =
+              let there : named file.name files ≡ Some (with_members (λ _. 0) r file.name base) = named-files (λ _. 0) r file.name ∙ ap (option_map (with_members (λ _. 0) r file.name)) is in
+              let it = left-file (λ _. 0) r file.name (with_members (λ _. 0) r file.name base) there in
+              let same : it.from ≡ file = some-equal
+                  (sym (ap (λ (n : List ℕ). find (is_named n) (catalogue_of r).files) (sym it.called) ∙ find-among it.from (catalogue_of r).files stands.is.names it.among)
+                  ∙ find-among file (catalogue_of r).files stands.is.names among) in record {
+                state = with_members (λ _. 0) r file.name base;
+                there = there;
+                source = it.source ∙ ap (λ (f : CatalogFile). f.source) same;
+                physical = subst (λ (s : FileSpec). IsPhysical s) (sym (physical-is base.spec plain.spec found)) tt;
+                fields = beside-at (catalogue_of r) file.name (record { file = file; there = find-among file (catalogue_of r).files stands.is.names among; plain = plain; called = refl })
+                    ∙ fields-left (λ _. 0) r file.name (with_members (λ _. 0) r file.name base) there;
+              }

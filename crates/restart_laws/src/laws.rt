@@ -1,19 +1,21 @@
 //! Contracts of functions that do nothing.
 
-ghost use Rattle.std.specs.Prelude.{ℕ, ◌<◌, ◌≤◌, ◌+◌, List};
+ghost use Rattle.std.specs.Prelude.{◌≡◌, ℕ, ◌<◌, ◌≤◌, ◌+◌, None, List};
 ghost use Rattle.std.specs.List.{AllByRecursion, IsDistinct};
 ghost use Rattle.std.specs.Map.{keys_of};
 ghost use Rattle.entry_codec.specs.declared.entries.Entry.{Entry};
+ghost use Rattle.entry_codec.specs.declared.kinds.FileKind.TheVariants.{Physical};
+ghost use Rattle.journal_model.specs.Catalogue.{CatalogFile};
 ghost use Rattle.member_slots.specs.Member.{MemberState};
 ghost use Rattle.member_slots.specs.Members.{Numbered};
-ghost use Rattle.journal_model.specs.Journal.{AreNumbered, CanReplayJournal};
+ghost use Rattle.journal_model.specs.Journal.{AreNumbered, CanReplayJournal, catalogue_of, restarted};
 ghost use Rattle.file_catalogue.specs.Owners.{AreApart};
 ghost use Rattle.library_model.specs.Named.{same_name};
 ghost use Rattle.library_parts.specs.Lawful.{AreBased};
 ghost use Rattle.library_steps.specs.Ranges.{library_bytes};
 ghost use Rattle.library_steps.specs.declared.limits.TheConstants.{MOST_LIBRARY_BYTES};
 ghost use Rattle.joint_state.specs.Sound.{IsSound};
-ghost use Rattle.restart_laws.specs.Given.{AreDeposited};
+ghost use Rattle.restart_laws.specs.Given.{AreDeposited, IsLeftAs};
 ghost use Rattle.joint_state.specs.Limits.{AreFormats};
 ghost use Rattle.joint_state.specs.Views.{AreMapped, HaveDefaults};
 ghost use Rattle.restart_model.specs.Sources.{descriptions};
@@ -39,6 +41,14 @@ pub fn restarted_files_are_sound()
             (library_restarted (λ _. 0) attached moment (journal_with entries)).members }
     ensures numbered { (entries : List Entry) (attached moment : ℕ) → CanReplayJournal descriptions (journal_with entries)
         → AreNumbered ((library_restarted (λ _. 0) attached moment (journal_with entries)).gone + 1) (library_restarted (λ _. 0) attached moment (journal_with entries)).entries }
+{}
+
+/// Each physical file that the journal leaves is one of the library's, made from its source: what that describes stays, whatever files come and go.
+pub fn physical_files_are_left()
+    ensures { (entries : List Entry) (attached moment : ℕ) → CanReplayJournal descriptions (journal_with entries)
+        → AllByRecursion (λ (file : CatalogFile). file.kind ≡ Physical
+        → IsLeftAs (catalogue_of (restarted None moment (journal_with entries))).files (library_restarted (λ _. 0) attached moment (journal_with entries)).files file)
+        (catalogue_of (restarted None moment (journal_with entries))).files }
 {}
 
 /// A library is sound after its restart, where its journal can be replayed and holds only what libraries deposit.
