@@ -47,9 +47,9 @@ module _ {X : Type 0} (test : X → Bool) where
         elim (test first) as (λ b. test first ≡ b → cond b (Some first) (find test xs) ≡ Some x → find test (cond (keep first) (first ∷ filter keep xs) (filter keep xs)) ≡ Some x) [
           | true ↦ λ is e. rw (kept first is) (rw is e)
           | false ↦ λ is e. elim (keep first) as (λ b. find test (cond b (first ∷ filter keep xs) (filter keep xs)) ≡ Some x) [
-              | true ↦ rw is (find-filter xs x e)
-              | false ↦ find-filter xs x e
-            ]
+            | true ↦ rw is (find-filter xs x e)
+            | false ↦ find-filter xs x e
+          ]
         ] refl found
 
     pub any-filter : (xs : List X) → list_any test xs ≡ true → list_any test (filter keep xs) ≡ true
@@ -58,9 +58,9 @@ module _ {X : Type 0} (test : X → Bool) where
         elim (test first) as (λ b. test first ≡ b → (b || list_any test xs) ≡ true → list_any test (cond (keep first) (first ∷ filter keep xs) (filter keep xs)) ≡ true) [
           | true ↦ λ is e. rw (kept first is) (rw is refl)
           | false ↦ λ is e. elim (keep first) as (λ b. list_any test (cond b (first ∷ filter keep xs) (filter keep xs)) ≡ true) [
-              | true ↦ rw is (any-filter xs e)
-              | false ↦ any-filter xs e
-            ]
+            | true ↦ rw is (any-filter xs e)
+            | false ↦ any-filter xs e
+          ]
         ] refl some
 
 -- ---- what holds of a catalogue
@@ -132,9 +132,10 @@ owned-more files new name has = record { file = has.file; there = find-before (i
 numbers-append : (members : List CatalogMember) (new : CatalogMember) → AllByRecursion (λ (m : CatalogMember). m.number < new.number) members → AreNumbersApart members
     → AreNumbersApart (members ++ new ∷ [])
 numbers-append [] new below apart = (tt, tt)
-numbers-append (m ∷ members) new below apart =
-    (each-append (HasOther m.number) members (new ∷ []) apart.0 (ne_eqb new.number m.number (λ e. let low = below.0 in absurd (omega (arith, low, e))), tt),
-    numbers-append members new below.1 apart.1)
+numbers-append (m ∷ members) new below apart = (
+  each-append (HasOther m.number) members (new ∷ []) apart.0 (ne_eqb new.number m.number (λ e. let low = below.0 in absurd (omega (arith, low, e))), tt),
+  numbers-append members new below.1 apart.1,
+)
 
 numbers-filter : (test : CatalogMember → Bool) (members : List CatalogMember) → AreNumbersApart members → AreNumbersApart (filter test members)
 numbers-filter test [] apart = tt
@@ -177,9 +178,11 @@ module _ (c : Catalogue) (is : IsCatalogue c) where
     below = below-more first next;
     owned = each-append (λ (m : CatalogMember). HasPhysical (c.files ++ new ∷ []) m.file) c.members (first ∷ [])
         (each-weaker (λ (m : CatalogMember). HasPhysical c.files m.file) (λ (m : CatalogMember). HasPhysical (c.files ++ new ∷ []) m.file)
-        (λ m has. owned-more c.files new m.file has) c.members is.owned)
-        (subst (HasPhysical (c.files ++ new ∷ [])) (sym of)
-        (record { file = new; there = find-behind new.name c.files new (none-named new.name c.files unnamed) (same_name-self new.name); physical = kind }), tt);
+        (λ m has. owned-more c.files new m.file has) c.members is.owned) (
+          subst (HasPhysical (c.files ++ new ∷ [])) (sym of)
+              (record { file = new; there = find-behind new.name c.files new (none-named new.name c.files unnamed) (same_name-self new.name); physical = kind }),
+          tt,
+        );
     firsts = each-append (HasFirst (c.members ++ first ∷ [])) c.files (new ∷ [])
         (each-weaker (HasFirst c.members) (HasFirst (c.members ++ first ∷ [])) (λ file has. first-more c.members first file has) c.files is.firsts)
         ((λ physical. any-behind (is_first new.name) c.members first its), tt);
@@ -219,11 +222,14 @@ module _ (c : Catalogue) (is : IsCatalogue c) where
         elim (bytes_eq m.file gone) as (λ b. bytes_eq m.file gone ≡ b
         → AllByRecursion (λ (m : CatalogMember). HasPhysical (filter stays c.files) m.file) (cond (not b) (m ∷ filter lives members) (filter lives members))) [
           | true ↦ λ same. owned-less members all.1
-          | false ↦ λ differs. (record {
-            file = all.0.file;
-            there = find-filter (is_named m.file) stays (λ file same. other-name file.name m.file differs same) c.files all.0.file all.0.there;
-            physical = all.0.physical;
-          }, owned-less members all.1)
+          | false ↦ λ differs. (
+            record {
+              file = all.0.file;
+              there = find-filter (is_named m.file) stays (λ file same. other-name file.name m.file differs same) c.files all.0.file all.0.there;
+              physical = all.0.physical;
+            },
+            owned-less members all.1,
+          )
         ] refl
 
     firsts-less : (files : List CatalogFile) → AllByRecursion (HasFirst c.members) files → AllByRecursion (HasFirst (filter lives c.members)) (filter stays files)
@@ -232,8 +238,11 @@ module _ (c : Catalogue) (is : IsCatalogue c) where
         elim (bytes_eq file.name gone) as (λ b. bytes_eq file.name gone ≡ b
         → AllByRecursion (HasFirst (filter lives c.members)) (cond (not b) (file ∷ filter stays files) (filter stays files))) [
           | true ↦ λ same. firsts-less files all.1
-          | false ↦ λ differs. ((λ physical. any-filter (is_first file.name) lives
-              (λ m first. other-name m.file file.name differs (and_parts (is_in_file file.name m) (bytes_eq file.name m.name) first).0) c.members (all.0 physical)), firsts-less files all.1)
+          | false ↦ λ differs. (
+            (λ physical. any-filter (is_first file.name) lives
+                (λ m first. other-name m.file file.name differs (and_parts (is_in_file file.name m) (bytes_eq file.name m.name) first).0) c.members (all.0 physical)),
+            firsts-less files all.1,
+          )
         ] refl
 
     pub file-less : IsCatalogue (file_deleted gone c)
@@ -251,10 +260,11 @@ module _ (c : Catalogue) (is : IsCatalogue c) where
       (name : (m : CatalogMember) → (change m).name ≡ m.name) where
     numbers-map : (members : List CatalogMember) → AreNumbersApart members → AreNumbersApart (map change members)
     numbers-map [] apart = tt
-    numbers-map (m ∷ members) apart =
-        (each-map (HasOther (change m).number) change members
-        (each-weaker (HasOther m.number) (λ (o : CatalogMember). HasOther (change m).number (change o)) (λ o other. (λ i. number o i == number m i) ∙ other) members apart.0),
-        numbers-map members apart.1)
+    numbers-map (m ∷ members) apart = (
+      each-map (HasOther (change m).number) change members
+          (each-weaker (HasOther m.number) (λ (o : CatalogMember). HasOther (change m).number (change o)) (λ o other. (λ i. number o i == number m i) ∙ other) members apart.0),
+      numbers-map members apart.1,
+    )
 
     any-map : (its : List ℕ) (members : List CatalogMember) → list_any (is_first its) (map change members) ≡ list_any (is_first its) members
     any-map its [] = refl

@@ -1,8 +1,7 @@
 -- What do the files of a journal describe, one after the other? Each under its own name, beside those before it, which stay as they are.
-use Rattle.std.proofs.Common.{◌≡◌, ◌⊎◌, inl, inr, ℕ, Bool, true, false, cond, map, Option, Some, None, Result, Ok, Err, List, [], ◌∷◌, ◌++◌, refl, sym, ◌∙◌, ap, subst}
+use Rattle.std.proofs.Common.{◌≡◌, ◌⊎◌, inl, inr, ℕ, false, Option, Some, None, Result, Ok, Err, List, [], ◌∷◌, ◌++◌, refl, sym, ◌∙◌, ap, subst}
 use Rattle.std.specs.List.{AllByRecursion, IsDistinct, find}
 use Rattle.std.specs.Map.{keys_of}
-use Rattle.std.specs.Option.{option_map}
 use Rattle.std.specs.Str.{bytes_eq}
 use Rattle.entry_codec.specs.declared.kinds.FileKind.{FileKind}
 use Rattle.entry_codec.specs.declared.kinds.FileKind.TheVariants.{Physical, Logical}
@@ -15,7 +14,7 @@ use Rattle.dds_logical.specs.declared.views.LogicalSpec.{LogicalSpec}
 use Rattle.dds_logical.specs.Logical.{logical_of}
 use Rattle.logical_model.specs.Bases.{FileSpec, PhysicalFile, LogicalFile}
 use Rattle.journal_model.specs.Catalogue.{CatalogFile, is_named}
-use Rattle.file_catalogue.proofs.NameLemmas.{named-append, same_name-equal, same_name-self, same_name-symm, some-equal}
+use Rattle.file_catalogue.proofs.NameLemmas.{named-append, same_name-self, same_name-symm, some-equal}
 use Rattle.library_model.specs.Named.{Named, named, same_name}
 use Rattle.library_steps.specs.CreateLogicalFile.{logical_by}
 use Rattle.library_steps.specs.CreatePhysicalFile.{described_by}

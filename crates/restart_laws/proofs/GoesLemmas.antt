@@ -1,5 +1,5 @@
 -- What becomes of the members of a catalogue with an entry more? Each keeps its number and its record format, or is a new one.
-use Rattle.std.proofs.Common.{◌≡◌, ◌⊎◌, inl, inr, ℕ, ◌+◌, ◌<◌, ◌≤◌, ◌==◌, ◌&&◌, ◌||◌, not, cond, map, Bool, true, false, if◌then◌else◌, Option, Some, None, is_some, unwrap_or, Result, Ok, Err, List, [], ◌∷◌, ◌++◌, length, refl, sym, ◌∙◌, ap, subst, arith}
+use Rattle.std.proofs.Common.{◌≡◌, ◌⊎◌, inl, inr, ℕ, ◌≤◌, ◌==◌, ◌&&◌, not, cond, map, Bool, true, false, if◌then◌else◌, Option, Some, None, is_some, unwrap_or, Result, List, [], ◌∷◌, ◌++◌, length, refl, sym, ◌∙◌, ap, subst, arith}
 use Rattle.std.proofs.lemmas.Bool.{and_parts, eq-eqb, eqb-true}
 use Rattle.std.specs.List.{AllByRecursion, filter, find}
 use Rattle.std.specs.Str.{bytes_eq}
@@ -14,15 +14,11 @@ use Rattle.record_fmt.specs.Layout as layout
 use Rattle.record_fmt.specs.Records.{record_held}
 use Rattle.dds_source.specs.declared.faults.DdsFault.{DdsFault}
 use Rattle.dds_source.specs.declared.specifications.Source.{Source}
-use Rattle.dds_source.specs.Reading.{source_of}
 use Rattle.dds_physical.specs.declared.physical_files.PhysicalSpec.{PhysicalSpec}
-use Rattle.logical_model.specs.Bases.{FileSpec, PhysicalFile, LogicalFile}
 use Rattle.logical_laws.proofs.ListLemmas.{each-weaker}
-use Rattle.journal_model.specs.Acts.{is_number}
-use Rattle.journal_model.specs.Catalogue.{Catalogue, CatalogFile, CatalogMember, MayAddMember, MayCreate, MayDelete, MayEnterBy, catalogue_by, file_named, has_number, is_in_file, is_named, member_numbered}
+use Rattle.journal_model.specs.Catalogue.{Catalogue, CatalogFile, CatalogMember, MayAddMember, MayCreate, MayDelete, MayEnterBy, catalogue_by, has_number, is_in_file, is_named, member_numbered}
 use Rattle.journal_model.specs.Images.{AreRecords, AreRecordsOf, HasRecords, images_of}
 use Rattle.file_catalogue.proofs.NameLemmas.{same_name-equal, same_name-symm, some-equal}
-use Rattle.library_model.specs.Named.{Named, same_name}
 use Rattle.library_steps.specs.CreatePhysicalFile.{described_by}
 use Rattle.joint_state.specs.Told.{IsRecordOf}
 use Rattle.restart_model.specs.Sources.{described_files, descriptions, fields_beside, fields_if, format_named, if_physical, spec_named}

@@ -1,5 +1,5 @@
 -- The slots of a member hold what is so of the images in its entries, and so do they once open commit cycles are rolled back.
-use Rattle.std.proofs.Common.{◌≡◌, ℕ, zero, suc, ◌+◌, ◌<◌, Bool, true, false, cond, if◌then◌else◌, Option, Some, None, List, [], ◌∷◌, ◌++◌, length, replicate, max, refl, sym, ◌∙◌, ap, subst, arith}
+use Rattle.std.proofs.Common.{◌≡◌, ℕ, zero, suc, ◌<◌, true, false, if◌then◌else◌, Option, Some, None, List, [], ◌∷◌, length, replicate, refl, sym, ◌∙◌, subst, arith}
 use Rattle.std.specs.List.{AllByRecursion, filter}
 use Rattle.entry_codec.specs.declared.entries.Entry.{Entry}
 use Rattle.entry_codec.specs.declared.kinds.EntryKind.{EntryKind}
@@ -13,7 +13,7 @@ use Rattle.journal_model.specs.Images.{images_of}
 use Rattle.journal_model.specs.Places.{put_slot, slot_of}
 use Rattle.journal_model.specs.Replay.{State, all_moved, before_of, is_in, is_not_in, moved, noted, step, undos_after}
 use Rattle.journal_model.specs.Replayable.{MayFollow}
-use Rattle.journal_model.specs.Restart.{all_rollback_acts, all_undone, inverse, restart_acts, rollback_acts, undo_acts}
+use Rattle.journal_model.specs.Restart.{all_rollback_acts, all_undone, restart_acts, rollback_acts, undo_acts}
 use Rattle.journal_model.proofs.PlaceLemmas.{length-put_slot}
 use Rattle.journal_model.proofs.SoundLemmas.{told_by}
 use Rattle.logical_laws.proofs.ListLemmas.{each-append, each-filter}

@@ -4,7 +4,6 @@ use Rattle.std.proofs.lemmas.Bool.{eqb-true}
 use Rattle.std.specs.List.{AllByRecursion, filter, find}
 use Rattle.std.specs.Option.{option_and_then, option_map}
 use Rattle.std.specs.Str.{bytes_eq}
-use Rattle.entry_codec.specs.declared.kinds.Images.{Images}
 use Rattle.member_slots.specs.Members.{item_at}
 use Rattle.journal_model.specs.Catalogue.{CatalogMember, is_in_file}
 use Rattle.journal_model.specs.Journal.{Journal, catalogue_of}

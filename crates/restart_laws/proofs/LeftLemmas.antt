@@ -1,5 +1,5 @@
 -- The files and members that a journal leaves: names and numbers are apart, formats are laid out, logical files stand over physical files that are there.
-use Rattle.std.proofs.Common.{◌≡◌, ◌⊎◌, inl, inr, ℕ, ◌<◌, ◌==◌, ◌&&◌, ◌||◌, nat_eq, Bool, true, false, cond, map, Option, Some, None, is_some, IsSome, List, [], ◌∷◌, refl, sym, ◌∙◌, ap, subst, arith}
+use Rattle.std.proofs.Common.{◌≡◌, ◌⊎◌, inl, inr, ℕ, ◌<◌, ◌==◌, ◌&&◌, ◌||◌, nat_eq, Bool, true, false, cond, map, Option, Some, None, IsSome, List, [], ◌∷◌, refl, sym, ◌∙◌, ap, subst, arith}
 use Rattle.std.proofs.lemmas.Bool.{eq-eqb, eqb-true, ne_eqb}
 use Rattle.std.specs.List.{AllByRecursion, IsDistinct, filter, find, list_any}
 use Rattle.std.specs.Map.{keys_of}
@@ -8,16 +8,15 @@ use Rattle.std.specs.Str.{bytes_eq}
 use Rattle.entry_codec.specs.declared.kinds.FileKind.{FileKind}
 use Rattle.entry_codec.specs.declared.kinds.FileKind.TheVariants.{Physical, Logical}
 use Rattle.member_slots.specs.Member.{MemberState}
-use Rattle.member_slots.specs.Members.{Numbered, member_at}
-use Rattle.record_fmt.specs.Layout.{IsLaidOut, record_length}
+use Rattle.member_slots.specs.Members.{Numbered}
+use Rattle.record_fmt.specs.Layout.{IsLaidOut}
 use Rattle.dds_physical.specs.declared.physical_files.PhysicalSpec.{PhysicalSpec}
-use Rattle.dds_logical.specs.declared.views.LogicalSpec.{LogicalSpec}
 use Rattle.logical_model.specs.Bases.{FileSpec, PhysicalFile, LogicalFile, base_names}
 use Rattle.logical_laws.specs.Mapped.{AreBasesOf, HoldDefaults}
 use Rattle.logical_laws.proofs.ListLemmas.{each-map, each-weaker}
 use Rattle.logical_laws.proofs.MappedLemmas.{described-mapped, described-there}
-use Rattle.journal_model.specs.Catalogue.{Catalogue, CatalogFile, CatalogMember, is_in_file, is_named}
-use Rattle.journal_model.specs.Journal.{Journal, catalogue_of, state_of}
+use Rattle.journal_model.specs.Catalogue.{CatalogFile, CatalogMember, is_in_file, is_named}
+use Rattle.journal_model.specs.Journal.{Journal, catalogue_of}
 use Rattle.file_catalogue.specs.Owners.{AreApart, Owns, has_number, numbers_of}
 use Rattle.file_catalogue.specs.Physical.{IsPhysical}
 use Rattle.file_catalogue.proofs.ChangeLemmas.{changed-from}
@@ -25,8 +24,8 @@ use Rattle.file_catalogue.proofs.NameLemmas.{same_name-equal, some-equal}
 use Rattle.file_catalogue.proofs.StatusLemmas.{has_number-cons}
 use Rattle.library_model.specs.Named.{Named, named, same_name}
 use Rattle.library_steps.specs.LogicalFiles.{base_in, bases_in}
-use Rattle.library_steps.specs.State.{FileState, MemberStatus, fields_of, format_in, physical_among, physical_in}
-use Rattle.library_parts.specs.Lawful.{AreBased, IsBased, StandsOver}
+use Rattle.library_steps.specs.State.{FileState, MemberStatus, format_in, physical_among, physical_in}
+use Rattle.library_parts.specs.Lawful.{AreBased, IsBased}
 use Rattle.library_parts.proofs.BaseLemmas.{physical-here, some-is, some-of}
 use Rattle.joint_state.specs.Limits.{AreFormats}
 use Rattle.joint_state.specs.Views.{AreMapped, HaveDefaults, IsMapped}
@@ -34,8 +33,8 @@ use Rattle.library_kept.proofs.DefaultLemmas.{physical-defaults}
 use Rattle.library_kept.proofs.FieldLemmas.{physical-laid}
 use Rattle.library_kept.proofs.SomeLemmas.{logical-some}
 use Rattle.restart_model.specs.Libraries.{file_left, files_left, member_left, status_left}
-use Rattle.restart_model.specs.Sources.{described_files, format_named, spec_beside, spec_named}
-use Rattle.restart_laws.proofs.CatalogueLemmas.{AreNamesApart, AreNumbersApart, Differs, HasFirst, HasOther, HasPhysical, IsCatalogue, is_first}
+use Rattle.restart_model.specs.Sources.{described_files, format_named, spec_named}
+use Rattle.restart_laws.proofs.CatalogueLemmas.{AreNamesApart, AreNumbersApart, HasFirst, HasOther, HasPhysical, IsCatalogue, is_first}
 use Rattle.restart_laws.proofs.DescribedLemmas.{Among, IsBy, IsMade, behind-distinct, described-from, each-among, find-among, kind-by, none-distinct, none-new}
 
 -- ---- each file changed by its name
@@ -102,8 +101,8 @@ module _ (status : CatalogMember → List ℕ × MemberStatus) (same : (m : Cata
           → has_number number (map status (cond b (m ∷ filter (is_in_file name) members) (filter (is_in_file name) members))) ≡ true → m.file ≡ name) [
             | true ↦ λ is e. same_name-equal m.file name is
             | false ↦ λ is e. absurd (
-              let none : has_number number (its name members) ≡ false =
-              none-numbered members name number (subst (λ (n : ℕ). AllByRecursion (HasOther n) members) (eqb-true m.number number equal) apart.0) in cc)
+                let none : has_number number (its name members) ≡ false =
+                none-numbered members name number (subst (λ (n : ℕ). AllByRecursion (HasOther n) members) (eqb-true m.number number equal) apart.0) in cc)
           ] refl has
 
       rest : m.number == number ≡ false → has_number number (its name members) ≡ true
@@ -128,8 +127,10 @@ module _ (status : CatalogMember → List ℕ × MemberStatus) (same : (m : Cata
   distinct-numbers [] name apart = tt
   distinct-numbers (m ∷ members) name apart =
       elim (bytes_eq m.file name) as (λ b. IsDistinct nat_eq (numbers_of (map status (cond b (m ∷ filter (is_in_file name) members) (filter (is_in_file name) members))))) [
-        | true ↦ (subst (λ (n : ℕ). AllByRecursion (λ o. nat_eq n o ≡ false) (numbers_of (its name members))) (sym (same m)) (differ-numbers members name m.number apart.0),
-            distinct-numbers members name apart.1)
+        | true ↦ (
+          subst (λ (n : ℕ). AllByRecursion (λ o. nat_eq n o ≡ false) (numbers_of (its name members))) (sym (same m)) (differ-numbers members name m.number apart.0),
+          distinct-numbers members name apart.1,
+        )
         | false ↦ distinct-numbers members name apart.1
       ]
 
@@ -155,11 +156,11 @@ no-member files from [] apart among logical owned = refl
 no-member files from (m ∷ members) apart among logical owned =
     elim (bytes_eq m.file from.name) as (λ b. bytes_eq m.file from.name ≡ b → cond b (m ∷ filter (is_in_file from.name) members) (filter (is_in_file from.name) members) ≡ []) [
       | true ↦ λ same. absurd (
-        let has = owned.0 in
-        let same_name : m.file ≡ from.name = same_name-equal m.file from.name same in
-        let found : find (is_named from.name) files ≡ Some has.file = subst (λ (n : List ℕ). find (is_named n) files ≡ Some has.file) same_name has.there in
-        let one : from ≡ has.file = some-equal (sym (find-among from files apart among) ∙ found) in
-        let both : Logical ≡ Physical = sym logical ∙ ap (λ (f : CatalogFile). f.kind) one ∙ has.physical in cc)
+          let has = owned.0 in
+          let same_name : m.file ≡ from.name = same_name-equal m.file from.name same in
+          let found : find (is_named from.name) files ≡ Some has.file = subst (λ (n : List ℕ). find (is_named n) files ≡ Some has.file) same_name has.there in
+          let one : from ≡ has.file = some-equal (sym (find-among from files apart among) ∙ found) in
+          let both : Logical ≡ Physical = sym logical ∙ ap (λ (f : CatalogFile). f.kind) one ∙ has.physical in cc)
       | false ↦ λ differs. no-member files from members apart among logical owned.1
     ] refl
 
@@ -229,9 +230,11 @@ module _ (breaks : ℕ → ℕ) (j : Journal) where
           → (later : FileState) × (physical_among other (files_left breaks j) ≡ Some later) × (later.spec ≡ PhysicalFile spec)
       by None is h = absurd cc
       by (Some base) is h =
-          let same : base.spec ≡ PhysicalFile spec = physical-is base.spec spec h in
-          (with_members breaks j other base,
-          physical-here other (files_left breaks j) (with_members breaks j other base) (kept other base is) (subst (λ (s : FileSpec). IsPhysical s) (sym same) tt), same)
+          let same : base.spec ≡ PhysicalFile spec = physical-is base.spec spec h in (
+            with_members breaks j other base,
+            physical-here other (files_left breaks j) (with_members breaks j other base) (kept other base is) (subst (λ (s : FileSpec). IsPhysical s) (sym same) tt),
+            same,
+          )
 
   bases-left : (name : List ℕ) (file : FileState) (it : IsLeft breaks j name file) → AreBasesOf (spec_named it.before) (bases_in (files_left breaks j))
   bases-left name file it other spec e =

@@ -1,5 +1,5 @@
 -- A journal from the beginning leaves a catalogue that entries leave, and so does the restarted one.
-use Rattle.std.proofs.Common.{ℕ, ◌+◌, Option, None, List, sym, subst}
+use Rattle.std.proofs.Common.{ℕ, ◌+◌, None, List, sym, subst}
 use Rattle.entry_codec.specs.declared.entries.Entry.{Entry}
 use Rattle.journal_model.specs.Catalogue.{Catalogue, empty_catalogue}
 use Rattle.journal_model.specs.Journal.{AreNumbered, CanReplayJournal, catalogue_of, restarted}

@@ -131,10 +131,11 @@ module _ (P : List ℕ → Type 0) (formats others : List ℕ → Option Format)
         let others_said = none-right _ (reference_faults formats file d.fields s) (none-left _ (type_faults (typed formats file d.fields s) s.keywords) (none-left _ _ none)) in
         let type_said = none-right _ (type_faults (typed formats file d.fields s) s.keywords) (none-left _ _ none) in
         let refs = faults-stay d.fields s q others_said in
-        let its = type-same d.fields s q type_said in
-        (in-the-middle _ (reference_faults formats file d.fields s) (reference_faults others file d.fields s) (type_faults (typed formats file d.fields s) s.keywords)
-        (type_faults (typed others file d.fields s) s.keywords) _ refs (ap (λ (r : Result FieldType DdsFault). type_faults r s.keywords) its) none,
-        (λ i. with_field d (name_of s.name) (its i) s.keywords))
+        let its = type-same d.fields s q type_said in (
+          in-the-middle _ (reference_faults formats file d.fields s) (reference_faults others file d.fields s) (type_faults (typed formats file d.fields s) s.keywords)
+              (type_faults (typed others file d.fields s) s.keywords) _ refs (ap (λ (r : Result FieldType DdsFault). type_faults r s.keywords) its) none,
+          (λ i. with_field d (name_of s.name) (its i) s.keywords),
+        )
     line-same d s kinds.Key q none = (none, refl)
     line-same d s kinds.Select q none = (none, refl)
     line-same d s kinds.Omit q none = (none, refl)
@@ -158,10 +159,11 @@ module _ (P : List ℕ → Type 0) (formats others : List ℕ → Option Format)
     lines-same (s ∷ ss) d qs none =
         let parts = both-none (line_faults formats file d s) (lines_faults formats file (described formats file d s) ss) none in
         let line = one-line d s qs.0 parts.0 in
-        let rest = lines-same ss (described formats file d s) qs.1 parts.1 in
-        ((λ i. or_those (line.0 i) (lines_faults others file (line.1 i) ss)) ∙ rest.0,
-        (λ i. unless_faulty (line.0 i) (line.1 i) (lines_described others file (line.1 i) ss)) ∙ rest.1
-        ∙ sym (ap (λ (fs : List DdsFault). unless_faulty fs (described formats file d s) (lines_described formats file (described formats file d s) ss)) parts.0))
+        let rest = lines-same ss (described formats file d s) qs.1 parts.1 in (
+          (λ i. or_those (line.0 i) (lines_faults others file (line.1 i) ss)) ∙ rest.0,
+          (λ i. unless_faulty (line.0 i) (line.1 i) (lines_described others file (line.1 i) ss)) ∙ rest.1
+              ∙ sym (ap (λ (fs : List DdsFault). unless_faulty fs (described formats file d s) (lines_described formats file (described formats file d s) ss)) parts.0),
+        )
 
   -- ---- REF
 
@@ -192,9 +194,10 @@ module _ (P : List ℕ → Type 0) (formats others : List ℕ → Option Format)
   faults-parts : (source : Source) → faults_of formats source ≡ []
       → (lines_faults formats (reference_file source.file) nothing source.specifications ≡ []) × (file_faults formats source.file source.specifications ≡ [])
   unfolding faults_of
-  faults-parts source none =
-      (none-left (lines_faults formats (reference_file source.file) nothing source.specifications) _ (none-left _ (whole_faults source.last_line source.specifications (draft_of formats source)) none),
-      none-right _ (file_faults formats source.file source.specifications) (none-left _ (whole_faults source.last_line source.specifications (draft_of formats source)) none))
+  faults-parts source none = (
+    none-left (lines_faults formats (reference_file source.file) nothing source.specifications) _ (none-left _ (whole_faults source.last_line source.specifications (draft_of formats source)) none),
+    none-right _ (file_faults formats source.file source.specifications) (none-left _ (whole_faults source.last_line source.specifications (draft_of formats source)) none),
+  )
 
   draft-same : (source : Source) → NamesOnly P source → faults_of formats source ≡ [] → draft_of others source ≡ draft_of formats source
   unfolding draft_of
@@ -206,7 +209,7 @@ module _ (P : List ℕ → Type 0) (formats others : List ℕ → Option Format)
       let parts = faults-parts source none in
       let lines = (lines-same (reference_file source.file) only.file source.specifications nothing only.lines parts.0).0 in
       let refs = file-stays (first_named (codes "REF") source.file) only.file
-          (none-right _ (reference_file_faults formats (first_named (codes "REF") source.file)) parts.1) in
+      (none-right _ (reference_file_faults formats (first_named (codes "REF") source.file)) parts.1) in
       let files = at-the-end _ (reference_file_faults formats (first_named (codes "REF") source.file)) (reference_file_faults others (first_named (codes "REF") source.file)) refs parts.1 in
       let whole = none-right _ (whole_faults source.last_line source.specifications (draft_of formats source)) none in
       all-none (lines_faults others (reference_file source.file) nothing source.specifications) (file_faults others source.file source.specifications)

@@ -1,5 +1,5 @@
 -- Each entry names a member that is made, and a place that the member may have, where the entries name what their kinds want.
-use Rattle.std.proofs.Common.{◌≡◌, ◌⊎◌, inl, inr, ℕ, ◌+◌, ◌-◌, ◌*◌, ◌<◌, ◌≤◌, ◌==◌, ◌&&◌, cond, nat_lt, Bool, true, false, if◌then◌else◌, Option, Some, None, unwrap_or, List, [], ◌∷◌, ◌++◌, length, max, refl, sym, ◌∙◌, ap, subst, arith, le_trans}
+use Rattle.std.proofs.Common.{◌≡◌, ◌⊎◌, inl, inr, ℕ, ◌+◌, ◌<◌, ◌≤◌, ◌==◌, ◌&&◌, Bool, true, false, if◌then◌else◌, Option, Some, None, unwrap_or, List, [], ◌∷◌, ◌++◌, length, refl, sym, ◌∙◌, ap, subst, arith, le_trans}
 use Rattle.std.proofs.lemmas.Bool.{and_parts, cases_lt, eq-eqb, ltb-true}
 use Rattle.std.proofs.lemmas.List.{append_assoc}
 use Rattle.std.proofs.Math.Nat.{mul-le-mul_right}
@@ -25,7 +25,7 @@ use Rattle.journal_model.specs.Journal.{Journal, entries as entries_of, last_seq
 use Rattle.journal_model.specs.Pairs.{AreInPairs, IsOneChange, OneChange, Pair, pair_begun, pair_ended}
 use Rattle.journal_model.specs.Places.{put_slot}
 use Rattle.journal_model.specs.Replay.{State, before_of, is_in, moved, replay, step}
-use Rattle.journal_model.specs.Replayable.{CanReplay, MayFollow}
+use Rattle.journal_model.specs.Replayable.{CanReplay}
 use Rattle.journal_model.specs.Rollback.{MemberChange, all_rollback_drafts, change_drafts, missing_behind, missing_draft, missing_kind, numbered_from, of_member, restart_drafts, rollback_drafts, undo_drafts, undo_kinds, undos_of}
 use Rattle.journal_model.proofs.PlaceLemmas.{length-put_slot}
 use Rattle.joint_state.specs.Told.{MayHavePlace, NamesPlace, is_of_record}
@@ -231,7 +231,7 @@ module _ (c : Catalogue) (s : ℕ → State) (past : List Entry) (st : Stands c 
         let one : IsOneChange e e2 = subst (λ (o : Option Pair). OneChange o e e2) begun pairs.0.1 in
         let quiet = ends.quiet e2 (catalogue_by e.kind e c) in
         let found : member_numbered (Some m.number) (catalogue_by e2.kind e2 (catalogue_by e.kind e c)) ≡ Some m =
-            ap (λ (x : Catalogue). member_numbered (Some m.number) x) quiet ∙ numbered-among (catalogue_by e.kind e c).members m next.is.numbers among in
+        ap (λ (x : Catalogue). member_numbered (Some m.number) x) quiet ∙ numbered-among (catalogue_by e.kind e c).members m next.is.numbers among in
         let behind = limits (e ∷ e2 ∷ []) more m refl found in
         subst (λ (o : Option ℕ). NamesPlace (fields_at (catalogue_by e.kind e c) m.file) o) (sym one.rrn)
         (place-behind (catalogue_by e.kind e c) next.is next.plain m among (step (s m.number) (act m.number prior e)).slots (Some e) e2 (sym one.member ∙ names) ends.of ends.alone others.0
@@ -291,9 +291,9 @@ below-from next (undo ∷ undos) none = (first, below-from next undos rest)
     first = elim (cases_lt undo.member next) [
       | inl low ↦ low
       | inr above ↦ absurd (
-        let empty : of_member undo.member (undo ∷ undos) ≡ [] = none undo.member above in
-        let some : (undo.change ∷ of_member undo.member undos) ≡ [] =
-        sym (ap (λ (b : Bool). if b then undo.change ∷ of_member undo.member undos else of_member undo.member undos) (eq-eqb undo.member undo.member refl)) ∙ empty in cc)
+          let empty : of_member undo.member (undo ∷ undos) ≡ [] = none undo.member above in
+          let some : (undo.change ∷ of_member undo.member undos) ≡ [] =
+          sym (ap (λ (b : Bool). if b then undo.change ∷ of_member undo.member undos else of_member undo.member undos) (eq-eqb undo.member undo.member refl)) ∙ empty in cc)
     ]
 
     rest : (number : ℕ) → next ≤ number → of_member number undos ≡ []
@@ -347,10 +347,13 @@ module _ (c : Catalogue) (job : Option (List ℕ)) (moment : ℕ) where
 
   kinds-room : (undo : MemberChange) → ChangeHasRoom c undo → (kinds : List EntryKind) → AllByRecursion (DraftHasRoom c) (change_drafts job moment undo kinds)
   kinds-room undo room [] = tt
-  kinds-room undo room (kind ∷ kinds) = (record {
-    below = λ number names. subst (λ (n : ℕ). n < c.next_member) (let same : undo.member ≡ number = cc in same) room.below;
-    places = λ m among names of. room.places m among (let same : undo.member ≡ m.number = cc in same);
-  }, kinds-room undo room kinds)
+  kinds-room undo room (kind ∷ kinds) = (
+    record {
+      below = λ number names. subst (λ (n : ℕ). n < c.next_member) (let same : undo.member ≡ number = cc in same) room.below;
+      places = λ m among names of. room.places m among (let same : undo.member ≡ m.number = cc in same);
+    },
+    kinds-room undo room kinds,
+  )
 
   undos-room : (undos : List MemberChange) → AllByRecursion (ChangeHasRoom c) undos → AllByRecursion (DraftHasRoom c) (undo_drafts job moment undos)
   undos-room [] rooms = tt

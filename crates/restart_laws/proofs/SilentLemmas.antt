@@ -1,5 +1,5 @@
 -- Of a member that isn't journaled the entries tell nothing that still holds, and no open commit cycle has changed it.
-use Rattle.std.proofs.Common.{◌≡◌, ◌⊎◌, inl, inr, ℕ, ◌+◌, ◌<◌, ◌≤◌, ◌==◌, not, cond, map, Bool, true, false, if◌then◌else◌, Option, Some, None, is_some, IsSome, unwrap_or, List, [], ◌∷◌, ◌++◌, refl, sym, ◌∙◌, ap, subst, arith}
+use Rattle.std.proofs.Common.{◌≡◌, inl, inr, ℕ, ◌+◌, ◌≤◌, ◌==◌, not, map, Bool, true, false, if◌then◌else◌, Option, Some, None, is_some, IsSome, unwrap_or, List, [], ◌∷◌, refl, sym, ◌∙◌, ap, subst, arith}
 use Rattle.std.specs.List.{AllByRecursion, filter}
 use Rattle.entry_codec.specs.declared.entries.Draft.{Draft}
 use Rattle.entry_codec.specs.declared.entries.Entry.{Entry}

@@ -1,5 +1,5 @@
 -- A library is sound after its restart, where the journal can be replayed.
-use Rattle.std.proofs.Common.{◌≡◌, ◌⊎◌, inl, inr, ℕ, ◌+◌, ◌*◌, ◌<◌, ◌≤◌, ◌==◌, cond, map, Bool, true, false, if◌then◌else◌, Option, Some, None, is_some, unwrap_or, IfSome, List, [], ◌∷◌, ◌++◌, length, refl, sym, ◌∙◌, ap, subst, arith}
+use Rattle.std.proofs.Common.{◌≡◌, inl, inr, ℕ, ◌+◌, ◌*◌, ◌<◌, ◌≤◌, ◌==◌, cond, map, true, false, if◌then◌else◌, Option, Some, None, is_some, unwrap_or, IfSome, List, [], ◌∷◌, ◌++◌, length, refl, sym, ◌∙◌, ap, subst, arith}
 use Rattle.std.proofs.lemmas.Bool.{cases_eq, eq-eqb, eqb-true, ne_eqb}
 use Rattle.std.specs.List.{AllByRecursion, filter, find}
 use Rattle.std.specs.Option.{option_map}
@@ -22,13 +22,12 @@ use Rattle.dds_physical.specs.declared.physical_files.PhysicalSpec.{PhysicalSpec
 use Rattle.logical_model.specs.Bases.{FileSpec, PhysicalFile, LogicalFile}
 use Rattle.logical_laws.proofs.ListLemmas.{each-append, each-filter, each-map, each-weaker}
 use Rattle.journal_model.specs.Acts.{Act, Changed, Began, Committed, RolledBack, Journaled, Stood, Cleared, Reorganized, Ended, Nothing, Change, acts, entry_before}
-use Rattle.journal_model.specs.AtSequence.{IsChained, IsSo, known_after, known_by}
-use Rattle.journal_model.specs.Catalogue.{Catalogue, CatalogFile, CatalogMember, empty_catalogue, is_named, member_numbered}
+use Rattle.journal_model.specs.AtSequence.{IsSo, known_after, known_by}
+use Rattle.journal_model.specs.Catalogue.{Catalogue, CatalogFile, CatalogMember, empty_catalogue, is_named}
 use Rattle.journal_model.specs.Images.{images_of}
 use Rattle.journal_model.specs.Journal.{Journal, CanReplayJournal, acts_after, catalogue_of, entries as entries_of, last_sequence, length_in, open_cycles, record_length, restart_entries, restarted, start_of, state_of}
 use Rattle.journal_model.specs.Places.{put_slot, slot_of}
 use Rattle.journal_model.specs.Replay.{State as MemberSlots, before_of, is_in, moved, replay, step}
-use Rattle.journal_model.specs.Restart.{all_undone}
 use Rattle.journal_model.specs.Rollback.{MemberChange, all_rollback_drafts, change_drafts, missing_behind, missing_draft, missing_kind, numbered_from, of_member, restart_drafts, rollback_drafts, undo_drafts, undo_kinds, undos_of}
 use Rattle.journal_model.proofs.JournalLemmas.{restarted-replays, restarted-slots}
 use Rattle.journal_model.proofs.LibraryLemmas.{linked}
@@ -45,22 +44,20 @@ use Rattle.library_steps.specs.declared.limits.TheConstants.{MOST_LIBRARY_BYTES}
 use Rattle.library_steps.specs.Ranges.{library_bytes}
 use Rattle.library_steps.specs.SlotChange.{images_of as images_kept}
 use Rattle.library_steps.specs.State.{State, FileState, fields_of, format_in, memory_of, physical_in}
-use Rattle.library_parts.specs.Lawful.{HasRecords, HoldsValues, IsLibrary, IsThere}
-use Rattle.joint_state.specs.Agreed.{Agrees, IsAsTold}
-use Rattle.joint_state.specs.Joint.{IsJoint}
+use Rattle.library_parts.specs.Lawful.{HoldsValues, IsThere}
 use Rattle.joint_state.specs.Limits.{AreWithin, IsWithin}
 use Rattle.joint_state.specs.Sound.{IsSound}
-use Rattle.joint_state.specs.Told.{AreTold, IsRecordOf, IsTold, MayHavePlace, NamesPlace, TellsRecord}
+use Rattle.joint_state.specs.Told.{IsRecordOf, IsTold, MayHavePlace, NamesPlace}
 use Rattle.library_kept.proofs.FieldLemmas.{length-record}
 use Rattle.restart_model.specs.Libraries.{files_left, journal_with, library_restarted, member_left, record_length_in}
 use Rattle.restart_model.specs.Sources.{described_files, descriptions, spec_named}
 use Rattle.restart_laws.specs.Given.{AreDeposited, AreJournaled, IsLeftAs}
-use Rattle.restart_laws.proofs.CatalogueLemmas.{IsCatalogue, empty-is}
+use Rattle.restart_laws.proofs.CatalogueLemmas.{empty-is}
 use Rattle.restart_laws.proofs.DescribedLemmas.{Among, each-among, find-among}
 use Rattle.restart_laws.proofs.GoesLemmas.{beside-at, fields_at, fields_found, found-among, numbered-among, own-file}
-use Rattle.restart_laws.proofs.HeldLemmas.{Holds, IsUndo, undone-holds, undone-long}
+use Rattle.restart_laws.proofs.HeldLemmas.{IsUndo, undone-holds, undone-long}
 use Rattle.restart_laws.proofs.KeptLemmas.{has-own, images-kept, there-found}
-use Rattle.restart_laws.proofs.LeftLemmas.{IsLeft, left-apart, left-based, left-defaults, left-file, left-formats, left-mapped, left-member, left-names, left-numbers, named-files, physical-is, with_members}
+use Rattle.restart_laws.proofs.LeftLemmas.{left-apart, left-based, left-defaults, left-file, left-formats, left-mapped, left-member, left-names, left-numbers, named-files, physical-is, with_members}
 use Rattle.restart_laws.proofs.LibraryLemmas.{catalogue-is, numbered-is}
 use Rattle.restart_laws.proofs.RestartedLemmas.{catalogue-restarted}
 use Rattle.restart_laws.proofs.RoomLemmas.{ChangeHasRoom, EntryHasRoom, changes-have-room, long-at, may-place, restart-has-room, rooms-all}
@@ -312,11 +309,11 @@ module _ (entries : List Entry) (attached moment : ℕ) (can : CanReplayJournal 
       let limits = member-limits m among in
       let its = own-file (catalogue_of r) stands.is stands.plain m among in
       let long : length (state_of r m.number).slots ≡ length (state_of j m.number).slots =
-          ap (λ (slots : List Slot). length slots) (restarted-slots None moment j can.replays m.number)
-          ∙ undone-long (state_of j m.number) (sound-replay (start_of j m.number) (acts_after j m.number) (sound-start _ _) (can.replays m.number)).within in
+      ap (λ (slots : List Slot). length slots) (restarted-slots None moment j can.replays m.number)
+      ∙ undone-long (state_of j m.number) (sound-replay (start_of j m.number) (acts_after j m.number) (sound-start _ _) (can.replays m.number)).within in
       let bytes : record_length_in (named m.file files) ≡ record_length descriptions (catalogue_of r) m =
-          long-left (λ _. 0) r m.file
-          ∙ sym (ap (length_in descriptions (catalogue_of r)) its.there ∙ ap layout.record_length (beside-at (catalogue_of r) m.file its)) in record {
+      long-left (λ _. 0) r m.file
+      ∙ sym (ap (length_in descriptions (catalogue_of r)) its.there ∙ ap layout.record_length (beside-at (catalogue_of r) m.file its)) in record {
         few = subst (λ (n : ℕ). n ≤ MOST_SLOTS) (sym long) limits.slots;
         small = subst (λ (n : ℕ). n * record_length_in (named m.file files) ≤ MOST_BYTES) (sym long)
             (subst (λ (k : ℕ). length (state_of j m.number).slots * k ≤ MOST_BYTES) (sym bytes) limits.bytes);
@@ -342,7 +339,7 @@ module _ (entries : List Entry) (attached moment : ℕ) (can : CanReplayJournal 
       → AllByRecursion (λ (change : Change). MayHavePlace (fields_at (catalogue_of r) m.file) (change.place + 1)) (state_of j m.number).undos
   undos-within m among =
       let limits : IsMember (record { record_length = layout.record_length (fields_at (catalogue_of r) m.file); slots = (state_of j m.number).slots }) =
-          subst (λ (long : ℕ). IsMember (record { record_length = long; slots = (state_of j m.number).slots })) (long-at (catalogue_of r) stands.is stands.plain m among) (member-limits m among) in
+      subst (λ (long : ℕ). IsMember (record { record_length = long; slots = (state_of j m.number).slots })) (long-at (catalogue_of r) stands.is stands.plain m among) (member-limits m among) in
       each-weaker (λ (change : Change). change.place < length (state_of j m.number).slots) (λ (change : Change). MayHavePlace (fields_at (catalogue_of r) m.file) (change.place + 1))
       (λ change low. may-place (fields_at (catalogue_of r) m.file) (state_of j m.number).slots (change.place + 1) (omega arith) (omega (arith, low)) limits) (state_of j m.number).undos
       (sound-replay (start_of j m.number) (acts_after j m.number) (sound-start _ _) (can.replays m.number)).within
@@ -417,7 +414,7 @@ module _ (entries : List Entry) (attached moment : ℕ) (can : CanReplayJournal 
       let found = found-among (λ (o : CatalogMember). o.number == member) (catalogue_of r).members its.0 its.1 in
       let among = subst (λ (c : Catalogue). Among its.0 c.members) (catalogue-restarted None moment j) found.0 in
       let quiet = silent-all entries at empty_catalogue (λ n. None) (λ n. start_of (journal_with entries) n) None empty-is tt
-          (record { silent = λ m nowhere images. absurd nowhere; fresh = λ n above. record { known = refl; undos = refl } }) can.enters journaled can.replays in
+      (record { silent = λ m nowhere images. absurd nowhere; fresh = λ n above. record { known = refl; undos = refl } }) can.enters journaled can.replays in
       let nothing = quiet.silent its.0 among (images-none member its.0 its.1 none) in
       subst (λ (n : ℕ). known_after at None (acts n None s.entries) ≡ None) (eqb-true its.0.number member found.1)
       (ap (known_after at None) (acts-append its.0.number None entries (restart_entries None moment j))
@@ -476,8 +473,8 @@ module _ (entries : List Entry) (attached moment : ℕ) (can : CanReplayJournal 
               let there : named file.name files ≡ Some (with_members (λ _. 0) r file.name base) = named-files (λ _. 0) r file.name ∙ ap (option_map (with_members (λ _. 0) r file.name)) is in
               let it = left-file (λ _. 0) r file.name (with_members (λ _. 0) r file.name base) there in
               let same : it.from ≡ file = some-equal
-                  (sym (ap (λ (n : List ℕ). find (is_named n) (catalogue_of r).files) (sym it.called) ∙ find-among it.from (catalogue_of r).files stands.is.names it.among)
-                  ∙ find-among file (catalogue_of r).files stands.is.names among) in record {
+              (sym (ap (λ (n : List ℕ). find (is_named n) (catalogue_of r).files) (sym it.called) ∙ find-among it.from (catalogue_of r).files stands.is.names it.among)
+              ∙ find-among file (catalogue_of r).files stands.is.names among) in record {
                 state = with_members (λ _. 0) r file.name base;
                 there = there;
                 source = it.source ∙ ap (λ (f : CatalogFile). f.source) same;

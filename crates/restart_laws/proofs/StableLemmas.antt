@@ -1,5 +1,5 @@
 -- What the files of a catalogue describe stays when files come and go: each physical file is described beside all the others as it was when it was made.
-use Rattle.std.proofs.Common.{◌≡◌, ◌⊎◌, inl, inr, ℕ, ◌&&◌, ◌||◌, not, cond, Bool, true, false, Option, Some, None, is_some, IfSome, option_to_list, Result, Ok, Err, List, [], ◌∷◌, ◌++◌, refl, sym, ◌∙◌, ap, subst}
+use Rattle.std.proofs.Common.{◌≡◌, ℕ, ◌&&◌, ◌||◌, not, cond, Bool, true, false, Option, Some, None, is_some, IfSome, option_to_list, Result, Ok, Err, List, [], ◌∷◌, ◌++◌, refl, sym, ◌∙◌, ap, subst}
 use Rattle.std.proofs.lemmas.Bool.{or_parts}
 use Rattle.std.specs.List.{AllByRecursion, cons_option, filter, filter_map, find, list_any}
 use Rattle.std.specs.Option.{option_and_then, option_map}
@@ -15,7 +15,7 @@ use Rattle.dds_physical.specs.declared.physical_files.PhysicalSpec.{PhysicalSpec
 use Rattle.dds_physical.specs.Physical.{physical_of}
 use Rattle.dds_physical.specs.References.{reference_file}
 use Rattle.dds_logical.specs.declared.views.LogicalSpec.{LogicalSpec}
-use Rattle.logical_model.specs.Bases.{FileSpec, PhysicalFile, LogicalFile}
+use Rattle.logical_model.specs.Bases.{FileSpec, LogicalFile}
 use Rattle.logical_laws.proofs.ListLemmas.{each-append, each-weaker}
 use Rattle.journal_model.specs.Catalogue.{CatalogFile, depends_on, is_named}
 use Rattle.file_catalogue.proofs.NameLemmas.{same_name-equal, same_name-self, same_name-symm}
@@ -174,7 +174,7 @@ module _ (files : List CatalogFile) (new : CatalogFile) (unnamed : find (is_name
   new-plain : new.kind ≡ Physical → IsPlain grown new
   new-plain physical =
       let some = some-of (spec_beside (described_files files) Physical new.source)
-          (subst (λ (k : FileKind). is_some (spec_beside (described_files files) k new.source) ≡ true) physical accepted) in
+      (subst (λ (k : FileKind). is_some (spec_beside (described_files files) k new.source) ≡ true) physical accepted) in
       by some.0 some.1 (physical-by (described_files files) new.source some.0 some.1)
     where
       by : (spec : FileSpec) → spec_beside (described_files files) Physical new.source ≡ Some spec → IsPhysicalBy (described_files files) new.source spec → IsPlain grown new
@@ -330,7 +330,10 @@ module _ (gone : List ℕ) where
           elim (bytes_eq file.name gone) as (λ b. bytes_eq file.name gone ≡ b
           → ArePlain (described_files (filter stays files)) (cond (not b) (file ∷ filter stays some) (filter stays some))) [
             | true ↦ λ same. all some free.1 plain.1
-            | false ↦ λ differs. ((λ physical. let it = plain.0 physical in
-                plain-stays (NotGone gone) (described_files files) (described_files (filter stays files)) (λ name spec not_gone e. spec-less files apart free_all name not_gone ∙ e) file it
-                (free.0 differs physical it.source it.read) (same_name-symm gone file.name ∙ differs)), all some free.1 plain.1)
+            | false ↦ λ differs. (
+              (λ physical. let it = plain.0 physical in
+                  plain-stays (NotGone gone) (described_files files) (described_files (filter stays files)) (λ name spec not_gone e. spec-less files apart free_all name not_gone ∙ e) file it
+                  (free.0 differs physical it.source it.read) (same_name-symm gone file.name ∙ differs)),
+              all some free.1 plain.1,
+            )
           ] refl

@@ -1,6 +1,6 @@
 -- What holds of the members, their slots and the images in the entries, as far as a journal is read.
-use Rattle.std.proofs.Common.{◌≡◌, ◌⊎◌, inl, inr, ℕ, ◌+◌, ◌<◌, ◌≤◌, ◌==◌, cond, Bool, true, false, if◌then◌else◌, Option, Some, None, List, [], ◌∷◌, ◌++◌, refl, sym, ◌∙◌, ap, subst, arith}
-use Rattle.std.proofs.lemmas.Bool.{eq-eqb, eqb-true}
+use Rattle.std.proofs.Common.{◌≡◌, ◌⊎◌, inl, inr, ℕ, ◌<◌, ◌≤◌, true, false, if◌then◌else◌, Option, Some, None, List, [], ◌∷◌, ◌++◌, refl, sym, ◌∙◌, ap, subst, arith}
+use Rattle.std.proofs.lemmas.Bool.{eqb-true}
 use Rattle.std.proofs.lemmas.List.{append_assoc}
 use Rattle.std.specs.List.{AllByRecursion}
 use Rattle.entry_codec.specs.declared.entries.Entry.{Entry}
@@ -10,7 +10,7 @@ use Rattle.member_slots.specs.declared.slot.Slot.{Slot}
 use Rattle.record_fmt.specs.declared.formats.Field.{Field}
 use Rattle.logical_laws.proofs.ListLemmas.{each-append, each-weaker}
 use Rattle.journal_model.specs.Acts.{Change, act, act_elsewhere, act_there, acts, is_number}
-use Rattle.journal_model.specs.Catalogue.{Catalogue, CatalogMember, IsOfMember, MayEnterAll, MayEnterBy, catalogue_after, catalogue_by, empty_catalogue, has_number, member_numbered}
+use Rattle.journal_model.specs.Catalogue.{Catalogue, CatalogMember, IsOfMember, MayEnterAll, MayEnterBy, catalogue_after, catalogue_by, has_number}
 use Rattle.journal_model.specs.Images.{AllHaveRecords, HasRecords, images_of}
 use Rattle.journal_model.specs.Replay.{State, moved, replay, step, undos_after}
 use Rattle.journal_model.specs.Replayable.{CanReplay, MayFollow}

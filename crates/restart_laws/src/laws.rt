@@ -38,7 +38,7 @@ pub fn restarted_files_are_sound()
         → AreBased (library_restarted (λ _. 0) attached moment (journal_with entries)).files }
     ensures numbers { (entries : List Entry) (attached moment : ℕ) → CanReplayJournal descriptions (journal_with entries)
         → AllByRecursion (λ (entry : Numbered MemberState). entry.number < (library_restarted (λ _. 0) attached moment (journal_with entries)).next_member)
-            (library_restarted (λ _. 0) attached moment (journal_with entries)).members }
+        (library_restarted (λ _. 0) attached moment (journal_with entries)).members }
     ensures numbered { (entries : List Entry) (attached moment : ℕ) → CanReplayJournal descriptions (journal_with entries)
         → AreNumbered ((library_restarted (λ _. 0) attached moment (journal_with entries)).gone + 1) (library_restarted (λ _. 0) attached moment (journal_with entries)).entries }
 {}

@@ -1,15 +1,14 @@
 -- Which library does a journal leave, once a restart has brought it to its end? (Journal Management, "Recovery operations using journaling"; Commitment
 -- Control, "Commitment control during abnormal job end and restart".) No job has begun, nothing is locked, and no commit cycle is open. A member that
 -- isn't journaled stands as its last journaled moment left it, so nothing has changed it since.
-use Rattle.std.specs.Prelude.{ℕ, ◌-◌, false, Option, Some, None, List, [], ◌∷◌, length, map, filter}
-use Rattle.std.specs.Option.{is_some, option_map}
+use Rattle.std.specs.Prelude.{ℕ, ◌-◌, false, Option, Some, None, List, [], length, map, filter}
 use Rattle.entry_codec.specs.declared.entries.Entry.{Entry}
 use Rattle.entry_codec.specs.declared.kinds.Images.{Images}
 use Rattle.member_slots.specs.declared.slot.Slot.{Slot}
 use Rattle.member_slots.specs.Member.{MemberState, records}
-use Rattle.member_slots.specs.Members.{Numbered, NumberedMembers}
+use Rattle.member_slots.specs.Members.{Numbered}
 use Rattle.record_fmt.specs.Layout.{record_length}
-use Rattle.journal_model.specs.Catalogue.{Catalogue, CatalogFile, CatalogMember, is_in_file, file_named}
+use Rattle.journal_model.specs.Catalogue.{CatalogMember, is_in_file}
 use Rattle.journal_model.specs.Journal.{Journal, catalogue_of, entries, restarted, state_of}
 use Rattle.journal_replay.specs.Left.{empty_journal, last_break_of}
 use Rattle.library_model.specs.Named.{Named, named}
@@ -33,13 +32,16 @@ records_then (Some images) slots = 0
 
 -- where the checkpoint has these last breaks
 abbrev pub status_left : (breaks : ℕ → ℕ) → Journal → CatalogMember → List ℕ × MemberStatus
-status_left breaks j m = (m.name, record {
-  number = m.number;
-  images = m.images;
-  changed = false;
-  records_then = records_then m.images (state_of j m.number).slots;
-  last_break = last_break_of breaks j m.number;
-})
+status_left breaks j m = (
+  m.name,
+  record {
+    number = m.number;
+    images = m.images;
+    changed = false;
+    records_then = records_then m.images (state_of j m.number).slots;
+    last_break = last_break_of breaks j m.number;
+  },
+)
 
 -- ---- files
 

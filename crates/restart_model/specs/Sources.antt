@@ -1,7 +1,7 @@
 -- What do the rules of data descriptions say of the sources of a journal's files? (DDS for Physical and Logical Files. What a journal needs of them is
 -- told by `Descriptions` of journal_model.)
 use Rattle.std.specs.Prelude.{ℕ, ◌==◌, ◌&&◌, Bool, Option, Some, None, Result, Ok, Err, List, [], ◌∷◌, ◌++◌, length, option_to_list, if◌then◌else◌, codes}
-use Rattle.std.specs.List.{filter_map, flat_map}
+use Rattle.std.specs.List.{filter_map}
 use Rattle.std.specs.Option.{is_some, option_and_then, option_map}
 use Rattle.entry_codec.specs.declared.kinds.FileKind.{FileKind}
 use Rattle.entry_codec.specs.declared.kinds.FileKind.TheVariants.{Physical, Logical}
