@@ -240,7 +240,8 @@ module _ (at : ℕ) (c : Catalogue) (is : IsCatalogue c) (plain : IsPlainCatalog
       by false its free = absurd cc
 
   silent-by : (kind : EntryKind) → e.kind ≡ kind → MayEnterBy descriptions kind e c
-      → (is_of_record (place kind) ≡ true → OfMember (member_numbered e.member c) (λ (x : CatalogMember). IsSome x.images)) → (m : CatalogMember) → Among m (catalogue_by kind e c).members → m.images ≡ None → After kind m.number
+      → (is_of_record (place kind) ≡ true → OfMember (member_numbered e.member c) (λ (x : CatalogMember). IsSome x.images))
+      → (m : CatalogMember) → Among m (catalogue_by kind e c).members → m.images ≡ None → After kind m.number
   silent-by (RecordAdded image) kind may journaled m among none = same-members (RecordAdded image) journaled m among none
   silent-by (RecordAddedAtNumber image) kind may journaled m among none = same-members (RecordAddedAtNumber image) journaled m among none
   silent-by (BeforeImage image) kind may journaled m among none = same-members (BeforeImage image) journaled m among none

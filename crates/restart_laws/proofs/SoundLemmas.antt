@@ -462,7 +462,8 @@ module _ (entries : List Entry) (attached moment : ℕ) (can : CanReplayJournal 
   pub files-left-as : AllByRecursion (λ (file : CatalogFile). file.kind ≡ Physical → IsLeftAs (catalogue_of r).files files file) (catalogue_of r).files
   files-left-as =
       each-of-among (λ (file : CatalogFile). file.kind ≡ Physical → IsLeftAs (catalogue_of r).files files file) (catalogue_of r).files
-      (λ file among physical. one file among (each-among (λ (f : CatalogFile). f.kind ≡ Physical → IsPlain (described_files (catalogue_of r).files) f) file (catalogue_of r).files stands.plain among physical))
+      (λ file among physical. one file among
+      (each-among (λ (f : CatalogFile). f.kind ≡ Physical → IsPlain (described_files (catalogue_of r).files) f) file (catalogue_of r).files stands.plain among physical))
     where
       one : (file : CatalogFile) → Among file (catalogue_of r).files → IsPlain (described_files (catalogue_of r).files) file → IsLeftAs (catalogue_of r).files files file
       one file among plain = by (named file.name (described_files (catalogue_of r).files)) refl plain.found
