@@ -3,6 +3,7 @@ pub mod RestartedLemmas
 pub mod DescribedLemmas
 pub mod ReferenceLemmas
 pub mod StableLemmas
+pub mod ViewLemmas
 pub mod HeldLemmas
 pub mod GoesLemmas
 pub mod StandLemmas

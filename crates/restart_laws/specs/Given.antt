@@ -1,8 +1,12 @@
 -- What a library's journal is, beyond that it can be replayed, and what is left of its files. (Our own.)
-use Rattle.std.specs.Prelude.{◌≡◌, true, IsSome, Some, List, [], ◌∷◌, IsTrue}
+use Rattle.std.specs.Prelude.{◌≡◌, ℕ, Bool, true, IsSome, Option, Some, List, [], ◌∷◌, IsTrue, if◌then◌else◌, codes}
 use Rattle.std.specs.List.{AllByRecursion}
 use Rattle.entry_codec.specs.declared.entries.Entry.{Entry}
 use Rattle.entry_codec.specs.Placing.{is_placed, place}
+use Rattle.dds_physical.specs.declared.physical_files.PhysicalSpec.{PhysicalSpec}
+use Rattle.dds_physical.specs.Keywords.{first_named}
+use Rattle.dds_logical.specs.FormatLines.{FormatLines}
+use Rattle.dds_logical.specs.Origins.{keyword_names}
 use Rattle.file_catalogue.specs.Physical.{IsPhysical}
 use Rattle.journal_model.specs.Catalogue.{Catalogue, CatalogFile, catalogue_by, empty_catalogue, member_numbered}
 use Rattle.journal_model.specs.Journal.{OfMember}
@@ -33,3 +37,10 @@ pub record IsLeftAs (all : List CatalogFile) (files : Named FileState) (file : C
   pub source : state.source ≡ file.source
   pub physical : IsPhysical state.spec
   pub fields : fields_beside all file.source ≡ fields_of state
+
+-- ---- the files that a logical file names
+
+-- each physical file that PFILE or JFILE of the format names is the same for both
+abbrev pub IsSameOver : (bases others : List ℕ → Option PhysicalSpec) → (is_join : Bool) → FormatLines → Type 0
+IsSameOver bases others is_join f =
+    AllByRecursion (λ name. others name ≡ bases name) (keyword_names (first_named (if is_join then codes "JFILE" else codes "PFILE") f.head.keywords))

@@ -1,10 +1,14 @@
 //! Contracts of functions that do nothing.
 
-ghost use Rattle.std.specs.Prelude.{◌≡◌, ℕ, ◌<◌, ◌≤◌, ◌+◌, None, List};
+ghost use Rattle.std.specs.Prelude.{◌≡◌, ℕ, ◌<◌, ◌≤◌, ◌+◌, Option, None, List};
 ghost use Rattle.std.specs.List.{AllByRecursion, IsDistinct};
 ghost use Rattle.std.specs.Map.{keys_of};
 ghost use Rattle.entry_codec.specs.declared.entries.Entry.{Entry};
 ghost use Rattle.entry_codec.specs.declared.kinds.FileKind.TheVariants.{Physical};
+ghost use Rattle.dds_source.specs.declared.specifications.Source.{Source};
+ghost use Rattle.dds_physical.specs.declared.physical_files.PhysicalSpec.{PhysicalSpec};
+ghost use Rattle.dds_logical.specs.FormatLines.{formats_in, is_join_file};
+ghost use Rattle.dds_logical.specs.Logical.{logical_of};
 ghost use Rattle.journal_model.specs.Catalogue.{CatalogFile};
 ghost use Rattle.member_slots.specs.Member.{MemberState};
 ghost use Rattle.member_slots.specs.Members.{Numbered};
@@ -15,7 +19,7 @@ ghost use Rattle.library_parts.specs.Lawful.{AreBased};
 ghost use Rattle.library_steps.specs.Ranges.{library_bytes};
 ghost use Rattle.library_steps.specs.declared.limits.TheConstants.{MOST_LIBRARY_BYTES};
 ghost use Rattle.joint_state.specs.Sound.{IsSound};
-ghost use Rattle.restart_laws.specs.Given.{AreDeposited, IsLeftAs};
+ghost use Rattle.restart_laws.specs.Given.{AreDeposited, IsLeftAs, IsSameOver};
 ghost use Rattle.joint_state.specs.Limits.{AreFormats};
 ghost use Rattle.joint_state.specs.Views.{AreMapped, HaveDefaults};
 ghost use Rattle.restart_model.specs.Sources.{descriptions};
@@ -49,6 +53,12 @@ pub fn physical_files_are_left()
         → AllByRecursion (λ (file : CatalogFile). file.kind ≡ Physical
         → IsLeftAs (catalogue_of (restarted None moment (journal_with entries))).files (library_restarted (λ _. 0) attached moment (journal_with entries)).files file)
         (catalogue_of (restarted None moment (journal_with entries))).files }
+{}
+
+/// What a logical file's source describes depends on the physical files alone that its formats name.
+pub fn logical_files_depend_on_what_they_name()
+    ensures { (bases others : List ℕ → Option PhysicalSpec) (source : Source)
+        → AllByRecursion (IsSameOver bases others (is_join_file (formats_in source.specifications))) (formats_in source.specifications) → logical_of others source ≡ logical_of bases source }
 {}
 
 /// A library is sound after its restart, where its journal can be replayed and holds only what libraries deposit.
