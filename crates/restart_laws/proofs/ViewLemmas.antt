@@ -1,5 +1,6 @@
 -- What a logical file's source describes depends on the files alone that PFILE or JFILE of its formats name.
-use Rattle.std.proofs.Common.{◌≡◌, ℕ, ◌||◌, ◌&&◌, ◌==◌, not, map, if◌then◌else◌, Bool, true, false, Option, Some, None, is_none, Result, Ok, Err, List, [], ◌∷◌, ◌++◌, drop, refl, sym, ◌∙◌, ap, codes}
+use Rattle.std.proofs.Common.{◌≡◌, ℕ, ◌||◌, map, if◌then◌else◌, Bool, true, false, Option, Some, None, is_none, Ok, List, [], ◌∷◌, ◌++◌, drop, refl, sym, ◌∙◌, ap, codes}
+use Rattle.std.proofs.lemmas.Bool.{or_parts}
 use Rattle.std.specs.List.{AllByRecursion, cons_option, flat_map, list_any}
 use Rattle.record_fmt.specs.declared.formats.Field.{Field}
 use Rattle.dds_source.specs.declared.arguments.Argument.{Argument}
@@ -18,20 +19,22 @@ use Rattle.dds_physical.specs.Places.{fault_of_keyword}
 use Rattle.dds_physical.specs.References.{file_of, file_of_keyword}
 use Rattle.dds_logical.specs.declared.join_views.JoinView.{JoinView}
 use Rattle.dds_logical.specs.declared.views.LogicalSpec.{LogicalSpec}
-use Rattle.dds_logical.specs.declared.views.LogicalSpec.TheVariants.{Simple, Multi, Join}
+use Rattle.dds_logical.specs.declared.views.LogicalSpec.TheVariants.{Join}
 use Rattle.dds_logical.specs.declared.views.View.{View}
 use Rattle.dds_logical.specs.Bases.{fields_of_base, fields_of_file, fields_of_name}
 use Rattle.dds_logical.specs.Fields.{field_lines_faults, laid_out, mapping_of, named_fields}
 use Rattle.dds_logical.specs.FormatLines.{FormatLines, field_lines, formats_in, is_join_file, is_multi_format, join_lines, key_lines, selection_lines}
 use Rattle.dds_logical.specs.JoinFields.{join_fields_faults, placed_fields, primary_key_faults}
 use Rattle.dds_logical.specs.JoinLines.{join_line_faults, joined_from, link_faults}
-use Rattle.dds_logical.specs.JoinViews.{fields_joined, files_joined, first_file, join_described, join_faults, joined_field}
+use Rattle.dds_logical.specs.JoinViews.{fields_joined, files_joined, first_file, join_faults, joined_field}
 use Rattle.dds_logical.specs.KeywordArguments.{names_among}
 use Rattle.dds_logical.specs.Keys.{key_lines_faults, mismatch_faults, parts_of_lines, position_faults}
 use Rattle.dds_logical.specs.Logical.{base_name, base_of, described_by, faults_over, format_parts, formats_at_fault, join_described_by, key_of, logical_faults, logical_of, logical_specification, most_parts, one_or_several, unless_fault, view_described, view_faults}
 use Rattle.dds_logical.specs.Origins.{keyword_names}
 use Rattle.dds_logical.specs.Selections.{field_to_test, rules_said, selection_lines_faults}
 use Rattle.dds_logical.specs.WholeFile.{base_faults, head_faults, is_no_base, size_faults}
+use Rattle.dds_physical.proofs.FaultLemmas.{nothing_noted}
+use Rattle.library_kept.proofs.DefaultLemmas.{none-left, none-right, not-said}
 use Rattle.restart_laws.specs.Given.{IsSameOver}
 
 -- ---- by the fields of its base files
@@ -117,10 +120,10 @@ module _ (bases others : List ℕ → Option PhysicalSpec) where
       let head = head-same false f same in
       let base = base-same f same in
       λ i. head i
-          ++ field_lines_faults (base i) (field_lines f)
-          ++ key_lines_faults false is_multi (laid_out 0 (named_fields (base i) (field_lines f))) (key_lines f)
-          ++ selection_lines_faults (field_to_test (named_fields (base i) (field_lines f)) (base i)) (selection_lines f)
-          ++ size_faults last_line (laid_out 0 (named_fields (base i) (field_lines f))) (parts_of_lines (laid_out 0 (named_fields (base i) (field_lines f))) (key_lines f))
+      ++ field_lines_faults (base i) (field_lines f)
+      ++ key_lines_faults false is_multi (laid_out 0 (named_fields (base i) (field_lines f))) (key_lines f)
+      ++ selection_lines_faults (field_to_test (named_fields (base i) (field_lines f)) (base i)) (selection_lines f)
+      ++ size_faults last_line (laid_out 0 (named_fields (base i) (field_lines f))) (parts_of_lines (laid_out 0 (named_fields (base i) (field_lines f))) (key_lines f))
 
   all-faults-same : (last_line : ℕ) (is_multi : Bool) (fs : List FormatLines) → AllByRecursion (SameIn false) fs
       → flat_map (view_faults others last_line is_multi) fs ≡ flat_map (view_faults bases last_line is_multi) fs
@@ -132,7 +135,7 @@ module _ (bases others : List ℕ → Option PhysicalSpec) where
   mismatches-same (f ∷ fs) earlier same =
       let base = base-same f same.0 in
       (λ i. position_faults earlier (parts_of_lines (laid_out 0 (named_fields (base i) (field_lines f))) (key_lines f)) (key_lines f)
-          ++ mismatch_faults (format_parts others) (parts_of_lines (laid_out 0 (named_fields (base i) (field_lines f))) (key_lines f) ∷ earlier) fs)
+      ++ mismatch_faults (format_parts others) (parts_of_lines (laid_out 0 (named_fields (base i) (field_lines f))) (key_lines f) ∷ earlier) fs)
       ∙ ap (λ (more : List DdsFault). position_faults earlier (format_parts bases f) (key_lines f) ++ more) (mismatches-same fs (format_parts bases f ∷ earlier) same.1)
 
   -- ---- a join
@@ -153,13 +156,13 @@ module _ (bases others : List ℕ → Option PhysicalSpec) where
       let head = head-same true f same in
       let joined = joined-same f same in
       λ i. head i
-          ++ link_faults (files_joined f) (join_lines f) (first_named (codes "JFILE") f.head.keywords)
-          ++ flat_map (join_line_faults (files_joined f) (joined i)) (join_lines f)
-          ++ join_fields_faults (files_joined f) (joined i) (field_lines f)
-          ++ key_lines_faults true false (laid_out 0 (map (λ field. field.named) (placed_fields (files_joined f) (joined i) (field_lines f)))) (key_lines f)
-          ++ flat_map (primary_key_faults (placed_fields (files_joined f) (joined i) (field_lines f))) (key_lines f)
-          ++ size_faults last_line (laid_out 0 (map (λ field. field.named) (placed_fields (files_joined f) (joined i) (field_lines f))))
-          (parts_of_lines (laid_out 0 (map (λ field. field.named) (placed_fields (files_joined f) (joined i) (field_lines f)))) (key_lines f))
+      ++ link_faults (files_joined f) (join_lines f) (first_named (codes "JFILE") f.head.keywords)
+      ++ flat_map (join_line_faults (files_joined f) (joined i)) (join_lines f)
+      ++ join_fields_faults (files_joined f) (joined i) (field_lines f)
+      ++ key_lines_faults true false (laid_out 0 (map (λ field. field.named) (placed_fields (files_joined f) (joined i) (field_lines f)))) (key_lines f)
+      ++ flat_map (primary_key_faults (placed_fields (files_joined f) (joined i) (field_lines f))) (key_lines f)
+      ++ size_faults last_line (laid_out 0 (map (λ field. field.named) (placed_fields (files_joined f) (joined i) (field_lines f))))
+      (parts_of_lines (laid_out 0 (map (λ field. field.named) (placed_fields (files_joined f) (joined i) (field_lines f)))) (key_lines f))
 
   joins-faults-same : (last_line : ℕ) (fs : List FormatLines) → AllByRecursion (SameIn true) fs → flat_map (join_faults others last_line) fs ≡ flat_map (join_faults bases last_line) fs
   joins-faults-same last_line [] same = refl
@@ -190,3 +193,64 @@ module _ (bases others : List ℕ → Option PhysicalSpec) where
       let spec = described-same source (formats_in source.specifications) same in
       let faults = faults-over-same source (is_join_file (formats_in source.specifications)) (formats_in source.specifications) same in
       λ i. unless_fault (spec i) (first_after None (faults i))
+
+-- ---- where there are more files
+
+module _ (bases others : List ℕ → Option PhysicalSpec) (wider : (name : List ℕ) (spec : PhysicalSpec) → bases name ≡ Some spec → others name ≡ Some spec) where
+  there-same : (name : List ℕ) → is_no_base bases name ≡ false → others name ≡ bases name
+  there-same name there = by (bases name) refl there
+    where
+      by : (o : Option PhysicalSpec) → bases name ≡ o → is_none o ≡ false → others name ≡ bases name
+      by None is h = absurd cc
+      by (Some spec) is h = wider name spec is ∙ sym is
+
+  names-same : (names : List (List ℕ)) → list_any (is_no_base bases) names ≡ false → AllByRecursion (λ name. others name ≡ bases name) names
+  names-same [] e = tt
+  names-same (name ∷ names) e = let parts = or_parts (is_no_base bases name) (list_any (is_no_base bases) names) e in (there-same name parts.0, names-same names parts.1)
+
+  named-same : (o : Option Keyword) → base_faults bases o ≡ [] → AllByRecursion (λ name. others name ≡ bases name) (keyword_names o)
+  named-same None e = tt
+  named-same (Some k) e = names-same (names_among (arguments_of k)) (not-said (list_any (is_no_base bases) (names_among (arguments_of k))) _ e)
+
+  over-same : (is_join : Bool) (f : FormatLines) → head_faults bases is_join f.head ≡ [] → IsSameOver bases others is_join f
+  over-same is_join f none =
+      named-same (first_named (if is_join then codes "JFILE" else codes "PFILE") f.head.keywords)
+      (none-right _ (base_faults bases (first_named (if is_join then codes "JFILE" else codes "PFILE") f.head.keywords)) none)
+
+  view-over : (last_line : ℕ) (is_multi : Bool) (f : FormatLines) → view_faults bases last_line is_multi f ≡ [] → IsSameOver bases others false f
+  view-over last_line is_multi f none =
+      let head : head_faults bases false f.head ≡ [] = none-left (head_faults bases false f.head) _ (none-left _ _ (none-left _ _ (none-left _ _ none))) in over-same false f head
+
+  join-over : (last_line : ℕ) (f : FormatLines) → join_faults bases last_line f ≡ [] → IsSameOver bases others true f
+  join-over last_line f none =
+      let head : head_faults bases true f.head ≡ [] =
+      none-left (head_faults bases true f.head) _ (none-left _ _ (none-left _ _ (none-left _ _ (none-left _ _ (none-left _ _ none))))) in over-same true f head
+
+  each-none : (faults : FormatLines → List DdsFault) (P : FormatLines → Type 0) → ((f : FormatLines) → faults f ≡ [] → P f) → (fs : List FormatLines) → flat_map faults fs ≡ [] → AllByRecursion P fs
+  each-none faults P so [] none = tt
+  each-none faults P so (f ∷ fs) none =
+      (so f (none-left (faults f) (flat_map faults fs) none), each-none faults P so fs (none-right (faults f) (flat_map faults fs) none))
+
+  formats-over : (source : Source) (b : Bool) (fs : List FormatLines) → formats_at_fault bases source b fs ≡ [] → AllByRecursion (IsSameOver bases others b) fs
+  formats-over source true fs none = each-none (join_faults bases source.last_line) (IsSameOver bases others true) (join-over source.last_line) fs none
+  formats-over source false fs none =
+      each-none (view_faults bases source.last_line (is_multi_format fs)) (IsSameOver bases others false) (view-over source.last_line (is_multi_format fs)) fs
+      (none-left (flat_map (view_faults bases source.last_line (is_multi_format fs)) fs) _ none)
+
+  all-over : (source : Source) (b : Bool) (fs : List FormatLines) → faults_over bases source b fs ≡ [] → AllByRecursion (IsSameOver bases others b) fs
+  all-over source b fs none = formats-over source b fs (none-right _ (formats_at_fault bases source b fs) (none-left _ _ none))
+
+  no-fault : (made spec : LogicalSpec) (o : Option DdsFault) → unless_fault made o ≡ Ok spec → o ≡ None
+  no-fault made spec None h = refl
+  no-fault made spec (Some fault) h = absurd cc
+
+  formats-are : (source : Source) (spec : LogicalSpec) → logical_of bases source ≡ Ok spec
+      → AllByRecursion (IsSameOver bases others (is_join_file (formats_in source.specifications))) (formats_in source.specifications)
+  unfolding logical_of logical_specification logical_faults
+  formats-are source spec h =
+      let fs : List FormatLines = formats_in source.specifications in
+      all-over source (is_join_file fs) fs
+      (nothing_noted None (faults_over bases source (is_join_file fs) fs) (no-fault (described_by bases source fs) spec (first_after None (faults_over bases source (is_join_file fs) fs)) h))
+
+  pub logical-wider : (source : Source) (spec : LogicalSpec) → logical_of bases source ≡ Ok spec → logical_of others source ≡ Ok spec
+  logical-wider source spec h = logical-same bases others source (formats-are source spec h) ∙ h

@@ -1,12 +1,13 @@
 //! Contracts of functions that do nothing.
 
-ghost use Rattle.std.specs.Prelude.{◌≡◌, ℕ, ◌<◌, ◌≤◌, ◌+◌, Option, None, List};
+ghost use Rattle.std.specs.Prelude.{◌≡◌, ℕ, ◌<◌, ◌≤◌, ◌+◌, Option, Some, None, Ok, List};
 ghost use Rattle.std.specs.List.{AllByRecursion, IsDistinct};
 ghost use Rattle.std.specs.Map.{keys_of};
 ghost use Rattle.entry_codec.specs.declared.entries.Entry.{Entry};
 ghost use Rattle.entry_codec.specs.declared.kinds.FileKind.TheVariants.{Physical};
 ghost use Rattle.dds_source.specs.declared.specifications.Source.{Source};
 ghost use Rattle.dds_physical.specs.declared.physical_files.PhysicalSpec.{PhysicalSpec};
+ghost use Rattle.dds_logical.specs.declared.views.LogicalSpec.{LogicalSpec};
 ghost use Rattle.dds_logical.specs.FormatLines.{formats_in, is_join_file};
 ghost use Rattle.dds_logical.specs.Logical.{logical_of};
 ghost use Rattle.journal_model.specs.Catalogue.{CatalogFile};
@@ -56,9 +57,12 @@ pub fn physical_files_are_left()
 {}
 
 /// What a logical file's source describes depends on the physical files alone that its formats name.
+/// It stays where more physical files are there.
 pub fn logical_files_depend_on_what_they_name()
-    ensures { (bases others : List ℕ → Option PhysicalSpec) (source : Source)
+    ensures same { (bases others : List ℕ → Option PhysicalSpec) (source : Source)
         → AllByRecursion (IsSameOver bases others (is_join_file (formats_in source.specifications))) (formats_in source.specifications) → logical_of others source ≡ logical_of bases source }
+    ensures wider { (bases others : List ℕ → Option PhysicalSpec) (source : Source) (spec : LogicalSpec) → ((name : List ℕ) (its : PhysicalSpec) → bases name ≡ Some its → others name ≡ Some its)
+        → logical_of bases source ≡ Ok spec → logical_of others source ≡ Ok spec }
 {}
 
 /// A library is sound after its restart, where its journal can be replayed and holds only what libraries deposit.
