@@ -1,0 +1,15 @@
+pub mod CatalogueLemmas
+pub mod RestartedLemmas
+pub mod DescribedLemmas
+pub mod ReferenceLemmas
+pub mod StableLemmas
+pub mod ViewLemmas
+pub mod HeldLemmas
+pub mod GoesLemmas
+pub mod StandLemmas
+pub mod RoomLemmas
+pub mod SilentLemmas
+pub mod LeftLemmas
+pub mod KeptLemmas
+pub mod LibraryLemmas
+pub mod SoundLemmas
