@@ -168,15 +168,15 @@ within-bytes n (Some p) =
     cond_both (lies_within n p) (Some p) None (λ o. IfSome o (λ q. 1 ≤ q.size))
     (λ lies. leb-true 1 p.size (all-three (nat_le 1 p.start) (nat_le 1 p.size) (nat_le (p.start + p.size) (n + 1)) lies).1) (λ _. tt)
 
-part-bytes : (f : Field) (o : Option _) → IfSome o (λ p. 1 ≤ p.size) → IfSome (part_origin f o) OriginHasBytes
-part-bytes f None some = tt
-part-bytes f (Some p) some = some
+part-bytes : (f : Field) (o : Option _) (made : Option Origin) → part_origin f o ≡ made → IfSome o (λ p. 1 ≤ p.size) → IfSome made OriginHasBytes
+part-bytes f None made is some = subst (λ (m : Option Origin). IfSome m OriginHasBytes) is tt
+part-bytes f (Some p) made is some = subst (λ (m : Option Origin). IfSome m OriginHasBytes) is some
 
 substring-bytes : (args : List Argument) (fields : List Field) → IfSome (substring_of args fields) OriginHasBytes
 substring-bytes args [] = tt
 substring-bytes args (f ∷ fields) =
     cond_both (is_character f.ty.kind) (part_origin f (if_within f.ty.length (part_said f.ty.length args))) None (λ (o : Option Origin). IfSome o OriginHasBytes)
-    (λ _. part-bytes f (if_within f.ty.length (part_said f.ty.length args)) (within-bytes f.ty.length (part_said f.ty.length args))) (λ _. tt)
+    (λ _. part-bytes f (if_within f.ty.length (part_said f.ty.length args)) _ refl (within-bytes f.ty.length (part_said f.ty.length args))) (λ _. tt)
 
 copied-bytes : (fields : List Field) → IfSome (first_copied fields) OriginHasBytes
 copied-bytes [] = tt
