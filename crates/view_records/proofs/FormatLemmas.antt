@@ -1,5 +1,5 @@
 -- The formats that a data description describes show what their fields say, and what these are made of has a byte.
-use Rattle.std.proofs.Common.{◌≡◌, ℕ, ◌+◌, ◌≤◌, ◌==◌, nat_eq, nat_le, Bool, true, false, not, cond, ◌&&◌, ◌||◌, codes, Option, Some, None, is_some, IfSome, Result, Ok, Err, List, [], ◌∷◌, ◌++◌, length, map, refl, sym, ap, subst, arith}
+use Rattle.std.proofs.Common.{◌≡◌, ℕ, ◌+◌, ◌≤◌, nat_le, Bool, true, false, not, cond, ◌&&◌, ◌||◌, codes, Option, Some, None, is_some, IfSome, Result, Ok, Err, List, [], ◌∷◌, ◌++◌, length, map, refl, sym, subst, arith}
 use Rattle.std.specs.List.{AllByRecursion, list_all, flat_map, filter_map, cons_option}
 use Rattle.std.specs.Cmp.Lexicographic.{same_text}
 use Rattle.std.proofs.lemmas.Bool.{and_parts, cond_both, cond-true, leb-true, not-false}

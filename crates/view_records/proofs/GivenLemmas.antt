@@ -1,5 +1,5 @@
 -- Values that are given through a format make records of its base file.
-use Rattle.std.proofs.Common.{Bor, ◌≡◌, ℕ, ◌+◌, ◌<◌, ◌≤◌, ◌==◌, ◌&&◌, nat_le, true, Option, Some, None, IfSome, Result, Ok, Err, Vec, List, [], ◌∷◌, length, refl, ap, subst, arith}
+use Rattle.std.proofs.Common.{Bor, ◌≡◌, ℕ, ◌+◌, ◌<◌, ◌≤◌, ◌==◌, nat_le, true, Option, Some, None, IfSome, Result, Ok, Err, Vec, List, [], ◌∷◌, length, refl, ap, subst, arith}
 use Rattle.std.specs.Prelude.{IfOk}
 use Rattle.std.specs.Global.{Global}
 use Rattle.std.specs.List.{AllByRecursion}
@@ -95,11 +95,10 @@ module _ (base : List Field) (lies : lies_from 0 base ≡ true) where
       let here = at-lies base from offset lies widened.field in
       let low : offset + width from ≤ 0 + record_length base = here.within in
       (here.allowed, omega (arith, low))
-  source-stored t (Concatenated pieces) allowed texts bytes =
-      (
-        text-allowed t (pieces_length pieces) allowed texts.kind (pieces-some pieces texts.texts bytes) texts.room,
-        weaker (IsTextAt base) (EndsWithin (record_length base)) text-ends pieces texts.texts,
-      )
+  source-stored t (Concatenated pieces) allowed texts bytes = (
+    text-allowed t (pieces_length pieces) allowed texts.kind (pieces-some pieces texts.texts bytes) texts.room,
+    weaker (IsTextAt base) (EndsWithin (record_length base)) text-ends pieces texts.texts,
+  )
   source-stored t (Substring piece) allowed text bytes = (text-allowed t piece.length allowed text.kind bytes text.room, tt)
 
   field-stored : (f : LogicalField) → IsShownOf base f.field → HasBytes f.field.source → IsStored (record_length base) f
