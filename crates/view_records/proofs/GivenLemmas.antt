@@ -138,6 +138,3 @@ packed-holds base view given old (Err fault) written laid before packs = tt
 pub old-holds : (base : List Field) (old : Option (Bor (List ℕ))) → ForSome old (λ image. HoldsRecord base image.now) → IfSome (option_copied old) (HoldsRecord base)
 old-holds base None holds = tt
 old-holds base (Some image) holds = holds image refl
-
-pub old-long : (base : List Field) (old : Option (Bor (List ℕ))) → ForSome old (λ image. HoldsRecord base image.now) → ForSome old (λ image. length image.now ≡ record_length base)
-old-long base old holds image is = (holds image is).long

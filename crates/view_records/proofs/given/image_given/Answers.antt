@@ -6,14 +6,8 @@ use Rattle.record_fmt.specs.Records.{Packs}
 use Rattle.file_model.specs.declared.views.LogicalField.{LogicalField}
 use Rattle.file_model.specs.Views.{base_image}
 use Rattle.view_rules.specs.Stored.{IsStored}
-use Rattle.view_records.proofs.GivenLemmas.{few-fields, fields-stored, packed-holds, old-holds, old-long}
+use Rattle.view_records.proofs.GivenLemmas.{few-fields, fields-stored, packed-holds, old-holds}
 use Rattle.view_records.proofs.given.image_given.Goals as goal
-
-pub base-requires-clause-old : goal.base-requires-clause-old
-base-requires-clause-old c = old-long c.args.base.now.fields c.args.old c.requires.old
-
-pub base-requires-clause-defaults : goal.base-requires-clause-defaults
-base-requires-clause-defaults c = c.requires.written.defaults
 
 pub base-requires-clause-stored : goal.base-requires-clause-stored
 base-requires-clause-stored c =
