@@ -42,17 +42,17 @@ pub formatting_roots : (old made new : Disk) → Does FIRST_AREA Anything old ma
 formatting_roots old made new does spells durable roots =
     leaves_then old made new (IsFormattingOf old) (formatting_receiver old made does)
     (leaves_does ROOT_AREA (λ _ bytes. IsFormatting bytes) made new (IsFormattingOf old) roots (λ middle areas may only.
-      let from = now FIRST_AREA Anything old made does middle may in
-      let first = only.others FIRST_AREA first_apart ∙ durable middle may in
-      record {
-        before = from.0;
-        could = from.1;
-        roots = inr (elim only.here [
-          | inl none ↦ inl none
-          | inr one ↦ inr (empty_library areas one (subst (λ (bytes : List ℕ). Spells FIRST_AREA FIRST_SEQUENCE VERSION [] bytes) (sym first) spells))
-        ]);
-        others = λ area root receiver. only.others area root ∙ from.2.others area receiver;
-      }))
+    let from = now FIRST_AREA Anything old made does middle may in
+    let first = only.others FIRST_AREA first_apart ∙ durable middle may in
+    record {
+      before = from.0;
+      could = from.1;
+      roots = inr (elim only.here [
+        | inl none ↦ inl none
+        | inr one ↦ inr (empty_library areas one (subst (λ (bytes : List ℕ). Spells FIRST_AREA FIRST_SEQUENCE VERSION [] bytes) (sym first) spells))
+      ]);
+      others = λ area root receiver. only.others area root ∙ from.2.others area receiver;
+    }))
 
 -- ---- when it is done
 

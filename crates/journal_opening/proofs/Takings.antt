@@ -86,6 +86,6 @@ left_whole d entries s left none = none-whole d (λ member. 0) (journal_with ent
 
 -- one waits for its second entry
 pub left_open : (d : Descriptions) (tells : Type 0) (book : BookState) (s : Standing) (disk : Disk) → HasTakenAll d tells book s disk → is_none s.begun ≡ false → tells → (all : List Entry) → Holds book all disk → CanReplayWhole d (journal_with all) → ⊥
-left_open d tells book s disk taken open told all holds can =
+left_open d tells book s disk taken waits told all holds can =
     let left = subst (λ (l : List Entry). IsLeftBy d l s) (taken.same told all holds) taken.left in
-    false≢true (sym open ∙ whole-none d (λ member. 0) (journal_with all) s left can.whole)
+    false≢true (sym waits ∙ whole-none d (λ member. 0) (journal_with all) s left can.whole)

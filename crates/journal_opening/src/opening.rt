@@ -64,7 +64,7 @@ fn open_written<S: Store, D: Describe>(
 ) -> Result<OpenedJournal, OpenFault>
     ensures opened { IfOk result (λ journal. S.tells → (entries : List Entry) × IsOpened (D.rules by.now) journal.roots journal.book journal.replay entries (S.disk store.new) × SpellJournal (D.rules by.now) entries (S.disk store.old).seen) }
     ensures left { IfOk result (λ journal. (entries : List Entry) × IsLeftBy (D.rules by.now) entries journal.replay × EndsWhole (journal_with entries)) }
-    ensures is_written { IsErrOf result OpenFault.NotALibrary → ⊥ }
+    ensures never_empty { IsErrOf result OpenFault.NotALibrary → ⊥ }
     ensures damaged { (area at : ℕ) → IsErrOf result (OpenFault.Damaged area at) → S.tells → (entries : List Entry) → SpellJournal (D.rules by.now) entries (S.disk store.old).seen → ⊥ }
     ensures stays { Stays (S.disk store.old) (S.disk store.new) }
     ensures cause { IsErrOf result OpenFault.StoreFault → Rose (S.disk store.old).faults (S.disk store.new).faults }
