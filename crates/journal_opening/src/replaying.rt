@@ -6,7 +6,6 @@ ghost use Rattle.entry_codec.specs.declared.entries.Entry.{Entry};
 ghost use Rattle.journal_replay.specs.SoFar.{EndsWhole};
 ghost use Rattle.journal_book.specs.Book.{Holds, IsHeld, last_of};
 ghost use Rattle.journal_book.specs.Reads.{between};
-ghost use Rattle.journal_book.specs.Searches.{StandAt};
 ghost use Rattle.journal_opening.specs.Journals.{CanReplayWhole, IsLeftBy, journal_with};
 ghost use Rattle.journal_opening.specs.Takings.{AreTaken, CannotFollow, HasTakenAll, HasTakenRange};
 
@@ -56,14 +55,15 @@ fn replay_entries<S: Store, D: Describe>(
     ensures stays { Stays (S.disk store.old) (S.disk store.new) }
     ensures cause { IsErrOf result LogFault.StoreFault → Rose (S.disk store.old).faults (S.disk store.new).faults }
 {
-    let (first, last) = book.bounds();
-    let count = last - (first - 1);
+    let bounds = book.bounds();
+    let count = bounds.1 - (bounds.0 - 1);
     let mut replay = Replay::new(alloc);
     let mut read = 0;
     while read < count {
         let more = (count - read).min(PIECE);
-        let lo = first + read;
-        take_range(alloc, store, by, book, &mut replay, lo, lo + (more - 1))?;
+        let lo = bounds.0 + read;
+        let hi = lo + (more - 1);
+        take_range(alloc, store, by, book, &mut replay, lo, hi)?;
         read += more;
     }
     Ok(replay)
@@ -149,12 +149,11 @@ fn take_all<D: Describe>(
 fn damage_at<S: Store>(alloc: Global, store: &mut S, book: &Book, sequence: u64) -> LogFault
     requires held { S.tells → IsHeld book.now (S.disk store.old) }
     requires forced { book.now.waiting ≡ 0 }
-    ensures stands { (area at : ℕ) → result ≡ LogFault.Damaged area at → book.now.first ≤ sequence → sequence ≤ last_of book.now → S.tells → (all : List Entry) → Holds book.now all (S.disk store.old) → StandAt (between book.now.first sequence sequence all) area at (S.disk store.old).seen }
     ensures stays { Stays (S.disk store.old) (S.disk store.new) }
     ensures cause { result ≡ LogFault.StoreFault → Rose (S.disk store.old).faults (S.disk store.new).faults }
 {
-    let (first, last) = book.bounds();
-    if sequence < first || sequence > last {
+    let bounds = book.bounds();
+    if sequence < bounds.0 || sequence > bounds.1 {
         return LogFault::Damaged {
             area: FIRST_AREA,
             at: 0,
