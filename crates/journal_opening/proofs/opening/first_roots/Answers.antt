@@ -16,7 +16,7 @@ returns-in_err-roots-clause-damaged g c = λ area at is tells earlier are.
     let told = c.in_err-roots.ensures.damaged area at (ap (λ (e : LogFault). Err e) same) in
     never_both earlier first_root ((g.S.Store.disk c.args.store.now).seen ROOT_AREA) at (told.1 tells) are
 
-pub returns-clause-damaged : goal.returns-clause-damaged
-returns-clause-damaged g c = λ area at is tells earlier are.
+pub returns-else-is_first-clause-damaged : goal.returns-else-is_first-clause-damaged
+returns-else-is_first-clause-damaged g c = λ area at is tells earlier are.
     let last = one_root c.in_ok-roots.roots (g.S.Store.disk c.args.store.now) (g.S.Store.disk c.open_roots.new.store) c.open_roots.ensures.stays (c.in_ok-roots.ensures.opened tells) earlier are in
     false≢true (sym c.if-is_first.false ∙ c.is_first.ensures.only (c.last.ensures.last ∙ last))

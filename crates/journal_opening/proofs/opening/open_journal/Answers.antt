@@ -1,6 +1,7 @@
 use Rattle.std.proofs.Common.{◌≡◌, ℕ, List, sym, ap, subst, Err, IsErrOf}
 use Rattle.std.proofs.lemmas.Result.{err_from_is_err_and}
 use Rattle.store_model.specs.Disk.{Areas}
+use Rattle.store_model.proofs.Runs.{stays_trans}
 use Rattle.journal_opening.specs.Journals.{SpellJournal}
 use Rattle.journal_opening.specs.declared.fault.OpenFault.{OpenFault}
 use Rattle.journal_opening.specs.declared.fault.OpenFault.TheVariants.{Damaged}
@@ -14,10 +15,13 @@ returns-in_err-journal-clause-damaged g c = λ area at is tells entries spells.
     c.in_err-journal.ensures.damaged area at (ap (λ (e : OpenFault). Err e) same) tells entries
     (subst (λ (areas : Areas). SpellJournal (g.D.Describe.rules c.args.by.now) entries areas) (seen_same (g.S.Store.disk c.args.store.now) (g.S.Store.disk c.is_written.new.store) c.is_written.ensures.stays) spells)
 
-pub returns-then-branch-clause-opened : goal.returns-then-branch-clause-opened
-returns-then-branch-clause-opened g c = λ tells.
+pub returns-in_ok-journal-clause-opened : goal.returns-in_ok-journal-clause-opened
+returns-in_ok-journal-clause-opened g c = λ tells.
     let told = c.in_ok-journal.ensures.opened tells in (
       told.0,
       told.1,
       subst (λ (areas : Areas). SpellJournal (g.D.Describe.rules c.args.by.now) told.0 areas) (sym (seen_same (g.S.Store.disk c.args.store.now) (g.S.Store.disk c.is_written.new.store) c.is_written.ensures.stays)) told.2,
     )
+
+pub returns-in_ok-journal-clause-stays : goal.returns-in_ok-journal-clause-stays
+returns-in_ok-journal-clause-stays g c = stays_trans (g.S.Store.disk c.args.store.now) (g.S.Store.disk c.is_written.new.store) (g.S.Store.disk c.open_written.new.store) c.is_written.ensures.stays c.open_written.ensures.stays

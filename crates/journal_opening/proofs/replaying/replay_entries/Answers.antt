@@ -19,6 +19,16 @@ loop-read-init g c = record {
 pub take_range-requires-clause-held : goal.take_range-requires-clause-held
 take_range-requires-clause-held g c = λ tells. held_stays c.args.book.now (g.S.Store.disk c.args.store.now) (g.S.Store.disk c.loop-read.store) c.loop-read.invariant.stays (c.requires.held tells)
 
+pub take_range-requires-clause-counted : goal.take_range-requires-clause-counted
+take_range-requires-clause-counted g c = omega (arith, c.bounds-bounds.ensures.first, c.bounds-bounds.ensures.least)
+
+pub take_range-requires-clause-kept : goal.take_range-requires-clause-kept
+take_range-requires-clause-kept g c = omega (arith, c.bounds-bounds.ensures.first)
+
+pub take_range-requires-clause-there : goal.take_range-requires-clause-there
+take_range-requires-clause-there g c =
+    omega (arith, c.bounds-bounds.ensures.first, c.bounds-bounds.ensures.last, c.bounds-bounds.ensures.least, c.min-more.ensures, c.loop-read-test.true)
+
 pub returns-in_err-take_range-clause-damaged : goal.returns-in_err-take_range-clause-damaged
 returns-in_err-take_range-clause-damaged g c = λ area at is tells all holds.
     let p = err_from_is_err_and c.from_residual.result c.from_residual.ensures.1 in
