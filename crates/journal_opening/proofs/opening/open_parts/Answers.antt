@@ -44,3 +44,8 @@ returns-clause-opened g c = λ tells.
 
 pub returns-clause-left : goal.returns-clause-left
 returns-clause-left g c = let taken = c.in_ok-replay.ensures.taken in (taken.entries, taken.left, c.in_ok-replay.ensures.whole taken.entries taken.left)
+
+pub returns-clause-stays : goal.returns-clause-stays
+returns-clause-stays g c =
+    let before = stays_trans (g.S.Store.disk c.args.store.now) (g.S.Store.disk c.first_roots.new.store) (g.S.Store.disk c.«open».new.store) c.first_roots.ensures.stays c.«open».ensures.stays in
+    stays_trans (g.S.Store.disk c.args.store.now) (g.S.Store.disk c.«open».new.store) (g.S.Store.disk c.replay_book.new.store) before c.replay_book.ensures.stays

@@ -1,5 +1,6 @@
 use Rattle.std.proofs.Common.{◌≡◌, ◌∙◌, sym, ap, Err, IsErrOf}
 use Rattle.std.proofs.lemmas.Result.{err_from_is_err_and}
+use Rattle.store_model.proofs.Runs.{stays_trans}
 use Rattle.gated_log.specs.declared.fault.LogFault.{LogFault}
 use Rattle.gated_log.specs.declared.fault.LogFault.TheVariants.{Damaged}
 use Rattle.journal_opening.proofs.Books.{held_stays}
@@ -21,3 +22,6 @@ damage_at-requires-clause-held g c = λ tells. held_stays c.args.book.now (g.S.S
 pub returns-else-is_whole-clause-damaged : goal.returns-else-is_whole-clause-damaged
 returns-else-is_whole-clause-damaged g c = λ area at is tells all holds can.
     left_open (g.D.Describe.rules c.args.by.now) g.S.Store.tells c.args.book.now c.in_ok-replay.replay (g.S.Store.disk c.args.store.now) c.in_ok-replay.ensures.taken (sym c.is_whole.ensures ∙ c.if-is_whole.false) tells all holds can
+
+pub returns-else-is_whole-clause-stays : goal.returns-else-is_whole-clause-stays
+returns-else-is_whole-clause-stays g c = stays_trans (g.S.Store.disk c.args.store.now) (g.S.Store.disk c.replay_entries.new.store) (g.S.Store.disk c.damage_at.new.store) c.replay_entries.ensures.stays c.damage_at.ensures.stays
