@@ -1,5 +1,5 @@
 -- Areas that spell the journal without entries.
-use Rattle.std.proofs.Common.{◌≡◌, inl, inr, ℕ, List, [], Some, refl, arith}
+use Rattle.std.proofs.Common.{inl, [], Some, refl, arith}
 use Rattle.store_model.specs.Disk.{Areas}
 use Rattle.gated_log.specs.Blocks.{Spells}
 use Rattle.checkpoint.specs.declared.layout.TheConstants.{ROOT_AREA}

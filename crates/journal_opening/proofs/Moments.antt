@@ -1,7 +1,7 @@
 -- What a stop leaves while a store is formatted.
-use Rattle.std.proofs.Common.{◌≡◌, ◌≢◌, inl, inr, ℕ, List, [], refl, sym, ◌∙◌, subst, arith}
+use Rattle.std.proofs.Common.{◌≢◌, inl, inr, ℕ, List, [], refl, sym, ◌∙◌, subst, arith}
 use Rattle.store_model.specs.Disk.{Areas, Disk, Does, IsDurable, Leaves, May, Stays}
-use Rattle.store_model.proofs.Runs.{durable_apart, leaves_does, leaves_less, leaves_stays, leaves_then, now, stays_does, then_stays}
+use Rattle.store_model.proofs.Runs.{durable_apart, leaves_does, leaves_less, leaves_stays, leaves_then, now, stays_does}
 use Rattle.gated_log.specs.Blocks.{Spells}
 use Rattle.gated_log.specs.Log.{Anything}
 use Rattle.gated_log.proofs.Staging.{any_more}
@@ -67,9 +67,6 @@ module _ (made new : Disk) (spells : Spells FIRST_AREA FIRST_SEQUENCE VERSION []
       empty_library areas (subst (λ (bytes : List ℕ). AreRoots [] first_root bytes) (sym (settled areas may)) roots) (subst (λ (bytes : List ℕ). Spells FIRST_AREA FIRST_SEQUENCE VERSION [] bytes) (sym first) spells)
 
 -- ---- where memory ran out
-
-pub receiver_alone : (old made new : Disk) → Does FIRST_AREA Anything old made → Stays made new → Does FIRST_AREA Anything old new
-receiver_alone old made new does stays = then_stays FIRST_AREA Anything old made does new stays
 
 pub receiver_since : (old begun new : Disk) → Stays old begun → Does FIRST_AREA Anything begun new → Does FIRST_AREA Anything old new
 receiver_since old begun new stays does = any_more FIRST_AREA Anything old begun new (stays_does FIRST_AREA Anything old begun (λ bytes. tt) stays) does

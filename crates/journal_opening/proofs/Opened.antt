@@ -1,6 +1,6 @@
 -- A store's journal that was opened: its roots, its book, and what the entries leave.
-use Rattle.std.proofs.Common.{◌≡◌, ℕ, List, refl, sym, ◌∙◌, subst}
-use Rattle.store_model.specs.Disk.{Areas, Disk, Stays}
+use Rattle.std.proofs.Common.{◌≡◌, ℕ, List, sym, subst}
+use Rattle.store_model.specs.Disk.{Disk, Stays}
 use Rattle.store_model.proofs.Runs.{stays_trans}
 use Rattle.entry_codec.specs.declared.entries.Entry.{Entry}
 use Rattle.journal_model.specs.Catalogue.{Descriptions}
@@ -14,12 +14,11 @@ use Rattle.checkpoint.proofs.Kept.{held_roots, holds_stays}
 use Rattle.checkpoint.proofs.RootLaws.{one_list as one_root_list}
 use Rattle.receiver_chain.specs.declared.numbers.TheConstants.{FIRST_RECEIVER}
 use Rattle.journal_book.specs.Book.{BookState, HasEntries, Holds}
-use Rattle.journal_book.specs.Kept.{SpellEntries}
 use Rattle.journal_book.proofs.Deposits.{stays_holds}
 use Rattle.journal_book.proofs.Reading.{one_list}
 use Rattle.journal_opening.specs.Journals.{CanReplayWhole, IsLeftBy, IsOpened, SpellJournal, journal_with}
 use Rattle.journal_opening.specs.Takings.{HasTakenAll}
-use Rattle.journal_opening.proofs.Books.{book_spells, seen_same}
+use Rattle.journal_opening.proofs.Books.{book_spells}
 
 -- ---- roots
 

@@ -1,5 +1,5 @@
 //! Opens the journal that a store holds, and trusts no byte. What it is, is in specs/Journals.antt.
-ghost use Rattle.std.specs.Prelude.{◌≡◌, ◌≢◌, ◌↔◌, ℕ, List, [], IfOk, IsErrOf, IsTrue};
+ghost use Rattle.std.specs.Prelude.{◌≡◌, ◌≢◌, ℕ, List, [], IfOk, IsErrOf, IsTrue};
 ghost use Rattle.store_model.specs.Disk.{Stays};
 ghost use Rattle.store_model.specs.Faults.{Rose};
 ghost use Rattle.entry_codec.specs.declared.entries.Entry.{Entry};

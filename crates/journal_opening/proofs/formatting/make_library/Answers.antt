@@ -1,9 +1,9 @@
-use Rattle.std.proofs.Common.{◌≡◌, refl, ◌∙◌, arith}
+use Rattle.std.proofs.Common.{◌∙◌}
 use Rattle.store_model.proofs.Runs.{durable_apart}
 use Rattle.gated_log.specs.Log.{Anything}
 use Rattle.checkpoint.specs.declared.layout.TheConstants.{ROOT_AREA}
 use Rattle.journal_opening.specs.declared.layout.TheConstants.{FIRST_AREA}
-use Rattle.journal_opening.proofs.Moments.{formatted_left, formatted_seen, formatting_receiver, formatting_roots, receiver_alone, root_apart}
+use Rattle.journal_opening.proofs.Moments.{formatted_left, formatted_seen, formatting_receiver, formatting_roots, root_apart}
 use Rattle.journal_opening.proofs.formatting.make_library.Goals as goal
 
 pub returns-in_err-format-clause-moments : goal.returns-in_err-format-clause-moments

@@ -1,4 +1,4 @@
-use Rattle.std.proofs.Common.{◌≡◌, ℕ, List, sym, ◌∙◌, ap, Err, IsErrOf}
+use Rattle.std.proofs.Common.{◌≡◌, sym, ◌∙◌, ap, Err}
 use Rattle.std.proofs.lemmas.Bool.{false≢true}
 use Rattle.std.proofs.lemmas.Result.{err_from_is_err_and}
 use Rattle.gated_log.specs.declared.fault.LogFault.{LogFault}

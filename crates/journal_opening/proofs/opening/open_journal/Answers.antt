@@ -1,4 +1,4 @@
-use Rattle.std.proofs.Common.{◌≡◌, ℕ, List, sym, ap, subst, Err, IsErrOf}
+use Rattle.std.proofs.Common.{◌≡◌, sym, ap, subst, Err}
 use Rattle.std.proofs.lemmas.Result.{err_from_is_err_and}
 use Rattle.store_model.specs.Disk.{Areas}
 use Rattle.store_model.proofs.Runs.{stays_trans}

@@ -1,4 +1,4 @@
-use Rattle.std.proofs.Common.{◌≡◌, ◌+◌, ◌-◌, ◌≤◌, ℕ, List, [], refl, ap, arith, Err, IsErrOf}
+use Rattle.std.proofs.Common.{◌≡◌, ◌+◌, ◌-◌, [], refl, ap, arith, Err}
 use Rattle.std.proofs.lemmas.Result.{err_from_is_err_and}
 use Rattle.store_model.proofs.Runs.{stays_trans}
 use Rattle.checkpoint.proofs.Formats.{stays_here}

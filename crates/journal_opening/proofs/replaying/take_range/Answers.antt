@@ -1,4 +1,4 @@
-use Rattle.std.proofs.Common.{◌≡◌, ◌++◌, ◌∙◌, ℕ, List, Option, sym, ap, subst, Err, IsErrOf}
+use Rattle.std.proofs.Common.{◌≡◌, ◌++◌, ◌∙◌, ℕ, List, Option, sym, ap, subst, Err}
 use Rattle.std.proofs.lemmas.Result.{err_from_is_err_and}
 use Rattle.entry_codec.specs.declared.entries.Entry.{Entry}
 use Rattle.gated_log.specs.declared.fault.LogFault.{LogFault}
