@@ -19,6 +19,7 @@ pub fn format_library<S: Store>(alloc: Global, store: &mut S) -> Result<(), Form
     ensures durable { OnOk result (S.tells → (areas : Areas) → May (S.disk store.new) areas → IsEmptyLibrary areas) }
     ensures occupied { IsErrOf result FormatFault.Exists → S.tells → (S.disk store.old).seen ROOT_AREA ≢ [] }
     ensures untouched { IsErrOf result FormatFault.Exists → Stays (S.disk store.old) (S.disk store.new) }
+    ensures kept { S.tells → (S.disk store.old).seen ROOT_AREA ≢ [] → Stays (S.disk store.old) (S.disk store.new) }
     ensures moments { S.tells → Leaves (S.disk store.old) (S.disk store.new) (IsFormattingOf (S.disk store.old)) }
     ensures no_memory { IsErrOf result FormatFault.NoMemory → Does FIRST_AREA Anything (S.disk store.old) (S.disk store.new) }
     ensures cause { IsErrOf result FormatFault.StoreFault → Rose (S.disk store.old).faults (S.disk store.new).faults }

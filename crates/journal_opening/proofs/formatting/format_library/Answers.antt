@@ -24,3 +24,11 @@ returns-in_err-make_library-clause-no_memory g c = λ is.
     let p = err_from_is_err_and c.from_residual-in_err-make_library.result c.from_residual-in_err-make_library.ensures.1 in
     let same : c.in_err-make_library.field-0.0 ≡ NoMemory = cc (p.1, p.2, is) in
     receiver_since (g.S.Store.disk c.args.store.now) (g.S.Store.disk c.is_written.new.store) (g.S.Store.disk c.make_library.new.store) c.is_written.ensures.stays (c.in_err-make_library.ensures.no_memory (ap (λ (e : FormatFault). Err e) same))
+
+-- a store that has bytes in area 0 doesn't come so far
+
+pub returns-in_err-make_library-clause-kept : goal.returns-in_err-make_library-clause-kept
+returns-in_err-make_library-clause-kept g c = λ tells some. absurd (some (c.in_ok-is_written.ensures.none c.if-branch.false tells))
+
+pub returns-clause-kept : goal.returns-clause-kept
+returns-clause-kept g c = λ tells some. absurd (some (c.in_ok-is_written.ensures.none c.if-branch.false tells))
