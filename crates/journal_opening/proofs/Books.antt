@@ -46,7 +46,8 @@ range_next all first lo hi read more from upto =
     ∙ take-append-drop read (take (read + more) all)
 
 -- all were read
-pub range_all : (book : BookState) (all : List Entry) (disk : Disk) → Holds book all disk → (first last count read : ℕ) → first ≡ book.first → last ≡ last_of book → 1 ≤ first → count ≡ last - (first - 1) → count ≤ read → take read all ≡ all
+pub range_all : (book : BookState) (all : List Entry) (disk : Disk) → Holds book all disk → (first last count read : ℕ) → first ≡ book.first → last ≡ last_of book → 1 ≤ first
+    → count ≡ last - (first - 1) → count ≤ read → take read all ≡ all
 range_all book all disk holds first last count read from upto least is past = take_all read all (omega (arith, from, upto, least, is, past, book_count book all disk holds))
 
 -- ---- held

@@ -35,10 +35,12 @@ formatting_since old begun new stays leaves =
 -- receiver 1 is made
 pub formatting_receiver : (old new : Disk) → Does FIRST_AREA Anything old new → Leaves old new (IsFormattingOf old)
 formatting_receiver old new does =
-    leaves_does FIRST_AREA Anything old new (IsFormattingOf old) does (λ before areas may only. record { before = before; could = may; roots = inl (only.others ROOT_AREA root_apart); others = λ area root first. only.others area first })
+    leaves_does FIRST_AREA Anything old new (IsFormattingOf old) does
+    (λ before areas may only. record { before = before; could = may; roots = inl (only.others ROOT_AREA root_apart); others = λ area root first. only.others area first })
 
 -- and then the roots
-pub formatting_roots : (old made new : Disk) → Does FIRST_AREA Anything old made → Spells FIRST_AREA FIRST_SEQUENCE VERSION [] (made.seen FIRST_AREA) → IsDurable FIRST_AREA made → Does ROOT_AREA (λ _ bytes. IsFormatting bytes) made new → Leaves old new (IsFormattingOf old)
+pub formatting_roots : (old made new : Disk) → Does FIRST_AREA Anything old made → Spells FIRST_AREA FIRST_SEQUENCE VERSION [] (made.seen FIRST_AREA) → IsDurable FIRST_AREA made
+    → Does ROOT_AREA (λ _ bytes. IsFormatting bytes) made new → Leaves old new (IsFormattingOf old)
 formatting_roots old made new does spells durable roots =
     leaves_then old made new (IsFormattingOf old) (formatting_receiver old made does)
     (leaves_does ROOT_AREA (λ _ bytes. IsFormatting bytes) made new (IsFormattingOf old) roots (λ middle areas may only.
@@ -56,7 +58,8 @@ formatting_roots old made new does spells durable roots =
 
 -- ---- when it is done
 
-module _ (made new : Disk) (spells : Spells FIRST_AREA FIRST_SEQUENCE VERSION [] (made.seen FIRST_AREA)) (does : Does ROOT_AREA (λ _ bytes. IsFormatting bytes) made new) (roots : AreRoots [] first_root (new.seen ROOT_AREA)) where
+module _ (made new : Disk) (spells : Spells FIRST_AREA FIRST_SEQUENCE VERSION [] (made.seen FIRST_AREA)) (does : Does ROOT_AREA (λ _ bytes. IsFormatting bytes) made new)
+    (roots : AreRoots [] first_root (new.seen ROOT_AREA)) where
   pub formatted_seen : IsEmptyLibrary new.seen
   formatted_seen = empty_library new.seen roots (subst (λ (bytes : List ℕ). Spells FIRST_AREA FIRST_SEQUENCE VERSION [] bytes) (sym (does.others FIRST_AREA first_apart)) spells)
 
@@ -64,7 +67,8 @@ module _ (made new : Disk) (spells : Spells FIRST_AREA FIRST_SEQUENCE VERSION []
   pub formatted_left : IsDurable FIRST_AREA made → IsDurable ROOT_AREA new → (areas : Areas) → May new areas → IsEmptyLibrary areas
   formatted_left durable settled areas may =
       let first = durable_apart ROOT_AREA (λ _ bytes. IsFormatting bytes) made new does FIRST_AREA first_apart durable areas may ∙ does.others FIRST_AREA first_apart in
-      empty_library areas (subst (λ (bytes : List ℕ). AreRoots [] first_root bytes) (sym (settled areas may)) roots) (subst (λ (bytes : List ℕ). Spells FIRST_AREA FIRST_SEQUENCE VERSION [] bytes) (sym first) spells)
+      empty_library areas (subst (λ (bytes : List ℕ). AreRoots [] first_root bytes) (sym (settled areas may)) roots)
+      (subst (λ (bytes : List ℕ). Spells FIRST_AREA FIRST_SEQUENCE VERSION [] bytes) (sym first) spells)
 
 -- ---- where memory ran out
 

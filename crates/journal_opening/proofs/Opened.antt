@@ -33,15 +33,20 @@ one_root roots old new stays has earlier are = sym (one_root_list earlier has.0 
 -- ---- the whole
 
 -- the areas spell the journal that the book holds and no other
-pub one_journal : (d : Descriptions) (book : BookState) (all : List Entry) (disk : Disk) → Holds book all disk → book.waiting ≡ 0 → book.chain.first ≡ FIRST_RECEIVER → (old : Disk) → Stays old disk → (entries : List Entry) → SpellJournal d entries old.seen → entries ≡ all
-one_journal d book all disk holds none first old stays entries spells = one_list FIRST_RECEIVER entries all old.seen spells.spelled (book_spells book all disk holds none first old.seen (λ area. sym (stays.seen area)))
+pub one_journal : (d : Descriptions) (book : BookState) (all : List Entry) (disk : Disk) → Holds book all disk → book.waiting ≡ 0 → book.chain.first ≡ FIRST_RECEIVER → (old : Disk) → Stays old disk
+    → (entries : List Entry) → SpellJournal d entries old.seen → entries ≡ all
+one_journal d book all disk holds none first old stays entries spells =
+    one_list FIRST_RECEIVER entries all old.seen spells.spelled (book_spells book all disk holds none first old.seen (λ area. sym (stays.seen area)))
 
 -- so the entries of that journal can't follow where those of the book can't
-pub no_journal : (d : Descriptions) (book : BookState) (all : List Entry) (disk : Disk) → Holds book all disk → book.waiting ≡ 0 → book.chain.first ≡ FIRST_RECEIVER → (old : Disk) → Stays old disk → (CanReplayWhole d (journal_with all) → ⊥) → (entries : List Entry) → SpellJournal d entries old.seen → ⊥
-no_journal d book all disk holds none first old stays cannot entries spells = cannot (subst (λ (l : List Entry). CanReplayWhole d (journal_with l)) (one_journal d book all disk holds none first old stays entries spells) spells.replays)
+pub no_journal : (d : Descriptions) (book : BookState) (all : List Entry) (disk : Disk) → Holds book all disk → book.waiting ≡ 0 → book.chain.first ≡ FIRST_RECEIVER → (old : Disk) → Stays old disk
+    → (CanReplayWhole d (journal_with all) → ⊥) → (entries : List Entry) → SpellJournal d entries old.seen → ⊥
+no_journal d book all disk holds none first old stays cannot entries spells =
+    cannot (subst (λ (l : List Entry). CanReplayWhole d (journal_with l)) (one_journal d book all disk holds none first old stays entries spells) spells.replays)
 
 module _ (d : Descriptions) (tells : Type 0) (roots : RootsState) (book : BookState) (s : Standing) (d0 d1 d2 d3 : Disk) (before : Stays d0 d1) (between : Stays d1 d2) (behind : Stays d2 d3) where
-  pub opened_journal : HasRoots roots d1 → roots.last ≡ first_root → HasEntries book d2 → book.waiting ≡ 0 → book.chain.first ≡ FIRST_RECEIVER → tells → HasTakenAll d tells book s d2 → ((entries : List Entry) → IsLeftBy d entries s → EndsWhole (journal_with entries))
+  pub opened_journal : HasRoots roots d1 → roots.last ≡ first_root → HasEntries book d2 → book.waiting ≡ 0 → book.chain.first ≡ FIRST_RECEIVER → tells → HasTakenAll d tells book s d2
+      → ((entries : List Entry) → IsLeftBy d entries s → EndsWhole (journal_with entries))
       → (entries : List Entry) × IsOpened d roots book s entries d3 × SpellJournal d entries d0.seen
   opened_journal has first holds none receiver told taken whole =
       let all = holds.0 in

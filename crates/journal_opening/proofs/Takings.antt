@@ -30,7 +30,8 @@ front_so_far d entries (e ∷ more) can =
 
 -- ---- one entry
 
-module _ (d : Descriptions) (before entries : List Entry) (i : ℕ) (e : Entry) (s : Standing) (below : i < length entries) (is : e ≡ get_or entries i e) (left : IsLeftBy d (before ++ take i entries) s) where
+module _ (d : Descriptions) (before entries : List Entry) (i : ℕ) (e : Entry) (s : Standing) (below : i < length entries) (is : e ≡ get_or entries i e)
+    (left : IsLeftBy d (before ++ take i entries) s) where
   -- the entries up to this one
   further : before ++ take (i + 1) entries ≡ (before ++ take i entries) ++ e ∷ []
   further = ap (λ (l : List Entry). before ++ l) (take_more entries i e below ∙ ap (λ (x : Entry). take i entries ++ x ∷ []) (sym is)) ∙ sym (append_assoc before (take i entries) (e ∷ []))
@@ -41,7 +42,8 @@ module _ (d : Descriptions) (before entries : List Entry) (i : ℕ) (e : Entry) 
 
   pub taken_none : may_stand_next d s e ≡ false → CannotFollow d (before ++ entries)
   taken_none refused can =
-      let split : before ++ entries ≡ (before ++ take (i + 1) entries) ++ drop (i + 1) entries = ap (λ (l : List Entry). before ++ l) (sym (take-append-drop (i + 1) entries)) ∙ sym (append_assoc before (take (i + 1) entries) (drop (i + 1) entries)) in
+      let split : before ++ entries ≡ (before ++ take (i + 1) entries) ++ drop (i + 1) entries =
+      ap (λ (l : List Entry). before ++ l) (sym (take-append-drop (i + 1) entries)) ∙ sym (append_assoc before (take (i + 1) entries) (drop (i + 1) entries)) in
       let front = front_so_far d (before ++ take (i + 1) entries) (drop (i + 1) entries) (subst (λ (l : List Entry). CanReplaySoFar d (journal_with l)) split can) in
       let here : CanReplaySoFar d (journal_with ((before ++ take i entries) ++ e ∷ [])) = subst (λ (l : List Entry). CanReplaySoFar d (journal_with l)) further front in
       let may = stands-test d s e (come-stand d (λ member. 0) (journal_with (before ++ take i entries)) s left e (so_far-last d (journal_with (before ++ take i entries)) e here)) in
@@ -55,7 +57,8 @@ pub record IsTakenTo (d : Descriptions) (tells : Type 0) (book : BookState) (rea
   pub left : IsLeftBy d entries s
   pub same : tells → (all : List Entry) → Holds book all disk → entries ≡ take read all
 
-module _ (d : Descriptions) (tells : Type 0) (book : BookState) (old now : Disk) (stays : Stays old now) (read : ℕ) (s : Standing) (taken : IsTakenTo d tells book read s old) (first lo hi more : ℕ) (head : first ≡ book.first) (from : lo ≡ first + read) (upto : hi + 1 ≡ lo + more) where
+module _ (d : Descriptions) (tells : Type 0) (book : BookState) (old now : Disk) (stays : Stays old now) (read : ℕ) (s : Standing) (taken : IsTakenTo d tells book read s old) (first lo hi more : ℕ)
+    (head : first ≡ book.first) (from : lo ≡ first + read) (upto : hi + 1 ≡ lo + more) where
   range_is : (all : List Entry) → tells → Holds book all old → (range : List Entry) → range ≡ between book.first lo hi all → taken.entries ++ range ≡ take (read + more) all
   range_is all told holds range is =
       ap (λ (l : List Entry). l ++ range) (taken.same told all holds) ∙ ap (λ (l : List Entry). take read all ++ l) is ∙ range_next all book.first lo hi read more (omega (arith, head, from)) upto
@@ -72,7 +75,8 @@ module _ (d : Descriptions) (tells : Type 0) (book : BookState) (old now : Disk)
       let front = front_so_far d (take (read + more) all) (drop (read + more) all) (subst (λ (l : List Entry). CanReplaySoFar d (journal_with l)) (sym (take-append-drop (read + more) all)) can) in
       cannot (subst (λ (l : List Entry). CanReplaySoFar d (journal_with l)) (sym (range_is all told holds (between book.first lo hi all) refl)) front)
 
-pub taken_whole : (d : Descriptions) (tells : Type 0) (book : BookState) (read : ℕ) (s : Standing) (disk : Disk) → IsTakenTo d tells book read s disk → (first last count : ℕ) → first ≡ book.first → last ≡ last_of book → 1 ≤ first → count ≡ last - (first - 1) → count ≤ read → HasTakenAll d tells book s disk
+pub taken_whole : (d : Descriptions) (tells : Type 0) (book : BookState) (read : ℕ) (s : Standing) (disk : Disk) → IsTakenTo d tells book read s disk → (first last count : ℕ) → first ≡ book.first
+    → last ≡ last_of book → 1 ≤ first → count ≡ last - (first - 1) → count ≤ read → HasTakenAll d tells book s disk
 taken_whole d tells book read s disk taken first last count head upto least is past = record {
   entries = taken.entries;
   left = taken.left;
@@ -85,7 +89,8 @@ pub left_whole : (d : Descriptions) (entries : List Entry) (s : Standing) → Is
 left_whole d entries s left none = none-whole d (λ member. 0) (journal_with entries) s left none
 
 -- one waits for its second entry
-pub left_open : (d : Descriptions) (tells : Type 0) (book : BookState) (s : Standing) (disk : Disk) → HasTakenAll d tells book s disk → is_none s.begun ≡ false → tells → (all : List Entry) → Holds book all disk → CanReplayWhole d (journal_with all) → ⊥
+pub left_open : (d : Descriptions) (tells : Type 0) (book : BookState) (s : Standing) (disk : Disk) → HasTakenAll d tells book s disk → is_none s.begun ≡ false → tells → (all : List Entry)
+    → Holds book all disk → CanReplayWhole d (journal_with all) → ⊥
 left_open d tells book s disk taken waits told all holds can =
     let left = subst (λ (l : List Entry). IsLeftBy d l s) (taken.same told all holds) taken.left in
     false≢true (sym waits ∙ whole-none d (λ member. 0) (journal_with all) s left can.whole)

@@ -18,24 +18,29 @@ format_roots-requires-clause-settled g c = λ tells.
 
 pub returns-in-Ok-clause-formatted : goal.returns-in-Ok-clause-formatted
 returns-in-Ok-clause-formatted g c = λ tells.
-    formatted_seen (g.S.Store.disk c.format.new.store) (g.S.Store.disk c.format_roots.new.store) (c.in_ok-format.ensures.formatted tells) (c.format_roots.ensures.any_moment tells) (c.in-Ok.ensures.formatted tells)
+    formatted_seen (g.S.Store.disk c.format.new.store) (g.S.Store.disk c.format_roots.new.store) (c.in_ok-format.ensures.formatted tells) (c.format_roots.ensures.any_moment tells)
+    (c.in-Ok.ensures.formatted tells)
 
 pub returns-in-Ok-clause-durable : goal.returns-in-Ok-clause-durable
 returns-in-Ok-clause-durable g c = λ tells.
-    formatted_left (g.S.Store.disk c.format.new.store) (g.S.Store.disk c.format_roots.new.store) (c.in_ok-format.ensures.formatted tells) (c.format_roots.ensures.any_moment tells) (c.in-Ok.ensures.formatted tells)
+    formatted_left (g.S.Store.disk c.format.new.store) (g.S.Store.disk c.format_roots.new.store) (c.in_ok-format.ensures.formatted tells) (c.format_roots.ensures.any_moment tells)
+    (c.in-Ok.ensures.formatted tells)
     (c.in_ok-format.ensures.durable tells) (c.in-Ok.ensures.durable tells)
 
 pub returns-in-Ok-clause-moments : goal.returns-in-Ok-clause-moments
 returns-in-Ok-clause-moments g c = λ tells.
-    formatting_roots (g.S.Store.disk c.args.store.now) (g.S.Store.disk c.format.new.store) (g.S.Store.disk c.format_roots.new.store) c.format.ensures.any_moment (c.in_ok-format.ensures.formatted tells)
+    formatting_roots (g.S.Store.disk c.args.store.now) (g.S.Store.disk c.format.new.store) (g.S.Store.disk c.format_roots.new.store) c.format.ensures.any_moment
+    (c.in_ok-format.ensures.formatted tells)
     (c.in_ok-format.ensures.durable tells) (c.format_roots.ensures.any_moment tells)
 
 pub returns-in-Err-StoreFault-clause-moments : goal.returns-in-Err-StoreFault-clause-moments
 returns-in-Err-StoreFault-clause-moments g c = λ tells.
-    formatting_roots (g.S.Store.disk c.args.store.now) (g.S.Store.disk c.format.new.store) (g.S.Store.disk c.format_roots.new.store) c.format.ensures.any_moment (c.in_ok-format.ensures.formatted tells)
+    formatting_roots (g.S.Store.disk c.args.store.now) (g.S.Store.disk c.format.new.store) (g.S.Store.disk c.format_roots.new.store) c.format.ensures.any_moment
+    (c.in_ok-format.ensures.formatted tells)
     (c.in_ok-format.ensures.durable tells) (c.format_roots.ensures.any_moment tells)
 
 pub returns-in-Err-NoMemory-clause-moments : goal.returns-in-Err-NoMemory-clause-moments
 returns-in-Err-NoMemory-clause-moments g c = λ tells.
-    formatting_roots (g.S.Store.disk c.args.store.now) (g.S.Store.disk c.format.new.store) (g.S.Store.disk c.format_roots.new.store) c.format.ensures.any_moment (c.in_ok-format.ensures.formatted tells)
+    formatting_roots (g.S.Store.disk c.args.store.now) (g.S.Store.disk c.format.new.store) (g.S.Store.disk c.format_roots.new.store) c.format.ensures.any_moment
+    (c.in_ok-format.ensures.formatted tells)
     (c.in_ok-format.ensures.durable tells) (c.format_roots.ensures.any_moment tells)

@@ -17,11 +17,14 @@ pub returns-then-is_whole-clause-whole : goal.returns-then-is_whole-clause-whole
 returns-then-is_whole-clause-whole g c = λ entries left. left_whole (g.D.Describe.rules c.args.by.now) entries c.in_ok-replay.replay left (sym c.is_whole.ensures ∙ c.if-is_whole.true)
 
 pub damage_at-requires-clause-held : goal.damage_at-requires-clause-held
-damage_at-requires-clause-held g c = λ tells. held_stays c.args.book.now (g.S.Store.disk c.args.store.now) (g.S.Store.disk c.replay_entries.new.store) c.replay_entries.ensures.stays (c.requires.held tells)
+damage_at-requires-clause-held g c = λ tells.
+    held_stays c.args.book.now (g.S.Store.disk c.args.store.now) (g.S.Store.disk c.replay_entries.new.store) c.replay_entries.ensures.stays (c.requires.held tells)
 
 pub returns-else-is_whole-clause-damaged : goal.returns-else-is_whole-clause-damaged
 returns-else-is_whole-clause-damaged g c = λ area at is tells all holds can.
-    left_open (g.D.Describe.rules c.args.by.now) g.S.Store.tells c.args.book.now c.in_ok-replay.replay (g.S.Store.disk c.args.store.now) c.in_ok-replay.ensures.taken (sym c.is_whole.ensures ∙ c.if-is_whole.false) tells all holds can
+    left_open (g.D.Describe.rules c.args.by.now) g.S.Store.tells c.args.book.now c.in_ok-replay.replay (g.S.Store.disk c.args.store.now) c.in_ok-replay.ensures.taken
+    (sym c.is_whole.ensures ∙ c.if-is_whole.false) tells all holds can
 
 pub returns-else-is_whole-clause-stays : goal.returns-else-is_whole-clause-stays
-returns-else-is_whole-clause-stays g c = stays_trans (g.S.Store.disk c.args.store.now) (g.S.Store.disk c.replay_entries.new.store) (g.S.Store.disk c.damage_at.new.store) c.replay_entries.ensures.stays c.damage_at.ensures.stays
+returns-else-is_whole-clause-stays g c =
+    stays_trans (g.S.Store.disk c.args.store.now) (g.S.Store.disk c.replay_entries.new.store) (g.S.Store.disk c.damage_at.new.store) c.replay_entries.ensures.stays c.damage_at.ensures.stays

@@ -38,7 +38,8 @@ returns-in_err-take_range-clause-damaged g c = λ area at is tells all holds.
     let more = c.min-more.result in
     let upto : lo + (more - 1) + 1 ≡ lo + more = omega (arith, c.min-more.ensures, c.loop-read-test.true) in
     let there = stays_holds c.args.book.now all (g.S.Store.disk c.args.store.now) (g.S.Store.disk c.loop-read.store) so_far.stays holds in
-    range_fault (g.D.Describe.rules c.args.by.now) g.S.Store.tells c.args.book.now (g.S.Store.disk c.args.store.now) (g.S.Store.disk c.loop-read.store) so_far.stays c.loop-read.read c.loop-read.replay so_far.taken c.bounds-bounds.result.0 lo (lo + (more - 1)) more
+    range_fault (g.D.Describe.rules c.args.by.now) g.S.Store.tells c.args.book.now (g.S.Store.disk c.args.store.now) (g.S.Store.disk c.loop-read.store) so_far.stays c.loop-read.read
+    c.loop-read.replay so_far.taken c.bounds-bounds.result.0 lo (lo + (more - 1)) more
     c.bounds-bounds.ensures.first refl upto all tells holds (c.in_err-take_range.ensures.damaged area at (ap (λ (e : LogFault). Err e) same) tells so_far.taken.entries all so_far.taken.left there)
 
 pub loop-read-preserved : goal.loop-read-preserved
@@ -51,11 +52,14 @@ loop-read-preserved g c =
       stays = stays_trans _ _ _ so_far.stays c.take_range.ensures.stays;
       within = omega (arith, c.min-more.ensures, c.loop-read-test.true);
       taken =
-          taken_range (g.D.Describe.rules c.args.by.now) g.S.Store.tells c.args.book.now (g.S.Store.disk c.args.store.now) (g.S.Store.disk c.loop-read.store) so_far.stays c.loop-read.read c.loop-read.replay so_far.taken c.bounds-bounds.result.0 lo (lo + (more - 1)) more
+          taken_range (g.D.Describe.rules c.args.by.now) g.S.Store.tells c.args.book.now (g.S.Store.disk c.args.store.now) (g.S.Store.disk c.loop-read.store) so_far.stays c.loop-read.read
+          c.loop-read.replay so_far.taken c.bounds-bounds.result.0 lo (lo + (more - 1)) more
           c.bounds-bounds.ensures.first refl upto c.take_range.new.replay (c.in_ok-take_range.ensures.taken so_far.taken.entries so_far.taken.left);
     }
 
 pub returns-clause-taken : goal.returns-clause-taken
 returns-clause-taken g c =
-    taken_whole (g.D.Describe.rules c.args.by.now) g.S.Store.tells c.args.book.now c.loop-read.read c.loop-read.replay (g.S.Store.disk c.args.store.now) c.loop-read.invariant.taken c.bounds-bounds.result.0 c.bounds-bounds.result.1
-    (c.bounds-bounds.result.1 - (c.bounds-bounds.result.0 - 1)) c.bounds-bounds.ensures.first c.bounds-bounds.ensures.last (omega (arith, c.bounds-bounds.ensures.first, c.bounds-bounds.ensures.least)) refl (omega (arith, c.loop-read-test.false))
+    taken_whole (g.D.Describe.rules c.args.by.now) g.S.Store.tells c.args.book.now c.loop-read.read c.loop-read.replay (g.S.Store.disk c.args.store.now) c.loop-read.invariant.taken
+    c.bounds-bounds.result.0 c.bounds-bounds.result.1
+    (c.bounds-bounds.result.1 - (c.bounds-bounds.result.0 - 1)) c.bounds-bounds.ensures.first c.bounds-bounds.ensures.last
+    (omega (arith, c.bounds-bounds.ensures.first, c.bounds-bounds.ensures.least)) refl (omega (arith, c.loop-read-test.false))

@@ -30,4 +30,5 @@ damage_at-requires-clause-held g c = λ tells. held_stays c.args.book.now (g.S.S
 pub returns-clause-damaged : goal.returns-clause-damaged
 returns-clause-damaged g c = λ area at is tells before all left holds can.
     let here = subst (λ (o : Option ℕ). AreTaken (g.D.Describe.rules c.args.by.now) (before ++ c.deref.result.now) c.take_all.new.replay o) c.in-Some.is (c.in_ok-found.ensures before left) in
-    here (subst (λ (l : List Entry). CanReplaySoFar (g.D.Describe.rules c.args.by.now) (journal_with (before ++ l))) (sym (c.deref.ensures.value ∙ c.in_ok-entries.ensures.entries tells all holds)) can)
+    here (subst (λ (l : List Entry). CanReplaySoFar (g.D.Describe.rules c.args.by.now) (journal_with (before ++ l))) (sym (c.deref.ensures.value ∙ c.in_ok-entries.ensures.entries tells all holds))
+    can)
