@@ -1,0 +1,5 @@
+pub mod Empties
+pub mod Moments
+pub mod Books
+pub mod Takings
+pub mod Opened

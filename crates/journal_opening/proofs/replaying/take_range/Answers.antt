@@ -1,0 +1,34 @@
+use Rattle.std.proofs.Common.{◌≡◌, ◌++◌, ◌∙◌, ℕ, List, Option, sym, ap, subst, Err}
+use Rattle.std.proofs.lemmas.Result.{err_from_is_err_and}
+use Rattle.entry_codec.specs.declared.entries.Entry.{Entry}
+use Rattle.gated_log.specs.declared.fault.LogFault.{LogFault}
+use Rattle.gated_log.specs.declared.fault.LogFault.TheVariants.{Damaged}
+use Rattle.journal_replay.specs.SoFar.{CanReplaySoFar}
+use Rattle.journal_opening.specs.Journals.{IsLeftBy, journal_with}
+use Rattle.journal_opening.specs.Takings.{AreTaken}
+use Rattle.journal_opening.proofs.Books.{held_stays}
+use Rattle.journal_opening.proofs.replaying.take_range.Goals as goal
+
+pub returns-in_err-entries-clause-damaged : goal.returns-in_err-entries-clause-damaged
+returns-in_err-entries-clause-damaged g c = λ area at is tells before all left holds.
+    let p = err_from_is_err_and c.from_residual.result c.from_residual.ensures.1 in
+    let same : c.in_err-entries.field-0.0 ≡ Damaged area at = cc (p.1, p.2, is) in
+    absurd (c.in_err-entries.ensures.whole area at (ap (λ (e : LogFault). Err e) same) tells)
+
+pub returns-in-None-clause-taken : goal.returns-in-None-clause-taken
+returns-in-None-clause-taken g c = λ before left.
+    let here = subst (λ (o : Option ℕ). AreTaken (g.D.Describe.rules c.args.by.now) (before ++ c.deref.result.now) c.take_all.new.replay o) c.in-None.is (c.in_ok-found.ensures before left) in
+    record {
+      more = c.in_ok-entries.entries.items;
+      left = subst (λ (l : List Entry). IsLeftBy (g.D.Describe.rules c.args.by.now) (before ++ l) c.take_all.new.replay) c.deref.ensures.value here;
+      same = λ tells all holds. c.in_ok-entries.ensures.entries tells all holds;
+    }
+
+pub damage_at-requires-clause-held : goal.damage_at-requires-clause-held
+damage_at-requires-clause-held g c = λ tells. held_stays c.args.book.now (g.S.Store.disk c.args.store.now) (g.S.Store.disk c.read_range.new.store) c.read_range.ensures.stays (c.requires.held tells)
+
+pub returns-clause-damaged : goal.returns-clause-damaged
+returns-clause-damaged g c = λ area at is tells before all left holds can.
+    let here = subst (λ (o : Option ℕ). AreTaken (g.D.Describe.rules c.args.by.now) (before ++ c.deref.result.now) c.take_all.new.replay o) c.in-Some.is (c.in_ok-found.ensures before left) in
+    here (subst (λ (l : List Entry). CanReplaySoFar (g.D.Describe.rules c.args.by.now) (journal_with (before ++ l))) (sym (c.deref.ensures.value ∙ c.in_ok-entries.ensures.entries tells all holds))
+    can)

@@ -1,0 +1,173 @@
+//! Takes the entries of a book one after another, and finds the first that can't follow.
+ghost use Rattle.std.specs.Prelude.{◌≡◌, ◌≤◌, ◌++◌, ℕ, List, IfOk, OnOk, IsErrOf};
+ghost use Rattle.store_model.specs.Disk.{Stays};
+ghost use Rattle.store_model.specs.Faults.{Rose};
+ghost use Rattle.entry_codec.specs.declared.entries.Entry.{Entry};
+ghost use Rattle.journal_replay.specs.SoFar.{EndsWhole};
+ghost use Rattle.journal_book.specs.Book.{Holds, IsHeld, last_of};
+ghost use Rattle.journal_book.specs.Reads.{between};
+ghost use Rattle.journal_opening.specs.Journals.{CanReplayWhole, IsLeftBy, journal_with};
+ghost use Rattle.journal_opening.specs.Takings.{AreTaken, CannotFollow, HasTakenAll, HasTakenRange};
+
+use crate::layout::{FIRST_AREA, PIECE};
+use entry_codec::Entry;
+use gated_log::LogFault;
+use journal_book::{Book, BookFault};
+use replay_files::Describe;
+use replay_step::Replay;
+use std::alloc::{AllocError, Global};
+use store_model::Store;
+
+/// What the entries of a book leave that waits for none. At its end no pair of images waits for its second entry.
+pub(crate) fn replay_book<S: Store, D: Describe>(
+    alloc: Global,
+    store: &mut S,
+    by: &D,
+    book: &Book,
+) -> Result<Replay, LogFault>
+    requires held { S.tells → IsHeld book.now (S.disk store.old) }
+    requires forced { book.now.waiting ≡ 0 }
+    ensures taken { IfOk result (λ replay. HasTakenAll (D.rules by.now) S.tells book.now replay (S.disk store.old)) }
+    ensures whole { IfOk result (λ replay. (entries : List Entry) → IsLeftBy (D.rules by.now) entries replay → EndsWhole (journal_with entries)) }
+    ensures damaged { (area at : ℕ) → IsErrOf result (LogFault.Damaged area at) → S.tells → (all : List Entry) → Holds book.now all (S.disk store.old) → CanReplayWhole (D.rules by.now) (journal_with all) → ⊥ }
+    ensures stays { Stays (S.disk store.old) (S.disk store.new) }
+    ensures cause { IsErrOf result LogFault.StoreFault → Rose (S.disk store.old).faults (S.disk store.new).faults }
+{
+    let replay = replay_entries(alloc, store, by, book)?;
+    if replay.is_whole() {
+        Ok(replay)
+    } else {
+        Err(damage_at(alloc, store, book, replay.last()))
+    }
+}
+
+/// The same, whatever the last entry begins.
+fn replay_entries<S: Store, D: Describe>(
+    alloc: Global,
+    store: &mut S,
+    by: &D,
+    book: &Book,
+) -> Result<Replay, LogFault>
+    requires held { S.tells → IsHeld book.now (S.disk store.old) }
+    requires forced { book.now.waiting ≡ 0 }
+    ensures taken { IfOk result (λ replay. HasTakenAll (D.rules by.now) S.tells book.now replay (S.disk store.old)) }
+    ensures damaged { (area at : ℕ) → IsErrOf result (LogFault.Damaged area at) → S.tells → (all : List Entry) → Holds book.now all (S.disk store.old) → CannotFollow (D.rules by.now) all }
+    ensures stays { Stays (S.disk store.old) (S.disk store.new) }
+    ensures cause { IsErrOf result LogFault.StoreFault → Rose (S.disk store.old).faults (S.disk store.new).faults }
+{
+    let bounds = book.bounds();
+    let count = bounds.1 - (bounds.0 - 1);
+    let mut replay = Replay::new(alloc);
+    let mut read = 0;
+    while read < count {
+        let more = (count - read).min(PIECE);
+        let lo = bounds.0 + read;
+        let hi = lo + (more - 1);
+        take_range(alloc, store, by, book, &mut replay, lo, hi)?;
+        read += more;
+    }
+    Ok(replay)
+}
+
+/// Takes the entries of these sequences, which come behind those that were taken.
+fn take_range<S: Store, D: Describe>(
+    alloc: Global,
+    store: &mut S,
+    by: &D,
+    book: &Book,
+    replay: &mut Replay,
+    lo: u64,
+    hi: u64,
+) -> Result<(), LogFault>
+    requires held { S.tells → IsHeld book.now (S.disk store.old) }
+    requires forced { book.now.waiting ≡ 0 }
+    requires counted { 1 ≤ lo }
+    requires kept { book.now.first ≤ lo }
+    requires some { lo ≤ hi }
+    requires there { hi ≤ last_of book.now }
+    ensures taken { OnOk result ((before : List Entry) → IsLeftBy (D.rules by.now) before replay.old → HasTakenRange (D.rules by.now) S.tells book.now lo hi before replay.new (S.disk store.old)) }
+    ensures damaged { (area at : ℕ) → IsErrOf result (LogFault.Damaged area at) → S.tells → (before all : List Entry) → IsLeftBy (D.rules by.now) before replay.old → Holds book.now all (S.disk store.old) → CannotFollow (D.rules by.now) (before ++ between book.now.first lo hi all) }
+    ensures stays { Stays (S.disk store.old) (S.disk store.new) }
+    ensures cause { IsErrOf result LogFault.StoreFault → Rose (S.disk store.old).faults (S.disk store.new).faults }
+{
+    let entries = read_range(alloc, store, book, lo, hi)?;
+    let found = take_all(by, replay, &entries)?;
+    match found {
+        None => Ok(()),
+        Some(n) => Err(damage_at(alloc, store, book, lo.saturating_add(n as u64))),
+    }
+}
+
+/// The entries of these sequences, which are there.
+fn read_range<S: Store>(
+    alloc: Global,
+    store: &mut S,
+    book: &Book,
+    lo: u64,
+    hi: u64,
+) -> Result<Vec<Entry>, LogFault>
+    requires held { S.tells → IsHeld book.now (S.disk store.old) }
+    requires counted { 1 ≤ lo }
+    requires kept { book.now.first ≤ lo }
+    requires some { lo ≤ hi }
+    requires there { hi ≤ last_of book.now }
+    ensures entries { IfOk result (λ found. S.tells → (all : List Entry) → Holds book.now all (S.disk store.old) → found.items ≡ between book.now.first lo hi all) }
+    ensures whole { (area at : ℕ) → IsErrOf result (LogFault.Damaged area at) → S.tells → ⊥ }
+    ensures stays { Stays (S.disk store.old) (S.disk store.new) }
+    ensures cause { IsErrOf result LogFault.StoreFault → Rose (S.disk store.old).faults (S.disk store.new).faults }
+{
+    match book.entries(alloc, store, lo, hi) {
+        Ok(entries) => Ok(entries),
+        Err(BookFault::StoreFault) => Err(LogFault::StoreFault),
+        Err(BookFault::NoMemory) => Err(LogFault::NoMemory),
+        Err(BookFault::BlockChanged { area, at, .. }) => Err(LogFault::Damaged { area, at }),
+        Err(BookFault::NoSuchEntry) => Err(LogFault::StoreFault), // the range is there
+        Err(BookFault::ReceiverGone { .. }) => Err(LogFault::StoreFault), // nor is it gone
+    }
+}
+
+/// Takes the entries one after another: how many come before the first that can't follow, `None` where each one may.
+fn take_all<D: Describe>(
+    by: &D,
+    replay: &mut Replay,
+    entries: &[Entry],
+) -> Result<Option<usize>, AllocError>
+    ensures { IfOk result (λ found. (before : List Entry) → IsLeftBy (D.rules by.now) before replay.old → AreTaken (D.rules by.now) (before ++ entries.now) replay.new found) }
+{
+    let mut n = 0;
+    for entry in entries {
+        if replay.step(by, entry)? {
+            n += 1;
+        } else {
+            return Ok(Some(n));
+        }
+    }
+    Ok(None)
+}
+
+/// What is told of the entry of this sequence, which can't follow: where it stands.
+fn damage_at<S: Store>(alloc: Global, store: &mut S, book: &Book, sequence: u64) -> LogFault
+    requires held { S.tells → IsHeld book.now (S.disk store.old) }
+    requires forced { book.now.waiting ≡ 0 }
+    ensures stays { Stays (S.disk store.old) (S.disk store.new) }
+    ensures cause { result ≡ LogFault.StoreFault → Rose (S.disk store.old).faults (S.disk store.new).faults }
+{
+    let bounds = book.bounds();
+    if sequence < bounds.0 || sequence > bounds.1 {
+        return LogFault::Damaged {
+            area: FIRST_AREA,
+            at: 0,
+        };
+    }
+    match book.place(alloc, store, sequence) {
+        Ok(place) => LogFault::Damaged {
+            area: place.0,
+            at: place.1,
+        },
+        Err(BookFault::StoreFault) => LogFault::StoreFault,
+        Err(BookFault::NoMemory) => LogFault::NoMemory,
+        Err(BookFault::BlockChanged { area, at, .. }) => LogFault::Damaged { area, at },
+        Err(BookFault::NoSuchEntry) => LogFault::StoreFault, // its place is there
+        Err(BookFault::ReceiverGone { .. }) => LogFault::StoreFault, // nor is it gone
+    }
+}
