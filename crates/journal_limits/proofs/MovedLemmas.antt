@@ -55,7 +55,8 @@ module _ (P : Slot → Type 0) (none : P Deleted) where
 
 -- ---- the images of an entry
 
-pub gives-there : (long : ℕ) (kind : EntryKind) (prior : Option Entry) (e : Entry) → AllByRecursion (λ (image : List ℕ). length image ≡ long) (images_of kind) → Gives (FitsSlot long) (act_there kind prior e)
+pub gives-there : (long : ℕ) (kind : EntryKind) (prior : Option Entry) (e : Entry) → AllByRecursion (λ (image : List ℕ). length image ≡ long) (images_of kind)
+    → Gives (FitsSlot long) (act_there kind prior e)
 gives-there long (RecordAdded image) prior e all = all.0
 gives-there long (RecordAddedAtNumber image) prior e all = all.0
 gives-there long (AfterImage true image) prior e all = all.0
