@@ -3,8 +3,10 @@ ghost use Rattle.std.specs.Prelude.{◌≡◌, Some, IfOk};
 ghost use Rattle.journal_model.specs.Catalogue.{file_named, member_numbered};
 ghost use Rattle.journal_model.specs.Journal.{length_in};
 ghost use Rattle.journal_replay.specs.Standing.{catalogue_in};
+ghost use Rattle.journal_opening.specs.Begins.{begins_too_many};
 ghost use Rattle.journal_limits.specs.Fits.{fits_found, fits_named, may_have};
 
+use entry_codec::EntryKind;
 use field_types::names::Name;
 use member_slots::member::{MOST_BYTES, MOST_SLOTS};
 use replay_files::Describe;
@@ -55,4 +57,38 @@ fn may_have(bytes: u32, slots: usize) -> bool
 {
     let many = slots as u64;
     many <= MOST_SLOTS && many * u64::from(bytes) <= MOST_BYTES
+}
+
+/// Whether an entry of this kind begins journaling with more slots than a member may have.
+pub(crate) fn begins_too_many(kind: &EntryKind) -> bool
+    ensures { result ≡ begins_too_many kind.now }
+{
+    match kind {
+        EntryKind::FileCreated { .. } => false,
+        EntryKind::FileDeleted { .. } => false,
+        EntryKind::MemberAdded { .. } => false,
+        EntryKind::JournalingStarted { slots, .. } => u64::from(*slots) > MOST_SLOTS,
+        EntryKind::InitialSlot { .. } => false,
+        EntryKind::JournalingEnded => false,
+        EntryKind::MemberCleared => false,
+        EntryKind::MemberReorganized => false,
+        EntryKind::ChangesApplied { .. } => false,
+        EntryKind::ChangesRemoved { .. } => false,
+        EntryKind::RecordAdded { .. } => false,
+        EntryKind::RecordAddedAtNumber { .. } => false,
+        EntryKind::BeforeImage { .. } => false,
+        EntryKind::AfterImage { .. } => false,
+        EntryKind::RecordDeleted { .. } => false,
+        EntryKind::UndoBeforeImage { .. } => false,
+        EntryKind::UndoAfterImage { .. } => false,
+        EntryKind::UndoDelete { .. } => false,
+        EntryKind::CommitmentStarted { .. } => false,
+        EntryKind::CommitCycleStarted => false,
+        EntryKind::CommitCycleCommitted => false,
+        EntryKind::CommitCycleRolledBack => false,
+        EntryKind::CommitmentEnded => false,
+        EntryKind::AbnormalEnd => false,
+        EntryKind::NextReceiver { .. } => false,
+        EntryKind::PreviousReceiver { .. } => false,
+    }
 }

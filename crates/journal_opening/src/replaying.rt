@@ -12,7 +12,7 @@ ghost use Rattle.journal_opening.specs.Journals.{IsLeftBy, journal_with};
 ghost use Rattle.journal_opening.specs.Takings.{AreTaken, CannotFollow, HasTakenAll, HasTakenRange};
 
 use crate::layout::{FIRST_AREA, PIECE};
-use crate::limits::fits_named;
+use crate::limits::{begins_too_many, fits_named};
 use entry_codec::Entry;
 use gated_log::LogFault;
 use journal_book::{Book, BookFault};
@@ -153,11 +153,21 @@ fn take_all<D: Describe>(
 }
 
 /// Takes one entry more, where it can follow and leaves the member that it names within its limits. Where it can't follow, the rest is not to be used again.
-fn take_one<D: Describe>(
-    by: &D,
-    replay: &mut Replay,
-    entry: &Entry,
-) -> Result<bool, AllocError>
+fn take_one<D: Describe>(by: &D, replay: &mut Replay, entry: &Entry) -> Result<bool, AllocError>
+    requires keeps { KeepsLengths (D.rules by.now) }
+    ensures taken { IfOk result (λ b. b ≡ true → (before : List Entry) → IsLeftBy (D.rules by.now) before replay.old → IsLeftBy (D.rules by.now) (before ++ entry.now ∷ []) replay.new) }
+    ensures refused { IfOk result (λ b. b ≡ false → (before : List Entry) → IsLeftBy (D.rules by.now) before replay.old → CannotFollow (D.rules by.now) (before ++ entry.now ∷ [])) }
+{
+    if begins_too_many(&entry.kind) {
+        Ok(false)
+    } else {
+        let taken = take_judged(by, replay, entry)?;
+        Ok(taken)
+    }
+}
+
+/// The same, once it is known that it takes no memory for more slots than a member may have.
+fn take_judged<D: Describe>(by: &D, replay: &mut Replay, entry: &Entry) -> Result<bool, AllocError>
     requires keeps { KeepsLengths (D.rules by.now) }
     ensures taken { IfOk result (λ b. b ≡ true → (before : List Entry) → IsLeftBy (D.rules by.now) before replay.old → IsLeftBy (D.rules by.now) (before ++ entry.now ∷ []) replay.new) }
     ensures refused { IfOk result (λ b. b ≡ false → (before : List Entry) → IsLeftBy (D.rules by.now) before replay.old → CannotFollow (D.rules by.now) (before ++ entry.now ∷ [])) }
