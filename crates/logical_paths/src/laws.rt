@@ -1,0 +1,37 @@
+//! What holds of the access paths of logical files, as contracts of functions that do nothing.
+ghost use Rattle.std.specs.Prelude.{◌≡◌, ◌≤◌, ℕ, Some, List, ◌∷◌, map, length, All};
+ghost use Rattle.std.specs.List.{AllByRecursion};
+ghost use Rattle.member_slots.specs.Members.{NumberedMembers};
+ghost use Rattle.record_fmt.specs.declared.formats.Field.{Field};
+ghost use Rattle.key_order.specs.declared.widths.TheConstants.{MOST_POSITIONS};
+ghost use Rattle.key_order.specs.KeyFields.{ArePositions, key_width};
+ghost use Rattle.access_path.specs.PathBytes.{IsInBytes};
+ghost use Rattle.path_set.specs.Sharing.{CanBeKept};
+ghost use Rattle.path_set.specs.RecordChanges.{TakesImage};
+ghost use Rattle.file_cursor.specs.PositionBytes.{HasKeysWithin};
+ghost use Rattle.file_model.specs.FilePaths.{key_parts};
+ghost use Rattle.dds_logical.specs.declared.views.LogicalSpec.{LogicalSpec};
+ghost use Rattle.dds_logical.specs.declared.views.View.{View};
+ghost use Rattle.logical_model.specs.Bases.{Bases};
+ghost use Rattle.logical_model.specs.FilePaths.{logical_paths, view_format, views_path};
+ghost use Rattle.logical_paths.specs.KeyedViews.{IsKeyedView, IsKeyedLogical, IsRecordOfBases, HaveRecords};
+
+/// Every record of a base file can stand in each path over its member, and each path can be kept over members with records of their files, with keys that are
+/// compared by their bytes.
+pub fn records_stand_in_views()
+    ensures image { (bases : Bases) (spec : LogicalSpec) (member : ℕ) (image : List ℕ) → IsKeyedLogical bases spec → IsRecordOfBases bases spec member image
+        → All (TakesImage member (Some image)) (logical_paths bases spec) }
+    ensures kept { (bases : Bases) (spec : LogicalSpec) (members : NumberedMembers) → IsKeyedLogical bases spec → HaveRecords bases spec members
+        → All (λ path. CanBeKept path members) (logical_paths bases spec) }
+    ensures bytes { (bases : Bases) (spec : LogicalSpec) (members : NumberedMembers) → IsKeyedLogical bases spec → HaveRecords bases spec members
+        → All (λ path. IsInBytes path members) (logical_paths bases spec) }
+    ensures within { (bases : Bases) (spec : LogicalSpec) (members : NumberedMembers) → IsKeyedLogical bases spec → HaveRecords bases spec members
+        → All (λ path. All (λ format. HasKeysWithin (key_width format.key) members format) path.formats) (logical_paths bases spec) }
+{}
+
+/// The positions of a format's key are the same in its file's path, where its key fields alone stand one behind another.
+pub fn positions_stay_in_views()
+    ensures keys { (bases : Bases) (views : List View) → map (λ format. format.key) (map (view_format bases) views) ≡ map (λ view. key_parts 0 view.keys.parts) views }
+    ensures allowed { (base : List Field) (view : View) → IsKeyedView base view → ArePositions (key_parts 0 view.keys.parts) }
+    ensures few { (base : List Field) (view : View) → IsKeyedView base view → length (key_parts 0 view.keys.parts) ≤ MOST_POSITIONS }
+{}

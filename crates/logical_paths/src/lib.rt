@@ -1,0 +1,8 @@
+//! The access paths of a logical file, built, and laws that each can be kept.
+#![tactic(auto)]
+
+pub mod bases;
+mod copies;
+mod joins;
+mod key_fields;
+pub mod paths;
