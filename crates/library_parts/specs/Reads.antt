@@ -1,5 +1,5 @@
 -- How an open of the library reads, what it is asked, and what it finds. (Database Programming, "Reading database records".)
-use Rattle.std.specs.Prelude.{◌≡◌, ℕ, ◌-◌, Bool, true, false, not, IsTrue, Option, Some, None, Result, Ok, Err, is_ok, List, [], ◌∷◌, length, map, option_map, slice_index_or}
+use Rattle.std.specs.Prelude.{◌≡◌, ℕ, ◌-◌, nat_lt, Any, Bool, true, false, not, IsTrue, Option, Some, None, Result, Ok, Err, is_ok, List, [], ◌∷◌, length, map, option_map, slice_index_or}
 use Rattle.field_types.specs.declared.values.Value.{Value}
 use Rattle.key_spec.specs.declared.KeyPart.{KeyPart}
 use Rattle.file_model.specs.declared.paths.PathSpec.{PathSpec}
@@ -11,12 +11,15 @@ use Rattle.member_slots.specs.Members.{NumberedMembers, member_at}
 use Rattle.key_order.specs.GivenValues.{key_fault}
 use Rattle.key_pages.specs.EntryList.{EntryList}
 use Rattle.key_values.specs.KeyValues.{values_in}
+use Rattle.file_cursor.specs.Reading.{AreNumbered}
+use Rattle.logical_model.specs.Bases.{Bases}
 use Rattle.open_position.specs.OpenStand.{AreGivenBytes, HasNoKey}
 use Rattle.open_position.specs.Reads.{IsAskedOf, IsPathOver, asked_of, side_of}
 use Rattle.open_position.specs.declared.position.Side.{Side}
 use Rattle.open_position.specs.declared.reads.ReadBy.{ReadBy}
 use Rattle.open_position.specs.declared.reads.ReadBy.TheVariants as asked
-use Rattle.path_set.specs.KeptPaths.{KeptPaths, pages_at}
+use Rattle.path_set.specs.KeptPaths.{KeptPaths, NumberedPaths, pages_at}
+use Rattle.path_set.specs.Sharing.{IsNew}
 use Rattle.job_table.specs.declared.reads.OpenReads.{OpenReads}
 use Rattle.job_table.specs.Opens.{KeptOpen, OpenOrder, IsNewReads, order_by}
 use Rattle.library_model.specs.Named.{Named, named}
@@ -26,6 +29,7 @@ use Rattle.field_types.specs.declared.faults.RecordFault.{RecordFault}
 use Rattle.library_model.specs.declared.requests.OpenFile.{OpenFile}
 use Rattle.library_model.specs.declared.requests.Limit.{Limit}
 use Rattle.library_model.specs.declared.requests.Limit.TheVariants as limits
+use Rattle.library_steps.specs.LogicalFiles.{bases_in, bases_of}
 use Rattle.library_steps.specs.Opens.{new_open}
 use Rattle.library_steps.specs.Records.{is_keyed, reading_of, key_asked}
 use Rattle.library_steps.specs.Reads.{bound_asked}
@@ -47,6 +51,15 @@ formats_read bases file opened = formats_by (path_read bases file opened)
 
 abbrev pub parts_read : Bases → FileState → OpenState → List KeyPart
 parts_read bases file opened = merged_parts (formats_read bases file opened)
+
+-- the open reads by a key
+abbrev pub has_positions : List (List KeyPart) → Bool
+has_positions formats = nat_lt 0 (length (merged_parts formats))
+
+-- the path of this specification is kept under that number
+abbrev pub IsNumberOf : PathSpec → Option ℕ → NumberedPaths → Type 0
+IsNumberOf spec None paths = IsNew spec paths
+IsNumberOf spec (Some id) paths = Any (λ path. (path.number ≡ id) × (path.item.spec ≡ spec)) paths
 
 -- the open is one of this library, and so is the way in which it reads
 abbrev pub ReadsAs : LibraryParts → KeptOpen → FileState → Type 0
