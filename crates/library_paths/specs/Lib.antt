@@ -1,0 +1,2 @@
+pub mod AllPaths
+pub mod KeptOnce
