@@ -1,6 +1,6 @@
 -- The records of a base file can stand in a format that is by its fields.
-use Rattle.std.proofs.Common.{◌≡◌, ℕ, zero, suc, ◌+◌, ◌<◌, ◌≤◌, Option, Some, None, List, [], ◌∷◌, length, map, slice_get, get_or, refl, sym, ◌∙◌, ap, subst, arith}
-use Rattle.std.specs.Prelude.{All, AllPairs, IfSome}
+use Rattle.std.proofs.Common.{◌≡◌, ℕ, suc, ◌+◌, ◌<◌, ◌≤◌, Option, Some, List, [], ◌∷◌, length, slice_get, sym, ◌∙◌, ap, subst, arith}
+use Rattle.std.specs.Prelude.{All, IfSome}
 use Rattle.std.specs.List.{AllByRecursion}
 use Rattle.std.proofs.lemmas.List.Elements.{All-from_recursion, recursion_from_All}
 use Rattle.member_slots.specs.declared.slot.Slot.{Slot}
@@ -25,7 +25,6 @@ use Rattle.access_path.specs.Rebuilding.{TakesSlot, TakesAll, member_slots}
 use Rattle.path_entrants.specs.declared.entrant.TheConstants.{MOST_FORMATS}
 use Rattle.path_entrants.specs.Formats.{IsAskable, CanBeAsked}
 use Rattle.path_set.specs.Sharing.{CanBeKept}
-use Rattle.path_set.specs.RecordChanges.{TakesImage}
 use Rattle.file_cursor.specs.PositionBytes.{HasKeysWithin}
 use Rattle.physical_paths.specs.KeyedFiles.{IsRecord, IsRecordSlot, HasRecordsOf}
 use Rattle.logical_paths.specs.KeyedViews.{IsShownOf, AreRulesOver}

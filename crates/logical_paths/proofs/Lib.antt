@@ -3,3 +3,9 @@ pub mod ShownLemmas
 pub mod KeyLemmas
 pub mod FormatLemmas
 pub mod ViewLemmas
+pub mod WideningLemmas
+pub mod OriginLemmas
+pub mod PartLemmas
+pub mod RuleLemmas
+pub mod JoinLemmas
+pub mod DescribedLemmas

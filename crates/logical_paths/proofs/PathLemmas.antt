@@ -1,12 +1,12 @@
 -- What is built of the paths of a logical file.
-use Rattle.std.proofs.Common.{◌≡◌, ℕ, ◌+◌, ◌-◌, ◌<◌, ◌≤◌, ◌==◌, Bool, true, false, cond, List, [], ◌∷◌, ◌++◌, map, Option, Some, None, ap, sym, refl, subst, arith, ◌∙◌}
+use Rattle.std.proofs.Common.{◌≡◌, ℕ, ◌+◌, ◌-◌, ◌<◌, ◌≤◌, ◌==◌, Bool, false, cond, List, [], ◌∷◌, ◌++◌, map, Option, Some, None, ap, sym, refl, arith, ◌∙◌}
 use Rattle.std.specs.Option.{option_to_list}
 use Rattle.std.specs.List.{cons_option}
 use Rattle.std.proofs.lemmas.Bool.{cond-false, ne_eqb}
 use Rattle.std.proofs.lemmas.List.{append_assoc}
 use Rattle.field_values.specs.FieldTypes.{width}
 use Rattle.key_spec.specs.declared.KeyPart.{KeyPart}
-use Rattle.key_spec.specs.declared.KeyPart.TheVariants.{Field as KeyField, Absent}
+use Rattle.key_spec.specs.declared.KeyPart.TheVariants.{Field as KeyField}
 use Rattle.file_model.specs.declared.paths.PathSpec.{PathSpec}
 use Rattle.file_model.specs.declared.views.ViewField.{ViewField}
 use Rattle.file_model.specs.FilePaths.{field_from}

@@ -1,12 +1,12 @@
 -- A field of a view shows a value of each record of its base file.
-use Rattle.std.proofs.Common.{◌≡◌, ℕ, zero, suc, ◌+◌, ◌<◌, ◌≤◌, Bool, true, false, cond, ◌==◌, ◌⊎◌, inl, inr, Option, Some, None, is_some, List, [], ◌∷◌, length, get_or, Contains, refl, sym, ◌∙◌, ap, subst, arith}
+use Rattle.std.proofs.Common.{◌≡◌, ℕ, zero, suc, ◌+◌, ◌<◌, ◌≤◌, Bool, true, false, cond, ◌==◌, inl, inr, Option, Some, None, is_some, List}
+use Rattle.std.proofs.Common.{[], ◌∷◌, length, get_or, Contains, refl, sym, ap, subst, arith}
 use Rattle.std.specs.List.{AllByRecursion, flat_map}
 use Rattle.std.proofs.lemmas.Bool.{eqb-true}
 use Rattle.field_types.specs.declared.kinds.Kind.{Kind}
 use Rattle.field_types.specs.declared.kinds.Kind.TheVariants.{Char}
 use Rattle.field_types.specs.declared.kinds.FieldType.{FieldType}
 use Rattle.field_types.specs.declared.values.Value.{Value}
-use Rattle.field_types.specs.declared.values.Value.TheVariants.{Chars}
 use Rattle.field_values.specs.FieldTypes.{IsFieldType, width, width_of}
 use Rattle.field_values.specs.FieldBytes.{held, held_as, as_held, filled}
 use Rattle.field_values.specs.FirstBad.{part}
@@ -22,7 +22,7 @@ use Rattle.file_model.specs.declared.views.FieldSource.{FieldSource}
 use Rattle.file_model.specs.declared.views.FieldSource.TheVariants.{Copied, Converted, Concatenated, Substring}
 use Rattle.file_model.specs.declared.views.Piece.{Piece}
 use Rattle.file_model.specs.declared.views.ViewField.{ViewField}
-use Rattle.file_model.specs.Views.{field_image, field_value, piece_of, pieces_length, shown, written_as}
+use Rattle.file_model.specs.Views.{field_image, piece_of, pieces_length, shown, written_as}
 use Rattle.file_model.proofs.PathLemmas.{weaker}
 use Rattle.view_rules.specs.Shown.{IsWithin, IsTaken, HasSource, HasShown, HasValue, HasTested, HasCondition, HasCompared}
 use Rattle.view_rules.proofs.OperandLemmas.{characters-held}
@@ -30,7 +30,7 @@ use Rattle.view_rules.proofs.TextLemmas.{piece-length, pieces-length}
 use Rattle.logical_laws.specs.Mapped.{IsFieldAt, IsTextAt}
 use Rattle.physical_paths.specs.KeyedFiles.{IsRecord}
 use Rattle.physical_paths.proofs.FieldLemmas.{AnyOf, IsThere, LiesIn, lies-in, fields-there}
-use Rattle.logical_paths.specs.KeyedViews.{Widens, IsWidened, AreTexts, IsTextPart, ShowsSource, IsShownOf, IsTestOver, IsConditionOver, IsStatementOver, AreRulesOver}
+use Rattle.logical_paths.specs.KeyedViews.{Widens, IsTextPart, ShowsSource, IsShownOf, IsTestOver, IsConditionOver, IsStatementOver, AreRulesOver}
 
 -- ---- fields of the base file
 
@@ -39,7 +39,7 @@ at-place P [] k x low is holds = absurd (omega arith)
 at-place P (y ∷ xs) zero x low is holds = inl (subst P (sym is) holds)
 at-place P (y ∷ xs) (suc k) x low is holds = inr (at-place P xs k x (omega arith) is holds)
 
-among-lies : (base : List Field) (f : Field) → lies_from 0 base ≡ true → Contains base f → LiesIn 0 base f.ty f.offset
+pub among-lies : (base : List Field) (f : Field) → lies_from 0 base ≡ true → Contains base f → LiesIn 0 base f.ty f.offset
 among-lies base f lies among = lies-in 0 base f.ty f.offset lies (at-place (IsThere f.ty f.offset) base among.0 f among.1 among.2 (refl, refl))
 
 pub at-lies : (base : List Field) (t : FieldType) (offset : ℕ) → lies_from 0 base ≡ true → IsFieldAt base t offset → LiesIn 0 base t offset

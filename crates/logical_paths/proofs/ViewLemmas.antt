@@ -1,12 +1,10 @@
 -- The records of base files can stand in the paths of a logical file over them.
-use Rattle.std.proofs.Common.{◌≡◌, ℕ, zero, suc, ◌+◌, ◌<◌, ◌≤◌, Option, Some, None, List, [], ◌∷◌, ◌++◌, length, map, get_or, refl, sym, ◌∙◌, ap, subst, arith}
+use Rattle.std.proofs.Common.{◌≡◌, ℕ, zero, suc, ◌+◌, ◌<◌, ◌≤◌, Some, None, List, [], ◌∷◌, length, map, get_or, refl, sym, ◌∙◌, ap, subst, arith}
 use Rattle.std.specs.Prelude.{All, AllPairs}
 use Rattle.std.specs.List.{AllByRecursion}
-use Rattle.std.proofs.lemmas.List.{length-map}
-use Rattle.std.proofs.lemmas.List.Elements.{All-from_recursion, recursion_from_All}
-use Rattle.field_types.specs.declared.kinds.FieldType.{FieldType}
+use Rattle.std.proofs.lemmas.List.Elements.{All-from_recursion}
 use Rattle.record_fmt.specs.declared.formats.Field.{Field}
-use Rattle.record_fmt.specs.Layout.{IsLaidOut, lies_from}
+use Rattle.record_fmt.specs.Layout.{IsLaidOut}
 use Rattle.key_spec.specs.declared.KeyPart.{KeyPart}
 use Rattle.key_spec.specs.declared.KeyPart.TheVariants.{Field as KeyField, Absent}
 use Rattle.key_order.specs.declared.widths.TheConstants.{MOST_POSITIONS}
@@ -16,10 +14,9 @@ use Rattle.file_model.specs.declared.joins.JoinPair.{JoinPair}
 use Rattle.file_model.specs.declared.paths.PathFormat.{PathFormat}
 use Rattle.file_model.specs.declared.paths.PathSpec.{PathSpec}
 use Rattle.file_model.specs.declared.rules.Rules.{Rules}
-use Rattle.file_model.specs.declared.views.FieldSource.TheVariants.{Copied}
 use Rattle.file_model.specs.declared.views.ViewField.{ViewField}
-use Rattle.file_model.specs.FilePaths.{key_parts, path_format}
-use Rattle.file_model.specs.Joins.{joined_fields, secondary_path, sequence_field, total_width}
+use Rattle.file_model.specs.FilePaths.{every_record, key_parts, path_format}
+use Rattle.file_model.specs.Joins.{joined_fields, parts_from, secondary_path, sequence_field, sequence_part, total_width}
 use Rattle.file_model.proofs.PathLemmas.{all-append, all-map, weaker}
 use Rattle.access_path.specs.PathBytes.{IsInBytes, ShowsBytes}
 use Rattle.path_entrants.specs.declared.entrant.TheConstants.{MOST_FORMATS}
@@ -28,17 +25,14 @@ use Rattle.path_set.specs.Sharing.{CanBeKept}
 use Rattle.path_set.specs.RecordChanges.{TakesImage}
 use Rattle.file_cursor.specs.PositionBytes.{HasKeysWithin}
 use Rattle.dds_logical.specs.declared.join_views.JoinedFile.{JoinedFile}
-use Rattle.dds_logical.specs.declared.join_views.JoinView.{JoinView}
 use Rattle.dds_logical.specs.declared.views.LogicalSpec.{LogicalSpec}
 use Rattle.dds_logical.specs.declared.views.LogicalSpec.TheVariants.{Simple, Multi, Join}
 use Rattle.dds_logical.specs.declared.views.View.{View}
 use Rattle.logical_model.specs.Bases.{Bases, base_names}
-use Rattle.logical_model.specs.FilePaths.{logical_paths, secondary_of, view_format}
-use Rattle.logical_laws.specs.Mapped.{IsFieldAt}
+use Rattle.logical_model.specs.FilePaths.{logical_paths, primary_path, secondary_of, view_format, views_path}
 use Rattle.physical_paths.specs.KeyedFiles.{IsRecord, HasRecordsOf}
-use Rattle.physical_paths.proofs.FieldLemmas.{LiesIn}
 use Rattle.logical_paths.specs.Steps.{shown_in_join, shown_of}
-use Rattle.logical_paths.specs.KeyedViews.{IsShownOf, IsPartOver, AreRulesOver, IsKeyedView, IsViewOver, IsSequenceOf, IsKeyedFile, IsFileOver, IsKeyedLogical, IsRecordOfBases, HaveRecords}
+use Rattle.logical_paths.specs.KeyedViews.{IsShownOf, IsPartOver, AreRulesOver, IsKeyedView, IsViewOver, IsSequenceOf, IsFileOver, IsKeyedLogical, IsRecordOfBases, HaveRecords}
 use Rattle.logical_paths.proofs.ShownLemmas.{at-lies}
 use Rattle.logical_paths.proofs.KeyLemmas.{parts-allowed, parts-behind, parts-length, parts-match, parts-shown, secondary-behind, secondary-length}
 use Rattle.logical_paths.proofs.FormatLemmas.{IsFormatOver, IsFilled, askable, keys-within, path-kept, shows-bytes}
@@ -67,24 +61,32 @@ to-length [] = refl
 to-length (pair ∷ pairs) = ap suc (to-length pairs)
 
 -- the only format of a secondary file's path
-secondary-over : (bases : Bases) (joined : JoinedFile) (format : PathFormat) → (secondary_path (secondary_of bases joined)).formats ≡ format ∷ [] → IsFileOver bases joined
-    → IsFormatOver (bases joined.file).fields format
-secondary-over bases joined format is keyed =
+abbrev secondary_format : Bases → JoinedFile → PathFormat
+secondary_format bases joined = record {
+  member = (bases joined.file).member;
+  rules = every_record;
+  fields = joined_fields (secondary_of bases joined) ++ sequence_field joined.sequence;
+  key = parts_from 0 (joined_fields (secondary_of bases joined)) ++ sequence_part (total_width (joined_fields (secondary_of bases joined))) joined.sequence;
+}
+
+secondary-over : (bases : Bases) (joined : JoinedFile) → IsFileOver bases joined → IsFormatOver (bases joined.file).fields (secondary_format bases joined)
+secondary-over bases joined keyed =
     let base : List Field = (bases joined.file).fields in
-    let fields : List ViewField = map (λ pair. pair.to) joined.pairs in
+    let fields : List ViewField = joined_fields (secondary_of bases joined) in
     let end : total_width fields ≡ 0 + total_width fields = omega arith in
     let low : length joined.pairs < MOST_POSITIONS = keyed.few in
     let many : length fields ≡ length joined.pairs = to-length joined.pairs in
-    let long = secondary-length fields 0 (total_width fields) joined.sequence in
-    let own : IsFormatOver base (get_or (secondary_path (secondary_of bases joined)).formats 0 format) = record {
+    record {
       laid = keyed.laid;
       rules = tt;
       fields = all-append (IsShownOf base) fields (sequence_field joined.sequence) (all-map (IsShownOf base) (λ pair. pair.to) joined.pairs keyed.pairs)
           (sequence-shown base joined.sequence keyed.laid keyed.sequence);
       behind = secondary-behind fields 0 (total_width fields) joined.sequence end;
-      few = omega (arith, low, many, long);
-    } in
-    subst (λ (formats : List PathFormat). IsFormatOver base (get_or formats 0 format)) is own
+      few = few-behind (length joined.pairs) (length fields) (length (secondary_format bases joined).key) MOST_POSITIONS low many (secondary-length fields 0 (total_width fields) joined.sequence);
+    }
+  where
+    few-behind : (pairs fields key most : ℕ) → pairs < most → fields ≡ pairs → key ≤ fields + 1 → key ≤ most
+    few-behind pairs fields key most low many long = omega (arith, low, many, long)
 
 -- ---- all formats of a file's paths
 
@@ -99,15 +101,16 @@ module _ (bases : Bases) (Q : List ℕ → Type 0) (R : PathFormat → Type 0)
       → AllByRecursion (λ (path : PathSpec). AllByRecursion R path.formats) (map secondary_path (map (secondary_of bases) secondaries))
   secondaries-so [] keyed all = tt
   secondaries-so (joined ∷ more) keyed all =
-      ((so joined.file _ refl (secondary-over bases joined _ refl keyed.0) all.0, tt), secondaries-so more keyed.1 all.1)
+      ((so joined.file (secondary_format bases joined) refl (secondary-over bases joined keyed.0) all.0, tt), secondaries-so more keyed.1 all.1)
 
   paths-so : (spec : LogicalSpec) → IsKeyedLogical bases spec → AllByRecursion Q (base_names spec) → AllByRecursion (λ (path : PathSpec). AllByRecursion R path.formats) (logical_paths bases spec)
   paths-so (Simple view) keyed all = ((so view.base (view_format bases view) refl (view-over bases view keyed) all.0, tt), tt)
   paths-so (Multi views) keyed all = (views-so views keyed.each all, tt)
   paths-so (Join view) keyed all =
-      let primary : IsFormatOver (bases view.primary).fields (path_format (bases view.primary).member (record { statements = []; all = None }) (shown_in_join view.fields) view.keys.parts) =
-      format-over (bases view.primary).fields (bases view.primary).member (record { statements = []; all = None }) (shown_in_join view.fields) view.keys.parts keyed.laid tt keyed.parts keyed.few in
-      ((so view.primary _ refl primary all.0, tt), secondaries-so view.secondaries keyed.secondaries all.1)
+      let own : PathFormat = path_format (bases view.primary).member every_record (shown_in_join view.fields) view.keys.parts in
+      let primary : IsFormatOver (bases view.primary).fields own =
+      format-over (bases view.primary).fields (bases view.primary).member every_record (shown_in_join view.fields) view.keys.parts keyed.laid tt keyed.parts keyed.few in
+      ((so view.primary own refl primary all.0, tt), secondaries-so view.secondaries keyed.secondaries all.1)
 
 -- ---- how many formats a path has, and how their keys match
 
@@ -129,7 +132,7 @@ one-matched path format is = record {
 
 secondaries-matched : (bases : Bases) (secondaries : List JoinedFile) → AllByRecursion AreMatched (map secondary_path (map (secondary_of bases) secondaries))
 secondaries-matched bases [] = tt
-secondaries-matched bases (joined ∷ more) = (one-matched (secondary_path (secondary_of bases joined)) _ refl, secondaries-matched bases more)
+secondaries-matched bases (joined ∷ more) = (one-matched (secondary_path (secondary_of bases joined)) (secondary_format bases joined) refl, secondaries-matched bases more)
 
 -- the positions of the keys, where they stand in the path
 own-key : (bases : Bases) (views : List View) (i : ℕ) (d : List KeyPart) → i < length views
@@ -164,7 +167,7 @@ views-match bases views match i j d before within =
     (parts-match (get_or parts i d) (get_or parts j d) 0 0 (match i j d before there)))
 
 all-matched : (bases : Bases) (spec : LogicalSpec) → IsKeyedLogical bases spec → AllByRecursion AreMatched (logical_paths bases spec)
-all-matched bases (Simple view) keyed = (one-matched _ (view_format bases view) refl, tt)
+all-matched bases (Simple view) keyed = (one-matched (views_path bases view.keys.unique (view ∷ [])) (view_format bases view) refl, tt)
 all-matched bases (Multi views) keyed = (
   record {
     few = subst (λ (n : ℕ). n ≤ MOST_FORMATS) (sym (formats-long bases views)) keyed.few;
@@ -172,7 +175,8 @@ all-matched bases (Multi views) keyed = (
   },
   tt,
 )
-all-matched bases (Join view) keyed = (one-matched _ _ refl, secondaries-matched bases view.secondaries)
+all-matched bases (Join view) keyed =
+    (one-matched (primary_path bases view) (path_format (bases view.primary).member every_record (shown_in_join view.fields) view.keys.parts) refl, secondaries-matched bases view.secondaries)
 
 -- ---- the laws
 
@@ -184,11 +188,11 @@ filled-so : (base : List Field) (members : NumberedMembers) (format : PathFormat
 filled-so base members format own is over records = record { base = base; over = over; records = subst (λ (n : ℕ). HasRecordsOf base n members) (sym is) records }
 
 pub images-taken : (bases : Bases) (spec : LogicalSpec) (member : ℕ) (image : List ℕ) → IsKeyedLogical bases spec → IsRecordOfBases bases spec member image
-    → All (TakesImage member (Some image)) (logical_paths bases spec)
+    → All (λ path. TakesImage member (Some image) path) (logical_paths bases spec)
 images-taken bases spec member image keyed records =
     let R : PathFormat → Type 0 = λ format. format.member ≡ member → IsAskable format image in
-    All-from_recursion (TakesImage member (Some image)) (logical_paths bases spec)
-    (weaker (λ (path : PathSpec). AllByRecursion R path.formats) (TakesImage member (Some image)) (λ path all. All-from_recursion R path.formats all) (logical_paths bases spec)
+    All-from_recursion (λ (path : PathSpec). TakesImage member (Some image) path) (logical_paths bases spec)
+    (weaker (λ (path : PathSpec). AllByRecursion R path.formats) (λ (path : PathSpec). TakesImage member (Some image) path) (λ path all. All-from_recursion R path.formats all) (logical_paths bases spec)
     (paths-so bases (λ name. (bases name).member ≡ member → IsRecord (bases name).fields image) R
     (λ name format is over record_of. image-so (bases name).fields member image format (bases name).member is over record_of) spec keyed records))
 

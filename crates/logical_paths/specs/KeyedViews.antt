@@ -1,6 +1,6 @@
 -- Which logical files can have their access paths, and whose records can stand in them? (DDS for Physical and Logical Files, "RENAME", "CONCAT",
 -- "SST", "Data type" of a logical field, key field level; that a value which is shown at another type fits there is our own.)
-use Rattle.std.specs.Prelude.{◌≡◌, ℕ, ◌+◌, ◌<◌, ◌≤◌, true, List, [], ◌∷◌, length, map, Some, None, AllPairs, Contains}
+use Rattle.std.specs.Prelude.{◌≡◌, ℕ, ◌+◌, ◌<◌, ◌≤◌, List, length, map, Some, None, AllPairs, Contains}
 use Rattle.std.specs.List.{AllByRecursion}
 use Rattle.field_types.specs.declared.kinds.Kind.TheVariants.{Char}
 use Rattle.field_types.specs.declared.kinds.FieldType.{FieldType}
@@ -109,14 +109,13 @@ AreRulesOver base rules = AllByRecursion (IsStatementOver base) rules.statements
 
 -- ---- files
 
--- what a format shows, selects and has as its key is of fields of its base file; where no two records may have one key, there is a key
+-- what a format shows, selects and has as its key is of fields of its base file
 pub record IsKeyedView (base : List Field) (view : View) : Type 0 where
   pub laid : IsLaidOut base
   pub fields : AllByRecursion (IsShownOf base) (shown_of view.mapping)
   pub rules : AreRulesOver base view.rules
   pub parts : AllByRecursion (IsPartOver base (shown_of view.mapping)) view.keys.parts
   pub few : length view.keys.parts ≤ MOST_POSITIONS
-  pub some : view.keys.unique ≡ true → 1 ≤ length view.keys.parts
 
 abbrev pub IsViewOver : Bases → View → Type 0
 IsViewOver bases view = IsKeyedView (bases view.base).fields view
@@ -147,7 +146,6 @@ pub record IsKeyedJoin (bases : Bases) (view : JoinView) : Type 0 where
   pub laid : IsLaidOut (bases view.primary).fields
   pub parts : AllByRecursion (IsPartOver (bases view.primary).fields (shown_in_join view.fields)) view.keys.parts
   pub few : length view.keys.parts ≤ MOST_POSITIONS
-  pub some : view.keys.unique ≡ true → 1 ≤ length view.keys.parts
   pub secondaries : AllByRecursion (IsFileOver bases) view.secondaries
 
 abbrev pub IsKeyedLogical : Bases → LogicalSpec → Type 0
@@ -168,3 +166,9 @@ HaveRecords bases spec members = AllByRecursion (λ name. HasRecordsOf (bases na
 -- the base files' fields lie one behind another
 abbrev pub AreLaidOut : Bases → LogicalSpec → Type 0
 AreLaidOut bases spec = AllByRecursion (λ name. IsLaidOut (bases name).fields) (base_names spec)
+
+-- no secondary file is reached by more fields than a key can have; a data description doesn't limit them
+abbrev pub HaveFewPairs : LogicalSpec → Type 0
+HaveFewPairs (Simple view) = Unit {0}
+HaveFewPairs (Multi views) = Unit {0}
+HaveFewPairs (Join view) = AllByRecursion (λ joined. length joined.pairs < MOST_POSITIONS) view.secondaries

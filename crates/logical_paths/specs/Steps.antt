@@ -1,5 +1,5 @@
 -- What do the steps say in which the paths of a logical file are built? (Our own.)
-use Rattle.std.specs.Prelude.{ℕ, ◌+◌, Bool, false, List, [], ◌∷◌, ◌++◌, map, Option, Some, None}
+use Rattle.std.specs.Prelude.{ℕ, ◌+◌, false, List, [], ◌∷◌, ◌++◌, map, Option, Some, None}
 use Rattle.key_spec.specs.declared.KeyPart.{KeyPart}
 use Rattle.file_model.specs.declared.joins.JoinPair.{JoinPair}
 use Rattle.file_model.specs.declared.paths.PathSpec.{PathSpec}

@@ -1,5 +1,5 @@
 //! The paths that a join keeps over its secondary files.
-ghost use Rattle.std.specs.Prelude.{◌≡◌, ◌+◌, ◌∷◌, ◌++◌, false, List, map, IfOk, OnOk};
+ghost use Rattle.std.specs.Prelude.{◌≡◌, ◌+◌, ◌∷◌, ◌++◌, [], List, IfOk, OnOk};
 ghost use Rattle.field_values.specs.FieldTypes.{width};
 ghost use Rattle.key_spec.specs.declared.KeyPart.{KeyPart};
 ghost use Rattle.file_model.specs.declared.views.ViewField.{ViewField};

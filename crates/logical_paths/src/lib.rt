@@ -5,4 +5,5 @@ pub mod bases;
 mod copies;
 mod joins;
 mod key_fields;
+pub mod laws;
 pub mod paths;
