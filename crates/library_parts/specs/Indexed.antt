@@ -13,7 +13,9 @@ use Rattle.file_model.specs.FilePaths.{physical_path}
 use Rattle.dds_logical.specs.declared.views.LogicalSpec.{LogicalSpec}
 use Rattle.dds_logical.specs.declared.views.LogicalSpec.TheVariants.{Simple, Multi, Join}
 use Rattle.logical_model.specs.Bases.{Bases, FileSpec, PhysicalFile, LogicalFile}
-use Rattle.logical_model.specs.FilePaths.{views_path, primary_path}
+use Rattle.logical_laws.specs.Mapped.{AreSameBases, IsSpecMapped}
+use Rattle.logical_paths.specs.KeyedViews.{IsKeyedLogical}
+use Rattle.logical_paths.specs.Steps.{own_path}
 use Rattle.library_paths.specs.AllPaths.{AreKeptFor, all_paths}
 use Rattle.journal_model.specs.Replay.{before_of}
 use Rattle.journal_model.specs.Rollback.{MemberChange}
@@ -35,12 +37,6 @@ use Rattle.library_steps.specs.Uses.{changes_in}
 abbrev pub ArePaths : Named FileState → NumberedMembers → NumberedPaths → Type 0
 ArePaths files members paths = AreKeptFor (all_paths files) members paths
 
--- the path by which a logical file is read: its own, of a join the primary's
-abbrev pub own_path : Bases → LogicalSpec → PathSpec
-own_path bases (Simple view) = views_path bases view.keys.unique (view ∷ [])
-own_path bases (Multi views) = views_path bases false views
-own_path bases (Join view) = primary_path bases view
-
 -- a physical file is read by its key over a member, where it is, and a logical file by its path
 abbrev pub path_by : Bases → (keyed : Bool) → (member : ℕ) → FileSpec → Option PathSpec
 path_by bases keyed member (PhysicalFile spec) = if keyed then Some (physical_path member spec.format.fields spec.keys) else None
@@ -53,8 +49,26 @@ IsSimple (LogicalFile (Simple view)) = Unit {0}
 IsSimple (LogicalFile (Multi views)) = ⊥
 IsSimple (LogicalFile (Join view)) = ⊥
 
-abbrev pub AreSimple : Named FileState → Type 0
-AreSimple files = AllByRecursion (λ entry. IsSimple entry.1.spec) files
+-- its key is by fields of that file, and what is stored through it lies in whole fields of that file
+pub record IsView (bases : Bases) (spec : LogicalSpec) : Type 0 where
+  pub simple : IsSimple (LogicalFile spec)
+  pub keyed : IsKeyedLogical bases spec
+  pub mapped : IsSpecMapped bases spec
+
+-- the bases of a logical file are the same
+abbrev pub AreSameBasesBy : Bases → Bases → FileSpec → Type 0
+AreSameBasesBy bases others (PhysicalFile spec) = Unit {0}
+AreSameBasesBy bases others (LogicalFile spec) = AreSameBases bases others spec
+
+abbrev pub IsViewBeside : Named FileState → FileSpec → Type 0
+IsViewBeside files (PhysicalFile spec) = Unit {0}
+IsViewBeside files (LogicalFile spec) = IsView (bases_in files) spec
+
+abbrev pub AreViewsBeside : (all files : Named FileState) → Type 0
+AreViewsBeside all files = AllByRecursion (λ entry. IsViewBeside all entry.1.spec) files
+
+abbrev pub AreViews : Named FileState → Type 0
+AreViews files = AreViewsBeside files files
 
 -- ---- opens
 
@@ -117,10 +131,15 @@ AreOfBytes members = AllByRecursion (λ entry. MemberHasBytes entry.item) member
 
 -- ---- all of it
 
-pub record IsIndexed (files : Named FileState) (members : NumberedMembers) (jobs : List JobState) (reads : List (Named OpenOrder)) (backs : List (List (List PathMove))) (kept : KeptPaths) : Type 0 where
-  pub paths : ArePaths files members kept.paths
+-- the same of whatever paths files have
+pub record IsIndexedFor (specs : List PathSpec) (files : Named FileState) (members : NumberedMembers) (jobs : List JobState) (reads : List (Named OpenOrder)) (backs : List (List (List PathMove)))
+    (kept : KeptPaths) : Type 0 where
+  pub paths : AreKeptFor specs members kept.paths
   pub orders : AllZip (OpensRead files kept.paths) jobs reads
   pub moves : backs ≡ map (moves_of_job kept.paths) jobs
   pub room : (member : ℕ) → HaveRoom member (changes_on member jobs) kept
   pub bytes : AreOfBytes members
-  pub simple : AreSimple files
+  pub views : AreViews files
+
+abbrev pub IsIndexed : Named FileState → NumberedMembers → List JobState → List (Named OpenOrder) → List (List (List PathMove)) → KeptPaths → Type 0
+IsIndexed files members jobs reads backs kept = IsIndexedFor (all_paths files) files members jobs reads backs kept
