@@ -1,7 +1,6 @@
 -- Files of which each physical one has a member, and no logical one has any, stay so as files come, change and go.
-use Rattle.std.proofs.Common.{◌≡◌, ◌≤◌, ℕ, Bool, true, false, cond, not, Some, List, [], ◌∷◌, ◌++◌, map, length, length-append, ap, subst, arith}
+use Rattle.std.proofs.Common.{◌≡◌, ◌≤◌, ℕ, true, false, cond, not, Some, List, [], ◌∷◌, ◌++◌, length, length-append, ap, subst, arith}
 use Rattle.std.specs.Map.{set_value}
-use Rattle.dds_logical.specs.declared.views.LogicalSpec.{LogicalSpec}
 use Rattle.logical_model.specs.Bases.{FileSpec, PhysicalFile, LogicalFile}
 use Rattle.library_model.specs.Named.{Named, named, same_name}
 use Rattle.library_steps.specs.declared.limits.TheConstants.{MOST_MEMBERS}
