@@ -1,5 +1,5 @@
 -- What a file is as the base of a logical file.
-use Rattle.std.proofs.Common.{◌≡◌, Some, None, refl, sym, ap}
+use Rattle.std.proofs.Common.{◌≡◌, Some, None, refl, ap}
 use Rattle.dds_physical.specs.declared.physical_files.PhysicalSpec.{PhysicalSpec}
 use Rattle.logical_model.specs.Bases.{FileSpec, PhysicalFile, LogicalFile}
 use Rattle.library_steps.specs.State.{FileState, physical_in, if_physical, format_in}

@@ -1,12 +1,12 @@
 -- Files of which each physical one has a member, and no logical one has any, stay so as files come, change and go.
-use Rattle.std.proofs.Common.{◌≡◌, ◌≤◌, ℕ, Bool, true, false, cond, not, Some, List, [], ◌∷◌, ◌++◌, map, length, length-append, ap, subst, arith}
+use Rattle.std.proofs.Common.{◌≡◌, ◌≤◌, ℕ, true, false, cond, not, Some, List, [], ◌∷◌, ◌++◌, length, length-append, ap, subst, arith}
 use Rattle.std.specs.Map.{set_value}
-use Rattle.dds_logical.specs.declared.views.LogicalSpec.{LogicalSpec}
 use Rattle.logical_model.specs.Bases.{FileSpec, PhysicalFile, LogicalFile}
 use Rattle.library_model.specs.Named.{Named, named, same_name}
 use Rattle.library_steps.specs.declared.limits.TheConstants.{MOST_MEMBERS}
 use Rattle.library_steps.specs.State.{FileState, MemberStatus, status_changed}
 use Rattle.library_steps.specs.DeleteFile.{without_file}
+use Rattle.file_catalogue.specs.Owners.{has_number}
 use Rattle.file_catalogue.specs.Physical.{IsPhysical}
 use Rattle.file_catalogue.specs.OwnMembers.{HaveRoom, HasOwnMembers, HaveOwnMembers, LogicalHaveNone}
 use Rattle.file_catalogue.proofs.NameLemmas.{some-equal}
@@ -31,6 +31,12 @@ room-changed number change (entry ∷ members) capacity has = has
 pub some-member : (file : FileSpec) (members : Named MemberStatus) → IsPhysical file → HasOwnMembers file members → 1 ≤ length members
 some-member (PhysicalFile spec) members is has = has
 some-member (LogicalFile spec) members is has = absurd is
+
+-- a file that has a member is a physical one
+pub physical-with_member : (file : FileSpec) (members : Named MemberStatus) (number : ℕ) → HasOwnMembers file members → has_number number members ≡ true → IsPhysical file
+physical-with_member (PhysicalFile spec) members number own has = tt
+physical-with_member (LogicalFile spec) members number own has =
+    let none : has_number number [] ≡ true = subst (λ (m : Named MemberStatus). has_number number m ≡ true) own has in absurd cc
 
 pub member-more : (file : FileSpec) (members : Named MemberStatus) (entry : List ℕ × MemberStatus) → IsPhysical file → HasOwnMembers file (members ++ entry ∷ [])
 member-more (PhysicalFile spec) members entry is = (let more = length-append members (entry ∷ []) in omega (arith, more))

@@ -134,10 +134,7 @@ impl File {
         ensures laid_out { IsLaidOut result.1.now }
     {
         match self.physical() {
-            Some(described) => (
-                self.number_of(name),
-                described.format().fields.as_slice(),
-            ),
+            Some(described) => (self.number_of(name), described.format().fields.as_slice()),
             None => (0, no_fields()),
         }
     }

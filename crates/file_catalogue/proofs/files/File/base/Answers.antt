@@ -1,4 +1,4 @@
-use Rattle.std.proofs.Common.{◌∙◌, sym, ap}
+use Rattle.std.proofs.Common.{◌∙◌, sym, ap, refl}
 use Rattle.std.specs.Option.{option_map, option_copied}
 use Rattle.file_catalogue.proofs.BaseLemmas.{physical-base, logical-base}
 use Rattle.file_catalogue.proofs.files.File.base.Goals as goal
