@@ -18,7 +18,6 @@ use Rattle.dds_physical.specs.Physical.{name_or_none}
 use Rattle.dds_physical.proofs.FaultLemmas.{nothing_noted}
 use Rattle.path_entrants.specs.declared.entrant.TheConstants.{MOST_FORMATS}
 use Rattle.dds_logical.specs.declared.limits.TheConstants.{MOST_KEY_FIELDS}
-use Rattle.dds_logical.specs.declared.named_fields.NamedField.{NamedField}
 use Rattle.dds_logical.specs.declared.views.LogicalSpec.{LogicalSpec}
 use Rattle.dds_logical.specs.declared.views.View.{View}
 use Rattle.dds_logical.specs.Bases.{fields_of_base, fields_of_name}
@@ -37,12 +36,11 @@ use Rattle.dds_logical.proofs.CompleteLemmas.{complete_file, few_left, nothing_i
 use Rattle.dds_logical.proofs.JoinCompleteLemmas.{complete_unless}
 use Rattle.logical_model.specs.Bases.{Bases, base_names}
 use Rattle.logical_laws.specs.Mapped.{AreBasesOf}
-use Rattle.logical_laws.proofs.ListLemmas.{each-map}
 use Rattle.logical_laws.proofs.MappedLemmas.{described-there}
 use Rattle.logical_paths.specs.Steps.{shown_of}
 use Rattle.logical_paths.specs.KeyedViews.{IsShownOf, IsKeyedView, IsViewOver, IsKeyedLogical, AreLaidOut, HaveFewPairs}
 use Rattle.logical_paths.proofs.JoinLemmas.{join-keyed}
-use Rattle.logical_paths.proofs.OriginLemmas.{flat-nothing, named-shown}
+use Rattle.logical_paths.proofs.OriginLemmas.{flat-nothing, lines-shown}
 use Rattle.logical_paths.proofs.PartLemmas.{lines-parts, padded-parts, lines-long, keys-few, few-positions, padded-few, formats-match}
 use Rattle.logical_paths.proofs.RuleLemmas.{find-shown, rules-over}
 
@@ -74,15 +72,14 @@ view-keyed : (described : List ℕ → Option PhysicalSpec) (ks : List Keyword) 
     → positions ≤ MOST_KEY_FIELDS → IsKeyedView (base_of described f) (view_described described ks is_multi positions f)
 view-keyed described ks is_multi positions f laid sound low =
     let base : List Field = base_of described f in
-    let named : List NamedField = fields_named described f in
-    let all : AllByRecursion (λ (n : NamedField). IsShownOf base n.shown.field) named = named-shown base laid.lies (field_lines f) sound.fields in
+    let all : AllByRecursion (IsShownOf base) (shown_of (mapping_of (fields_named described f))) = lines-shown base laid.lies (field_lines f) sound.fields in
     let long : length (format_parts described f) ≤ MOST_KEY_FIELDS =
     subst (λ (n : ℕ). n ≤ MOST_KEY_FIELDS) (sym (lines-long (format_fields described f) (key_lines f))) sound.few in
     record {
       laid = laid;
-      fields = each-map (IsShownOf base) (λ g. g.field) (mapping_of named) (each-map (λ g. IsShownOf base g.field) (λ n. n.shown) named all);
-      rules = rules-over base (find_field described f) (find-shown base laid.lies named all) (selection_lines f);
-      parts = padded-parts base (shown_of (mapping_of named)) positions (format_parts described f) (lines-parts base named (key_lines f) all);
+      fields = all;
+      rules = rules-over base (find_field described f) (find-shown base laid.lies (fields_named described f) all) (selection_lines f);
+      parts = padded-parts base (shown_of (mapping_of (fields_named described f))) positions (format_parts described f) (lines-parts base (fields_named described f) (key_lines f) all);
       few = few-positions (length (padded positions (format_parts described f))) (padded-few positions MOST_KEY_FIELDS (format_parts described f) low long);
     }
 
@@ -214,7 +211,7 @@ file-keyed described bases source fs are none =
     (join-complete described source fs none join) there laid few)
     (λ other there laid few. views-keyed described bases source fs are (subst (λ (b : Bool). faults_over described source b fs ≡ []) other none) there laid)
 
-found-right : (spec made : LogicalSpec) (o : Option DdsFault) → unless_fault made o ≡ Ok spec → (o ≡ None) × (made ≡ spec)
+pub found-right : (spec made : LogicalSpec) (o : Option DdsFault) → unless_fault made o ≡ Ok spec → (o ≡ None) × (made ≡ spec)
 found-right spec made None h = (refl, (let same : made ≡ spec = cc in same))
 found-right spec made (Some fault) h = absurd cc
 

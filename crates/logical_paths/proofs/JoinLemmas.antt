@@ -20,9 +20,7 @@ use Rattle.dds_physical.specs.declared.physical_files.PhysicalSpec.{PhysicalSpec
 use Rattle.dds_physical.specs.Keywords.{has_name, first_named, arguments_of}
 use Rattle.dds_physical.specs.Names.{name_of, field_named}
 use Rattle.dds_physical.specs.References.{file_of_keyword}
-use Rattle.dds_logical.specs.declared.join_links.Link.{Link}
 use Rattle.dds_logical.specs.declared.join_views.JoinedFile.{JoinedFile}
-use Rattle.dds_logical.specs.declared.named_fields.NamedField.{NamedField}
 use Rattle.dds_logical.specs.Bases.{fields_of_file}
 use Rattle.dds_logical.specs.Fields.{field_entry_faults, field_of_line, laid_out, made_faults}
 use Rattle.dds_logical.specs.FormatLines.{FormatLines, field_lines, join_lines, key_lines}
@@ -49,16 +47,16 @@ record IsPlaced (base : List Field) (f : PlacedField) : Type 0 where
   allowed : IsFieldType f.named.shown.field.ty
   primary : f.place ≡ 0 → IsShownOf base f.named.shown.field
 
-named-placed : (base : List Field) (usage : Option ℕ) (place : ℕ) (o : Option NamedField) → IfSome o (λ f. IsFieldType f.shown.field.ty)
-    → (place ≡ 0 → IfSome o (λ f. IsShownOf base f.shown.field)) → IfSome (placed usage place o) (IsPlaced base)
-named-placed base usage place None allowed primary = tt
-named-placed base usage place (Some f) allowed primary = record { allowed = allowed; primary = primary }
+named-placed : (base : List Field) (usage : Option ℕ) (place : ℕ) (o : Option _) (made : Option PlacedField) → placed usage place o ≡ made → IfSome o (λ f. IsFieldType f.shown.field.ty)
+    → (place ≡ 0 → IfSome o (λ f. IsShownOf base f.shown.field)) → IfSome made (IsPlaced base)
+named-placed base usage place None made is allowed primary = subst (λ (m : Option PlacedField). IfSome m (IsPlaced base)) is tt
+named-placed base usage place (Some f) made is allowed primary = subst (λ (m : Option PlacedField). IfSome m (IsPlaced base)) is (record { allowed = allowed; primary = primary })
 
 line-placed : (base : List Field) (lies : lies_from 0 base ≡ true) (fields : List (List Field)) → fields_at fields 0 ≡ base → (s : Specification) (o : Option ℕ) (reference : Option Keyword)
     → placed_faults fields s o reference ≡ [] → IfSome (placed_at fields s o) (IsPlaced base)
 line-placed base lies fields first s None reference none = tt
 line-placed base lies fields first s (Some place) reference none =
-    named-placed base s.columns.usage place (field_of_line true (fields_at fields place) s) (line-allowed true (fields_at fields place) s)
+    named-placed base s.columns.usage place (field_of_line true (fields_at fields place) s) _ refl (line-allowed true (fields_at fields place) s)
     (λ is.
     let same : fields_at fields place ≡ base = ap (fields_at fields) is ∙ first in
     subst (λ (under : List Field). IfSome (field_of_line true under s) (λ f. IsShownOf base f.shown.field)) (sym same)
@@ -78,12 +76,12 @@ lines-placed base lies files fields first ss none =
 -- the field of a name is the primary's, where no later one of the name counts
 module _ (base : List Field) where
   placed-part : (fs : List PlacedField) (start : ℕ) (name : List ℕ) → AllByRecursion (IsPlaced base) fs → is_secondary (place_of_field fs name) ≡ false
-      → IfSome (field_named name (laid_out start (map (λ f. f.named) fs))) (λ g. IsPartFrom start base (shown_in_join (map joined_field fs)) g.ty g.offset)
+      → IfSome (field_named name (laid_out start (map (λ (f : PlacedField). f.named) fs))) (λ g. IsPartFrom start base (shown_in_join (map joined_field fs)) g.ty g.offset)
   placed-part [] start name all primary = tt
   placed-part (p ∷ fs) start name all primary =
       let f : ViewField = p.named.shown.field in
       let fields : List ViewField = shown_in_join (map joined_field fs) in
-      let more : List Field = laid_out (start + width f.ty) (map (λ q. q.named) fs) in
+      let more : List Field = laid_out (start + width f.ty) (map (λ (f : PlacedField). f.named) fs) in
       cond_both (pointwise nat_eq p.named.name name) (Some _) (field_named name more) (λ (o : Option Field). IfSome o (λ g. IsPartFrom start base (f ∷ fields) g.ty g.offset))
       (λ same. first-part start base f fields (all.0.primary (at-first p.place (subst (λ (b : Bool). is_secondary (cond b (Some p.place) (place_of_field fs name)) ≡ false) same primary))))
       (λ other. if-some (λ (g : Field). IsPartFrom (start + width f.ty) base fields g.ty g.offset) (λ (g : Field). IsPartFrom start base (f ∷ fields) g.ty g.offset) (field_named name more)
@@ -94,15 +92,15 @@ module _ (base : List Field) where
       at-first place none = eqb-true place 0 (not-false (place == 0) none)
 
   name-part : (fs : List PlacedField) (name : Option (List ℕ)) → AllByRecursion (IsPlaced base) fs → is_of_secondary fs name ≡ false
-      → IfSome (field_of_name (laid_out 0 (map (λ f. f.named) fs)) name) (λ g. IsPartFrom 0 base (shown_in_join (map joined_field fs)) g.ty g.offset)
+      → IfSome (field_of_name (laid_out 0 (map (λ (f : PlacedField). f.named) fs)) name) (λ g. IsPartFrom 0 base (shown_in_join (map joined_field fs)) g.ty g.offset)
   name-part fs None all primary = tt
   name-part fs (Some name) all primary = placed-part fs 0 name all primary
 
   keys-primary : (fs : List PlacedField) (ss : List Specification) → AllByRecursion (IsPlaced base) fs → AllByRecursion (λ s. primary_key_faults fs s ≡ []) ss
-      → AllByRecursion (IsPartOver base (shown_in_join (map joined_field fs))) (parts_of_lines (laid_out 0 (map (λ f. f.named) fs)) ss)
+      → AllByRecursion (IsPartOver base (shown_in_join (map joined_field fs))) (parts_of_lines (laid_out 0 (map (λ (f : PlacedField). f.named) fs)) ss)
   keys-primary fs [] all none = tt
   keys-primary fs (s ∷ ss) all none = (
-    line-part base (shown_in_join (map joined_field fs)) (field_of_name (laid_out 0 (map (λ f. f.named) fs)) (name_of s.name)) s.keywords
+    line-part base (shown_in_join (map joined_field fs)) (field_of_name (laid_out 0 (map (λ (f : PlacedField). f.named) fs)) (name_of s.name)) s.keywords
         (name-part fs (name_of s.name) all (not_wrong (is_of_secondary fs (name_of s.name)) _ none.0)),
     keys-primary fs ss all none.1,
   )
@@ -149,7 +147,7 @@ record IsJoinedWell (described : List ℕ → Option PhysicalSpec) (joined : Joi
   pairs : lies_from 0 (fields_of_file described joined.file) ≡ true → AllByRecursion (λ pair. IsShownOf (fields_of_file described joined.file) pair.to) joined.pairs
   sequence : IsSequenceOf (fields_of_file described joined.file) joined.sequence
 
-joined-well : (described : List ℕ → Option PhysicalSpec) (fields : List (List Field)) (file : List ℕ) (place : ℕ) (link : Option Link) (s : Specification)
+joined-well : (described : List ℕ → Option PhysicalSpec) (fields : List (List Field)) (file : List ℕ) (place : ℕ) (link : Option _) (s : Specification)
     → fields_at fields place ≡ fields_of_file described file → IsJoinedWell described (joined_by fields file place link s)
 joined-well described fields file place link s is =
     let from : List Field = fields_at fields (place_or_first link) in

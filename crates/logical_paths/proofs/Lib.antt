@@ -9,3 +9,4 @@ pub mod PartLemmas
 pub mod RuleLemmas
 pub mod JoinLemmas
 pub mod DescribedLemmas
+pub mod UniqueLemmas

@@ -20,17 +20,17 @@ use Rattle.dds_physical.specs.Keywords.{first_named, is_there}
 use Rattle.dds_physical.specs.Names.{name_of, field_named}
 use Rattle.file_model.specs.declared.views.FieldSource.{FieldSource}
 use Rattle.file_model.specs.declared.views.FieldSource.TheVariants.{Copied, Converted, Concatenated, Substring}
+use Rattle.file_model.specs.declared.views.LogicalField.{LogicalField}
 use Rattle.file_model.specs.declared.views.Piece.{Piece}
 use Rattle.file_model.specs.Views.{character, pieces_length}
-use Rattle.dds_logical.specs.declared.named_fields.NamedField.{NamedField}
-use Rattle.dds_logical.specs.declared.parts.Part.{Part}
 use Rattle.dds_logical.specs.Fields.{kind_letter, is_same_type, are_alike, source_at, narrows_kind, narrows_decimals, narrows_length, narrowing_faults, typed_faults, type_faults_over, made_faults}
-use Rattle.dds_logical.specs.Fields.{typed_field, field_over, field_of_line, field_as_it_is, named_fields, is_read_only_mapping, says_read_only}
+use Rattle.dds_logical.specs.Fields.{typed_field, field_over, field_of_line, field_as_it_is, named_fields, mapping_of, is_read_only_mapping, says_read_only}
 use Rattle.dds_logical.specs.Origins.{Origin, origin_names, fields_of_names, lacks_one, is_character, are_characters, lies_within, if_within, part_said, whole_field, first_copied, concatenated}
 use Rattle.dds_logical.specs.Origins.{part_origin, substring_of, arguments_said, made_of, origin}
 use Rattle.dds_logical.proofs.CompleteLemmas.{nothing_in, not_wrong}
 use Rattle.logical_laws.specs.Mapped.{IsFieldAt, IsTextAt}
 use Rattle.logical_laws.proofs.ListLemmas.{each-map, each-weaker}
+use Rattle.logical_paths.specs.Steps.{shown_of}
 use Rattle.logical_paths.specs.KeyedViews.{ShowsSource, IsShownOf}
 use Rattle.logical_paths.proofs.ShownLemmas.{among-lies, at-lies}
 use Rattle.logical_paths.proofs.WideningLemmas.{same-kind, alike-text, widened}
@@ -186,29 +186,29 @@ concat-made base fields all =
     cond_both (are_characters fields) _ None (λ (o : Option Origin). IfSome o (IsMade base)) (λ texts. (texts-there base fields all texts, refl)) (λ _. tt)
 
 -- a part that lies within the field
-within-said : (n : ℕ) (o : Option Part) → IfSome (if_within n o) (λ p. (1 ≤ p.start) × (p.start + p.size ≤ n + 1))
+within-said : (n : ℕ) (o : Option _) → IfSome (if_within n o) (λ p. (1 ≤ p.start) × (p.start + p.size ≤ n + 1))
 within-said n None = tt
 within-said n (Some p) =
-    cond_both (lies_within n p) (Some p) None (λ (o : Option Part). IfSome o (λ q. (1 ≤ q.start) × (q.start + q.size ≤ n + 1)))
+    cond_both (lies_within n p) (Some p) None (λ o. IfSome o (λ q. (1 ≤ q.start) × (q.start + q.size ≤ n + 1)))
     (λ lies. (
       let parts = all-three (nat_le 1 p.start) (nat_le 1 p.size) (nat_le (p.start + p.size) (n + 1)) lies in
       (leb-true 1 p.start parts.0, leb-true (p.start + p.size) (n + 1) parts.2)
     )) (λ _. tt)
 
-part-made : (base : List Field) (f : Field) (o : Option Part) → Contains base f → f.ty.kind ≡ Char → IfSome o (λ p. (1 ≤ p.start) × (p.start + p.size ≤ f.ty.length + 1))
-    → IfSome (part_origin f o) (IsMade base)
-part-made base f None among kind within = tt
-part-made base f (Some p) among kind within =
+part-made : (base : List Field) (f : Field) (o : Option _) (made : Option Origin) → part_origin f o ≡ made → Contains base f → f.ty.kind ≡ Char
+    → IfSome o (λ p. (1 ≤ p.start) × (p.start + p.size ≤ f.ty.length + 1)) → IfSome made (IsMade base)
+part-made base f None made is among kind within = subst (λ (m : Option Origin). IfSome m (IsMade base)) is tt
+part-made base f (Some p) made is among kind within =
     let start : 1 ≤ p.start = within.0 in
     let end : p.start + p.size ≤ f.ty.length + 1 = within.1 in
+    subst (λ (m : Option Origin). IfSome m (IsMade base)) is
     (record { field = f; among = among; text = kind; behind = omega (arith, start); within = omega (arith, start, end) }, refl)
 
 substring-made : (base : List Field) (args : List Argument) (fields : List Field) → AllByRecursion (Contains base) fields → IfSome (substring_of args fields) (IsMade base)
 substring-made base args [] all = tt
 substring-made base args (f ∷ fields) all =
-    let said : Option Part = part_said f.ty.length args in
-    cond_both (is_character f.ty.kind) (part_origin f (if_within f.ty.length said)) None (λ (o : Option Origin). IfSome o (IsMade base))
-    (λ text. part-made base f (if_within f.ty.length said) all.0 (is-char f.ty.kind text) (within-said f.ty.length said)) (λ _. tt)
+    cond_both (is_character f.ty.kind) (part_origin f (if_within f.ty.length (part_said f.ty.length args))) None (λ (o : Option Origin). IfSome o (IsMade base))
+    (λ text. part-made base f (if_within f.ty.length (part_said f.ty.length args)) _ refl all.0 (is-char f.ty.kind text) (within-said f.ty.length (part_said f.ty.length args))) (λ _. tt)
 
 copied-made : (base fields : List Field) → AllByRecursion (Contains base) fields → IfSome (first_copied fields) (IsMade base)
 copied-made base [] all = tt
@@ -288,9 +288,14 @@ module _ (base : List Field) (lies : lies_from 0 base ≡ true) where
   pub own-shown : (f : Field) → Contains base f → IsShownOf base (field_as_it_is f).shown.field
   own-shown f among = record { allowed = (among-lies base f lies among).allowed; source = record { field = f; among = among; ty = refl; at = refl } }
 
-  pub named-shown : (ss : List Specification) → AllByRecursion (λ s. made_faults base s ≡ []) ss → AllByRecursion (λ f. IsShownOf base f.shown.field) (named_fields base ss)
+  named-shown : (ss : List Specification) → AllByRecursion (λ s. made_faults base s ≡ []) ss → AllByRecursion (λ f. IsShownOf base f.shown.field) (named_fields base ss)
   named-shown [] none =
-      each-map (λ (f : NamedField). IsShownOf base f.shown.field) field_as_it_is base
+      each-map (λ f. IsShownOf base f.shown.field) field_as_it_is base
       (each-weaker (Contains base) (λ f. IsShownOf base (field_as_it_is f).shown.field) own-shown base (each-itself base))
   named-shown (s ∷ ss) none =
-      each-filter_map (λ line. made_faults base line ≡ []) (λ (f : NamedField). IsShownOf base f.shown.field) (field_of_line false base) (line-shown false) (s ∷ ss) none
+      each-filter_map (λ line. made_faults base line ≡ []) (λ f. IsShownOf base f.shown.field) (field_of_line false base) (line-shown false) (s ∷ ss) none
+
+  pub lines-shown : (ss : List Specification) → AllByRecursion (λ s. made_faults base s ≡ []) ss → AllByRecursion (IsShownOf base) (shown_of (mapping_of (named_fields base ss)))
+  lines-shown ss none =
+      each-map (IsShownOf base) (λ (g : LogicalField). g.field) (mapping_of (named_fields base ss))
+      (each-map (λ (g : LogicalField). IsShownOf base g.field) (λ n. n.shown) (named_fields base ss) (named-shown ss none))

@@ -25,7 +25,6 @@ use Rattle.dds_source.specs.Entries.{when}
 use Rattle.dds_physical.specs.Draft.{key_part}
 use Rattle.dds_physical.specs.Names.{name_of, field_named}
 use Rattle.dds_logical.specs.declared.limits.TheConstants.{MOST_KEY_FIELDS}
-use Rattle.dds_logical.specs.declared.named_fields.NamedField.{NamedField}
 use Rattle.dds_logical.specs.FormatLines.{FormatLines, key_lines}
 use Rattle.dds_logical.specs.Fields.{laid_out, mapping_of, is_same_type, too_many_faults}
 use Rattle.dds_logical.specs.Keys.{field_of_name, parts_of_lines, padded, is_same_flag, parts_differ, first_part, position_faults, mismatch_faults, key_lines_faults}
@@ -69,7 +68,7 @@ later-part start base f fields t offset allowed rest =
     }
 
 module _ (base : List Field) where
-  named-part : (named : List NamedField) (start : ℕ) (name : List ℕ) → AllByRecursion (λ f. IsShownOf base f.shown.field) named
+  named-part : (named : List _) (start : ℕ) (name : List ℕ) → AllByRecursion (IsShownOf base) (shown_of (mapping_of named))
       → IfSome (field_named name (laid_out start named)) (λ g. IsPartFrom start base (shown_of (mapping_of named)) g.ty g.offset)
   named-part [] start name all = tt
   named-part (n ∷ named) start name all =
@@ -81,7 +80,7 @@ module _ (base : List Field) where
       (λ _. if-some (λ (g : Field). IsPartFrom (start + width n.shown.field.ty) base fields g.ty g.offset) (λ (g : Field). IsPartFrom start base (n.shown.field ∷ fields) g.ty g.offset)
       (field_named name (laid_out (start + width n.shown.field.ty) named)) (λ g here. later-part start base n.shown.field fields g.ty g.offset all.0.allowed here) rest)
 
-  name-part : (named : List NamedField) (name : Option (List ℕ)) → AllByRecursion (λ f. IsShownOf base f.shown.field) named
+  name-part : (named : List _) (name : Option (List ℕ)) → AllByRecursion (IsShownOf base) (shown_of (mapping_of named))
       → IfSome (field_of_name (laid_out 0 named) name) (λ g. IsPartFrom 0 base (shown_of (mapping_of named)) g.ty g.offset)
   name-part named None all = tt
   name-part named (Some name) all = named-part named 0 name all
@@ -90,7 +89,7 @@ module _ (base : List Field) where
   line-part fields None ks here = tt
   line-part fields (Some g) ks here = record { field = here.field; found = here.found; ty = here.ty; shown = here.shown }
 
-  pub lines-parts : (named : List NamedField) (ss : List Specification) → AllByRecursion (λ f. IsShownOf base f.shown.field) named
+  pub lines-parts : (named : List _) (ss : List Specification) → AllByRecursion (IsShownOf base) (shown_of (mapping_of named))
       → AllByRecursion (IsPartOver base (shown_of (mapping_of named))) (parts_of_lines (laid_out 0 named) ss)
   lines-parts named [] all = tt
   lines-parts named (s ∷ ss) all =

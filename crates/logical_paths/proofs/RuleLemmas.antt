@@ -21,18 +21,19 @@ use Rattle.dds_physical.specs.Defaults.{literal_value}
 use Rattle.dds_physical.specs.Keywords.{has_name, arguments_of}
 use Rattle.dds_physical.specs.KeywordRules.{argument_name}
 use Rattle.dds_physical.specs.Names.{name_of, field_named}
-use Rattle.dds_logical.specs.declared.named_fields.NamedField.{NamedField}
+use Rattle.dds_logical.specs.Fields.{mapping_of}
 use Rattle.dds_logical.specs.KeywordArguments.{relation_of, is_compare_keyword}
 use Rattle.dds_logical.specs.Selections.{shown_field, field_itself, or_else, field_to_test, tested_field, compared_field, compared_with, comparison_said, range_between, test_said, conditions_on}
 use Rattle.dds_logical.specs.Selections.{conditions_said, further_lines, has_all, statement_of, statement_begun, statements_said, rules_said}
 use Rattle.logical_laws.proofs.ListLemmas.{each-append, always-flat}
+use Rattle.logical_paths.specs.Steps.{shown_of}
 use Rattle.logical_paths.specs.KeyedViews.{IsShownOf, IsTestOver, IsConditionOver, IsStatementOver, AreRulesOver}
 use Rattle.logical_paths.proofs.OriginLemmas.{each-cons, field-there, own-shown}
 
 -- ---- the field of a name
 
 module _ (base : List Field) where
-  shown-named : (name : List ℕ) (named : List NamedField) → AllByRecursion (λ f. IsShownOf base f.shown.field) named → IfSome (shown_field name named) (IsShownOf base)
+  shown-named : (name : List ℕ) (named : List _) → AllByRecursion (IsShownOf base) (shown_of (mapping_of named)) → IfSome (shown_field name named) (IsShownOf base)
   shown-named name [] all = tt
   shown-named name (f ∷ fs) all =
       cond_both (pointwise nat_eq f.name name) (Some f.shown.field) (shown_field name fs) (λ (o : Option ViewField). IfSome o (IsShownOf base)) (λ _. all.0) (λ _. shown-named name fs all.1)
@@ -45,7 +46,7 @@ module _ (base : List Field) where
   either-shown None other first second = second
   either-shown (Some f) other first second = first
 
-  pub find-shown : lies_from 0 base ≡ true → (named : List NamedField) → AllByRecursion (λ f. IsShownOf base f.shown.field) named → (name : List ℕ)
+  pub find-shown : lies_from 0 base ≡ true → (named : List _) → AllByRecursion (IsShownOf base) (shown_of (mapping_of named)) → (name : List ℕ)
       → IfSome (field_to_test named base name) (IsShownOf base)
   find-shown lies named all name =
       either-shown (shown_field name named) (field_itself (field_named name base)) (shown-named name named all) (itself-shown lies (field_named name base) (field-there name base))

@@ -1,5 +1,5 @@
 -- The records of base files can stand in the paths of a logical file over them.
-use Rattle.std.proofs.Common.{◌≡◌, ℕ, zero, suc, ◌+◌, ◌<◌, ◌≤◌, Some, None, List, [], ◌∷◌, length, map, get_or, refl, sym, ◌∙◌, ap, subst, arith}
+use Rattle.std.proofs.Common.{◌≡◌, ℕ, zero, suc, ◌+◌, ◌<◌, ◌≤◌, Some, None, List, [], ◌∷◌, ◌++◌, length, map, get_or, refl, sym, ◌∙◌, ap, subst, arith}
 use Rattle.std.specs.Prelude.{All, AllPairs}
 use Rattle.std.specs.List.{AllByRecursion}
 use Rattle.std.proofs.lemmas.List.Elements.{All-from_recursion}
@@ -192,7 +192,8 @@ pub images-taken : (bases : Bases) (spec : LogicalSpec) (member : ℕ) (image : 
 images-taken bases spec member image keyed records =
     let R : PathFormat → Type 0 = λ format. format.member ≡ member → IsAskable format image in
     All-from_recursion (λ (path : PathSpec). TakesImage member (Some image) path) (logical_paths bases spec)
-    (weaker (λ (path : PathSpec). AllByRecursion R path.formats) (λ (path : PathSpec). TakesImage member (Some image) path) (λ path all. All-from_recursion R path.formats all) (logical_paths bases spec)
+    (weaker (λ (path : PathSpec). AllByRecursion R path.formats) (λ (path : PathSpec). TakesImage member (Some image) path)
+    (λ path all. All-from_recursion R path.formats all) (logical_paths bases spec)
     (paths-so bases (λ name. (bases name).member ≡ member → IsRecord (bases name).fields image) R
     (λ name format is over record_of. image-so (bases name).fields member image format (bases name).member is over record_of) spec keyed records))
 

@@ -190,4 +190,5 @@ widened t from allowed also alike scale room image (Number n) stands =
     let small : unsigned_abs n.units < 10 ^ from.length =
     subst (λ (z : ℤ). unsigned_abs z < 10 ^ from.length) is.1 (number-small from.length from.decimals n fits.1) in
     let more : t.decimals - from.decimals + from.decimals ≡ t.decimals = omega (arith, scale) in
-    number-widened t from n (t.decimals - from.decimals) number more room (number-decimals from.kind from.length from.decimals also fits.0) (number-decimals t.kind t.length t.decimals allowed number) is.0 small
+    number-widened t from n (t.decimals - from.decimals) number more room
+    (number-decimals from.kind from.length from.decimals also fits.0) (number-decimals t.kind t.length t.decimals allowed number) is.0 small

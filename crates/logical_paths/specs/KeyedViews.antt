@@ -1,6 +1,6 @@
 -- Which logical files can have their access paths, and whose records can stand in them? (DDS for Physical and Logical Files, "RENAME", "CONCAT",
 -- "SST", "Data type" of a logical field, key field level; that a value which is shown at another type fits there is our own.)
-use Rattle.std.specs.Prelude.{◌≡◌, ℕ, ◌+◌, ◌<◌, ◌≤◌, List, length, map, Some, None, AllPairs, Contains}
+use Rattle.std.specs.Prelude.{◌≡◌, ℕ, ◌+◌, ◌<◌, ◌≤◌, true, false, List, length, map, Some, None, AllPairs, Contains}
 use Rattle.std.specs.List.{AllByRecursion}
 use Rattle.field_types.specs.declared.kinds.Kind.TheVariants.{Char}
 use Rattle.field_types.specs.declared.kinds.FieldType.{FieldType}
@@ -172,3 +172,9 @@ abbrev pub HaveFewPairs : LogicalSpec → Type 0
 HaveFewPairs (Simple view) = Unit {0}
 HaveFewPairs (Multi views) = Unit {0}
 HaveFewPairs (Join view) = AllByRecursion (λ joined. length joined.pairs < MOST_POSITIONS) view.secondaries
+
+-- where no two records may have one key, there is a key; in a file of several formats they may
+abbrev pub HasKeyIfUnique : LogicalSpec → Type 0
+HasKeyIfUnique (Simple view) = view.keys.unique ≡ true → 1 ≤ length view.keys.parts
+HasKeyIfUnique (Multi views) = AllByRecursion (λ view. view.keys.unique ≡ false) views
+HasKeyIfUnique (Join view) = view.keys.unique ≡ true → 1 ≤ length view.keys.parts

@@ -17,7 +17,7 @@ ghost use Rattle.dds_logical.specs.Logical.{logical_of};
 ghost use Rattle.logical_model.specs.Bases.{Bases};
 ghost use Rattle.logical_model.specs.FilePaths.{logical_paths, view_format};
 ghost use Rattle.logical_laws.specs.Mapped.{AreBasesOf};
-ghost use Rattle.logical_paths.specs.KeyedViews.{AreLaidOut, HaveFewPairs, IsKeyedView, IsKeyedLogical, IsRecordOfBases, HaveRecords};
+ghost use Rattle.logical_paths.specs.KeyedViews.{AreLaidOut, HasKeyIfUnique, HaveFewPairs, IsKeyedView, IsKeyedLogical, IsRecordOfBases, HaveRecords};
 
 /// Every record of a base file can stand in each path over its member, and each path can be kept over members with records of their files, with keys that are
 /// compared by their bytes.
@@ -43,4 +43,9 @@ pub fn positions_stay_in_views()
 pub fn described_views_are_keyed()
     ensures { (described : List ℕ → Option PhysicalSpec) (bases : Bases) (source : Source) (spec : LogicalSpec) → AreBasesOf described bases → logical_of described source ≡ Ok spec
         → AreLaidOut bases spec → HaveFewPairs spec → IsKeyedLogical bases spec }
+{}
+
+/// A file that is described has a key where no two records may have one key.
+pub fn unique_files_have_keys()
+    ensures { (described : List ℕ → Option PhysicalSpec) (source : Source) (spec : LogicalSpec) → logical_of described source ≡ Ok spec → HasKeyIfUnique spec }
 {}
