@@ -25,7 +25,8 @@ use Rattle.logical_laws.proofs.ListLemmas.{each-append, each-contained}
 use Rattle.logical_laws.proofs.SameLemmas.{same-paths}
 use Rattle.logical_paths.specs.Steps.{own_path}
 use Rattle.library_paths.specs.AllPaths.{AreKeptFor, all_paths, paths_among, paths_by}
-use Rattle.library_paths.proofs.KeptLemmas.{kept-contained, with_entries}
+use Rattle.library_paths.specs.KeptOnce.{with_entries}
+use Rattle.library_paths.proofs.KeptLemmas.{kept-contained}
 use Rattle.journal_model.specs.Rollback.{MemberChange}
 use Rattle.path_set.specs.declared.moves.PathMove.{PathMove}
 use Rattle.path_set.specs.KeptPaths.{AreShared, KeptPath, KeptPaths, NumberedPaths, spare_of}
