@@ -1,5 +1,5 @@
 -- How often an item stands in a list, by a test that decides equality.
-use Rattle.std.proofs.Common.{ℕ, zero, suc, ◌+◌, ◌<◌, ◌≤◌, ◌≡◌, ◌≢◌, Bool, true, false, cond, List, [], ◌∷◌, ◌++◌, length, Contains, length-append, refl, sym, ap, arith, subst, ◌∙◌}
+use Rattle.std.proofs.Common.{ℕ, zero, suc, ◌+◌, ◌≤◌, ◌≡◌, ◌≢◌, Bool, true, false, cond, List, [], ◌∷◌, ◌++◌, length, Contains, length-append, refl, sym, ap, arith, subst, ◌∙◌}
 use Rattle.std.specs.Prelude.{filter}
 use Rattle.std.specs.Bool.{Decides}
 use Rattle.std.specs.List.{AllByRecursion}

@@ -1,5 +1,5 @@
 -- The kept paths are those that files have, where a path gets one file more or one fewer, or its entries change.
-use Rattle.std.proofs.Common.{ℕ, suc, ◌+◌, ◌-◌, ◌<◌, ◌≤◌, ◌≡◌, ◌≢◌, ◌==◌, ◌⊎◌, inl, inr, nat_lt, Bool, true, false, cond, not, List, [], ◌∷◌, map, Contains, Option, Some, None, refl, sym, ap, arith, subst, ◌∙◌}
+use Rattle.std.proofs.Common.{ℕ, suc, ◌+◌, ◌-◌, ◌<◌, ◌≤◌, ◌≡◌, ◌≢◌, ◌==◌, ◌⊎◌, inl, inr, nat_lt, Bool, true, false, cond, not, List, [], ◌∷◌, map, Contains, Option, Some, None, refl, sym, arith, subst, ◌∙◌}
 use Rattle.std.specs.Prelude.{All, Any}
 use Rattle.std.specs.List.{AllByRecursion}
 use Rattle.std.proofs.lemmas.Bool.Decides.{nat_tests}
@@ -8,12 +8,12 @@ use Rattle.key_pages.specs.declared.entries.Entry.{Entry}
 use Rattle.member_slots.specs.Members.{Numbered, NumberedMembers, item_at, put_item, with_item, without_item}
 use Rattle.file_model.specs.declared.paths.PathSpec.{PathSpec}
 use Rattle.path_set.specs.KeptPaths.{KeptPath, NumberedPaths, AreOver, AreShared, entries_of}
-use Rattle.path_set.specs.Sharing.{IsNew, IsShared, IsPut, detached, given_up, one_fewer, one_more, path_over}
+use Rattle.path_set.specs.Sharing.{IsShared, IsPut, detached, given_up, one_fewer, one_more, path_over}
 use Rattle.library_paths.specs.AllPaths.{AreKeptFor, count_in}
 use Rattle.library_paths.specs.KeptOnce.{IsKeptOnce, with_entries}
-use Rattle.library_paths.proofs.ListLemmas.{EachTwo, any-apart, any-map, any-none, each-filter, each-map, each-of, each-two, two-all, two-filter, two-from, two-map}
+use Rattle.library_paths.proofs.ListLemmas.{EachTwo, any-apart, any-map, each-filter, each-map, each-of, each-two, two-all, two-filter, two-from, two-map}
 use Rattle.library_paths.proofs.CountLemmas.{contained-count, count-contained, count-each, count-none, count-other, count-own, each-count, none-count}
-use Rattle.library_paths.proofs.NumberLemmas.{IsAnother, IsBelow, another-put, any-at, any-new, any-put, any-with, any-without, at-any, below-put, each-at, each-put, each-with, one-number, others-with, others-without, two-with, under}
+use Rattle.library_paths.proofs.NumberLemmas.{IsAnother, IsBelow, another-put, any-at, any-new, any-put, any-with, any-without, at-any, below-put, each-at, each-put, each-with, one-number, others-with, others-without, two-with}
 
 -- ---- what is known of the paths, item by item
 

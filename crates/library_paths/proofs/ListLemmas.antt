@@ -1,6 +1,6 @@
 -- What holds of each item of a list, of one, and of each two.
-use Rattle.std.proofs.Common.{ℕ, zero, suc, ◌<◌, ◌≡◌, ◌⊎◌, inl, inr, Bool, true, false, cond, List, [], ◌∷◌, length, map, refl, sym, ap, arith, subst, ◌∙◌}
-use Rattle.std.specs.Prelude.{All, AllPairs, Any, filter}
+use Rattle.std.proofs.Common.{zero, suc, ◌≡◌, ◌⊎◌, inl, inr, Bool, true, false, cond, List, [], ◌∷◌, map, refl, sym, ap, arith, subst, ◌∙◌}
+use Rattle.std.specs.Prelude.{AllPairs, Any, filter}
 use Rattle.std.specs.List.{AllByRecursion}
 use Rattle.std.proofs.lemmas.Bool.{cond-true}
 use Rattle.std.proofs.lemmas.List.Elements.{All-from_recursion, recursion_from_All}

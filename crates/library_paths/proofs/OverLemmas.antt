@@ -1,5 +1,5 @@
 -- How many different paths there are among those of files: as many as are kept. So it is of those over a member.
-use Rattle.std.proofs.Common.{◌≡◌, ◌≢◌, ◌∙◌, ◌⊎◌, inl, inr, ◌<◌, ℕ, zero, suc, ◌+◌, ◌==◌, Bool, true, false, cond, List, [], ◌∷◌, ◌++◌, length, map, slice_index_or, Contains, refl, sym, ap, arith, subst}
+use Rattle.std.proofs.Common.{◌≡◌, ◌≢◌, ◌∙◌, ◌⊎◌, inl, inr, ℕ, zero, suc, Bool, true, false, cond, List, [], ◌∷◌, ◌++◌, length, map, Contains, refl, sym, ap, arith, subst}
 use Rattle.std.specs.Prelude.{Any, filter, flat_map}
 use Rattle.std.specs.List.{AllByRecursion}
 use Rattle.std.proofs.lemmas.List.{length-map}
@@ -13,10 +13,10 @@ use Rattle.path_set.specs.KeptPaths.{KeptPath, NumberedPaths, AreShared}
 use Rattle.path_set.specs.MemberSteps.{paths_over as kept_over}
 use Rattle.path_laws.proofs.DifferentLemmas.{count-different}
 use Rattle.library_model.specs.Named.{Named}
-use Rattle.library_steps.specs.LogicalFiles.{bases_in, physical_paths, paths_by as paths_by_memory, paths_of, paths_over}
+use Rattle.library_steps.specs.LogicalFiles.{paths_by as paths_by_memory, paths_of, paths_over}
 use Rattle.library_steps.specs.State.{Memory, FileState, MemberStatus}
 use Rattle.library_paths.specs.AllPaths.{AreKeptFor, all_paths, paths_among, paths_by}
-use Rattle.library_paths.proofs.ListLemmas.{EachTwo, any-cons, any-none, two-all, two-filter, two-from, two-map}
+use Rattle.library_paths.proofs.ListLemmas.{any-cons, any-none, two-all, two-filter, two-from, two-map}
 use Rattle.library_paths.proofs.CountLemmas.{contained-count, count-each}
 use Rattle.library_paths.proofs.KeptLemmas.{kept-contained}
 use Rattle.library_paths.proofs.NumberLemmas.{IsAnother}

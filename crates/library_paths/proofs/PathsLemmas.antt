@@ -1,6 +1,5 @@
 -- The paths of all files, where a file or a member comes, a status changes, or a file goes.
 use Rattle.std.proofs.Common.{◌≡◌, ◌∙◌, ℕ, ◌+◌, ◌==◌, nat_lt, cond, if◌then◌else◌, Bool, true, false, not, List, [], ◌∷◌, ◌++◌, length, map, Option, Some, None, is_some, IsSome, refl, sym, ap, arith, subst}
-use Rattle.std.specs.Prelude.{flat_map}
 use Rattle.std.specs.List.{AllByRecursion, IsDistinct}
 use Rattle.std.specs.Map.{keys_of}
 use Rattle.std.specs.Option.{option_and_then}
@@ -152,8 +151,7 @@ paths-wider files path name member number file spec found physical distinct stan
 
 module _ (number : ℕ) (change : MemberStatus → MemberStatus) (keeps : (status : MemberStatus) → (change status).number ≡ status.number) where
   physical-status : (spec : PhysicalSpec) (members : Named MemberStatus)
-      → map (λ entry. physical_path entry.1.number spec.format.fields spec.keys) (map (λ entry. (entry.0, if entry.1.number == number then change entry.1 else entry.1)) members)
-      ≡ map (λ entry. physical_path entry.1.number spec.format.fields spec.keys) members
+      → map (path_over spec) (map (λ (entry : List ℕ × MemberStatus). (entry.0, if entry.1.number == number then change entry.1 else entry.1)) members) ≡ map (path_over spec) members
   physical-status spec [] = refl
   physical-status spec (entry ∷ members) = λ i. physical_path (by (entry.1.number == number) i) spec.format.fields spec.keys ∷ physical-status spec members i
     where
@@ -162,7 +160,7 @@ module _ (number : ℕ) (change : MemberStatus → MemberStatus) (keeps : (statu
       by false = refl
 
   by-status : (all : Named FileState) (members : Named MemberStatus) (spec : FileSpec)
-      → paths_by all (map (λ entry. (entry.0, if entry.1.number == number then change entry.1 else entry.1)) members) spec ≡ paths_by all members spec
+      → paths_by all (map (λ (entry : List ℕ × MemberStatus). (entry.0, if entry.1.number == number then change entry.1 else entry.1)) members) spec ≡ paths_by all members spec
   by-status all members (PhysicalFile spec) = ap (λ (paths : List PathSpec). if nat_lt 0 (length spec.keys.parts) then paths else []) (physical-status spec members)
   by-status all members (LogicalFile spec) = refl
 

@@ -1,8 +1,7 @@
 -- As many different paths are counted as stand in a list of different ones that are the same.
-use Rattle.std.proofs.Common.{◌≡◌, ◌≢◌, refl, sym, ap, ◌∙◌, subst, ◌<◌, ℕ, zero, suc, ◌+◌, Bool, true, false, ◌||◌, cond, not, List, [], ◌∷◌, length, slice_index_or, Contains, ◌⊎◌, inl, inr, arith}
+use Rattle.std.proofs.Common.{◌≡◌, ◌≢◌, refl, sym, ap, ◌∙◌, subst, zero, suc, ◌+◌, Bool, true, false, cond, not, List, [], ◌∷◌, length, Contains, ◌⊎◌, inl, inr, arith}
 use Rattle.std.specs.Prelude.{AllPairs, filter}
 use Rattle.std.specs.List.{AllByRecursion, list_any}
-use Rattle.std.proofs.lemmas.Bool.{cond-true}
 use Rattle.std.proofs.lemmas.List.Elements.{recursion_from_All}
 use Rattle.file_model.specs.declared.paths.PathSpec.{PathSpec}
 use Rattle.logical_model.specs.SamePaths.{same_path, count_paths}
