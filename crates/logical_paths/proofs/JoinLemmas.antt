@@ -194,8 +194,7 @@ module _ (described : List ℕ → Option PhysicalSpec) (bases : Bases) (same : 
   files-over [] well there laid few = tt
   files-over (joined ∷ more) well there laid few =
       let own : fields_of_file described joined.file ≡ (bases joined.file).fields = same joined.file there.0 in
-      let lies : lies_from 0 (fields_of_file described joined.file) ≡ true = subst (λ (fs : List Field). lies_from 0 fs ≡ true) (sym own) laid.0.lies in
-      (
+      let lies : lies_from 0 (fields_of_file described joined.file) ≡ true = subst (λ (fs : List Field). lies_from 0 fs ≡ true) (sym own) laid.0.lies in (
         record {
           laid = laid.0;
           pairs = subst (λ (fs : List Field). AllByRecursion (λ pair. IsShownOf fs pair.to) joined.pairs) own (well.0.pairs lies);

@@ -1,6 +1,6 @@
 -- What lines of fields describe shows a value of each record of the base file.
 use Rattle.std.proofs.Common.{◌≡◌, ℕ, suc, ◌+◌, ◌-◌, ◌≤◌, ◌==◌, nat_eq, nat_lt, nat_le, Bool, true, false, not, cond, ◌&&◌, ◌||◌, codes, Option, Some, None, is_some, IfSome, Result, Ok, Err}
-use Rattle.std.proofs.Common.{List, [], ◌∷◌, ◌++◌, length, map, Contains, refl, sym, ◌∙◌, ap, subst, arith}
+use Rattle.std.proofs.Common.{List, [], ◌∷◌, ◌++◌, map, Contains, refl, sym, ◌∙◌, ap, subst, arith}
 use Rattle.std.specs.List.{AllByRecursion, filter_map, flat_map, cons_option}
 use Rattle.std.proofs.lemmas.Bool.{and_parts, cond_both, eqb-true, leb-true, ltb-false, not-false, or_parts}
 use Rattle.std.proofs.lemmas.List.Elements.{recursion_from_All, All-contains_itself}
@@ -191,8 +191,8 @@ within-said n None = tt
 within-said n (Some p) =
     cond_both (lies_within n p) (Some p) None (λ o. IfSome o (λ q. (1 ≤ q.start) × (q.start + q.size ≤ n + 1)))
     (λ lies. (
-      let parts = all-three (nat_le 1 p.start) (nat_le 1 p.size) (nat_le (p.start + p.size) (n + 1)) lies in
-      (leb-true 1 p.start parts.0, leb-true (p.start + p.size) (n + 1) parts.2)
+    let parts = all-three (nat_le 1 p.start) (nat_le 1 p.size) (nat_le (p.start + p.size) (n + 1)) lies in
+    (leb-true 1 p.start parts.0, leb-true (p.start + p.size) (n + 1) parts.2)
     )) (λ _. tt)
 
 part-made : (base : List Field) (f : Field) (o : Option _) (made : Option Origin) → part_origin f o ≡ made → Contains base f → f.ty.kind ≡ Char

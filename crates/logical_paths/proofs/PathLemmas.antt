@@ -1,10 +1,13 @@
 -- What is built of the paths of a logical file.
-use Rattle.std.proofs.Common.{◌≡◌, ℕ, ◌+◌, ◌-◌, ◌<◌, ◌≤◌, ◌==◌, Bool, false, cond, List, [], ◌∷◌, ◌++◌, map, Option, Some, None, ap, sym, refl, arith, ◌∙◌}
+use Rattle.std.proofs.Common.{◌≡◌, ℕ, ◌+◌, ◌-◌, ◌<◌, ◌≤◌, ◌==◌, Bool, true, false, cond, List, [], ◌∷◌, ◌++◌, map, Option, Some, None, ap, sym, refl, arith, ◌∙◌}
 use Rattle.std.specs.Option.{option_to_list}
-use Rattle.std.specs.List.{cons_option}
+use Rattle.std.specs.List.{AllByRecursion, cons_option}
 use Rattle.std.proofs.lemmas.Bool.{cond-false, ne_eqb}
 use Rattle.std.proofs.lemmas.List.{append_assoc}
 use Rattle.field_values.specs.FieldTypes.{width}
+use Rattle.record_fmt.specs.declared.formats.Field.{Field}
+use Rattle.record_fmt.specs.Layout.{lies_from, IsLaidOut}
+use Rattle.record_fmt.proofs.LayoutLemmas.{lies-parts}
 use Rattle.key_spec.specs.declared.KeyPart.{KeyPart}
 use Rattle.key_spec.specs.declared.KeyPart.TheVariants.{Field as KeyField}
 use Rattle.file_model.specs.declared.paths.PathSpec.{PathSpec}
@@ -16,7 +19,7 @@ use Rattle.dds_logical.specs.declared.views.LogicalSpec.{LogicalSpec}
 use Rattle.dds_logical.specs.declared.views.LogicalSpec.TheVariants.{Simple, Multi, Join}
 use Rattle.logical_model.specs.Bases.{Bases}
 use Rattle.logical_model.specs.FilePaths.{logical_paths, secondary_of}
-use Rattle.logical_paths.specs.Steps.{joined_paths, own_path, parts_behind, secondary_paths}
+use Rattle.logical_paths.specs.Steps.{HasType, joined_paths, own_path, parts_behind, secondary_paths}
 
 pub joined : {X : Type 0} (xs ys zs : List X) → xs ++ ys ++ zs ≡ xs ++ (ys ++ zs)
 joined xs ys zs = append_assoc xs ys zs
@@ -78,3 +81,13 @@ pub paths_are : (bases : Bases) (spec : LogicalSpec) → own_path bases spec ∷
 paths_are bases (Simple view) = refl
 paths_are bases (Multi views) = refl
 paths_are bases (Join view) = ap (λ (paths : List PathSpec). own_path bases (Join view) ∷ paths) (joined-same bases view.secondaries)
+
+-- ---- what a join is read by
+
+from-allowed : (start : ℕ) (fs : List Field) → lies_from start fs ≡ true → AllByRecursion HasType fs
+from-allowed start [] lies = tt
+from-allowed start (f ∷ fs) lies = (let parts = lies-parts start f fs lies in (parts.1, from-allowed (start + width f.ty) fs parts.2))
+
+-- fields that lie one behind another are of types that a data description can give
+pub fields-allowed : (fs : List Field) → IsLaidOut fs → AllByRecursion HasType fs
+fields-allowed fs laid = from-allowed 0 fs laid.lies

@@ -118,8 +118,7 @@ module _ (base : List Field) (lies : lies_from 0 base ≡ true) (image : List �
       let within : AllByRecursion (IsWithin image) pieces = weaker (IsTextAt base) (IsWithin image) text-within pieces texts.texts in
       let long : length (flat_map (piece_of image) pieces) ≡ pieces_length pieces = pieces-length image pieces within in
       let width-is : width t ≡ t.length = text-width t texts.kind in
-      let room : pieces_length pieces ≤ t.length = texts.room in
-      (
+      let room : pieces_length pieces ≤ t.length = texts.room in (
         record { characters = texts.kind; within = within; room = omega (arith, width-is, room) },
         text-there t (flat_map (piece_of image) pieces) texts.kind (omega (arith, long, room)),
       )
@@ -127,8 +126,7 @@ module _ (base : List Field) (lies : lies_from 0 base ≡ true) (image : List �
       let within : IsWithin image piece = part-within t piece text in
       let long : length (piece_of image piece) ≡ piece.length = piece-length image piece within in
       let width-is : width t ≡ t.length = text-width t text.kind in
-      let room : piece.length ≤ t.length = text.room in
-      (
+      let room : piece.length ≤ t.length = text.room in (
         record { characters = text.kind; within = within; room = omega (arith, width-is, room) },
         text-there t (piece_of image piece) text.kind (omega (arith, long, room)),
       )

@@ -1,8 +1,8 @@
 -- A described file in which no two records may have one key has a key.
-use Rattle.std.proofs.Common.{◌≡◌, ℕ, suc, ◌+◌, ◌-◌, ◌≤◌, ◌<◌, nat_lt, Bool, true, false, not, cond, ◌&&◌, ◌||◌, codes, inl, inr, Option, Some, None, is_some}
-use Rattle.std.proofs.Common.{Result, Ok, List, [], ◌∷◌, ◌++◌, length, map, filter, take, replicate}
+use Rattle.std.proofs.Common.{◌≡◌, ℕ, suc, ◌+◌, ◌-◌, ◌≤◌, nat_lt, Bool, true, false, not, cond, ◌&&◌, ◌||◌, codes, inl, inr, Option, Some, None, is_some}
+use Rattle.std.proofs.Common.{Ok, List, [], ◌∷◌, length, map, filter, take, replicate}
 use Rattle.std.proofs.Common.{refl, sym, ◌∙◌, ap, subst, arith, length-append}
-use Rattle.std.specs.List.{AllByRecursion, list_any, before_first, prefix_len, flat_map}
+use Rattle.std.specs.List.{AllByRecursion, list_any, before_first, prefix_len}
 use Rattle.std.proofs.lemmas.Bool.{and_parts, cases_Bool, cond_both, ltb-false}
 use Rattle.key_spec.specs.declared.KeyPart.{KeyPart}
 use Rattle.key_spec.specs.declared.KeyPart.TheVariants.{Absent}

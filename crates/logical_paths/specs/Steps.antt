@@ -1,12 +1,17 @@
 -- What do the steps say in which the paths of a logical file are built? (Our own.)
 use Rattle.std.specs.Prelude.{ℕ, ◌+◌, false, List, [], ◌∷◌, ◌++◌, map, Option, Some, None}
+use Rattle.std.specs.List.{AllByRecursion}
+use Rattle.field_values.specs.FieldTypes.{IsFieldType}
+use Rattle.record_fmt.specs.declared.formats.Field.{Field}
 use Rattle.key_spec.specs.declared.KeyPart.{KeyPart}
+use Rattle.file_model.specs.declared.joins.JoinField.{JoinField}
 use Rattle.file_model.specs.declared.joins.JoinPair.{JoinPair}
 use Rattle.file_model.specs.declared.paths.PathSpec.{PathSpec}
 use Rattle.file_model.specs.declared.views.LogicalField.{LogicalField}
 use Rattle.file_model.specs.declared.views.ViewField.{ViewField}
 use Rattle.file_model.specs.FilePaths.{field_from}
 use Rattle.file_model.specs.Joins.{parts_from, total_width, sequence_field, sequence_part, secondary_path}
+use Rattle.view_rules.specs.Stored.{HasDefault}
 use Rattle.dds_logical.specs.declared.join_views.JoinedField.{JoinedField}
 use Rattle.dds_logical.specs.declared.join_views.JoinedFile.{JoinedFile}
 use Rattle.dds_logical.specs.declared.views.LogicalSpec.{LogicalSpec}
@@ -62,3 +67,16 @@ abbrev pub secondary_paths : Bases → LogicalSpec → List PathSpec
 secondary_paths bases (Simple view) = []
 secondary_paths bases (Multi views) = []
 secondary_paths bases (Join view) = joined_paths bases view.secondaries
+
+-- ---- what a join is read by
+
+abbrev pub fields_of_join : List JoinedField → List JoinField
+fields_of_join fields = map (λ f. f.field) fields
+
+-- its type is one that a data description can give
+abbrev pub HasType : Field → Type 0
+HasType f = IsFieldType f.ty
+
+-- each field of a secondary file takes its default value
+abbrev pub HaveDefaults : Bases → List JoinedFile → Type 0
+HaveDefaults bases secondaries = AllByRecursion (λ joined. AllByRecursion HasDefault (bases joined.file).fields) secondaries

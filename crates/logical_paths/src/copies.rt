@@ -100,9 +100,7 @@ fn copied_test(alloc: Global, test: &Test) -> Result<Test, AllocError>
     ensures { IfOk result (λ copy. copy ≡ test.now) }
 {
     match test {
-        Test::Literal(relation, literal) => {
-            Ok(Test::Literal(*relation, literal.copied(alloc)?))
-        }
+        Test::Literal(relation, literal) => { Ok(Test::Literal(*relation, literal.copied(alloc)?)) }
         Test::Field(relation, field) => Ok(Test::Field(*relation, copied_field(alloc, field)?)),
         Test::Range(low, high) => copied_range(alloc, low, high),
         Test::Values(values) => Ok(Test::Values(copied_values(alloc, values.as_slice())?)),

@@ -111,9 +111,5 @@ fn left_behind(field: &ViewField, left: usize) -> Option<usize>
     ensures { (more : List ViewField) → field_left result more ≡ field_from left 0 (field.now ∷ more) }
 {
     let wide = fields::width(&field.ty);
-    if left < wide {
-        None
-    } else {
-        Some(left - wide)
-    }
+    if left < wide { None } else { Some(left - wide) }
 }

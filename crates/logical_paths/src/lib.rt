@@ -7,3 +7,4 @@ mod joins;
 mod key_fields;
 pub mod laws;
 pub mod paths;
+pub mod readings;

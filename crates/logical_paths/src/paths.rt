@@ -49,11 +49,7 @@ pub fn own_path<B: BaseFiles>(
 }
 
 /// The path of a file of one format.
-fn simple_path<B: BaseFiles>(
-    alloc: Global,
-    bases: &B,
-    view: &View,
-) -> Result<PathSpec, AllocError>
+fn simple_path<B: BaseFiles>(alloc: Global, bases: &B, view: &View) -> Result<PathSpec, AllocError>
     ensures { IfOk result (λ path. path ≡ views_path (B.bases bases.now) view.now.keys.unique (view.now ∷ [])) }
 {
     let only = view_format(alloc, bases, view)?;
@@ -148,7 +144,7 @@ fn path_format(
 }
 
 /// The path of a join's primary file, by the key fields of the join.
-fn primary_path<B: BaseFiles>(
+pub(crate) fn primary_path<B: BaseFiles>(
     alloc: Global,
     bases: &B,
     view: &JoinView,
