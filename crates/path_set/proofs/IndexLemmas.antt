@@ -1,6 +1,6 @@
 -- What a change of the kept paths makes of their numbers by member.
-use Rattle.std.proofs.Common.{ℕ, suc, ◌+◌, ◌<◌, ◌≤◌, ◌≡◌, ◌==◌, Bool, true, false, cond, not, List, [], ◌∷◌, length, map, filter, set, get_or, insert, remove, refl, sym, ap, ◌∙◌, subst, arith}
-use Rattle.std.specs.Prelude.{All, AllPairs, HoldsAt, ◌≢◌}
+use Rattle.std.proofs.Common.{ℕ, ◌+◌, ◌<◌, ◌≤◌, ◌≡◌, ◌==◌, Bool, true, false, cond, not, List, [], ◌∷◌, length, map, filter, set, get_or, insert, remove, refl, sym, ap, ◌∙◌, subst, arith}
+use Rattle.std.specs.Prelude.{HoldsAt, ◌≢◌}
 use Rattle.std.proofs.lemmas.Bool.Decides.{nat_tests}
 use Rattle.std.proofs.lemmas.List.Elements.{All-filter}
 use Rattle.std.proofs.lemmas.List.Kept.{AllPairs-filter}

@@ -1,11 +1,10 @@
 -- Paths made anew, and what they make of the kept paths.
 use Rattle.std.proofs.Common.{ℕ, zero, suc, ◌+◌, ◌*◌, ◌<◌, ◌≤◌, ◌≡◌, ◌≢◌, ◌==◌, Bool, true, false, cond, ◌||◌, List, [], ◌∷◌, ◌++◌, length, map, drop, set, get_or, Option, Some, None, IsSome, IfSome, refl}
 use Rattle.std.proofs.Common.{sym, ap, arith, ◌∙◌, subst, append_assoc, ◌⊎◌, inl, inr}
-use Rattle.std.specs.Prelude.{All, Any, unwrap_or, option_map}
-use Rattle.std.specs.List.{AllByRecursion, AllZip, list_any}
+use Rattle.std.specs.Prelude.{Any, unwrap_or, option_map}
+use Rattle.std.specs.List.{AllByRecursion, list_any}
 use Rattle.std.proofs.lemmas.Bool.{cond-true, cond-false}
 use Rattle.std.proofs.lemmas.Bool.Decides.{nat_tests}
-use Rattle.std.proofs.lemmas.List.{get_or-map, length-map}
 use Rattle.std.proofs.lemmas.List.Elements.{All-map, All-from_recursion, recursion_from_All}
 use Rattle.key_pages.specs.declared.entries.Entry.{Entry}
 use Rattle.key_pages.specs.EntryList.{EntryList}
@@ -19,7 +18,7 @@ use Rattle.path_set.specs.RecordChanges.{HaveRoom}
 use Rattle.path_set.specs.Sharing.{CanBeKept}
 use Rattle.path_set.specs.MemberSteps.{AreSameBut, is_over, paths_over}
 use Rattle.path_set.specs.RebuiltPaths.{CanBeRebuilt, IsRebuilt, AreRebuilt, HaveRooms, HaveTies, entries_or, room_or, path_with, room_with, kept_with, IsAdded}
-use Rattle.path_set.specs.Entries.{AreKept, IsKept, IsPlace, IsGap, paths_of, numbered, path_of, room_of}
+use Rattle.path_set.specs.Entries.{IsPlace, IsGap, paths_of, numbered, path_of, room_of}
 use Rattle.path_set.proofs.FoundLemmas.{IsFound, found-each}
 use Rattle.path_set.proofs.PlaceLemmas.{IsPlace-tail}
 use Rattle.path_set.proofs.RecordLemmas.{Ascend, ascend-from, each-apart}

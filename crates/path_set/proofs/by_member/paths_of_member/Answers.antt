@@ -1,5 +1,4 @@
-use Rattle.std.proofs.Common.{◌∙◌, ◌≡◌, true, false, ltb, leb, rules}
-use Rattle.std.specs.List.Sorted.{IsPartitionPoint}
+use Rattle.std.proofs.Common.{◌∙◌, ltb, leb, rules}
 use Rattle.std.proofs.lemmas.List.Sorted.{IsPartitionPoint-from_clause, IsPartitionedBy-ltb, IsPartitionedBy-leb}
 use Rattle.path_set.specs.declared.by_member.PathOver.{PathOver}
 use Rattle.path_set.proofs.OverLemmas.{members-rise, in-order, those-between}

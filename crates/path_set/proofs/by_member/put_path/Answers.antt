@@ -1,5 +1,5 @@
-use Rattle.std.proofs.Common.{◌∙◌, ap, sym, subst, arith}
-use Rattle.path_set.specs.ByMember.{AreByMember, numbers_of, IsGapFor}
+use Rattle.std.proofs.Common.{◌∙◌, ap, sym, subst}
+use Rattle.path_set.specs.ByMember.{AreByMember, numbers_of}
 use Rattle.path_set.proofs.OverLemmas.{put-there, put-gap, put-ordered}
 use Rattle.path_set.proofs.by_member.put_path.Goals as goal
 

@@ -1,4 +1,4 @@
-use Rattle.std.proofs.Common.{◌≡◌, ◌<◌, length, arith, rules}
+use Rattle.std.proofs.Common.{◌≡◌, ◌<◌, length, rules}
 use Rattle.path_set.proofs.IndexLemmas.{over-numbers}
 use Rattle.path_set.proofs.TurnLemmas.{first-none, first-some}
 use Rattle.path_set.proofs.set.PathSet.first_over.Goals as goal

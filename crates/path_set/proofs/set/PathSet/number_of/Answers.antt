@@ -1,5 +1,4 @@
 use Rattle.std.proofs.Common.{refl}
-use Rattle.path_set.specs.Entries.{with_files}
 use Rattle.path_set.proofs.ShareLemmas.{counted, new-at}
 use Rattle.path_set.proofs.set.PathSet.number_of.Goals as goal
 

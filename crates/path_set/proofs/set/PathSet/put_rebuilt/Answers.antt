@@ -1,7 +1,7 @@
-use Rattle.std.proofs.Common.{refl, sym, subst, ◌≡◌, ◌∷◌, []}
+use Rattle.std.proofs.Common.{refl, sym, subst, ◌∷◌, []}
 use Rattle.key_pages.specs.EntryList.{EntryList}
 use Rattle.member_slots.specs.Members.{Numbered}
-use Rattle.path_set.specs.RebuiltPaths.{HaveTies, kept_with}
+use Rattle.path_set.specs.RebuiltPaths.{HaveTies}
 use Rattle.path_set.proofs.FoundLemmas.{found}
 use Rattle.path_set.proofs.IndexLemmas.{indexed-set}
 use Rattle.path_set.proofs.RebuildLemmas.{found-put, found-ties, missing-put}
