@@ -142,7 +142,8 @@ all-alike-wider files file member number stand some =
 pub stand-wider : (files : Named FileState) (file member : List ℕ) (number : ℕ) → AllStand files → AllStand (file_changed file (with_member_name member number) files)
 stand-wider files file member number stand = each files stand
   where
-    kind : (name : List ℕ) (members : Named MemberStatus) (spec : FileSpec) → StandsBy files name members spec → StandsBy (wider_files file member number files) name (members ++ (member, new_status number) ∷ []) spec
+    kind : (name : List ℕ) (members : Named MemberStatus) (spec : FileSpec) → StandsBy files name members spec
+        → StandsBy (wider_files file member number files) name (members ++ (member, new_status number) ∷ []) spec
     kind name members (PhysicalFile spec) stands = named-more name members (member, new_status number) stands
     kind name members (LogicalFile spec) stands = stands-still files (wider_files file member number files) name members (LogicalFile spec) (base-wider files file member number) stands
 

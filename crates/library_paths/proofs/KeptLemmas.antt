@@ -1,5 +1,6 @@
 -- The kept paths are those that files have, where a path gets one file more or one fewer, or its entries change.
-use Rattle.std.proofs.Common.{ℕ, suc, ◌+◌, ◌-◌, ◌<◌, ◌≤◌, ◌≡◌, ◌≢◌, ◌==◌, ◌⊎◌, inl, inr, nat_lt, Bool, true, false, cond, not, List, [], ◌∷◌, map, Contains, Option, Some, None, refl, sym, arith, subst, ◌∙◌}
+use Rattle.std.proofs.Common.{ℕ, suc, ◌+◌, ◌-◌, ◌<◌, ◌≤◌, ◌≡◌, ◌≢◌, ◌==◌, ◌⊎◌, inl, inr, nat_lt, Bool, true}
+use Rattle.std.proofs.Common.{false, cond, not, List, [], ◌∷◌, map, Contains, Option, Some, None, refl, sym, arith, subst, ◌∙◌}
 use Rattle.std.specs.Prelude.{All, Any}
 use Rattle.std.specs.List.{AllByRecursion}
 use Rattle.std.proofs.lemmas.Bool.Decides.{nat_tests}
@@ -13,7 +14,8 @@ use Rattle.library_paths.specs.AllPaths.{AreKeptFor, count_in}
 use Rattle.library_paths.specs.KeptOnce.{IsKeptOnce, with_entries}
 use Rattle.library_paths.proofs.ListLemmas.{EachTwo, any-apart, any-map, each-filter, each-map, each-of, each-two, two-all, two-filter, two-from, two-map}
 use Rattle.library_paths.proofs.CountLemmas.{contained-count, count-contained, count-each, count-none, count-other, count-own, each-count, none-count}
-use Rattle.library_paths.proofs.NumberLemmas.{IsAnother, IsBelow, another-put, any-at, any-new, any-put, any-with, any-without, at-any, below-put, each-at, each-put, each-with, one-number, others-with, others-without, two-with}
+use Rattle.library_paths.proofs.NumberLemmas.{IsAnother, IsBelow, another-put, any-at, any-new, any-put, any-with, any-without}
+use Rattle.library_paths.proofs.NumberLemmas.{at-any, below-put, each-at, each-put, each-with, one-number, others-with, others-without, two-with}
 
 -- ---- what is known of the paths, item by item
 
@@ -89,7 +91,8 @@ those-shared specs members old id path two is at = record {
   over = each-with id path (one_more path) (IsOver members) old (λ own. own) at is.over;
   there = (
     any-with id path (one_more path) (Has path.spec) old (λ own. own) at (any-at (Has path.spec) id path old at refl),
-    each-of (λ (spec : PathSpec). Any (Has spec) old) (λ (spec : PathSpec). Any (Has spec) (with_item id (one_more path) old)) (λ spec any. any-with id path (one_more path) (Has spec) old (λ own. own) at any) specs is.there,
+    each-of (λ (spec : PathSpec). Any (Has spec) old) (λ (spec : PathSpec). Any (Has spec) (with_item id (one_more path) old))
+        (λ spec any. any-with id path (one_more path) (Has spec) old (λ own. own) at any) specs is.there,
   );
   counted = others-with id path (one_more path) (IsCounted (path.spec ∷ specs)) old two.another (more-others path.spec specs old is.counted) more at;
 }
@@ -273,7 +276,8 @@ module _ (entries : Numbered KeptPath → List Entry) (kept : NumberedPaths) whe
       → AreKeptFor specs others (map (with_entries entries) kept)
   kept-with specs members others over is = record {
     over = over;
-    there = each-of (λ (spec : PathSpec). Any (Has spec) kept) (λ (spec : PathSpec). Any (Has spec) (map (with_entries entries) kept)) (λ spec any. any-map (Has spec) (with_entries entries) kept any) specs is.there;
+    there = each-of (λ (spec : PathSpec). Any (Has spec) kept) (λ (spec : PathSpec). Any (Has spec) (map (with_entries entries) kept))
+        (λ spec any. any-map (Has spec) (with_entries entries) kept any) specs is.there;
     counted = All-from_recursion (IsCounted specs) (map (with_entries entries) kept)
         (each-map (IsCounted specs) (with_entries entries) kept (recursion_from_All (IsCounted specs) kept is.counted));
   }

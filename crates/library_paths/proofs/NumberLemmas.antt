@@ -54,11 +54,11 @@ at-any P [] two any = absurd (any-none P any)
 at-any P (p ∷ paths) two any =
     elim (any-cons P p paths any) [
       | inl is ↦ record {
-          id = p.number;
-          path = p.item;
-          at = cond-true (p.number == p.number) (Some p.item) (item_at p.number paths) (let e : (p.number == p.number) ≡ true = grind (arith, nat_tests) in e);
-          holds = is;
-        }
+        id = p.number;
+        path = p.item;
+        at = cond-true (p.number == p.number) (Some p.item) (item_at p.number paths) (let e : (p.number == p.number) ≡ true = grind (arith, nat_tests) in e);
+        holds = is;
+      }
       | inr rest ↦ let found = at-any P paths two.1 rest in
           let less : p.number < found.id = each-at (IsBelow p) found.id found.path paths two.0 found.at in
           record {
@@ -118,9 +118,9 @@ module _ (id : ℕ) (path new : KeptPath) where
       elim (p.number == id) as (λ b. (p.number == id) ≡ b → cond b (Some p.item) (item_at id paths) ≡ Some path
       → EachTwo R (if b then under id new ∷ paths else p ∷ with_item id new paths)) [
         | true ↦ λ same e. (
-            each-of (R p) (R (under id new)) (λ q is. first q (subst (λ (x : Numbered KeptPath). R x q) (under-is id path p same (some-equal e)) is)) paths two.0,
-            two.1,
-          )
+          each-of (R p) (R (under id new)) (λ q is. first q (subst (λ (x : Numbered KeptPath). R x q) (under-is id path p same (some-equal e)) is)) paths two.0,
+          two.1,
+        )
         | false ↦ λ differs e. (each-with (R p) paths (second p) e two.0, two-with R paths first second e two.1)
       ] refl at
 
@@ -132,10 +132,10 @@ module _ (id : ℕ) (path new : KeptPath) where
       elim (p.number == id) as (λ b. (p.number == id) ≡ b → cond b (Some p.item) (item_at id paths) ≡ Some path
       → AllByRecursion P (if b then under id new ∷ paths else p ∷ with_item id new paths)) [
         | true ↦ λ same e. (
-            own,
-            each-two (IsAnother p) (λ (q : Numbered KeptPath). q.item.spec ≢ path.spec → P q) P
-                (λ q differs is. is (λ equal. differs (ap (λ (k : KeptPath). k.spec) (some-equal e) ∙ sym equal))) paths two.0 each.1,
-          )
+          own,
+          each-two (IsAnother p) (λ (q : Numbered KeptPath). q.item.spec ≢ path.spec → P q) P
+              (λ q differs is. is (λ equal. differs (ap (λ (k : KeptPath). k.spec) (some-equal e) ∙ sym equal))) paths two.0 each.1,
+        )
         | false ↦ λ differs e. (each.0 (each-at (IsAnother p) id path paths two.0 e), others-with P paths two.1 each.1 own e)
       ] refl at
 
