@@ -33,31 +33,38 @@ use path_set::set::PathSet;
 use std::alloc::{AllocError, Global};
 
 impl Contents {
-    /// How many files there are, all of them physical ones, and the number of the next member. No two members have one number.
+    /// How many files there are, and the number of the next member. No two members have one number.
     pub fn counts(&self) -> (usize, u32)
         ensures files { result.0 ≡ length self.now.state.files }
         ensures next_member { result.1 ≡ self.now.state.next_member }
         ensures apart { AreApart self.now.state.files }
-        ensures physical { AllArePhysical self.now.state.files }
     {
         (self.catalogue.len(), self.next_member)
     }
 
-    /// The first file, by creation, whose source names that file. It looks at every source.
+    /// The first file, by creation, that depends on that file. It looks at every source.
     pub fn first_dependent(&self, name: &Name) -> Option<Name>
         ensures { result ≡ first_dependent name.now self.now.state.files }
     {
         self.catalogue.first_dependent(name)
     }
 
-    /// Reads a source, which may refer to the files that are there.
+    /// Reads a source for a physical file, which may refer to the files that are there.
     pub fn describe(&self, text: &SourceText) -> Result<Described, PhysicalError>
         ensures { Describes (formats_of (memory_of self.now.state)) text.now result }
     {
         Described::read(self.alloc, text, &self.catalogue)
     }
 
-    /// Adds a file, whose one member has its name and the next number, with its path where it has a key. Out of memory changes nothing.
+    /// Reads a source for a logical file, which may be over the physical files that are there.
+    pub fn describe_view(&self, text: &SourceText) -> Result<DescribedView, LogicalFault>
+        ensures { DescribesView (λ name. physical_spec name (memory_of self.now.state)) text.now result }
+    {
+        DescribedView::read(self.alloc, text, &self.catalogue)
+    }
+
+    /// Adds a physical file, whose one member has its name and the next number, with its path where it has a key. Out of memory changes
+    /// nothing.
     pub fn add_file(&mut self, name: Name, file: File) -> Result<(), AllocError>
         requires new { IsNewFile self.old.state name file }
         requires room { HasFileRoom self.old.room }
@@ -68,21 +75,56 @@ impl Contents {
     {
         // No two files have one name.
         let _len = self.catalogue.len();
+        let described = file.physical().unwrap();
         attach_path(
             self.alloc,
             &mut self.paths,
             &self.members,
             self.next_member,
-            &file,
+            described,
         )?;
-        let empty = Member::new(self.alloc, file.format().length());
+        let empty = Member::new(self.alloc, described.format().length());
         self.members.put(self.next_member, empty).unwrap();
         self.catalogue.add(name, file);
         self.next_member += 1;
         Ok(())
     }
 
-    /// Adds a member of that name to a file, with its path where the file has a key. It has the next number. Out of memory changes nothing.
+    /// Whether one of the members that a logical file would be over would have more different paths than it may.
+    pub fn has_many_paths(&self, view: &LogicalSpec) -> Result<bool, AllocError>
+        requires simple { IsSimple (LogicalFile view.now) }
+        ensures { IfOk result (λ many. many ≡ list_any (has_many (logical_paths (bases_of (memory_of self.now.state)) view.now) (memory_of self.now.state)) (base_members (bases_of (memory_of self.now.state)) view.now)) }
+    {
+        let path = own_path(self.alloc, &self.catalogue, view)?;
+        let member = self.base_member(view);
+        let kept = self.paths.count_over(member);
+        match self.paths.number_of(&path) {
+            Some(_) => Ok(kept > MOST_PATHS),
+            None => Ok(kept + 1 > MOST_PATHS),
+        }
+    }
+
+    /// Adds a logical file with its path, unless two records would have one key in it that may not. Out of memory changes nothing.
+    pub fn add_view(&mut self, name: Name, view: DescribedView) -> Result<(), Stop>
+        requires new { IsNewView self.old.state name view }
+        requires room { HasFileRoom self.old.room }
+        ensures apart { MayAllow result (refuse_with (DuplicateKey name) (first_repeated (logical_paths (bases_of (memory_of self.old.state)) view.spec) (memory_of self.old.state))) }
+        ensures memory { OnOk result (memory_of self.new.state ≡ with_logical name view (memory_of self.old.state)) }
+        ensures unchanged { OnErr result (self.new.state ≡ self.old.state) }
+        ensures entries { self.new.state.entries ≡ self.old.state.entries }
+        ensures others { (self.new.room.entries ≡ self.old.room.entries) × (self.new.room.locks ≡ self.old.room.locks) × (self.new.room.undos ≡ self.old.room.undos) }
+    {
+        // No two files have one name, and the paths of all files are kept.
+        let _len = self.catalogue.len();
+        let _kept = self.paths.kept();
+        let path = own_path(self.alloc, &self.catalogue, view.spec())?;
+        attach_own_path(&mut self.paths, &self.members, name, path)?;
+        self.catalogue.add(name, File::over(self.alloc, view));
+        Ok(())
+    }
+
+    /// Adds a member of that name to a physical file, with its path where the file has a key. It has the next number. Out of memory
+    /// changes nothing.
     pub fn add_member(&mut self, args: &FileMember) -> Result<(), AllocError>
         requires new { IsNewMember self.old.state args.now }
         requires room { HasMemberRoom self.old.room }
@@ -93,15 +135,15 @@ impl Contents {
     {
         // No two files have one name.
         let _len = self.catalogue.len();
-        let file = self.catalogue.named(&args.file).unwrap();
+        let described = self.catalogue.physical_named(&args.file).unwrap();
         attach_path(
             self.alloc,
             &mut self.paths,
             &self.members,
             self.next_member,
-            file,
+            described,
         )?;
-        let empty = Member::new(self.alloc, file.format().length());
+        let empty = Member::new(self.alloc, described.format().length());
         self.members.put(self.next_member, empty).unwrap();
         self.catalogue
             .add_member(&args.file, args.member, self.next_member);
@@ -109,23 +151,55 @@ impl Contents {
         Ok(())
     }
 
-    /// Takes out a file whose members no job uses, and its members and paths with it.
-    pub fn remove_file(&mut self, args: &DeleteFile) -> File
+    /// The number of the path of the file of that name, where it is a logical one.
+    pub fn view_path(&self, name: &Name) -> Result<Option<u64>, AllocError>
+        ensures { IfOk result (λ id. IsPathOfView self.now name.now id) }
+    {
+        // The paths of all files are kept.
+        let _kept = self.paths.kept();
+        match self.catalogue.view_named(name) {
+            Some(view) => {
+                let path = own_path(self.alloc, &self.catalogue, view)?;
+                Ok(self.paths.number_of(&path))
+            }
+            None => Ok(None),
+        }
+    }
+
+    /// Takes out a file that no job uses and on which no other depends, and its members and paths with it.
+    pub fn remove_file(&mut self, args: &DeleteFile, path: Option<u64>) -> File
         requires there { IsSome (named args.now.file self.old.state.files) }
-        requires unused { (file : FileState) → named args.now.file self.old.state.files ≡ Some file → user_of_any file.members (memory_of self.old.state) ≡ None }
+        requires alone { first_dependent args.now.file self.old.state.files ≡ None }
+        requires unused { (file : FileState) → named args.now.file self.old.state.files ≡ Some file → user_by file.spec args.now.file file (memory_of self.old.state) ≡ None }
+        requires path { IsPathOfView self.old args.now.file path }
         ensures file { named args.now.file self.old.state.files ≡ Some result }
         ensures memory { memory_of self.new.state ≡ deleted args.now result (memory_of self.old.state) }
         ensures entries { self.new.state.entries ≡ self.old.state.entries }
         ensures others { (self.new.room.entries ≡ self.old.room.entries) × (self.new.room.locks ≡ self.old.room.locks) × (self.new.room.undos ≡ self.old.room.undos) }
     {
-        // No two members have one number.
+        // No two members have one number, and the paths of all files are kept.
         let _len = self.catalogue.len();
+        let _kept = self.paths.kept();
         let file = self.catalogue.remove(&args.file);
         let gone = file.members();
         detach_paths(&mut self.paths, gone);
+        if let Some(id) = path {
+            self.paths.detach(id);
+        }
         let bytes = take_members(&mut self.members, gone);
         self.member_bytes -= bytes;
         file
+    }
+
+    /// The number of the member that a logical file is over.
+    fn base_member(&self, view: &LogicalSpec) -> u32
+        requires simple { IsSimple (LogicalFile view.now) }
+        ensures { base_members (bases_of (memory_of self.now.state)) view.now ≡ result ∷ [] }
+    {
+        match view {
+            LogicalSpec::Simple(view) => self.catalogue.base_of(&view.base).0,
+            _ => unreachable!(),
+        }
     }
 }
 
@@ -158,7 +232,7 @@ fn attach_path(
     paths: &mut PathSet,
     members: &Members,
     number: u32,
-    file: &File,
+    file: &Described,
 ) -> Result<(), AllocError>
     requires { member_at number members.now.members ≡ None }
     ensures attached { OnOk result (AttachesPath (member_path file.now.spec number) members.now.members paths.old paths.new) }
@@ -175,6 +249,41 @@ fn attach_path(
         Err(PathFault::NoMemory) => Err(AllocError),
         // A member that isn't there has no records.
         Err(PathFault::Equal { .. }) => unreachable!(),
+    }
+}
+
+/// Keeps the path of a logical file, unless two records would have one key in it that may not.
+fn attach_own_path(
+    paths: &mut PathSet,
+    members: &Members,
+    file: Name,
+    path: PathSpec,
+) -> Result<(), Stop>
+    requires kept { CanBeKept path members.now.members }
+    requires tells { TellsRepeated path members.now.members }
+    requires shared { AreOver members.now.members paths.old.paths }
+    ensures apart { MayAllow result (refuse_with (DuplicateKey file) (repeated_in path members.now.members)) }
+    ensures attached { OnOk result (IsAttached path members.now.members paths.old paths.new) }
+    ensures refused { OnErr result (HaveSamePaths paths.old paths.new) }
+{
+    match paths.attach(path, members, 0) {
+        Ok(id) => not_repeated(paths, file, id),
+        Err(PathFault::NoMemory) => Err(Stop::NoMemory),
+        Err(PathFault::Equal { rrn }) => Err(Stop::Refused(Reply::DuplicateKey { file, rrn })),
+    }
+}
+
+/// The refusal where the path, which other files may have had already, has equal keys and may have none: it is given up again.
+fn not_repeated(paths: &mut PathSet, file: Name, id: u64) -> Result<(), Stop> {
+    match paths.repeated_among(&[id]) {
+        Some(repeated) => {
+            paths.detach(id);
+            Err(Stop::Refused(Reply::DuplicateKey {
+                file,
+                rrn: repeated.rrn,
+            }))
+        }
+        None => Ok(()),
     }
 }
 
