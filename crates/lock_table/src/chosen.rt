@@ -150,7 +150,12 @@ fn keeps_in(tree: &LockTree, job: u32, member: u32) -> bool
     requires { IsStrictlySortedBy lock_cmp tree.now }
     ensures { result ≡ list_any (λ lock. is_boundary_in member lock && is_by job lock) tree.now }
 {
-    first_in(tree, Part::InMember(job, Reach::Boundary, member), Sought::Any).is_some()
+    first_in(
+        tree,
+        Part::InMember(job, Reach::Boundary, member),
+        Sought::Any,
+    )
+    .is_some()
 }
 
 // The first lock of this job and those after it.
