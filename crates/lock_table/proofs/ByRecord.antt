@@ -105,7 +105,7 @@ lesser-past a None p = refl
 lesser-past a (Some n) p = lesser-swap n a p
 
 -- ---- the least number of a lock, in whatever order the locks are
-least_of : (Lock → ℕ) → List Lock → Option ℕ
+abbrev least_of : (Lock → ℕ) → List Lock → Option ℕ
 least_of f [] = None
 least_of f (x ∷ xs) = lesser (Some (f x)) (least_of f xs)
 
