@@ -1,6 +1,6 @@
 -- The kept paths are those that files have, where a path gets one file more or one fewer, or its entries change.
 use Rattle.std.proofs.Common.{ℕ, suc, ◌+◌, ◌-◌, ◌<◌, ◌≤◌, ◌≡◌, ◌≢◌, ◌==◌, ◌⊎◌, inl, inr, nat_lt, Bool, true}
-use Rattle.std.proofs.Common.{false, cond, not, List, [], ◌∷◌, map, Contains, Option, Some, None, refl, sym, arith, subst, ◌∙◌}
+use Rattle.std.proofs.Common.{false, cond, not, List, [], ◌∷◌, ◌++◌, map, Contains, Option, Some, None, refl, sym, arith, subst, ◌∙◌}
 use Rattle.std.specs.Prelude.{All, Any}
 use Rattle.std.specs.List.{AllByRecursion}
 use Rattle.std.proofs.lemmas.Bool.Decides.{nat_tests}
@@ -13,7 +13,7 @@ use Rattle.path_set.specs.Sharing.{IsShared, IsPut, detached, given_up, one_fewe
 use Rattle.library_paths.specs.AllPaths.{AreKeptFor, count_in}
 use Rattle.library_paths.specs.KeptOnce.{IsKeptOnce, with_entries}
 use Rattle.library_paths.proofs.ListLemmas.{EachTwo, any-apart, any-map, each-filter, each-map, each-of, each-two, two-all, two-filter, two-from, two-map}
-use Rattle.library_paths.proofs.CountLemmas.{contained-count, count-contained, count-each, count-none, count-other, count-own, each-count, none-count}
+use Rattle.library_paths.proofs.CountLemmas.{contained-count, count-append, count-contained, count-each, count-none, count-other, count-own, each-count, none-count}
 use Rattle.library_paths.proofs.NumberLemmas.{IsAnother, IsBelow, another-put, any-at, any-new, any-put, any-with, any-without}
 use Rattle.library_paths.proofs.NumberLemmas.{at-any, below-put, each-at, each-put, each-with, one-number, others-with, others-without, two-with}
 
@@ -243,6 +243,17 @@ counted-alike specs others members kept alike is = record {
       (each-of (IsCounted specs) (IsCounted others) (λ q its. its ∙ alike q.item.spec) kept (recursion_from_All (IsCounted specs) kept is.counted));
 }
 
+-- a file more has the path, which comes last
+pub attached-last : (members : NumberedMembers) (spec : PathSpec) (id : ℕ) (old new : NumberedPaths) → AreShared old → (specs : List PathSpec) → AreKeptFor specs members old
+    → (IsShared spec id old new ⊎ IsPut spec members id old new) → AreKeptFor (specs ++ spec ∷ []) members new
+attached-last members spec id old new shared specs is its =
+    counted-alike (spec ∷ specs) (specs ++ spec ∷ []) members new
+    (λ path. count-append path (spec ∷ []) specs ∙ turned (count_in path (spec ∷ [])) (count_in path specs) ∙ sym (count-append path specs (spec ∷ [])))
+    (attached members spec id old new shared specs is its)
+  where
+    turned : (a b : ℕ) → a + b ≡ b + a
+    turned a b = omega arith
+
 -- ---- which paths are kept
 
 pub kept-contained : (specs : List PathSpec) (members : NumberedMembers) (kept : NumberedPaths) → AreShared kept → AreKeptFor specs members kept
@@ -270,6 +281,10 @@ kept-once specs members kept spec shared is among =
 
 pub none-kept : (members : NumberedMembers) → AreKeptFor [] members []
 none-kept members = of-those [] members [] (record { over = tt; there = tt; counted = tt })
+
+-- members change that give none of them another entry
+pub kept-elsewhere : (specs : List PathSpec) (members others : NumberedMembers) (kept : NumberedPaths) → AreOver others kept → AreKeptFor specs members kept → AreKeptFor specs others kept
+kept-elsewhere specs members others kept over is = record { over = over; there = is.there; counted = is.counted }
 
 module _ (entries : Numbered KeptPath → List Entry) (kept : NumberedPaths) where
   pub kept-with : (specs : List PathSpec) (members others : NumberedMembers) → AreOver others (map (with_entries entries) kept) → AreKeptFor specs members kept

@@ -6,3 +6,4 @@ pub mod NameLemmas
 pub mod BaseLemmas
 pub mod PathsLemmas
 pub mod OverLemmas
+pub mod OwnerLemmas

@@ -23,16 +23,16 @@ use Rattle.library_paths.proofs.NumberLemmas.{IsAnother}
 
 -- ---- what stands in a list
 
-abbrev IsIn : PathSpec → List PathSpec → Type 0
+abbrev pub IsIn : PathSpec → List PathSpec → Type 0
 IsIn spec [] = ⊥
 IsIn spec (other ∷ specs) = (other ≡ spec) ⊎ IsIn spec specs
 
-contained-in : (spec : PathSpec) (specs : List PathSpec) → Contains specs spec → IsIn spec specs
+pub contained-in : (spec : PathSpec) (specs : List PathSpec) → Contains specs spec → IsIn spec specs
 contained-in spec [] found = let lt = found.1 in absurd (omega (arith, lt))
 contained-in spec (other ∷ specs) (zero, lt, at) = inl at
 contained-in spec (other ∷ specs) (suc k, lt, at) = inr (contained-in spec specs (k, omega (arith, lt), at))
 
-in-contained : (spec : PathSpec) (specs : List PathSpec) → IsIn spec specs → Contains specs spec
+pub in-contained : (spec : PathSpec) (specs : List PathSpec) → IsIn spec specs → Contains specs spec
 in-contained spec [] its = absurd its
 in-contained spec (other ∷ specs) (inl same) = (zero, omega arith, same)
 in-contained spec (other ∷ specs) (inr later) = let rest = in-contained spec specs later in let lt = rest.1 in (suc rest.0, omega (arith, lt), rest.2)

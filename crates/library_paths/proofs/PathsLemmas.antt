@@ -83,7 +83,7 @@ sum-left first left rest gone same = omega (arith, same)
 
 -- ---- a member more
 
-abbrev path_over : PhysicalSpec → List ℕ × MemberStatus → PathSpec
+abbrev pub path_over : PhysicalSpec → List ℕ × MemberStatus → PathSpec
 path_over spec entry = physical_path entry.1.number spec.format.fields spec.keys
 
 grown : (path : PathSpec) (spec : PhysicalSpec) (members : Named MemberStatus) (new : List ℕ × MemberStatus)

@@ -1,2 +1,3 @@
 pub mod AllPaths
 pub mod KeptOnce
+pub mod PathOwners
