@@ -25,16 +25,16 @@ use Rattle.path_set.specs.KeptPaths.{KeptPath, KeptPaths, NumberedPaths, AreShar
 use Rattle.path_set.specs.MemberSteps.{is_over}
 use Rattle.path_set.specs.Sharing.{detached}
 use Rattle.library_paths.specs.AllPaths.{AreKeptFor, all_paths, count_in, paths_among, paths_by}
-use Rattle.library_paths.proofs.BaseLemmas.{AllAlike, AreAlike, all-alike-left}
+use Rattle.library_paths.proofs.BaseLemmas.{AreAlike, all-alike-left, stand-left}
 use Rattle.library_paths.proofs.CountLemmas.{contained-count, count-append, count-contained, count-own}
 use Rattle.library_paths.proofs.KeptLemmas.{detached-shared, kept-contained}
 use Rattle.library_paths.proofs.ListLemmas.{each-filter, two-from}
 use Rattle.library_paths.proofs.NameLemmas.{each-named}
 use Rattle.library_paths.proofs.NumberLemmas.{IsBelow, at-any, each-at}
+use Rattle.library_paths.proofs.OwnerLemmas.{each-found, member-path, paths-apart, paths-contain}
 use Rattle.library_paths.proofs.PathsLemmas.{paths-left}
 use Rattle.file_catalogue.specs.Owners.{AreApart, Owns, has_number}
 use Rattle.file_catalogue.proofs.NameLemmas.{named-without_other, same_name-equal, same_name-self, some-equal}
-use Rattle.file_catalogue.proofs.StatusLemmas.{has_number-cons}
 use Rattle.job_table.specs.Opens.{OpenOrder}
 use Rattle.library_model.specs.Named.{Named, named, same_name}
 use Rattle.library_steps.specs.DeleteFile.{first_dependent, user_by, without_file, without_members}
@@ -48,20 +48,15 @@ use Rattle.library_parts.specs.Lawful.{IsBased, IsLibrary, OpenHolds, OpensBy, O
 use Rattle.library_parts.specs.PathChanges.{detached_from, without_path_over, without_paths}
 use Rattle.library_parts.specs.Reads.{IsNumberOf}
 use Rattle.library_parts.proofs.BackLemmas.{neither}
-use Rattle.library_parts.proofs.BaseLemmas.{Keeps-self, base-is, physical-found, physical-member, some-of}
-use Rattle.library_parts.proofs.DeleteLemmas.{IsFree as DependsNot, free-independent}
+use Rattle.library_parts.proofs.BaseLemmas.{Keeps-self}
 use Rattle.library_parts.proofs.IndexPaths.{FileStays, IsOfMember, any-both, changes-each, over-other, over-own, own-same, physical-of}
 use Rattle.library_parts.proofs.IndexShared.{IsNumbered, IsUnchanged, OpenIsAmong, OpensAreAmong, OpensStay, clash, IsIndexed-detached, IsIndexed-files, IsIndexed-members, IsIndexed-same, files-stay, opens-stay}
 use Rattle.library_parts.proofs.IndexStatus.{turned-bases, views-alike}
-use Rattle.library_parts.proofs.IndexFiles.{each-entry, own-of, single-path, unchanged-path}
+use Rattle.library_parts.proofs.IndexFiles.{own-of, single-path, stand-based, unchanged-path}
 use Rattle.library_parts.proofs.IndexGone.{IsFree, bytes-left, changes-free, has-first, has-later, is-free, jobs-free, over-left}
 use Rattle.library_parts.proofs.IndexDetached.{first-found, found_over, none-over}
 
 -- ---- what some paths contain
-
-contained-left : (spec : PathSpec) (xs ys : List PathSpec) → Contains xs spec → Contains (xs ++ ys) spec
-contained-left spec xs ys there =
-    count-contained spec (xs ++ ys) (let some = contained-count spec xs there in let sum = count-append spec xs ys in omega (arith, some, sum))
 
 contained-right : (spec : PathSpec) (xs ys : List PathSpec) → Contains ys spec → Contains (xs ++ ys) spec
 contained-right spec xs ys there =
@@ -78,33 +73,6 @@ some-each P Q each (Some a) is = each a is
 abbrev path_at : PhysicalSpec → ℕ → PathSpec
 path_at spec number = physical_path number spec.format.fields spec.keys
 
-path-contained : (spec : PhysicalSpec) (number : ℕ) (members : Named MemberStatus) → has_number number members ≡ true
-    → Contains (map (λ entry. physical_path entry.1.number spec.format.fields spec.keys) members) (physical_path number spec.format.fields spec.keys)
-path-contained spec number [] has = absurd (let e : false ≡ true = has in cc)
-path-contained spec number (entry ∷ members) has =
-    by (entry.1.number == number) refl (sym (has_number-cons number entry members) ∙ has) (λ rest. path-contained spec number members rest)
-  where
-    others : List PathSpec
-    others = map (λ entry. physical_path entry.1.number spec.format.fields spec.keys) members
-
-    by : (b : Bool) → (entry.1.number == number) ≡ b → (b || has_number number members) ≡ true
-        → (has_number number members ≡ true → Contains (map (λ entry. physical_path entry.1.number spec.format.fields spec.keys) members) (path_at spec number))
-        → Contains (path_at spec entry.1.number ∷ map (λ entry. physical_path entry.1.number spec.format.fields spec.keys) members) (path_at spec number)
-    by true same h more =
-        subst (λ (n : ℕ). Contains (path_at spec entry.1.number ∷ others) (path_at spec n)) (eqb-true entry.1.number number same) (contained-first (path_at spec entry.1.number) others)
-    by false differ h more = contained-right (path_at spec number) (path_at spec entry.1.number ∷ []) others (more h)
-
--- a path of a file that a name finds is one of all paths
-contained-among : (all files : Named FileState) (name : List ℕ) (file : FileState) (spec : PathSpec) → named name files ≡ Some file → Contains (paths_by all file.members file.spec) spec
-    → Contains (paths_among all files) spec
-contained-among all [] name file spec found own = absurd cc
-contained-among all (entry ∷ files) name file spec found own =
-    elim (same_name name entry.0) as (λ b. cond b (Some entry.1) (named name files) ≡ Some file → Contains (paths_by all entry.1.members entry.1.spec ++ paths_among all files) spec) [
-      | true ↦ λ e. contained-left spec (paths_by all entry.1.members entry.1.spec) (paths_among all files)
-          (subst (λ (f : FileState). Contains (paths_by all f.members f.spec) spec) (sym (some-equal e)) own)
-      | false ↦ λ e. contained-right spec (paths_by all entry.1.members entry.1.spec) (paths_among all files) (contained-among all files name file spec e own)
-    ] found
-
 among-more : (front specs : List PathSpec) (files : Named FileState) (jobs : List JobState) → OpensAreAmong specs files jobs → OpensAreAmong (front ++ specs) files jobs
 among-more front specs files jobs among =
     each-weaker (λ (job : JobState). AllByRecursion (OpenIsAmong specs files) job.opens) (λ (job : JobState). AllByRecursion (OpenIsAmong (front ++ specs) files) job.opens)
@@ -112,26 +80,6 @@ among-more front specs files jobs among =
     (λ entry is. some-each (λ (f : FileState). IfSome (path_read (bases_in files) f entry.1) (Contains specs)) (λ (f : FileState). IfSome (path_read (bases_in files) f entry.1) (Contains (front ++ specs)))
     (λ f its. some-each (Contains specs) (Contains (front ++ specs)) (λ spec there. contained-right spec front specs there) (path_read (bases_in files) f entry.1) its)
     (named entry.1.file files) is) job.opens own) jobs among
-
--- what holds of each path of each other file
-paths-left-each : (gone : List ℕ) (all : Named FileState) (P : PathSpec → Type 0) (files : Named FileState)
-    → AllByRecursion (λ (entry : List ℕ × FileState). same_name gone entry.0 ≡ false → AllByRecursion P (paths_by all entry.1.members entry.1.spec)) files
-    → AllByRecursion P (paths_among all (without_file gone files))
-paths-left-each gone all P [] each = tt
-paths-left-each gone all P (entry ∷ files) each =
-    elim (same_name gone entry.0) as (λ b. same_name gone entry.0 ≡ b → AllByRecursion P (paths_among all (cond (not b) (entry ∷ without_file gone files) (without_file gone files)))) [
-      | true ↦ λ same. paths-left-each gone all P files each.1
-      | false ↦ λ differ. each-append P (paths_by all entry.1.members entry.1.spec) (paths_among all (without_file gone files)) (each.0 differ) (paths-left-each gone all P files each.1)
-    ] refl
-
-named-has : (name : List ℕ) (members : Named MemberStatus) (status : MemberStatus) → named name members ≡ Some status → has_number status.number members ≡ true
-named-has name [] status found = absurd cc
-named-has name (entry ∷ members) status found = has_number-cons status.number entry members ∙ by (same_name name entry.0) found (named-has name members status)
-  where
-    by : (b : Bool) → cond b (Some entry.1) (named name members) ≡ Some status → (named name members ≡ Some status → has_number status.number members ≡ true)
-        → ((entry.1.number == status.number) || has_number status.number members) ≡ true
-    by true e more = let own : entry.1.number ≡ status.number = ap (λ (m : MemberStatus). m.number) (some-equal e) in grind (arith, nat_tests)
-    by false e more = let rest = more e in grind (arith, nat_tests)
 
 turned-sum : (a b c : ℕ) → a + b ≡ c → c ≡ b + a
 turned-sum a b c is = omega (arith, is)
@@ -160,47 +108,27 @@ module _ (s : State) (name : List ℕ) (file : FileState) (lawful : IsLibrary s)
         clash (subst (λ (n : List ℕ). same_name name n ≡ true)
         (apart.apart name other file another m (record { there = here; has = subst (λ (k : ℕ). has_number k file.members ≡ true) same has }) owns) (same_name-self name)) differ
 
-    members-apart : (spec : PhysicalSpec) (members : Named MemberStatus) → ((m : ℕ) → has_number m members ≡ true → number ≢ m)
-        → AllByRecursion (λ (p : PathSpec). is_over number p ≡ false) (map (λ entry. physical_path entry.1.number spec.format.fields spec.keys) members)
-    members-apart spec [] none = tt
-    members-apart spec (entry ∷ members) none = (
-      over-other entry.1.number number (path_at spec entry.1.number) (physical-of entry.1.number spec) (none entry.1.number (has-first entry members)),
-      members-apart spec members (λ m h. none m (has-later m entry members h)),
-    )
+    others-lack : (files : Named FileState) → AllByRecursion (λ (entry : List ℕ × FileState). same_name name entry.0 ≡ false → has_number number entry.1.members ≡ false) files
+        → AllByRecursion (λ (entry : List ℕ × FileState). has_number number entry.1.members ≡ false) (without_file name files)
+    others-lack [] each = tt
+    others-lack (entry ∷ files) each =
+        elim (same_name name entry.0) as (λ b. same_name name entry.0 ≡ b
+        → AllByRecursion (λ (e : List ℕ × FileState). has_number number e.1.members ≡ false) (cond (not b) (entry ∷ without_file name files) (without_file name files))) [
+          | true ↦ λ same. others-lack files each.1
+          | false ↦ λ differ. (each.0 differ, others-lack files each.1)
+        ] refl
 
-    base-other : (base : List ℕ) → same_name name base ≡ false → IsSome (physical_among base s.files) → number ≢ (bases_in s.files base).member
-    base-other base differ there =
-        let its = some-of (physical_among base s.files) there in
-        let found = physical-found base s.files its.0 its.1 in
-        let first = some-of (named base its.0.members) (physical-member s.files base its.0.members its.0.spec found.1 (lawful.bases base its.0 found.0)) in
-        let is = base-is s.files base its.0 first.0 its.1 first.1 in
-        λ same. other-number base its.0 first.0.number (record { there = found.0; has = named-has base its.0.members first.0 first.1 }) differ (same ∙ ap (λ (b : Base). b.member) is)
-
-    file-apart : (other : List ℕ) (another : FileState) → named other s.files ≡ Some another → same_name name other ≡ false
-        → AllByRecursion (λ (p : PathSpec). is_over number p ≡ false) (paths_by others another.members another.spec)
-    file-apart other another found differ =
-        by another.spec (view-of other another found) (alike-of other another found) (lawful.bases other another found) (free-independent name s.files alone other another found)
-      where
-        by : (spec : FileSpec) → IsViewBeside s.files spec → AreAlike (bases_in others) (bases_in s.files) spec → IsBased s.files other another.members spec → DependsNot name spec
-            → AllByRecursion (λ (p : PathSpec). is_over number p ≡ false) (paths_by others another.members spec)
-        by (PhysicalFile spec) view same based free =
-            elim (nat_lt 0 (length spec.keys.parts)) as (λ b. AllByRecursion (λ (p : PathSpec). is_over number p ≡ false)
-            (if b then map (λ entry. physical_path entry.1.number spec.format.fields spec.keys) another.members else [])) [
-              | true ↦ members-apart spec another.members (λ m h. other-number other another m (record { there = found; has = h }) differ)
-              | false ↦ tt
-            ]
-        by (LogicalFile (Simple view)) is same based free = (
-          over-other (bases_in others view.base).member number (own_path (bases_in others) (Simple view)) (record { format = view_format (bases_in others) view; formats = refl; member = refl })
-              (λ e. base-other view.base (neither (same_name name view.base) false free).0 based.bases.0 (e ∙ ap (λ (b : Base). b.member) same.0)),
-          tt,
-        )
-        by (LogicalFile (Multi views_its)) is same based free = absurd is.simple
-        by (LogicalFile (Join view)) is same based free = absurd is.simple
+    it-lacks : (other : List ℕ) (another : FileState) → named other s.files ≡ Some another → same_name name other ≡ false → has_number number another.members ≡ false
+    it-lacks other another found differ =
+        elim (has_number number another.members) as (λ b. has_number number another.members ≡ b → b ≡ false) [
+          | true ↦ λ also. absurd (other-number other another number (record { there = found; has = also }) differ refl)
+          | false ↦ λ none. refl
+        ] refl
 
     pub left-apart : AllByRecursion (λ (p : PathSpec). is_over number p ≡ false) (all_paths (without_file name s.files))
     left-apart =
-        paths-left-each name others (λ (p : PathSpec). is_over number p ≡ false) s.files
-        (each-entry (λ (n : List ℕ) (f : FileState). same_name name n ≡ false → AllByRecursion (λ (p : PathSpec). is_over number p ≡ false) (paths_by others f.members f.spec)) s.files distinct file-apart)
+        paths-apart others number (stand-left name s.files alone (stand-based s.files distinct lawful.bases))
+        (others-lack s.files (each-found (λ (n : List ℕ) (f : FileState). same_name name n ≡ false → has_number number f.members ≡ false) s.files distinct it-lacks))
 
   -- ---- opens of the others
 
@@ -222,15 +150,14 @@ module _ (s : State) (name : List ℕ) (file : FileState) (lawful : IsLibrary s)
   -- the path by which one reads is one of those left
   kind-among : (opened : OpenState) (f : FileState) → named opened.file s.files ≡ Some f → (spec : FileSpec) → f.spec ≡ spec → OpensBy s.files opened f.members spec
       → IfSome (path_by (bases_in s.files) (is_file_path opened.access_path && has_key spec) (first_of opened.members) spec) (Contains (paths_by others f.members spec))
-  kind-among opened f found (PhysicalFile spec) is own = by (is_file_path opened.access_path) (nat_lt 0 (length spec.keys.parts))
+  kind-among opened f found (PhysicalFile spec) is own = by (is_file_path opened.access_path) (nat_lt 0 (length spec.keys.parts)) refl
     where
-      by : (a b : Bool) → IfSome (if a && b then Some (physical_path (first_of opened.members) spec.format.fields spec.keys) else None)
-          (Contains (if b then map (λ entry. physical_path entry.1.number spec.format.fields spec.keys) f.members else []))
-      by true true =
-          subst (λ (n : ℕ). Contains (map (λ entry. physical_path entry.1.number spec.format.fields spec.keys) f.members) (path_at spec n)) (sym (ap first_of own.only))
-          (path-contained spec opened.member f.members own.has)
-      by true false = tt
-      by false b = tt
+      by : (a b : Bool) → nat_lt 0 (length spec.keys.parts) ≡ b → IfSome (if a && b then Some (physical_path (first_of opened.members) spec.format.fields spec.keys) else None)
+          (Contains (physical_paths spec f.members))
+      by true true keyed =
+          subst (λ (n : ℕ). Contains (physical_paths spec f.members) (path_at spec n)) (sym (ap first_of own.only)) (member-path spec f.members opened.member keyed own.has)
+      by true false keyed = tt
+      by false b keyed = tt
   kind-among opened f found (LogicalFile spec) is own =
       let alike : AreAlike (bases_in others) (bases_in s.files) (LogicalFile spec) = subst (AreAlike (bases_in others) (bases_in s.files)) is (alike-of opened.file f found) in
       let view : IsViewBeside s.files (LogicalFile spec) = subst (IsViewBeside s.files) is (view-of opened.file f found) in
@@ -245,7 +172,7 @@ module _ (s : State) (name : List ℕ) (file : FileState) (lawful : IsLibrary s)
       by None found h = tt
       by (Some f) found h =
           some-each (Contains (paths_by others f.members f.spec)) (Contains (all_paths others))
-          (λ spec own. contained-among others others entry.1.file f spec (named-without_other name entry.1.file s.files differ ∙ found) own)
+          (λ spec own. paths-contain others entry.1.file f spec (named-without_other name entry.1.file s.files differ ∙ found) own)
           (path_read (bases_in s.files) f entry.1) (kind-among entry.1 f found f.spec refl h)
 
   opens-among : (jobs : List JobState) → OpensApart name jobs → AllByRecursion (OpensHold s.files) jobs → OpensAreAmong (all_paths others) s.files jobs

@@ -28,14 +28,13 @@ use Rattle.path_set.specs.KeptPaths.{KeptPaths, AreShared}
 use Rattle.path_set.specs.MemberSteps.{is_over}
 use Rattle.path_set.proofs.MemberStepLemmas.{over-new}
 use Rattle.file_catalogue.specs.Keyed.{AllAreKeyed}
-use Rattle.file_catalogue.specs.Owners.{Owns, has_number}
-use Rattle.file_catalogue.proofs.NameLemmas.{same_name-equal, same_name-self}
 use Rattle.physical_paths.specs.KeyedFiles.{IsKeyed}
 use Rattle.job_table.specs.Opens.{OpenOrder}
 use Rattle.library_model.specs.Named.{Named, named, same_name}
 use Rattle.library_paths.specs.AllPaths.{AllStand, StandsBy, all_paths, count_in, paths_by}
 use Rattle.library_paths.proofs.BaseLemmas.{all-alike-more, all-alike-wider}
 use Rattle.library_paths.proofs.CountLemmas.{count-append}
+use Rattle.library_paths.proofs.OwnerLemmas.{all-stand}
 use Rattle.library_paths.proofs.PathsLemmas.{paths-more, paths-own, paths-wider}
 use Rattle.library_steps.specs.CreateLogicalFile.{logical_by, logical_described}
 use Rattle.library_steps.specs.CreatePhysicalFile.{new_status}
@@ -55,33 +54,13 @@ use Rattle.library_parts.proofs.IndexStatus.{files-alike, views-alike, views-eac
 
 -- ---- each file stands
 
-named-absent : {A : Type 0} (name : List ℕ) (things : Named A) → AllByRecursion (λ other. same_name name other ≡ false) (keys_of things) → named name things ≡ None
-named-absent name [] all = refl
-named-absent name (entry ∷ things) all = rw all.0 (named-absent name things all.1)
-
--- what holds of what each name finds holds of each, where no two have one name
-pub each-entry : (P : List ℕ → FileState → Type 0) (files : Named FileState) → IsDistinct same_name (keys_of files) → ((name : List ℕ) (file : FileState) → named name files ≡ Some file → P name file)
-    → AllByRecursion (λ (entry : List ℕ × FileState). P entry.0 entry.1) files
-unfolding IsDistinct
-each-entry P [] distinct holds = tt
-each-entry P (entry ∷ files) distinct holds = (
-  holds entry.0 entry.1 (rw (same_name-self entry.0) refl),
-  each-entry P files distinct.1 (λ name file found. holds name file (by name file (same_name name entry.0) refl found)),
-)
-  where
-    by : (name : List ℕ) (file : FileState) (b : Bool) → same_name name entry.0 ≡ b → named name files ≡ Some file → cond b (Some entry.1) (named name files) ≡ Some file
-    by name file true same found =
-        let none : named name files ≡ None = ap (λ (n : List ℕ). named n files) (same_name-equal name entry.0 same) ∙ named-absent entry.0 files distinct.0 in
-        absurd cc
-    by name file false differ found = found
-
 stands-based : (files : Named FileState) (name : List ℕ) (members : Named MemberStatus) (spec : FileSpec) → IsBased files name members spec → StandsBy files name members spec
 stands-based files name members (PhysicalFile spec) based = based
 stands-based files name members (LogicalFile spec) based = based.bases
 
 pub stand-based : (files : Named FileState) → IsDistinct same_name (keys_of files) → AreBased files → AllStand files
 stand-based files distinct based =
-    each-entry (λ (name : List ℕ) (file : FileState). StandsBy files name file.members file.spec) files distinct
+    all-stand files distinct
     (λ name file found. stands-based files name file.members file.spec (based name file found))
 
 -- ---- a member more
