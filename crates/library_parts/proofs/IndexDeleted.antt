@@ -45,7 +45,7 @@ use Rattle.library_steps.specs.State.{State, FileState, MemberStatus, OpenState,
 use Rattle.library_steps.specs.Uses.{has_changed, has_open_of, user_of_any, user_of_logical, uses}
 use Rattle.library_parts.specs.Indexed.{AreViews, AreViewsBeside, IsIndexed, IsIndexedFor, IsSimple, IsViewBeside, path_by, path_read}
 use Rattle.library_parts.specs.Lawful.{IsBased, IsLibrary, OpenHolds, OpensBy, OpensFile, OpensHold, StandsOver}
-use Rattle.library_parts.specs.PathChanges.{detached_from, without_path_over, without_paths}
+use Rattle.library_parts.specs.PathChanges.{IsPathOf, IsPathOfNamed, detached_from, without_path_over, without_paths}
 use Rattle.library_parts.specs.Reads.{IsNumberOf}
 use Rattle.library_parts.proofs.BackLemmas.{neither}
 use Rattle.library_parts.proofs.BaseLemmas.{Keeps-self}
@@ -414,3 +414,22 @@ module _ (s : State) (name : List ℕ) (file : FileState) (lawful : IsLibrary s)
           (IsIndexed-members (all_paths others) s.files s.members s.jobs orders moves (without_members file.members s.members) new
           (over-left file.members s.members new.paths (λ k d low number has. not-over new.paths some left.paths number has k d low) left.paths.over)
           (bytes-left file.members s.members left.bytes) left)
+
+-- a file of either kind, and its path, where it is a logical one
+pub IsIndexed-without_file : (s : State) (name : List ℕ) (file : FileState) → IsLibrary s → IsDistinct same_name (keys_of s.files) → AreApart s.files → named name s.files ≡ Some file
+    → first_dependent name s.files ≡ None → (orders : List (Named OpenOrder)) (moves : List (List (List PathMove))) (path : Option ℕ) (old new : KeptPaths) → AreShared old.paths
+    → IsPathOfNamed s.files old.paths (named name s.files) path → user_by file.spec name file (memory_of s) ≡ None → new.paths ≡ detached_from path (without_paths file.members old.paths)
+    → ((number : ℕ) → IsSome (item_at number new.paths) → spare_of number new ≡ spare_of number old) → IsIndexed s.files s.members s.jobs orders moves old
+    → IsIndexed (without_file name s.files) (without_members file.members s.members) s.jobs orders moves new
+IsIndexed-without_file s name file lawful distinct apart here alone orders moves path old new shared its unused paths spares indexed =
+    by file.spec refl (subst (λ (o : Option FileState). IsPathOfNamed s.files old.paths o path) here its) unused (lawful.bases name file here)
+  where
+    by : (kind : FileSpec) → file.spec ≡ kind → IsPathOf s.files old.paths kind path → user_by kind name file (memory_of s) ≡ None → IsBased s.files name file.members kind
+        → IsIndexed (without_file name s.files) (without_members file.members s.members) s.jobs orders moves new
+    by (PhysicalFile spec) is none free based =
+        IsIndexed-without_physical s name file lawful distinct apart here alone indexed.views orders moves spec is free old new shared
+        (paths ∙ ap (λ (o : Option ℕ). detached_from o (without_paths file.members old.paths)) none) spares indexed
+    by (LogicalFile spec) is own free based =
+        subst (λ (gone : Named MemberStatus). IsIndexed (without_file name s.files) (without_members gone s.members) s.jobs orders moves new) (sym based.none)
+        (IsIndexed-without_view s name file lawful distinct apart here alone indexed.views orders moves spec is free path old new shared own
+        (paths ∙ ap (λ (gone : Named MemberStatus). detached_from path (without_paths gone old.paths)) based.none) spares indexed)

@@ -116,12 +116,12 @@ some-detached id number paths there = by (item_at id paths) there
     by None h = h
     by (Some path) h = cases (nat_lt 1 path.files) path h
 
+pub some-from : (path : Option ℕ) (number : ℕ) (paths : NumberedPaths) → IsSome (item_at number (detached_from path paths)) → IsSome (item_at number paths)
+some-from None number paths there = there
+some-from (Some id) number paths there = some-detached id number paths there
+
 pub some-left : (member number : ℕ) (paths : NumberedPaths) → IsSome (item_at number (without_path_over member paths)) → IsSome (item_at number paths)
-some-left member number paths there = by (first_over member paths) there
-  where
-    by : (o : Option ℕ) → IsSome (item_at number (detached_from o paths)) → IsSome (item_at number paths)
-    by None h = h
-    by (Some id) h = some-detached id number paths h
+some-left member number paths there = some-from (first_over member paths) number paths there
 
 -- ---- the members of a file, one after another
 

@@ -1,9 +1,12 @@
 -- The kept paths are those of a library still, with a file more, physical or logical, or a member.
-use Rattle.std.proofs.Common.{ℕ, ◌+◌, ◌<◌, ◌≤◌, ◌≡◌, ◌≢◌, ◌==◌, nat_lt, if◌then◌else◌, Bool, true, false, cond, List, [], ◌∷◌, ◌++◌, length, Option, Some, None, is_some, IfSome, Ok, Err, Result, refl, sym, ap, arith, ◌∙◌, subst}
+use Rattle.std.proofs.Common.{ℕ, ◌+◌, ◌<◌, ◌≤◌, ◌≡◌, ◌≢◌, ◌==◌, ◌||◌, nat_lt, if◌then◌else◌, Bool, true, false, cond, List, [], ◌∷◌, ◌++◌, length, Option, Some, None, is_some, IfSome, Ok, Err, Result, refl, sym, ap, arith, ◌∙◌, subst}
+use Rattle.std.specs.Prelude.{All}
 use Rattle.std.specs.List.{AllByRecursion, IsDistinct, list_any}
 use Rattle.std.specs.Map.{keys_of}
 use Rattle.std.specs.Option.{option_and_then, option_to_list}
 use Rattle.std.proofs.lemmas.Bool.Decides.{nat_tests}
+use Rattle.std.proofs.lemmas.List.Elements.{recursion_from_All}
+use Rattle.access_path.specs.PathBytes.{IsInBytes}
 use Rattle.member_slots.specs.Member.{MemberState, empty_member}
 use Rattle.member_slots.specs.Members.{Numbered, NumberedMembers, member_at, put_member}
 use Rattle.record_fmt.specs.Layout.{IsLaidOut}
@@ -13,30 +16,39 @@ use Rattle.dds_source.specs.declared.specifications.Source.{Source}
 use Rattle.dds_source.specs.Reading.{source_of}
 use Rattle.dds_logical.specs.declared.views.LogicalSpec.{LogicalSpec}
 use Rattle.dds_logical.specs.declared.views.LogicalSpec.TheVariants.{Simple, Multi, Join}
-use Rattle.logical_model.specs.Bases.{Bases, FileSpec, PhysicalFile, LogicalFile, base_members, base_names}
+use Rattle.logical_model.specs.Bases.{Base, Bases, FileSpec, PhysicalFile, LogicalFile, base_members, base_names}
 use Rattle.logical_model.specs.FilePaths.{logical_paths, view_format}
 use Rattle.logical_laws.proofs.ListLemmas.{each-append, each-weaker}
 use Rattle.logical_laws.proofs.MappedLemmas.{described-mapped, described-there}
-use Rattle.logical_paths.specs.KeyedViews.{AreLaidOut, HaveFewPairs}
+use Rattle.logical_paths.specs.KeyedViews.{AreLaidOut, HaveFewPairs, HaveRecords}
 use Rattle.logical_paths.specs.Steps.{own_path}
 use Rattle.logical_paths.proofs.DescribedLemmas.{described-keyed}
+use Rattle.logical_paths.proofs.ViewLemmas.{paths-bytes, paths-kept}
 use Rattle.journal_model.specs.Rollback.{MemberChange}
+use Rattle.file_model.specs.declared.paths.PathFormat.{PathFormat}
 use Rattle.file_model.specs.declared.paths.PathSpec.{PathSpec}
 use Rattle.file_model.specs.FilePaths.{physical_path}
+use Rattle.file_model.specs.Paths.{repeated_in}
+use Rattle.path_entrants.specs.Repeated.{TellsRepeated}
 use Rattle.path_set.specs.declared.moves.PathMove.{PathMove}
 use Rattle.path_set.specs.KeptPaths.{KeptPaths, AreShared}
 use Rattle.path_set.specs.MemberSteps.{is_over}
+use Rattle.path_set.specs.Sharing.{CanBeKept}
 use Rattle.path_set.proofs.MemberStepLemmas.{over-new}
 use Rattle.file_catalogue.specs.Keyed.{AllAreKeyed}
-use Rattle.physical_paths.specs.KeyedFiles.{IsKeyed}
+use Rattle.file_catalogue.specs.Owners.{Owns, has_number}
+use Rattle.file_catalogue.specs.Physical.{IsPhysical}
+use Rattle.file_catalogue.proofs.NameLemmas.{some-equal}
+use Rattle.file_catalogue.proofs.StatusLemmas.{has_number-cons}
+use Rattle.physical_paths.specs.KeyedFiles.{HasRecordsOf}
 use Rattle.job_table.specs.Opens.{OpenOrder}
 use Rattle.library_model.specs.Named.{Named, named, same_name}
 use Rattle.library_paths.specs.AllPaths.{AllStand, StandsBy, all_paths, count_in, paths_by}
-use Rattle.library_paths.proofs.BaseLemmas.{all-alike-more, all-alike-wider}
+use Rattle.library_paths.proofs.BaseLemmas.{all-alike-more, all-alike-wider, alike-more}
 use Rattle.library_paths.proofs.CountLemmas.{count-append}
 use Rattle.library_paths.proofs.OwnerLemmas.{all-stand}
 use Rattle.library_paths.proofs.PathsLemmas.{paths-more, paths-own, paths-wider}
-use Rattle.library_steps.specs.CreateLogicalFile.{logical_by, logical_described}
+use Rattle.library_steps.specs.CreateLogicalFile.{NewLogical, first_repeated, logical_by, logical_described, logical_file}
 use Rattle.library_steps.specs.CreatePhysicalFile.{new_status}
 use Rattle.library_steps.specs.LogicalFiles.{base_in, bases_in, bases_of, physical_paths}
 use Rattle.library_steps.specs.MemberCommands.{file_changed, with_member_name}
@@ -45,12 +57,12 @@ use Rattle.library_steps.specs.Uses.{changer_of_any, changes_in, has_changed}
 use Rattle.library_parts.specs.Indexed.{AreOfBytes, AreViewsBeside, IsIndexed, IsIndexedFor, IsSimple, IsView, IsViewBeside}
 use Rattle.library_parts.specs.Lawful.{AreBased, GoesBack, IsBased, IsLibrary, StandsOver}
 use Rattle.library_parts.specs.PathChanges.{AttachesPath, IsAttached, member_path}
-use Rattle.library_parts.proofs.BaseLemmas.{kept-more, kept-wider, physical-described, some-of}
+use Rattle.library_parts.proofs.BaseLemmas.{base-is, kept-more, kept-wider, physical-described, physical-found, physical-here, physical-member, some-of}
 use Rattle.library_parts.proofs.BackLemmas.{neither}
-use Rattle.library_parts.proofs.MemberLemmas.{IsThere-is_some}
 use Rattle.library_parts.proofs.IndexPaths.{IsOfMember, OfChanges, changes-all, over-other, physical-of}
 use Rattle.library_parts.proofs.IndexShared.{IsUnchanged, IsIndexed-attached, IsIndexed-files, IsIndexed-members, opens-stay}
-use Rattle.library_parts.proofs.IndexStatus.{files-alike, views-alike, views-each}
+use Rattle.library_parts.proofs.IndexStatus.{beside-alike, files-alike, views-alike}
+use Rattle.library_parts.proofs.IndexGone.{jobs-free}
 
 -- ---- each file stands
 
@@ -301,3 +313,105 @@ pub unchanged-path : (spec : PathSpec) (number : ℕ) (jobs : List JobState) →
 unchanged-path spec number [] its none = tt
 unchanged-path spec number (job ∷ jobs) its none =
     (unchanged-by spec number its (changes_in job.cycle) (none-changed number (changes_in job.cycle) none.0), unchanged-path spec number jobs its none.1)
+
+-- ---- a logical file more
+
+module _ (s : State) (orders : List (Named OpenOrder)) (moves : List (List (List PathMove))) (lawful : IsLibrary s) (distinct : IsDistinct same_name (keys_of s.files)) (name : List ℕ)
+    (plan : NewLogical) (its : IsDescribedOver (memory_of s) plan.spec) (unchanged : changer_of_any (base_members (bases_in s.files) plan.spec) (memory_of s) ≡ None) where
+  abbrev with_view : Named FileState
+  with_view = s.files ++ (name, logical_file plan) ∷ []
+
+  abbrev own : PathSpec
+  own = own_path (bases_in s.files) plan.spec
+
+  own-unchanged : IsUnchanged (own_path (bases_in s.files) plan.spec) s.jobs
+  own-unchanged =
+      let base = own-of (bases_in s.files) plan.spec its.view.simple in
+      unchanged-path own base.0 s.jobs base.2
+      (jobs-free (λ (job : JobState). has_changed base.0 job ≡ false) (λ number job. list_any (λ member. has_changed member job) (base_members (bases_in s.files) plan.spec))
+      (λ number job none. (neither (has_changed base.0 job) false (ap (list_any (λ member. has_changed member job)) (sym base.1) ∙ none)).0) 1 s.jobs unchanged)
+
+  own-view : IsView (bases_in with_view) plan.spec
+  own-view = beside-alike s.files with_view (LogicalFile plan.spec) (alike-more s.files (name, logical_file plan) name [] (LogicalFile plan.spec) its.over.bases) its.view
+
+  own-grown : (path : PathSpec) → count_in path (own_path (bases_in s.files) plan.spec ∷ all_paths s.files) ≡ count_in path (all_paths (s.files ++ (name, logical_file plan) ∷ []))
+  own-grown path =
+      count-append path (own ∷ []) (all_paths s.files)
+      ∙ turned (count_in path (own ∷ [])) (count_in path (all_paths s.files)) (count_in path (all_paths with_view))
+      (ap (count_in path) (paths-more s.files name (logical_file plan) (stand-based s.files distinct lawful.bases)
+      ∙ ap (λ (ps : List PathSpec). all_paths s.files ++ ps) (paths-own s.files name (logical_file plan) its.over.bases ∙ single-path (bases_in s.files) plan.spec its.view.simple))
+      ∙ count-append path (all_paths s.files) (own ∷ []))
+
+  pub IsIndexed-with_view : (old new : KeptPaths) → AreShared old.paths → IsAttached (own_path (bases_in s.files) plan.spec) s.members old new → IsIndexed s.files s.members s.jobs orders moves old
+      → IsIndexed (s.files ++ (name, logical_file plan) ∷ []) s.members s.jobs orders moves new
+  IsIndexed-with_view old new shared is indexed =
+      with-file s orders moves lawful distinct name (logical_file plan) (own ∷ all_paths s.files) s.members new own-view own-grown
+      (IsIndexed-attached (all_paths s.files) s.files s.members s.jobs orders moves own own-unchanged old new shared is indexed)
+
+-- ---- whether its path can be kept
+
+named-has : (name : List ℕ) (members : Named MemberStatus) (status : MemberStatus) → named name members ≡ Some status → has_number status.number members ≡ true
+named-has name [] status found = absurd cc
+named-has name (entry ∷ members) status found = has_number-cons status.number entry members ∙ by (same_name name entry.0) found (named-has name members status)
+  where
+    by : (b : Bool) → cond b (Some entry.1) (named name members) ≡ Some status → (named name members ≡ Some status → has_number status.number members ≡ true)
+        → ((entry.1.number == status.number) || has_number status.number members) ≡ true
+    by true e more = let own : entry.1.number ≡ status.number = ap (λ (m : MemberStatus). m.number) (some-equal e) in grind (arith, nat_tests)
+    by false e more = let rest = more e in grind (arith, nat_tests)
+
+module _ (s : State) (lawful : IsLibrary s)
+    (records : (name : List ℕ) (file : FileState) (number : ℕ) → Owns s.files name file number → HasRecordsOf (fields_of file) number s.members) where
+  -- the member of a base has records of its fields
+  base-records : (base : List ℕ) → is_some (physical_among base s.files) ≡ true → HasRecordsOf (bases_in s.files base).fields (bases_in s.files base).member s.members
+  base-records base there =
+      let its = some-of (physical_among base s.files) there in
+      let found = physical-found base s.files its.0 its.1 in
+      let first = some-of (named base its.0.members) (physical-member s.files base its.0.members its.0.spec found.1 (lawful.bases base its.0 found.0)) in
+      subst (λ (b : Base). HasRecordsOf b.fields b.member s.members) (sym (base-is s.files base its.0 first.0 its.1 first.1))
+      (records base its.0 first.0.number (record { there = found.0; has = named-has base its.0.members first.0 first.1 }))
+
+  have-records : (spec : LogicalSpec) → StandsOver s.files [] spec → HaveRecords (bases_in s.files) spec s.members
+  have-records spec over =
+      each-weaker (λ (base : List ℕ). is_some (physical_among base s.files) ≡ true)
+      (λ (base : List ℕ). HasRecordsOf (bases_in s.files base).fields (bases_in s.files base).member s.members) base-records (base_names spec) over.bases
+
+  pub view-can : (spec : LogicalSpec) → IsDescribedOver (memory_of s) spec → CanBeKept (own_path (bases_in s.files) spec) s.members
+  view-can spec its =
+      (recursion_from_All (λ (p : PathSpec). CanBeKept p s.members) (own_path (bases_in s.files) spec ∷ [])
+      (subst (λ (ps : List PathSpec). All (λ (p : PathSpec). CanBeKept p s.members) ps) (single-path (bases_in s.files) spec its.view.simple)
+      (paths-kept (bases_in s.files) spec s.members its.view.keyed (have-records spec its.over)))).0
+
+  pub view-tells : (spec : LogicalSpec) → IsDescribedOver (memory_of s) spec → TellsRepeated (own_path (bases_in s.files) spec) s.members
+  view-tells spec its = record {
+    bytes = (recursion_from_All (λ (p : PathSpec). IsInBytes p s.members) (own_path (bases_in s.files) spec ∷ [])
+        (subst (λ (ps : List PathSpec). All (λ (p : PathSpec). IsInBytes p s.members) ps) (single-path (bases_in s.files) spec its.view.simple)
+        (paths-bytes (bases_in s.files) spec s.members its.view.keyed (have-records spec its.over)))).0;
+    one = λ unique. (let own = (own-of (bases_in s.files) spec its.view.simple).2 in let one : length (own_path (bases_in s.files) spec).formats ≡ 1 = ap (λ (fs : List PathFormat). length fs) own.formats in
+        omega (arith, one));
+  }
+
+-- what is refused of equal keys in its path
+pub view-repeated : (m : Memory) (spec : LogicalSpec) → IsSimple (LogicalFile spec) → first_repeated (logical_paths (bases_of m) spec) m ≡ repeated_in (own_path (bases_of m) spec) m.members
+view-repeated m spec simple = ap (λ (ps : List PathSpec). first_repeated ps m) (single-path (bases_of m) spec simple)
+
+-- ---- physical files
+
+pub physical-is : (file : FileSpec) (spec : PhysicalSpec) → physical_in file ≡ Some spec → file ≡ PhysicalFile spec
+physical-is (PhysicalFile its) spec e = ap (λ (p : PhysicalSpec). PhysicalFile p) (some-equal e)
+physical-is (LogicalFile its) spec e = absurd cc
+
+pub physical-some : (file : FileSpec) → IsPhysical file → is_some (physical_in file) ≡ true
+physical-some (PhysicalFile spec) is = refl
+physical-some (LogicalFile spec) is = absurd is
+
+-- the physical file of a name, by what it is
+pub physical-by : (name : List ℕ) (files : Named FileState) (spec : PhysicalSpec) → option_and_then (λ (file : FileState). physical_in file.spec) (named name files) ≡ Some spec
+    → (file : FileState) × (physical_among name files ≡ Some file) × (file.spec ≡ PhysicalFile spec)
+physical-by name files spec e = by (named name files) refl e
+  where
+    by : (o : Option FileState) → named name files ≡ o → option_and_then (λ (file : FileState). physical_in file.spec) o ≡ Some spec
+        → (file : FileState) × (physical_among name files ≡ Some file) × (file.spec ≡ PhysicalFile spec)
+    by None found h = absurd cc
+    by (Some file) found h =
+        let is = physical-is file.spec spec h in
+        (file, physical-here name files file found (subst IsPhysical (sym is) tt), is)

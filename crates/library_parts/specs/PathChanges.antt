@@ -59,14 +59,14 @@ without_paths [] paths = paths
 without_paths (entry ∷ gone) paths = without_paths gone (without_path_over entry.1.number paths)
 
 -- the number of a logical file's path; none of another file
-abbrev pub IsPathOf : LibraryParts → FileSpec → Option ℕ → Type 0
-IsPathOf parts (PhysicalFile spec) id = id ≡ None
-IsPathOf parts (LogicalFile spec) id = IsNumberOf (own_path (bases_in parts.state.files) spec) id parts.room.paths.paths
+abbrev pub IsPathOf : Named FileState → NumberedPaths → FileSpec → Option ℕ → Type 0
+IsPathOf files paths (PhysicalFile spec) id = id ≡ None
+IsPathOf files paths (LogicalFile spec) id = IsNumberOf (own_path (bases_in files) spec) id paths
 
-abbrev pub IsPathOfNamed : LibraryParts → Option FileState → Option ℕ → Type 0
-IsPathOfNamed parts None id = id ≡ None
-IsPathOfNamed parts (Some file) id = IsPathOf parts file.spec id
+abbrev pub IsPathOfNamed : Named FileState → NumberedPaths → Option FileState → Option ℕ → Type 0
+IsPathOfNamed files paths None id = id ≡ None
+IsPathOfNamed files paths (Some file) id = IsPathOf files paths file.spec id
 
 -- of the file of this name
 abbrev pub IsPathOfView : LibraryParts → (name : List ℕ) → Option ℕ → Type 0
-IsPathOfView parts name id = IsPathOfNamed parts (named name parts.state.files) id
+IsPathOfView parts name id = IsPathOfNamed parts.state.files parts.room.paths.paths (named name parts.state.files) id

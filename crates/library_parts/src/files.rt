@@ -163,7 +163,7 @@ impl Contents {
 
     /// The number of the path of a file, where it is a logical one.
     fn path_of_view(&self, file: &File) -> Result<Option<u64>, AllocError>
-        ensures { IfOk result (λ id. IsPathOf self.now file.now.spec id) }
+        ensures { IfOk result (λ id. IsPathOf self.now.state.files self.now.room.paths.paths file.now.spec id) }
     {
         match file.logical() {
             Some(view) => {
