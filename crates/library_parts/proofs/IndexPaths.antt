@@ -40,7 +40,7 @@ use Rattle.library_steps.specs.Records.{is_file_path}
 use Rattle.library_steps.specs.LogicalFiles.{bases_in}
 use Rattle.library_steps.specs.State.{FileState, MemberStatus, OpenState, CycleState, JobState, job_changed}
 use Rattle.library_steps.specs.Uses.{changes_in}
-use Rattle.library_parts.specs.Indexed.{AreViews, AreViewsBeside, IsViewBeside, AreSameBasesBy, IsIndexedFor, OpensRead, ReadsBy, ReadsFile, ReadsIn, changes_on, moves_back, moves_of_job, path_by, record_change}
+use Rattle.library_parts.specs.Indexed.{AreViews, AreViewsBeside, IsViewBeside, AreSameBasesBy, IsIndexedFor, IsReadSo, OpensRead, ReadsBy, ReadsFile, ReadsIn, changes_on, moves_back, moves_of_job, path_by, record_change}
 use Rattle.library_parts.specs.Lawful.{GoesBack, CycleGoesBack, AllGoBack}
 use Rattle.library_parts.proofs.BaseLemmas.{IsKept}
 
@@ -218,10 +218,12 @@ read-stays files others old new stay entry order kept reads = by (named entry.1.
     by (Some file) is h =
         let its = kept file is in
         subst (ReadsFile (bases_in others) new entry.1 order.1) (sym its.kept.there)
-        (subst (λ (s : FileSpec). ReadsBy new (path_of (bases_in others) s entry.1) order.1) (sym its.kept.keeps.spec)
-        (subst (λ (p : Option PathSpec). ReadsBy new p order.1)
-        (path_by-same (bases_in files) (bases_in others) (is_file_path entry.1.access_path && has_key file.spec) (first_of entry.1.members) file.spec its.bases)
-        (reads-by old new (path_of (bases_in files) file.spec entry.1) order.1 stay h)))
+        (subst (λ (s : FileSpec). ReadsBy new (path_of (bases_in others) s entry.1) order.1 × IsReadSo (is_file_path entry.1.access_path) s) (sym its.kept.keeps.spec) (
+          subst (λ (p : Option PathSpec). ReadsBy new p order.1)
+              (path_by-same (bases_in files) (bases_in others) (is_file_path entry.1.access_path && has_key file.spec) (first_of entry.1.members) file.spec its.bases)
+              (reads-by old new (path_of (bases_in files) file.spec entry.1) order.1 stay h.0),
+          h.1,
+        ))
 
 pub reads-in : (files others : Named FileState) (old new : NumberedPaths) → FilesStay files others → PathsStay old new → (entry : List ℕ × OpenState) (order : List ℕ × OpenOrder)
     → ReadsIn files old entry order → ReadsIn others new entry order

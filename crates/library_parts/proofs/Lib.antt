@@ -25,6 +25,7 @@ pub mod IndexDetached
 pub mod IndexMoves
 pub mod IndexRebuilt
 pub mod IndexLooks
+pub mod OpenLooks
 pub mod IndexLaws
 pub mod IndexKeyed
 pub mod IndexNew
