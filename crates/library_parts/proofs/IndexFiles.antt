@@ -1,10 +1,12 @@
 -- The kept paths are those of a library still, with a file more, physical or logical, or a member.
-use Rattle.std.proofs.Common.{ℕ, ◌+◌, ◌<◌, ◌≤◌, ◌≡◌, ◌≢◌, ◌==◌, ◌||◌, nat_lt, if◌then◌else◌, Bool, true, false, cond, List, [], ◌∷◌, ◌++◌, length, Option, Some, None, is_some, IfSome, Ok, Err, Result, refl, sym, ap, arith, ◌∙◌, subst}
-use Rattle.std.specs.Prelude.{All}
+use Rattle.std.proofs.Common.{ℕ, ◌+◌, ◌-◌, ◌<◌, ◌≤◌, ◌≡◌, ◌≢◌, ◌==◌, ◌||◌, nat_lt, if◌then◌else◌, Bool, true, false, cond, List, [], ◌∷◌, ◌++◌, length, map, length-append, Option, Some, None, is_some, IfSome, Ok, Err, Result, refl, sym, ap, arith, ◌∙◌, subst}
+use Rattle.std.specs.Prelude.{All, replicate}
 use Rattle.std.specs.List.{AllByRecursion, IsDistinct, list_any}
 use Rattle.std.specs.Map.{keys_of}
 use Rattle.std.specs.Option.{option_and_then, option_to_list}
+use Rattle.std.proofs.lemmas.Bool.{cond-true}
 use Rattle.std.proofs.lemmas.Bool.Decides.{nat_tests}
+use Rattle.std.proofs.lemmas.List.{length-replicate}
 use Rattle.std.proofs.lemmas.List.Elements.{recursion_from_All}
 use Rattle.access_path.specs.PathBytes.{IsInBytes}
 use Rattle.member_slots.specs.Member.{MemberState, empty_member}
@@ -14,6 +16,15 @@ use Rattle.dds_physical.specs.declared.physical_files.PhysicalSpec.{PhysicalSpec
 use Rattle.dds_source.specs.declared.faults.DdsFault.{DdsFault}
 use Rattle.dds_source.specs.declared.specifications.Source.{Source}
 use Rattle.dds_source.specs.Reading.{source_of}
+use Rattle.dds_source.specs.declared.keywords.Keyword.{Keyword}
+use Rattle.dds_source.specs.Faults.{first_after}
+use Rattle.dds_physical.specs.Physical.{ties_of}
+use Rattle.key_spec.specs.declared.KeyPart.{KeyPart}
+use Rattle.key_spec.specs.declared.KeyPart.TheVariants.{Absent}
+use Rattle.key_spec.specs.declared.Ties.TheVariants.{Rising}
+use Rattle.dds_logical.specs.FormatLines.{FormatLines, formats_in, is_join_file, is_multi_format}
+use Rattle.dds_logical.specs.Keys.{padded}
+use Rattle.dds_logical.specs.Logical.{described_by, faults_over, format_parts, join_described_by, logical_faults, logical_of, logical_specification, most_parts, one_or_several, view_described}
 use Rattle.dds_logical.specs.declared.views.LogicalSpec.{LogicalSpec}
 use Rattle.dds_logical.specs.declared.views.LogicalSpec.TheVariants.{Simple, Multi, Join}
 use Rattle.logical_model.specs.Bases.{Base, Bases, FileSpec, PhysicalFile, LogicalFile, base_members, base_names}
@@ -22,7 +33,7 @@ use Rattle.logical_laws.proofs.ListLemmas.{each-append, each-weaker}
 use Rattle.logical_laws.proofs.MappedLemmas.{described-mapped, described-there}
 use Rattle.logical_paths.specs.KeyedViews.{AreLaidOut, HaveFewPairs, HaveRecords}
 use Rattle.logical_paths.specs.Steps.{own_path}
-use Rattle.logical_paths.proofs.DescribedLemmas.{described-keyed}
+use Rattle.logical_paths.proofs.DescribedLemmas.{described-keyed, found-right}
 use Rattle.logical_paths.proofs.ViewLemmas.{paths-bytes, paths-kept}
 use Rattle.journal_model.specs.Rollback.{MemberChange}
 use Rattle.file_model.specs.declared.paths.PathFormat.{PathFormat}
@@ -54,7 +65,7 @@ use Rattle.library_steps.specs.LogicalFiles.{base_in, bases_in, bases_of, physic
 use Rattle.library_steps.specs.MemberCommands.{file_changed, with_member_name}
 use Rattle.library_steps.specs.State.{State, Memory, FileState, MemberStatus, JobState, fields_of, format_in, if_physical, memory_of, physical_among, physical_in, physical_spec}
 use Rattle.library_steps.specs.Uses.{changer_of_any, changes_in, has_changed}
-use Rattle.library_parts.specs.Indexed.{AreOfBytes, AreViewsBeside, IsIndexed, IsIndexedFor, IsSimple, IsView, IsViewBeside}
+use Rattle.library_parts.specs.Indexed.{AreOfBytes, AreViewsBeside, IsIndexed, IsIndexedFor, IsSimple, IsView, IsViewBeside, RisesIfKeyless}
 use Rattle.library_parts.specs.Lawful.{AreBased, GoesBack, IsBased, IsLibrary, StandsOver}
 use Rattle.library_parts.specs.PathChanges.{AttachesPath, IsAttached, member_path}
 use Rattle.library_parts.proofs.BaseLemmas.{base-is, kept-more, kept-wider, physical-described, physical-found, physical-here, physical-member, some-of}
@@ -269,6 +280,39 @@ fields-there name (Some file) spec h = by file.spec refl h
     by (PhysicalFile other) is e = let same : other ≡ spec = cc in ap (λ (sp : FileSpec). (format_in sp).fields) is ∙ ap (λ (p : PhysicalSpec). p.format.fields) same
     by (LogicalFile other) is e = absurd cc
 
+-- ---- a file of one format without a key stands by rising numbers
+
+no-positions : (count : ℕ) (ps : List KeyPart) → padded count ps ≡ [] → count ≡ 0
+no-positions count ps none =
+    let both : length (padded count ps) ≡ length ps + length (replicate (count - length ps) Absent) = length-append ps (replicate (count - length ps) Absent) in
+    let rest : length (replicate (count - length ps) Absent) ≡ count - length ps = length-replicate (count - length ps) Absent in
+    let zero : length (padded count ps) ≡ 0 = ap (λ (xs : List KeyPart). length xs) none in
+    omega (arith, both, rest, zero)
+
+rises-several : (described : List ℕ → Option PhysicalSpec) (ks : List Keyword) (fs : List FormatLines)
+    → RisesIfKeyless (one_or_several (map (view_described described ks (is_multi_format fs) (most_parts fs)) fs))
+rises-several described ks [] = tt
+rises-several described ks (f ∷ []) = λ none.
+    let zero : most_parts (f ∷ []) ≡ 0 = no-positions (most_parts (f ∷ [])) (format_parts described f) none in
+    cond-true (most_parts (f ∷ []) == 0) Rising (ties_of ks) (let e : (most_parts (f ∷ []) == 0) ≡ true = grind (arith, nat_tests) in e)
+rises-several described ks (f ∷ g ∷ fs) = tt
+
+rises-join : (described : List ℕ → Option PhysicalSpec) (ks : List Keyword) (fs : List FormatLines) → RisesIfKeyless (join_described_by described ks fs)
+rises-join described ks [] = tt
+rises-join described ks (f ∷ fs) = tt
+
+described-rises : (described : List ℕ → Option PhysicalSpec) (source : Source) (spec : LogicalSpec) → logical_of described source ≡ Ok spec → RisesIfKeyless spec
+unfolding logical_of logical_specification logical_faults
+described-rises described source spec h =
+    let fs : List FormatLines = formats_in source.specifications in
+    let right = found-right spec (described_by described source fs) (first_after None (faults_over described source (is_join_file fs) fs)) h in
+    subst RisesIfKeyless right.1
+    (elim (is_join_file fs) as (λ b. RisesIfKeyless (if b then join_described_by described source.file fs
+    else one_or_several (map (view_described described source.file (is_multi_format fs) (most_parts fs)) fs))) [
+      | true ↦ rises-join described source.file fs
+      | false ↦ rises-several described source.file fs
+    ])
+
 physical-there : (m : Memory) (name : List ℕ) → is_some (physical_spec name m) ≡ true → is_some (physical_among name m.files) ≡ true
 physical-there m name some = let it = some-of (physical_spec name m) some in physical-described name m it.0 it.1
 
@@ -291,6 +335,7 @@ described-by m (Ok source) spec keyed simple h =
         simple = simple;
         keyed = described-keyed described (bases_of m) source spec (λ name its e. fields-there name (named name m.files) its e) h (laid-bases m.files keyed (base_names spec)) (few-pairs spec simple);
         mapped = described-mapped described (bases_of m) source spec (λ name its e. fields-there name (named name m.files) its e) h;
+        rises = described-rises described source spec h;
       };
     }
 

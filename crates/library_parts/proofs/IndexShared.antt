@@ -203,7 +203,7 @@ open-among specs files old new stay entry order among reads = by (named entry.1.
     by : (o : Option FileState) → IfSome o (λ file. IfSome (path_read (bases_in files) file entry.1) (Contains specs)) → ReadsFile (bases_in files) old entry.1 order.1 o
         → ReadsFile (bases_in files) new entry.1 order.1 o
     by None own h = absurd h
-    by (Some file) own h = reads-among specs old new (path_read (bases_in files) file entry.1) order.1 stay own h
+    by (Some file) own h = (reads-among specs old new (path_read (bases_in files) file entry.1) order.1 stay own h.0, h.1)
 
 orders-among : (specs : List PathSpec) (files : Named FileState) (old new : NumberedPaths) → StayAmong specs old new → (jobs : List JobState) (orders : List (Named OpenOrder))
     → OpensAreAmong specs files jobs → AllZip (OpensRead files old) jobs orders → AllZip (OpensRead files new) jobs orders

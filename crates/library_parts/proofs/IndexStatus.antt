@@ -51,6 +51,7 @@ view-alike bases other (Simple view) same is = record {
   simple = tt;
   keyed = subst (λ (b : Base). IsKeyedView b.fields view) same.0 is.keyed;
   mapped = same-mapped bases other (Simple view) same is.mapped;
+  rises = is.rises;
 }
 view-alike bases other (Multi views) same is = absurd is.simple
 view-alike bases other (Join view) same is = absurd is.simple
