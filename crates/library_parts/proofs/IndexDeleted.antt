@@ -1,7 +1,7 @@
 -- The kept paths are those of a library still, with a file less that no job uses and on which no other depends.
 use Rattle.std.proofs.Common.{ℕ, ◌+◌, ◌≤◌, ◌≡◌, ◌≢◌, inl, inr, ◌==◌, ◌&&◌, ◌||◌, nat_lt, if◌then◌else◌, Bool, true, false, cond, not, List, [], ◌∷◌, ◌++◌, length, map, get_or, Contains, Option, Some, None}
 use Rattle.std.proofs.Common.{IsSome, IfSome, refl, sym, ap, arith, ◌∙◌, subst}
-use Rattle.std.specs.Prelude.{All, Any}
+use Rattle.std.specs.Prelude.{All, Any, MatchOption}
 use Rattle.std.specs.List.{AllByRecursion, IsDistinct, list_any}
 use Rattle.std.specs.Map.{keys_of}
 use Rattle.std.specs.Option.{option_map}
@@ -23,16 +23,17 @@ use Rattle.journal_model.specs.Rollback.{MemberChange}
 use Rattle.path_set.specs.declared.moves.PathMove.{PathMove}
 use Rattle.path_set.specs.KeptPaths.{KeptPath, KeptPaths, NumberedPaths, AreShared, spare_of}
 use Rattle.path_set.specs.MemberSteps.{is_over}
-use Rattle.path_set.specs.Sharing.{detached}
+use Rattle.path_set.specs.Sharing.{IsNew, detached}
 use Rattle.library_paths.specs.AllPaths.{AreKeptFor, all_paths, count_in, paths_among, paths_by}
 use Rattle.library_paths.proofs.BaseLemmas.{AreAlike, all-alike-left, stand-left}
 use Rattle.library_paths.proofs.CountLemmas.{contained-count, count-append, count-contained, count-own}
 use Rattle.library_paths.proofs.KeptLemmas.{detached-shared, kept-contained}
 use Rattle.library_paths.proofs.ListLemmas.{each-filter, two-from}
 use Rattle.library_paths.proofs.NameLemmas.{each-named}
-use Rattle.library_paths.proofs.NumberLemmas.{IsBelow, at-any, each-at}
+use Rattle.library_paths.proofs.NumberLemmas.{IsBelow, any-at, at-any, each-at}
 use Rattle.library_paths.proofs.OwnerLemmas.{each-found, member-path, paths-apart, paths-contain}
 use Rattle.library_paths.proofs.PathsLemmas.{paths-left}
+use Rattle.file_catalogue.specs.Bodies.{logical_in}
 use Rattle.file_catalogue.specs.Owners.{AreApart, Owns, has_number}
 use Rattle.file_catalogue.proofs.NameLemmas.{named-without_other, same_name-equal, same_name-self, some-equal}
 use Rattle.job_table.specs.Opens.{OpenOrder}
@@ -433,3 +434,16 @@ IsIndexed-without_file s name file lawful distinct apart here alone orders moves
         subst (λ (gone : Named MemberStatus). IsIndexed (without_file name s.files) (without_members gone s.members) s.jobs orders moves new) (sym based.none)
         (IsIndexed-without_view s name file lawful distinct apart here alone indexed.views orders moves spec is free path old new shared own
         (paths ∙ ap (λ (gone : Named MemberStatus). detached_from path (without_paths gone old.paths)) based.none) spares indexed)
+
+-- the number of a logical file's path
+pub view-numbered : (files : Named FileState) (paths : NumberedPaths) (kind : FileSpec) (view : LogicalSpec) (path : PathSpec) (id : Option ℕ) → logical_in kind ≡ Some view
+    → path ≡ own_path (bases_in files) view → MatchOption id (IsNew path paths) (λ n. (k : KeptPath) × (item_at n paths ≡ Some k) × (k.spec ≡ path)) → IsPathOf files paths kind id
+view-numbered files paths (PhysicalFile spec) view path id e is found = absurd cc
+view-numbered files paths (LogicalFile spec) view path id e is found = by id found
+  where
+    own : path ≡ own_path (bases_in files) spec
+    own = is ∙ ap (own_path (bases_in files)) (sym (some-equal e))
+
+    by : (o : Option ℕ) → MatchOption o (IsNew path paths) (λ n. (k : KeptPath) × (item_at n paths ≡ Some k) × (k.spec ≡ path)) → IsNumberOf (own_path (bases_in files) spec) o paths
+    by None new = subst (λ (p : PathSpec). IsNew p paths) own new
+    by (Some n) there = any-at (IsNumbered n (own_path (bases_in files) spec)) n there.0 paths there.1 (refl, there.2 ∙ own)

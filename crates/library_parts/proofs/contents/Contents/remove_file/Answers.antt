@@ -1,10 +1,10 @@
-use Rattle.std.proofs.Common.{◌≡◌, ◌∙◌, ◌+◌, ◌-◌, ap, arith}
-use Rattle.member_slots.specs.Members.{NumberedMembers}
+use Rattle.std.proofs.Common.{◌≡◌, ◌∙◌, ℕ, ◌+◌, ◌-◌, IsSome, ap, arith}
+use Rattle.member_slots.specs.Members.{NumberedMembers, item_at}
 use Rattle.library_model.specs.Named.{Named}
 use Rattle.library_steps.specs.DeleteFile.{without_members}
 use Rattle.library_steps.specs.Ranges.{library_bytes}
 use Rattle.library_steps.specs.State.{MemberStatus}
-use Rattle.path_set.specs.KeptPaths.{NumberedPaths}
+use Rattle.path_set.specs.KeptPaths.{spare_of}
 use Rattle.library_parts.specs.Parts.{state_of}
 use Rattle.library_parts.specs.PathChanges.{detached_from, without_paths}
 use Rattle.library_parts.proofs.IndexDetached.{some-from}
@@ -30,7 +30,7 @@ invariant_of-self c =
     let path = rw (← c.self.view_is) at c.requires.path in
     let paths = c.detach_own.ensures.paths
     ∙ ap (detached_from c.args.path) (c.detach_paths.ensures.paths ∙ ap (λ (names : Named MemberStatus). without_paths names parts.paths.paths) c.members-gone.ensures) in
-    let spares = λ number there. c.detach_own.ensures.spares number there
+    let spares : (number : ℕ) → IsSome (item_at number c.detach_own.new.paths.paths) → spare_of number c.detach_own.new.paths ≡ spare_of number parts.paths = λ number there. c.detach_own.ensures.spares number there
     ∙ c.detach_paths.ensures.spares number (some-from c.args.path number c.detach_paths.new.paths.paths (rw c.detach_own.ensures.paths at there)) in
     rw (c.remove-file.ensures.removed, taken.ensures.gone, c.members-gone.ensures) (
       AreOne-deleted state parts.member_bytes (parts.member_bytes - taken.result) name file c.self.invariant.0 c.len-len.ensures.apart free c.remove-file.ensures.file unused
