@@ -112,9 +112,10 @@ impl Contents {
         ensures entries { self.new.state.entries ≡ self.old.state.entries }
         ensures others { (self.new.room.entries ≡ self.old.room.entries) × (self.new.room.locks ≡ self.old.room.locks) × (self.new.room.undos ≡ self.old.room.undos) }
     {
-        // No two files have one name, and the paths of all files are kept.
+        // No two files have one name, the paths of all files are kept, and each record has the length of its member's records.
         let _len = self.catalogue.len();
         let _kept = self.paths.kept();
+        let _none = self.members.at(0);
         let path = self.own_path(view.spec())?;
         attach_own_path(&mut self.paths, &self.members, name, path)?;
         let file = File::over(self.alloc, view);
