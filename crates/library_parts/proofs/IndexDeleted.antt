@@ -231,8 +231,8 @@ module _ (s : State) (name : List ℕ) (file : FileState) (lawful : IsLibrary s)
           (jobs-free (λ (job : JobState). has_changed own.0 job ≡ false)
           (λ number job. has_open_of name job || list_any (λ member. has_changed member job) (base_members (bases_in s.files) spec))
           (λ number job none.
-            let changed = (neither (has_open_of name job) (list_any (λ member. has_changed member job) (base_members (bases_in s.files) spec)) none).1 in
-            (neither (has_changed own.0 job) false (ap (list_any (λ member. has_changed member job)) (sym own.1) ∙ changed)).0) 1 s.jobs unused)
+          let changed = (neither (has_open_of name job) (list_any (λ member. has_changed member job) (base_members (bases_in s.files) spec)) none).1 in
+          (neither (has_changed own.0 job) false (ap (list_any (λ member. has_changed member job)) (sym own.1) ∙ changed)).0) 1 s.jobs unused)
 
       own-paths : paths_by s.files file.members file.spec ≡ own_path (bases_in s.files) spec ∷ []
       own-paths = ap (paths_by s.files file.members) is ∙ single-path (bases_in s.files) spec its-view.simple
