@@ -1,14 +1,22 @@
-use Rattle.std.proofs.Common.{◌≡◌, ◌∙◌, refl, sym, ap, subst}
+use Rattle.std.proofs.Common.{◌≡◌, ◌∙◌, ℕ, Option, Result, refl, sym, ap, subst}
+use Rattle.std.proofs.lemmas.Result.{err_from_is_err_and}
 use Rattle.file_model.specs.declared.paths.PathSpec.{PathSpec}
 use Rattle.path_entrants.specs.Repeated.{TellsRepeated}
 use Rattle.path_set.specs.Sharing.{CanBeKept}
 use Rattle.logical_paths.specs.Steps.{own_path}
-use Rattle.library_steps.specs.LogicalFiles.{bases_in}
+use Rattle.file_model.specs.Paths.{repeated_in}
+use Rattle.logical_model.specs.FilePaths.{logical_paths}
+use Rattle.library_model.specs.declared.replies.Reply.TheVariants.{DuplicateKey}
+use Rattle.library_steps.specs.CreateLogicalFile.{first_repeated}
+use Rattle.library_steps.specs.LogicalFiles.{bases_in, bases_of}
+use Rattle.library_steps.specs.Refusals.{refuse_with}
 use Rattle.library_steps.specs.State.{memory_of}
+use Rattle.library_parts.specs.declared.stop.Stop.{Stop}
+use Rattle.library_parts.specs.Answers.{MayAllow}
 use Rattle.library_parts.specs.Parts.{state_of}
 use Rattle.library_parts.specs.PathChanges.{IsAttached}
 use Rattle.library_parts.proofs.FileLemmas.{AreOne-with_logical}
-use Rattle.library_parts.proofs.IndexFiles.{described-over, distinct-none, view-can, view-tells, IsIndexed-with_view}
+use Rattle.library_parts.proofs.IndexFiles.{described-over, distinct-none, view-can, view-repeated, view-tells, IsIndexed-with_view}
 use Rattle.library_parts.proofs.IndexLooks.{records-of}
 use Rattle.library_parts.proofs.contents.Contents.add_view.Goals as goal
 
@@ -42,7 +50,19 @@ pub add-requires-clause-apart : goal.add-requires-clause-apart
 add-requires-clause-apart c = rw c.over-file.ensures distinct-none
 
 pub returns-in_err-attach_own_path-clause-apart : goal.returns-in_err-attach_own_path-clause-apart
-returns-in_err-attach_own_path-clause-apart c = ?
+returns-in_err-attach_own_path-clause-apart c =
+    let parts = c.self.inside in
+    let state = state_of parts.catalogue parts.members parts.next_member parts.journal parts.locks parts.jobs in
+    let new = rw (← c.self.view_is) at c.requires.new in
+    let path : c.in_ok-path.path ≡ own_path (bases_in parts.catalogue.files) c.args.view.spec =
+    (rw (← c.self.view_is) at c.in_ok-path.ensures) ∙ ap (own_path (bases_in parts.catalogue.files)) c.spec.ensures in
+    let repeated : first_repeated (logical_paths (bases_of (memory_of state)) c.args.view.spec) (memory_of state) ≡ repeated_in c.in_ok-path.path parts.members.members =
+    view-repeated (memory_of state) c.args.view.spec new.simple ∙ ap (λ (p : PathSpec). repeated_in p parts.members.members) (sym path) in
+    let p = err_from_is_err_and c.from_residual-in_err-attach_own_path.result c.from_residual-in_err-attach_own_path.ensures.1 in
+    let same : c.from_residual-in_err-attach_own_path.result ≡ c.attach_own_path.result = let first = p.1 in let told = p.2 in let was = c.in_err-attach_own_path.was in cc in
+    rw (← c.self.view_is)
+    (subst (λ (r : Result (Unit {0}) Stop). MayAllow r (refuse_with (DuplicateKey c.args.name) (first_repeated (logical_paths (bases_of (memory_of state)) c.args.view.spec) (memory_of state)))) (sym same)
+    (subst (λ (o : Option ℕ). MayAllow c.attach_own_path.result (refuse_with (DuplicateKey c.args.name) o)) (sym repeated) c.attach_own_path.ensures.apart))
 
 pub invariant_of-self-2 : goal.invariant_of-self-2
 invariant_of-self-2 c =
