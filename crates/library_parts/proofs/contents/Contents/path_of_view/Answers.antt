@@ -9,5 +9,5 @@ returns-in_ok-path-in-Some c =
     let inside = c.self.inside in
     let logical : logical_in c.args.file.now.spec ≡ Some c.in-Some.view.now = sym c.logical.ensures ∙ ap option_copied c.in-Some.is in
     rw (← c.self.view_is)
-    (view-numbered inside.catalogue.files inside.paths.paths c.args.file.now.spec c.in-Some.view.now c.in_ok-path.path c.number_of.result logical (rw (← c.self.view_is) at c.in_ok-path.ensures)
+    (view-numbered inside.catalogue.files inside.paths.paths c.args.file.now.spec c.in-Some.view.now c.in_ok-path-in-Some.path c.number_of.result logical (rw (← c.self.view_is) at c.in_ok-path-in-Some.ensures)
     c.number_of.ensures)
