@@ -1,30 +1,27 @@
 -- The kept paths are those of a library still, with a file less that no job uses and on which no other depends.
-use Rattle.std.proofs.Common.{ℕ, ◌+◌, ◌≤◌, ◌≡◌, ◌≢◌, inl, inr, ◌==◌, ◌&&◌, ◌||◌, nat_lt, if◌then◌else◌, Bool, true, false, cond, not, List, [], ◌∷◌, ◌++◌, length, map, get_or, Contains, Option, Some, None}
+use Rattle.std.proofs.Common.{ℕ, ◌+◌, ◌≡◌, ◌≢◌, inl, inr, ◌==◌, ◌&&◌, ◌||◌, nat_lt, if◌then◌else◌, Bool, true, false, cond, not, List, [], ◌∷◌, ◌++◌, length, map, get_or, Contains, Option, Some, None}
 use Rattle.std.proofs.Common.{IsSome, IfSome, refl, sym, ap, arith, ◌∙◌, subst}
-use Rattle.std.specs.Prelude.{All, Any, MatchOption}
+use Rattle.std.specs.Prelude.{All, MatchOption}
 use Rattle.std.specs.List.{AllByRecursion, IsDistinct, list_any}
 use Rattle.std.specs.Map.{keys_of}
 use Rattle.std.specs.Option.{option_map}
-use Rattle.std.proofs.lemmas.Bool.{cases_eq, cond-false, eqb-true}
+use Rattle.std.proofs.lemmas.Bool.{cases_eq, cond-false}
 use Rattle.std.proofs.lemmas.Bool.Decides.{nat_tests}
 use Rattle.std.proofs.lemmas.List.Elements.{recursion_from_All}
 use Rattle.member_slots.specs.Members.{Numbered, NumberedMembers, item_at}
 use Rattle.dds_physical.specs.declared.physical_files.PhysicalSpec.{PhysicalSpec}
 use Rattle.dds_logical.specs.declared.views.LogicalSpec.{LogicalSpec}
-use Rattle.dds_logical.specs.declared.views.LogicalSpec.TheVariants.{Simple, Multi, Join}
 use Rattle.file_model.specs.declared.paths.PathSpec.{PathSpec}
 use Rattle.file_model.specs.FilePaths.{physical_path}
-use Rattle.logical_model.specs.Bases.{Base, Bases, FileSpec, PhysicalFile, LogicalFile, base_members}
-use Rattle.logical_model.specs.FilePaths.{logical_paths, view_format}
+use Rattle.logical_model.specs.Bases.{FileSpec, PhysicalFile, LogicalFile, base_members}
 use Rattle.logical_model.specs.Formats.{has_key}
 use Rattle.logical_laws.proofs.ListLemmas.{each-append, each-contained, each-weaker}
 use Rattle.logical_paths.specs.Steps.{own_path}
-use Rattle.journal_model.specs.Rollback.{MemberChange}
 use Rattle.path_set.specs.declared.moves.PathMove.{PathMove}
 use Rattle.path_set.specs.KeptPaths.{KeptPath, KeptPaths, NumberedPaths, AreShared, spare_of}
 use Rattle.path_set.specs.MemberSteps.{is_over}
 use Rattle.path_set.specs.Sharing.{IsNew, detached}
-use Rattle.library_paths.specs.AllPaths.{AreKeptFor, all_paths, count_in, paths_among, paths_by}
+use Rattle.library_paths.specs.AllPaths.{AreKeptFor, all_paths, count_in, paths_by}
 use Rattle.library_paths.proofs.BaseLemmas.{AreAlike, all-alike-left, stand-left}
 use Rattle.library_paths.proofs.CountLemmas.{contained-count, count-append, count-contained, count-own}
 use Rattle.library_paths.proofs.KeptLemmas.{detached-shared, kept-contained}
@@ -42,15 +39,15 @@ use Rattle.library_steps.specs.DeleteFile.{first_dependent, user_by, without_fil
 use Rattle.library_steps.specs.LogicalFiles.{bases_in, physical_paths}
 use Rattle.library_steps.specs.Opens.{first_of}
 use Rattle.library_steps.specs.Records.{is_file_path}
-use Rattle.library_steps.specs.State.{State, FileState, MemberStatus, OpenState, JobState, memory_of, physical_among}
+use Rattle.library_steps.specs.State.{State, FileState, MemberStatus, OpenState, JobState, memory_of}
 use Rattle.library_steps.specs.Uses.{has_changed, has_open_of, user_of_any, user_of_logical, uses}
-use Rattle.library_parts.specs.Indexed.{AreViews, AreViewsBeside, IsIndexed, IsIndexedFor, IsSimple, IsViewBeside, path_by, path_read}
-use Rattle.library_parts.specs.Lawful.{IsBased, IsLibrary, OpenHolds, OpensBy, OpensFile, OpensHold, StandsOver}
+use Rattle.library_parts.specs.Indexed.{AreViews, IsIndexed, IsIndexedFor, IsViewBeside, path_by, path_read}
+use Rattle.library_parts.specs.Lawful.{IsBased, IsLibrary, OpenHolds, OpensBy, OpensFile, OpensHold}
 use Rattle.library_parts.specs.PathChanges.{IsPathOf, IsPathOfNamed, detached_from, without_path_over, without_paths}
 use Rattle.library_parts.specs.Reads.{IsNumberOf}
 use Rattle.library_parts.proofs.BackLemmas.{neither}
 use Rattle.library_parts.proofs.BaseLemmas.{Keeps-self}
-use Rattle.library_parts.proofs.IndexPaths.{FileStays, IsOfMember, any-both, changes-each, over-other, over-own, own-same, physical-of}
+use Rattle.library_parts.proofs.IndexPaths.{FileStays, any-both, changes-each, over-other, over-own, own-same, physical-of}
 use Rattle.library_parts.proofs.IndexShared.{IsNumbered, IsUnchanged, OpenIsAmong, OpensAreAmong, OpensStay, clash, IsIndexed-detached, IsIndexed-files, IsIndexed-members, IsIndexed-same, files-stay, opens-stay}
 use Rattle.library_parts.proofs.IndexStatus.{turned-bases, views-alike}
 use Rattle.library_parts.proofs.IndexFiles.{own-of, single-path, stand-based, unchanged-path}

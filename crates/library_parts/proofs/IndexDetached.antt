@@ -1,8 +1,7 @@
 -- The first path over a member, and what is left where it has one file fewer.
-use Rattle.std.proofs.Common.{ℕ, ◌<◌, ◌≡◌, ◌==◌, suc, zero, nat_lt, if◌then◌else◌, Bool, true, false, cond, not, List, [], ◌∷◌, Option, Some, None, IsSome, refl, sym, ap, arith, ◌∙◌, subst}
-use Rattle.std.specs.Prelude.{All, AllPairs, filter}
+use Rattle.std.proofs.Common.{ℕ, ◌<◌, ◌≡◌, ◌==◌, suc, zero, nat_lt, Bool, true, false, cond, not, List, [], ◌∷◌, Option, Some, None, IsSome, refl, sym, ap, arith, ◌∙◌, subst}
+use Rattle.std.specs.Prelude.{All, AllPairs}
 use Rattle.std.specs.List.{AllByRecursion, find}
-use Rattle.std.specs.Option.{option_map}
 use Rattle.std.proofs.lemmas.Bool.{cond-true, cond-false, eqb-true}
 use Rattle.std.proofs.lemmas.Bool.Decides.{nat_tests}
 use Rattle.std.proofs.lemmas.List.Elements.{All-from_recursion, recursion_from_All}

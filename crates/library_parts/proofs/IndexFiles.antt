@@ -31,7 +31,7 @@ use Rattle.logical_model.specs.Bases.{Base, Bases, FileSpec, PhysicalFile, Logic
 use Rattle.logical_model.specs.FilePaths.{logical_paths, view_format}
 use Rattle.logical_laws.proofs.ListLemmas.{each-append, each-weaker}
 use Rattle.logical_laws.proofs.MappedLemmas.{described-mapped, described-there}
-use Rattle.logical_paths.specs.KeyedViews.{AreLaidOut, HaveFewPairs, HaveRecords}
+use Rattle.logical_paths.specs.KeyedViews.{HaveFewPairs, HaveRecords}
 use Rattle.logical_paths.specs.Steps.{own_path}
 use Rattle.logical_paths.proofs.DescribedLemmas.{described-keyed, found-right}
 use Rattle.logical_paths.proofs.ViewLemmas.{paths-bytes, paths-kept}
@@ -70,7 +70,7 @@ use Rattle.library_parts.specs.Lawful.{AreBased, GoesBack, IsBased, IsLibrary, S
 use Rattle.library_parts.specs.PathChanges.{AttachesPath, IsAttached, member_path}
 use Rattle.library_parts.proofs.BaseLemmas.{base-is, kept-more, kept-wider, physical-described, physical-found, physical-here, physical-member, some-of}
 use Rattle.library_parts.proofs.BackLemmas.{neither}
-use Rattle.library_parts.proofs.IndexPaths.{IsOfMember, OfChanges, changes-all, over-other, physical-of}
+use Rattle.library_parts.proofs.IndexPaths.{IsOfMember, changes-all, over-other, physical-of}
 use Rattle.library_parts.proofs.IndexShared.{IsUnchanged, IsIndexed-attached, IsIndexed-files, IsIndexed-members, opens-stay}
 use Rattle.library_parts.proofs.IndexStatus.{beside-alike, files-alike, views-alike}
 use Rattle.library_parts.proofs.IndexGone.{jobs-free}

@@ -1,5 +1,5 @@
 -- The kept paths are those of a library still, where a file gets a path or gives one up, where a member comes, and where files change.
-use Rattle.std.proofs.Common.{ℕ, suc, ◌+◌, ◌*◌, ◌<◌, ◌≤◌, ◌≡◌, ◌≢◌, ◌==◌, ◌||◌, ◌⊎◌, inl, inr, nat_lt, Bool, true, false, cond, not, List, [], ◌∷◌, ◌++◌, length, map, get_or, Contains}
+use Rattle.std.proofs.Common.{ℕ, suc, ◌*◌, ◌<◌, ◌≤◌, ◌≡◌, ◌≢◌, ◌==◌, ◌||◌, ◌⊎◌, inl, inr, nat_lt, Bool, true, false, cond, not, List, [], ◌∷◌, ◌++◌, length, map, get_or, Contains}
 use Rattle.std.proofs.Common.{Option, Some, None, is_some, IsSome, IfSome, refl, sym, ap, arith, ◌∙◌, subst}
 use Rattle.std.specs.Prelude.{All, Any}
 use Rattle.std.specs.List.{AllByRecursion, AllZip, list_any}
@@ -12,7 +12,6 @@ use Rattle.member_slots.specs.Members.{Numbered, NumberedMembers, item_at, put_i
 use Rattle.file_model.specs.declared.paths.PathFormat.{PathFormat}
 use Rattle.file_model.specs.declared.paths.PathSpec.{PathSpec}
 use Rattle.logical_model.specs.Bases.{Bases, FileSpec, PhysicalFile, LogicalFile, base_names}
-use Rattle.journal_model.specs.Rollback.{MemberChange}
 use Rattle.path_set.specs.declared.moves.PathMove.{PathMove}
 use Rattle.path_set.specs.KeptPaths.{KeptPath, KeptPaths, NumberedPaths, AreOver, AreShared, spare_of}
 use Rattle.path_set.specs.RecordChanges.{RecordChange, reversed, moves_of, in_path, moves_in, HaveRoom}

@@ -13,6 +13,7 @@ pub mod FindLemmas
 pub mod DeleteLemmas
 pub mod AddLemmas
 pub mod IndexPaths
+pub mod IndexShared
 pub mod IndexOpens
 pub mod IndexChanges
 pub mod IndexStatus

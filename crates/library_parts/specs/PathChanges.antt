@@ -33,11 +33,6 @@ abbrev pub AttachesPath : Option PathSpec → NumberedMembers → (old new : Kep
 AttachesPath None members old new = new ≡ old
 AttachesPath (Some spec) members old new = IsAttached spec members old new
 
--- the paths are the same, with memory for no fewer inserts
-pub record HaveSamePaths (old new : KeptPaths) : Type 0 where
-  pub paths : new.paths ≡ old.paths
-  pub spares : (id : ℕ) → spare_of id old ≤ spare_of id new
-
 -- ---- paths fewer
 
 -- the number of the first path over the member

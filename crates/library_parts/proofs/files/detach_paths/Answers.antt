@@ -1,4 +1,4 @@
-use Rattle.std.proofs.Common.{◌≡◌, ◌∙◌, ◌+◌, ◌∷◌, ℕ, drop, sym, ap, subst, arith}
+use Rattle.std.proofs.Common.{◌∙◌, ◌+◌, ◌∷◌, ℕ, drop, sym, ap, subst, arith}
 use Rattle.std.proofs.lemmas.List.{drop_all, drop_more}
 use Rattle.library_model.specs.Named.{Named}
 use Rattle.library_steps.specs.State.{MemberStatus}

@@ -1,4 +1,4 @@
-use Rattle.std.proofs.Common.{◌≡◌, ◌∙◌, ℕ, Some, sym, ap, subst}
+use Rattle.std.proofs.Common.{◌≡◌, ◌∙◌, Some, sym, ap, subst}
 use Rattle.std.specs.Option.{option_copied, option_map}
 use Rattle.record_fmt.specs.Layout.{record_length}
 use Rattle.logical_model.specs.Bases.{FileSpec, PhysicalFile}
