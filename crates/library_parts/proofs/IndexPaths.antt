@@ -40,7 +40,7 @@ use Rattle.library_steps.specs.Records.{is_file_path}
 use Rattle.library_steps.specs.LogicalFiles.{bases_in}
 use Rattle.library_steps.specs.State.{FileState, MemberStatus, OpenState, CycleState, JobState, job_changed}
 use Rattle.library_steps.specs.Uses.{changes_in}
-use Rattle.library_parts.specs.Indexed.{AreViews, AreViewsBeside, IsViewBeside, AreSameBasesBy, IsIndexedFor, OpensRead, ReadsBy, ReadsFile, ReadsIn, changes_on, moves_back, moves_of_job, path_by, record_change}
+use Rattle.library_parts.specs.Indexed.{AreViews, AreViewsBeside, IsViewBeside, AreSameBasesBy, IsIndexedFor, IsReadSo, OpensRead, ReadsBy, ReadsFile, ReadsIn, changes_on, moves_back, moves_of_job, path_by, record_change}
 use Rattle.library_parts.specs.Lawful.{GoesBack, CycleGoesBack, AllGoBack}
 use Rattle.library_parts.proofs.BaseLemmas.{IsKept}
 
@@ -125,7 +125,7 @@ pub record IsOfOwner (files : Named FileState) (spec : PathSpec) : Type 0 where
   pub number : ℕ
   pub of : IsOfMember number spec
 
-physical-of : (number : ℕ) (spec : PhysicalSpec) → IsOfMember number (physical_path number spec.format.fields spec.keys)
+pub physical-of : (number : ℕ) (spec : PhysicalSpec) → IsOfMember number (physical_path number spec.format.fields spec.keys)
 physical-of number spec = record { format = path_format number every_record (own_fields spec.format.fields) spec.keys.parts; formats = refl; member = refl }
 
 -- the paths over the members of a physical file
@@ -186,7 +186,7 @@ pub record FileStays (files others : Named FileState) (name : List ℕ) (file : 
 abbrev pub FilesStay : Named FileState → Named FileState → Type 0
 FilesStay files others = (name : List ℕ) (file : FileState) → named name files ≡ Some file → FileStays files others name file
 
-head_of : List PathSpec → Option PathSpec
+abbrev head_of : List PathSpec → Option PathSpec
 head_of [] = None
 head_of (path ∷ paths) = Some path
 
@@ -208,19 +208,26 @@ reads-by old new (Some spec) order stay is = record { path = (is.path.0, is.path
 abbrev pub path_of : Bases → FileSpec → OpenState → Option PathSpec
 path_of bases spec opened = path_by bases (is_file_path opened.access_path && has_key spec) (first_of opened.members) spec
 
-pub reads-in : (files others : Named FileState) (old new : NumberedPaths) → FilesStay files others → PathsStay old new → (entry : List ℕ × OpenState) (order : List ℕ × OpenOrder)
-    → ReadsIn files old entry order → ReadsIn others new entry order
-reads-in files others old new kept stay entry order reads = by (named entry.1.file files) refl reads
+-- an open of a file that stays reads by the same path
+pub read-stays : (files others : Named FileState) (old new : NumberedPaths) → PathsStay old new → (entry : List ℕ × OpenState) (order : List ℕ × OpenOrder)
+    → ((file : FileState) → named entry.1.file files ≡ Some file → FileStays files others entry.1.file file) → ReadsIn files old entry order → ReadsIn others new entry order
+read-stays files others old new stay entry order kept reads = by (named entry.1.file files) refl reads
   where
     by : (o : Option FileState) → named entry.1.file files ≡ o → ReadsFile (bases_in files) old entry.1 order.1 o → ReadsFile (bases_in others) new entry.1 order.1 (named entry.1.file others)
     by None is h = absurd h
     by (Some file) is h =
-        let its = kept entry.1.file file is in
+        let its = kept file is in
         subst (ReadsFile (bases_in others) new entry.1 order.1) (sym its.kept.there)
-        (subst (λ (s : FileSpec). ReadsBy new (path_of (bases_in others) s entry.1) order.1) (sym its.kept.keeps.spec)
-        (subst (λ (p : Option PathSpec). ReadsBy new p order.1)
-        (path_by-same (bases_in files) (bases_in others) (is_file_path entry.1.access_path && has_key file.spec) (first_of entry.1.members) file.spec its.bases)
-        (reads-by old new (path_of (bases_in files) file.spec entry.1) order.1 stay h)))
+        (subst (λ (s : FileSpec). ReadsBy new (path_of (bases_in others) s entry.1) order.1 × IsReadSo (is_file_path entry.1.access_path) s) (sym its.kept.keeps.spec) (
+          subst (λ (p : Option PathSpec). ReadsBy new p order.1)
+              (path_by-same (bases_in files) (bases_in others) (is_file_path entry.1.access_path && has_key file.spec) (first_of entry.1.members) file.spec its.bases)
+              (reads-by old new (path_of (bases_in files) file.spec entry.1) order.1 stay h.0),
+          h.1,
+        ))
+
+pub reads-in : (files others : Named FileState) (old new : NumberedPaths) → FilesStay files others → PathsStay old new → (entry : List ℕ × OpenState) (order : List ℕ × OpenOrder)
+    → ReadsIn files old entry order → ReadsIn others new entry order
+reads-in files others old new kept stay entry order reads = read-stays files others old new stay entry order (kept entry.1.file) reads
 
 pub orders-stay : (files others : Named FileState) (old new : NumberedPaths) → FilesStay files others → PathsStay old new → (jobs : List JobState) (orders : List (Named OpenOrder))
     → AllZip (OpensRead files old) jobs orders → AllZip (OpensRead others new) jobs orders
@@ -283,6 +290,14 @@ changes_on-fewer member (suc place) change (job ∷ jobs) fewer =
 -- it holds of each change
 abbrev pub OfChanges : (MemberChange → Type 0) → List JobState → Type 0
 OfChanges P jobs = AllByRecursion (λ job. AllByRecursion P (changes_in job.cycle)) jobs
+
+pub changes-each : (P Q : MemberChange → Type 0) → ((undo : MemberChange) → P undo → Q undo) → (jobs : List JobState) → OfChanges P jobs → OfChanges Q jobs
+changes-each P Q each [] all = tt
+changes-each P Q each (job ∷ jobs) all = (those (changes_in job.cycle) all.0, changes-each P Q each jobs all.1)
+  where
+    those : (undos : List MemberChange) → AllByRecursion P undos → AllByRecursion Q undos
+    those [] own = tt
+    those (undo ∷ undos) own = (each undo own.0, those undos own.1)
 
 module _ (files : Named FileState) (members : NumberedMembers) (P : MemberChange → Type 0) (each : (sequence : ℕ) (undo : MemberChange) → GoesBack files members sequence undo → P undo) where
   undos-all : (sequence : ℕ) (undos : List MemberChange) → AllByRecursion (GoesBack files members sequence) undos → AllByRecursion P undos

@@ -13,6 +13,7 @@ pub mod FindLemmas
 pub mod DeleteLemmas
 pub mod AddLemmas
 pub mod IndexPaths
+pub mod IndexShared
 pub mod IndexOpens
 pub mod IndexChanges
 pub mod IndexStatus
@@ -25,6 +26,7 @@ pub mod IndexDetached
 pub mod IndexMoves
 pub mod IndexRebuilt
 pub mod IndexLooks
+pub mod OpenLooks
 pub mod IndexLaws
 pub mod IndexKeyed
 pub mod IndexNew

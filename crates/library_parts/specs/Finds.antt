@@ -5,7 +5,7 @@ use Rattle.job_table.specs.Opens.{KeptOpen}
 use Rattle.dds_logical.specs.declared.views.LogicalSpec.TheVariants.{Simple, Multi, Join}
 use Rattle.record_fmt.specs.Layout.{IsLaidOut}
 use Rattle.logical_model.specs.Bases.{FileSpec, PhysicalFile, LogicalFile, base_members}
-use Rattle.library_model.specs.Named.{Named}
+use Rattle.library_model.specs.Named.{Named, named}
 use Rattle.library_model.specs.declared.replies.Reply.{Reply}
 use Rattle.library_steps.specs.LogicalFiles.{bases_in}
 use Rattle.file_catalogue.specs.Owners.{Owns, has_number}
@@ -13,7 +13,7 @@ use Rattle.member_slots.specs.Members.{member_at}
 use Rattle.entry_codec.specs.declared.entries.Entry.{Entry}
 use Rattle.library_steps.specs.JournalReads.{are_there, are_kept, entries_between}
 use Rattle.library_steps.specs.State.{State, FileState, OpenState, fields_of, memory_of}
-use Rattle.library_parts.specs.Lawful.{IsThere}
+use Rattle.library_parts.specs.Lawful.{IsThere, OpenHolds}
 use Rattle.library_steps.specs.Refusals.{◌>>=◌, OpenedFile, FoundMember}
 use Rattle.library_parts.specs.declared.stop.Stop.{Stop}
 use Rattle.library_parts.specs.declared.stop.Stop.TheVariants.{NoMemory, Refused}
@@ -50,6 +50,8 @@ IsBaseOf (LogicalFile (Join view)) name base = ⊥
 
 -- so the member that an open reads is that file's, which is there, with records of the fields of this one
 pub record ReadsMember (s : State) (file : FileState) (opened : OpenState) : Type 0 where
+  pub there : named opened.file s.files ≡ Some file
+  pub holds : OpenHolds s.files opened
   pub base : List ℕ
   pub owner : FileState
   pub over : IsBaseOf file.spec opened.file base

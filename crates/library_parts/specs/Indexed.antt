@@ -1,13 +1,14 @@
 -- What the kept access paths are of a library's files, members and jobs: each path of a file is kept, with the entries that the members give it; each
 -- open reads by the path of its file, or in arrival order; and for each change of an open commit cycle the moves that take it back are at hand, with
 -- memory for them. (Our own.)
-use Rattle.std.specs.Prelude.{◌≡◌, ℕ, ◌+◌, ◌==◌, Option, Some, None, IfSome, List, [], ◌∷◌, length, map, filter, All, Any, if◌then◌else◌}
+use Rattle.std.specs.Prelude.{◌≡◌, ℕ, ◌+◌, ◌==◌, Bool, IsTrue, Option, Some, None, IfSome, List, [], ◌∷◌, length, map, filter, All, Any, if◌then◌else◌}
 use Rattle.std.specs.List.{AllByRecursion, AllZip, sum_by}
 use Rattle.member_slots.specs.declared.slot.Slot.{Slot}
 use Rattle.member_slots.specs.declared.slot.Slot.TheVariants.{Live, Deleted}
 use Rattle.member_slots.specs.Member.{MemberState}
 use Rattle.member_slots.specs.Members.{NumberedMembers}
 use Rattle.key_order.specs.KeyFields.{AreBytes}
+use Rattle.key_spec.specs.declared.Ties.TheVariants.{Rising}
 use Rattle.file_model.specs.declared.paths.PathSpec.{PathSpec}
 use Rattle.file_model.specs.FilePaths.{physical_path}
 use Rattle.dds_logical.specs.declared.views.LogicalSpec.{LogicalSpec}
@@ -27,7 +28,7 @@ use Rattle.job_table.specs.Opens.{OpenOrder}
 use Rattle.library_model.specs.Named.{Named, named}
 use Rattle.library_steps.specs.LogicalFiles.{bases_in}
 use Rattle.library_steps.specs.Opens.{first_of}
-use Rattle.library_steps.specs.Records.{is_keyed}
+use Rattle.library_steps.specs.Records.{is_file_path, is_keyed}
 use Rattle.library_steps.specs.State.{FileState, OpenState, JobState}
 use Rattle.library_steps.specs.Uses.{changes_in}
 
@@ -49,11 +50,18 @@ IsSimple (LogicalFile (Simple view)) = Unit {0}
 IsSimple (LogicalFile (Multi views)) = ⊥
 IsSimple (LogicalFile (Join view)) = ⊥
 
+-- where a file of one format has no key, its records stand by their rising numbers
+abbrev pub RisesIfKeyless : LogicalSpec → Type 0
+RisesIfKeyless (Simple view) = view.keys.parts ≡ [] → view.keys.ties ≡ Rising
+RisesIfKeyless (Multi views) = Unit {0}
+RisesIfKeyless (Join view) = Unit {0}
+
 -- its key is by fields of that file, and what is stored through it lies in whole fields of that file
 pub record IsView (bases : Bases) (spec : LogicalSpec) : Type 0 where
   pub simple : IsSimple (LogicalFile spec)
   pub keyed : IsKeyedLogical bases spec
   pub mapped : IsSpecMapped bases spec
+  pub rises : RisesIfKeyless spec
 
 -- the bases of a logical file are the same
 abbrev pub AreSameBasesBy : Bases → Bases → FileSpec → Type 0
@@ -90,9 +98,14 @@ ReadsBy paths (Some spec) order = IsByPath paths spec order
 abbrev pub path_read : Bases → FileState → OpenState → Option PathSpec
 path_read bases file opened = path_by bases (is_keyed file opened) (first_of opened.members) file.spec
 
+-- a logical file isn't read in arrival order
+abbrev pub IsReadSo : (by_path : Bool) → FileSpec → Type 0
+IsReadSo by_path (PhysicalFile spec) = Unit {0}
+IsReadSo by_path (LogicalFile spec) = IsTrue by_path
+
 abbrev pub ReadsFile : Bases → NumberedPaths → OpenState → OpenOrder → Option FileState → Type 0
 ReadsFile bases paths opened order None = ⊥
-ReadsFile bases paths opened order (Some file) = ReadsBy paths (path_read bases file opened) order
+ReadsFile bases paths opened order (Some file) = ReadsBy paths (path_read bases file opened) order × IsReadSo (is_file_path opened.access_path) file.spec
 
 abbrev pub ReadsIn : Named FileState → NumberedPaths → List ℕ × OpenState → List ℕ × OpenOrder → Type 0
 ReadsIn files paths entry order = ReadsFile (bases_in files) paths entry.1 order.1 (named entry.1.file files)

@@ -1,5 +1,5 @@
 -- How an open of the library reads, what it is asked, and what it finds. (Database Programming, "Reading database records".)
-use Rattle.std.specs.Prelude.{◌≡◌, ℕ, ◌-◌, nat_lt, Any, Bool, true, false, not, IsTrue, Option, Some, None, Result, Ok, Err, is_ok, List, [], ◌∷◌, length, map, option_map, slice_index_or}
+use Rattle.std.specs.Prelude.{◌≡◌, ℕ, ◌-◌, nat_lt, Any, Bool, true, false, not, IsTrue, Option, Some, None, IfSome, Result, Ok, Err, is_ok, List, [], ◌∷◌, length, map, option_map, slice_index_or}
 use Rattle.field_types.specs.declared.values.Value.{Value}
 use Rattle.key_spec.specs.declared.KeyPart.{KeyPart}
 use Rattle.file_model.specs.declared.paths.PathSpec.{PathSpec}
@@ -31,14 +31,14 @@ use Rattle.library_model.specs.declared.requests.Limit.{Limit}
 use Rattle.library_model.specs.declared.requests.Limit.TheVariants as limits
 use Rattle.library_steps.specs.LogicalFiles.{bases_in, bases_of}
 use Rattle.library_steps.specs.Opens.{new_open}
-use Rattle.library_steps.specs.Records.{is_keyed, reading_of, key_asked}
+use Rattle.library_steps.specs.Records.{is_file_path, is_keyed, reading_of, key_asked}
 use Rattle.library_steps.specs.Reads.{bound_asked}
 use Rattle.library_steps.specs.Refusals.{OpenedFile, opened_file}
 use Rattle.library_steps.specs.State.{Memory, FileState, OpenState, memory_of}
 use Rattle.library_parts.specs.declared.stop.Stop.{Stop}
 use Rattle.library_parts.specs.declared.stop.Stop.TheVariants.{NoMemory, Refused}
 use Rattle.library_parts.specs.declared.reading.Found.{Found}
-use Rattle.library_parts.specs.Indexed.{ReadsBy, ReadsFile, path_read}
+use Rattle.library_parts.specs.Indexed.{IsReadSo, IsSimple, ReadsBy, ReadsFile, path_read}
 use Rattle.library_parts.specs.Parts.{LibraryParts}
 
 -- the positions of the key by which an open reads, in each format; an open without a key reads one format that has none
@@ -56,18 +56,34 @@ parts_read bases file opened = merged_parts (formats_read bases file opened)
 abbrev pub has_positions : List (List KeyPart) → Bool
 has_positions formats = nat_lt 0 (length (merged_parts formats))
 
+-- a new open of the file may read so
+abbrev pub MayReadSo : OpenFile → Option FileState → Type 0
+MayReadSo args file = IfSome file (λ f. IsReadSo (is_file_path args.access_path) f.spec)
+
 -- the path of this specification is kept under that number
 abbrev pub IsNumberOf : PathSpec → Option ℕ → NumberedPaths → Type 0
 IsNumberOf spec None paths = IsNew spec paths
 IsNumberOf spec (Some id) paths = Any (λ path. (path.number ≡ id) × (path.item.spec ≡ spec)) paths
 
--- the open is one of this library, and so is the way in which it reads
-abbrev pub ReadsAs : LibraryParts → KeptOpen → FileState → Type 0
-ReadsAs parts opened file = ReadsBy parts.room.paths.paths (path_read (bases_in parts.state.files) file opened.state) opened.order
+-- the open is one of this library, of a simple file, and so is the way in which it reads
+pub record ReadsAs (parts : LibraryParts) (opened : KeptOpen) (file : FileState) : Type 0 where
+  pub by : ReadsBy parts.room.paths.paths (path_read (bases_in parts.state.files) file opened.state) opened.order
+  pub so : IsReadSo (is_file_path opened.state.access_path) file.spec
+  pub simple : IsSimple file.spec
 
 -- how the opens of the job read, by their names
 abbrev pub orders_in : (job : ℕ) → LibraryParts → Named OpenOrder
 orders_in job parts = slice_index_or parts.room.orders (job - 1) []
+
+-- a new open reads by the path of this specification, where it is kept, or in arrival order
+abbrev pub ReadsByNumber : NumberedPaths → Option PathSpec → OpenReads → Type 0
+ReadsByNumber paths None reads = (reads.path ≡ None) × (reads.position.formats ≡ [] ∷ [])
+ReadsByNumber paths (Some spec) reads = IsNumberOf spec reads.path paths × (reads.position.formats ≡ map (λ format. format.key) spec.formats)
+
+-- so, from the start
+pub record ReadsNew (commit : Bool) (paths : NumberedPaths) (spec : Option PathSpec) (reads : OpenReads) : Type 0 where
+  pub start : IsNewReads commit reads
+  pub by : ReadsByNumber paths spec reads
 
 -- how a new open of the member reads
 pub record ReadsFor (parts : LibraryParts) (args : OpenFile) (member : ℕ) (reads : OpenReads) : Type 0 where

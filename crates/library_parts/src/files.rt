@@ -1,29 +1,40 @@
 //! What effects change of the files and of whole members.
-ghost use Rattle.std.specs.Prelude.{◌≡◌, ℕ, ◌+◌, ◌≤◌, Some, None, IsSome, OnOk, OnErr, length};
+ghost use Rattle.std.specs.Prelude.{◌≡◌, ℕ, ◌+◌, ◌≤◌, ◌⊎◌, ◌∷◌, Some, None, IsSome, IfOk, OnOk, OnErr, MatchOption, length};
 ghost use Rattle.library_steps.specs.CreatePhysicalFile.{formats_of, with_file};
-ghost use Rattle.library_steps.specs.State.{FileState, memory_of};
+ghost use Rattle.library_steps.specs.CreateLogicalFile.{first_repeated, with_logical};
+ghost use Rattle.library_steps.specs.LogicalFiles.{bases_of};
+ghost use Rattle.library_steps.specs.Refusals.{refuse_with};
+ghost use Rattle.library_steps.specs.State.{FileState, memory_of, physical_spec};
 ghost use Rattle.library_model.specs.Named.{named};
-ghost use Rattle.member_slots.specs.Members.{item_at, member_at, without_member};
+ghost use Rattle.library_model.specs.declared.replies.Reply.TheVariants.{DuplicateKey};
+ghost use Rattle.file_model.specs.Paths.{repeated_in};
+ghost use Rattle.logical_model.specs.FilePaths.{logical_paths};
+ghost use Rattle.member_slots.specs.Members.{NumberedMembers, item_at, member_at, without_member};
 ghost use Rattle.library_steps.specs.declared.limits.TheConstants.{MOST_LIBRARY_BYTES};
-ghost use Rattle.library_steps.specs.DeleteFile.{deleted, first_dependent, without_members};
+ghost use Rattle.library_steps.specs.DeleteFile.{deleted, first_dependent, user_by, without_members};
 ghost use Rattle.library_steps.specs.MemberCommands.{member_added};
 ghost use Rattle.library_steps.specs.Ranges.{library_bytes};
-ghost use Rattle.library_steps.specs.Uses.{user_of_any};
 ghost use Rattle.file_catalogue.specs.Described.{Describes};
 ghost use Rattle.file_catalogue.specs.Owners.{AreApart};
-ghost use Rattle.file_catalogue.specs.Physical.{AllArePhysical};
-ghost use Rattle.path_set.specs.KeptPaths.{spare_of};
-ghost use Rattle.library_parts.specs.Indexed.{member_path};
-ghost use Rattle.library_parts.specs.PathChanges.{AreOwned, AttachesPath, without_paths, without_paths_over};
-ghost use Rattle.library_parts.specs.Files.{IsNewFile, IsNewMember};
+ghost use Rattle.file_catalogue.specs.Views.{DescribesView};
+ghost use Rattle.path_entrants.specs.Repeated.{TellsRepeated};
+ghost use Rattle.path_set.specs.KeptPaths.{AreOver, spare_of};
+ghost use Rattle.path_set.specs.Sharing.{CanBeKept, IsNew};
+ghost use Rattle.library_parts.specs.Answers.{MayAllow};
+ghost use Rattle.library_parts.specs.Files.{IsNewFile, IsNewMember, IsNewView};
+ghost use Rattle.library_parts.specs.PathChanges.{AttachesPath, IsAttached, IsPathOf, IsPathOfView, detached_from, member_path, without_path_over, without_paths};
 ghost use Rattle.library_parts.specs.Rooms.{HasFileRoom, HasMemberRoom};
 
 use crate::contents::Contents;
 use crate::members::weight;
+use crate::stop::Stop;
+use dds_logical::LogicalFault;
 use dds_physical::PhysicalError;
 use field_types::names::Name;
 use field_types::texts::SourceText;
-use file_catalogue::{Described, File, Members as FileMembers};
+use file_catalogue::{Described, DescribedView, File, Members as FileMembers};
+use file_model::paths::PathSpec;
+use library_model::replies::Reply;
 use library_model::requests::{DeleteFile, FileMember};
 use member_paths::member_path;
 use member_slots::member::Member;
@@ -73,8 +84,9 @@ impl Contents {
         ensures entries { self.new.state.entries ≡ self.old.state.entries }
         ensures others { (self.new.room.entries ≡ self.old.room.entries) × (self.new.room.locks ≡ self.old.room.locks) × (self.new.room.undos ≡ self.old.room.undos) }
     {
-        // No two files have one name.
+        // No two files have one name, and the paths of all files are kept.
         let _len = self.catalogue.len();
+        let _kept = self.paths.kept();
         let described = file.physical().unwrap();
         attach_path(
             self.alloc,
@@ -90,20 +102,6 @@ impl Contents {
         Ok(())
     }
 
-    /// Whether one of the members that a logical file would be over would have more different paths than it may.
-    pub fn has_many_paths(&self, view: &LogicalSpec) -> Result<bool, AllocError>
-        requires simple { IsSimple (LogicalFile view.now) }
-        ensures { IfOk result (λ many. many ≡ list_any (has_many (logical_paths (bases_of (memory_of self.now.state)) view.now) (memory_of self.now.state)) (base_members (bases_of (memory_of self.now.state)) view.now)) }
-    {
-        let path = own_path(self.alloc, &self.catalogue, view)?;
-        let member = self.base_member(view);
-        let kept = self.paths.count_over(member);
-        match self.paths.number_of(&path) {
-            Some(_) => Ok(kept > MOST_PATHS),
-            None => Ok(kept + 1 > MOST_PATHS),
-        }
-    }
-
     /// Adds a logical file with its path, unless two records would have one key in it that may not. Out of memory changes nothing.
     pub fn add_view(&mut self, name: Name, view: DescribedView) -> Result<(), Stop>
         requires new { IsNewView self.old.state name view }
@@ -114,12 +112,14 @@ impl Contents {
         ensures entries { self.new.state.entries ≡ self.old.state.entries }
         ensures others { (self.new.room.entries ≡ self.old.room.entries) × (self.new.room.locks ≡ self.old.room.locks) × (self.new.room.undos ≡ self.old.room.undos) }
     {
-        // No two files have one name, and the paths of all files are kept.
+        // No two files have one name, the paths of all files are kept, and each record has the length of its member's records.
         let _len = self.catalogue.len();
         let _kept = self.paths.kept();
-        let path = own_path(self.alloc, &self.catalogue, view.spec())?;
+        let _none = self.members.at(0);
+        let path = self.own_path(view.spec())?;
         attach_own_path(&mut self.paths, &self.members, name, path)?;
-        self.catalogue.add(name, File::over(self.alloc, view));
+        let file = File::over(self.alloc, view);
+        self.catalogue.add(name, file);
         Ok(())
     }
 
@@ -133,8 +133,9 @@ impl Contents {
         ensures entries { self.new.state.entries ≡ self.old.state.entries }
         ensures others { (self.new.room.entries ≡ self.old.room.entries) × (self.new.room.locks ≡ self.old.room.locks) × (self.new.room.undos ≡ self.old.room.undos) }
     {
-        // No two files have one name.
+        // No two files have one name, and the paths of all files are kept.
         let _len = self.catalogue.len();
+        let _kept = self.paths.kept();
         let described = self.catalogue.physical_named(&args.file).unwrap();
         attach_path(
             self.alloc,
@@ -155,11 +156,19 @@ impl Contents {
     pub fn view_path(&self, name: &Name) -> Result<Option<u64>, AllocError>
         ensures { IfOk result (λ id. IsPathOfView self.now name.now id) }
     {
-        // The paths of all files are kept.
-        let _kept = self.paths.kept();
-        match self.catalogue.view_named(name) {
+        match self.catalogue.named(name) {
+            Some(file) => self.path_of_view(file),
+            None => Ok(None),
+        }
+    }
+
+    /// The number of the path of a file, where it is a logical one.
+    fn path_of_view(&self, file: &File) -> Result<Option<u64>, AllocError>
+        ensures { IfOk result (λ id. IsPathOf self.now.state.files self.now.room.paths.paths file.now.spec id) }
+    {
+        match file.logical() {
             Some(view) => {
-                let path = own_path(self.alloc, &self.catalogue, view)?;
+                let path = self.own_path(view)?;
                 Ok(self.paths.number_of(&path))
             }
             None => Ok(None),
@@ -183,23 +192,10 @@ impl Contents {
         let file = self.catalogue.remove(&args.file);
         let gone = file.members();
         detach_paths(&mut self.paths, gone);
-        if let Some(id) = path {
-            self.paths.detach(id);
-        }
+        detach_own(&mut self.paths, path);
         let bytes = take_members(&mut self.members, gone);
         self.member_bytes -= bytes;
         file
-    }
-
-    /// The number of the member that a logical file is over.
-    fn base_member(&self, view: &LogicalSpec) -> u32
-        requires simple { IsSimple (LogicalFile view.now) }
-        ensures { base_members (bases_of (memory_of self.now.state)) view.now ≡ result ∷ [] }
-    {
-        match view {
-            LogicalSpec::Simple(view) => self.catalogue.base_of(&view.base).0,
-            _ => unreachable!(),
-        }
     }
 }
 
@@ -261,35 +257,36 @@ fn attach_own_path(
 ) -> Result<(), Stop>
     requires kept { CanBeKept path members.now.members }
     requires tells { TellsRepeated path members.now.members }
-    requires shared { AreOver members.now.members paths.old.paths }
+    requires over { AreOver members.now.members paths.old.paths }
     ensures apart { MayAllow result (refuse_with (DuplicateKey file) (repeated_in path members.now.members)) }
     ensures attached { OnOk result (IsAttached path members.now.members paths.old paths.new) }
-    ensures refused { OnErr result (HaveSamePaths paths.old paths.new) }
+    ensures refused { OnErr result (paths.new ≡ paths.old) }
 {
+    if let Some(rrn) = repeated_there(paths, &path) {
+        return Err(Stop::Refused(Reply::DuplicateKey { file, rrn }));
+    }
     match paths.attach(path, members, 0) {
-        Ok(id) => not_repeated(paths, file, id),
+        Ok(_) => Ok(()),
         Err(PathFault::NoMemory) => Err(Stop::NoMemory),
         Err(PathFault::Equal { rrn }) => Err(Stop::Refused(Reply::DuplicateKey { file, rrn })),
     }
 }
 
-/// The refusal where the path, which other files may have had already, has equal keys and may have none: it is given up again.
-fn not_repeated(paths: &mut PathSet, file: Name, id: u64) -> Result<(), Stop> {
+/// The least record whose key a later one has in a path that may have none, where the path is kept already.
+fn repeated_there(paths: &PathSet, path: &PathSpec) -> Option<u32>
+    ensures { (members : NumberedMembers) → AreOver members paths.now.paths → TellsRepeated path.now members → MatchOption result (IsNew path.now paths.now.paths ⊎ (repeated_in path.now members ≡ None)) (λ rrn. repeated_in path.now members ≡ Some rrn) }
+{
+    let Some(id) = paths.number_of(path) else {
+        return None;
+    };
     match paths.repeated_among(&[id]) {
-        Some(repeated) => {
-            paths.detach(id);
-            Err(Stop::Refused(Reply::DuplicateKey {
-                file,
-                rrn: repeated.rrn,
-            }))
-        }
-        None => Ok(()),
+        Some(repeated) => Some(repeated.rrn),
+        None => None,
     }
 }
 
 /// Gives up the paths over these members.
 fn detach_paths(paths: &mut PathSet, gone: &FileMembers)
-    requires { AreOwned paths.old.paths }
     ensures paths { paths.new.paths ≡ without_paths gone.now paths.old.paths }
     ensures spares { (id : ℕ) → IsSome (item_at id paths.new.paths) → spare_of id paths.new ≡ spare_of id paths.old }
 {
@@ -298,15 +295,21 @@ fn detach_paths(paths: &mut PathSet, gone: &FileMembers)
     }
 }
 
-/// Gives up the path over this member, where there is one.
+/// Gives up the first path over this member, where there is one.
 fn detach_path(paths: &mut PathSet, number: u32)
-    requires { AreOwned paths.old.paths }
-    ensures paths { paths.new.paths ≡ without_paths_over number paths.old.paths }
+    ensures paths { paths.new.paths ≡ without_path_over number paths.old.paths }
     ensures spares { (id : ℕ) → IsSome (item_at id paths.new.paths) → spare_of id paths.new ≡ spare_of id paths.old }
 {
-    // What holds of all kept paths.
-    let _kept = paths.kept();
-    match paths.first_over(number) {
+    let first = paths.first_over(number);
+    detach_own(paths, first);
+}
+
+/// Gives up the path of this number, where one is given.
+fn detach_own(paths: &mut PathSet, path: Option<u64>)
+    ensures paths { paths.new.paths ≡ detached_from path paths.old.paths }
+    ensures spares { (id : ℕ) → IsSome (item_at id paths.new.paths) → spare_of id paths.new ≡ spare_of id paths.old }
+{
+    match path {
         Some(id) => paths.detach(id),
         None => {}
     }

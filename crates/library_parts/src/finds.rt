@@ -85,6 +85,7 @@ impl Contents {
     {
         // The file of each open is there, and has its member. Each open stands beside how it reads.
         let _jobs = self.jobs.len();
+        let _files = self.catalogue.len();
         let opened = self.opened(job, name)?;
         let file = self.file(&opened.file())?;
         // It is over one member, and has one format.

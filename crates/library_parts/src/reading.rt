@@ -22,9 +22,13 @@ ghost use Rattle.library_steps.specs.Refusals.{OpenedFile, opened_file};
 ghost use Rattle.library_steps.specs.State.{memory_of, job_at, open_named, with_job};
 ghost use Rattle.open_position.specs.OpenStand.{IsEntryIn};
 ghost use Rattle.open_position.specs.Reads.{IsAskedOf, IsStandAt, asked_of, entry_hit, side_of, stood};
-ghost use Rattle.library_steps.specs.LogicalFiles.{bases_of};
+ghost use Rattle.library_steps.specs.LogicalFiles.{bases_in, bases_of};
+ghost use Rattle.logical_model.specs.Bases.{PhysicalFile};
+ghost use Rattle.logical_model.specs.Formats.{has_key};
+ghost use Rattle.logical_paths.specs.Steps.{own_path};
+ghost use Rattle.library_parts.specs.Indexed.{IsView, path_by};
 ghost use Rattle.library_parts.specs.Finds.{OpensMember, ReadsMember};
-ghost use Rattle.library_parts.specs.Reads.{CanNote, CanStand, CanStandIn, FindsEntry, GivesKey, HasKeyOf, IsAlongPath, IsInArrival, IsLookedIn, MayHaveKey, Stands, ReadsAmong, ReadsAs, ReadsFor, ReadsSo, formats_read, found_by, has_positions, orders_in, stood_at, IsNumberOf};
+ghost use Rattle.library_parts.specs.Reads.{CanNote, CanStand, CanStandIn, FindsEntry, GivesKey, HasKeyOf, IsAlongPath, IsInArrival, IsLookedIn, MayHaveKey, MayReadSo, Stands, ReadsAmong, ReadsAs, ReadsFor, ReadsNew, ReadsSo, formats_read, found_by, has_positions, orders_in, stood_at, IsNumberOf};
 
 use crate::contents::Contents;
 use crate::finds::OpenFound;
@@ -36,7 +40,6 @@ use field_types::values::Value;
 use dds_logical::LogicalSpec;
 use file_catalogue::{Described, File, FileBody};
 use file_model::paths::PathSpec;
-use logical_paths::own_path;
 use file_cursor::places::{Hit, Order};
 use job_table::{Jobs, Open, OpenReads};
 use key_order::given::{KeyFault, encode_values, key_fault};
@@ -62,7 +65,8 @@ pub struct Found {
 impl Contents {
     /// How a new open reads: by its file's path, or in arrival order. It stands at the start.
     pub fn reads_for(&self, args: &OpenFile, member: u32) -> Result<OpenReads, AllocError>
-        requires { OpensMember self.now.state.files member (named args.now.file self.now.state.files) }
+        requires member { OpensMember self.now.state.files member (named args.now.file self.now.state.files) }
+        requires so { MayReadSo args.now (named args.now.file self.now.state.files) }
         ensures { IfOk result (λ reads. ReadsFor self.now args.now member reads) }
     {
         // The path of each file is kept.
@@ -81,7 +85,12 @@ impl Contents {
         args: &OpenFile,
         described: &Described,
         member: u32,
-    ) -> Result<OpenReads, AllocError> {
+    ) -> Result<OpenReads, AllocError>
+        ensures { IfOk result (λ reads. ReadsNew args.now.commit self.now.room.paths.paths (path_by (bases_in self.now.state.files)
+            (is_file_path args.now.access_path && has_key (PhysicalFile described.now.spec)) member (PhysicalFile described.now.spec)) reads) }
+    {
+        // Its key is by its fields.
+        let _spec = described.spec();
         let keys = described.keys();
         if is_by_key(args, keys) {
             let path = member_path(self.alloc, member, described.format(), keys)?;
@@ -92,8 +101,11 @@ impl Contents {
     }
 
     /// How a new open of a logical file reads: by its path, which is by relative record numbers where the file has no key.
-    fn reads_view(&self, commit: bool, spec: &LogicalSpec) -> Result<OpenReads, AllocError> {
-        let path = own_path(self.alloc, &self.catalogue, spec)?;
+    fn reads_view(&self, commit: bool, spec: &LogicalSpec) -> Result<OpenReads, AllocError>
+        requires { IsView (bases_in self.now.state.files) spec.now }
+        ensures { IfOk result (λ reads. ReadsNew commit self.now.room.paths.paths (Some (own_path (bases_in self.now.state.files) spec.now)) reads) }
+    {
+        let path = self.own_path(spec)?;
         match spec {
             LogicalSpec::Simple(view) => self.reads_by_path(commit, &path, &view.keys),
             _ => unreachable!(),
