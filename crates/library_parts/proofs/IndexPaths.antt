@@ -125,7 +125,7 @@ pub record IsOfOwner (files : Named FileState) (spec : PathSpec) : Type 0 where
   pub number : ℕ
   pub of : IsOfMember number spec
 
-physical-of : (number : ℕ) (spec : PhysicalSpec) → IsOfMember number (physical_path number spec.format.fields spec.keys)
+pub physical-of : (number : ℕ) (spec : PhysicalSpec) → IsOfMember number (physical_path number spec.format.fields spec.keys)
 physical-of number spec = record { format = path_format number every_record (own_fields spec.format.fields) spec.keys.parts; formats = refl; member = refl }
 
 -- the paths over the members of a physical file

@@ -11,7 +11,7 @@ use Rattle.path_set.specs.RecordChanges.{RecordChange, TakeImage, HaveRoom, move
 use Rattle.job_table.specs.Table.{changes_held}
 use Rattle.library_parts.specs.Parts.{state_of}
 use Rattle.library_parts.proofs.IndexLaws.{laws}
-use Rattle.library_parts.proofs.IndexLooks.{takes-slot, takes-stood}
+use Rattle.library_parts.proofs.IndexImages.{takes-slot, takes-stood}
 use Rattle.library_parts.proofs.IndexPaths.{IsIndexed-roomier}
 use Rattle.library_parts.proofs.ResultLemmas.{if_ok-each}
 use Rattle.library_parts.proofs.contents.Contents.prepare_moves.Goals as goal
@@ -21,15 +21,16 @@ prepare-requires-clause-old c =
     let parts = c.self.inside in
     let state = state_of parts.catalogue parts.members parts.next_member parts.journal parts.locks parts.jobs in
     subst (λ (o : Option (List ℕ)). TakeImage c.args.member o parts.paths.paths) (sym c.live_image-old.ensures.image)
-    (takes-stood state c.args.member c.args.rrn parts.jobs.orders parts.jobs.moves parts.paths laws c.len-files.ensures.keyed c.self.invariant.0.lawful c.live_image-old.ensures.lawful
-    c.self.invariant.2)
+    (takes-stood state c.args.member c.args.rrn parts.jobs.orders parts.jobs.moves parts.paths laws c.len-files.ensures.keyed c.len-files.ensures.unique c.self.invariant.0.lawful c.kept-kept.ensures.shared
+    c.live_image-old.ensures.lawful c.self.invariant.2)
 
 pub prepare-requires-clause-new : goal.prepare-requires-clause-new
 prepare-requires-clause-new c =
     let parts = c.self.inside in
     let state = state_of parts.catalogue parts.members parts.next_member parts.journal parts.locks parts.jobs in
     subst (λ (o : Option (List ℕ)). TakeImage c.args.member o parts.paths.paths) (sym c.image_in.ensures)
-    (takes-slot state c.args.member c.args.new.now parts.jobs.orders parts.jobs.moves parts.paths laws c.len-files.ensures.keyed c.self.invariant.0.lawful c.self.invariant.2
+    (takes-slot state c.args.member c.args.new.now parts.jobs.orders parts.jobs.moves parts.paths laws c.len-files.ensures.keyed c.len-files.ensures.unique c.self.invariant.0.lawful c.kept-kept.ensures.shared
+    c.self.invariant.2
     (rw (← c.self.view_is) at c.requires.values) (rw (← c.self.view_is) at c.requires.fits) c.of_bytes.ensures)
 
 pub invariant_of-self : goal.invariant_of-self
