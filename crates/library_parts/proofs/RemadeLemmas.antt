@@ -48,7 +48,7 @@ module _ (s : State) (member : ℕ) (orders : List (Named OpenOrder)) (moves : L
     later = with_member member after s.members
 
     -- each member has records of its file then
-    remade-records : (name : List ℕ) (file : FileState) (number : ℕ) → Owns s.files name file number → HasRecordsOf (fields_of file) number (with_member member after s.members)
+    pub remade-records : (name : List ℕ) (file : FileState) (number : ℕ) → Owns s.files name file number → HasRecordsOf (fields_of file) number (with_member member after s.members)
     remade-records name file number owns =
         elim (cases_eq number member) [
           | inl same ↦ subst (λ (n : ℕ). HasRecordsOf (fields_of file) n later) (sym same)
@@ -91,10 +91,10 @@ found-member number members state (Some y) x found is =
 
 -- ---- a copy without the deleted slots
 
-at-next : (slots : List Slot) (place : ℕ) (slot : Slot) → slice_get slots place ≡ Some slot → drop place slots ≡ slot ∷ drop (suc place) slots
-at-next [] place slot at = absurd cc
-at-next (s ∷ slots) zero slot at = cc
-at-next (s ∷ slots) (suc place) slot at = at-next slots place slot at
+pub at-next : {A : Type 0} (xs : List A) (place : ℕ) (x : A) → slice_get xs place ≡ Some x → drop place xs ≡ x ∷ drop (suc place) xs
+at-next [] place x at = absurd cc
+at-next (y ∷ xs) zero x at = cc
+at-next (y ∷ xs) (suc place) x at = at-next xs place x at
 
 filter-cons : (slot : Slot) (rest : List Slot) → filter is_live (slot ∷ rest) ≡ filter is_live (slot ∷ []) ++ filter is_live rest
 filter-cons (Live image) rest = refl
