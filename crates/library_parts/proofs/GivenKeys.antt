@@ -48,7 +48,7 @@ use Rattle.range_images.specs.declared.slot_given.SlotGiven.{SlotGiven}
 use Rattle.library_parts.specs.declared.stop.Stop.{Stop}
 use Rattle.library_parts.specs.declared.stop.Stop.TheVariants.{NoMemory, Refused}
 use Rattle.library_parts.specs.Answers.{MayAllow}
-use Rattle.library_parts.specs.Given.{given_to, members_given, AreTold, FitsMember, IsTold, MayGive}
+use Rattle.library_parts.specs.Given.{given_to, members_given, with_given, AreTold, FitsMember, IsTold, MayGive}
 use Rattle.library_parts.specs.Indexed.{AreViews, HasBytes, IsIndexed, IsSimple, IsView, IsViewBeside}
 use Rattle.library_parts.specs.Keyed.{AllAreKeyed}
 use Rattle.library_parts.specs.Lawful.{HoldsValues, IsLibrary}
@@ -299,3 +299,8 @@ module _ (s : State) (number : ℕ) (given : List SlotGiven) (orders : List (Nam
   uniques-told =
       each-flat (IsTold later now.paths) (λ (entry : List ℕ × FileState). uniques_by entry.1.spec (memory_of s) number entry) s.files
       (each-found (λ (name : List ℕ) (file : FileState). AllByRecursion (IsTold later now.paths) (uniques_by file.spec (memory_of s) number (name, file))) s.files distinct file-told)
+
+  -- so what is found in them is what the definition refuses
+  pub given-told : (result : Result (Unit {0}) Stop) → TellsAll s.files now.paths number result
+      → MayAllow result (all_apart (unique_paths number (memory_of s)) (with_given number given (memory_of s)))
+  given-told result tells = tells (memory_of s) (with_given number given (memory_of s)) refl indexed.views uniques-told
