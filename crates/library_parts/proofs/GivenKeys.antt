@@ -252,9 +252,6 @@ module _ (s : State) (number : ℕ) (given : List SlotGiven) (orders : List (Nam
       → AllByRecursion (IsTold (members_given number given s.members) now.paths) (own_unique name number spec file.members)
   physical-told name file spec here is = by spec.keys.unique refl (has_member number file.members) refl
     where
-      abbrev whole : PathSpec
-      whole = physical_path number spec.format.fields spec.keys
-
       by : (u : Bool) → spec.keys.unique ≡ u → (h : Bool) → has_member number file.members ≡ h
           → AllByRecursion (IsTold later now.paths) (if u && h then record { file = name; path = physical_path number spec.format.fields spec.keys } ∷ [] else [])
       by false unique h has = tt
