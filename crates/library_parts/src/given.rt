@@ -11,6 +11,7 @@ ghost use Rattle.library_parts.specs.Answers.{MayAllow};
 ghost use Rattle.library_parts.specs.Given.{AreMovesOfAll, AreTold, CanTake, HasRoomFor, IsTold, MayGive, members_given, unique_of, with_given};
 ghost use Rattle.library_parts.specs.Indexed.{AreViews, HasBytes, IsSimple};
 
+use crate::bases::LibraryBases;
 use crate::contents::Contents;
 use crate::members::{changes_with, of_bytes, weight};
 use crate::stop::Stop;
@@ -187,7 +188,8 @@ fn view_unique(
     };
     let (base, _) = catalogue.base_of(&view.base);
     if view.keys.unique && base == member {
-        let path = own_path(alloc, catalogue, spec)?;
+        let bases = LibraryBases { files: catalogue };
+        let path = own_path(alloc, &bases, spec)?;
         Ok(Some(path))
     } else {
         Ok(None)

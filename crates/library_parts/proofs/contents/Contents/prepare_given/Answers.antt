@@ -37,7 +37,7 @@ prepare_all-requires c =
 
 pub invariant_of-self : goal.invariant_of-self
 invariant_of-self c =
-    (c.self.invariant.0, c.self.invariant.1, IsIndexed-roomier _ _ _ _ _ c.self.inside.paths c.prepare_all.new.self c.prepare_all.ensures.paths c.prepare_all.ensures.rooms c.self.invariant.2)
+    (c.self.invariant.0, c.self.invariant.1, IsIndexed-roomier _ _ _ _ _ _ c.self.inside.paths c.prepare_all.new.self c.prepare_all.ensures.paths c.prepare_all.ensures.rooms c.self.invariant.2)
 
 pub returns-clause-moves : goal.returns-clause-moves
 returns-clause-moves c =

@@ -35,7 +35,7 @@ prepare-requires-clause-new c =
 
 pub invariant_of-self : goal.invariant_of-self
 invariant_of-self c =
-    (c.self.invariant.0, c.self.invariant.1, IsIndexed-roomier _ _ _ _ _ c.self.inside.paths c.prepare.new.self c.prepare.ensures.paths c.prepare.ensures.rooms c.self.invariant.2)
+    (c.self.invariant.0, c.self.invariant.1, IsIndexed-roomier _ _ _ _ _ _ c.self.inside.paths c.prepare.new.self c.prepare.ensures.paths c.prepare.ensures.rooms c.self.invariant.2)
 
 pub returns-clause-moves : goal.returns-clause-moves
 returns-clause-moves c =
