@@ -10,7 +10,6 @@ use Rattle.std.proofs.lemmas.List.Elements.{All-from_recursion, recursion_from_A
 use Rattle.dds_physical.specs.declared.physical_files.PhysicalSpec.{PhysicalSpec}
 use Rattle.dds_logical.specs.declared.views.LogicalSpec.{LogicalSpec}
 use Rattle.dds_logical.specs.declared.views.LogicalSpec.TheVariants.{Simple, Multi, Join}
-use Rattle.dds_logical.specs.declared.views.View.{View}
 use Rattle.file_model.specs.declared.paths.PathSpec.{PathSpec}
 use Rattle.file_model.specs.FilePaths.{physical_path}
 use Rattle.file_model.specs.Paths.{repeated_in}
@@ -21,12 +20,11 @@ use Rattle.logical_model.specs.FilePaths.{is_over, logical_paths, views_path}
 use Rattle.logical_laws.proofs.ListLemmas.{each-append}
 use Rattle.member_slots.specs.declared.slot.Slot.{Slot}
 use Rattle.member_slots.specs.declared.slot.Slot.TheVariants.{Live, Deleted}
-use Rattle.member_slots.specs.Member.{MemberState, FitsSlot}
-use Rattle.member_slots.specs.Members.{Numbered, NumberedMembers, AreMembers, item_at, member_of}
+use Rattle.member_slots.specs.Member.{FitsSlot}
+use Rattle.member_slots.specs.Members.{Numbered, NumberedMembers, AreMembers, member_of}
 use Rattle.access_path.specs.PathBytes.{IsInBytes}
 use Rattle.path_entrants.specs.Repeated.{TellsRepeated}
 use Rattle.path_set.specs.declared.moves.PathMove.{PathMove}
-use Rattle.path_set.specs.EqualKeys.{repeated_of}
 use Rattle.path_set.specs.KeptPaths.{KeptPath, KeptPaths, NumberedPaths, AreShared, entries_of}
 use Rattle.path_set.proofs.ShareLemmas.{judged}
 use Rattle.file_catalogue.specs.Owners.{Owns, has_number}

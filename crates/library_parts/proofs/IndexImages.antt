@@ -28,7 +28,7 @@ use Rattle.logical_laws.proofs.ListLemmas.{each-contained}
 use Rattle.logical_paths.specs.KeyedViews.{HaveRecords, IsKeyedLogical, IsRecordOfBases}
 use Rattle.path_entrants.specs.Formats.{IsAskable}
 use Rattle.path_set.specs.declared.moves.PathMove.{PathMove}
-use Rattle.path_set.specs.KeptPaths.{KeptPath, KeptPaths, NumberedPaths, AreShared}
+use Rattle.path_set.specs.KeptPaths.{KeptPaths, NumberedPaths, AreShared}
 use Rattle.path_set.specs.MemberSteps.{image_in}
 use Rattle.path_set.specs.RecordChanges.{TakeImage, TakesImage}
 use Rattle.path_set.specs.Sharing.{CanBeKept}
@@ -247,7 +247,8 @@ pub takes-slot : (s : State) (member : ℕ) (slot : Slot) (orders : List (Named 
     → IsDistinct same_name (keys_of s.files) → IsLibrary s → AreShared kept.paths
     → IsIndexed s.files s.members s.jobs orders moves kept → MayStand s member slot → FitsSlot (member_of member s.members).record_length slot → HasBytes slot
     → TakeImage member (image_in slot) kept.paths
-takes-slot s member (Live image) orders moves kept laws keyed distinct lawful shared indexed may fits bytes = takes-image s member image orders moves kept laws keyed distinct lawful shared indexed may fits bytes
+takes-slot s member (Live image) orders moves kept laws keyed distinct lawful shared indexed may fits bytes =
+    takes-image s member image orders moves kept laws keyed distinct lawful shared indexed may fits bytes
 takes-slot s member Deleted orders moves kept laws keyed distinct lawful shared indexed may fits bytes = λ k d low. tt
 
 -- so it can about the one that stands there

@@ -1,6 +1,5 @@
-use Rattle.std.proofs.Common.{◌≡◌, ◌∙◌, ◌+◌, ◌-◌, ◌≤◌, List, Result, Ok, Err, ap, subst, arith}
+use Rattle.std.proofs.Common.{◌≡◌, ◌∙◌, ◌+◌, ◌-◌, List, Result, Ok, Err, ap, subst, arith}
 use Rattle.std.specs.List.{AllByRecursion}
-use Rattle.member_slots.specs.Member.{MemberState}
 use Rattle.member_slots.specs.Members.{NumberedMembers, member_of}
 use Rattle.range_images.specs.declared.slot_given.SlotGiven.{SlotGiven}
 use Rattle.library_parts.specs.declared.stop.Stop.{Stop}
