@@ -52,7 +52,7 @@ use Rattle.library_parts.specs.Keyed.{AllAreKeyed}
 use Rattle.library_parts.specs.Lawful.{HoldsValues, IsLibrary}
 use Rattle.library_parts.specs.Slots.{MayStand}
 use Rattle.library_parts.proofs.GivenLemmas.{given-hold}
-use Rattle.library_parts.proofs.IndexImages.{bases-have, fields-are, records-of, view-of}
+use Rattle.library_parts.proofs.IndexLooks.{bases-have, fields-are, records-of, view-of}
 use Rattle.library_parts.proofs.IndexLaws.{laws}
 use Rattle.library_parts.proofs.MemberLemmas.{AllByRecursion-get, HasRecords-member_of}
 use Rattle.library_parts.proofs.RemadeLemmas.{at-next, remade-records}

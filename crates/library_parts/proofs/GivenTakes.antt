@@ -31,7 +31,7 @@ use Rattle.library_parts.specs.Slots.{MayStand}
 use Rattle.library_parts.proofs.GivenIndex.{long-given}
 use Rattle.library_parts.proofs.GivenLemmas.{put-holds}
 use Rattle.library_parts.proofs.IndexLaws.{laws}
-use Rattle.library_parts.proofs.IndexImages.{fits-of, takes-slot}
+use Rattle.library_parts.proofs.IndexLooks.{fits-of, takes-slot}
 use Rattle.library_parts.proofs.IndexRecords.{bytes-member}
 use Rattle.library_parts.proofs.MemberLemmas.{HasRecords-member_of}
 

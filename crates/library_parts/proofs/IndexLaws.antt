@@ -1,7 +1,7 @@
 -- The laws of the paths of files, as lemmas on looks take them.
 use Rattle.physical_paths.proofs.RecordLemmas.{image-taken, keys-within, path-bytes, path-kept}
 use Rattle.logical_paths.proofs.ViewLemmas.{images-taken, keys-short, paths-bytes, paths-kept}
-use Rattle.library_parts.proofs.IndexImages.{AreLaws}
+use Rattle.library_parts.proofs.IndexLooks.{AreLaws}
 
 pub laws : AreLaws
 laws = record {

@@ -24,7 +24,6 @@ pub mod IndexDeleted
 pub mod IndexDetached
 pub mod IndexMoves
 pub mod IndexRebuilt
-pub mod IndexImages
 pub mod IndexLooks
 pub mod IndexLaws
 pub mod IndexKeyed

@@ -32,7 +32,7 @@ use Rattle.library_parts.specs.Indexed.{IsIndexed}
 use Rattle.library_parts.specs.Keyed.{AllAreKeyed}
 use Rattle.library_parts.specs.Lawful.{IsLibrary}
 use Rattle.library_parts.specs.Slots.{with_live}
-use Rattle.library_parts.proofs.IndexImages.{bases-have, each-kept, fields-are, records-of, view-of}
+use Rattle.library_parts.proofs.IndexLooks.{bases-have, each-kept, fields-are, records-of, view-of}
 use Rattle.library_parts.proofs.IndexLaws.{laws}
 use Rattle.library_parts.proofs.IndexMoves.{at-place}
 use Rattle.library_parts.proofs.MemberLemmas.{member_of-with, is_some-IsSome}

@@ -9,7 +9,7 @@ use Rattle.path_set.specs.RecordChanges.{TakeImage, HaveRoom, moves_in}
 use Rattle.job_table.specs.Table.{changes_held}
 use Rattle.library_parts.specs.Parts.{state_of}
 use Rattle.library_parts.proofs.IndexLaws.{laws}
-use Rattle.library_parts.proofs.IndexImages.{takes-slot, takes-stood}
+use Rattle.library_parts.proofs.IndexLooks.{takes-slot, takes-stood}
 use Rattle.library_parts.proofs.IndexPaths.{IsIndexed-roomier}
 use Rattle.library_parts.proofs.ResultLemmas.{if_ok-each}
 use Rattle.library_parts.proofs.contents.Contents.prepare_moves.Goals as goal
