@@ -26,6 +26,7 @@ pub mod IndexMoves
 pub mod IndexRebuilt
 pub mod IndexLooks
 pub mod OpenLooks
+pub mod RisingLemmas
 pub mod IndexLaws
 pub mod IndexKeyed
 pub mod IndexNew

@@ -1,59 +1,79 @@
--- Which records have the key of an image, by the positions of a file's key in its own records, and which of them do the changes of open commit
--- cycles keep to themselves? (Our own.)
-use Rattle.std.specs.Prelude.{◌≡◌, ℕ, ◌+◌, ◌==◌, ◌&&◌, nat_lt, Bool, true, false, Option, Some, None, Result, Ok, Err, List, [], ◌∷◌, find, if◌then◌else◌}
+-- Which records have a key in a path of one format, by the key's bytes, and which of them do the changes of open commit cycles keep to themselves?
+-- (Our own.)
+use Rattle.std.specs.Prelude.{◌≡◌, ℕ, ◌+◌, ◌==◌, ◌&&◌, nat_eq, nat_lt, pointwise, Bool, true, false, Option, Some, None, unwrap_or, Result, Ok, Err, List, [], ◌∷◌, if◌then◌else◌}
 use Rattle.std.specs.List.{AllByRecursion, filter_map}
-use Rattle.std.specs.Ordering.{is_eq}
-use Rattle.key_spec.specs.declared.KeyPart.{KeyPart}
-use Rattle.key_order.specs.KeyFields.{HasKey}
-use Rattle.file_model.specs.KeyOrder.{compare_keys, key_of}
-use Rattle.member_slots.specs.Members.{Numbered, item_at}
+use Rattle.access_path.specs.PathBytes.{format_key}
+use Rattle.file_model.specs.declared.paths.PathFormat.{PathFormat}
+use Rattle.key_order.specs.KeyFields.{AreBytes}
+use Rattle.member_slots.specs.Member.{slot_at}
+use Rattle.member_slots.specs.Members.{item_at, member_of}
 use Rattle.member_slots.specs.declared.slot.Slot.{Slot}
 use Rattle.member_slots.specs.declared.slot.Slot.TheVariants.{Live, Deleted}
 use Rattle.journal_model.specs.Rollback.{MemberChange}
 use Rattle.library_model.specs.declared.replies.Reply.{Reply}
 use Rattle.library_model.specs.declared.replies.Reply.TheVariants.{DuplicateKey, HeldByGroup, RecordInUse}
-use Rattle.path_entrants.specs.Formats.{CanBeAsked}
+use Rattle.path_entrants.specs.Formats.{IsAskable}
 use Rattle.path_set.specs.EqualKeys.{clash_in}
 use Rattle.path_set.specs.KeptPaths.{KeptPath, NumberedPaths}
-use Rattle.path_set.specs.MemberSteps.{is_over}
+use Rattle.path_set.specs.MemberSteps.{image_in}
+use Rattle.path_set.specs.RecordChanges.{TakeImage}
+use Rattle.library_steps.specs.Records.{slot_there}
 use Rattle.library_steps.specs.Refusals.{◌>>=◌, refuse_with}
-use Rattle.library_steps.specs.State.{JobState}
-use Rattle.library_steps.specs.UniqueKeys.{Reservation}
+use Rattle.library_steps.specs.State.{State, Memory, FileState, JobState, job_of, memory_of}
+use Rattle.library_steps.specs.UniqueKeys.{Reservation, new_keys, none_repeated, none_reserved, uniques_by}
 use Rattle.library_steps.specs.Uses.{changes_in}
-use Rattle.library_parts.specs.declared.keys.Reservation.{Reservation as Reserved}
+use Rattle.library_parts.specs.declared.keys.Reservation.{Reservation as Kept}
+use Rattle.library_parts.specs.declared.keys.Test.{Test}
+use Rattle.library_parts.specs.declared.keys.Test.TheVariants.{Reserved, Repeated}
+use Rattle.library_parts.specs.Parts.{LibraryParts}
 
--- the other image has the key of the first
-abbrev pub is_same_key : List KeyPart → (image other : List ℕ) → Bool
-is_same_key parts image other = is_eq (compare_keys (key_of parts other) (key_of parts image))
+-- the path of this number has this one format, which is over the member
+pub record IsFormatAt (id member : ℕ) (format : PathFormat) (paths : NumberedPaths) : Type 0 where
+  pub path : KeptPath
+  pub at : item_at id paths ≡ Some path
+  pub formats : path.spec.formats ≡ format ∷ []
+  pub member : format.member ≡ member
 
-abbrev pub is_key_of_slot : List KeyPart → (image : List ℕ) → Option Slot → Bool
-is_key_of_slot parts image None = false
-is_key_of_slot parts image (Some Deleted) = false
-is_key_of_slot parts image (Some (Live other)) = is_same_key parts image other
+-- ---- keys in bytes
 
--- the change took a record of the member with the key of the image away
-abbrev pub takes : List KeyPart → (member : ℕ) → (image : List ℕ) → MemberChange → Bool
-takes parts member image undo = (undo.member == member) && is_key_of_slot parts image undo.change.before
+-- the key, where there is one, is this one
+abbrev pub is_that_key : (key : List ℕ) → Option (List ℕ) → Bool
+is_that_key key None = false
+is_that_key key (Some other) = pointwise nat_eq other key
+
+abbrev pub is_key_of_slot : PathFormat → (key : List ℕ) → Option Slot → Bool
+is_key_of_slot format key None = false
+is_key_of_slot format key (Some Deleted) = false
+is_key_of_slot format key (Some (Live image)) = is_that_key key (format_key format image)
+
+-- the key that comes into the path: that of the image, where the slot hasn't the same
+abbrev pub new_bytes : PathFormat → Option Slot → Option (List ℕ) → Option (List ℕ)
+new_bytes format slot None = None
+new_bytes format slot (Some key) = if is_key_of_slot format key slot then None else Some key
+
+-- the change took a record of the member with the key away
+abbrev pub takes : PathFormat → (member : ℕ) → (key : List ℕ) → MemberChange → Bool
+takes format member key undo = (undo.member == member) && is_key_of_slot format key undo.change.before
 
 -- the records that were taken away so
-abbrev pub taken : List KeyPart → (member : ℕ) → (image : List ℕ) → List MemberChange → List ℕ
-taken parts member image undos = filter_map (λ undo. if takes parts member image undo then Some (undo.change.place + 1) else None) undos
+abbrev pub taken : PathFormat → (member : ℕ) → (key : List ℕ) → List MemberChange → List ℕ
+taken format member key undos = filter_map (λ undo. if takes format member key undo then Some (undo.change.place + 1) else None) undos
 
--- the record that was taken away has a key
-abbrev pub HasKeyIn : List KeyPart → Option Slot → Type 0
-HasKeyIn parts None = Unit {0}
-HasKeyIn parts (Some Deleted) = Unit {0}
-HasKeyIn parts (Some (Live image)) = HasKey parts image
+-- the format can be asked about the record that was taken away
+abbrev pub IsAskedIn : PathFormat → Option Slot → Type 0
+IsAskedIn format None = Unit {0}
+IsAskedIn format (Some Deleted) = Unit {0}
+IsAskedIn format (Some (Live image)) = IsAskable format image
 
-abbrev pub HasKeyBefore : List KeyPart → (member : ℕ) → MemberChange → Type 0
-HasKeyBefore parts member undo = undo.member ≡ member → HasKeyIn parts undo.change.before
+abbrev pub IsAskedBefore : PathFormat → (member : ℕ) → MemberChange → Type 0
+IsAskedBefore format member undo = undo.member ≡ member → IsAskedIn format undo.change.before
 
-abbrev pub HaveKeysBefore : List KeyPart → (member : ℕ) → List MemberChange → Type 0
-HaveKeysBefore parts member undos = AllByRecursion (HasKeyBefore parts member) undos
+abbrev pub AreAskedBefore : PathFormat → (member : ℕ) → List MemberChange → Type 0
+AreAskedBefore format member undos = AllByRecursion (IsAskedBefore format member) undos
 
 -- in each of the jobs
-abbrev pub AllHaveKeysBefore : List KeyPart → (member : ℕ) → List JobState → Type 0
-AllHaveKeysBefore parts member jobs = AllByRecursion (λ job. HaveKeysBefore parts member (changes_in job.cycle)) jobs
+abbrev pub AllAreAskedBefore : PathFormat → (member : ℕ) → List JobState → Type 0
+AllAreAskedBefore format member jobs = AllByRecursion (λ job. AreAskedBefore format member (changes_in job.cycle)) jobs
 
 -- ---- the least of them
 
@@ -70,7 +90,7 @@ lesser_reserved job rrn None = Some (record { job = job; rrn = rrn })
 lesser_reserved job rrn (Some other) = if nat_lt other.rrn rrn then Some other else Some (record { job = job; rrn = rrn })
 
 -- a reservation as the definitions have it
-abbrev pub reservation_of : Reserved → Reservation
+abbrev pub reservation_of : Kept → Reservation
 reservation_of its = record { job = its.job; rrn = its.rrn }
 
 -- that of a job before those of the jobs behind it
@@ -79,11 +99,11 @@ first_reserved job None rest = rest
 first_reserved job (Some rrn) rest = lesser_reserved job rrn rest
 
 -- of all jobs but this one, the first of which has that number
-abbrev pub least_reserved : List KeyPart → (member : ℕ) → (image : List ℕ) → (job number : ℕ) → List JobState → Option Reservation
-least_reserved parts member image job number [] = None
-least_reserved parts member image job number (one ∷ jobs) =
-    if number == job then least_reserved parts member image job (number + 1) jobs
-    else first_reserved number (least_of (taken parts member image (changes_in one.cycle))) (least_reserved parts member image job (number + 1) jobs)
+abbrev pub least_reserved : PathFormat → (member : ℕ) → (key : List ℕ) → (job number : ℕ) → List JobState → Option Reservation
+least_reserved format member key job number [] = None
+least_reserved format member key job number (one ∷ jobs) =
+    if number == job then least_reserved format member key job (number + 1) jobs
+    else first_reserved number (least_of (taken format member key (changes_in one.cycle))) (least_reserved format member key job (number + 1) jobs)
 
 -- ---- whether open commit cycles keep the key to themselves
 
@@ -92,28 +112,60 @@ abbrev pub own_reserved : (commit : Bool) → Option ℕ → Option ℕ
 own_reserved true rrn = None
 own_reserved false rrn = rrn
 
-abbrev pub own_kept : List KeyPart → (member : ℕ) → (image : List ℕ) → (commit : Bool) → (own : List MemberChange) → Result Bool Reply
-own_kept parts member image commit own = refuse_with (λ rrn. HeldByGroup rrn) (own_reserved commit (least_of (taken parts member image own)))
+abbrev pub own_kept : PathFormat → (member : ℕ) → (key : List ℕ) → (commit : Bool) → (own : List MemberChange) → Result Bool Reply
+own_kept format member key commit own = refuse_with (λ rrn. HeldByGroup rrn) (own_reserved commit (least_of (taken format member key own)))
 
-abbrev pub keys_kept : List KeyPart → (member : ℕ) → (image : List ℕ) → (job : ℕ) → (commit : Bool) → (own : List MemberChange) → List JobState → Result Bool Reply
-keys_kept parts member image job commit own jobs = do
-  _ ← refuse_with (λ r. RecordInUse r.job member r.rrn) (least_reserved parts member image job 1 jobs)
-  own_kept parts member image commit own
+abbrev pub keys_kept : PathFormat → (member : ℕ) → (key : List ℕ) → (job : ℕ) → (commit : Bool) → (own : List MemberChange) → List JobState → Result Bool Reply
+keys_kept format member key job commit own jobs = do
+  _ ← refuse_with (λ r. RecordInUse r.job member r.rrn) (least_reserved format member key job 1 jobs)
+  own_kept format member key commit own
 
 -- ---- whether another record has the key
-
--- the path over the member can be asked about the image
-pub record HasPathOver (member : ℕ) (image : List ℕ) (paths : NumberedPaths) : Type 0 where
-  pub path : Numbered KeptPath
-  pub first : find (λ p. is_over member p.item.spec) paths ≡ Some path
-  pub there : item_at path.number paths ≡ Some path.item
-  pub asks : CanBeAsked path.item.spec.formats 0 image
 
 abbrev pub keys_repeated : (file : List ℕ) → (image : List ℕ) → (rrn : ℕ) → KeptPath → Result Bool Reply
 keys_repeated file image rrn path = refuse_with (λ other. DuplicateKey file other) (clash_in 0 image rrn path)
 
--- ---- all of it: nothing where the slot has the key already
+-- ---- one path: nothing where no key comes into it
 
-abbrev pub new_key_plan : List KeyPart → (member : ℕ) → (image : List ℕ) → (job : ℕ) → (commit : Bool) → (own : List MemberChange) → List JobState → Option Slot → (file : List ℕ) → (rrn : ℕ) → KeptPath → Result Bool Reply
-new_key_plan parts member image job commit own jobs slot file rrn path =
-    if is_key_of_slot parts image slot then Ok true else (keys_kept parts member image job commit own jobs >>= (λ _. keys_repeated file image rrn path))
+-- what open commit cycles refuse
+abbrev pub new_kept : PathFormat → (member : ℕ) → (job : ℕ) → (commit : Bool) → (own : List MemberChange) → List JobState → Option (List ℕ) → Result Bool Reply
+new_kept format member job commit own jobs None = Ok true
+new_kept format member job commit own jobs (Some key) = keys_kept format member key job commit own jobs
+
+-- what another record refuses
+abbrev pub new_repeated : (file : List ℕ) → (image : List ℕ) → (rrn : ℕ) → KeptPath → Option (List ℕ) → Result Bool Reply
+new_repeated file image rrn path None = Ok true
+new_repeated file image rrn path (Some key) = keys_repeated file image rrn path
+
+-- what a path refuses of a record in the place of a slot, of the one kind or of the other
+abbrev pub tested : Test → (file : List ℕ) → State → (job : ℕ) → (commit : Bool) → (member rrn : ℕ) → (image : List ℕ) → KeptPath → PathFormat → Result Bool Reply
+tested Reserved file s job commit member rrn image path format =
+    new_kept format member job commit (changes_in (job_of job (memory_of s)).cycle) s.jobs (new_bytes format (slot_at (member_of member s.members) rrn) (format_key format image))
+tested Repeated file s job commit member rrn image path format =
+    new_repeated file image rrn path (new_bytes format (slot_at (member_of member s.members) rrn) (format_key format image))
+
+-- nothing, whichever file has the path
+pub record AreFreeIn (s : State) (job : ℕ) (commit : Bool) (member rrn : ℕ) (image : List ℕ) (path : KeptPath) (format : PathFormat) : Type 0 where
+  pub reserved : (file : List ℕ) → tested Reserved file s job commit member rrn image path format ≡ Ok true
+  pub repeated : (file : List ℕ) → tested Repeated file s job commit member rrn image path format ≡ Ok true
+
+-- ---- all paths
+
+-- what the unique paths over a member refuse of this kind, in the order of their files
+abbrev pub keys_tested : Test → (job : ℕ) → (commit : Bool) → (member rrn : ℕ) → (image : List ℕ) → Memory → Result Bool Reply
+keys_tested Reserved job commit member rrn image m = none_reserved job commit (new_keys member (slot_there member rrn m) image m) m
+keys_tested Repeated job commit member rrn image m = none_repeated rrn (new_keys member (slot_there member rrn m) image m) m
+
+-- the number of the one unique path of a file over the member
+abbrev pub IsUniquePathOf : Memory → NumberedPaths → (member : ℕ) → List ℕ × FileState → Option ℕ → Type 0
+IsUniquePathOf m paths member entry None = uniques_by entry.1.spec m member entry ≡ []
+IsUniquePathOf m paths member entry (Some id) =
+    (path : KeptPath) × (item_at id paths ≡ Some path) × (uniques_by entry.1.spec m member entry ≡ record { file = entry.0; path = path.spec } ∷ [])
+
+-- the paths over the member can be asked about the image, about the record that it is to take the place of, and about those that open commit
+-- cycles took away
+pub record IsNewFor (parts : LibraryParts) (member rrn : ℕ) (image : List ℕ) : Type 0 where
+  pub new : TakeImage member (Some image) parts.room.paths.paths
+  pub old : TakeImage member (image_in (unwrap_or (slot_at (member_of member parts.state.members) rrn) Deleted)) parts.room.paths.paths
+  pub before : (id : ℕ) (format : PathFormat) → IsFormatAt id member format parts.room.paths.paths → AllAreAskedBefore format member parts.state.jobs
+  pub bytes : AreBytes image
