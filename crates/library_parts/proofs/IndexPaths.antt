@@ -186,7 +186,7 @@ pub record FileStays (files others : Named FileState) (name : List ℕ) (file : 
 abbrev pub FilesStay : Named FileState → Named FileState → Type 0
 FilesStay files others = (name : List ℕ) (file : FileState) → named name files ≡ Some file → FileStays files others name file
 
-head_of : List PathSpec → Option PathSpec
+abbrev head_of : List PathSpec → Option PathSpec
 head_of [] = None
 head_of (path ∷ paths) = Some path
 

@@ -1,8 +1,10 @@
--- Which records have a key in a path of one format, by the key's bytes, and which of them do the changes of open commit cycles keep to themselves?
+-- Which records have a key in a path of one format, and which of them do the changes of open commit cycles keep to themselves?
 -- (Our own.)
-use Rattle.std.specs.Prelude.{◌≡◌, ℕ, ◌+◌, ◌==◌, ◌&&◌, nat_eq, nat_lt, pointwise, Bool, true, false, Option, Some, None, unwrap_or, Result, Ok, Err, List, [], ◌∷◌, if◌then◌else◌}
+use Rattle.std.specs.Prelude.{◌≡◌, ℕ, ◌+◌, ◌==◌, nat_lt, Bool, true, false, Option, Some, None, unwrap_or, Result, Ok, Err, List, [], ◌∷◌, if◌then◌else◌}
 use Rattle.std.specs.List.{AllByRecursion, filter_map}
-use Rattle.access_path.specs.PathBytes.{format_key}
+use Rattle.file_model.specs.KeyOrder.{KeyValue}
+use Rattle.file_model.specs.Paths.{path_key, view_of}
+use Rattle.key_order.specs.KeyBytes.{encoded}
 use Rattle.file_model.specs.declared.paths.PathFormat.{PathFormat}
 use Rattle.key_order.specs.KeyFields.{AreBytes}
 use Rattle.member_slots.specs.Member.{slot_at}
@@ -11,16 +13,15 @@ use Rattle.member_slots.specs.declared.slot.Slot.{Slot}
 use Rattle.member_slots.specs.declared.slot.Slot.TheVariants.{Live, Deleted}
 use Rattle.journal_model.specs.Rollback.{MemberChange}
 use Rattle.library_model.specs.declared.replies.Reply.{Reply}
-use Rattle.library_model.specs.declared.replies.Reply.TheVariants.{DuplicateKey, HeldByGroup, RecordInUse}
+use Rattle.library_model.specs.declared.replies.Reply.TheVariants.{HeldByGroup, RecordInUse}
 use Rattle.path_entrants.specs.Formats.{IsAskable}
-use Rattle.path_set.specs.EqualKeys.{clash_in}
 use Rattle.path_set.specs.KeptPaths.{KeptPath, NumberedPaths}
 use Rattle.path_set.specs.MemberSteps.{image_in}
 use Rattle.path_set.specs.RecordChanges.{TakeImage}
 use Rattle.library_steps.specs.Records.{slot_there}
 use Rattle.library_steps.specs.Refusals.{◌>>=◌, refuse_with}
-use Rattle.library_steps.specs.State.{State, Memory, FileState, JobState, job_of, memory_of}
-use Rattle.library_steps.specs.UniqueKeys.{Reservation, new_keys, none_repeated, none_reserved, uniques_by}
+use Rattle.library_steps.specs.State.{Memory, FileState, JobState}
+use Rattle.library_steps.specs.UniqueKeys.{NewKey, Reservation, new_key_in, new_keys, none_repeated, none_reserved, takes_key, uniques_by}
 use Rattle.library_steps.specs.Uses.{changes_in}
 use Rattle.library_parts.specs.declared.keys.Reservation.{Reservation as Kept}
 use Rattle.library_parts.specs.declared.keys.Test.{Test}
@@ -34,30 +35,28 @@ pub record IsFormatAt (id member : ℕ) (format : PathFormat) (paths : NumberedP
   pub formats : path.spec.formats ≡ format ∷ []
   pub member : format.member ≡ member
 
--- ---- keys in bytes
+-- ---- keys
 
--- the key, where there is one, is this one
-abbrev pub is_that_key : (key : List ℕ) → Option (List ℕ) → Bool
-is_that_key key None = false
-is_that_key key (Some other) = pointwise nat_eq other key
+-- these bytes are the key of the image, which the format selects
+abbrev pub ShowsKey : PathFormat → (image : List ℕ) → Option (List ℕ) → Option (List KeyValue) → Type 0
+ShowsKey format image None wanted = wanted ≡ None
+ShowsKey format image (Some bytes) wanted = (wanted ≡ Some (path_key format image)) × (bytes ≡ encoded format.key (view_of format.fields image))
 
-abbrev pub is_key_of_slot : PathFormat → (key : List ℕ) → Option Slot → Bool
-is_key_of_slot format key None = false
-is_key_of_slot format key (Some Deleted) = false
-is_key_of_slot format key (Some (Live image)) = is_that_key key (format_key format image)
+-- these bytes stand for the key of some image
+pub record IsKeyIn (format : PathFormat) (bytes : List ℕ) (key : List KeyValue) : Type 0 where
+  pub image : List ℕ
+  pub are : AreBytes image
+  pub encoded_is : bytes ≡ encoded format.key (view_of format.fields image)
+  pub key_is : key ≡ path_key format image
 
--- the key that comes into the path: that of the image, where the slot hasn't the same
-abbrev pub new_bytes : PathFormat → Option Slot → Option (List ℕ) → Option (List ℕ)
-new_bytes format slot None = None
-new_bytes format slot (Some key) = if is_key_of_slot format key slot then None else Some key
+-- so they do in the path of a number
+pub record IsKeyAt (id member : ℕ) (bytes : List ℕ) (format : PathFormat) (key : List KeyValue) (paths : NumberedPaths) : Type 0 where
+  pub over : IsFormatAt id member format paths
+  pub shows : IsKeyIn format bytes key
 
--- the change took a record of the member with the key away
-abbrev pub takes : PathFormat → (member : ℕ) → (key : List ℕ) → MemberChange → Bool
-takes format member key undo = (undo.member == member) && is_key_of_slot format key undo.change.before
-
--- the records that were taken away so
-abbrev pub taken : PathFormat → (member : ℕ) → (key : List ℕ) → List MemberChange → List ℕ
-taken format member key undos = filter_map (λ undo. if takes format member key undo then Some (undo.change.place + 1) else None) undos
+-- the records with the key that changes took away
+abbrev pub taken : PathFormat → List KeyValue → List MemberChange → List ℕ
+taken format key undos = filter_map (λ undo. if takes_key format key undo then Some (undo.change.place + 1) else None) undos
 
 -- the format can be asked about the record that was taken away
 abbrev pub IsAskedIn : PathFormat → Option Slot → Type 0
@@ -99,11 +98,11 @@ first_reserved job None rest = rest
 first_reserved job (Some rrn) rest = lesser_reserved job rrn rest
 
 -- of all jobs but this one, the first of which has that number
-abbrev pub least_reserved : PathFormat → (member : ℕ) → (key : List ℕ) → (job number : ℕ) → List JobState → Option Reservation
-least_reserved format member key job number [] = None
-least_reserved format member key job number (one ∷ jobs) =
-    if number == job then least_reserved format member key job (number + 1) jobs
-    else first_reserved number (least_of (taken format member key (changes_in one.cycle))) (least_reserved format member key job (number + 1) jobs)
+abbrev pub least_reserved : PathFormat → List KeyValue → (job number : ℕ) → List JobState → Option Reservation
+least_reserved format key job number [] = None
+least_reserved format key job number (one ∷ jobs) =
+    if number == job then least_reserved format key job (number + 1) jobs
+    else first_reserved number (least_of (taken format key (changes_in one.cycle))) (least_reserved format key job (number + 1) jobs)
 
 -- ---- whether open commit cycles keep the key to themselves
 
@@ -112,42 +111,29 @@ abbrev pub own_reserved : (commit : Bool) → Option ℕ → Option ℕ
 own_reserved true rrn = None
 own_reserved false rrn = rrn
 
-abbrev pub own_kept : PathFormat → (member : ℕ) → (key : List ℕ) → (commit : Bool) → (own : List MemberChange) → Result Bool Reply
-own_kept format member key commit own = refuse_with (λ rrn. HeldByGroup rrn) (own_reserved commit (least_of (taken format member key own)))
+abbrev pub own_kept : PathFormat → List KeyValue → (commit : Bool) → (own : List MemberChange) → Result Bool Reply
+own_kept format key commit own = refuse_with (λ rrn. HeldByGroup rrn) (own_reserved commit (least_of (taken format key own)))
 
-abbrev pub keys_kept : PathFormat → (member : ℕ) → (key : List ℕ) → (job : ℕ) → (commit : Bool) → (own : List MemberChange) → List JobState → Result Bool Reply
-keys_kept format member key job commit own jobs = do
-  _ ← refuse_with (λ r. RecordInUse r.job member r.rrn) (least_reserved format member key job 1 jobs)
-  own_kept format member key commit own
+abbrev pub keys_kept : PathFormat → List KeyValue → (job : ℕ) → (commit : Bool) → (own : List MemberChange) → List JobState → Result Bool Reply
+keys_kept format key job commit own jobs = do
+  _ ← refuse_with (λ r. RecordInUse r.job format.member r.rrn) (least_reserved format key job 1 jobs)
+  own_kept format key commit own
 
--- ---- whether another record has the key
+-- ---- one path of a file: nothing where no key comes into it
 
-abbrev pub keys_repeated : (file : List ℕ) → (image : List ℕ) → (rrn : ℕ) → KeptPath → Result Bool Reply
-keys_repeated file image rrn path = refuse_with (λ other. DuplicateKey file other) (clash_in 0 image rrn path)
+-- the key that comes into the path, in the place of the slot with that number
+abbrev pub new_in : (file : List ℕ) → Memory → (member rrn : ℕ) → (image : List ℕ) → PathFormat → List NewKey
+new_in file m member rrn image format = filter_map (new_key_in file (slot_there member rrn m) image) (format ∷ [])
 
--- ---- one path: nothing where no key comes into it
-
--- what open commit cycles refuse
-abbrev pub new_kept : PathFormat → (member : ℕ) → (job : ℕ) → (commit : Bool) → (own : List MemberChange) → List JobState → Option (List ℕ) → Result Bool Reply
-new_kept format member job commit own jobs None = Ok true
-new_kept format member job commit own jobs (Some key) = keys_kept format member key job commit own jobs
-
--- what another record refuses
-abbrev pub new_repeated : (file : List ℕ) → (image : List ℕ) → (rrn : ℕ) → KeptPath → Option (List ℕ) → Result Bool Reply
-new_repeated file image rrn path None = Ok true
-new_repeated file image rrn path (Some key) = keys_repeated file image rrn path
-
--- what a path refuses of a record in the place of a slot, of the one kind or of the other
-abbrev pub tested : Test → (file : List ℕ) → State → (job : ℕ) → (commit : Bool) → (member rrn : ℕ) → (image : List ℕ) → KeptPath → PathFormat → Result Bool Reply
-tested Reserved file s job commit member rrn image path format =
-    new_kept format member job commit (changes_in (job_of job (memory_of s)).cycle) s.jobs (new_bytes format (slot_at (member_of member s.members) rrn) (format_key format image))
-tested Repeated file s job commit member rrn image path format =
-    new_repeated file image rrn path (new_bytes format (slot_at (member_of member s.members) rrn) (format_key format image))
+-- what refuses it, of the one kind or of the other
+abbrev pub tested : Test → (file : List ℕ) → Memory → (job : ℕ) → (commit : Bool) → (member rrn : ℕ) → (image : List ℕ) → PathFormat → Result Bool Reply
+tested Reserved file m job commit member rrn image format = none_reserved job commit (new_in file m member rrn image format) m
+tested Repeated file m job commit member rrn image format = none_repeated rrn (new_in file m member rrn image format) m
 
 -- nothing, whichever file has the path
-pub record AreFreeIn (s : State) (job : ℕ) (commit : Bool) (member rrn : ℕ) (image : List ℕ) (path : KeptPath) (format : PathFormat) : Type 0 where
-  pub reserved : (file : List ℕ) → tested Reserved file s job commit member rrn image path format ≡ Ok true
-  pub repeated : (file : List ℕ) → tested Repeated file s job commit member rrn image path format ≡ Ok true
+pub record AreFreeIn (m : Memory) (job : ℕ) (commit : Bool) (member rrn : ℕ) (image : List ℕ) (format : PathFormat) : Type 0 where
+  pub reserved : (file : List ℕ) → tested Reserved file m job commit member rrn image format ≡ Ok true
+  pub repeated : (file : List ℕ) → tested Repeated file m job commit member rrn image format ≡ Ok true
 
 -- ---- all paths
 

@@ -1,18 +1,22 @@
 //! Whether a record may have its keys: those that open commit cycles keep to themselves, and those of other records.
-ghost use Rattle.std.specs.Prelude.{◌≡◌, ℕ, ◌+◌, ◌<◌, true, Some, List, length, drop, IfOk, IsSome, IsTrue, option_map};
-ghost use Rattle.access_path.specs.PathBytes.{format_key};
+ghost use Rattle.std.specs.Prelude.{◌≡◌, ℕ, ◌+◌, ◌<◌, ◌∷◌, true, List, length, drop, IfOk, IsSome, IsTrue, option_map};
 ghost use Rattle.file_model.specs.declared.paths.PathFormat.{PathFormat};
+ghost use Rattle.file_model.specs.KeyOrder.{KeyValue};
+ghost use Rattle.file_model.specs.Paths.{clash};
+ghost use Rattle.library_model.specs.declared.replies.Reply.TheVariants.{DuplicateKey};
+ghost use Rattle.library_steps.specs.Refusals.{refuse_with};
+ghost use Rattle.journal_model.specs.Rollback.{MemberChange};
 ghost use Rattle.path_entrants.specs.Formats.{IsAskable};
-ghost use Rattle.library_parts.specs.NewKeys.{AllAreAskedBefore, AreAskedBefore, AreFreeIn, IsAskedBefore, IsFormatAt, IsNewFor, IsUniquePathOf, first_reserved, is_that_key, keys_kept, keys_repeated, keys_tested, least_of, least_reserved, lesser_of, new_bytes, own_reserved, reservation_of, taken, takes, tested};
+ghost use Rattle.library_parts.specs.NewKeys.{AllAreAskedBefore, AreAskedBefore, AreFreeIn, IsAskedBefore, IsFormatAt, IsKeyAt, IsNewFor, IsUniquePathOf, ShowsKey, first_reserved, keys_kept, keys_tested, least_of, least_reserved, lesser_of, own_reserved, reservation_of, taken, tested};
 ghost use Rattle.member_slots.specs.declared.slot.Slot.TheVariants.{Live};
-ghost use Rattle.member_slots.specs.Member.{FitsSlot, slot_at};
+ghost use Rattle.member_slots.specs.Member.{FitsSlot};
 ghost use Rattle.member_slots.specs.Members.{member_at, member_of};
 ghost use Rattle.library_model.specs.Named.{named};
 ghost use Rattle.library_steps.specs.Records.{slot_there};
 ghost use Rattle.library_steps.specs.Uses.{changes_in};
 ghost use Rattle.library_steps.specs.History.{is_running};
 ghost use Rattle.library_steps.specs.State.{memory_of, job_at, job_of};
-ghost use Rattle.library_steps.specs.UniqueKeys.{keys_free};
+ghost use Rattle.library_steps.specs.UniqueKeys.{has_key, if_new, key_in, key_of_slot, keys_free, takes_key};
 ghost use Rattle.library_parts.specs.Answers.{MayAllow};
 ghost use Rattle.library_parts.specs.Slots.{MayStand};
 
@@ -98,7 +102,7 @@ impl Contents {
         requires running { IsTrue (is_running (job_at new.job self.now.state.jobs)) }
         requires asked { IsNewFor self.now new.member new.rrn new.image.now }
         ensures { IfOk result (λ free. IsTrue free → (id : ℕ) (format : PathFormat) (over : IsFormatAt id new.entry.member format self.now.room.paths.paths) → over.path.spec.unique ≡ true
-            → AreFreeIn self.now.state new.entry.job new.entry.commit new.entry.member new.entry.rrn new.entry.image.now over.path format) }
+            → AreFreeIn (memory_of self.now.state) new.entry.job new.entry.commit new.entry.member new.entry.rrn new.entry.image.now format) }
     {
         let mut path = self.paths.unique_over(new.member, None);
         while let Some(id) = path {
@@ -115,8 +119,8 @@ impl Contents {
         requires running { IsTrue (is_running (job_at new.job self.now.state.jobs)) }
         requires asked { IsNewFor self.now new.member new.rrn new.image.now }
         requires path { (format : PathFormat) × IsFormatAt id new.member format self.now.room.paths.paths }
-        ensures { IfOk result (λ free. IsTrue free → (format : PathFormat) (over : IsFormatAt id new.entry.member format self.now.room.paths.paths)
-            → AreFreeIn self.now.state new.entry.job new.entry.commit new.entry.member new.entry.rrn new.entry.image.now over.path format) }
+        ensures { IfOk result (λ free. IsTrue free → (format : PathFormat) → IsFormatAt id new.entry.member format self.now.room.paths.paths
+            → AreFreeIn (memory_of self.now.state) new.entry.job new.entry.commit new.entry.member new.entry.rrn new.entry.image.now format) }
     {
         let Some(key) = self.new_key(id, new)? else {
             return Ok(true);
@@ -178,7 +182,7 @@ impl Contents {
         requires running { IsTrue (is_running (job_at new.job self.now.state.jobs)) }
         requires asked { IsNewFor self.now new.member new.rrn new.image.now }
         requires path { (format : PathFormat) × IsFormatAt id new.member format self.now.room.paths.paths }
-        ensures { (format : PathFormat) (over : IsFormatAt id new.entry.member format self.now.room.paths.paths) → MayAllow result (tested test file self.now.state new.entry.job new.entry.commit new.entry.member new.entry.rrn new.entry.image.now over.path format) }
+        ensures { (format : PathFormat) → IsFormatAt id new.entry.member format self.now.room.paths.paths → MayAllow result (tested test file (memory_of self.now.state) new.entry.job new.entry.commit new.entry.member new.entry.rrn new.entry.image.now format) }
     {
         let Some(key) = self.new_key(id, new)? else {
             return Ok(());
@@ -199,7 +203,7 @@ impl Contents {
         requires asked { IsNewFor self.now new.member new.rrn new.image.now }
         requires path { (format : PathFormat) × IsFormatAt id new.member format self.now.room.paths.paths }
         ensures { IfOk result (λ key. (format : PathFormat) → IsFormatAt id new.entry.member format self.now.room.paths.paths
-            → key ≡ new_bytes format (slot_at (member_of new.entry.member self.now.state.members) new.entry.rrn) (format_key format new.entry.image.now)) }
+            → ShowsKey format new.entry.image.now key (if_new (key_of_slot format (slot_there new.entry.member new.entry.rrn (memory_of self.now.state))) (key_in format new.entry.image.now))) }
     {
         let Some(key) = self.paths.key(self.alloc, id, 0, new.image)? else {
             return Ok(None);
@@ -217,7 +221,7 @@ impl Contents {
     /// Whether the image has that key in the path.
     fn has_key(&self, id: u64, image: &[u8], key: &[u8]) -> Result<bool, AllocError>
         requires { (member : ℕ) × (format : PathFormat) × IsFormatAt id member format self.now.room.paths.paths × IsAskable format image.now }
-        ensures { IfOk result (λ same. (member : ℕ) (format : PathFormat) → IsFormatAt id member format self.now.room.paths.paths → same ≡ is_that_key key.now (format_key format image.now)) }
+        ensures { IfOk result (λ same. (member : ℕ) (format : PathFormat) (values : List KeyValue) → IsKeyAt id member key.now format values self.now.room.paths.paths → same ≡ has_key (key_in format image.now) values) }
     {
         match self.paths.key(self.alloc, id, 0, image)? {
             Some(other) => Ok(other.as_bytes() == key),
@@ -228,7 +232,7 @@ impl Contents {
     /// Whether the change took a record of the member with that key away.
     fn is_taken_by(&self, its: NewKey<'_>, undo: &Undo) -> Result<bool, AllocError>
         requires { (format : PathFormat) × IsFormatAt its.path its.member format self.now.room.paths.paths × IsAskedBefore format its.member undo.now.change }
-        ensures { IfOk result (λ taken. (format : PathFormat) → IsFormatAt its.entry.path its.entry.member format self.now.room.paths.paths → taken ≡ takes format its.entry.member its.entry.key.now undo.now.change) }
+        ensures { IfOk result (λ taken. (format : PathFormat) (key : List KeyValue) → IsKeyAt its.entry.path its.entry.member its.entry.key.now format key self.now.room.paths.paths → taken ≡ takes_key format key undo.now.change) }
     {
         if undo.member() != its.member {
             return Ok(false);
@@ -242,26 +246,42 @@ impl Contents {
     /// The least record with that key that one of the changes took away.
     fn least_taken(&self, its: NewKey<'_>, undos: &Undos) -> Result<Option<u32>, AllocError>
         requires { (format : PathFormat) × IsFormatAt its.path its.member format self.now.room.paths.paths × AreAskedBefore format its.member undos.now.changes }
-        ensures { IfOk result (λ least. (format : PathFormat) → IsFormatAt its.entry.path its.entry.member format self.now.room.paths.paths → least ≡ least_of (taken format its.entry.member its.entry.key.now undos.now.changes)) }
+        ensures { IfOk result (λ least. (format : PathFormat) (key : List KeyValue) → IsKeyAt its.entry.path its.entry.member its.entry.key.now format key self.now.room.paths.paths → least ≡ least_of (taken format key undos.now.changes)) }
     {
         let mut least = None;
         let mut left = undos.len();
         while left > 0 {
             left -= 1;
             let undo = undos.get(left).unwrap();
-            if self.is_taken_by(its, undo)? {
-                least = lesser(undo.rrn(), least);
-            }
+            least = self.with_taken(its, undo, least)?;
         }
         Ok(least)
+    }
+
+    /// The lesser of a record that was taken away by the change and of another.
+    fn with_taken(
+        &self,
+        its: NewKey<'_>,
+        undo: &Undo,
+        least: Option<u32>,
+    ) -> Result<Option<u32>, AllocError>
+        requires { (format : PathFormat) × IsFormatAt its.path its.member format self.now.room.paths.paths × IsAskedBefore format its.member undo.now.change }
+        ensures { IfOk result (λ new. (format : PathFormat) (key : List KeyValue) (more : List MemberChange) → IsKeyAt its.entry.path its.entry.member its.entry.key.now format key self.now.room.paths.paths
+            → least ≡ least_of (taken format key more) → new ≡ least_of (taken format key (undo.now.change ∷ more))) }
+    {
+        if self.is_taken_by(its, undo)? {
+            Ok(lesser(undo.rrn(), least))
+        } else {
+            Ok(least)
+        }
     }
 
     /// The refusal where an open commit cycle keeps the key to itself; that of the job itself is no hindrance under commitment.
     fn not_reserved(&self, new: NewRecord<'_>, its: NewKey<'_>) -> Result<(), Stop>
         requires running { IsTrue (is_running (job_at new.job self.now.state.jobs)) }
         requires path { (format : PathFormat) × IsFormatAt its.path its.member format self.now.room.paths.paths × AllAreAskedBefore format its.member self.now.state.jobs }
-        ensures { (format : PathFormat) → IsFormatAt its.entry.path its.entry.member format self.now.room.paths.paths
-            → MayAllow result (keys_kept format its.entry.member its.entry.key.now new.entry.job new.entry.commit (changes_in (job_of new.entry.job (memory_of self.now.state)).cycle) self.now.state.jobs) }
+        ensures { (format : PathFormat) (key : List KeyValue) → IsKeyAt its.entry.path its.entry.member its.entry.key.now format key self.now.room.paths.paths
+            → MayAllow result (keys_kept format key new.entry.job new.entry.commit (changes_in (job_of new.entry.job (memory_of self.now.state)).cycle) self.now.state.jobs) }
     {
         if let Some(other) = self.reservation_of_others(new.job, its)? {
             return Err(Stop::Refused(Reply::RecordInUse {
@@ -280,8 +300,8 @@ impl Contents {
     fn own_reservation(&self, new: NewRecord<'_>, its: NewKey<'_>) -> Result<Option<u32>, AllocError>
         requires running { IsTrue (is_running (job_at new.job self.now.state.jobs)) }
         requires path { (format : PathFormat) × IsFormatAt its.path its.member format self.now.room.paths.paths × AllAreAskedBefore format its.member self.now.state.jobs }
-        ensures { IfOk result (λ rrn. (format : PathFormat) → IsFormatAt its.entry.path its.entry.member format self.now.room.paths.paths
-            → rrn ≡ own_reserved new.entry.commit (least_of (taken format its.entry.member its.entry.key.now (changes_in (job_of new.entry.job (memory_of self.now.state)).cycle)))) }
+        ensures { IfOk result (λ rrn. (format : PathFormat) (key : List KeyValue) → IsKeyAt its.entry.path its.entry.member its.entry.key.now format key self.now.room.paths.paths
+            → rrn ≡ own_reserved new.entry.commit (least_of (taken format key (changes_in (job_of new.entry.job (memory_of self.now.state)).cycle)))) }
     {
         if new.commit {
             Ok(None)
@@ -293,8 +313,8 @@ impl Contents {
     /// The least record with the key that another job's open commit cycle took away. It goes over all jobs.
     fn reservation_of_others(&self, job: u32, its: NewKey<'_>) -> Result<Option<Reservation>, AllocError>
         requires path { (format : PathFormat) × IsFormatAt its.path its.member format self.now.room.paths.paths × AllAreAskedBefore format its.member self.now.state.jobs }
-        ensures { IfOk result (λ least. (format : PathFormat) → IsFormatAt its.entry.path its.entry.member format self.now.room.paths.paths
-            → option_map reservation_of least ≡ least_reserved format its.entry.member its.entry.key.now job 1 self.now.state.jobs) }
+        ensures { IfOk result (λ least. (format : PathFormat) (key : List KeyValue) → IsKeyAt its.entry.path its.entry.member its.entry.key.now format key self.now.room.paths.paths
+            → option_map reservation_of least ≡ least_reserved format key job 1 self.now.state.jobs) }
     {
         let mut least = None;
         let mut left = self.jobs.len();
@@ -315,9 +335,9 @@ impl Contents {
     ) -> Result<Option<Reservation>, AllocError>
         requires path { (format : PathFormat) × IsFormatAt its.path its.member format self.now.room.paths.paths × AllAreAskedBefore format its.member self.now.state.jobs }
         requires place { place < length self.now.state.jobs }
-        ensures { IfOk result (λ least. (format : PathFormat) (left : ℕ) → IsFormatAt its.entry.path its.entry.member format self.now.room.paths.paths → left ≡ place + 1
-            → option_map reservation_of rest ≡ least_reserved format its.entry.member its.entry.key.now job (left + 1) (drop left self.now.state.jobs)
-            → option_map reservation_of least ≡ least_reserved format its.entry.member its.entry.key.now job (place + 1) (drop place self.now.state.jobs)) }
+        ensures { IfOk result (λ least. (format : PathFormat) (key : List KeyValue) (left : ℕ) → IsKeyAt its.entry.path its.entry.member its.entry.key.now format key self.now.room.paths.paths → left ≡ place + 1
+            → option_map reservation_of rest ≡ least_reserved format key job (left + 1) (drop left self.now.state.jobs)
+            → option_map reservation_of least ≡ least_reserved format key job (place + 1) (drop place self.now.state.jobs)) }
     {
         // There are no more jobs than can be counted.
         let _jobs = self.jobs.len();
@@ -332,7 +352,8 @@ impl Contents {
     /// The refusal where another record has the key.
     fn not_repeated(&self, file: Name, id: u64, new: NewRecord<'_>) -> Result<(), Stop>
         requires { (format : PathFormat) × IsFormatAt id new.member format self.now.room.paths.paths × IsAskable format new.image.now }
-        ensures { (format : PathFormat) (over : IsFormatAt id new.entry.member format self.now.room.paths.paths) → MayAllow result (keys_repeated file new.entry.image.now new.entry.rrn over.path) }
+        ensures { (format : PathFormat) → IsFormatAt id new.entry.member format self.now.room.paths.paths
+            → MayAllow result (refuse_with (λ other. DuplicateKey file other) (clash format self.now.state.members new.entry.image.now new.entry.rrn)) }
     {
         match self.paths.clash(id, 0, new.image, new.rrn)? {
             Some(rrn) => Err(Stop::Refused(Reply::DuplicateKey { file, rrn })),
