@@ -3,7 +3,8 @@
 use Rattle.std.specs.Prelude.{◌≡◌, ℕ, ◌+◌, ◌==◌, nat_lt, Bool, true, false, Option, Some, None, unwrap_or, Result, Ok, Err, List, [], ◌∷◌, if◌then◌else◌}
 use Rattle.std.specs.List.{AllByRecursion, filter_map}
 use Rattle.file_model.specs.KeyOrder.{KeyValue}
-use Rattle.file_model.specs.Paths.{path_key, view_of}
+use Rattle.file_model.specs.Paths.{path_key}
+use Rattle.file_model.specs.Views.{view_of}
 use Rattle.key_order.specs.KeyBytes.{encoded}
 use Rattle.file_model.specs.declared.paths.PathFormat.{PathFormat}
 use Rattle.key_order.specs.KeyFields.{AreBytes}
@@ -33,7 +34,7 @@ pub record IsFormatAt (id member : ℕ) (format : PathFormat) (paths : NumberedP
   pub path : KeptPath
   pub at : item_at id paths ≡ Some path
   pub formats : path.spec.formats ≡ format ∷ []
-  pub member : format.member ≡ member
+  pub its : format.member ≡ member
 
 -- ---- keys
 
