@@ -39,6 +39,7 @@ pub mod OpenLemmas
 pub mod HitLemmas
 pub mod NewKeyLemmas
 pub mod KeyPlanLemmas
+pub mod KeyLemmas
 pub mod TakenLemmas
 pub mod AllowLemmas
 pub mod GivenLemmas

@@ -6,6 +6,7 @@ ghost use Rattle.file_model.specs.Paths.{clash};
 ghost use Rattle.library_model.specs.declared.replies.Reply.TheVariants.{DuplicateKey};
 ghost use Rattle.library_steps.specs.Refusals.{refuse_with};
 ghost use Rattle.journal_model.specs.Rollback.{MemberChange};
+ghost use Rattle.logical_model.specs.FilePaths.{is_over};
 ghost use Rattle.path_entrants.specs.Formats.{IsAskable};
 ghost use Rattle.library_parts.specs.NewKeys.{AllAreAskedBefore, AreAskedBefore, AreFreeIn, IsAskedBefore, IsFormatAt, IsKeyAt, IsNewFor, IsUniquePathOf, ShowsKey, first_reserved, keys_kept, keys_tested, least_of, least_reserved, lesser_of, own_reserved, reservation_of, taken, tested};
 ghost use Rattle.member_slots.specs.declared.slot.Slot.TheVariants.{Live};
@@ -25,6 +26,7 @@ use crate::stop::Stop;
 use crate::texts::are_bytes;
 use field_types::names::Name;
 use file_catalogue::{File, FileBody};
+use file_model::paths::PathSpec;
 use job_table::{Undo, Undos};
 use key_pages::Key;
 use library_model::replies::Reply;
@@ -169,7 +171,7 @@ impl Contents {
             }
             FileBody::Logical(view) => {
                 let spec = self.own_path(view.spec())?;
-                if !spec.unique || self.base_member(view.spec()) != member {
+                if !spec.unique || !is_over(&spec, member) {
                     return Ok(None);
                 }
                 Ok(self.paths.number_of(&spec))
@@ -223,6 +225,7 @@ impl Contents {
         requires { (member : ℕ) × (format : PathFormat) × IsFormatAt id member format self.now.room.paths.paths × IsAskable format image.now }
         ensures { IfOk result (λ same. (member : ℕ) (format : PathFormat) (values : List KeyValue) → IsKeyAt id member key.now format values self.now.room.paths.paths → same ≡ has_key (key_in format image.now) values) }
     {
+        are_bytes(image);
         match self.paths.key(self.alloc, id, 0, image)? {
             Some(other) => Ok(other.as_bytes() == key),
             None => Ok(false),
@@ -360,6 +363,16 @@ impl Contents {
             None => Ok(()),
         }
     }
+}
+
+/// Whether the path has a format over the member.
+fn is_over(path: &PathSpec, member: u32) -> bool
+    ensures { result ≡ is_over member path.now }
+{
+    path.formats
+        .as_slice()
+        .iter()
+        .any(|format| format.member == member)
 }
 
 /// The lesser of both, where there is another.
