@@ -17,7 +17,6 @@ use Rattle.library_steps.specs.Uses.{changes_in}
 use Rattle.library_parts.specs.NewKeys.{AllAreAskedBefore, AreAskedBefore, first_reserved, keys_kept, least_of, least_reserved, own_kept, own_reserved, taken}
 use Rattle.library_parts.proofs.TakenLemmas.{drop-at, each-at}
 
-
 -- ---- the change at a place
 
 slice-at : {A : Type 0} (xs : List A) (place : ℕ) → place < length xs → (x : A) × (slice_get xs place ≡ Some x)

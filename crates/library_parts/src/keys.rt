@@ -300,7 +300,11 @@ impl Contents {
     }
 
     /// The least record with the key that the job's own open commit cycle took away, where the job writes outside it.
-    fn own_reservation(&self, new: NewRecord<'_>, its: NewKey<'_>) -> Result<Option<u32>, AllocError>
+    fn own_reservation(
+        &self,
+        new: NewRecord<'_>,
+        its: NewKey<'_>,
+    ) -> Result<Option<u32>, AllocError>
         requires running { IsTrue (is_running (job_at new.job self.now.state.jobs)) }
         requires path { (format : PathFormat) × IsFormatAt its.path its.member format self.now.room.paths.paths × AllAreAskedBefore format its.member self.now.state.jobs }
         ensures { IfOk result (λ rrn. (format : PathFormat) (key : List KeyValue) → IsKeyAt its.entry.path its.entry.member its.entry.key.now format key self.now.room.paths.paths
@@ -314,7 +318,11 @@ impl Contents {
     }
 
     /// The least record with the key that another job's open commit cycle took away. It goes over all jobs.
-    fn reservation_of_others(&self, job: u32, its: NewKey<'_>) -> Result<Option<Reservation>, AllocError>
+    fn reservation_of_others(
+        &self,
+        job: u32,
+        its: NewKey<'_>,
+    ) -> Result<Option<Reservation>, AllocError>
         requires path { (format : PathFormat) × IsFormatAt its.path its.member format self.now.room.paths.paths × AllAreAskedBefore format its.member self.now.state.jobs }
         ensures { IfOk result (λ least. (format : PathFormat) (key : List KeyValue) → IsKeyAt its.entry.path its.entry.member its.entry.key.now format key self.now.room.paths.paths
             → option_map reservation_of least ≡ least_reserved format key job 1 self.now.state.jobs) }
