@@ -14,11 +14,16 @@ use Rattle.lock_table.specs.declared.levels.Call.{Call}
 use Rattle.library_model.specs.declared.requests.OpenFile.{OpenFile}
 use Rattle.library_model.specs.declared.replies.Reply.{Reply}
 use Rattle.library_model.specs.Named.{Named, named, same_name}
-use Rattle.library_steps.specs.Refusals.{OpenedFile, found}
+use Rattle.std.specs.Option.{option_and_then}
+use Rattle.entry_codec.specs.declared.kinds.FileKind.TheVariants.{Physical, Logical}
+use Rattle.file_catalogue.specs.Bodies.{kind_in}
+use Rattle.library_model.specs.declared.replies.Reply.TheVariants.{NoSuchName}
+use Rattle.library_model.specs.declared.replies.Missing.TheVariants.{Name}
+use Rattle.library_steps.specs.Refusals.{OpenedFile, found, named_or_refused}
 use Rattle.library_steps.specs.LogicalFiles.{bases_in}
 use Rattle.library_steps.specs.Opens.{first_of, new_open}
 use Rattle.library_steps.specs.Reads.{has_read, entry_found}
-use Rattle.library_steps.specs.State.{State, FileState, MemberStatus, OpenState, JobState, fields_of, format_in, memory_of, open_named, job_at, or_new, physical_among}
+use Rattle.library_steps.specs.State.{State, FileState, MemberStatus, OpenState, JobState, fields_of, format_in, if_physical, memory_of, open_named, job_at, or_new, physical_among}
 use Rattle.library_parts.specs.declared.stop.Stop.{Stop}
 use Rattle.library_parts.specs.declared.stop.Stop.TheVariants.{NoMemory, Refused}
 use Rattle.library_parts.specs.Finds.{FindsOpen, HasMember, IsBaseOf, OpensMember, ReadsMember, OpensBy as MayOpenBy}
@@ -74,6 +79,40 @@ opens-of s job lawful =
 -- an open of the job holds
 pub open-holds : (s : State) (job : ℕ) (name : List ℕ) (opened : OpenState) → IsLibrary s → open_named name job (memory_of s) ≡ Some opened → OpenHolds s.files opened
 open-holds s job name opened lawful found = named-each (OpenHolds s.files) name (or_new (job_at job s.jobs)).opens opened (opens-of s job lawful) found
+
+-- ---- a file of this kind
+
+-- among physical files a physical one is found
+pub physical-shown : (name : List ℕ) (o : Option FileState) (file : FileState) → named_or_refused name o ≡ Ok file → kind_in file.spec ≡ Physical
+    → named_or_refused name (option_and_then (λ (f : FileState). if_physical f.spec f) o) ≡ Ok file
+physical-shown name None file is kind = absurd cc
+physical-shown name (Some other) file is kind =
+    let same : other ≡ file = cc in subst (λ (f : FileState). named_or_refused name (if_physical f.spec f) ≡ Ok file) (sym same) (by file.spec kind)
+  where
+    by : (spec : FileSpec) → kind_in spec ≡ Physical → named_or_refused name (if_physical spec file) ≡ Ok file
+    by (PhysicalFile spec) k = refl
+    by (LogicalFile spec) k = absurd cc
+
+-- and a logical one isn't
+pub logical-shown : (name : List ℕ) (o : Option FileState) (file : FileState) → named_or_refused name o ≡ Ok file → kind_in file.spec ≡ Logical
+    → named_or_refused name (option_and_then (λ (f : FileState). if_physical f.spec f) o) ≡ Err (NoSuchName (Name name))
+logical-shown name None file is kind = absurd cc
+logical-shown name (Some other) file is kind =
+    let same : other ≡ file = cc in subst (λ (f : FileState). named_or_refused name (if_physical f.spec f) ≡ Err (NoSuchName (Name name))) (sym same) (by file.spec kind)
+  where
+    by : (spec : FileSpec) → kind_in spec ≡ Logical → named_or_refused name (if_physical spec file) ≡ Err (NoSuchName (Name name))
+    by (PhysicalFile spec) k = absurd cc
+    by (LogicalFile spec) k = refl
+
+-- a name that isn't there is refused among physical files too
+pub none-shown : (name : List ℕ) (o : Option FileState) (reply : Reply) → named_or_refused name o ≡ Err reply
+    → named_or_refused name (option_and_then (λ (f : FileState). if_physical f.spec f) o) ≡ Err reply
+none-shown name None reply is = is
+none-shown name (Some other) reply is = absurd cc
+
+pub physical-kind : (spec : FileSpec) → kind_in spec ≡ Physical → IsPhysical spec
+physical-kind (PhysicalFile spec) k = tt
+physical-kind (LogicalFile spec) k = absurd cc
 
 -- ---- the members that opens are over
 

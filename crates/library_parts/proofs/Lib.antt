@@ -27,6 +27,7 @@ pub mod IndexMoves
 pub mod IndexRebuilt
 pub mod IndexLooks
 pub mod OpenLooks
+pub mod RisingLemmas
 pub mod IndexLaws
 pub mod IndexKeyed
 pub mod IndexNew
@@ -39,6 +40,7 @@ pub mod OpenLemmas
 pub mod HitLemmas
 pub mod NewKeyLemmas
 pub mod KeyPlanLemmas
+pub mod KeyLemmas
 pub mod TakenLemmas
 pub mod AllowLemmas
 pub mod GivenLemmas

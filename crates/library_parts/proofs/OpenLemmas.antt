@@ -1,6 +1,6 @@
 -- How a new open reads: by its file's path, or in arrival order.
 use Rattle.std.proofs.Common.{◌≡◌, ◌≢◌, ℕ, zero, ◌&&◌, Bool, true, false, if◌then◌else◌, List, [], ◌∷◌, length, map, Option, Some, None, Result, Ok, Err, IfOk, IfSome, refl, sym, ap, subst, ◌∙◌, arith}
-use Rattle.std.specs.Prelude.{All, Any, Contains}
+use Rattle.std.specs.Prelude.{All, Any, Contains, MatchOption}
 use Rattle.dds_logical.specs.declared.views.LogicalSpec.{LogicalSpec}
 use Rattle.dds_logical.specs.declared.views.LogicalSpec.TheVariants.{Simple, Multi, Join}
 use Rattle.dds_physical.specs.declared.physical_files.PhysicalSpec.{PhysicalSpec}
@@ -14,6 +14,7 @@ use Rattle.logical_model.specs.FilePaths.{views_path}
 use Rattle.member_slots.specs.Members.{Numbered, NumberedMembers, item_at}
 use Rattle.open_position.specs.OpenStand.{OpenStand}
 use Rattle.path_set.specs.KeptPaths.{AreShared, KeptPath, NumberedPaths}
+use Rattle.path_set.specs.Sharing.{IsNew}
 use Rattle.library_paths.specs.AllPaths.{AreKeptFor, all_paths, paths_by}
 use Rattle.library_paths.proofs.KeptLemmas.{kept-once}
 use Rattle.library_paths.proofs.NumberLemmas.{any-at}
@@ -48,9 +49,15 @@ numbered-there spec paths None there new =
     let both = any-both (λ (path : Numbered KeptPath). path.item.spec ≢ spec) (λ (path : Numbered KeptPath). path.item.spec ≡ spec) paths new there in absurd (both.1 both.2)
 numbered-there spec paths (Some id) there at = (id, refl, at)
 
--- what is looked up under a number has the specification
-pub number-of : (spec : PathSpec) (paths : NumberedPaths) (id : ℕ) (path : KeptPath) → item_at id paths ≡ Some path → path.spec ≡ spec → IsNumberOf spec (Some id) paths
+-- what is found under a number has the specification
+number-of : (spec : PathSpec) (paths : NumberedPaths) (id : ℕ) (path : KeptPath) → item_at id paths ≡ Some path → path.spec ≡ spec → IsNumberOf spec (Some id) paths
 number-of spec paths id path at same = any-at (λ (p : Numbered KeptPath). (p.number ≡ id) × (p.item.spec ≡ spec)) id path paths at (refl, same)
+
+-- so it is with what a look-up finds
+pub number-told : (spec : PathSpec) (paths : NumberedPaths) (result : Option ℕ)
+    → MatchOption result (IsNew spec paths) (λ id. (path : KeptPath) × (item_at id paths ≡ Some path) × (path.spec ≡ spec)) → IsNumberOf spec result paths
+number-told spec paths None told = told
+number-told spec paths (Some id) told = number-of spec paths id told.0 told.1 told.2
 
 -- ---- a new open
 

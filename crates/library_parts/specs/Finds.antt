@@ -1,5 +1,5 @@
 -- What a look-up by names shows: an open and its file, or a member and its file, or the refusal of the first name that isn't there.
-use Rattle.std.specs.Prelude.{◌≡◌, ℕ, true, Option, Some, None, Result, Ok, Err, List}
+use Rattle.std.specs.Prelude.{◌≡◌, ℕ, true, Option, Some, None, Result, Ok, Err, List, [], ◌∷◌}
 use Rattle.std.specs.Borrow.{Bor}
 use Rattle.job_table.specs.Opens.{KeptOpen}
 use Rattle.dds_logical.specs.declared.views.LogicalSpec.TheVariants.{Simple, Multi, Join}

@@ -1,19 +1,24 @@
 //! Whether a record may have its keys: those that open commit cycles keep to themselves, and those of other records.
-ghost use Rattle.std.specs.Prelude.{◌≡◌, ℕ, ◌+◌, ◌<◌, ◌∷◌, Some, List, length, drop, IfOk, IfSome, IsSome, IsTrue, option_map};
-ghost use Rattle.key_order.specs.KeyFields.{HasKey};
+ghost use Rattle.std.specs.Prelude.{◌≡◌, ℕ, ◌+◌, ◌<◌, ◌∷◌, true, List, length, drop, IfOk, IsSome, IsTrue, option_map};
+ghost use Rattle.file_model.specs.declared.paths.PathFormat.{PathFormat};
+ghost use Rattle.file_model.specs.KeyOrder.{KeyValue};
+ghost use Rattle.file_model.specs.Paths.{clash};
+ghost use Rattle.library_model.specs.declared.replies.Reply.TheVariants.{DuplicateKey};
+ghost use Rattle.library_steps.specs.Refusals.{refuse_with};
 ghost use Rattle.journal_model.specs.Rollback.{MemberChange};
-ghost use Rattle.file_catalogue.specs.Owners.{owner};
-ghost use Rattle.path_set.specs.EqualKeys.{clash_in};
-ghost use Rattle.library_parts.specs.NewKeys.{AllHaveKeysBefore, HasKeyBefore, HasPathOver, HaveKeysBefore, first_reserved, is_key_of_slot, is_same_key, keys_kept, keys_repeated, least_of, least_reserved, lesser_of, new_key_plan, own_kept, reservation_of, taken, takes};
+ghost use Rattle.logical_model.specs.FilePaths.{is_over};
+ghost use Rattle.path_entrants.specs.Formats.{IsAskable};
+ghost use Rattle.library_parts.specs.NewKeys.{AllAreAskedBefore, AreAskedBefore, AreFreeIn, IsAskedBefore, IsFormatAt, IsKeyAt, IsNewFor, IsUniquePathOf, ShowsKey, first_reserved, keys_kept, keys_tested, least_of, least_reserved, lesser_of, own_reserved, reservation_of, taken, tested};
 ghost use Rattle.member_slots.specs.declared.slot.Slot.TheVariants.{Live};
-ghost use Rattle.member_slots.specs.Member.{FitsSlot, slot_at};
+ghost use Rattle.member_slots.specs.Member.{FitsSlot};
 ghost use Rattle.member_slots.specs.Members.{member_at, member_of};
-ghost use Rattle.library_steps.specs.Records.{live_record, slot_there};
+ghost use Rattle.library_model.specs.Named.{named};
+ghost use Rattle.library_steps.specs.Records.{slot_there};
 ghost use Rattle.library_steps.specs.Uses.{changes_in};
 ghost use Rattle.library_steps.specs.History.{is_running};
 ghost use Rattle.library_steps.specs.State.{memory_of, job_at, job_of};
-ghost use Rattle.library_steps.specs.UniqueKeys.{keys_free};
-ghost use Rattle.library_parts.specs.Answers.{Allows, MayAllow};
+ghost use Rattle.library_steps.specs.UniqueKeys.{has_key, if_new, key_in, key_of_slot, keys_free, takes_key};
+ghost use Rattle.library_parts.specs.Answers.{MayAllow};
 ghost use Rattle.library_parts.specs.Slots.{MayStand};
 
 use crate::contents::Contents;
@@ -21,10 +26,10 @@ use crate::stop::Stop;
 use crate::texts::are_bytes;
 use field_types::names::Name;
 use file_catalogue::{File, FileBody};
+use file_model::paths::PathSpec;
 use job_table::{Undo, Undos};
 use key_pages::Key;
 use library_model::replies::Reply;
-use logical_paths::own_path;
 use member_paths::member_path;
 use member_slots::slot::Slot;
 use std::alloc::AllocError;
@@ -95,7 +100,12 @@ impl Contents {
     }
 
     /// Whether none of its new keys in the unique paths over its member is kept or another's.
-    fn has_free_keys(&self, new: NewRecord<'_>) -> Result<bool, AllocError> {
+    fn has_free_keys(&self, new: NewRecord<'_>) -> Result<bool, AllocError>
+        requires running { IsTrue (is_running (job_at new.job self.now.state.jobs)) }
+        requires asked { IsNewFor self.now new.member new.rrn new.image.now }
+        ensures { IfOk result (λ free. IsTrue free → (id : ℕ) (format : PathFormat) (over : IsFormatAt id new.entry.member format self.now.room.paths.paths) → over.path.spec.unique ≡ true
+            → AreFreeIn (memory_of self.now.state) new.entry.job new.entry.commit new.entry.member new.entry.rrn new.entry.image.now format) }
+    {
         let mut path = self.paths.unique_over(new.member, None);
         while let Some(id) = path {
             if !self.is_free_in(id, new)? {
@@ -107,7 +117,13 @@ impl Contents {
     }
 
     /// The same in one of these paths.
-    fn is_free_in(&self, id: u64, new: NewRecord<'_>) -> Result<bool, AllocError> {
+    fn is_free_in(&self, id: u64, new: NewRecord<'_>) -> Result<bool, AllocError>
+        requires running { IsTrue (is_running (job_at new.job self.now.state.jobs)) }
+        requires asked { IsNewFor self.now new.member new.rrn new.image.now }
+        requires path { (format : PathFormat) × IsFormatAt id new.member format self.now.room.paths.paths }
+        ensures { IfOk result (λ free. IsTrue free → (format : PathFormat) → IsFormatAt id new.entry.member format self.now.room.paths.paths
+            → AreFreeIn (memory_of self.now.state) new.entry.job new.entry.commit new.entry.member new.entry.rrn new.entry.image.now format) }
+    {
         let Some(key) = self.new_key(id, new)? else {
             return Ok(true);
         };
@@ -127,7 +143,11 @@ impl Contents {
     }
 
     /// The first refusal of this kind, by the order in which the files were made.
-    fn all_free(&self, new: NewRecord<'_>, test: Test) -> Result<(), Stop> {
+    fn all_free(&self, new: NewRecord<'_>, test: Test) -> Result<(), Stop>
+        requires running { IsTrue (is_running (job_at new.job self.now.state.jobs)) }
+        requires asked { IsNewFor self.now new.member new.rrn new.image.now }
+        ensures { MayAllow result (keys_tested test new.entry.job new.entry.commit new.entry.member new.entry.rrn new.entry.image.now (memory_of self.now.state)) }
+    {
         for (name, file) in self.catalogue.iter() {
             if let Some(id) = self.unique_path_of(file, new.member)? {
                 self.free_in_file(*name, id, new, test)?;
@@ -137,7 +157,10 @@ impl Contents {
     }
 
     /// The number of a file's unique path, where it has one over the member.
-    fn unique_path_of(&self, file: &File, member: u32) -> Result<Option<u64>, AllocError> {
+    fn unique_path_of(&self, file: &File, member: u32) -> Result<Option<u64>, AllocError>
+        requires { (name : List ℕ) × (named name self.now.state.files ≡ Some file.now) }
+        ensures { (name : List ℕ) → named name self.now.state.files ≡ Some file.now → IfOk result (IsUniquePathOf (memory_of self.now.state) self.now.room.paths.paths member (name, file.now)) }
+    {
         match file.described() {
             FileBody::Physical(described) => {
                 if !described.keys().unique || file.numbered(member).is_none() {
@@ -147,8 +170,8 @@ impl Contents {
                 Ok(self.paths.number_of(&spec))
             }
             FileBody::Logical(view) => {
-                let spec = own_path(self.alloc, &self.catalogue, view.spec())?;
-                if !spec.unique || self.base_member(view.spec()) != member {
+                let spec = self.own_path(view.spec())?;
+                if !spec.unique || !is_over(&spec, member) {
                     return Ok(None);
                 }
                 Ok(self.paths.number_of(&spec))
@@ -157,7 +180,12 @@ impl Contents {
     }
 
     /// The refusal of this kind in the path of a file.
-    fn free_in_file(&self, file: Name, id: u64, new: NewRecord<'_>, test: Test) -> Result<(), Stop> {
+    fn free_in_file(&self, file: Name, id: u64, new: NewRecord<'_>, test: Test) -> Result<(), Stop>
+        requires running { IsTrue (is_running (job_at new.job self.now.state.jobs)) }
+        requires asked { IsNewFor self.now new.member new.rrn new.image.now }
+        requires path { (format : PathFormat) × IsFormatAt id new.member format self.now.room.paths.paths }
+        ensures { (format : PathFormat) → IsFormatAt id new.entry.member format self.now.room.paths.paths → MayAllow result (tested test file (memory_of self.now.state) new.entry.job new.entry.commit new.entry.member new.entry.rrn new.entry.image.now format) }
+    {
         let Some(key) = self.new_key(id, new)? else {
             return Ok(());
         };
@@ -173,7 +201,12 @@ impl Contents {
     }
 
     /// The key that comes into the path: that of the image, where it is selected and the record at the place hasn't the same.
-    fn new_key(&self, id: u64, new: NewRecord<'_>) -> Result<Option<Key>, AllocError> {
+    fn new_key(&self, id: u64, new: NewRecord<'_>) -> Result<Option<Key>, AllocError>
+        requires asked { IsNewFor self.now new.member new.rrn new.image.now }
+        requires path { (format : PathFormat) × IsFormatAt id new.member format self.now.room.paths.paths }
+        ensures { IfOk result (λ key. (format : PathFormat) → IsFormatAt id new.entry.member format self.now.room.paths.paths
+            → ShowsKey format new.entry.image.now key (if_new (key_of_slot format (slot_there new.entry.member new.entry.rrn (memory_of self.now.state))) (key_in format new.entry.image.now))) }
+    {
         let Some(key) = self.paths.key(self.alloc, id, 0, new.image)? else {
             return Ok(None);
         };
@@ -188,7 +221,11 @@ impl Contents {
     }
 
     /// Whether the image has that key in the path.
-    fn has_key(&self, id: u64, image: &[u8], key: &[u8]) -> Result<bool, AllocError> {
+    fn has_key(&self, id: u64, image: &[u8], key: &[u8]) -> Result<bool, AllocError>
+        requires { (member : ℕ) × (format : PathFormat) × IsFormatAt id member format self.now.room.paths.paths × IsAskable format image.now }
+        ensures { IfOk result (λ same. (member : ℕ) (format : PathFormat) (values : List KeyValue) → IsKeyAt id member key.now format values self.now.room.paths.paths → same ≡ has_key (key_in format image.now) values) }
+    {
+        are_bytes(image);
         match self.paths.key(self.alloc, id, 0, image)? {
             Some(other) => Ok(other.as_bytes() == key),
             None => Ok(false),
@@ -196,7 +233,10 @@ impl Contents {
     }
 
     /// Whether the change took a record of the member with that key away.
-    fn is_taken_by(&self, its: NewKey<'_>, undo: &Undo) -> Result<bool, AllocError> {
+    fn is_taken_by(&self, its: NewKey<'_>, undo: &Undo) -> Result<bool, AllocError>
+        requires { (format : PathFormat) × IsFormatAt its.path its.member format self.now.room.paths.paths × IsAskedBefore format its.member undo.now.change }
+        ensures { IfOk result (λ taken. (format : PathFormat) (key : List KeyValue) → IsKeyAt its.entry.path its.entry.member its.entry.key.now format key self.now.room.paths.paths → taken ≡ takes_key format key undo.now.change) }
+    {
         if undo.member() != its.member {
             return Ok(false);
         }
@@ -207,21 +247,45 @@ impl Contents {
     }
 
     /// The least record with that key that one of the changes took away.
-    fn least_taken(&self, its: NewKey<'_>, undos: &Undos) -> Result<Option<u32>, AllocError> {
+    fn least_taken(&self, its: NewKey<'_>, undos: &Undos) -> Result<Option<u32>, AllocError>
+        requires { (format : PathFormat) × IsFormatAt its.path its.member format self.now.room.paths.paths × AreAskedBefore format its.member undos.now.changes }
+        ensures { IfOk result (λ least. (format : PathFormat) (key : List KeyValue) → IsKeyAt its.entry.path its.entry.member its.entry.key.now format key self.now.room.paths.paths → least ≡ least_of (taken format key undos.now.changes)) }
+    {
         let mut least = None;
         let mut left = undos.len();
         while left > 0 {
             left -= 1;
             let undo = undos.get(left).unwrap();
-            if self.is_taken_by(its, undo)? {
-                least = lesser(undo.rrn(), least);
-            }
+            least = self.with_taken(its, undo, least)?;
         }
         Ok(least)
     }
 
+    /// The lesser of a record that was taken away by the change and of another.
+    fn with_taken(
+        &self,
+        its: NewKey<'_>,
+        undo: &Undo,
+        least: Option<u32>,
+    ) -> Result<Option<u32>, AllocError>
+        requires { (format : PathFormat) × IsFormatAt its.path its.member format self.now.room.paths.paths × IsAskedBefore format its.member undo.now.change }
+        ensures { IfOk result (λ new. (format : PathFormat) (key : List KeyValue) (more : List MemberChange) → IsKeyAt its.entry.path its.entry.member its.entry.key.now format key self.now.room.paths.paths
+            → least ≡ least_of (taken format key more) → new ≡ least_of (taken format key (undo.now.change ∷ more))) }
+    {
+        if self.is_taken_by(its, undo)? {
+            Ok(lesser(undo.rrn(), least))
+        } else {
+            Ok(least)
+        }
+    }
+
     /// The refusal where an open commit cycle keeps the key to itself; that of the job itself is no hindrance under commitment.
-    fn not_reserved(&self, new: NewRecord<'_>, its: NewKey<'_>) -> Result<(), Stop> {
+    fn not_reserved(&self, new: NewRecord<'_>, its: NewKey<'_>) -> Result<(), Stop>
+        requires running { IsTrue (is_running (job_at new.job self.now.state.jobs)) }
+        requires path { (format : PathFormat) × IsFormatAt its.path its.member format self.now.room.paths.paths × AllAreAskedBefore format its.member self.now.state.jobs }
+        ensures { (format : PathFormat) (key : List KeyValue) → IsKeyAt its.entry.path its.entry.member its.entry.key.now format key self.now.room.paths.paths
+            → MayAllow result (keys_kept format key new.entry.job new.entry.commit (changes_in (job_of new.entry.job (memory_of self.now.state)).cycle) self.now.state.jobs) }
+    {
         if let Some(other) = self.reservation_of_others(new.job, its)? {
             return Err(Stop::Refused(Reply::RecordInUse {
                 job: other.job,
@@ -236,7 +300,16 @@ impl Contents {
     }
 
     /// The least record with the key that the job's own open commit cycle took away, where the job writes outside it.
-    fn own_reservation(&self, new: NewRecord<'_>, its: NewKey<'_>) -> Result<Option<u32>, AllocError> {
+    fn own_reservation(
+        &self,
+        new: NewRecord<'_>,
+        its: NewKey<'_>,
+    ) -> Result<Option<u32>, AllocError>
+        requires running { IsTrue (is_running (job_at new.job self.now.state.jobs)) }
+        requires path { (format : PathFormat) × IsFormatAt its.path its.member format self.now.room.paths.paths × AllAreAskedBefore format its.member self.now.state.jobs }
+        ensures { IfOk result (λ rrn. (format : PathFormat) (key : List KeyValue) → IsKeyAt its.entry.path its.entry.member its.entry.key.now format key self.now.room.paths.paths
+            → rrn ≡ own_reserved new.entry.commit (least_of (taken format key (changes_in (job_of new.entry.job (memory_of self.now.state)).cycle)))) }
+    {
         if new.commit {
             Ok(None)
         } else {
@@ -245,7 +318,15 @@ impl Contents {
     }
 
     /// The least record with the key that another job's open commit cycle took away. It goes over all jobs.
-    fn reservation_of_others(&self, job: u32, its: NewKey<'_>) -> Result<Option<Reservation>, AllocError> {
+    fn reservation_of_others(
+        &self,
+        job: u32,
+        its: NewKey<'_>,
+    ) -> Result<Option<Reservation>, AllocError>
+        requires path { (format : PathFormat) × IsFormatAt its.path its.member format self.now.room.paths.paths × AllAreAskedBefore format its.member self.now.state.jobs }
+        ensures { IfOk result (λ least. (format : PathFormat) (key : List KeyValue) → IsKeyAt its.entry.path its.entry.member its.entry.key.now format key self.now.room.paths.paths
+            → option_map reservation_of least ≡ least_reserved format key job 1 self.now.state.jobs) }
+    {
         let mut least = None;
         let mut left = self.jobs.len();
         while left > 0 {
@@ -262,7 +343,13 @@ impl Contents {
         its: NewKey<'_>,
         place: usize,
         rest: Option<Reservation>,
-    ) -> Result<Option<Reservation>, AllocError> {
+    ) -> Result<Option<Reservation>, AllocError>
+        requires path { (format : PathFormat) × IsFormatAt its.path its.member format self.now.room.paths.paths × AllAreAskedBefore format its.member self.now.state.jobs }
+        requires place { place < length self.now.state.jobs }
+        ensures { IfOk result (λ least. (format : PathFormat) (key : List KeyValue) (left : ℕ) → IsKeyAt its.entry.path its.entry.member its.entry.key.now format key self.now.room.paths.paths → left ≡ place + 1
+            → option_map reservation_of rest ≡ least_reserved format key job (left + 1) (drop left self.now.state.jobs)
+            → option_map reservation_of least ≡ least_reserved format key job (place + 1) (drop place self.now.state.jobs)) }
+    {
         // There are no more jobs than can be counted.
         let _jobs = self.jobs.len();
         let number = place as u32 + 1;
@@ -274,12 +361,26 @@ impl Contents {
     }
 
     /// The refusal where another record has the key.
-    fn not_repeated(&self, file: Name, id: u64, new: NewRecord<'_>) -> Result<(), Stop> {
+    fn not_repeated(&self, file: Name, id: u64, new: NewRecord<'_>) -> Result<(), Stop>
+        requires { (format : PathFormat) × IsFormatAt id new.member format self.now.room.paths.paths × IsAskable format new.image.now }
+        ensures { (format : PathFormat) → IsFormatAt id new.entry.member format self.now.room.paths.paths
+            → MayAllow result (refuse_with (λ other. DuplicateKey file other) (clash format self.now.state.members new.entry.image.now new.entry.rrn)) }
+    {
         match self.paths.clash(id, 0, new.image, new.rrn)? {
             Some(rrn) => Err(Stop::Refused(Reply::DuplicateKey { file, rrn })),
             None => Ok(()),
         }
     }
+}
+
+/// Whether the path has a format over the member.
+fn is_over(path: &PathSpec, member: u32) -> bool
+    ensures { result ≡ is_over member path.now }
+{
+    path.formats
+        .as_slice()
+        .iter()
+        .any(|format| format.member == member)
 }
 
 /// The lesser of both, where there is another.
