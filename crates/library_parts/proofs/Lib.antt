@@ -46,3 +46,4 @@ pub mod GivenTakes
 pub mod NoteLemmas
 pub mod FreeKeyLemmas
 pub mod GivenSteps
+pub mod UserKinds

@@ -16,7 +16,7 @@ use crate::contents::Contents;
 use crate::stop::Stop;
 use dds_logical::LogicalSpec;
 use field_types::names::Name;
-use file_catalogue::{File, FileBody, MemberStatus, Members};
+use file_catalogue::{File, MemberStatus, Members};
 use job_table::laws::{users_are_joined, view_users_are_joined};
 use job_table::lesser;
 
@@ -72,7 +72,7 @@ impl Contents {
 
     /// The number of the member that a logical file is over.
     pub fn member_under(&self, view: &LogicalSpec) -> u32
-        requires simple { IsSimple (LogicalFile view.now) }
+        requires { IsSimple (LogicalFile view.now) }
         ensures { base_members (bases_of (memory_of self.now.state)) view.now ≡ result ∷ [] }
     {
         match view {
@@ -86,7 +86,7 @@ impl Contents {
 
     /// The least job whose open commit cycle has changed a record that a logical file is over.
     pub fn changer_under(&self, view: &LogicalSpec) -> Option<u32>
-        requires simple { IsSimple (LogicalFile view.now) }
+        requires { IsSimple (LogicalFile view.now) }
         ensures { result ≡ changer_of_any (base_members (bases_of (memory_of self.now.state)) view.now) (memory_of self.now.state) }
     {
         view_users_are_joined();
@@ -96,7 +96,7 @@ impl Contents {
 
     /// The least job that uses a logical file: by an open of it, or by a change of a record that it is over.
     fn user_of_view(&self, name: &Name, view: &LogicalSpec) -> Option<u32>
-        requires simple { IsSimple (LogicalFile view.now) }
+        requires { IsSimple (LogicalFile view.now) }
         ensures { result ≡ user_of_logical name.now (base_members (bases_of (memory_of self.now.state)) view.now) (memory_of self.now.state) }
     {
         view_users_are_joined();
@@ -106,12 +106,12 @@ impl Contents {
 
     /// The least job that uses a file: a physical one by its members, a logical one by itself.
     pub fn user_of_file(&self, name: &Name, file: &File) -> Option<u32>
-        requires simple { IsSimple file.now.spec }
+        requires { IsSimple file.now.spec }
         ensures { result ≡ user_by file.now.spec name.now file.now (memory_of self.now.state) }
     {
-        match file.described() {
-            FileBody::Physical(_) => self.user_of_any(file.members()),
-            FileBody::Logical(view) => self.user_of_view(name, view.spec()),
+        match file.logical() {
+            Some(view) => self.user_of_view(name, view),
+            None => self.user_of_any(file.members()),
         }
     }
 }
