@@ -1,5 +1,5 @@
 -- Whether CRTLF may make a logical file, but for equal keys, which come last; and what it makes. (CL reference, CRTLF.)
-use Rattle.std.specs.Prelude.{◌≡◌, ℕ, Bool, nat_le, true, None, IfSome, IfOk, Result, Ok, Err, List, [], ◌∷◌, length, if◌then◌else◌}
+use Rattle.std.specs.Prelude.{◌≡◌, ℕ, Bool, nat_le, None, IfSome, IfOk, Result, Ok, Err, List, [], ◌∷◌, length, if◌then◌else◌}
 use Rattle.std.specs.List.{list_any}
 use Rattle.std.specs.Option.{is_some}
 use Rattle.entry_codec.specs.declared.entries.Draft.{Draft}
@@ -17,8 +17,7 @@ use Rattle.library_model.specs.declared.replies.LimitKind.TheVariants.{Files, Pa
 use Rattle.library_model.specs.SourceList.{text_of}
 use Rattle.library_steps.specs.declared.limits.TheConstants.{MOST_PATHS}
 use Rattle.library_steps.specs.State.{Memory, file_named}
-use Rattle.library_steps.specs.Change.{Change, does, journaled}
-use Rattle.library_steps.specs.CreateLogicalFile.{NewLogical, create_logical_plan, first_repeated, first_undone, has_many, is_unique, logical_described, logical_or_refused, with_logical}
+use Rattle.library_steps.specs.CreateLogicalFile.{NewLogical, create_logical_plan, first_repeated, first_undone, has_many, is_unique, logical_described, logical_or_refused}
 use Rattle.library_steps.specs.Drafts.{author_of, library_draft}
 use Rattle.library_steps.specs.LogicalFiles.{bases_of}
 use Rattle.library_steps.specs.Refusals.{◌>>=◌, refuse_if, refuse_with, named_or_refused, sequences_left}
@@ -85,6 +84,7 @@ PlansView sources m args (Err (Refused reply)) = create_logical_plan sources m a
 abbrev pub view_draft : Memory → (job timestamp : ℕ) → (name source : List ℕ) → Draft
 view_draft m job timestamp name source = library_draft (author_of m job timestamp) (FileCreated Logical name source)
 
--- the file with its entry, or the refusal of equal keys
-abbrev pub view_added : Memory → (file : List ℕ) → NewLogical → Draft → Result Change Reply
-view_added m file plan draft = does (λ _. journaled (draft ∷ []) true Done (with_logical file plan m)) (keys_differ file plan m)
+-- it is done, or stopped
+abbrev pub done : Result (Unit {0}) Stop → Result Reply Stop
+done (Ok nothing) = Ok Done
+done (Err stop) = Err stop

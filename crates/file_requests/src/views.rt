@@ -1,21 +1,20 @@
 //! CRTLF.
-ghost use Rattle.std.specs.Prelude.{◌≡◌, ◌≤◌, None, [], ◌∷◌, IfOk, IsTrue, OnOk, if◌then◌else◌};
-ghost use Rattle.std.specs.Option.{option_and_then};
-ghost use Rattle.dds_logical.specs.declared.views.LogicalSpec.{LogicalSpec};
+ghost use Rattle.std.specs.Prelude.{◌≡◌, ◌≤◌, None, [], ◌∷◌, Ok, IfOk, IsTrue, OnErr, OnOk, if◌then◌else◌};
 ghost use Rattle.logical_model.specs.Bases.{LogicalFile, base_members};
 ghost use Rattle.logical_model.specs.FilePaths.{logical_paths};
 ghost use Rattle.library_model.specs.Named.{named};
 ghost use Rattle.library_steps.specs.declared.limits.TheConstants.{LAST_SEQUENCE};
 ghost use Rattle.library_steps.specs.State.{job_at, memory_of};
 ghost use Rattle.library_steps.specs.History.{is_running};
-ghost use Rattle.library_steps.specs.CreateLogicalFile.{create_logical_file, first_undone, is_unique, logical_described, undone_number};
+ghost use Rattle.library_steps.specs.CreateLogicalFile.{create_logical_file, first_undone, is_unique, logical_described, undone_number, with_logical};
 ghost use Rattle.library_steps.specs.LogicalFiles.{bases_of};
 ghost use Rattle.library_steps.specs.Uses.{changer_of_any};
 ghost use Rattle.library_parts.specs.Answers.{Allows, Answers, Gives, MayAllow};
 ghost use Rattle.library_parts.specs.Files.{IsNewView};
 ghost use Rattle.library_parts.specs.Indexed.{IsSimple};
 ghost use Rattle.library_parts.specs.Rooms.{HasFileRoom};
-ghost use Rattle.file_requests.specs.Views.{IsSimpleSource, PlansView, may_stand, view_added, view_allowed, view_draft, view_named, view_of, view_plan};
+ghost use Rattle.file_requests.specs.Effects.{Deposits};
+ghost use Rattle.file_requests.specs.Views.{IsSimpleSource, PlansView, done, keys_differ, may_stand, view_allowed, view_draft, view_named, view_of, view_plan};
 
 use crate::create::has_file;
 use dds_logical::{LogicalFault, LogicalSpec};
@@ -23,12 +22,11 @@ use draft_list::{Author, may_deposit, with_room};
 use entry_codec::{Draft, EntryKind, FileKind};
 use field_types::names::Name;
 use field_types::texts::SourceText;
-use file_catalogue::{DescribedView, MemberStatus};
+use file_catalogue::DescribedView;
 use library_model::limits::MOST_FILES;
 use library_model::replies::{LimitKind, Reply};
 use library_model::requests::CreateLogicalFile;
 use library_model::sources::Sources;
-use library_parts::laws::effects_answer;
 use library_parts::{Contents, Stop, no_such_name};
 use library_steps::limits::MOST_PATHS;
 use std::alloc::AllocError;
@@ -54,7 +52,18 @@ pub fn create_logical_file(
 {
     let described = plan_view(contents, sources, args)?;
     let new = prepare_view(contents, job, timestamp, args, described)?;
-    apply_view(contents, args, new)
+    let added = apply_view(contents, args, new);
+    done(added)
+}
+
+/// It is done, or stopped.
+fn done(added: Result<(), Stop>) -> Result<Reply, Stop>
+    ensures { result ≡ done added }
+{
+    match added {
+        Ok(()) => Ok(Reply::Done),
+        Err(stop) => Err(stop),
+    }
 }
 
 // ---- the plan
@@ -231,20 +240,17 @@ fn prepare_view(
 // ---- the effect
 
 /// The file with its path is there, and the entry that tells of it. Or two records would have one key, or there was no memory for the path.
-fn apply_view(
-    contents: &mut Contents,
-    args: &CreateLogicalFile,
-    new: NewView,
-) -> Result<Reply, Stop>
+fn apply_view(contents: &mut Contents, args: &CreateLogicalFile, new: NewView) -> Result<(), Stop>
     requires new { IsNewView contents.old.state args.now.file new.described }
     requires file_room { HasFileRoom contents.old.room }
     requires entry_room { 1 ≤ contents.old.room.entries }
     requires left { (memory_of contents.old.state).last_entry ≤ LAST_SEQUENCE }
-    ensures { Answers contents.old.state contents.new.state result (view_added (memory_of contents.old.state) args.now.file new.described new.draft) }
+    ensures apart { MayAllow result (keys_differ args.now.file new.described (memory_of contents.old.state)) }
+    ensures added { OnOk result (Deposits contents.old.state contents.new.state (new.draft ∷ []) (with_logical args.now.file new.described)) }
+    ensures unchanged { OnErr result (contents.new.state ≡ contents.old.state) }
 {
     let NewView { described, draft } = new;
     contents.add_view(args.file, described)?;
     let _sequence = contents.deposit(draft);
-    effects_answer();
-    Ok(Reply::Done)
+    Ok(())
 }
