@@ -197,13 +197,13 @@ fn may_commit_all(contents: &Contents, job: u32, commit: bool, member: u32) -> R
     if !commit {
         return Ok(());
     }
-    if contents.level(job).is_none() {
-        return Err(Stop::Refused(Reply::NoDefinition));
+    match contents.level(job) {
+        None => Err(Stop::Refused(Reply::NoDefinition)),
+        Some(_) if contents.images_of(member).is_none() => {
+            Err(Stop::Refused(Reply::NotJournaled { member }))
+        }
+        Some(_) => Ok(()),
     }
-    if contents.images_of(member).is_none() {
-        return Err(Stop::Refused(Reply::NotJournaled { member }));
-    }
-    Ok(())
 }
 
 // ---- CLOF
