@@ -71,7 +71,7 @@ has-number name (first ∷ members) status found =
       | false ↦ λ later. let rest = has-number name members status later in grind (arith, nat_tests, rest)
     ] found
 
-abbrev IsNoView : FileSpec → Type 0
+abbrev pub IsNoView : FileSpec → Type 0
 IsNoView spec = (let none : Option LogicalSpec = None in none) ≡ logical_in spec
 
 pub members-physical : (spec : FileSpec) (m : Memory) (job : ℕ) (args : OpenFile) (file : FileState) → IsNoView spec → members_by spec m job args file ≡ physical_members m job args file

@@ -18,8 +18,18 @@ use Rattle.library_model.specs.Named.{named}
 use Rattle.library_steps.specs.declared.limits.TheConstants.{MOST_PATHS}
 use Rattle.library_steps.specs.State.{Memory, State, file_named, memory_of}
 use Rattle.library_steps.specs.Change.{does}
-use Rattle.library_steps.specs.CreateLogicalFile.{NewLogical, create_logical_change, create_logical_file, create_logical_plan, first_undone, has_many, is_unique, logical_described, logical_or_refused,
-    with_logical}
+use Rattle.library_steps.specs.CreateLogicalFile.{
+  NewLogical,
+  create_logical_change,
+  create_logical_file,
+  create_logical_plan,
+  first_undone,
+  has_many,
+  is_unique,
+  logical_described,
+  logical_or_refused,
+  with_logical,
+}
 use Rattle.library_steps.specs.LogicalFiles.{bases_of}
 use Rattle.library_steps.specs.Refusals.{◌>>=◌, refuse_if, refuse_with, named_or_refused, sequences_left}
 use Rattle.library_steps.specs.Uses.{changer_of_any, unused}

@@ -1,5 +1,5 @@
 -- Whether CRTLF may make a logical file, but for equal keys, which come last; and what it makes. (CL reference, CRTLF.)
-use Rattle.std.specs.Prelude.{◌≡◌, ℕ, Bool, nat_le, None, IfSome, IfOk, Result, Ok, Err, List, [], ◌∷◌, length, if◌then◌else◌}
+use Rattle.std.specs.Prelude.{◌≡◌, ℕ, Bool, nat_le, None, IfSome, IfOk, Result, Ok, Err, List, length, if◌then◌else◌}
 use Rattle.std.specs.List.{list_any}
 use Rattle.std.specs.Option.{is_some}
 use Rattle.entry_codec.specs.declared.entries.Draft.{Draft}

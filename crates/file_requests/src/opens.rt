@@ -117,7 +117,12 @@ fn member_named(file: &File, name: &Name) -> Result<MemberStatus, Stop>
 }
 
 /// The member that a logical file is over, which has no member but that of its own name.
-fn view_member(contents: &Contents, job: u32, args: &OpenFile, view: &LogicalSpec) -> Result<u32, Stop>
+fn view_member(
+    contents: &Contents,
+    job: u32,
+    args: &OpenFile,
+    view: &LogicalSpec,
+) -> Result<u32, Stop>
     requires running { IsTrue (is_running (job_at job contents.now.state.jobs)) }
     requires simple { IsSimple (LogicalFile view.now) }
     ensures plan { GivesMember result (logical_members (memory_of contents.now.state) job args.now view.now) }

@@ -1,6 +1,6 @@
 //! CRTLF.
 ghost use Rattle.std.specs.Prelude.{◌≡◌, ◌≤◌, None, [], ◌∷◌, Ok, IfOk, IsTrue, OnErr, OnOk, if◌then◌else◌};
-ghost use Rattle.logical_model.specs.Bases.{LogicalFile, base_members};
+ghost use Rattle.logical_model.specs.Bases.{Bases, LogicalFile, base_members};
 ghost use Rattle.logical_model.specs.FilePaths.{logical_paths};
 ghost use Rattle.library_model.specs.Named.{named};
 ghost use Rattle.library_steps.specs.declared.limits.TheConstants.{LAST_SEQUENCE};
@@ -180,7 +180,7 @@ fn undone_under(contents: &Contents, view: &LogicalSpec) -> Option<u32>
 {
     let member = contents.member_under(view);
     let undone = undone_number(contents, member);
-    if is_unique(contents, view) {
+    if is_unique(view) {
         undone
     } else {
         None
@@ -188,11 +188,10 @@ fn undone_under(contents: &Contents, view: &LogicalSpec) -> Option<u32>
 }
 
 /// Whether its path may have no equal keys.
-fn is_unique(contents: &Contents, view: &LogicalSpec) -> bool
+fn is_unique(view: &LogicalSpec) -> bool
     requires { IsSimple (LogicalFile view.now) }
-    ensures { result ≡ is_unique (logical_paths (bases_of (memory_of contents.now.state)) view.now) }
+    ensures { (bases : Bases) → result ≡ is_unique (logical_paths bases view.now) }
 {
-    let _alloc = contents.alloc();
     match view {
         LogicalSpec::Simple(view) => view.keys.unique,
         _ => unreachable!(),

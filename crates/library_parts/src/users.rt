@@ -101,7 +101,10 @@ impl Contents {
     {
         view_users_are_joined();
         let member = self.member_under(view);
-        lesser(self.jobs.first_opener(name), self.jobs.first_changer(member))
+        lesser(
+            self.jobs.first_opener(name),
+            self.jobs.first_changer(member),
+        )
     }
 
     /// The least job that uses a file: a physical one by its members, a logical one by itself.
