@@ -72,7 +72,7 @@ has-number name (first ∷ members) status found =
     ] found
 
 abbrev pub IsNoView : FileSpec → Type 0
-IsNoView spec = (let none : Option LogicalSpec = None in none) ≡ logical_in spec
+IsNoView spec = None ≡ logical_in spec
 
 pub members-physical : (spec : FileSpec) (m : Memory) (job : ℕ) (args : OpenFile) (file : FileState) → IsNoView spec → members_by spec m job args file ≡ physical_members m job args file
 members-physical (PhysicalFile spec) m job args file is = refl

@@ -180,11 +180,13 @@ fn undone_under(contents: &Contents, view: &LogicalSpec) -> Option<u32>
 {
     let member = contents.member_under(view);
     let undone = undone_number(contents, member);
-    if is_unique(view) {
-        undone
-    } else {
-        None
-    }
+    undone_if(is_unique(view), undone)
+}
+
+fn undone_if(unique: bool, undone: Option<u32>) -> Option<u32>
+    ensures { result ≡ (if unique then undone else None) }
+{
+    if unique { undone } else { None }
 }
 
 /// Whether its path may have no equal keys.

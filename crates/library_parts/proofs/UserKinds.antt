@@ -20,7 +20,7 @@ user-logical (LogicalFile other) view name file m is =
     let same : other ≡ view = cc in
     subst (λ (v : LogicalSpec). user_by (LogicalFile other) name file m ≡ user_of_logical name (base_members (bases_of m) v) m) same refl
 
-pub user-physical : (spec : FileSpec) (name : List ℕ) (file : FileState) (m : Memory) → (let none : Option LogicalSpec = None in none) ≡ logical_in spec
+pub user-physical : (spec : FileSpec) (name : List ℕ) (file : FileState) (m : Memory) → None ≡ logical_in spec
     → user_by spec name file m ≡ user_of_any file.members m
 user-physical (PhysicalFile spec) name file m is = refl
 user-physical (LogicalFile view) name file m is = absurd cc
