@@ -47,3 +47,4 @@ pub mod NoteLemmas
 pub mod FreeKeyLemmas
 pub mod GivenSteps
 pub mod UserKinds
+pub mod ManyPaths

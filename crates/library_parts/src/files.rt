@@ -90,20 +90,6 @@ impl Contents {
         Ok(())
     }
 
-    /// Whether one of the members that a logical file would be over would have more different paths than it may.
-    pub fn has_many_paths(&self, view: &LogicalSpec) -> Result<bool, AllocError>
-        requires simple { IsSimple (LogicalFile view.now) }
-        ensures { IfOk result (λ many. many ≡ list_any (has_many (logical_paths (bases_of (memory_of self.now.state)) view.now) (memory_of self.now.state)) (base_members (bases_of (memory_of self.now.state)) view.now)) }
-    {
-        let path = own_path(self.alloc, &self.catalogue, view)?;
-        let member = self.base_member(view);
-        let kept = self.paths.count_over(member);
-        match self.paths.number_of(&path) {
-            Some(_) => Ok(kept > MOST_PATHS),
-            None => Ok(kept + 1 > MOST_PATHS),
-        }
-    }
-
     /// Adds a logical file with its path, unless two records would have one key in it that may not. Out of memory changes nothing.
     pub fn add_view(&mut self, name: Name, view: DescribedView) -> Result<(), Stop>
         requires new { IsNewView self.old.state name view }

@@ -1,9 +1,14 @@
 //! Which jobs use a member: by an open, by a change of an open commit cycle, or by a lock that is kept to the boundary. And which use a
 //! file, and the member that a logical file is over.
-ghost use Rattle.std.specs.Prelude.{◌≡◌, ℕ, [], ◌∷◌, IfOk};
+ghost use Rattle.std.specs.Prelude.{◌≡◌, ℕ, nat_lt, true, [], ◌∷◌, ◌++◌, IfOk};
+ghost use Rattle.std.specs.List.{list_any};
 ghost use Rattle.logical_model.specs.Bases.{LogicalFile, base_members};
+ghost use Rattle.logical_model.specs.FilePaths.{is_over, logical_paths};
+ghost use Rattle.logical_model.specs.SamePaths.{count_paths};
+ghost use Rattle.library_steps.specs.declared.limits.TheConstants.{MOST_PATHS};
+ghost use Rattle.library_steps.specs.CreateLogicalFile.{has_many};
 ghost use Rattle.library_steps.specs.DeleteFile.{user_by};
-ghost use Rattle.library_steps.specs.LogicalFiles.{bases_of};
+ghost use Rattle.library_steps.specs.LogicalFiles.{bases_of, paths_over};
 ghost use Rattle.library_steps.specs.Refusals.{named_or_refused};
 ghost use Rattle.library_steps.specs.SlotChange.{status_among};
 ghost use Rattle.library_steps.specs.State.{file_named, memory_of};
@@ -17,8 +22,11 @@ use crate::stop::Stop;
 use dds_logical::LogicalSpec;
 use field_types::names::Name;
 use file_catalogue::{File, MemberStatus, Members};
+use file_model::paths::PathSpec;
 use job_table::laws::{users_are_joined, view_users_are_joined};
 use job_table::lesser;
+use library_steps::limits::MOST_PATHS;
+use std::alloc::AllocError;
 
 impl Contents {
     /// The least job that uses the member.
@@ -81,6 +89,30 @@ impl Contents {
                 member
             }
             _ => unreachable!(),
+        }
+    }
+
+    /// Whether the member that a logical file would be over would have more different paths than it may.
+    pub fn has_many_paths(&self, view: &LogicalSpec) -> Result<bool, AllocError>
+        requires { IsSimple (LogicalFile view.now) }
+        ensures { IfOk result (λ many. many ≡ list_any (has_many (logical_paths (bases_of (memory_of self.now.state)) view.now) (memory_of self.now.state)) (base_members (bases_of (memory_of self.now.state)) view.now)) }
+    {
+        let path = self.own_path(view)?;
+        let member = self.member_under(view);
+        Ok(self.has_many_with(&path, member))
+    }
+
+    /// Whether a member would have too many different paths with this one over it.
+    fn has_many_with(&self, path: &PathSpec, member: u32) -> bool
+        requires { is_over member path.now ≡ true }
+        ensures { result ≡ nat_lt MOST_PATHS (count_paths (paths_over member (memory_of self.now.state) ++ path.now ∷ [])) }
+    {
+        // The paths of all files are kept.
+        let _kept = self.paths.kept();
+        let count = self.paths.count_over(member);
+        match self.paths.number_of(path) {
+            Some(_) => count > MOST_PATHS,
+            None => count >= MOST_PATHS,
         }
     }
 
