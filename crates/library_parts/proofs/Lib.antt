@@ -50,3 +50,5 @@ pub mod GivenTakes
 pub mod NoteLemmas
 pub mod FreeKeyLemmas
 pub mod GivenSteps
+pub mod UserKinds
+pub mod ManyPaths

@@ -1,8 +1,8 @@
 //! Which path is over a member.
-ghost use Rattle.std.specs.Prelude.{◌≡◌, ◌&&◌};
+ghost use Rattle.std.specs.Prelude.{◌≡◌, ◌&&◌, length};
 ghost use Rattle.std.specs.Option.{option_map};
 ghost use Rattle.std.specs.List.{find};
-ghost use Rattle.path_set.specs.MemberSteps.{is_over, is_above, is_unique_over};
+ghost use Rattle.path_set.specs.MemberSteps.{is_over, is_above, is_unique_over, paths_over};
 
 use crate::by_member::paths_of_member;
 use crate::kept::{Kept, place_of_kept};
@@ -18,6 +18,14 @@ impl PathSet {
             return None;
         }
         Some(over[0].id)
+    }
+
+    /// How many paths are over a member.
+    pub fn count_over(&self, member: u32) -> usize
+        ensures { result ≡ length (paths_over member self.now.paths) }
+    {
+        let over = paths_of_member(&self.by_member, member);
+        over.len()
     }
 
     /// The least number of a path over a member that may have no equal keys, or the least above one that is given. It
