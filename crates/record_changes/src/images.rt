@@ -2,6 +2,7 @@
 ghost use Rattle.std.specs.Prelude.{◌≡◌, ℕ, Some, IfOk, IsSome};
 ghost use Rattle.std.specs.Option.{ForSome, option_copied};
 ghost use Rattle.record_fmt.specs.Records.{record_given};
+ghost use Rattle.file_model.specs.Views.{base_image};
 ghost use Rattle.member_slots.specs.declared.slot.Slot.TheVariants.{Live};
 ghost use Rattle.logical_model.specs.Bases.{LogicalFile};
 ghost use Rattle.logical_model.specs.Formats.{given_in, given_through};
@@ -15,6 +16,7 @@ ghost use Rattle.library_parts.specs.Answers.{Gives};
 ghost use Rattle.library_parts.specs.Finds.{ReadsMember};
 ghost use Rattle.library_parts.specs.Indexed.{IsViewBeside};
 ghost use Rattle.joint_state.specs.Views.{HaveDefaults};
+ghost use Rattle.view_records.specs.Through.{IsFormatOf, IsWrittenThrough};
 ghost use Rattle.record_changes.specs.Images.{IsWritable, IsWrittenIn, fields_under};
 ghost use Rattle.record_changes.specs.Places.{FitsMember};
 
@@ -155,7 +157,24 @@ fn image_over(
     ensures holds { IfOk result (λ image. HoldsRecord (bases_of (memory_of contents.now.state) view.now.base).fields image) }
 {
     let base = base_format(contents, &view.base);
-    match image_given(contents.alloc(), base, view, given, old) {
+    stored_image(contents.alloc(), base, view, given, old)
+}
+
+/// The image of a record with the fields of that file's format.
+fn stored_image(
+    alloc: Global,
+    base: &Format,
+    view: &View,
+    given: &[Option<Value>],
+    old: Option<&[u8]>,
+) -> Result<Image, Stop>
+    requires written { IsWrittenThrough base.now.fields view.now }
+    requires format { IsFormatOf view.now }
+    requires old { ForSome old (λ image. HoldsRecord base.now.fields image.now) }
+    ensures packed { Gives result (packed (base_image base.now.fields view.now.mapping given.now (option_copied old.entry))) }
+    ensures holds { IfOk result (λ image. HoldsRecord base.now.fields image) }
+{
+    match image_given(alloc, base, view, given, old) {
         Ok(image) => Ok(Image::from_vec(image)),
         Err(PackFault::NoMemory) => Err(Stop::NoMemory),
         Err(PackFault::Refused(fault)) => Err(Stop::Refused(Reply::BadValue(fault))),
