@@ -27,11 +27,11 @@ each-ok P Q (Err e) each is = tt
 -- ---- a record with the fields of a format
 
 -- the laws of a new record and of one that is changed
-abbrev NewHolds : Type 0
+abbrev pub NewHolds : Type 0
 NewHolds = (fields : List Field) (given : List (Option Value)) (image : List ℕ) → IsLaidOut fields → record_given fields given None ≡ Ok image
     → record_held fields image ≡ Some (new_values fields given)
 
-abbrev ChangedHolds : Type 0
+abbrev pub ChangedHolds : Type 0
 ChangedHolds = (fields : List Field) (given : List (Option Value)) (old image : List ℕ) (values : List Value) → IsLaidOut fields → record_held fields old ≡ Some values
     → record_given fields given (Some old) ≡ Ok image → record_held fields image ≡ Some (changed_values fields given values)
 
