@@ -13,7 +13,6 @@ use Rattle.open_position.specs.declared.position.Side.{Side}
 use Rattle.library_model.specs.declared.requests.SetPosition.{SetPosition}
 use Rattle.library_model.specs.declared.requests.ReadRecord.{ReadRecord}
 use Rattle.library_model.specs.declared.requests.ReadEqual.{ReadEqual}
-use Rattle.library_model.specs.declared.requests.ChainTo.{ChainTo}
 use Rattle.library_model.specs.declared.requests.ChainTo.TheVariants.{Key, RecordNumber}
 use Rattle.library_model.specs.declared.requests.ChainRecord.{ChainRecord}
 use Rattle.library_model.specs.declared.requests.Limit.TheVariants as limits

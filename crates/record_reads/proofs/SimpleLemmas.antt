@@ -1,5 +1,6 @@
 -- What an open of a file of one format finds, and by what it can be asked.
-use Rattle.std.proofs.Common.{◌≡◌, ℕ, ◌||◌, Bool, true, false, not, if◌then◌else◌, Option, None, Result, Ok, Err, is_ok, List, [], ◌∷◌, unwrap_or, slice_get, refl, sym, ◌∙◌, ap}
+use Rattle.std.proofs.Common.{◌≡◌, ℕ, ◌||◌, Bool, true, false, not, if◌then◌else◌, Option, None, Result, Ok, Err, is_ok, List, [], ◌∷◌, unwrap_or, slice_get}
+use Rattle.std.proofs.Common.{refl, sym, ◌∙◌, ap}
 use Rattle.std.specs.Option.{option_map}
 use Rattle.file_model.specs.FilePaths.{key_parts}
 use Rattle.file_model.specs.Joins.{RowPlace}
