@@ -25,7 +25,8 @@ use Rattle.library_steps.specs.Records.{record_in, live_record}
 use Rattle.library_steps.specs.Reads.{read_as}
 use Rattle.library_parts.specs.Finds.{IsBaseOf, ReadsMember}
 use Rattle.library_parts.specs.Indexed.{IsSimple, IsViewBeside}
-use Rattle.library_parts.specs.Lawful.{HasRecords, IsThere}
+use Rattle.library_parts.specs.Lawful.{HasRecords, IsBased, IsLibrary, IsThere, StandsOver}
+use Rattle.library_parts.proofs.FindLemmas.{HasBase, has-base}
 use Rattle.library_parts.proofs.MemberLemmas.{HasRecords-member_of, HoldsValues-at}
 use Rattle.record_reads.specs.Plans.{record_shown}
 use Rattle.record_reads.specs.Shown.{ShowsImage}
@@ -58,25 +59,30 @@ record-there s fields member rrn image there live long bytes =
 -- ---- by what the file is
 
 -- a record of the member that an open reads is one whose values its file shows
-pub shows-image : (s : State) (file : FileState) (opened : OpenState) (image : List ℕ) (member : ReadsMember s file opened) → IsSimple file.spec → IsViewBeside s.files file.spec
-    → IsRecord (fields_of member.owner) image → ShowsImage file.spec image
-shows-image s file opened image member simple beside is = by file.spec refl simple beside member.over
+pub shows-image : (s : State) (file : FileState) (opened : OpenState) (image : List ℕ) (member : ReadsMember s file opened) → IsLibrary s → IsSimple file.spec
+    → IsViewBeside s.files file.spec → IsRecord (fields_of member.owner) image → ShowsImage file.spec image
+shows-image s file opened image member lawful simple beside is = by file.spec refl simple beside member.over
   where
-    -- the records of a physical file are its own
-    own : member.base ≡ opened.file → fields_of member.owner ≡ fields_of file
-    own over =
-        let owned : named opened.file s.files ≡ Some member.owner = ap (λ (name : List ℕ). named name s.files) (sym over) ∙ member.has.owns.there in
-        let same : member.owner ≡ file = some-equal (sym owned ∙ member.there) in
+    -- the file of this name is the one that has them
+    own : (name : List ℕ) (its : FileState) → member.base ≡ name → named name s.files ≡ Some its → fields_of its ≡ fields_of member.owner
+    own name its over here =
+        let owned : named name s.files ≡ Some member.owner = ap (λ (n : List ℕ). named n s.files) (sym over) ∙ member.has.owns.there in
+        let same : its ≡ member.owner = some-equal (sym here ∙ owned) in
         ap (λ (f : FileState). fields_of f) same
+
+    -- so is a base file
+    under : (name : List ℕ) → member.base ≡ name → HasBase s name → (bases_in s.files name).fields ≡ fields_of member.owner
+    under name over base = base.fields ∙ own name base.file over base.here
 
     by : (spec : FileSpec) → file.spec ≡ spec → IsSimple spec → IsViewBeside s.files spec → IsBaseOf spec opened.file member.base → ShowsImage spec image
     by (PhysicalFile spec) same so its over =
-        let fields : fields_of member.owner ≡ spec.format.fields = own over ∙ ap (λ (f : FileSpec). (format_in f).fields) same in
+        let fields : fields_of member.owner ≡ spec.format.fields = sym (own opened.file file over member.there) ∙ ap (λ (f : FileSpec). (format_in f).fields) same in
         subst (λ (fs : List Field). IsRecord fs image) fields is
     by (LogicalFile (Simple view)) same so its over =
         let keyed : IsKeyedView (bases_in s.files view.base).fields view = its.keyed in
         let format : IsFormatOf view = its.formats in
-        let fields : (bases_in s.files view.base).fields ≡ fields_of member.owner = ap (λ (name : List ℕ). (bases_in s.files name).fields) (sym over) ∙ member.fields in
+        let stands : StandsOver s.files file.members (Simple view) = subst (IsBased s.files opened.file file.members) same (lawful.bases opened.file file member.there) in
+        let fields : (bases_in s.files view.base).fields ≡ fields_of member.owner = under view.base over (has-base s lawful view.base stands.bases.0) in
         (
           record {
             base = fields_of member.owner;

@@ -41,6 +41,8 @@ pub(crate) fn record_shown(
     requires live { is_some (live_record opened.now.state.member rrn (memory_of contents.now.state)) ≡ true }
     ensures { IfOk result (λ shown. shown ≡ record_shown (memory_of contents.now.state) file.now opened.now.state rrn) }
 {
+    // What the parts of a library need of each other holds.
+    let _jobs = contents.jobs_begun();
     let image = image_there(contents, opened.member(), rrn);
     shown_by(contents.alloc(), file.described(), rrn, image)
 }
