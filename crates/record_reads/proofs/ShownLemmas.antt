@@ -82,8 +82,7 @@ shows-image s file opened image member lawful simple beside is = by file.spec re
         let keyed : IsKeyedView (bases_in s.files view.base).fields view = its.keyed in
         let format : IsFormatOf view = its.formats in
         let stands : StandsOver s.files file.members (Simple view) = subst (IsBased s.files opened.file file.members) same (lawful.bases opened.file file member.there) in
-        let fields : (bases_in s.files view.base).fields ≡ fields_of member.owner = under view.base over (has-base s lawful view.base stands.bases.0) in
-        (
+        let fields : (bases_in s.files view.base).fields ≡ fields_of member.owner = under view.base over (has-base s lawful view.base stands.bases.0) in (
           record {
             base = fields_of member.owner;
             lies = member.laid.lies;

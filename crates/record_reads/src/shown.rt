@@ -116,12 +116,7 @@ fn shown_logical(
 }
 
 /// What a format shows of a record of its base file.
-fn shown_view(
-    alloc: Global,
-    view: &View,
-    rrn: u32,
-    image: &[u8],
-) -> Result<RecordRead, AllocError>
+fn shown_view(alloc: Global, view: &View, rrn: u32, image: &[u8]) -> Result<RecordRead, AllocError>
     requires read { IsReadThrough view.now image.now }
     requires format { IsFormatOf view.now }
     ensures { IfOk result (λ shown. shown ≡ read_as rrn (shown_through view.now image.now)) }
