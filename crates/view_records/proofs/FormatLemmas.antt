@@ -1,5 +1,6 @@
 -- The formats that a data description describes show what their fields say, and what these are made of has a byte.
-use Rattle.std.proofs.Common.{◌≡◌, ℕ, ◌+◌, ◌≤◌, nat_le, Bool, true, false, not, cond, ◌&&◌, ◌||◌, codes, Option, Some, None, is_some, IfSome, Result, Ok, Err, List, [], ◌∷◌, ◌++◌, length, map, refl, sym, subst, arith}
+use Rattle.std.proofs.Common.{◌≡◌, ℕ, ◌+◌, ◌≤◌, nat_le, Bool, true, false, not, cond, ◌&&◌, ◌||◌, codes, Option, Some, None, is_some, IfSome, Result, Ok, Err}
+use Rattle.std.proofs.Common.{List, [], ◌∷◌, ◌++◌, length, map, refl, sym, subst, arith}
 use Rattle.std.specs.List.{AllByRecursion, list_all, flat_map, filter_map, cons_option}
 use Rattle.std.specs.Cmp.Lexicographic.{same_text}
 use Rattle.std.proofs.lemmas.Bool.{and_parts, cond_both, cond-true, leb-true, not-false}
@@ -33,8 +34,8 @@ use Rattle.dds_logical.specs.KeywordArguments.{is_file_or_field, names_among, ar
 use Rattle.dds_logical.specs.KeywordRules.{stands_at, unknown_faults, argument_faults, twice_faults, logical_keyword_faults}
 use Rattle.dds_logical.specs.Logical.{base_of, fields_named, format_fields, format_parts, most_parts, view_described, one_or_several, view_faults, join_described_by, described_by}
 use Rattle.dds_logical.specs.Logical.{formats_at_fault, faults_over, unless_fault, logical_specification, logical_faults, logical_of}
-use Rattle.dds_logical.specs.Origins.{Origin, keyword_names, origin_names, fields_of_names, lacks_one, is_character, are_characters, lies_within, if_within, part_said, whole_field, first_copied, concatenated}
-use Rattle.dds_logical.specs.Origins.{part_origin, substring_of, arguments_said, made_of, origin}
+use Rattle.dds_logical.specs.Origins.{Origin, keyword_names, origin_names, fields_of_names, lacks_one, is_character, are_characters, lies_within, if_within, part_said, whole_field}
+use Rattle.dds_logical.specs.Origins.{first_copied, concatenated, part_origin, substring_of, arguments_said, made_of, origin}
 use Rattle.dds_logical.proofs.CompleteLemmas.{nothing_in, not_wrong}
 use Rattle.view_records.specs.Through.{AreFieldsOf, IsFormatOf, HasBytes, HaveBytes, HasFormats, HasBytesIn}
 
@@ -274,7 +275,8 @@ all-bytes described source fs none =
     several-bytes (map (view_described described source.file is_multi (most_parts fs)) fs)
     (views-bytes described source.last_line source.file is_multi (most_parts fs) fs (flat-nothing (view_faults described source.last_line is_multi) fs views.0))
 
-file-bytes : (described : List ℕ → Option PhysicalSpec) (source : Source) (fs : List FormatLines) → faults_over described source (is_join_file fs) fs ≡ [] → HasBytesIn (described_by described source fs)
+file-bytes : (described : List ℕ → Option PhysicalSpec) (source : Source) (fs : List FormatLines) → faults_over described source (is_join_file fs) fs ≡ []
+    → HasBytesIn (described_by described source fs)
 file-bytes described source fs none =
     cond_both (is_join_file fs) (join_described_by described source.file fs) (one_or_several (map (view_described described source.file (is_multi_format fs) (most_parts fs)) fs)) HasBytesIn
     (λ _. join-bytes described source.file fs)
