@@ -1,6 +1,6 @@
 use Rattle.std.proofs.Common.{◌∙◌, Err, ap}
 use Rattle.record_reads.proofs.ShownLemmas.{no-bad-image}
-use Rattle.record_reads.proofs.shown.values_shown.Goals as goal
+use Rattle.record_reads.proofs.shown.values_held.Goals as goal
 
 pub unreachable-requires : goal.unreachable-requires
 unreachable-requires c =
