@@ -1,0 +1,5 @@
+pub mod DepositLemmas
+pub mod QuietLemmas
+pub mod StandsLemmas
+pub mod EmptyLemmas
+pub mod JobRequests

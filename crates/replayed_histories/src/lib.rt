@@ -1,0 +1,22 @@
+//! The journal of a library can be replayed, and what it leaves is the library as it stands. Laws alone: the functions do nothing.
+//! Begin with `specs/Replayed.antt`.
+#![tactic(auto)]
+
+ghost use Rattle.std.specs.Prelude.{ℕ, List};
+ghost use Rattle.journal_model.specs.Journal.{CanReplayJournal};
+ghost use Rattle.library_steps.specs.State.{State, begun, empty_library};
+ghost use Rattle.restart_laws.specs.Given.{AreDeposited};
+ghost use Rattle.restart_model.specs.Libraries.{journal_with};
+ghost use Rattle.restart_model.specs.Sources.{descriptions};
+ghost use Rattle.replayed_histories.specs.Replayed.{IsReplayed};
+
+/// A journal that leaves its library can be replayed, and holds only what libraries deposit.
+pub fn replayed_journals_can_be_replayed()
+    ensures replays { (s : State) → IsReplayed s → CanReplayJournal descriptions (journal_with s.entries) }
+    ensures deposited { (s : State) → IsReplayed s → AreDeposited s.entries }
+{}
+
+/// So it is of a library with nothing in it, whichever jobs begin in it.
+pub fn an_empty_library_is_replayed()
+    ensures { (names : List (List ℕ)) → IsReplayed (begun empty_library names) }
+{}
