@@ -1,10 +1,11 @@
 -- A library with nothing in it, and what it is that a journal leaves its library.
-use Rattle.std.proofs.Common.{◌≡◌, ℕ, List, [], ◌∷◌, ◌++◌, map, Some, None, refl, sym, ap}
+use Rattle.std.proofs.Common.{◌≡◌, ℕ, List, [], ◌∷◌, ◌++◌, map, Some, None, refl, sym, ap, subst}
 use Rattle.std.specs.Prelude.{is_none}
 use Rattle.std.specs.List.{AllByRecursion}
 use Rattle.entry_codec.specs.declared.entries.Entry.{Entry}
 use Rattle.journal_model.specs.Catalogue.{CatalogMember, catalogue_after, empty_catalogue, member_numbered}
 use Rattle.journal_model.specs.Journal.{CanReplayJournal, StaysMembers}
+use Rattle.journal_model.specs.Replayable.{is_one_of}
 use Rattle.journal_replay.specs.Left.{empty_standing}
 use Rattle.journal_replay.proofs.EmptyLemmas.{empty-left}
 use Rattle.journal_replay.proofs.SoFarLemmas.{journal-whole}
@@ -12,7 +13,7 @@ use Rattle.journal_replay.proofs.WholeLemmas.{none-whole}
 use Rattle.library_steps.specs.State.{State, begun, empty_library, new_job}
 use Rattle.restart_model.specs.Sources.{descriptions}
 use Rattle.restart_model.specs.Libraries.{journal_with}
-use Rattle.replayed_histories.specs.Shown.{cycle_numbers, in_rising_order}
+use Rattle.replayed_histories.specs.Shown.{AreDifferent, cycle_numbers}
 use Rattle.replayed_histories.specs.Replayed.{HasItsChanges, IsReplayed}
 
 no-cycles : (names : List (List ℕ)) → cycle_numbers (map new_job names) ≡ []
@@ -37,14 +38,16 @@ empty-replayed names = record {
   stands = record {
     files_are = refl;
     described = refl;
+    fields_are = tt;
     members_are = tt;
     homes = tt;
     numbers = refl;
     next_is = refl;
     slots = tt;
     cycles_are = record {
-      open_cycles = ap in_rising_order (sym (no-cycles names));
+      same = λ n. ap (λ (numbers : List ℕ). is_one_of numbers n) (sym (no-cycles names));
       rising = tt;
+      apart = subst AreDifferent (sym (no-cycles names)) tt;
       begun = tt;
       changes = no-changes names;
       owned = tt;

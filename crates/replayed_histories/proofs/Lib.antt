@@ -1,3 +1,4 @@
+pub mod ListLemmas
 pub mod DepositLemmas
 pub mod QuietLemmas
 pub mod StandsLemmas

@@ -3,12 +3,13 @@ use Rattle.std.proofs.Common.{◌≡◌, ℕ, ◌+◌, ◌<◌, zero, suc, IfSom
 use Rattle.std.specs.List.{AllByRecursion}
 use Rattle.member_slots.specs.Members.{NumberedMembers}
 use Rattle.entry_codec.specs.declared.kinds.EntryKind.{EntryKind}
+use Rattle.journal_model.specs.Replayable.{is_one_of}
 use Rattle.journal_model.specs.Rollback.{MemberChange}
 use Rattle.journal_replay.specs.Standing.{Standing}
 use Rattle.library_model.specs.Named.{Named}
 use Rattle.library_steps.specs.State.{CycleState, FileState, JobState, job_changed}
-use Rattle.journal_kept.proofs.JobLemmas.{all-job_changed}
-use Rattle.replayed_histories.specs.Shown.{cycle_numbers, in_rising_order, with_number}
+use Rattle.replayed_histories.proofs.ListLemmas.{all-job_changed}
+use Rattle.replayed_histories.specs.Shown.{AreDifferent, cycle_numbers, with_number}
 use Rattle.replayed_histories.specs.Replayed.{CyclesStand, HasItsChanges, StandsAs, changes_in}
 use Rattle.replayed_histories.specs.Deposits.{moved_on}
 use Rattle.replayed_histories.proofs.QuietLemmas.{moved_times}
@@ -24,8 +25,9 @@ numbers-stay (suc place) change (job ∷ jobs) same = ap (with_number job.cycle)
 pub jobs-stay : (next place : ℕ) (cycles : List ℕ) (undos : List MemberChange) (change : JobState → JobState) (jobs : List JobState) → ((job : JobState) → (change job).cycle ≡ job.cycle)
     → CyclesStand next cycles undos jobs → CyclesStand next cycles undos (job_changed place change jobs)
 jobs-stay next place cycles undos change jobs same stand = record {
-  open_cycles = stand.open_cycles ∙ ap in_rising_order (sym (numbers-stay place change jobs same));
+  same = λ n. stand.same n ∙ ap (λ (numbers : List ℕ). is_one_of numbers n) (sym (numbers-stay place change jobs same));
   rising = stand.rising;
+  apart = subst AreDifferent (sym (numbers-stay place change jobs same)) stand.apart;
   begun = stand.begun;
   changes = all-job_changed (HasItsChanges undos) place change jobs
       (λ job has. subst (λ (o : Option CycleState). IfSome o (λ (cycle : CycleState). changes_in cycle.sequence undos ≡ cycle.undos)) (sym (same job)) has) stand.changes;
@@ -43,14 +45,16 @@ pub stands-on : (left : Standing) (files : Named FileState) (members : NumberedM
 stands-on left files members next_member jobs stands = record {
   files_are = stands.files_are;
   described = stands.described;
+  fields_are = stands.fields_are;
   members_are = stands.members_are;
   homes = stands.homes;
   numbers = stands.numbers;
   next_is = stands.next_is;
   slots = stands.slots;
   cycles_are = record {
-    open_cycles = stands.cycles_are.open_cycles;
+    same = stands.cycles_are.same;
     rising = stands.cycles_are.rising;
+    apart = stands.cycles_are.apart;
     begun = later left.next left.cycles stands.cycles_are.begun;
     changes = stands.cycles_are.changes;
     owned = stands.cycles_are.owned;
@@ -68,6 +72,7 @@ pub stands-job : (left : Standing) (files : Named FileState) (members : Numbered
 stands-job left files members next_member place change jobs same stands = record {
   files_are = stands.files_are;
   described = stands.described;
+  fields_are = stands.fields_are;
   members_are = stands.members_are;
   homes = stands.homes;
   numbers = stands.numbers;

@@ -4,6 +4,7 @@ use Rattle.std.specs.Prelude.{◌≡◌, ℕ, ◌<◌, Bool, true, false, IfSome
 use Rattle.std.specs.List.{AllByRecursion, filter}
 use Rattle.std.specs.Option.{is_some}
 use Rattle.entry_codec.specs.declared.entries.Entry.{Entry}
+use Rattle.entry_codec.specs.declared.kinds.FileKind.TheVariants.{Physical}
 use Rattle.member_slots.specs.Member.{IsMember, records}
 use Rattle.member_slots.specs.Members.{NumberedMembers, member_of}
 use Rattle.journal_model.specs.Journal.{StaysMembers, record_length}
@@ -13,14 +14,14 @@ use Rattle.journal_model.specs.Rollback.{MemberChange}
 use Rattle.journal_replay.specs.Standing.{HeldMember, Standing, catalog_member, catalogue_in}
 use Rattle.journal_replay.specs.Left.{IsLeft}
 use Rattle.library_model.specs.Named.{Named, named}
-use Rattle.library_steps.specs.State.{State, FileState, JobState, MemberStatus}
+use Rattle.library_steps.specs.State.{State, FileState, JobState, MemberStatus, fields_of}
 use Rattle.library_steps.specs.Change.{Change}
 use Rattle.library_steps.specs.SlotChange.{status_among}
 use Rattle.joint_state.specs.Sound.{Does, after}
-use Rattle.restart_model.specs.Sources.{descriptions, described_files}
+use Rattle.restart_model.specs.Sources.{descriptions, described_files, fields_beside}
 use Rattle.restart_model.specs.Libraries.{journal_with}
 use Rattle.restart_laws.specs.Given.{AreDeposited}
-use Rattle.replayed_histories.specs.Shown.{catalog_shown, file_shown, memberless, ShowsMembers, cycle_numbers, in_rising_order, IsRising}
+use Rattle.replayed_histories.specs.Shown.{catalog_shown, file_shown, memberless, ShowsMembers, cycle_numbers, kind_in, AreDifferent, IsRising}
 
 -- ---- what the journal's entries leave
 
@@ -62,8 +63,9 @@ IsOfOneOf cycles (Some n) = is_one_of cycles n ≡ true
 
 -- the commit cycles that the journal leaves open are those of the jobs, in the order of their beginnings
 pub record CyclesStand (next : ℕ) (cycles : List ℕ) (undos : List MemberChange) (jobs : List JobState) : Type 0 where
-  pub open_cycles : cycles ≡ in_rising_order (cycle_numbers jobs)
+  pub same : (n : ℕ) → is_one_of cycles n ≡ is_one_of (cycle_numbers jobs) n
   pub rising : IsRising cycles
+  pub apart : AreDifferent (cycle_numbers jobs)
   pub begun : AllByRecursion (λ n. n < next) cycles
   pub changes : AllByRecursion (HasItsChanges undos) jobs
   pub owned : AllByRecursion (λ (c : MemberChange). IsOfOneOf cycles c.change.cycle) undos
@@ -75,6 +77,8 @@ pub record StandsAs (left : Standing) (files : Named FileState) (members : Numbe
   pub files_are : map catalog_shown left.files ≡ map file_shown files
   -- each file's specification is that of its source beside the files before it
   pub described : described_files left.files ≡ map memberless files
+  -- and its records have the fields by which the journal judges images
+  pub fields_are : AllByRecursion (λ entry. kind_in entry.1.spec ≡ Physical → fields_beside left.files entry.1.source ≡ fields_of entry.1) files
   pub members_are : AllByRecursion (ShowsMembers left.members) files
   pub homes : AllByRecursion (λ (m : HeldMember). is_some (named m.file files) ≡ true) left.members
   pub numbers : map (λ (m : HeldMember). m.number) left.members ≡ map (λ entry. entry.number) members

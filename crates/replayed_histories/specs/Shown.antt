@@ -1,5 +1,5 @@
 -- What a journal that was replayed and a library both show of their files, members and commit cycles. (Our own.)
-use Rattle.std.specs.Prelude.{◌≡◌, ℕ, ◌<◌, Bool, nat_lt, if◌then◌else◌, Option, Some, None, List, [], ◌∷◌, map}
+use Rattle.std.specs.Prelude.{◌≡◌, ℕ, ◌<◌, Bool, true, Option, Some, None, List, [], ◌∷◌, map}
 use Rattle.std.specs.List.{filter, AllByRecursion}
 use Rattle.std.specs.Str.{bytes_eq}
 use Rattle.entry_codec.specs.declared.kinds.FileKind.{FileKind}
@@ -7,6 +7,7 @@ use Rattle.entry_codec.specs.declared.kinds.FileKind.TheVariants.{Physical, Logi
 use Rattle.entry_codec.specs.declared.kinds.Images.{Images}
 use Rattle.logical_model.specs.Bases.{FileSpec, PhysicalFile, LogicalFile}
 use Rattle.journal_model.specs.Catalogue.{CatalogFile}
+use Rattle.journal_model.specs.Replay.{is_other}
 use Rattle.journal_replay.specs.Standing.{HeldMember}
 use Rattle.library_steps.specs.State.{FileState, CycleState, JobState, MemberStatus}
 
@@ -62,15 +63,12 @@ abbrev pub cycle_numbers : List JobState → List ℕ
 cycle_numbers [] = []
 cycle_numbers (job ∷ jobs) = with_number job.cycle (cycle_numbers jobs)
 
-abbrev pub put_number : ℕ → List ℕ → List ℕ
-put_number n [] = n ∷ []
-put_number n (m ∷ numbers) = if nat_lt n m then n ∷ m ∷ numbers else m ∷ put_number n numbers
-
 -- a commit cycle is known by the sequence of its beginning, so that the order of the numbers is that of the beginnings
-abbrev pub in_rising_order : List ℕ → List ℕ
-in_rising_order [] = []
-in_rising_order (n ∷ numbers) = put_number n (in_rising_order numbers)
-
 abbrev pub IsRising : List ℕ → Type 0
 IsRising [] = Unit {0}
 IsRising (n ∷ numbers) = AllByRecursion (λ later. n < later) numbers × IsRising numbers
+
+-- no two numbers are the same
+abbrev pub AreDifferent : List ℕ → Type 0
+AreDifferent [] = Unit {0}
+AreDifferent (n ∷ numbers) = AllByRecursion (λ other. is_other n other ≡ true) numbers × AreDifferent numbers
