@@ -3,4 +3,5 @@ pub mod DepositLemmas
 pub mod QuietLemmas
 pub mod StandsLemmas
 pub mod EmptyLemmas
+pub mod CycleLemmas
 pub mod JobRequests
