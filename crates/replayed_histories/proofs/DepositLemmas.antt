@@ -23,8 +23,7 @@ use Rattle.joint_state.specs.Sound.{after}
 use Rattle.restart_model.specs.Sources.{descriptions}
 use Rattle.restart_model.specs.Libraries.{journal_with}
 use Rattle.restart_laws.specs.Given.{AreJournaled, IsJournaledThen}
-use Rattle.range_histories.proofs.HistoryLemmas.{drop-none}
-use Rattle.replayed_histories.proofs.ListLemmas.{all-append}
+use Rattle.replayed_histories.proofs.ListLemmas.{all-append, drop-none}
 use Rattle.replayed_histories.specs.Replayed.{IsHeldWithin, IsLeftBy, IsReplayed, StandsAs}
 use Rattle.replayed_histories.specs.Deposits.{DraftsLeave, MayBeDeposited}
 

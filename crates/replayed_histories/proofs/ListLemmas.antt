@@ -1,5 +1,5 @@
 -- What holds of each of two lists holds of each of both, and of each job that one change leaves.
-use Rattle.std.proofs.Common.{ℕ, zero, suc, List, [], ◌∷◌, ◌++◌}
+use Rattle.std.proofs.Common.{◌≡◌, ℕ, zero, suc, drop, List, [], ◌∷◌, ◌++◌, refl, ap, ◌∙◌}
 use Rattle.std.specs.List.{AllByRecursion}
 use Rattle.library_steps.specs.State.{JobState, job_changed}
 
@@ -12,3 +12,9 @@ pub all-job_changed : (P : JobState → Type 0) (place : ℕ) (change : JobState
 all-job_changed P place change [] each all = tt
 all-job_changed P zero change (job ∷ jobs) each all = (each job all.0, all.1)
 all-job_changed P (suc place) change (job ∷ jobs) each all = (all.0, all-job_changed P place change jobs each all.1)
+
+pub drop-none : {A : Type 0} (n : ℕ) (xs : List A) → n ≡ 0 → drop n xs ≡ xs
+drop-none {A = A} n xs e = ap (λ (k : ℕ). drop k xs) e ∙ at xs where
+  at : (xs : List A) → drop 0 xs ≡ xs
+  at [] = refl
+  at (x ∷ xs) = refl

@@ -115,11 +115,10 @@ no-records c (Some member) = at (file_named member.file c) where
   at None = tt
   at (Some file) = tt
 
-pub members-quiet : (prior : Option Entry) (e : Entry) (members : List HeldMember) → ((number : ℕ) → act number prior e ≡ Nothing) → members_by prior e members ≡ members
-members-quiet prior e [] nothing = refl
-members-quiet prior e (m ∷ members) nothing =
-    let head : member_by (act m.number prior e) e.sequence m ≡ m = ap (λ (a : Act). member_by a e.sequence m) (nothing m.number) in
-    ap (λ (h : HeldMember). h ∷ members_by prior e members) head ∙ ap (λ (t : List HeldMember). m ∷ t) (members-quiet prior e members nothing)
+pub members-stay : (prior : Option Entry) (e : Entry) (members : List HeldMember) → ((m : HeldMember) → member_by (act m.number prior e) e.sequence m ≡ m) → members_by prior e members ≡ members
+members-stay prior e [] same = refl
+members-stay prior e (m ∷ members) same =
+    ap (λ (h : HeldMember). h ∷ members_by prior e members) (same m) ∙ ap (λ (t : List HeldMember). m ∷ t) (members-stay prior e members same)
 
 abbrev pub made : (next : ℕ) → Option Entry → List CatalogFile → List HeldMember → (next_member : ℕ) → List ℕ → List MemberChange → Standing
 made next begun files members next_member cycles undos =
@@ -150,7 +149,7 @@ module _ (author : Author) (kind : EntryKind) (quiet : IsQuiet kind) (left : Sta
       (ap (λ p. only_begun p e) quiet.begun) (quiet.files e left.files)
       (ap (λ (more : List HeldMember). left_by kind (members_by left.begun e left.members) ++ more) (quiet.made e)
       ∙ append-nil (left_by kind (members_by left.begun e left.members)) ∙ quiet.members (members_by left.begun e left.members)
-      ∙ members-quiet left.begun e left.members nothing)
+      ∙ members-stay left.begun e left.members (λ m. ap (λ (a : Act). member_by a left.next m) (nothing m.number)))
       (ap (next_after left.next_member) (quiet.made e)) (ap (cycles_after left.cycles) (quiet.elsewhere e)) (ap (λ (a : Act). undos_by a 0 left.undos) (quiet.elsewhere e))
 
   pub quiet-may : left.begun ≡ None → AllByRecursion (IsHeldWithin left) left.members → MayBeDeposited left e

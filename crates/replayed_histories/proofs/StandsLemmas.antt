@@ -10,7 +10,7 @@ use Rattle.library_model.specs.Named.{Named}
 use Rattle.library_steps.specs.State.{CycleState, FileState, JobState, job_changed}
 use Rattle.replayed_histories.proofs.ListLemmas.{all-job_changed}
 use Rattle.replayed_histories.specs.Shown.{AreDifferent, cycle_numbers, with_number}
-use Rattle.replayed_histories.specs.Replayed.{CyclesStand, HasItsChanges, StandsAs, changes_in}
+use Rattle.replayed_histories.specs.Replayed.{BeganBefore, CyclesStand, HasItsChanges, StandsAs, changes_in}
 use Rattle.replayed_histories.specs.Deposits.{moved_on}
 use Rattle.replayed_histories.proofs.QuietLemmas.{moved_times}
 
@@ -36,9 +36,9 @@ jobs-stay next place cycles undos change jobs same stand = record {
 
 -- ---- an entry more
 
-later : (next : ℕ) (numbers : List ℕ) → AllByRecursion (λ (n : ℕ). n < next) numbers → AllByRecursion (λ (n : ℕ). n < next + 1) numbers
+pub later : (next : ℕ) (numbers : List ℕ) → AllByRecursion (BeganBefore next) numbers → AllByRecursion (BeganBefore (next + 1)) numbers
 later next [] all = tt
-later next (n ∷ numbers) all = let less : n < next = all.0 in (omega (arith, less), later next numbers all.1)
+later next (n ∷ numbers) all = let less : n < next = all.0.1 in ((all.0.0, omega (arith, less)), later next numbers all.1)
 
 pub stands-on : (left : Standing) (files : Named FileState) (members : NumberedMembers) (next_member : ℕ) (jobs : List JobState) → StandsAs left files members next_member jobs
     → StandsAs (moved_on left) files members next_member jobs

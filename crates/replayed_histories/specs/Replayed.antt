@@ -1,6 +1,6 @@
 -- Of which libraries can the journal be replayed, so that it leaves the library as it stands? Of each that was nothing in the beginning, as long as it has
 -- no checkpoint. (Journal Management, "Recovery operations using journaling"; Commitment Control.)
-use Rattle.std.specs.Prelude.{◌≡◌, ℕ, ◌<◌, Bool, true, false, IfSome, Option, Some, None, List, length, map}
+use Rattle.std.specs.Prelude.{◌≡◌, ℕ, ◌<◌, ◌≤◌, Bool, true, false, IfSome, Option, Some, None, List, length, map}
 use Rattle.std.specs.List.{AllByRecursion, filter}
 use Rattle.std.specs.Option.{is_some}
 use Rattle.entry_codec.specs.declared.entries.Entry.{Entry}
@@ -61,12 +61,15 @@ abbrev pub IsOfOneOf : List ℕ → Option ℕ → Type 0
 IsOfOneOf cycles None = ⊥
 IsOfOneOf cycles (Some n) = is_one_of cycles n ≡ true
 
+abbrev pub BeganBefore : (next : ℕ) → ℕ → Type 0
+BeganBefore next n = (1 ≤ n) × (n < next)
+
 -- the commit cycles that the journal leaves open are those of the jobs, in the order of their beginnings
 pub record CyclesStand (next : ℕ) (cycles : List ℕ) (undos : List MemberChange) (jobs : List JobState) : Type 0 where
   pub same : (n : ℕ) → is_one_of cycles n ≡ is_one_of (cycle_numbers jobs) n
   pub rising : IsRising cycles
   pub apart : AreDifferent (cycle_numbers jobs)
-  pub begun : AllByRecursion (λ n. n < next) cycles
+  pub begun : AllByRecursion (BeganBefore next) cycles
   pub changes : AllByRecursion (HasItsChanges undos) jobs
   pub owned : AllByRecursion (λ (c : MemberChange). IsOfOneOf cycles c.change.cycle) undos
 
