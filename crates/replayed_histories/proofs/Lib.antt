@@ -5,3 +5,5 @@ pub mod StandsLemmas
 pub mod EmptyLemmas
 pub mod CycleLemmas
 pub mod JobRequests
+pub mod CommitRequests
+pub mod ReceiverRequests

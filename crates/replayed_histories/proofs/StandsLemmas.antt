@@ -2,6 +2,7 @@
 use Rattle.std.proofs.Common.{◌≡◌, ℕ, ◌+◌, ◌<◌, zero, suc, IfSome, Option, Some, None, List, [], ◌∷◌, refl, sym, ap, ◌∙◌, subst, arith}
 use Rattle.std.specs.List.{AllByRecursion}
 use Rattle.member_slots.specs.Members.{NumberedMembers}
+use Rattle.entry_codec.specs.declared.entries.Entry.{Entry}
 use Rattle.entry_codec.specs.declared.kinds.EntryKind.{EntryKind}
 use Rattle.journal_model.specs.Replayable.{is_one_of}
 use Rattle.journal_model.specs.Rollback.{MemberChange}
@@ -79,4 +80,31 @@ stands-job left files members next_member place change jobs same stands = record
   next_is = stands.next_is;
   slots = stands.slots;
   cycles_are = jobs-stay left.next place left.cycles left.undos change jobs same stands.cycles_are;
+}
+
+-- ---- other commit cycles
+
+pub cycles-later : (next : ℕ) (cycles : List ℕ) (undos : List MemberChange) (jobs : List JobState) → CyclesStand next cycles undos jobs → CyclesStand (next + 1) cycles undos jobs
+cycles-later next cycles undos jobs stand = record {
+  same = stand.same;
+  rising = stand.rising;
+  apart = stand.apart;
+  begun = later next cycles stand.begun;
+  changes = stand.changes;
+  owned = stand.owned;
+}
+
+pub stands-with : (left : Standing) (next : ℕ) (begun : Option Entry) (cycles : List ℕ) (undos : List MemberChange) (files : Named FileState) (members : NumberedMembers) (next_member : ℕ)
+    (jobs jobs_then : List JobState) → StandsAs left files members next_member jobs → CyclesStand next cycles undos jobs_then
+    → StandsAs (record left { next = next; begun = begun; cycles = cycles; undos = undos }) files members next_member jobs_then
+stands-with left next begun cycles undos files members next_member jobs jobs_then stands stand = record {
+  files_are = stands.files_are;
+  described = stands.described;
+  fields_are = stands.fields_are;
+  members_are = stands.members_are;
+  homes = stands.homes;
+  numbers = stands.numbers;
+  next_is = stands.next_is;
+  slots = stands.slots;
+  cycles_are = stand;
 }
