@@ -7,3 +7,4 @@ pub mod CycleLemmas
 pub mod JobRequests
 pub mod CommitRequests
 pub mod ReceiverRequests
+pub mod StepLemmas

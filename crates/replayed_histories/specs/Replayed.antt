@@ -14,6 +14,8 @@ use Rattle.journal_model.specs.Rollback.{MemberChange}
 use Rattle.journal_replay.specs.Standing.{HeldMember, Standing, catalog_member, catalogue_in}
 use Rattle.journal_replay.specs.Left.{IsLeft}
 use Rattle.library_model.specs.Named.{Named, named}
+use Rattle.library_model.specs.declared.requests.Request.{Request}
+use Rattle.library_model.specs.declared.requests.Request.TheVariants.{CreatePhysicalFile, CreateLogicalFile, DeleteFile, AddMember, ClearMember, ReorganizeMember, StartJournaling, EndJournaling, ChangeJournal, DeleteReceiver, Checkpoint, DisplayJournal, ApplyChanges, RemoveChanges, StartCommitment, EndCommitment, Commit, Rollback, OpenFile, CloseFile, SetLowerLimit, SetGreaterThan, Read, ReadPrior, ReadEqual, ReadPriorEqual, Chain, Write, Update, Delete, Unlock, EndJob}
 use Rattle.library_steps.specs.State.{State, FileState, JobState, MemberStatus, fields_of}
 use Rattle.library_steps.specs.Change.{Change}
 use Rattle.library_steps.specs.SlotChange.{status_among}
@@ -102,3 +104,44 @@ pub record IsReplayed (s : State) : Type 0 where
 -- so it is of a sound library after whatever a running job asks of it and is done, but for CHKPT
 abbrev pub AreReplaysKept : Type 0
 AreReplaysKept = (s : State) (done : Change) → Does s done → done.memory.checkpoint ≡ 0 → IsReplayed s → IsReplayed (after s done)
+
+-- ---- request by request
+
+-- the requests that leave files, members and records alone
+abbrev pub leaves_records : Request → Bool
+leaves_records (CreatePhysicalFile args) = false
+leaves_records (CreateLogicalFile args) = false
+leaves_records (DeleteFile args) = false
+leaves_records (AddMember args) = false
+leaves_records (ClearMember args) = false
+leaves_records (ReorganizeMember args) = false
+leaves_records (StartJournaling args) = false
+leaves_records (EndJournaling args) = false
+leaves_records ChangeJournal = true
+leaves_records (DeleteReceiver args) = true
+leaves_records Checkpoint = true
+leaves_records (DisplayJournal args) = true
+leaves_records (ApplyChanges args) = false
+leaves_records (RemoveChanges args) = false
+leaves_records (StartCommitment args) = true
+leaves_records EndCommitment = true
+leaves_records Commit = true
+leaves_records Rollback = false
+leaves_records (OpenFile args) = true
+leaves_records (CloseFile args) = true
+leaves_records (SetLowerLimit args) = true
+leaves_records (SetGreaterThan args) = true
+leaves_records (Read args) = true
+leaves_records (ReadPrior args) = true
+leaves_records (ReadEqual args) = true
+leaves_records (ReadPriorEqual args) = true
+leaves_records (Chain args) = true
+leaves_records (Write args) = false
+leaves_records (Update args) = false
+leaves_records (Delete args) = false
+leaves_records (Unlock args) = true
+leaves_records (EndJob args) = false
+
+-- it is so after each of these
+abbrev pub AreReplaysKeptByThese : Type 0
+AreReplaysKeptByThese = (s : State) (done : Change) (d : Does s done) → leaves_records d.request ≡ true → done.memory.checkpoint ≡ 0 → IsReplayed s → IsReplayed (after s done)

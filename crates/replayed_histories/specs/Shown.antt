@@ -37,13 +37,12 @@ pub record ShownMember : Type 0 where
   pub name : List ℕ
   pub number : ℕ
   pub images : Option Images
-  pub last_break : ℕ
 
 abbrev pub held_shown : HeldMember → ShownMember
-held_shown m = record { name = m.name; number = m.number; images = m.images; last_break = m.last_break }
+held_shown m = record { name = m.name; number = m.number; images = m.images }
 
 abbrev pub status_shown : List ℕ × MemberStatus → ShownMember
-status_shown entry = record { name = entry.0; number = entry.1.number; images = entry.1.images; last_break = entry.1.last_break }
+status_shown entry = record { name = entry.0; number = entry.1.number; images = entry.1.images }
 
 abbrev pub is_held_in : (file : List ℕ) → HeldMember → Bool
 is_held_in file m = bytes_eq m.file file

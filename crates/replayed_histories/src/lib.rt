@@ -8,7 +8,7 @@ ghost use Rattle.library_steps.specs.State.{State, begun, empty_library};
 ghost use Rattle.restart_laws.specs.Given.{AreDeposited};
 ghost use Rattle.restart_model.specs.Libraries.{journal_with};
 ghost use Rattle.restart_model.specs.Sources.{descriptions};
-ghost use Rattle.replayed_histories.specs.Replayed.{IsReplayed};
+ghost use Rattle.replayed_histories.specs.Replayed.{AreReplaysKeptByThese, IsReplayed};
 
 /// A journal that leaves its library can be replayed, and holds only what libraries deposit.
 pub fn replayed_journals_can_be_replayed()
@@ -19,4 +19,9 @@ pub fn replayed_journals_can_be_replayed()
 /// So it is of a library with nothing in it, whichever jobs begin in it.
 pub fn an_empty_library_is_replayed()
     ensures { (names : List (List ℕ)) → IsReplayed (begun empty_library names) }
+{}
+
+/// It stays so after each request that leaves files, members and records alone.
+pub fn quiet_requests_keep_replays()
+    ensures { AreReplaysKeptByThese }
 {}
