@@ -8,3 +8,5 @@ pub mod JobRequests
 pub mod CommitRequests
 pub mod ReceiverRequests
 pub mod StepLemmas
+pub mod MemberLemmas
+pub mod FreeLemmas

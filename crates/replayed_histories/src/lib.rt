@@ -2,9 +2,11 @@
 //! Begin with `specs/Replayed.antt`.
 #![tactic(auto)]
 
-ghost use Rattle.std.specs.Prelude.{ℕ, List};
+ghost use Rattle.std.specs.Prelude.{◌≡◌, ℕ, None, List, []};
 ghost use Rattle.journal_model.specs.Journal.{CanReplayJournal};
-ghost use Rattle.library_steps.specs.State.{State, begun, empty_library};
+ghost use Rattle.journal_model.specs.Rollback.{of_member};
+ghost use Rattle.library_steps.specs.State.{State, begun, empty_library, memory_of};
+ghost use Rattle.library_steps.specs.Uses.{user_of};
 ghost use Rattle.restart_laws.specs.Given.{AreDeposited};
 ghost use Rattle.restart_model.specs.Libraries.{journal_with};
 ghost use Rattle.restart_model.specs.Sources.{descriptions};
@@ -24,4 +26,9 @@ pub fn an_empty_library_is_replayed()
 /// It stays so after each request that leaves files, members and records alone.
 pub fn quiet_requests_keep_replays()
     ensures { AreReplaysKeptByThese }
+{}
+
+/// No commit cycle that the journal leaves open has changed a member that no job uses.
+pub fn unused_members_are_free()
+    ensures { (s : State) (r : IsReplayed s) (member : ℕ) → user_of member (memory_of s) ≡ None → of_member member r.left.undos ≡ [] }
 {}
