@@ -1,0 +1,12 @@
+pub mod ListLemmas
+pub mod DepositLemmas
+pub mod QuietLemmas
+pub mod StandsLemmas
+pub mod EmptyLemmas
+pub mod CycleLemmas
+pub mod JobRequests
+pub mod CommitRequests
+pub mod ReceiverRequests
+pub mod StepLemmas
+pub mod MemberLemmas
+pub mod FreeLemmas
