@@ -35,7 +35,7 @@ use Rattle.given_changes.specs.GivenChanges.{changes_given}
 use Rattle.library_parts.specs.Indexed.{AreOfBytes, ArePaths, OpensRead, moves_of_job, changes_on, IsIndexed}
 use Rattle.library_parts.proofs.IndexMoves.{changes-held}
 use Rattle.library_parts.proofs.IndexPaths.{IsOfOwner, any-own, any-with, kept-of, moves-stay, moves-with, of-file, orders-stay, over-other, room-fewer}
-use Rattle.library_parts.proofs.IndexStatus.{files-stay}
+use Rattle.library_parts.proofs.IndexShared.{files-stay}
 
 -- ---- how many moves they have in a path
 

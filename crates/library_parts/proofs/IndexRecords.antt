@@ -29,7 +29,7 @@ use Rattle.library_model.specs.Named.{Named}
 use Rattle.library_steps.specs.State.{FileState, JobState}
 use Rattle.library_parts.specs.Indexed.{HasBytes, MemberHasBytes, AreOfBytes, ArePaths, OpensRead, changes_on, IsIndexed}
 use Rattle.library_parts.proofs.IndexPaths.{IsOfOwner, any-own, any-with, kept-of, moves-stay, moves-with, of-file, orders-stay, over-other}
-use Rattle.library_parts.proofs.IndexStatus.{files-stay}
+use Rattle.library_parts.proofs.IndexShared.{files-stay}
 
 -- ---- bytes
 
