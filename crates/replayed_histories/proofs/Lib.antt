@@ -9,4 +9,5 @@ pub mod CommitRequests
 pub mod ReceiverRequests
 pub mod StepLemmas
 pub mod MemberLemmas
+pub mod StatusLemmas
 pub mod FreeLemmas
