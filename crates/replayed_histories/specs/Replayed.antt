@@ -47,6 +47,7 @@ pub record IsAsEnded (m : HeldMember) (members : NumberedMembers) (status : Memb
 
 -- the member is one of a file, with the images that the journal keeps; where it keeps some, its slots are those that the journal leaves
 pub record MemberStands (files : Named FileState) (members : NumberedMembers) (m : HeldMember) : Type 0 where
+  pub counted : 1 ≤ m.number
   pub status : MemberStatus
   pub found : status_among m.number files ≡ Some status
   pub images : m.images ≡ status.images
