@@ -7,6 +7,8 @@ pub mod CycleLemmas
 pub mod JobRequests
 pub mod CommitRequests
 pub mod ReceiverRequests
+pub mod EndedRequests
 pub mod StepLemmas
 pub mod MemberLemmas
+pub mod StatusLemmas
 pub mod FreeLemmas

@@ -38,16 +38,21 @@ pub record IsLeftBy (entries : List Entry) (left : Standing) : Type 0 where
   pub within : AllByRecursion (IsHeldWithin left) left.members
   pub deposited : AreDeposited entries
 
--- ---- the slots of a member
+-- ---- a member
 
 -- journaling of the member ended, or never began: the journal tells its slots of that moment, which it has still where nothing has changed it since
 pub record IsAsEnded (m : HeldMember) (members : NumberedMembers) (status : MemberStatus) : Type 0 where
   pub records_then : status.records_then ≡ length (records (record { record_length = 0; slots = m.slots }))
   pub unchanged : status.changed ≡ false → m.slots ≡ (member_of m.number members).slots
 
-pub record SlotsStand (files : Named FileState) (members : NumberedMembers) (m : HeldMember) : Type 0 where
+-- the member is one of a file, with the images that the journal keeps; where it keeps some, its slots are those that the journal leaves
+pub record MemberStands (files : Named FileState) (members : NumberedMembers) (m : HeldMember) : Type 0 where
+  pub counted : 1 ≤ m.number
+  pub status : MemberStatus
+  pub found : status_among m.number files ≡ Some status
+  pub images : m.images ≡ status.images
   pub journaled : is_some m.images ≡ true → m.slots ≡ (member_of m.number members).slots
-  pub ended : is_some m.images ≡ false → IfSome (status_among m.number files) (IsAsEnded m members)
+  pub ended : is_some m.images ≡ false → IsAsEnded m members status
 
 -- ---- commit cycles
 
@@ -88,7 +93,7 @@ pub record StandsAs (left : Standing) (files : Named FileState) (members : Numbe
   pub homes : AllByRecursion (λ (m : HeldMember). is_some (named m.file files) ≡ true) left.members
   pub numbers : map (λ (m : HeldMember). m.number) left.members ≡ map (λ entry. entry.number) members
   pub next_is : left.next_member ≡ next_member
-  pub slots : AllByRecursion (SlotsStand files members) left.members
+  pub slots : AllByRecursion (MemberStands files members) left.members
   pub cycles_are : CyclesStand left.next left.cycles left.undos jobs
 
 -- all entries are there, and what they leave is the library as it stands
