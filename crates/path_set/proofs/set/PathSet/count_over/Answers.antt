@@ -13,7 +13,6 @@ paths_of_member-over-requires c = rw c.deref.ensures.value c.self.invariant.1.or
 pub returns : goal.returns
 returns c =
     let numbers = over-numbers _ _ _ _ _ _ c.self.view_is c.self.invariant.1 c.deref.ensures.value c.paths_of_member-over.ensures in
-    c.len.ensures
-    ∙ sym (length-map c.paths_of_member-over.result.now (λ (path : PathOver). path.id))
+    sym (length-map c.paths_of_member-over.result.now (λ (path : PathOver). path.id))
     ∙ ap (λ (ids : List ℕ). length ids) numbers
     ∙ length-map (paths_over c.args.member c.args.self.now.paths) (λ (path : Numbered KeptPath). path.number)
