@@ -53,7 +53,7 @@ module _ (files : Named FileState) (members : NumberedMembers) (status : MemberS
     by true is =
         let same : status.number ≡ m.number = eqb-true status.number m.number is in
         let both : ◌≡◌ {A = Option MemberStatus} (Some stands.status) (Some status) =
-            sym stands.found ∙ subst (λ (n : ℕ). status_among n files ≡ Some status) same found
+        sym stands.found ∙ subst (λ (n : ℕ). status_among n files ≡ Some status) same found
         in
         let its : stands.status ≡ status = cc in
         let one : (stands.status.number == status.number) ≡ true = grind (arith, nat_tests, here, same) in
@@ -73,7 +73,7 @@ module _ (files : Named FileState) (members : NumberedMembers) (status : MemberS
     by false is =
         let other : (stands.status.number == status.number) ≡ false = grind (arith, nat_tests, here, is) in
         let same : member_of m.number (with_member status.number item members) ≡ member_of m.number members =
-            ap (λ (o : Option MemberState). unwrap_or o (empty_member 0)) (at-other m.number status.number item members is)
+        ap (λ (o : Option MemberState). unwrap_or o (empty_member 0)) (at-other m.number status.number item members is)
         in
         let slots = ap (λ (x : MemberState). x.slots) (sym same) in
         record {
