@@ -1,5 +1,5 @@
 -- COMMIT: the job's open commit cycle ends, and what it changed stays.
-use Rattle.std.proofs.Common.{◌≡◌, ℕ, ◌+◌, ◌-◌, ◌≤◌, ◌&&◌, nat_lt, slice_get, Bool, true, false, List, [], ◌∷◌, length, Option, Some, None, Ok, refl, sym, ap, ◌∙◌, subst, arith}
+use Rattle.std.proofs.Common.{◌≡◌, ℕ, ◌+◌, ◌-◌, ◌≤◌, ◌&&◌, nat_lt, slice_get, Bool, true, [], ◌∷◌, Option, Some, None, Ok, refl, sym, ap, ◌∙◌, subst, arith}
 use Rattle.std.specs.List.{AllByRecursion, filter}
 use Rattle.std.specs.Option.{is_some}
 use Rattle.std.proofs.lemmas.List.{append-nil}
@@ -7,7 +7,6 @@ use Rattle.std.proofs.lemmas.Bool.Decides.{nat_tests}
 use Rattle.entry_codec.specs.declared.entries.Entry.{Entry}
 use Rattle.entry_codec.specs.declared.kinds.EntryKind.TheVariants.{CommitCycleCommitted}
 use Rattle.entry_codec.specs.Drafts.{numbered}
-use Rattle.lock_table.specs.declared.levels.Call.TheVariants as calls
 use Rattle.journal_model.specs.Catalogue.{member_numbered}
 use Rattle.journal_model.specs.Pairs.{EndsPair}
 use Rattle.journal_model.specs.Replay.{is_other}
@@ -21,7 +20,7 @@ use Rattle.library_steps.specs.Drafts.{Author, author_of, cycle_draft}
 use Rattle.library_steps.specs.Commitment.{commit, commit_change, committed, committed_open, end_drafts, without_cycle}
 use Rattle.joint_state.specs.Sound.{after}
 use Rattle.library_kept.proofs.ResultLemmas.{does-each}
-use Rattle.replayed_histories.specs.Replayed.{BeganBefore, CyclesStand, IsHeldWithin, IsReplayed}
+use Rattle.replayed_histories.specs.Replayed.{BeganBefore, IsHeldWithin, IsReplayed}
 use Rattle.replayed_histories.specs.Deposits.{MayBeDeposited}
 use Rattle.replayed_histories.proofs.CycleLemmas.{holds-one, is-one, none-ends, one-ends, without}
 use Rattle.replayed_histories.proofs.DepositLemmas.{replays-kept}
@@ -70,12 +69,11 @@ module _ (s : State) (r : IsReplayed s) (job timestamp : ℕ) (there : slice_get
       (none-ends ends (job_of job (memory_of s)) refl r.left.next (job - 1) r.left.cycles r.left.undos s.jobs there r.stands.cycles_are has))
   by_cycle forced (Some cycle) has =
       let is : is_one_of r.left.cycles cycle.sequence ≡ true =
-          is-one ends (job_of job (memory_of s)) refl r.left.next (job - 1) r.left.cycles r.left.undos s.jobs there r.stands.cycles_are cycle has
+      is-one ends (job_of job (memory_of s)) refl r.left.next (job - 1) r.left.cycles r.left.undos s.jobs there r.stands.cycles_are cycle has
       in
       let began : BeganBefore r.left.next cycle.sequence = holds-one (BeganBefore r.left.next) cycle.sequence r.left.cycles is r.stands.cycles_are.begun in
       replays-kept s r (cycle_draft (author_of (memory_of s) job timestamp) cycle.sequence CommitCycleCommitted ∷ []) forced Done (committed job (memory_of s))
-      (cycle_gone cycle.sequence r.left) refl r.checkpoint refl
-      (
+      (cycle_gone cycle.sequence r.left) refl r.checkpoint refl (
         end-may (author_of (memory_of s) job timestamp) cycle.sequence r.left r.whole r.journal.within is began.0,
         sym (end-after (author_of (memory_of s) job timestamp) cycle.sequence r.left),
       )

@@ -1,5 +1,5 @@
 -- A commit cycle that ends, and the others that stay.
-use Rattle.std.proofs.Common.{◌≡◌, ℕ, ◌+◌, ◌<◌, ◌==◌, ◌&&◌, ◌||◌, not, zero, suc, slice_get, Bool, true, false, cond, IfSome, Option, Some, None, List, [], ◌∷◌, refl, sym, ap, ◌∙◌, subst, arith}
+use Rattle.std.proofs.Common.{◌≡◌, ℕ, ◌<◌, ◌==◌, ◌&&◌, ◌||◌, not, zero, suc, slice_get, Bool, true, false, cond, IfSome, Option, Some, None, List, [], ◌∷◌, refl, sym, ap, ◌∙◌, subst, arith}
 use Rattle.std.specs.List.{AllByRecursion, filter}
 use Rattle.std.proofs.lemmas.Bool.{eqb-true}
 use Rattle.std.proofs.lemmas.Bool.Decides.{nat_tests}
@@ -77,7 +77,7 @@ module _ (change : JobState → JobState) (job : JobState) (after : (change job)
     all-at P zero (j ∷ jobs) there all =
         let e : j ≡ job = cc in
         let its : AllByRecursion P (with_number (Some cycle) (cycle_numbers jobs)) =
-            subst (λ (o : Option CycleState). AllByRecursion P (with_number o (cycle_numbers jobs))) (ap (λ (x : JobState). x.cycle) e ∙ has) all in
+        subst (λ (o : Option CycleState). AllByRecursion P (with_number o (cycle_numbers jobs))) (ap (λ (x : JobState). x.cycle) e ∙ has) all in
         its.0
     all-at P (suc place) (j ∷ jobs) there all = all-at P place jobs there (tail P j.cycle (cycle_numbers jobs) all)
 
@@ -233,7 +233,7 @@ module _ (change : JobState → JobState) (job : JobState) (after : (change job)
       changes-after zero (j ∷ rest) found apart have =
           let e : j ≡ job = cc in
           let its : AreDifferent (with_number (Some cycle) (cycle_numbers rest)) =
-              subst (λ (o : Option CycleState). AreDifferent (with_number o (cycle_numbers rest))) (ap (λ (x : JobState). x.cycle) e ∙ has) apart in (
+          subst (λ (o : Option CycleState). AreDifferent (with_number o (cycle_numbers rest))) (ap (λ (x : JobState). x.cycle) e ∙ has) apart in (
             no-changes (without cycle.sequence undos) (change j).cycle (ap (λ (x : JobState). (change x).cycle) e ∙ after),
             others rest its.0 have.1,
           )

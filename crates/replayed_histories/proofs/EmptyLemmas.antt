@@ -1,9 +1,7 @@
 -- A library with nothing in it, and what it is that a journal leaves its library.
-use Rattle.std.proofs.Common.{◌≡◌, ℕ, List, [], ◌∷◌, ◌++◌, map, Some, None, refl, sym, ap, subst}
+use Rattle.std.proofs.Common.{◌≡◌, ℕ, List, [], ◌∷◌, map, refl, sym, ap, subst}
 use Rattle.std.specs.Prelude.{is_none}
 use Rattle.std.specs.List.{AllByRecursion}
-use Rattle.entry_codec.specs.declared.entries.Entry.{Entry}
-use Rattle.journal_model.specs.Catalogue.{CatalogMember, catalogue_after, empty_catalogue, member_numbered}
 use Rattle.journal_model.specs.Journal.{CanReplayJournal, StaysMembers}
 use Rattle.journal_model.specs.Replayable.{is_one_of}
 use Rattle.journal_replay.specs.Left.{empty_standing}

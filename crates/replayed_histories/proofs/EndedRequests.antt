@@ -12,17 +12,17 @@ use Rattle.entry_codec.specs.Drafts.{numbered}
 use Rattle.member_slots.specs.declared.slot.Slot.{Slot}
 use Rattle.member_slots.specs.Member.{records}
 use Rattle.member_slots.specs.Members.{NumberedMembers, member_at, member_of}
-use Rattle.journal_model.specs.Acts.{Act, Ended, Nothing, act}
+use Rattle.journal_model.specs.Acts.{Ended, Nothing, act}
 use Rattle.journal_model.specs.Catalogue.{CatalogFile, CatalogMember, has_number, member_numbered}
 use Rattle.journal_model.specs.Pairs.{EndsPair}
 use Rattle.journal_model.specs.Replayable.{MayFollow}
 use Rattle.journal_model.specs.Rollback.{MemberChange, of_member, undos_by}
-use Rattle.journal_replay.specs.Standing.{HeldMember, Standing, catalog_member, catalogue_in, member_by, standing_after, state_in}
+use Rattle.journal_replay.specs.Standing.{HeldMember, catalog_member, catalogue_in, member_by, standing_after, state_in}
 use Rattle.library_model.specs.Named.{Named, named}
 use Rattle.library_model.specs.declared.replies.Reply.TheVariants.{Done}
 use Rattle.library_steps.specs.State.{FileState, MemberStatus, State, fields_of, memory_of, with_status}
 use Rattle.library_steps.specs.Change.{journaled}
-use Rattle.library_steps.specs.Drafts.{Author, author_of, member_draft}
+use Rattle.library_steps.specs.Drafts.{author_of, member_draft}
 use Rattle.library_steps.specs.Journaling.{end_change, no_longer_journaled}
 use Rattle.library_steps.specs.SlotChange.{status_among}
 use Rattle.library_steps.specs.Uses.{user_of}
@@ -120,11 +120,11 @@ module _ (s : State) (r : IsReplayed s) (job timestamp : ℕ) (status : MemberSt
     by true is =
         let same : number ≡ m.number = eqb-true number m.number is in
         let both : ◌≡◌ {A = Option MemberStatus} (Some stands.status) (Some status) =
-            sym stands.found ∙ subst (λ (n : ℕ). status_among n s.files ≡ Some status) same found
+        sym stands.found ∙ subst (λ (n : ℕ). status_among n s.files ≡ Some status) same found
         in
         let its : stands.status ≡ status = cc in
         let slots : m.slots ≡ (member_of m.number s.members).slots =
-            stands.journaled (ap is_some stands.images ∙ subst (λ (x : MemberStatus). is_some x.images ≡ true) (sym its) on)
+        stands.journaled (ap is_some stands.images ∙ subst (λ (x : MemberStatus). is_some x.images ≡ true) (sym its) on)
         in
         let here : stands.status.number ≡ m.number = among-number m.number s.files stands.status stands.found in
         let one : (stands.status.number == number) ≡ true = grind (arith, nat_tests, here, same) in

@@ -4,7 +4,6 @@ use Rattle.std.specs.List.{AllByRecursion, list_any}
 use Rattle.std.proofs.lemmas.Bool.{eqb-true}
 use Rattle.std.proofs.lemmas.Bool.Decides.{nat_tests}
 use Rattle.lock_table.specs.declared.lock.Lock.{Lock}
-use Rattle.journal_model.specs.Acts.{Change}
 use Rattle.journal_model.specs.Replay.{is_in}
 use Rattle.journal_model.specs.Replayable.{is_one_of}
 use Rattle.journal_model.specs.Rollback.{MemberChange, of_member}
@@ -13,7 +12,7 @@ use Rattle.library_steps.specs.State.{CycleState, JobState, State, memory_of}
 use Rattle.library_steps.specs.Uses.{first_job, has_changed, user_of, uses}
 use Rattle.library_steps.specs.Uses as jobs_uses
 use Rattle.replayed_histories.specs.Shown.{cycle_numbers, with_number}
-use Rattle.replayed_histories.specs.Replayed.{CyclesStand, HasItsChanges, IsOfOneOf, IsReplayed, changes_in}
+use Rattle.replayed_histories.specs.Replayed.{HasItsChanges, IsOfOneOf, IsReplayed, changes_in}
 
 -- no job has changed it
 none-changed : (member : ℕ) (locks : List Lock) (number : ℕ) (jobs : List JobState) → first_job (uses member locks) number jobs ≡ None
@@ -68,7 +67,7 @@ module _ (member : ℕ) where
       never (Some k) has of is =
           let its : is_in k c.change ≡ true = ap (λ (o : Option ℕ). is_in k (record c.change { cycle = o })) has ∙ same-number k in
           let here : list_any is_of (c ∷ changes_in k undos) ≡ false =
-              sym (ap (λ (b : Bool). list_any is_of (cond b (c ∷ changes_in k undos) (changes_in k undos))) its) ∙ none k of
+          sym (ap (λ (b : Bool). list_any is_of (cond b (c ∷ changes_in k undos) (changes_in k undos))) its) ∙ none k of
           in
           let first : (c.member == member || list_any is_of (changes_in k undos)) ≡ true = ap (λ (b : Bool). b || list_any is_of (changes_in k undos)) is in
           absurd (let both : ◌≡◌ {A = Bool} true false = sym first ∙ here in cc)

@@ -1,7 +1,6 @@
 -- Requests of which the journal tells nothing that a replay reads: reads, opens, locks, commitment control, receivers that are attached.
-use Rattle.std.proofs.Common.{◌≡◌, ℕ, ◌+◌, Bool, true, false, cond, List, [], ◌∷◌, map, length, Option, Some, None, Result, Ok, Err, refl, sym, ap, ◌∙◌, subst}
+use Rattle.std.proofs.Common.{◌≡◌, ℕ, ◌+◌, Bool, true, false, List, [], ◌∷◌, map, length, Some, None, Result, Ok, refl}
 use Rattle.std.specs.List.{AllByRecursion}
-use Rattle.dds_logical.specs.declared.join_views.JoinView.{JoinView}
 use Rattle.entry_codec.specs.declared.kinds.EntryKind.{EntryKind}
 use Rattle.entry_codec.specs.declared.kinds.EntryKind.TheVariants.{CommitmentEnded, CommitmentStarted, NextReceiver, PreviousReceiver}
 use Rattle.lock_table.specs.declared.lock.Lock.{Lock}
@@ -14,7 +13,7 @@ use Rattle.library_model.specs.declared.requests.OpenFile.{OpenFile}
 use Rattle.library_model.specs.declared.requests.OpenName.{OpenName}
 use Rattle.library_model.specs.declared.requests.StartCommitment.{StartCommitment}
 use Rattle.library_model.specs.declared.requests.DisplayJournal.{DisplayJournal}
-use Rattle.library_steps.specs.State.{State, Memory, OpenState, JobState, job_of, memory_of, open_named, with_job}
+use Rattle.library_steps.specs.State.{State, Memory, OpenState, JobState, memory_of, open_named, with_job}
 use Rattle.library_steps.specs.Change.{Change, does, journaled, unjournaled}
 use Rattle.library_steps.specs.Refusals.{named_or_refused}
 use Rattle.library_steps.specs.Drafts.{Author, author_of, library_draft}

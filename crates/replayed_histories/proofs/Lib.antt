@@ -8,6 +8,7 @@ pub mod JobRequests
 pub mod CommitRequests
 pub mod ReceiverRequests
 pub mod EndedRequests
+pub mod UntoldRequests
 pub mod StepLemmas
 pub mod MemberLemmas
 pub mod StatusLemmas

@@ -1,5 +1,5 @@
 -- Entries of the library that do nothing to files, members and commit cycles.
-use Rattle.std.proofs.Common.{◌≡◌, ℕ, ◌+◌, Bool, true, false, List, [], ◌∷◌, ◌++◌, map, Option, Some, None, IsTrue, refl, sym, ap, ◌∙◌, subst}
+use Rattle.std.proofs.Common.{◌≡◌, ℕ, ◌+◌, true, false, List, [], ◌∷◌, ◌++◌, map, Option, Some, None, refl, sym, ap, ◌∙◌, subst}
 use Rattle.std.specs.List.{AllByRecursion}
 use Rattle.std.proofs.lemmas.List.{append-nil}
 use Rattle.commit_level.specs.declared.Level.{Level}
@@ -181,7 +181,7 @@ quiet-leave author [] left quiet none within = refl
 quiet-leave author (kind ∷ kinds) left quiet none within = (
   quiet-may author kind quiet.0 left none within,
   subst (λ (l : Standing). DraftsLeave l (map (library_draft author) kinds) (moved_times kinds (moved_on left))) (sym (quiet-after author kind quiet.0 left))
-  (quiet-leave author kinds (moved_on left) quiet.1 refl within),
+      (quiet-leave author kinds (moved_on left) quiet.1 refl within),
 )
 
 pub moved-whole : (kinds : List EntryKind) (left : Standing) → left.begun ≡ None → (moved_times kinds left).begun ≡ None

@@ -1,5 +1,5 @@
 -- DLTJRNRCV: while there is no checkpoint, every receiver is needed.
-use Rattle.std.proofs.Common.{◌≡◌, ℕ, ◌+◌, ◌≤◌, ◌==◌, ◌||◌, nat_lt, not, Bool, true, false, cond, IfSome, Option, Some, None, List, [], ◌∷◌, Ok, refl, sym, ap, ◌∙◌, subst, arith}
+use Rattle.std.proofs.Common.{◌≡◌, ℕ, ◌+◌, ◌≤◌, ◌==◌, ◌||◌, nat_lt, not, Bool, true, false, cond, IfSome, Option, Some, None, List, [], ◌∷◌, Ok, sym, subst, arith}
 use Rattle.std.specs.List.{find}
 use Rattle.std.specs.Option.{option_map, option_map_or}
 use Rattle.std.proofs.lemmas.Bool.Decides.{nat_tests}

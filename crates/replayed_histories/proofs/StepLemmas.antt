@@ -7,7 +7,7 @@ use Rattle.library_steps.specs.State.{State, JobState, job_at, job_of, memory_of
 use Rattle.library_steps.specs.Change.{Change}
 use Rattle.library_steps.specs.History.{is_running}
 use Rattle.library_steps.specs.Step.{change}
-use Rattle.joint_state.specs.Sound.{Does, after}
+use Rattle.joint_state.specs.Sound.{after}
 use Rattle.replayed_histories.specs.Replayed.{AreReplaysKeptByThese, IsReplayed, leaves_records}
 use Rattle.replayed_histories.proofs.CommitRequests.{commit-replayed}
 use Rattle.replayed_histories.proofs.JobRequests.{change_journal-replayed, close_file-replayed, display_journal-replayed, end_commitment-replayed, open_file-replayed, position-replayed, read-replayed, save-replayed, start_commitment-replayed, unlock-replayed}

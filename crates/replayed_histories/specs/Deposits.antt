@@ -1,5 +1,5 @@
 -- Which drafts may be deposited one after the other behind what a journal leaves, and what do they leave? (Our own.)
-use Rattle.std.specs.Prelude.{◌≡◌, ℕ, ◌+◌, None, IsTrue, List, [], ◌∷◌}
+use Rattle.std.specs.Prelude.{◌≡◌, ◌+◌, None, IsTrue, List, [], ◌∷◌}
 use Rattle.std.specs.List.{AllByRecursion}
 use Rattle.entry_codec.specs.declared.entries.Entry.{Entry}
 use Rattle.entry_codec.specs.declared.entries.Draft.{Draft}
