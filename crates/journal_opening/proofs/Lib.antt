@@ -2,4 +2,5 @@ pub mod Empties
 pub mod Moments
 pub mod Books
 pub mod Takings
+pub mod Begins
 pub mod Opened

@@ -4,8 +4,10 @@ use Rattle.store_model.specs.Disk.{Disk, Stays}
 use Rattle.store_model.proofs.Runs.{stays_trans}
 use Rattle.entry_codec.specs.declared.entries.Entry.{Entry}
 use Rattle.journal_model.specs.Catalogue.{Descriptions}
+use Rattle.journal_model.specs.Journal.{CanReplayJournal}
 use Rattle.journal_replay.specs.SoFar.{EndsWhole}
 use Rattle.journal_replay.specs.Standing.{Standing}
+use Rattle.journal_replay.proofs.SoFarLemmas.{journal-whole}
 use Rattle.checkpoint.specs.declared.layout.TheConstants.{ROOT_AREA}
 use Rattle.checkpoint.specs.declared.root.Root.{Root}
 use Rattle.checkpoint.specs.Roots.{AreRoots, first_root}
@@ -16,7 +18,7 @@ use Rattle.receiver_chain.specs.declared.numbers.TheConstants.{FIRST_RECEIVER}
 use Rattle.journal_book.specs.Book.{BookState, HasEntries, Holds}
 use Rattle.journal_book.proofs.Deposits.{stays_holds}
 use Rattle.journal_book.proofs.Reading.{one_list}
-use Rattle.journal_opening.specs.Journals.{CanReplayWhole, IsLeftBy, IsOpened, SpellJournal, journal_with}
+use Rattle.journal_opening.specs.Journals.{IsLeftBy, IsOpened, SpellJournal, journal_with}
 use Rattle.journal_opening.specs.Takings.{HasTakenAll}
 use Rattle.journal_opening.proofs.Books.{book_spells}
 
@@ -40,9 +42,9 @@ one_journal d book all disk holds none first old stays entries spells =
 
 -- so the entries of that journal can't follow where those of the book can't
 pub no_journal : (d : Descriptions) (book : BookState) (all : List Entry) (disk : Disk) → Holds book all disk → book.waiting ≡ 0 → book.chain.first ≡ FIRST_RECEIVER → (old : Disk) → Stays old disk
-    → (CanReplayWhole d (journal_with all) → ⊥) → (entries : List Entry) → SpellJournal d entries old.seen → ⊥
+    → (CanReplayJournal d (journal_with all) → ⊥) → (entries : List Entry) → SpellJournal d entries old.seen → ⊥
 no_journal d book all disk holds none first old stays cannot entries spells =
-    cannot (subst (λ (l : List Entry). CanReplayWhole d (journal_with l)) (one_journal d book all disk holds none first old stays entries spells) spells.replays)
+    cannot (subst (λ (l : List Entry). CanReplayJournal d (journal_with l)) (one_journal d book all disk holds none first old stays entries spells) spells.replays)
 
 module _ (d : Descriptions) (tells : Type 0) (roots : RootsState) (book : BookState) (s : Standing) (d0 d1 d2 d3 : Disk) (before : Stays d0 d1) (between : Stays d1 d2) (behind : Stays d2 d3) where
   pub opened_journal : HasRoots roots d1 → roots.last ≡ first_root → HasEntries book d2 → book.waiting ≡ 0 → book.chain.first ≡ FIRST_RECEIVER → tells → HasTakenAll d tells book s d2
@@ -51,7 +53,7 @@ module _ (d : Descriptions) (tells : Type 0) (roots : RootsState) (book : BookSt
   opened_journal has first holds none receiver told taken whole =
       let all = holds.0 in
       let left = subst (λ (l : List Entry). IsLeftBy d l s) (taken.same told all holds.1) taken.left in
-      let replays : CanReplayWhole d (journal_with all) = record { so_far = left.so_far; whole = whole all left } in (
+      let replays : CanReplayJournal d (journal_with all) = journal-whole d (journal_with all) left.left.so_far (whole all left) left.stays in (
         all,
         record {
           roots_held = (has.0, holds_stays roots has.0 d1 d3 (stays_trans d1 d2 d3 between behind) has.1);

@@ -6,17 +6,23 @@ use Rattle.std.proofs.lemmas.List.{append-nil, take-append-drop, take_more}
 use Rattle.store_model.specs.Disk.{Disk, Stays}
 use Rattle.entry_codec.specs.declared.entries.Entry.{Entry}
 use Rattle.journal_model.specs.Catalogue.{Descriptions}
+use Rattle.journal_model.specs.Journal.{CanReplayJournal, StaysMembers}
 use Rattle.journal_replay.specs.SoFar.{CanReplaySoFar, EndsWhole}
+use Rattle.journal_replay.specs.Left.{IsLeft}
 use Rattle.journal_replay.specs.Standing.{Standing, standing_after}
 use Rattle.journal_replay.specs.Tests.{may_stand_next}
-use Rattle.journal_replay.proofs.SoFarLemmas.{so_far-front, so_far-last}
+use Rattle.journal_replay.proofs.LimitLemmas.{limits-front}
+use Rattle.journal_replay.proofs.SoFarLemmas.{so_far-front, so_far-last, whole-journal, whole-journal-ends}
 use Rattle.journal_replay.proofs.LeftLemmas.{come-stand, left-after}
 use Rattle.journal_replay.proofs.TestLemmas.{stands-test, test-stands}
 use Rattle.journal_replay.proofs.WholeLemmas.{none-whole, whole-none}
+use Rattle.journal_limits.specs.Fits.{fits_named}
+use Rattle.journal_limits.specs.Lengths.{KeepsLengths}
+use Rattle.journal_limits.proofs.LimitSteps.{fits-stays, stays-fits}
 use Rattle.journal_book.specs.Book.{BookState, Holds, last_of}
 use Rattle.journal_book.specs.Reads.{between}
 use Rattle.journal_book.proofs.Deposits.{stays_holds}
-use Rattle.journal_opening.specs.Journals.{CanReplayWhole, IsLeftBy, journal_with}
+use Rattle.journal_opening.specs.Journals.{IsLeftBy, journal_with}
 use Rattle.journal_opening.specs.Takings.{CannotFollow, HasTakenAll, HasTakenRange}
 use Rattle.journal_opening.proofs.Books.{range_all, range_next}
 
@@ -28,26 +34,53 @@ front_so_far d entries [] can = subst (λ (l : List Entry). CanReplaySoFar d (jo
 front_so_far d entries (e ∷ more) can =
     so_far-front d (journal_with entries) e (front_so_far d (entries ++ e ∷ []) more (subst (λ (l : List Entry). CanReplaySoFar d (journal_with l)) (sym (append_assoc entries (e ∷ []) more)) can))
 
+-- and stays within limits only where its front does
+pub front_stays : (d : Descriptions) (entries more : List Entry) → StaysMembers d (journal_with (entries ++ more)) → StaysMembers d (journal_with entries)
+front_stays d entries [] stays = subst (λ (l : List Entry). StaysMembers d (journal_with l)) (append-nil entries) stays
+front_stays d entries (e ∷ more) stays =
+    limits-front d (journal_with entries) e (front_stays d (entries ++ e ∷ []) more (subst (λ (l : List Entry). StaysMembers d (journal_with l)) (sym (append_assoc entries (e ∷ []) more)) stays))
+
+pub front_cannot : (d : Descriptions) (entries more : List Entry) → CannotFollow d entries → CannotFollow d (entries ++ more)
+front_cannot d entries more cannot can stays = cannot (front_so_far d entries more can) (front_stays d entries more stays)
+
 -- ---- one entry
 
-module _ (d : Descriptions) (before entries : List Entry) (i : ℕ) (e : Entry) (s : Standing) (below : i < length entries) (is : e ≡ get_or entries i e)
-    (left : IsLeftBy d (before ++ take i entries) s) where
+module _ (d : Descriptions) (before : List Entry) (s : Standing) (e : Entry) (by : IsLeftBy d before s) where
+  step_left : may_stand_next d s e ≡ true → IsLeft d (λ member. 0) (journal_with (before ++ e ∷ [])) (standing_after e s)
+  step_left may = left-after d (λ member. 0) (journal_with before) s by.left e (test-stands d s e may)
+
+  -- it is taken
+  pub one_taken : KeepsLengths d → may_stand_next d s e ≡ true → (next : Standing) → next ≡ standing_after e s → fits_named d next e.member ≡ true → IsLeftBy d (before ++ e ∷ []) next
+  one_taken keeps may next is fits =
+      let after = subst (λ (t : Standing). IsLeft d (λ member. 0) (journal_with (before ++ e ∷ [])) t) (sym is) (step_left may) in
+      record { left = after; stays = fits-stays d keeps before s by.left e next after by.stays fits }
+
+  -- it can't follow
+  pub one_refused : may_stand_next d s e ≡ false → CannotFollow d (before ++ e ∷ [])
+  one_refused refused can stays =
+      let may = stands-test d s e (come-stand d (λ member. 0) (journal_with before) s by.left e (so_far-last d (journal_with before) e can)) in
+      false≢true (sym refused ∙ may)
+
+  -- or the member that it names passes its limits
+  pub one_passes : may_stand_next d s e ≡ true → (next : Standing) → next ≡ standing_after e s → fits_named d next e.member ≡ false → CannotFollow d (before ++ e ∷ [])
+  one_passes may next is passes can stays =
+      let after = subst (λ (t : Standing). IsLeft d (λ member. 0) (journal_with (before ++ e ∷ [])) t) (sym is) (step_left may) in
+      false≢true (sym passes ∙ stays-fits d before e next after stays)
+
+module _ (d : Descriptions) (before entries : List Entry) (i : ℕ) (e : Entry) (below : i < length entries) (is : e ≡ get_or entries i e) where
   -- the entries up to this one
   further : before ++ take (i + 1) entries ≡ (before ++ take i entries) ++ e ∷ []
   further = ap (λ (l : List Entry). before ++ l) (take_more entries i e below ∙ ap (λ (x : Entry). take i entries ++ x ∷ []) (sym is)) ∙ sym (append_assoc before (take i entries) (e ∷ []))
 
-  pub taken_next : may_stand_next d s e ≡ true → IsLeftBy d (before ++ take (i + 1) entries) (standing_after e s)
-  taken_next may =
-      subst (λ (l : List Entry). IsLeftBy d l (standing_after e s)) (sym further) (left-after d (λ member. 0) (journal_with (before ++ take i entries)) s left e (test-stands d s e may))
+  pub taken_next : (next : Standing) → IsLeftBy d ((before ++ take i entries) ++ e ∷ []) next → IsLeftBy d (before ++ take (i + 1) entries) next
+  taken_next next left = subst (λ (l : List Entry). IsLeftBy d l next) (sym further) left
 
-  pub taken_none : may_stand_next d s e ≡ false → CannotFollow d (before ++ entries)
-  taken_none refused can =
-      let split : before ++ entries ≡ (before ++ take (i + 1) entries) ++ drop (i + 1) entries =
-      ap (λ (l : List Entry). before ++ l) (sym (take-append-drop (i + 1) entries)) ∙ sym (append_assoc before (take (i + 1) entries) (drop (i + 1) entries)) in
-      let front = front_so_far d (before ++ take (i + 1) entries) (drop (i + 1) entries) (subst (λ (l : List Entry). CanReplaySoFar d (journal_with l)) split can) in
-      let here : CanReplaySoFar d (journal_with ((before ++ take i entries) ++ e ∷ [])) = subst (λ (l : List Entry). CanReplaySoFar d (journal_with l)) further front in
-      let may = stands-test d s e (come-stand d (λ member. 0) (journal_with (before ++ take i entries)) s left e (so_far-last d (journal_with (before ++ take i entries)) e here)) in
-      false≢true (sym refused ∙ may)
+  pub taken_none : CannotFollow d ((before ++ take i entries) ++ e ∷ []) → CannotFollow d (before ++ entries)
+  taken_none cannot =
+      let split : (before ++ take (i + 1) entries) ++ drop (i + 1) entries ≡ before ++ entries =
+      append_assoc before (take (i + 1) entries) (drop (i + 1) entries) ∙ ap (λ (l : List Entry). before ++ l) (take-append-drop (i + 1) entries) in
+      subst (λ (l : List Entry). CannotFollow d l) split
+      (front_cannot d (before ++ take (i + 1) entries) (drop (i + 1) entries) (subst (λ (l : List Entry). CannotFollow d l) (sym further) cannot))
 
 -- ---- ranges of a book
 
@@ -71,9 +104,10 @@ module _ (d : Descriptions) (tells : Type 0) (book : BookState) (old now : Disk)
   }
 
   pub range_fault : (all : List Entry) → tells → Holds book all old → CannotFollow d (taken.entries ++ between book.first lo hi all) → CannotFollow d all
-  range_fault all told holds cannot can =
-      let front = front_so_far d (take (read + more) all) (drop (read + more) all) (subst (λ (l : List Entry). CanReplaySoFar d (journal_with l)) (sym (take-append-drop (read + more) all)) can) in
-      cannot (subst (λ (l : List Entry). CanReplaySoFar d (journal_with l)) (sym (range_is all told holds (between book.first lo hi all) refl)) front)
+  range_fault all told holds cannot =
+      subst (λ (l : List Entry). CannotFollow d l) (take-append-drop (read + more) all)
+      (front_cannot d (take (read + more) all) (drop (read + more) all)
+      (subst (λ (l : List Entry). CannotFollow d l) (range_is all told holds (between book.first lo hi all) refl) cannot))
 
 pub taken_whole : (d : Descriptions) (tells : Type 0) (book : BookState) (read : ℕ) (s : Standing) (disk : Disk) → IsTakenTo d tells book read s disk → (first last count : ℕ) → first ≡ book.first
     → last ≡ last_of book → 1 ≤ first → count ≡ last - (first - 1) → count ≤ read → HasTakenAll d tells book s disk
@@ -86,11 +120,15 @@ taken_whole d tells book read s disk taken first last count head upto least is p
 -- ---- pairs of images at the end
 
 pub left_whole : (d : Descriptions) (entries : List Entry) (s : Standing) → IsLeftBy d entries s → is_none s.begun ≡ true → EndsWhole (journal_with entries)
-left_whole d entries s left none = none-whole d (λ member. 0) (journal_with entries) s left none
+left_whole d entries s by none = none-whole d (λ member. 0) (journal_with entries) s by.left none
 
 -- one waits for its second entry
 pub left_open : (d : Descriptions) (tells : Type 0) (book : BookState) (s : Standing) (disk : Disk) → HasTakenAll d tells book s disk → is_none s.begun ≡ false → tells → (all : List Entry)
-    → Holds book all disk → CanReplayWhole d (journal_with all) → ⊥
+    → Holds book all disk → CanReplayJournal d (journal_with all) → ⊥
 left_open d tells book s disk taken waits told all holds can =
-    let left = subst (λ (l : List Entry). IsLeftBy d l s) (taken.same told all holds) taken.left in
-    false≢true (sym waits ∙ whole-none d (λ member. 0) (journal_with all) s left can.whole)
+    let by = subst (λ (l : List Entry). IsLeftBy d l s) (taken.same told all holds) taken.left in
+    false≢true (sym waits ∙ whole-none d (λ member. 0) (journal_with all) s by.left (whole-journal-ends d (journal_with all) can))
+
+-- where its entries can't follow, the journal can't be replayed
+pub cannot_replay : (d : Descriptions) (entries : List Entry) → CannotFollow d entries → CanReplayJournal d (journal_with entries) → ⊥
+cannot_replay d entries cannot can = cannot (whole-journal d (journal_with entries) can) can.limits

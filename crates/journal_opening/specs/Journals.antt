@@ -4,8 +4,7 @@ use Rattle.std.specs.Prelude.{◌≡◌, ◌≢◌, ◌⊎◌, ℕ, List, []}
 use Rattle.store_model.specs.Disk.{Areas, Disk, May}
 use Rattle.entry_codec.specs.declared.entries.Entry.{Entry}
 use Rattle.journal_model.specs.Catalogue.{Descriptions}
-use Rattle.journal_model.specs.Journal.{Journal}
-use Rattle.journal_replay.specs.SoFar.{CanReplaySoFar, EndsWhole}
+use Rattle.journal_model.specs.Journal.{CanReplayJournal, Journal, StaysMembers}
 use Rattle.journal_replay.specs.Standing.{Standing}
 use Rattle.journal_replay.specs.Left.{IsLeft, empty_journal}
 use Rattle.checkpoint.specs.declared.layout.TheConstants.{ROOT_AREA}
@@ -21,22 +20,18 @@ use Rattle.journal_book.specs.Kept.{SpellEntries}
 abbrev pub journal_with : List Entry → Journal
 journal_with entries = record empty_journal { later = entries }
 
--- it can be replayed to its end, where no pair of images waits for its second entry; the limits of members are apart
-pub record CanReplayWhole (d : Descriptions) (j : Journal) : Type 0 where
-  pub so_far : CanReplaySoFar d j
-  pub whole : EndsWhole j
-
 -- the areas of a store spell this journal: roots of which the last names no saved state, and receivers whose entries can be
 -- replayed
 pub record SpellJournal (d : Descriptions) (entries : List Entry) (areas : Areas) : Type 0 where
   pub earlier : List Root
   pub roots : AreRoots earlier first_root (areas ROOT_AREA)
   pub spelled : SpellEntries FIRST_RECEIVER entries areas
-  pub replays : CanReplayWhole d (journal_with entries)
+  pub replays : CanReplayJournal d (journal_with entries)
 
--- these entries leave this
-abbrev pub IsLeftBy : Descriptions → List Entry → Standing → Type 0
-IsLeftBy d entries s = IsLeft d (λ member. 0) (journal_with entries) s
+-- these entries leave this, and each member stays within its limits all along
+pub record IsLeftBy (d : Descriptions) (entries : List Entry) (s : Standing) : Type 0 where
+  pub left : IsLeft d (λ member. 0) (journal_with entries) s
+  pub stays : StaysMembers d (journal_with entries)
 
 -- a store's journal, opened: it has these entries, all of them on the disk, where a stop leaves them, and this is what they
 -- leave
@@ -45,7 +40,7 @@ pub record IsOpened (d : Descriptions) (roots : RootsState) (book : BookState) (
   pub first : roots.last ≡ first_root
   pub held : Holds book entries disk
   pub forced : book.waiting ≡ 0
-  pub replays : CanReplayWhole d (journal_with entries)
+  pub replays : CanReplayJournal d (journal_with entries)
   pub left : IsLeftBy d entries standing
 
 -- ---- a store is formatted

@@ -1,2 +1,3 @@
 pub mod Journals
 pub mod Takings
+pub mod Begins

@@ -3,15 +3,16 @@ use Rattle.std.specs.Prelude.{◌≡◌, ℕ, List, ◌++◌, Option, Some, None
 use Rattle.store_model.specs.Disk.{Disk}
 use Rattle.entry_codec.specs.declared.entries.Entry.{Entry}
 use Rattle.journal_model.specs.Catalogue.{Descriptions}
+use Rattle.journal_model.specs.Journal.{StaysMembers}
 use Rattle.journal_replay.specs.SoFar.{CanReplaySoFar}
 use Rattle.journal_replay.specs.Standing.{Standing}
 use Rattle.journal_book.specs.Book.{BookState, Holds}
 use Rattle.journal_book.specs.Reads.{between}
 use Rattle.journal_opening.specs.Journals.{IsLeftBy, journal_with}
 
--- no journal that these entries begin can be replayed
+-- no journal that these entries begin can be replayed with its members within their limits
 abbrev pub CannotFollow : Descriptions → List Entry → Type 0
-CannotFollow d entries = CanReplaySoFar d (journal_with entries) → ⊥
+CannotFollow d entries = CanReplaySoFar d (journal_with entries) → StaysMembers d (journal_with entries) → ⊥
 
 -- all of these entries were taken and leave this, or one of them can't follow
 abbrev pub AreTaken : Descriptions → List Entry → Standing → Option ℕ → Type 0

@@ -5,6 +5,7 @@
 mod fault;
 mod formatting;
 mod layout;
+mod limits;
 mod opening;
 mod replaying;
 mod written;

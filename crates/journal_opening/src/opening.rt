@@ -4,6 +4,7 @@ ghost use Rattle.store_model.specs.Disk.{Stays};
 ghost use Rattle.store_model.specs.Faults.{Rose};
 ghost use Rattle.entry_codec.specs.declared.entries.Entry.{Entry};
 ghost use Rattle.journal_replay.specs.SoFar.{EndsWhole};
+ghost use Rattle.journal_limits.specs.Lengths.{KeepsLengths};
 ghost use Rattle.checkpoint.specs.declared.root.Root.{Root};
 ghost use Rattle.checkpoint.specs.Roots.{AreRoots, first_root};
 ghost use Rattle.checkpoint.specs.Holding.{HasRoots};
@@ -40,6 +41,7 @@ pub fn open_journal<S: Store, D: Describe>(
     store: &mut S,
     by: &D,
 ) -> Result<OpenedJournal, OpenFault>
+    requires keeps { KeepsLengths (D.rules by.now) }
     ensures opened { IfOk result (λ journal. S.tells → (entries : List Entry) × IsOpened (D.rules by.now) journal.roots journal.book journal.replay entries (S.disk store.new) × SpellJournal (D.rules by.now) entries (S.disk store.old).seen) }
     ensures left { IfOk result (λ journal. (entries : List Entry) × IsLeftBy (D.rules by.now) entries journal.replay × EndsWhole (journal_with entries)) }
     ensures not_a_library { IsErrOf result OpenFault.NotALibrary → S.tells → (S.disk store.old).seen ROOT_AREA ≡ [] }
@@ -62,6 +64,7 @@ fn open_written<S: Store, D: Describe>(
     store: &mut S,
     by: &D,
 ) -> Result<OpenedJournal, OpenFault>
+    requires keeps { KeepsLengths (D.rules by.now) }
     ensures opened { IfOk result (λ journal. S.tells → (entries : List Entry) × IsOpened (D.rules by.now) journal.roots journal.book journal.replay entries (S.disk store.new) × SpellJournal (D.rules by.now) entries (S.disk store.old).seen) }
     ensures left { IfOk result (λ journal. (entries : List Entry) × IsLeftBy (D.rules by.now) entries journal.replay × EndsWhole (journal_with entries)) }
     ensures never_empty { IsErrOf result OpenFault.NotALibrary → ⊥ }
@@ -83,6 +86,7 @@ fn open_parts<S: Store, D: Describe>(
     store: &mut S,
     by: &D,
 ) -> Result<OpenedJournal, LogFault>
+    requires keeps { KeepsLengths (D.rules by.now) }
     ensures opened { IfOk result (λ journal. S.tells → (entries : List Entry) × IsOpened (D.rules by.now) journal.roots journal.book journal.replay entries (S.disk store.new) × SpellJournal (D.rules by.now) entries (S.disk store.old).seen) }
     ensures left { IfOk result (λ journal. (entries : List Entry) × IsLeftBy (D.rules by.now) entries journal.replay × EndsWhole (journal_with entries)) }
     ensures damaged { (area at : ℕ) → IsErrOf result (LogFault.Damaged area at) → S.tells → (entries : List Entry) → SpellJournal (D.rules by.now) entries (S.disk store.old).seen → ⊥ }

@@ -1,15 +1,18 @@
 //! Takes the entries of a book one after another, and finds the first that can't follow.
-ghost use Rattle.std.specs.Prelude.{◌≡◌, ◌≤◌, ◌++◌, ℕ, List, IfOk, OnOk, IsErrOf};
+ghost use Rattle.std.specs.Prelude.{◌≡◌, ◌≤◌, ◌++◌, ◌∷◌, [], ℕ, true, false, List, IfOk, OnOk, IsErrOf};
 ghost use Rattle.store_model.specs.Disk.{Stays};
 ghost use Rattle.store_model.specs.Faults.{Rose};
 ghost use Rattle.entry_codec.specs.declared.entries.Entry.{Entry};
+ghost use Rattle.journal_model.specs.Journal.{CanReplayJournal};
+ghost use Rattle.journal_limits.specs.Lengths.{KeepsLengths};
 ghost use Rattle.journal_replay.specs.SoFar.{EndsWhole};
 ghost use Rattle.journal_book.specs.Book.{Holds, IsHeld, last_of};
 ghost use Rattle.journal_book.specs.Reads.{between};
-ghost use Rattle.journal_opening.specs.Journals.{CanReplayWhole, IsLeftBy, journal_with};
+ghost use Rattle.journal_opening.specs.Journals.{IsLeftBy, journal_with};
 ghost use Rattle.journal_opening.specs.Takings.{AreTaken, CannotFollow, HasTakenAll, HasTakenRange};
 
 use crate::layout::{FIRST_AREA, PIECE};
+use crate::limits::{begins_too_many, fits_named};
 use entry_codec::Entry;
 use gated_log::LogFault;
 use journal_book::{Book, BookFault};
@@ -25,11 +28,12 @@ pub(crate) fn replay_book<S: Store, D: Describe>(
     by: &D,
     book: &Book,
 ) -> Result<Replay, LogFault>
+    requires keeps { KeepsLengths (D.rules by.now) }
     requires held { S.tells → IsHeld book.now (S.disk store.old) }
     requires forced { book.now.waiting ≡ 0 }
     ensures taken { IfOk result (λ replay. HasTakenAll (D.rules by.now) S.tells book.now replay (S.disk store.old)) }
     ensures whole { IfOk result (λ replay. (entries : List Entry) → IsLeftBy (D.rules by.now) entries replay → EndsWhole (journal_with entries)) }
-    ensures damaged { (area at : ℕ) → IsErrOf result (LogFault.Damaged area at) → S.tells → (all : List Entry) → Holds book.now all (S.disk store.old) → CanReplayWhole (D.rules by.now) (journal_with all) → ⊥ }
+    ensures damaged { (area at : ℕ) → IsErrOf result (LogFault.Damaged area at) → S.tells → (all : List Entry) → Holds book.now all (S.disk store.old) → CanReplayJournal (D.rules by.now) (journal_with all) → ⊥ }
     ensures stays { Stays (S.disk store.old) (S.disk store.new) }
     ensures cause { IsErrOf result LogFault.StoreFault → Rose (S.disk store.old).faults (S.disk store.new).faults }
 {
@@ -48,6 +52,7 @@ fn replay_entries<S: Store, D: Describe>(
     by: &D,
     book: &Book,
 ) -> Result<Replay, LogFault>
+    requires keeps { KeepsLengths (D.rules by.now) }
     requires held { S.tells → IsHeld book.now (S.disk store.old) }
     requires forced { book.now.waiting ≡ 0 }
     ensures taken { IfOk result (λ replay. HasTakenAll (D.rules by.now) S.tells book.now replay (S.disk store.old)) }
@@ -79,6 +84,7 @@ fn take_range<S: Store, D: Describe>(
     lo: u64,
     hi: u64,
 ) -> Result<(), LogFault>
+    requires keeps { KeepsLengths (D.rules by.now) }
     requires held { S.tells → IsHeld book.now (S.disk store.old) }
     requires forced { book.now.waiting ≡ 0 }
     requires counted { 1 ≤ lo }
@@ -132,17 +138,47 @@ fn take_all<D: Describe>(
     replay: &mut Replay,
     entries: &[Entry],
 ) -> Result<Option<usize>, AllocError>
+    requires keeps { KeepsLengths (D.rules by.now) }
     ensures { IfOk result (λ found. (before : List Entry) → IsLeftBy (D.rules by.now) before replay.old → AreTaken (D.rules by.now) (before ++ entries.now) replay.new found) }
 {
     let mut n = 0;
     for entry in entries {
-        if replay.step(by, entry)? {
+        if take_one(by, replay, entry)? {
             n += 1;
         } else {
             return Ok(Some(n));
         }
     }
     Ok(None)
+}
+
+/// Takes one entry more, where it can follow and leaves the member that it names within its limits. Where it can't follow, the rest is not to be used again.
+fn take_one<D: Describe>(by: &D, replay: &mut Replay, entry: &Entry) -> Result<bool, AllocError>
+    requires keeps { KeepsLengths (D.rules by.now) }
+    ensures taken { IfOk result (λ b. b ≡ true → (before : List Entry) → IsLeftBy (D.rules by.now) before replay.old → IsLeftBy (D.rules by.now) (before ++ entry.now ∷ []) replay.new) }
+    ensures refused { IfOk result (λ b. b ≡ false → (before : List Entry) → IsLeftBy (D.rules by.now) before replay.old → CannotFollow (D.rules by.now) (before ++ entry.now ∷ [])) }
+{
+    if begins_too_many(&entry.kind) {
+        Ok(false)
+    } else {
+        let taken = take_judged(by, replay, entry)?;
+        Ok(taken)
+    }
+}
+
+/// The same, once it is known that it takes no memory for more slots than a member may have.
+fn take_judged<D: Describe>(by: &D, replay: &mut Replay, entry: &Entry) -> Result<bool, AllocError>
+    requires keeps { KeepsLengths (D.rules by.now) }
+    ensures taken { IfOk result (λ b. b ≡ true → (before : List Entry) → IsLeftBy (D.rules by.now) before replay.old → IsLeftBy (D.rules by.now) (before ++ entry.now ∷ []) replay.new) }
+    ensures refused { IfOk result (λ b. b ≡ false → (before : List Entry) → IsLeftBy (D.rules by.now) before replay.old → CannotFollow (D.rules by.now) (before ++ entry.now ∷ [])) }
+{
+    let follows = replay.step(by, entry)?;
+    if follows {
+        let fits = fits_named(by, replay, entry.member)?;
+        Ok(fits)
+    } else {
+        Ok(false)
+    }
 }
 
 /// What is told of the entry of this sequence, which can't follow: where it stands.

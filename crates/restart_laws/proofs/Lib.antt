@@ -7,6 +7,7 @@ pub mod ViewLemmas
 pub mod HeldLemmas
 pub mod GoesLemmas
 pub mod StandLemmas
+pub mod LengthLemmas
 pub mod RoomLemmas
 pub mod SilentLemmas
 pub mod LeftLemmas

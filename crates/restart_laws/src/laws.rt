@@ -14,6 +14,7 @@ ghost use Rattle.journal_model.specs.Catalogue.{CatalogFile};
 ghost use Rattle.member_slots.specs.Member.{MemberState};
 ghost use Rattle.member_slots.specs.Members.{Numbered};
 ghost use Rattle.journal_model.specs.Journal.{AreNumbered, CanReplayJournal, catalogue_of, restarted};
+ghost use Rattle.journal_limits.specs.Lengths.{KeepsLengths};
 ghost use Rattle.file_catalogue.specs.Owners.{AreApart};
 ghost use Rattle.library_model.specs.Named.{same_name};
 ghost use Rattle.library_parts.specs.Lawful.{AreBased};
@@ -71,4 +72,10 @@ pub fn restarted_libraries_are_sound()
         → AreDeposited entries
         → library_bytes (library_restarted (λ _. 0) attached moment (journal_with entries)).members ≤ MOST_LIBRARY_BYTES
         → IsSound (library_restarted (λ _. 0) attached moment (journal_with entries)) }
+{}
+
+/// What the rules of data descriptions say of record lengths stays, so that members can be judged entry by entry: an image that is a record of an entry's member
+/// is as long as that member's records, and those stay as long, whatever files come and go.
+pub fn descriptions_keep_lengths()
+    ensures { KeepsLengths descriptions }
 {}

@@ -4,14 +4,14 @@ use Rattle.store_model.proofs.Runs.{stays_trans}
 use Rattle.gated_log.specs.declared.fault.LogFault.{LogFault}
 use Rattle.gated_log.specs.declared.fault.LogFault.TheVariants.{Damaged}
 use Rattle.journal_opening.proofs.Books.{held_stays}
-use Rattle.journal_opening.proofs.Takings.{left_open, left_whole}
+use Rattle.journal_opening.proofs.Takings.{cannot_replay, left_open, left_whole}
 use Rattle.journal_opening.proofs.replaying.replay_book.Goals as goal
 
 pub returns-in_err-replay-clause-damaged : goal.returns-in_err-replay-clause-damaged
 returns-in_err-replay-clause-damaged g c = λ area at is tells all holds can.
     let p = err_from_is_err_and c.from_residual.result c.from_residual.ensures.1 in
     let same : c.in_err-replay.field-0.0 ≡ Damaged area at = cc (p.1, p.2, is) in
-    c.in_err-replay.ensures.damaged area at (ap (λ (e : LogFault). Err e) same) tells all holds can.so_far
+    cannot_replay (g.D.Describe.rules c.args.by.now) all (c.in_err-replay.ensures.damaged area at (ap (λ (e : LogFault). Err e) same) tells all holds) can
 
 pub returns-then-is_whole-clause-whole : goal.returns-then-is_whole-clause-whole
 returns-then-is_whole-clause-whole g c = λ entries left. left_whole (g.D.Describe.rules c.args.by.now) entries c.in_ok-replay.replay left (sym c.is_whole.ensures ∙ c.if-is_whole.true)

@@ -6,6 +6,7 @@ use Rattle.gated_log.specs.declared.fault.LogFault.{LogFault}
 use Rattle.gated_log.specs.declared.fault.LogFault.TheVariants.{Damaged}
 use Rattle.journal_book.proofs.Deposits.{stays_holds}
 use Rattle.journal_opening.proofs.Books.{held_stays}
+use Rattle.journal_opening.proofs.Empties.{empty_stays}
 use Rattle.journal_opening.proofs.Takings.{range_fault, taken_range, taken_whole}
 use Rattle.journal_opening.proofs.replaying.replay_entries.Goals as goal
 
@@ -13,7 +14,11 @@ pub loop-read-init : goal.loop-read-init
 loop-read-init g c = record {
   stays = stays_here (g.S.Store.disk c.args.store.now);
   within = omega arith;
-  taken = record { entries = []; left = c.new-replay.ensures.journal (g.D.Describe.rules c.args.by.now); same = λ tells all holds. refl };
+  taken = record {
+    entries = [];
+    left = record { left = c.new-replay.ensures.journal (g.D.Describe.rules c.args.by.now); stays = empty_stays (g.D.Describe.rules c.args.by.now) };
+    same = λ tells all holds. refl;
+  };
 }
 
 pub take_range-requires-clause-held : goal.take_range-requires-clause-held

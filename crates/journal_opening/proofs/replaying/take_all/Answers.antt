@@ -1,7 +1,6 @@
-use Rattle.std.proofs.Common.{◌+◌, ◌++◌, ◌∙◌, List, take, refl, sym, subst, arith}
+use Rattle.std.proofs.Common.{◌++◌, List, take, refl, sym, subst, arith}
 use Rattle.std.proofs.lemmas.List.{append-nil, take_all}
 use Rattle.entry_codec.specs.declared.entries.Entry.{Entry}
-use Rattle.journal_replay.specs.Standing.{Standing}
 use Rattle.journal_opening.specs.Journals.{IsLeftBy}
 use Rattle.journal_opening.proofs.Takings.{taken_none, taken_next}
 use Rattle.journal_opening.proofs.replaying.take_all.Goals as goal
@@ -14,17 +13,15 @@ loop-entry-preserved g c = record {
   count = omega (arith, c.loop-entry.invariant.count);
   left = λ before left.
       let i = c.loop-entry.entry-index in
-      let may = sym c.in_ok-step.ensures.answer ∙ c.if-branch.true in
-      subst (λ (s : Standing). IsLeftBy (g.D.Describe.rules c.args.by.now) (before ++ take (i + 1) c.args.entries.now) s) (sym (c.in_ok-step.ensures.moved c.if-branch.true))
-      (taken_next (g.D.Describe.rules c.args.by.now) before c.args.entries.now i c.entry-item.result c.loop-entry.replay c.loop-entry-test.true c.entry-item.is
-      (c.loop-entry.invariant.left before left) may);
+      taken_next (g.D.Describe.rules c.args.by.now) before c.args.entries.now i c.entry-item.result c.loop-entry-test.true c.entry-item.is _
+      (c.in_ok-take_one.ensures.taken c.if-branch.true (before ++ take i c.args.entries.now) (c.loop-entry.invariant.left before left));
 }
 
 pub returns-else-branch : goal.returns-else-branch
 returns-else-branch g c = λ before left.
     let i = c.loop-entry.entry-index in
-    taken_none (g.D.Describe.rules c.args.by.now) before c.args.entries.now i c.entry-item.result c.loop-entry.replay c.loop-entry-test.true c.entry-item.is (c.loop-entry.invariant.left before left)
-    (sym c.in_ok-step.ensures.answer ∙ c.if-branch.false)
+    taken_none (g.D.Describe.rules c.args.by.now) before c.args.entries.now i c.entry-item.result c.loop-entry-test.true c.entry-item.is
+    (c.in_ok-take_one.ensures.refused c.if-branch.false (before ++ take i c.args.entries.now) (c.loop-entry.invariant.left before left))
 
 pub returns : goal.returns
 returns g c = λ before left.

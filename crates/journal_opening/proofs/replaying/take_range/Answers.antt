@@ -1,11 +1,10 @@
-use Rattle.std.proofs.Common.{◌≡◌, ◌++◌, ◌∙◌, ℕ, List, Option, sym, ap, subst, Err}
+use Rattle.std.proofs.Common.{◌≡◌, ◌++◌, ◌∙◌, ℕ, List, Option, ap, subst, Err}
 use Rattle.std.proofs.lemmas.Result.{err_from_is_err_and}
 use Rattle.entry_codec.specs.declared.entries.Entry.{Entry}
 use Rattle.gated_log.specs.declared.fault.LogFault.{LogFault}
 use Rattle.gated_log.specs.declared.fault.LogFault.TheVariants.{Damaged}
-use Rattle.journal_replay.specs.SoFar.{CanReplaySoFar}
-use Rattle.journal_opening.specs.Journals.{IsLeftBy, journal_with}
-use Rattle.journal_opening.specs.Takings.{AreTaken}
+use Rattle.journal_opening.specs.Journals.{IsLeftBy}
+use Rattle.journal_opening.specs.Takings.{AreTaken, CannotFollow}
 use Rattle.journal_opening.proofs.Books.{held_stays}
 use Rattle.journal_opening.proofs.replaying.take_range.Goals as goal
 
@@ -28,7 +27,6 @@ pub damage_at-requires-clause-held : goal.damage_at-requires-clause-held
 damage_at-requires-clause-held g c = λ tells. held_stays c.args.book.now (g.S.Store.disk c.args.store.now) (g.S.Store.disk c.read_range.new.store) c.read_range.ensures.stays (c.requires.held tells)
 
 pub returns-clause-damaged : goal.returns-clause-damaged
-returns-clause-damaged g c = λ area at is tells before all left holds can.
+returns-clause-damaged g c = λ area at is tells before all left holds.
     let here = subst (λ (o : Option ℕ). AreTaken (g.D.Describe.rules c.args.by.now) (before ++ c.deref.result.now) c.take_all.new.replay o) c.in-Some.is (c.in_ok-found.ensures before left) in
-    here (subst (λ (l : List Entry). CanReplaySoFar (g.D.Describe.rules c.args.by.now) (journal_with (before ++ l))) (sym (c.deref.ensures.value ∙ c.in_ok-entries.ensures.entries tells all holds))
-    can)
+    subst (λ (l : List Entry). CannotFollow (g.D.Describe.rules c.args.by.now) (before ++ l)) (c.deref.ensures.value ∙ c.in_ok-entries.ensures.entries tells all holds) here
