@@ -17,5 +17,5 @@ unreachable-requires c = elim c.in-Multi.is [
   | inr join ↦ subst (λ (spec : LogicalSpec). ShowsImage (LogicalFile spec) c.args.image.now) join.1 c.requires
 ]
 
-pub returns-in-Simple : goal.returns-in-Simple
-returns-in-Simple c = λ bases members number. rw c.in-Simple.is c.shown_view.ensures
+pub returns : goal.returns
+returns c = λ bases members number. rw c.in-Simple.is c.shown_view.ensures
