@@ -1,23 +1,13 @@
 -- Files whose keys are all by their fields stay so, as files come, change and go.
 use Rattle.std.proofs.Common.{◌≡◌, ℕ, Bool, true, false, cond, not, Some, List, [], ◌∷◌, ◌++◌, subst}
-use Rattle.logical_model.specs.Bases.{FileSpec, PhysicalFile, LogicalFile}
+use Rattle.logical_model.specs.Bases.{FileSpec}
 use Rattle.library_model.specs.Named.{Named, named, same_name}
 use Rattle.library_steps.specs.State.{FileState, MemberStatus, status_changed}
 use Rattle.library_steps.specs.DeleteFile.{without_file}
 use Rattle.library_steps.specs.MemberCommands.{file_changed, with_member_name}
-use Rattle.file_catalogue.specs.Physical.{IsPhysical, AllArePhysical}
 use Rattle.file_catalogue.specs.Keyed.{HasOwnKey, HaveOwnKeys, IsKeyedFile, AllAreKeyed}
 use Rattle.file_catalogue.proofs.NameLemmas.{some-equal}
 use Rattle.file_catalogue.proofs.ChangeLemmas.{each_changed}
-
--- such a file is a physical one
-pub own_key-physical : (file : FileSpec) → HasOwnKey file → IsPhysical file
-own_key-physical (PhysicalFile spec) is = tt
-own_key-physical (LogicalFile spec) is = absurd is
-
-pub own_keys-physical : (files : Named FileState) → HaveOwnKeys files → AllArePhysical files
-own_keys-physical [] all = tt
-own_keys-physical (entry ∷ files) all = (own_key-physical entry.1.spec all.0, own_keys-physical files all.1)
 
 pub own_key-keyed : (file : FileSpec) → HasOwnKey file → IsKeyedFile file
 own_key-keyed file is spec same = subst HasOwnKey same is

@@ -5,4 +5,6 @@ pub mod OwnerLemmas
 pub mod ChangeLemmas
 pub mod PhysicalLemmas
 pub mod KeyedLemmas
+pub mod OwnMemberLemmas
+pub mod BaseLemmas
 pub mod CallerLemmas

@@ -1,5 +1,5 @@
--- Files of which each is a physical one whose key is by some of its fields, which lie one behind another. (DDS for Physical and Logical Files, key
--- field level.)
+-- Files of which each physical one has a key by some of its fields, which lie one behind another. (DDS for Physical and Logical Files, key field
+-- level.)
 use Rattle.std.specs.Prelude.{◌≡◌, ℕ, Some, List}
 use Rattle.std.specs.List.{AllByRecursion}
 use Rattle.dds_physical.specs.declared.physical_files.PhysicalSpec.{PhysicalSpec}
@@ -10,7 +10,7 @@ use Rattle.library_steps.specs.State.{FileState}
 
 abbrev pub HasOwnKey : FileSpec → Type 0
 HasOwnKey (PhysicalFile spec) = IsKeyed spec
-HasOwnKey (LogicalFile spec) = ⊥
+HasOwnKey (LogicalFile spec) = Unit {0}
 
 abbrev pub HaveOwnKeys : Named FileState → Type 0
 HaveOwnKeys files = AllByRecursion (λ entry. HasOwnKey entry.1.spec) files

@@ -4,3 +4,6 @@ pub mod Parts
 pub mod Owners
 pub mod Physical
 pub mod Keyed
+pub mod Views
+pub mod Bodies
+pub mod OwnMembers

@@ -1,4 +1,4 @@
--- Files of which each is a physical one: a catalogue keeps no others yet. (DDS for Physical and Logical Files.)
+-- Files that are physical ones. (DDS for Physical and Logical Files.)
 use Rattle.std.specs.List.{AllByRecursion}
 use Rattle.logical_model.specs.Bases.{FileSpec, PhysicalFile, LogicalFile}
 use Rattle.library_model.specs.Named.{Named}

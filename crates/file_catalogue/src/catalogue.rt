@@ -11,21 +11,26 @@ ghost use Rattle.library_steps.specs.DeleteFile.{first_dependent, without_file};
 ghost use Rattle.library_steps.specs.MemberCommands.{file_changed, with_member_name, renumbered};
 ghost use Rattle.library_steps.specs.Journaling.{journaled_from, no_longer_journaled};
 ghost use Rattle.library_steps.specs.SlotChange.{status_among, touched};
+ghost use Rattle.library_steps.specs.LogicalFiles.{bases_in};
+ghost use Rattle.record_fmt.specs.Layout.{IsLaidOut};
 ghost use Rattle.file_catalogue.specs.Statuses.{after};
 ghost use Rattle.file_catalogue.specs.Owners.{AreApart, numbers_of, owner, status_of};
-ghost use Rattle.file_catalogue.specs.Physical.{AllArePhysical};
+ghost use Rattle.file_catalogue.specs.Physical.{IsPhysical};
 ghost use Rattle.file_catalogue.specs.Keyed.{AllAreKeyed};
+ghost use Rattle.file_catalogue.specs.OwnMembers.{LogicalHaveNone};
 
 use crate::changes::StatusChange;
-use crate::files::File;
+use crate::described::Described;
+use crate::files::{File, no_fields};
 use crate::owners::{add_owned, remove_owned};
 use crate::status::MemberStatus;
-use dds_physical::Refs;
+use dds_logical::Bases;
+use dds_physical::{PhysicalSpec, Refs};
 use entry_codec::Images;
 use field_types::names::Name;
 use indexmap::IndexMap;
 use indexmap::map::Iter;
-use record_fmt::formats::Format;
+use record_fmt::formats::{Field, Format};
 use std::alloc::{AllocError, Global};
 use std::marker::Model;
 
@@ -43,12 +48,13 @@ impl Model for Catalogue {
     ghost use Rattle.file_catalogue.specs.Parts.{Files};
     ghost use Rattle.file_catalogue.specs.Owners.{IsOwned};
     ghost use Rattle.file_catalogue.specs.Keyed.{HaveOwnKeys};
+    ghost use Rattle.file_catalogue.specs.OwnMembers.{HaveOwnMembers};
 
     ghost Value = { Files };
 
     ghost view = { λ c. record { files = c.files.entries; room = spare c.files; member_room = spare c.owners } };
 
-    ghost invariant = { λ c. IsOwned c.files.entries (get nat_eq c.owners) × HaveOwnKeys c.files.entries };
+    ghost invariant = { λ c. IsOwned c.files.entries (get nat_eq c.owners) × HaveOwnKeys c.files.entries × HaveOwnMembers c.files.entries };
 }
 
 impl Catalogue {
@@ -62,14 +68,14 @@ impl Catalogue {
         }
     }
 
-    /// How many files there are. No two of them have one name, no two members one number, and all are physical files,
-    /// whose keys are by their fields.
+    /// How many files there are. No two of them have one name, and no two members one number. The keys of physical files are
+    /// by their fields, and a logical file has no members.
     pub fn len(&self) -> usize
         ensures value { result ≡ length self.now.files }
         ensures unique { IsDistinct same_name (keys_of self.now.files) }
         ensures apart { AreApart self.now.files }
-        ensures physical { AllArePhysical self.now.files }
         ensures keyed { AllAreKeyed self.now.files }
+        ensures none { LogicalHaveNone self.now.files }
     {
         self.files.len()
     }
@@ -94,6 +100,29 @@ impl Catalogue {
         ensures { option_copied result ≡ named name.now self.now.files }
     {
         self.files.get(name)
+    }
+
+    /// What the file of that name is where it is a physical file.
+    pub fn physical_named(&self, name: &Name) -> Option<&Described>
+        ensures { option_map (λ described. described.spec) (option_copied result) ≡ option_and_then (λ file. physical_in file.spec) (named name.now self.now.files) }
+    {
+        match self.named(name) {
+            Some(file) => file.physical(),
+            None => None,
+        }
+    }
+
+    /// What a logical file needs of the physical file of that name: the number of its member of this name, and its fields. Where
+    /// there is none, 0 and no fields.
+    pub fn base_of(&self, name: &Name) -> (u32, &[Field])
+        ensures member { result.0 ≡ (bases_in self.now.files name.now).member }
+        ensures fields { result.1.now ≡ (bases_in self.now.files name.now).fields }
+        ensures laid_out { IsLaidOut result.1.now }
+    {
+        match self.named(name) {
+            Some(file) => file.base(name),
+            None => (0, no_fields()),
+        }
     }
 
     /// The name of the file that has the member with that number.
@@ -132,7 +161,7 @@ impl Catalogue {
         }
     }
 
-    /// The first file, by creation, whose source names that file. It looks at every source.
+    /// The first file, by creation, that depends on that file. It looks at every source.
     pub fn first_dependent(&self, name: &Name) -> Option<Name>
         ensures { result ≡ first_dependent name.now self.now.files }
     {
@@ -174,8 +203,8 @@ impl Catalogue {
         requires member_room { length file.members ≤ self.old.member_room }
         ensures { self.new.files ≡ self.old.files ++ (name, file) ∷ [] }
     {
-        // It is a physical file, whose key is by its fields.
-        let _format = file.format();
+        // The key of a physical file is by its fields, and a logical file has no members.
+        let _described = file.described();
         add_owned(&mut self.owners, name, file.members());
         let _replaced = self.files.insert(name, file).unwrap();
     }
@@ -193,10 +222,11 @@ impl Catalogue {
         file
     }
 
-    /// Adds a member to a file.
+    /// Adds a member to a physical file.
     pub fn add_member(&mut self, file: &Name, member: Name, number: u32)
         requires there { IsSome (named file.now self.old.files) }
         requires few { IfSome (named file.now self.old.files) (λ f. length f.members < MOST_MEMBERS) }
+        requires physical { IfSome (named file.now self.old.files) (λ f. IsPhysical f.spec) }
         requires fresh { status_among number self.old.files ≡ None }
         requires room { 1 ≤ self.old.member_room }
         ensures { self.new.files ≡ file_changed file.now (with_member_name member number) self.old.files }
@@ -253,7 +283,18 @@ impl Refs for Catalogue {
 
     fn format_of(&self, file: &Name) -> Option<&Format> {
         match self.named(file) {
-            Some(file) => Some(file.format()),
+            Some(file) => file.format(),
+            None => None,
+        }
+    }
+}
+
+impl Bases for Catalogue {
+    ghost bases = { λ c name. option_and_then (λ file. physical_in file.spec) (named name c.files) };
+
+    fn base(&self, file: &Name) -> Option<&PhysicalSpec> {
+        match self.physical_named(file) {
+            Some(described) => Some(described.spec()),
             None => None,
         }
     }

@@ -75,6 +75,17 @@ impl Described {
         &self.spec.format
     }
 
+    /// The record format with the key.
+    pub fn spec(&self) -> &PhysicalSpec
+        ensures spec { result.now ≡ self.now.spec }
+        ensures laid_out { IsLaidOut self.now.spec.format.fields }
+        ensures keyed { IsKeyed self.now.spec }
+    {
+        // Its fields lie one behind the other.
+        let _fields = self.spec.format.fields.as_slice();
+        &self.spec
+    }
+
     /// The key.
     pub fn keys(&self) -> &KeySpec
         ensures { result.now ≡ self.now.spec.keys }

@@ -1,5 +1,5 @@
 //! The members of a file.
-ghost use Rattle.std.specs.Prelude.{◌≡◌, ◌<◌, [], ◌∷◌, ◌++◌, length, map, IfOk, if◌then◌else◌, ◌==◌};
+ghost use Rattle.std.specs.Prelude.{◌≡◌, ◌<◌, ◌≤◌, [], ◌∷◌, ◌++◌, length, map, IfOk, if◌then◌else◌, ◌==◌};
 ghost use Rattle.library_model.specs.Named.{named};
 ghost use Rattle.library_steps.specs.declared.limits.TheConstants.{MOST_MEMBERS};
 ghost use Rattle.library_steps.specs.CreatePhysicalFile.{new_status};
@@ -13,23 +13,23 @@ use library_steps::limits::MOST_MEMBERS;
 use std::alloc::{AllocError, Global};
 use std::marker::Model;
 
-/// The members of a file in order of creation, with memory for `MOST_MEMBERS`.
+/// The members of a file in order of creation, with memory for `MOST_MEMBERS` where there is one.
 #[derive(Drop)]
 pub struct Members {
     members: Vec<(Name, MemberStatus)>,
 }
 
 impl Model for Members {
-    ghost use Rattle.std.specs.Prelude.{◌≤◌, vec_capacity};
+    ghost use Rattle.std.specs.Prelude.{vec_capacity};
     ghost use Rattle.library_model.specs.Named.{Named};
-    ghost use Rattle.library_steps.specs.declared.limits.TheConstants.{MOST_MEMBERS};
     ghost use Rattle.library_steps.specs.State as state;
+    ghost use Rattle.file_catalogue.specs.OwnMembers.{HaveRoom};
 
     ghost Value = { Named state.MemberStatus };
 
     ghost view = { λ m. m.members.items };
 
-    ghost invariant = { λ m. MOST_MEMBERS ≤ vec_capacity m.members };
+    ghost invariant = { λ m. HaveRoom m.members.items (vec_capacity m.members) };
 }
 
 impl Members {
@@ -40,6 +40,15 @@ impl Members {
         let mut members = Vec::with_capacity(alloc, MOST_MEMBERS)?;
         members.push_reserved((name, MemberStatus::new(number)));
         Ok(Members { members })
+    }
+
+    /// No members, which take no memory.
+    pub(crate) fn none(alloc: Global) -> Members
+        ensures { result ≡ [] }
+    {
+        Members {
+            members: Vec::new(alloc),
+        }
     }
 
     /// How many there are.
@@ -80,9 +89,10 @@ impl Members {
         None
     }
 
-    /// One member more.
+    /// One member more, where there are members.
     pub(crate) fn push(&mut self, name: Name, number: u32)
-        requires { length self.old < MOST_MEMBERS }
+        requires few { length self.old < MOST_MEMBERS }
+        requires some { 1 ≤ length self.old }
         ensures { self.new ≡ self.old ++ (name, new_status number) ∷ [] }
     {
         self.members

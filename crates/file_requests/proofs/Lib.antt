@@ -1,3 +1,5 @@
 pub mod RecordLemmas
 pub mod PlanLemmas
 pub mod PhysicalLemmas
+pub mod OpenLemmas
+pub mod ViewLemmas

@@ -3,3 +3,4 @@ pub mod Sources
 pub mod Members
 pub mod Records
 pub mod Opens
+pub mod Views

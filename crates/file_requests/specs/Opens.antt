@@ -1,27 +1,37 @@
--- The member that OPNDBF opens, where all files are physical ones. (CL reference, OPNDBF.)
-use Rattle.std.specs.Prelude.{◌≡◌, ℕ, nat_le, Result, Ok, Err, List, [], ◌∷◌, length}
+-- The file that OPNDBF opens, and the one member that an open of it is over. (CL reference, OPNDBF.)
+use Rattle.std.specs.Prelude.{◌≡◌, ℕ, not, nat_le, Bool, Result, Ok, Err, List, [], ◌∷◌, length}
 use Rattle.std.specs.Option.{is_some}
 use Rattle.library_model.specs.declared.limits.TheConstants.{MOST_OPENS}
 use Rattle.library_model.specs.declared.requests.OpenFile.{OpenFile}
 use Rattle.library_model.specs.declared.replies.Reply.{Reply}
-use Rattle.library_model.specs.declared.replies.Reply.TheVariants.{NameExists, LimitReached}
+use Rattle.library_model.specs.declared.replies.Reply.TheVariants.{NameExists, LimitReached, NoSuchName, WrongOpen}
 use Rattle.library_model.specs.declared.replies.LimitKind.TheVariants.{Opens}
-use Rattle.library_steps.specs.State.{Memory, MemberStatus, job_of, open_named}
-use Rattle.library_steps.specs.Refusals.{◌>>=◌, refuse_if, member_of_file}
-use Rattle.library_steps.specs.Opens.{may_commit}
+use Rattle.library_model.specs.declared.replies.Missing.TheVariants.{Name}
+use Rattle.library_model.specs.Named.{same_name}
+use Rattle.library_steps.specs.State.{Memory, FileState, file_named, job_of, open_named}
+use Rattle.library_steps.specs.Records.{is_file_path}
+use Rattle.library_steps.specs.Refusals.{◌>>=◌, refuse_if, named_or_refused}
+use Rattle.library_steps.specs.Opens.{may_commit_all}
 use Rattle.library_parts.specs.declared.stop.Stop.{Stop}
 use Rattle.library_parts.specs.declared.stop.Stop.TheVariants.{NoMemory, Refused}
 
-unfoldable pub member_plan : Memory → ℕ → OpenFile → Result MemberStatus Reply
-member_plan m job args = do
+-- the file, where the job may have an open more under this name
+unfoldable pub file_plan : Memory → ℕ → OpenFile → Result FileState Reply
+file_plan m job args = do
   _ ← refuse_if (is_some (open_named args.open_id job m)) (NameExists args.open_id)
   _ ← refuse_if (nat_le MOST_OPENS (length (job_of job m).opens)) (LimitReached Opens MOST_OPENS)
-  it ← member_of_file args.file args.member m
-  _ ← may_commit args.commit it.status (job_of job m)
-  Ok it.status
+  file ← named_or_refused args.file (file_named args.file m)
+  Ok file
+
+-- a logical file of one format is opened under its own name, by its path, and under commitment control where its base is journaled
+abbrev pub view_opens : Memory → ℕ → OpenFile → (members : List ℕ) → Result Bool Reply
+view_opens m job args members = do
+  _ ← refuse_if (not (same_name args.member args.file)) (NoSuchName (Name args.member))
+  _ ← refuse_if (not (is_file_path args.access_path)) WrongOpen
+  may_commit_all args.commit members (job_of job m) m
 
 -- the one member that the plan has
-abbrev pub GivesMember : Result MemberStatus Stop → Result (List ℕ) Reply → Type 0
-GivesMember (Ok status) wanted = wanted ≡ Ok (status.number ∷ [])
+abbrev pub GivesMember : Result ℕ Stop → Result (List ℕ) Reply → Type 0
+GivesMember (Ok number) wanted = wanted ≡ Ok (number ∷ [])
 GivesMember (Err NoMemory) wanted = Unit {0}
 GivesMember (Err (Refused reply)) wanted = wanted ≡ Err reply

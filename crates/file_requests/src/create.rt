@@ -94,7 +94,7 @@ fn may_add(contents: &Contents, name: &Name) -> Result<(), Stop>
     Ok(())
 }
 
-fn has_file(contents: &Contents, name: &Name) -> bool
+pub(crate) fn has_file(contents: &Contents, name: &Name) -> bool
     ensures { result ≡ is_some (file_named name.now (memory_of contents.now.state)) }
 {
     match contents.file(name) {

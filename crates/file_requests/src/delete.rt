@@ -4,20 +4,19 @@ ghost use Rattle.library_model.specs.Named.{named};
 ghost use Rattle.library_steps.specs.declared.limits.TheConstants.{LAST_SEQUENCE};
 ghost use Rattle.library_steps.specs.State.{FileState, job_at, memory_of};
 ghost use Rattle.library_steps.specs.History.{is_running};
-ghost use Rattle.library_steps.specs.DeleteFile.{delete_file, delete_plan, deleted, user_by};
-ghost use Rattle.library_steps.specs.Uses.{user_of_any};
+ghost use Rattle.library_steps.specs.DeleteFile.{delete_file, delete_plan, deleted, first_dependent, user_by};
 ghost use Rattle.library_parts.specs.Answers.{Answers, Shows};
+ghost use Rattle.library_parts.specs.PathChanges.{IsPathOfView};
 ghost use Rattle.file_requests.specs.Effects.{Deposits};
 
 use draft_list::{Author, may_deposit, with_room};
 use entry_codec::{Draft, EntryKind};
-use field_types::names::Name;
 use file_catalogue::File;
 use library_model::replies::Reply;
 use library_model::requests::DeleteFile;
 use library_parts::{Contents, Stop};
 
-/// Deletes a file with its members.
+/// Deletes a file, a physical one with its members.
 pub fn delete_file(
     contents: &mut Contents,
     job: u32,
@@ -31,7 +30,8 @@ pub fn delete_file(
     let author = Author::of(contents, job, timestamp);
     let kind = EntryKind::FileDeleted { name: args.file };
     let draft = with_room(contents, author.library_draft(kind))?;
-    apply_delete(contents, args, draft);
+    let path = contents.view_path(&args.file)?;
+    apply_delete(contents, args, path, draft);
     Ok(Reply::Done)
 }
 
@@ -39,37 +39,30 @@ pub fn delete_file(
 fn plan_delete<'a>(contents: &'a Contents, args: &DeleteFile) -> Result<&'a File, Stop>
     ensures plan { Shows result (delete_plan (memory_of contents.now.state) args.now) }
     ensures there { IfOk result (λ file. named args.now.file contents.now.state.files ≡ Some file.now) }
-    ensures unused { IfOk result (λ file. user_of_any file.now.members (memory_of contents.now.state) ≡ None) }
+    ensures alone { OnOk result (first_dependent args.now.file contents.now.state.files ≡ None) }
+    ensures unused { IfOk result (λ file. user_by file.now.spec args.now.file file.now (memory_of contents.now.state) ≡ None) }
     ensures left { OnOk result ((memory_of contents.now.state).last_entry ≤ LAST_SEQUENCE) }
 {
     may_deposit(contents)?;
-    let file = contents.file(&args.file)?;
+    let file = contents.simple_file(&args.file)?;
     if let Some(name) = contents.first_dependent(&args.file) {
         return Err(Stop::Refused(Reply::Dependents { name }));
     }
-    if let Some(job) = user_of(contents, &args.file, file) {
+    if let Some(job) = contents.user_of_file(&args.file, file) {
         return Err(Stop::Refused(Reply::InUse { job }));
     }
     Ok(file)
 }
 
-/// The first job that uses the file, which is a physical one and is used by its members.
-fn user_of(contents: &Contents, name: &Name, file: &File) -> Option<u32>
-    ensures members { result ≡ user_of_any file.now.members (memory_of contents.now.state) }
-    ensures file { result ≡ user_by file.now.spec name.now file.now (memory_of contents.now.state) }
-{
-    // It is a physical file.
-    let _format = file.format();
-    contents.user_of_any(file.members())
-}
-
-fn apply_delete(contents: &mut Contents, args: &DeleteFile, draft: Draft)
+fn apply_delete(contents: &mut Contents, args: &DeleteFile, path: Option<u64>, draft: Draft)
     requires there { IsSome (named args.now.file contents.old.state.files) }
-    requires unused { (file : FileState) → named args.now.file contents.old.state.files ≡ Some file → user_of_any file.members (memory_of contents.old.state) ≡ None }
+    requires alone { first_dependent args.now.file contents.old.state.files ≡ None }
+    requires unused { (file : FileState) → named args.now.file contents.old.state.files ≡ Some file → user_by file.spec args.now.file file (memory_of contents.old.state) ≡ None }
+    requires path { IsPathOfView contents.old args.now.file path }
     requires room { 1 ≤ contents.old.room.entries }
     requires left { (memory_of contents.old.state).last_entry ≤ LAST_SEQUENCE }
     ensures { (file : FileState) → named args.now.file contents.old.state.files ≡ Some file → Deposits contents.old.state contents.new.state (draft ∷ []) (deleted args.now file) }
 {
-    let _file = contents.remove_file(args);
+    let _file = contents.remove_file(args, path);
     let _sequence = contents.deposit(draft);
 }

@@ -1,63 +1,72 @@
 //! OPNDBF and CLOF.
-ghost use Rattle.std.specs.Prelude.{◌≡◌, ◌<◌, length, IfOk, IsErrOf, IsTrue, OnOk};
+ghost use Rattle.std.specs.Prelude.{◌≡◌, ◌<◌, [], ◌∷◌, Some, length, true, IfOk, IsErrOf, IsTrue, OnOk};
 ghost use Rattle.std.specs.Option.{is_some};
-ghost use Rattle.library_model.specs.Named.{named};
+ghost use Rattle.logical_model.specs.Bases.{LogicalFile, base_members};
+ghost use Rattle.file_catalogue.specs.Owners.{has_number};
+ghost use Rattle.library_model.specs.Named.{named, same_name};
 ghost use Rattle.library_model.specs.declared.limits.TheConstants.{MOST_OPENS};
 ghost use Rattle.library_steps.specs.State.{job_at, job_of, memory_of, open_named};
 ghost use Rattle.library_steps.specs.History.{is_running};
-ghost use Rattle.library_steps.specs.Opens.{close_file, may_commit, open_file, open_plan};
-ghost use Rattle.library_parts.specs.Answers.{Allows, Answers, Gives};
-ghost use Rattle.library_parts.specs.Finds.{OpensMember};
+ghost use Rattle.library_steps.specs.LogicalFiles.{bases_of};
+ghost use Rattle.library_steps.specs.Opens.{close_file, logical_members, may_commit, may_commit_all, members_by, open_file, open_plan, physical_members};
+ghost use Rattle.library_steps.specs.Records.{is_file_path};
+ghost use Rattle.library_steps.specs.Refusals.{named_or_refused};
+ghost use Rattle.library_parts.specs.Answers.{Allows, Answers, Gives, Shows};
+ghost use Rattle.library_parts.specs.Finds.{OpensBy, OpensMember};
+ghost use Rattle.library_parts.specs.Indexed.{IsReadSo, IsSimple};
+ghost use Rattle.library_parts.specs.Reads.{MayReadSo};
 ghost use Rattle.library_parts.specs.declared.stop.Stop.TheVariants.{NoMemory};
-ghost use Rattle.file_requests.specs.Opens.{GivesMember, member_plan};
+ghost use Rattle.file_requests.specs.Opens.{GivesMember, file_plan, view_opens};
 
+use dds_logical::LogicalSpec;
 use field_types::names::Name;
-use file_catalogue::MemberStatus;
+use file_catalogue::{File, MemberStatus};
 use job_table::LAST_OPEN;
 use library_model::limits::MOST_OPENS;
 use library_model::replies::{LimitKind, Reply};
-use library_model::requests::{OpenFile, OpenName};
+use library_model::requests::{AccessPath, OpenFile, OpenName};
 use library_parts::laws::effects_answer;
-use library_parts::{Contents, MemberFound, Stop, holder_of, record_of};
+use library_parts::{Contents, Stop, holder_of, no_such_name, record_of};
 use lock_table::Call;
 
 // ---- OPNDBF
 
-/// Opens a member for a job. A job that has had as many opens as are counted opens no more.
+/// Opens a file for a job over one member. A job that has had as many opens as are counted opens no more.
 pub fn open_file(contents: &mut Contents, job: u32, args: &OpenFile) -> Result<Reply, Stop>
     requires running { IsTrue (is_running (job_at job contents.old.state.jobs)) }
     ensures answers { Answers contents.old.state contents.new.state result (open_file (memory_of contents.old.state) job args.now) }
 {
-    let status = plan_open(contents, job, args)?;
+    let member = plan_open(contents, job, args)?;
     let (_, opened) = contents.opens(job);
     if opened == LAST_OPEN {
         return Err(Stop::NoMemory);
     }
-    let member = status.number();
     let reads = contents.reads_for(args, member)?;
     effects_answer();
     contents.add_open(job, args, member, reads);
     Ok(Reply::Done)
 }
 
-/// The member to open, of a physical file as there are no others.
-fn plan_open(contents: &Contents, job: u32, args: &OpenFile) -> Result<MemberStatus, Stop>
-    requires running { IsTrue (is_running (job_at job contents.now.state.jobs)) }
+/// The member to open: a physical file's of that name, or the one that a logical file is over.
+fn plan_open(contents: &Contents, job: u32, args: &OpenFile) -> Result<u32, Stop>
+    requires { IsTrue (is_running (job_at job contents.now.state.jobs)) }
     ensures plan { GivesMember result (open_plan (memory_of contents.now.state) job args.now) }
     ensures few { OnOk result (length (job_of job (memory_of contents.now.state)).opens < MOST_OPENS) }
-    ensures there { IfOk result (λ status. OpensMember status.number (named args.now.file contents.now.state.files)) }
+    ensures there { IfOk result (λ member. OpensMember contents.now.state.files member (named args.now.file contents.now.state.files)) }
+    ensures so { OnOk result (MayReadSo args.now (named args.now.file contents.now.state.files)) }
 {
-    // All files are physical ones.
-    let _counts = contents.counts();
-    plan_member(contents, job, args)
+    let file = plan_file(contents, job, args)?;
+    let member = member_to_open(contents, job, args, file)?;
+    Ok(member)
 }
 
-#[tactic(auto, unfolding(crate::specs::Opens::member_plan))]
-fn plan_member(contents: &Contents, job: u32, args: &OpenFile) -> Result<MemberStatus, Stop>
-    requires running { IsTrue (is_running (job_at job contents.now.state.jobs)) }
-    ensures plan { Gives result (member_plan (memory_of contents.now.state) job args.now) }
+#[tactic(auto, unfolding(crate::specs::Opens::file_plan))]
+fn plan_file<'a>(contents: &'a Contents, job: u32, args: &OpenFile) -> Result<&'a File, Stop>
+    requires { IsTrue (is_running (job_at job contents.now.state.jobs)) }
+    ensures plan { Shows result (file_plan (memory_of contents.now.state) job args.now) }
     ensures few { OnOk result (length (job_of job (memory_of contents.now.state)).opens < MOST_OPENS) }
-    ensures there { IfOk result (λ status. OpensMember status.number (named args.now.file contents.now.state.files)) }
+    ensures there { IfOk result (λ file. named args.now.file contents.now.state.files ≡ Some file.now) }
+    ensures simple { IfOk result (λ file. IsSimple file.now.spec) }
 {
     if has_open(contents, job, &args.open_id) {
         return Err(Stop::Refused(Reply::NameExists { name: args.open_id }));
@@ -69,9 +78,91 @@ fn plan_member(contents: &Contents, job: u32, args: &OpenFile) -> Result<MemberS
             number: MOST_OPENS as u64,
         }));
     }
-    let MemberFound { file: _, status } = contents.member_of_file(&args.file, &args.member)?;
+    let file = contents.simple_file(&args.file)?;
+    Ok(file)
+}
+
+/// The member of the file, by its kind.
+fn member_to_open(contents: &Contents, job: u32, args: &OpenFile, file: &File) -> Result<u32, Stop>
+    requires running { IsTrue (is_running (job_at job contents.now.state.jobs)) }
+    requires simple { IsSimple file.now.spec }
+    ensures plan { GivesMember result (members_by file.now.spec (memory_of contents.now.state) job args.now file.now) }
+    ensures opens { IfOk result (λ member. OpensBy contents.now.state.files member file.now file.now.spec) }
+    ensures so { OnOk result (IsReadSo (is_file_path args.now.access_path) file.now.spec) }
+{
+    match file.logical() {
+        Some(view) => view_member(contents, job, args, view),
+        None => physical_member(contents, job, args, file),
+    }
+}
+
+/// A physical file's member.
+fn physical_member(contents: &Contents, job: u32, args: &OpenFile, file: &File) -> Result<u32, Stop>
+    requires { IsTrue (is_running (job_at job contents.now.state.jobs)) }
+    ensures plan { GivesMember result (physical_members (memory_of contents.now.state) job args.now file.now) }
+    ensures has { IfOk result (λ member. has_number member file.now.members ≡ true) }
+{
+    let status = member_named(file, &args.member)?;
     may_commit(contents, job, args.commit, status)?;
-    Ok(status)
+    Ok(status.number())
+}
+
+fn member_named(file: &File, name: &Name) -> Result<MemberStatus, Stop>
+    ensures { Gives result (named_or_refused name.now (named name.now file.now.members)) }
+{
+    match file.member(name) {
+        Some(status) => Ok(status),
+        None => Err(no_such_name(*name)),
+    }
+}
+
+/// The member that a logical file is over, which has no member but that of its own name.
+fn view_member(
+    contents: &Contents,
+    job: u32,
+    args: &OpenFile,
+    view: &LogicalSpec,
+) -> Result<u32, Stop>
+    requires running { IsTrue (is_running (job_at job contents.now.state.jobs)) }
+    requires simple { IsSimple (LogicalFile view.now) }
+    ensures plan { GivesMember result (logical_members (memory_of contents.now.state) job args.now view.now) }
+    ensures over { IfOk result (λ member. base_members (bases_of (memory_of contents.now.state)) view.now ≡ member ∷ []) }
+    ensures by_path { OnOk result (IsTrue (is_file_path args.now.access_path)) }
+{
+    let member = contents.member_under(view);
+    view_opens(contents, job, args, member)?;
+    Ok(member)
+}
+
+/// The refusal of an open of a logical file by another name, in arrival order, or under commitment control that it can't have.
+fn view_opens(contents: &Contents, job: u32, args: &OpenFile, member: u32) -> Result<(), Stop>
+    requires { IsTrue (is_running (job_at job contents.now.state.jobs)) }
+    ensures allowed { Allows result (view_opens (memory_of contents.now.state) job args.now (member ∷ [])) }
+    ensures by_path { OnOk result (IsTrue (is_file_path args.now.access_path)) }
+{
+    if !has_own_name(args) {
+        return Err(no_such_name(args.member));
+    }
+    if !is_by_path(args) {
+        return Err(Stop::Refused(Reply::WrongOpen));
+    }
+    may_commit_all(contents, job, args.commit, member)?;
+    Ok(())
+}
+
+fn has_own_name(args: &OpenFile) -> bool
+    ensures { result ≡ same_name args.now.member args.now.file }
+{
+    args.member == args.file
+}
+
+fn is_by_path(args: &OpenFile) -> bool
+    ensures { result ≡ is_file_path args.now.access_path }
+{
+    match args.access_path {
+        AccessPath::File => true,
+        AccessPath::Arrival => false,
+    }
 }
 
 fn has_open(contents: &Contents, job: u32, name: &Name) -> bool
@@ -101,6 +192,23 @@ fn may_commit(contents: &Contents, job: u32, commit: bool, status: MemberStatus)
         }));
     }
     Ok(())
+}
+
+/// The same for the one member that a logical file is over.
+fn may_commit_all(contents: &Contents, job: u32, commit: bool, member: u32) -> Result<(), Stop>
+    requires { IsTrue (is_running (job_at job contents.now.state.jobs)) }
+    ensures { Allows result (may_commit_all commit (member ∷ []) (job_of job (memory_of contents.now.state)) (memory_of contents.now.state)) }
+{
+    if !commit {
+        return Ok(());
+    }
+    match contents.level(job) {
+        None => Err(Stop::Refused(Reply::NoDefinition)),
+        Some(_) if contents.images_of(member).is_none() => {
+            Err(Stop::Refused(Reply::NotJournaled { member }))
+        }
+        Some(_) => Ok(()),
+    }
 }
 
 // ---- CLOF

@@ -11,8 +11,8 @@ use Rattle.lock_table.specs.Table.{least_job}
 use Rattle.library_model.specs.Named.{Named}
 use Rattle.library_steps.specs.State.{MemberStatus, JobState}
 use Rattle.library_steps.specs.Checkpoint.{lesser}
-use Rattle.library_steps.specs.Uses.{first_job, has_boundary_lock, uses}
-use Rattle.job_table.specs.Users.{HasBegun, AreOfJobs, has_in_use, first_user, least_of_members}
+use Rattle.library_steps.specs.Uses.{first_job, has_boundary_lock, has_changed, has_open_of, uses}
+use Rattle.job_table.specs.Users.{HasBegun, AreOfJobs, has_in_use, first_changer, first_opener, first_user, least_of_members}
 
 -- a number that is there is no less
 abbrev IsFrom : ℕ → Option ℕ → Type 0
@@ -157,3 +157,24 @@ pub first_user-joined : (member : ℕ) (locks : List Lock) (jobs : List JobState
 first_user-joined member locks jobs all =
     first_job-either (has_in_use member) (λ n job. has_boundary_lock member n locks) 1 jobs
     ∙ ap (lesser (first_user member jobs)) (keeper-least member locks jobs all)
+
+-- ---- a logical file over one member
+
+-- it is asked of one member alone
+pub changer-one : (member number : ℕ) (jobs : List JobState)
+    → first_job (λ n job. list_any (λ base. has_changed base job) (member ∷ [])) number jobs ≡ first_job (λ n job. has_changed member job) number jobs
+changer-one member number [] = refl
+changer-one member number (job ∷ jobs) =
+    by (has_changed member job) (changer-one member (number + 1) jobs)
+  where
+    by : (b : Bool) → first_job (λ n j. list_any (λ base. has_changed base j) (member ∷ [])) (number + 1) jobs ≡ first_job (λ n j. has_changed member j) (number + 1) jobs
+        → (if b || false then Some number else first_job (λ n j. list_any (λ base. has_changed base j) (member ∷ [])) (number + 1) jobs)
+        ≡ (if b then Some number else first_job (λ n j. has_changed member j) (number + 1) jobs)
+    by true rest = refl
+    by false rest = rest
+
+pub user-view : (file : List ℕ) (member : ℕ) (jobs : List JobState)
+    → first_job (λ n job. has_open_of file job || list_any (λ base. has_changed base job) (member ∷ [])) 1 jobs ≡ lesser (first_opener file jobs) (first_changer member jobs)
+user-view file member jobs =
+    first_job-either (λ n job. has_open_of file job) (λ n job. list_any (λ base. has_changed base job) (member ∷ [])) 1 jobs
+    ∙ ap (lesser (first_opener file jobs)) (changer-one member 1 jobs)

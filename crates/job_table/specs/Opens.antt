@@ -5,7 +5,7 @@ use Rattle.key_spec.specs.declared.KeyPart.{KeyPart}
 use Rattle.file_model.specs.Positions.{Start}
 use Rattle.open_position.specs.OpenStand.{OpenStand}
 use Rattle.library_model.specs.declared.limits.TheConstants.{MOST_OPENS}
-use Rattle.library_model.specs.Named.{Named}
+use Rattle.library_model.specs.Named.{Named, same_name}
 use Rattle.library_steps.specs.State.{OpenState}
 use Rattle.job_table.specs.declared.reads.OpenReads.{OpenReads}
 
@@ -66,6 +66,10 @@ pub record HasRoomForAll (count room : ℕ) : Type 0 where
 -- over one of its members
 abbrev pub is_over : ℕ → List ℕ × OpenState → Bool
 is_over member entry = list_any (λ base. base == member) entry.1.members
+
+-- of the file
+abbrev pub is_of : (file : List ℕ) → List ℕ × OpenState → Bool
+is_of file entry = same_name file entry.1.file
 
 abbrev pub has_committed : List ℕ × OpenState → Bool
 has_committed entry = entry.1.commit

@@ -6,7 +6,7 @@ use Rattle.lock_table.specs.declared.lock.Lock.{Lock}
 use Rattle.library_model.specs.Named.{Named}
 use Rattle.library_steps.specs.State.{MemberStatus, JobState}
 use Rattle.library_steps.specs.Checkpoint.{lesser}
-use Rattle.library_steps.specs.Uses.{first_job, has_open_over, has_changed}
+use Rattle.library_steps.specs.Uses.{first_job, has_open_of, has_open_over, has_changed}
 
 -- by its opens or by its open commit cycle
 abbrev pub has_in_use : ℕ → (number : ℕ) → JobState → Bool
@@ -19,6 +19,10 @@ first_user member jobs = first_job (has_in_use member) 1 jobs
 -- the least job that has changed the member in its open commit cycle
 abbrev pub first_changer : ℕ → List JobState → Option ℕ
 first_changer member jobs = first_job (λ number job. has_changed member job) 1 jobs
+
+-- the least job that has an open of the file
+abbrev pub first_opener : (file : List ℕ) → List JobState → Option ℕ
+first_opener file jobs = first_job (λ number job. has_open_of file job) 1 jobs
 
 -- the job has begun, where so many have
 pub record HasBegun (count number : ℕ) : Type 0 where

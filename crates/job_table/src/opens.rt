@@ -4,7 +4,7 @@ ghost use Rattle.std.specs.List.{list_any};
 ghost use Rattle.library_model.specs.declared.limits.TheConstants.{MOST_OPENS};
 ghost use Rattle.library_model.specs.Named.{named, same_name};
 ghost use Rattle.job_table.specs.OpenChanges.{CanMake, open_after};
-ghost use Rattle.job_table.specs.Opens.{state_in, states_of, is_committed_in, has_committed, is_over};
+ghost use Rattle.job_table.specs.Opens.{state_in, states_of, is_committed_in, has_committed, is_of, is_over};
 
 use crate::open::Open;
 use field_types::names::Name;
@@ -124,6 +124,18 @@ impl Opens {
     {
         for entry in &self.opens {
             if entry.1.is_over(member) {
+                return true;
+            }
+        }
+        false
+    }
+
+    /// Whether one of them is of the file.
+    pub fn are_of(&self, file: &Name) -> bool
+        ensures { result ≡ list_any (is_of file.now) (states_of self.now) }
+    {
+        for entry in &self.opens {
+            if *file == entry.1.file() {
                 return true;
             }
         }

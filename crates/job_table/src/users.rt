@@ -2,10 +2,11 @@
 ghost use Rattle.std.specs.Prelude.{◌≡◌, ◌≤◌, length, map, option_map};
 ghost use Rattle.std.specs.List.{filter_map};
 ghost use Rattle.library_steps.specs.Checkpoint.{lesser, least_of};
-ghost use Rattle.job_table.specs.Users.{first_user, first_changer, cycle_starts};
+ghost use Rattle.job_table.specs.Users.{first_user, first_changer, first_opener, cycle_starts};
 
 use crate::job::Job;
 use crate::jobs::Jobs;
+use field_types::names::Name;
 
 impl Jobs {
     /// The first job that has an open over the member, or a change of it in its open commit cycle.
@@ -20,6 +21,13 @@ impl Jobs {
         ensures { result ≡ first_changer member self.now.jobs }
     {
         first_changer(self.all(), member)
+    }
+
+    /// The first job that has an open of the file.
+    pub fn first_opener(&self, file: &Name) -> Option<u32>
+        ensures { result ≡ first_opener file.now self.now.jobs }
+    {
+        first_opener(self.all(), file)
     }
 
     /// The sequence of the entry with which the first of the open commit cycles began.
@@ -59,6 +67,18 @@ fn first_changer(jobs: &[Job], member: u32) -> Option<u32>
 {
     for (i, job) in jobs.iter().enumerate() {
         if job.cycle().undos().have_member(member) {
+            return Some(i as u32 + 1);
+        }
+    }
+    None
+}
+
+fn first_opener(jobs: &[Job], file: &Name) -> Option<u32>
+    requires { length jobs.now ≤ 4294967295 }
+    ensures { result ≡ first_opener file.now (map (λ job. job.state) jobs.now) }
+{
+    for (i, job) in jobs.iter().enumerate() {
+        if job.opens().are_of(file) {
             return Some(i as u32 + 1);
         }
     }

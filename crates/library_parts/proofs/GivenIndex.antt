@@ -1,6 +1,6 @@
 -- The kept paths are those of a library still, when slots are given to a member one after the other and the moves of all are made in them; and
 -- when these are taken back.
-use Rattle.std.proofs.Common.{ℕ, suc, ◌==◌, ◌+◌, ◌*◌, ◌<◌, ◌≤◌, ◌≡◌, ◌≢◌, Bool, true, false, cond, inl, inr, List, [], ◌∷◌, ◌++◌, length, map, get_or, refl, sym, ap, arith, ◌∙◌, subst}
+use Rattle.std.proofs.Common.{ℕ, suc, ◌==◌, ◌+◌, ◌*◌, ◌<◌, ◌≤◌, ◌≡◌, ◌≢◌, Bool, true, false, cond, inl, inr, List, [], ◌∷◌, length, map, get_or, refl, sym, ap, arith, ◌∙◌, subst}
 use Rattle.std.specs.Prelude.{All, Any, filter, reverse}
 use Rattle.std.specs.List.{AllByRecursion, AllZip}
 use Rattle.std.proofs.lemmas.Bool.{cases_eq}
@@ -25,14 +25,17 @@ use Rattle.path_set.proofs.UndoLemmas.{moves-undone, over-ordered, undo-made}
 use Rattle.job_table.specs.Opens.{OpenOrder}
 use Rattle.job_table.specs.Table.{changes_held}
 use Rattle.library_model.specs.Named.{Named}
+use Rattle.library_paths.specs.AllPaths.{all_paths}
+use Rattle.library_paths.specs.KeptOnce.{with_entries}
+use Rattle.library_paths.proofs.KeptLemmas.{kept-with}
 use Rattle.library_steps.specs.State.{FileState, JobState}
 use Rattle.range_images.specs.declared.slot_given.SlotGiven.{SlotGiven}
 use Rattle.range_images.specs.Given.{place_given}
 use Rattle.given_changes.specs.GivenChanges.{changes_given}
-use Rattle.library_parts.specs.Indexed.{AreOfBytes, IsOfFile, ArePaths, OpensRead, moves_of_job, changes_on, IsIndexed}
+use Rattle.library_parts.specs.Indexed.{AreOfBytes, ArePaths, OpensRead, moves_of_job, changes_on, IsIndexed}
 use Rattle.library_parts.proofs.IndexMoves.{changes-held}
-use Rattle.library_parts.proofs.IndexPaths.{any-own, any-with, have-with, moves-stay, moves-with, of-file, orders-stay, over-other, owned-with, room-fewer, single-with, with_entries}
-use Rattle.library_parts.proofs.IndexStatus.{files-stay}
+use Rattle.library_parts.proofs.IndexPaths.{IsOfOwner, any-own, any-with, kept-of, moves-stay, moves-with, of-file, orders-stay, over-other, room-fewer}
+use Rattle.library_parts.proofs.IndexShared.{files-stay}
 
 -- ---- how many moves they have in a path
 
@@ -89,7 +92,7 @@ module _ (number : ℕ) (given : List SlotGiven) (slots : List Slot) (old new : 
       (fits-formats (is_over number path.item.spec) (length path.item.spec.formats)) (spare path.number)))
 
   -- those of other members have none of the moves
-  pub room-others : (files : Named FileState) (member changes : ℕ) → All (λ (path : Numbered KeptPath). IsOfFile files path.item.spec) old.paths → member ≢ number
+  pub room-others : (files : Named FileState) (member changes : ℕ) → All (λ (path : Numbered KeptPath). IsOfOwner files path.item.spec) old.paths → member ≢ number
       → HaveRoom member changes old → HaveRoom member changes new
   room-others files member changes owned differs had =
       subst (λ (paths : NumberedPaths). All (λ (path : Numbered KeptPath). Any (λ (f : PathFormat). f.member ≡ member) path.item.spec.formats
@@ -98,7 +101,7 @@ module _ (number : ℕ) (given : List SlotGiven) (slots : List Slot) (old new : 
       (with_entries entries) old.paths
       (λ k d low any. one (get_or old.paths k d) (owned k d low) (had k d low) (given-few number old.paths shared k d low given slots) any))
     where
-      one : (path : Numbered KeptPath) → IsOfFile files path.item.spec
+      one : (path : Numbered KeptPath) → IsOfOwner files path.item.spec
           → (Any (λ (f : PathFormat). f.member ≡ member) path.item.spec.formats → changes * length path.item.spec.formats ≤ spare_of path.number old)
           → count_in path.number made ≤ length given * cond (is_over number path.item.spec) (length path.item.spec.formats) 0
           → Any (λ (f : PathFormat). f.member ≡ member) path.item.spec.formats → changes * length path.item.spec.formats ≤ spare_of path.number new
@@ -117,20 +120,17 @@ module _ (number : ℕ) (given : List SlotGiven) (slots : List Slot) (old new : 
       → LeadTo (changes_given number given slots) before after → HaveRoom number (changes_on number jobs + length given) old → AreOfBytes after → IsIndexed files before jobs orders moves old
       → IsIndexed files after jobs orders moves new
   IsIndexed-given files before after jobs orders moves lead room bytes indexed = record {
-    paths = subst (ArePaths files after) (sym is) (record {
-      over = many-over (changes_given number given slots) before after old.paths lead shared indexed.paths.over;
-      owned = owned-with entries files old.paths indexed.paths.owned;
-      there = have-with entries files old.paths indexed.paths.there;
-      single = single-with entries old.paths indexed.paths.single;
-    });
+    paths = subst (ArePaths files after) (sym is)
+        (kept-with entries old.paths (all_paths files) before after (many-over (changes_given number given slots) before after old.paths lead shared indexed.paths.over) indexed.paths);
     orders = subst (λ (p : NumberedPaths). AllZip (OpensRead files p) jobs orders) (sym is)
         (orders-stay files files old.paths (map (with_entries entries) old.paths) (files-stay files) (any-with entries old.paths) jobs orders indexed.orders);
     moves = indexed.moves ∙ sym (moves-stay old.paths new.paths (λ c. ap (moves_in c) is ∙ moves-with entries c old.paths) jobs);
     room = λ member. elim (cases_eq member number) [
       | inl same ↦ subst (λ (n : ℕ). HaveRoom n (changes_on n jobs) new) (sym same) (room-given (changes_on number jobs) room)
-      | inr differs ↦ room-others files member (changes_on member jobs) indexed.paths.owned differs (indexed.room member)
+      | inr differs ↦ room-others files member (changes_on member jobs) (kept-of files before old.paths indexed.views shared indexed.paths) differs (indexed.room member)
     ];
     bytes = bytes;
+    views = indexed.views;
   }
 
 -- ---- room for all of them, and for taking them back
@@ -213,14 +213,14 @@ module _ (number : ℕ) (given : List SlotGiven) (slots : List Slot) (old new : 
       (count_in path.number (moves_of_all (changes_given number given slots) old.paths)) (spare_of path.number old) (spare_of path.number new) (had k d low any)
       (given-few number old.paths shared k d low given slots) (fits-formats (is_over number path.item.spec) (length path.item.spec.formats)) (spare path.number))
 
-  twice-others : (files : Named FileState) (member changes : ℕ) → All (λ (path : Numbered KeptPath). IsOfFile files path.item.spec) old.paths → member ≢ number
+  twice-others : (files : Named FileState) (member changes : ℕ) → All (λ (path : Numbered KeptPath). IsOfOwner files path.item.spec) old.paths → member ≢ number
       → HaveRoom member changes old → HaveRoom member changes new
   twice-others files member changes owned differs had =
       subst (λ (paths : NumberedPaths). All (λ (path : Numbered KeptPath). Any (λ (f : PathFormat). f.member ≡ member) path.item.spec.formats
       → changes * length path.item.spec.formats ≤ spare_of path.number new) paths) (sym same)
       (λ k d low any. one (get_or old.paths k d) (owned k d low) (had k d low) (given-few number old.paths shared k d low given slots) any)
     where
-      one : (path : Numbered KeptPath) → IsOfFile files path.item.spec
+      one : (path : Numbered KeptPath) → IsOfOwner files path.item.spec
           → (Any (λ (f : PathFormat). f.member ≡ member) path.item.spec.formats → changes * length path.item.spec.formats ≤ spare_of path.number old)
           → count_in path.number (moves_of_all (changes_given number given slots) old.paths) ≤ length given * cond (is_over number path.item.spec) (length path.item.spec.formats) 0
           → Any (λ (f : PathFormat). f.member ≡ member) path.item.spec.formats → changes * length path.item.spec.formats ≤ spare_of path.number new
@@ -244,7 +244,8 @@ module _ (number : ℕ) (given : List SlotGiven) (slots : List Slot) (old new : 
     moves = indexed.moves ∙ ap (λ (p : NumberedPaths). map (moves_of_job p) jobs) (sym same);
     room = λ member. elim (cases_eq member number) [
       | inl own ↦ subst (λ (n : ℕ). HaveRoom n (changes_on n jobs) new) (sym own) (twice-own (changes_on number jobs) room)
-      | inr differs ↦ twice-others files member (changes_on member jobs) indexed.paths.owned differs (indexed.room member)
+      | inr differs ↦ twice-others files member (changes_on member jobs) (kept-of files members old.paths indexed.views shared indexed.paths) differs (indexed.room member)
     ];
     bytes = indexed.bytes;
+    views = indexed.views;
   }

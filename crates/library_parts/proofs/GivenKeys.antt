@@ -1,69 +1,202 @@
--- Whether two records have one key that may not, once slots were given to a member: the one path over it tells.
-use Rattle.std.proofs.Common.{◌≡◌, ℕ, ◌≤◌, Bool, true, false, List, [], ◌∷◌, length, Option, Some, None, Result, Ok, Err, is_some, if◌then◌else◌, refl, sym, ap, ◌∙◌, subst, arith}
-use Rattle.std.specs.Prelude.{All}
-use Rattle.std.specs.List.{AllByRecursion, IsDistinct}
+-- Whether two records have one key that may not, once slots were given to a member: each unique path over it tells.
+use Rattle.std.proofs.Common.{◌≡◌, ◌≢◌, ℕ, zero, suc, ◌+◌, ◌<◌, ◌≤◌, ◌&&◌, ◌==◌, nat_lt, Bool, true, false, cond, List, [], ◌∷◌, ◌++◌, drop, length, map, slice_get, Contains, Option, Some, None}
+use Rattle.std.proofs.Common.{Result, Ok, Err, is_some, if◌then◌else◌, refl, sym, ap, ◌∙◌, subst, arith}
+use Rattle.std.specs.Prelude.{All, flat_map}
+use Rattle.std.specs.List.{AllByRecursion, IsDistinct, find}
 use Rattle.std.specs.Map.{keys_of}
-use Rattle.std.specs.Option.{option_and_then, option_map}
+use Rattle.std.specs.Option.{option_map}
+use Rattle.std.proofs.lemmas.Bool.Decides.{nat_tests}
 use Rattle.std.proofs.lemmas.List.Elements.{All-from_recursion, recursion_from_All}
 use Rattle.dds_physical.specs.declared.physical_files.PhysicalSpec.{PhysicalSpec}
+use Rattle.dds_logical.specs.declared.views.LogicalSpec.{LogicalSpec}
+use Rattle.dds_logical.specs.declared.views.LogicalSpec.TheVariants.{Simple, Multi, Join}
 use Rattle.file_model.specs.declared.paths.PathSpec.{PathSpec}
 use Rattle.file_model.specs.FilePaths.{physical_path}
 use Rattle.file_model.specs.Paths.{repeated_in}
 use Rattle.record_fmt.specs.declared.formats.Field.{Field}
 use Rattle.record_fmt.specs.Layout.{record_length}
-use Rattle.logical_model.specs.Bases.{FileSpec, PhysicalFile}
+use Rattle.logical_model.specs.Bases.{FileSpec, PhysicalFile, LogicalFile}
+use Rattle.logical_model.specs.FilePaths.{is_over, logical_paths, views_path}
+use Rattle.logical_laws.proofs.ListLemmas.{each-append}
 use Rattle.member_slots.specs.declared.slot.Slot.{Slot}
 use Rattle.member_slots.specs.declared.slot.Slot.TheVariants.{Live, Deleted}
-use Rattle.member_slots.specs.Member.{MemberState, FitsSlot}
+use Rattle.member_slots.specs.Member.{FitsSlot}
 use Rattle.member_slots.specs.Members.{Numbered, NumberedMembers, AreMembers, member_of}
 use Rattle.access_path.specs.PathBytes.{IsInBytes}
 use Rattle.path_entrants.specs.Repeated.{TellsRepeated}
 use Rattle.path_set.specs.declared.moves.PathMove.{PathMove}
-use Rattle.path_set.specs.EqualKeys.{found_or, repeated_of}
-use Rattle.path_set.specs.KeptPaths.{KeptPath, KeptPaths, AreShared}
+use Rattle.path_set.specs.KeptPaths.{KeptPath, KeptPaths, NumberedPaths, AreShared, entries_of}
 use Rattle.path_set.proofs.ShareLemmas.{judged}
-use Rattle.file_catalogue.specs.Owners.{AreApart, Owns, owner}
-use Rattle.file_catalogue.specs.Physical.{AllArePhysical, IsPhysical}
+use Rattle.file_catalogue.specs.Owners.{Owns, has_number}
 use Rattle.file_catalogue.proofs.NameLemmas.{some-equal}
-use Rattle.file_catalogue.proofs.OwnerLemmas.{owner-owns}
-use Rattle.physical_paths.specs.KeyedFiles.{IsKeyed, IsRecordSlot, HasRecordsOf}
-use Rattle.physical_paths.proofs.RecordLemmas.{path-bytes}
+use Rattle.physical_paths.specs.KeyedFiles.{IsRecordSlot, HasRecordsOf}
 use Rattle.job_table.specs.Opens.{OpenOrder}
 use Rattle.library_model.specs.Named.{Named, named, same_name}
 use Rattle.library_model.specs.declared.replies.Reply.{Reply}
 use Rattle.library_model.specs.declared.replies.Reply.TheVariants.{DuplicateKey}
+use Rattle.library_paths.specs.AllPaths.{all_paths, paths_by}
+use Rattle.library_paths.proofs.KeptLemmas.{kept-once}
+use Rattle.library_paths.proofs.NumberLemmas.{each-at}
+use Rattle.library_paths.proofs.OwnerLemmas.{each-found, member-path, paths-contain}
+use Rattle.library_steps.specs.LogicalFiles.{bases_in}
 use Rattle.library_steps.specs.Refusals.{◌>>=◌, refuse_with}
-use Rattle.library_steps.specs.State.{State, FileState, fields_of, format_in, keys_in, memory_of}
-use Rattle.library_steps.specs.UniqueKeys.{UniquePath, all_apart, unique_paths}
+use Rattle.library_steps.specs.State.{State, Memory, FileState, MemberStatus, fields_of, memory_of}
+use Rattle.library_steps.specs.UniqueKeys.{UniquePath, all_apart, has_member, own_unique, unique_paths, uniques_by, view_unique}
 use Rattle.range_images.specs.declared.slot_given.SlotGiven.{SlotGiven}
-use Rattle.library_parts.specs.Given.{given_to, members_given, with_given, FitsMember, MayGive, first_number, repeated_at, repeated_file, repeated_key, repeated_of_owner, repeated_over}
-use Rattle.library_parts.specs.Indexed.{HasBytes, IsIndexed, member_path}
+use Rattle.library_parts.specs.declared.stop.Stop.{Stop}
+use Rattle.library_parts.specs.declared.stop.Stop.TheVariants.{NoMemory, Refused}
+use Rattle.library_parts.specs.Answers.{MayAllow}
+use Rattle.library_parts.specs.Given.{given_to, members_given, with_given, AreTold, FitsMember, IsTold, MayGive}
+use Rattle.library_parts.specs.Indexed.{AreViews, HasBytes, IsIndexed, IsSimple, IsView, IsViewBeside}
 use Rattle.library_parts.specs.Keyed.{AllAreKeyed}
 use Rattle.library_parts.specs.Lawful.{HoldsValues, IsLibrary}
 use Rattle.library_parts.specs.Slots.{MayStand}
 use Rattle.library_parts.proofs.GivenLemmas.{given-hold}
-use Rattle.library_parts.proofs.IndexLooks.{records-of}
-use Rattle.library_parts.proofs.IndexNew.{path-some}
-use Rattle.library_parts.proofs.KeyPlanLemmas.{paths-are, unowned-none}
-use Rattle.library_parts.proofs.MemberLemmas.{HasRecords-member_of, is_some-IsSome, member_of-with}
-use Rattle.library_parts.proofs.OpenLemmas.{first-entries, first-path, physical-is}
+use Rattle.library_parts.proofs.IndexLooks.{bases-have, fields-are, records-of, view-of}
+use Rattle.library_parts.proofs.IndexLaws.{laws}
+use Rattle.library_parts.proofs.MemberLemmas.{AllByRecursion-get, HasRecords-member_of}
+use Rattle.library_parts.proofs.RemadeLemmas.{at-next, remade-records}
 
--- a file that a name finds among physical ones is one
-physical-named : (name : List ℕ) (files : Named FileState) (file : FileState) → AllArePhysical files → named name files ≡ Some file → IsPhysical file.spec
-physical-named name [] file all at = absurd cc
-physical-named name (entry ∷ files) file all at =
-    elim (same_name name entry.0) as (λ b. (if b then Some entry.1 else named name files) ≡ Some file → IsPhysical file.spec) [
-      | true ↦ λ e. subst (λ (f : FileState). IsPhysical f.spec) (some-equal e) all.0
-      | false ↦ λ e. physical-named name files file all.1 e
-    ] at
+-- ---- lists
+
+each-flat : {A B : Type 0} (Q : B → Type 0) (f : A → List B) (xs : List A) → AllByRecursion (λ (x : A). AllByRecursion Q (f x)) xs → AllByRecursion Q (flat_map f xs)
+each-flat Q f [] all = tt
+each-flat Q f (x ∷ xs) all = each-append Q (f x) (flat_map f xs) all.0 (each-flat Q f xs all.1)
+
+each-front : {B : Type 0} (Q : B → Type 0) (xs ys : List B) → AllByRecursion Q (xs ++ ys) → AllByRecursion Q xs
+each-front Q [] ys all = tt
+each-front Q (x ∷ xs) ys all = (all.0, each-front Q xs ys all.1)
+
+each-back : {B : Type 0} (Q : B → Type 0) (xs ys : List B) → AllByRecursion Q (xs ++ ys) → AllByRecursion Q ys
+each-back Q [] ys all = all
+each-back Q (x ∷ xs) ys all = each-back Q xs ys all.1
+
+-- what holds of all of them holds of those of one place
+flat-at : {A B : Type 0} (Q : B → Type 0) (f : A → List B) (xs : List A) (place : ℕ) (x : A) → AllByRecursion Q (flat_map f xs) → slice_get xs place ≡ Some x → AllByRecursion Q (f x)
+flat-at Q f [] place x all at = absurd cc
+flat-at {A = A} Q f (y ∷ xs) zero x all at = subst (λ (z : A). AllByRecursion Q (f z)) (some-equal at) (each-front Q (f y) (flat_map f xs) all)
+flat-at Q f (y ∷ xs) (suc place) x all at = flat-at Q f xs place x (each-back Q (f y) (flat_map f xs) all) at
+
+some-at : {A : Type 0} (xs : List A) (place : ℕ) → place < length xs → (x : A) × (slice_get xs place ≡ Some x)
+some-at [] place low = absurd (omega (arith, low))
+some-at (x ∷ xs) zero low = (x, refl)
+some-at (x ∷ xs) (suc place) low = some-at xs place (omega (arith, low))
+
+none-behind : {A : Type 0} (xs : List A) (place : ℕ) → length xs ≤ place → drop place xs ≡ []
+none-behind [] zero all = refl
+none-behind [] (suc place) all = refl
+none-behind (x ∷ xs) zero all = absurd (omega (arith, all))
+none-behind (x ∷ xs) (suc place) all = none-behind xs place (omega (arith, all))
+
+-- ---- unique paths, file by file
+
+-- where the first of them are apart, the others decide
+pub apart-append : (xs ys : List UniquePath) (m : Memory) → all_apart xs m ≡ Ok true → all_apart (xs ++ ys) m ≡ all_apart ys m
+apart-append [] ys m is = refl
+apart-append (u ∷ xs) ys m is =
+    elim (refuse_with (λ rrn. DuplicateKey u.file rrn) (repeated_in u.path m.members)) as (λ r. (r >>= (λ _. all_apart xs m)) ≡ Ok true → (r >>= (λ _. all_apart (xs ++ ys) m)) ≡ all_apart ys m) [
+      | Ok b ↦ λ e. apart-append xs ys m e
+      | Err reply ↦ λ e. absurd cc
+    ] is
+
+-- and where they aren't, they do
+pub apart-refused : (xs ys : List UniquePath) (m : Memory) (reply : Reply) → all_apart xs m ≡ Err reply → all_apart (xs ++ ys) m ≡ Err reply
+apart-refused [] ys m reply is = absurd cc
+apart-refused (u ∷ xs) ys m reply is =
+    elim (refuse_with (λ rrn. DuplicateKey u.file rrn) (repeated_in u.path m.members)) as (λ r. (r >>= (λ _. all_apart xs m)) ≡ Err reply
+    → (r >>= (λ _. all_apart (xs ++ ys) m)) ≡ Err reply) [
+      | Ok b ↦ λ e. apart-refused xs ys m reply e
+      | Err other ↦ λ e. e
+    ] is
+
+-- those of some files
+abbrev pub uniques_from : (member : ℕ) → Memory → Named FileState → List UniquePath
+uniques_from member m files = flat_map (λ entry. uniques_by entry.1.spec m member entry) files
+
+-- what is known of a file at a place
+abbrev pub TellsAt : (files : Named FileState) → NumberedPaths → (member place : ℕ) → Result (Unit {0}) Stop → Type 0
+TellsAt files paths member place result =
+    (m later : Memory) (entry : List ℕ × FileState) → m.files ≡ files → slice_get files place ≡ Some entry → IsSimple entry.1.spec
+    → AllByRecursion (IsTold later.members paths) (uniques_by entry.1.spec m member entry) → MayAllow result (all_apart (uniques_by entry.1.spec m member entry) later)
+
+-- and of all of them
+abbrev pub TellsAll : (files : Named FileState) → NumberedPaths → (member : ℕ) → Result (Unit {0}) Stop → Type 0
+TellsAll files paths member result =
+    (m later : Memory) → m.files ≡ files → AreViews files → AreTold member m later.members paths → MayAllow result (all_apart (unique_paths member m) later)
+
+-- the files before a place have none; those from it on decide
+pub record AreApartTo (files : Named FileState) (paths : NumberedPaths) (member place : ℕ) : Type 0 where
+  pub rest : (m later : Memory) → m.files ≡ files → AreViews files → AreTold member m later.members paths
+      → all_apart (unique_paths member m) later ≡ all_apart (uniques_from member m (drop place files)) later
+
+simple-of : (files : Named FileState) (spec : FileSpec) → IsViewBeside files spec → IsSimple spec
+simple-of files (PhysicalFile spec) is = tt
+simple-of files (LogicalFile spec) is = is.simple
+
+module _ (files : Named FileState) (paths : NumberedPaths) (member : ℕ) where
+  pub apart-first : AreApartTo files paths member 0
+  apart-first = record { rest = λ m later same views told. ap (λ (fs : Named FileState). all_apart (uniques_from member m fs) later) same }
+
+  -- the file at the place, and those behind it
+  split-at : (place : ℕ) (entry : List ℕ × FileState) (m : Memory) → slice_get files place ≡ Some entry
+      → uniques_from member m (drop place files) ≡ uniques_by entry.1.spec m member entry ++ uniques_from member m (drop (suc place) files)
+  split-at place entry m at = ap (uniques_from member m) (at-next files place entry at)
+
+  told-at : (place : ℕ) (entry : List ℕ × FileState) (m later : Memory) → m.files ≡ files → AreTold member m later.members paths → slice_get files place ≡ Some entry
+      → AllByRecursion (IsTold later.members paths) (uniques_by entry.1.spec m member entry)
+  told-at place entry m later same told at =
+      flat-at (IsTold later.members paths) (λ (e : List ℕ × FileState). uniques_by e.1.spec m member e) files place entry
+      (subst (λ (fs : Named FileState). AllByRecursion (IsTold later.members paths) (uniques_from member m fs)) same told) at
+
+  simple-at : (place : ℕ) (entry : List ℕ × FileState) → AreViews files → slice_get files place ≡ Some entry → IsSimple entry.1.spec
+  simple-at place entry views at =
+      simple-of files entry.1.spec (AllByRecursion-get (λ (e : List ℕ × FileState). IsViewBeside files e.1.spec) files place entry views at)
+
+  pub apart-next : (place : ℕ) → place < length files → TellsAt files paths member place (Ok tt) → AreApartTo files paths member place → AreApartTo files paths member (place + 1)
+  apart-next place low tells is = record {
+    rest = λ m later same views told.
+        let here = some-at files place low in
+        let behind : suc place ≡ place + 1 = omega arith in
+        is.rest m later same views told
+        ∙ ap (λ (us : List UniquePath). all_apart us later) (split-at place here.0 m here.1)
+        ∙ apart-append (uniques_by here.0.1.spec m member here.0) (uniques_from member m (drop (suc place) files)) later
+        (tells m later here.0 same here.1 (simple-at place here.0 views here.1) (told-at place here.0 m later same told here.1))
+        ∙ ap (λ (n : ℕ). all_apart (uniques_from member m (drop n files)) later) behind;
+  }
+
+  pub apart-failed : (place : ℕ) (stop : Stop) → place < length files → TellsAt files paths member place (Err stop) → AreApartTo files paths member place → TellsAll files paths member (Err stop)
+  apart-failed place NoMemory low tells is = λ m later same views told. tt
+  apart-failed place (Refused reply) low tells is = λ m later same views told.
+      let here = some-at files place low in
+      is.rest m later same views told
+      ∙ ap (λ (us : List UniquePath). all_apart us later) (split-at place here.0 m here.1)
+      ∙ apart-refused (uniques_by here.0.1.spec m member here.0) (uniques_from member m (drop (suc place) files)) later reply
+      (tells m later here.0 same here.1 (simple-at place here.0 views here.1) (told-at place here.0 m later same told here.1))
+
+  pub apart-end : (place : ℕ) → length files ≤ place → AreApartTo files paths member place → TellsAll files paths member (Ok tt)
+  apart-end place all is = λ m later same views told.
+      is.rest m later same views told ∙ ap (λ (fs : Named FileState). all_apart (uniques_from member m fs) later) (none-behind files place all)
+
+-- one path
+pub one-apart : (result : Result (Unit {0}) Stop) (uniques : List UniquePath) (unique : UniquePath) (paths : NumberedPaths) (later : Memory) → uniques ≡ unique ∷ []
+    → AllByRecursion (IsTold later.members paths) uniques → (IsTold later.members paths unique → MayAllow result (all_apart (unique ∷ []) later)) → MayAllow result (all_apart uniques later)
+one-apart result uniques unique paths later is told tells =
+    subst (λ (us : List UniquePath). MayAllow result (all_apart us later)) (sym is)
+    (tells (subst (λ (us : List UniquePath). AllByRecursion (IsTold later.members paths) us) is told).0)
+
+-- what a path has repeated
+pub repeated-told : (file : List ℕ) (spec : PathSpec) (rrn : ℕ) (later : Memory) → repeated_in spec later.members ≡ Some rrn
+    → all_apart (record { file = file; path = spec } ∷ []) later ≡ Err (DuplicateKey file rrn)
+repeated-told file spec rrn later is = ap (λ (o : Option ℕ). refuse_with (λ r. DuplicateKey file r) o >>= (λ _. Ok true)) is
+
+pub none-told : (file : List ℕ) (spec : PathSpec) (later : Memory) → repeated_in spec later.members ≡ None → all_apart (record { file = file; path = spec } ∷ []) later ≡ Ok true
+none-told file spec later is = ap (λ (o : Option ℕ). refuse_with (λ r. DuplicateKey file r) o >>= (λ _. Ok true)) is
+
+-- ---- slots given
 
 record-slot : (fields : List Field) (long : ℕ) (slot : Slot) → long ≡ record_length fields → FitsSlot long slot → HoldsValues fields slot → HasBytes slot → IsRecordSlot fields slot
 record-slot fields long (Live image) is fits values bytes = record { long = fits ∙ is; held = values; bytes = bytes }
 record-slot fields long Deleted is fits values bytes = tt
-
-refused-by : (reply : ℕ → Reply) (o : Option ℕ) (r : Option Reply) → option_map reply o ≡ r → (refuse_with reply o >>= (λ _. Ok true)) ≡ refuse_with (λ (q : Reply). q) r
-refused-by reply None r is = ap (λ (x : Option Reply). refuse_with (λ (q : Reply). q) x) is
-refused-by reply (Some rrn) r is = ap (λ (x : Option Reply). refuse_with (λ (q : Reply). q) x) is
 
 each-record : (s : State) (number : ℕ) (given : List SlotGiven) (name : List ℕ) (file : FileState) (long : ℕ) → long ≡ record_length (fields_of file) → Owns s.files name file number
     → AllByRecursion (FitsMember long) given → AllByRecursion (λ (g : SlotGiven). MayStand s number g.slot) given → AllByRecursion (λ (g : SlotGiven). HasBytes g.slot) given
@@ -72,83 +205,97 @@ each-record s number [] name file long is owns fits values bytes = tt
 each-record s number (g ∷ given) name file long is owns fits values bytes =
     (record-slot (fields_of file) long g.slot is fits.0.fits (values.0 name file owns) bytes.0, each-record s number given name file long is owns fits.1 values.1 bytes.1)
 
+has-status : (number : ℕ) (members : Named MemberStatus) → has_member number members ≡ true → has_number number members ≡ true
+has-status number members = by (find (λ entry. entry.1.number == number) members)
+  where
+    by : (o : Option (List ℕ × MemberStatus)) → is_some o ≡ true → is_some (option_map (λ (entry : List ℕ × MemberStatus). entry.1) o) ≡ true
+    by None has = absurd cc
+    by (Some entry) has = refl
+
 module _ (s : State) (number : ℕ) (given : List SlotGiven) (orders : List (Named OpenOrder)) (moves : List (List (List PathMove))) (kept now : KeptPaths) (lawful : IsLibrary s) (are : AreMembers s.members)
-    (before : IsIndexed s.files s.members s.jobs orders moves kept) (indexed : IsIndexed s.files (members_given number given s.members) s.jobs orders moves now) (shared : AreShared now.paths)
-    (physical : AllArePhysical s.files) (distinct : IsDistinct same_name (keys_of s.files)) (apart : AreApart s.files) (keyed : AllAreKeyed s.files) (may : MayGive s number given)
+    (before : IsIndexed s.files s.members s.jobs orders moves kept) (indexed : IsIndexed s.files (members_given number given s.members) s.jobs orders moves now)
+    (begun : AreShared kept.paths) (shared : AreShared now.paths) (distinct : IsDistinct same_name (keys_of s.files)) (keyed : AllAreKeyed s.files) (may : MayGive s number given)
     (bytes : AllByRecursion (λ (g : SlotGiven). HasBytes g.slot) given) where
   abbrev later : NumberedMembers
   later = members_given number given s.members
 
-  abbrev wanted : Result Bool Reply
-  wanted = all_apart (unique_paths number (memory_of s)) (with_given number given (memory_of s))
-
   -- each slot of the member is a record of its file then
-  records-after : (name : List ℕ) (file : FileState) → Owns s.files name file number → HasRecordsOf (fields_of file) number (members_given number given s.members)
-  records-after name file owns =
+  given-records : (name : List ℕ) (file : FileState) → Owns s.files name file number → All (IsRecordSlot (fields_of file)) (given_to given (member_of number s.members)).slots
+  given-records name file owns =
       let member = member_of number s.members in
       let has = HasRecords-member_of (fields_of file) number s.members (lawful.members name file number owns) in
       let old = recursion_from_All (IsRecordSlot (fields_of file)) member.slots (records-of s name file number orders moves kept lawful are before owns) in
       let each = each-record s number given name file member.record_length has.long owns may.takes.each may.values bytes in
-      let all = given-hold (IsRecordSlot (fields_of file)) tt given member.slots old each in
-      subst (λ (m : MemberState). All (IsRecordSlot (fields_of file)) m.slots) (sym (member_of-with number (given_to given member) s.members (is_some-IsSome _ may.there)))
-      (All-from_recursion (IsRecordSlot (fields_of file)) (given_to given member).slots all)
+      All-from_recursion (IsRecordSlot (fields_of file)) (given_to given member).slots (given-hold (IsRecordSlot (fields_of file)) tt given member.slots old each)
 
-  module _ (name : List ℕ) (at : owner number s.files ≡ Some name) (file : FileState) (owns : Owns s.files name file number) (spec : PhysicalSpec) (is : file.spec ≡ PhysicalFile spec) where
-    its-keyed : IsKeyed spec
-    its-keyed = keyed name file spec owns.there is
+  -- and so is each of the others
+  records-then : (name : List ℕ) (file : FileState) (n : ℕ) → Owns s.files name file n → HasRecordsOf (fields_of file) n (members_given number given s.members)
+  records-then = remade-records s number orders moves kept keyed distinct lawful are begun before may.there (given_to given (member_of number s.members)) given-records
 
-    abbrev whole : PathSpec
-    whole = physical_path number spec.format.fields spec.keys
+  -- the path of this specification
+  path-told : (file : List ℕ) (spec : PathSpec) → Contains (all_paths s.files) spec → IsInBytes spec (members_given number given s.members) → (spec.unique ≡ true → length spec.formats ≤ 1)
+      → IsTold (members_given number given s.members) now.paths (record { file = file; path = spec })
+  path-told file spec among in_bytes one = record {
+    there = λ absent.
+        let its = kept-once (all_paths s.files) later now.paths spec shared indexed.paths among in
+        each-at (λ (q : Numbered KeptPath). q.item.spec ≢ spec) its.id its.path now.paths (recursion_from_All (λ (q : Numbered KeptPath). q.item.spec ≢ spec) now.paths absent) its.at its.same;
+    told = λ id path at same.
+        let entries = each-at (λ (q : Numbered KeptPath). q.item.entries ≡ entries_of q.item.spec later) id path now.paths
+        (recursion_from_All (λ (q : Numbered KeptPath). q.item.entries ≡ entries_of q.item.spec later) now.paths indexed.paths.over) at in
+        let tells : TellsRepeated path.spec later = subst (λ (p : PathSpec). TellsRepeated p later) (sym same) (record { bytes = in_bytes; one = one }) in
+        judged path.spec later path.entries entries tells ∙ ap (λ (p : PathSpec). repeated_in p later) same;
+  }
 
-    unique-is : (b : Bool) → spec.keys.unique ≡ b → unique_paths number (memory_of s) ≡ (if b then record { file = name; path = whole } ∷ [] else [])
-    unique-is b same =
-        paths-are (memory_of s) number name file spec physical distinct apart at owns is
-        ∙ ap (λ (u : Bool). if u then record { file = name; path = whole } ∷ [] else []) same
-
-    -- a file that may have no equal keys
-    one-told : spec.keys.unique ≡ true → wanted ≡ refuse_with (λ (r : Reply). r) (repeated_over name (first_number number now.paths) now.paths)
-    one-told unique =
-        let path_is : member_path file.spec number ≡ Some whole = ap (λ (f : FileSpec). member_path f number) is ∙ path-some spec number (its-keyed.some unique) in
-        let first = first-path s.files later now.paths apart indexed.paths shared.ascend name file number owns whole path_is in
-        let entries = first-entries s.files later now.paths apart indexed.paths shared.ascend name file number owns whole path_is in
-        let fields : fields_of file ≡ spec.format.fields = ap (λ (f : FileSpec). (format_in f).fields) is in
-        let in_bytes : IsInBytes whole later =
-        path-bytes spec number later its-keyed (subst (λ (fs : List Field). HasRecordsOf fs number later) fields (records-after name file owns)) in
-        let tells : TellsRepeated first.0.item.spec later =
-        subst (λ (p : PathSpec). TellsRepeated p later) (sym first.3) (record { bytes = in_bytes; one = λ u. (let one : 1 ≤ 1 = omega arith in one) }) in
-        let told : repeated_of first.0.item ≡ repeated_in whole later =
-        judged first.0.item.spec later first.0.item.entries entries tells ∙ ap (λ (p : PathSpec). repeated_in p later) first.3 in
-        ap (λ (us : List UniquePath). all_apart us (with_given number given (memory_of s))) (unique-is true unique)
-        ∙ refused-by (λ rrn. DuplicateKey name rrn) (repeated_in whole later) (repeated_over name (first_number number now.paths) now.paths)
-        (ap (option_map (λ rrn. DuplicateKey name rrn)) (sym told)
-        ∙ shown first.0.number (repeated_of first.0.item)
-        ∙ ap (λ (o : Option KeptPath). repeated_at name (found_or first.0.number (option_and_then repeated_of o) None)) (sym first.2)
-        ∙ ap (λ (o : Option (Numbered KeptPath)). repeated_over name (option_map (λ (p : Numbered KeptPath). p.number) o) now.paths) (sym first.1))
-      where
-        shown : (id : ℕ) (o : Option ℕ) → option_map (λ rrn. DuplicateKey name rrn) o ≡ repeated_at name (found_or id o None)
-        shown id None = refl
-        shown id (Some rrn) = refl
-
-    file-told : wanted ≡ refuse_with (λ (r : Reply). r) (repeated_file name number (Some file) now.paths)
-    file-told = by spec.keys.unique refl ∙ ap (λ (f : FileSpec). refuse_with (λ (r : Reply). r) (if (keys_in f).unique then repeated_over name (first_number number now.paths) now.paths else None)) (sym is)
-      where
-        by : (b : Bool) → spec.keys.unique ≡ b → wanted ≡ refuse_with (λ (r : Reply). r) (if spec.keys.unique then repeated_over name (first_number number now.paths) now.paths else None)
-        by true unique = one-told unique ∙ ap (λ (b : Bool). refuse_with (λ (r : Reply). r) (if b then repeated_over name (first_number number now.paths) now.paths else None)) (sym unique)
-        by false equal =
-            ap (λ (us : List UniquePath). all_apart us (with_given number given (memory_of s))) (unique-is false equal)
-            ∙ ap (λ (b : Bool). refuse_with (λ (r : Reply). r) (if b then repeated_over name (first_number number now.paths) now.paths else None)) (sym equal)
-
-  -- what is found in the path over the member is what the definition refuses
-  pub apart-told : all_apart (unique_paths number (memory_of s)) (with_given number given (memory_of s)) ≡ refuse_with (λ (r : Reply). r) (repeated_key number s.files now.paths)
-  apart-told = by (owner number s.files) refl
+  physical-told : (name : List ℕ) (file : FileState) (spec : PhysicalSpec) → named name s.files ≡ Some file → file.spec ≡ PhysicalFile spec
+      → AllByRecursion (IsTold (members_given number given s.members) now.paths) (own_unique name number spec file.members)
+  physical-told name file spec here is = by spec.keys.unique refl (has_member number file.members) refl
     where
-      by : (o : Option (List ℕ)) → owner number s.files ≡ o → wanted ≡ refuse_with (λ (r : Reply). r) (repeated_key number s.files now.paths)
-      by None none =
-          ap (λ (us : List UniquePath). all_apart us (with_given number given (memory_of s))) (unowned-none (memory_of s) number physical none)
-          ∙ ap (λ (o : Option (List ℕ)). refuse_with (λ (r : Reply). r) (repeated_of_owner number s.files o now.paths)) (sym none)
-      by (Some name) at =
-          let it = owner-owns number name s.files distinct at in
-          let spec = physical-is it.0.spec (physical-named name s.files it.0 physical it.1.there) in
-          file-told name at it.0 it.1 spec.0 spec.1
-          ∙ ap (λ (o : Option FileState). refuse_with (λ (r : Reply). r) (repeated_file name number o now.paths)) (sym it.1.there)
-          ∙ ap (λ (o : Option (List ℕ)). refuse_with (λ (r : Reply). r) (repeated_of_owner number s.files o now.paths)) (sym at)
+      by : (u : Bool) → spec.keys.unique ≡ u → (h : Bool) → has_member number file.members ≡ h
+          → AllByRecursion (IsTold later now.paths) (if u && h then record { file = name; path = physical_path number spec.format.fields spec.keys } ∷ [] else [])
+      by false unique h has = tt
+      by true unique false has = tt
+      by true unique true has =
+          let its_key = keyed name file spec here is in
+          let some = its_key.some unique in
+          let key : nat_lt 0 (length spec.keys.parts) ≡ true = grind (arith, nat_tests, some) in
+          let own = has-status number file.members has in
+          let among = paths-contain s.files name file (physical_path number spec.format.fields spec.keys) here
+          (subst (λ (f : FileSpec). Contains (paths_by s.files file.members f) (physical_path number spec.format.fields spec.keys)) (sym is) (member-path spec file.members number key own)) in
+          let records = subst (λ (fs : List Field). HasRecordsOf fs number later) (fields-are file spec is) (records-then name file number (record { there = here; has = own })) in
+          (path-told name (physical_path number spec.format.fields spec.keys) among (laws.bytes spec number later its_key records) (λ u. (let one : 1 ≤ 1 = omega arith in one)), tt)
+
+  logical-told : (name : List ℕ) (file : FileState) → named name s.files ≡ Some file → (spec : LogicalSpec) → file.spec ≡ LogicalFile spec → IsView (bases_in s.files) spec
+      → AllByRecursion (IsTold (members_given number given s.members) now.paths) (view_unique (memory_of s) name number spec)
+  logical-told name file here (Simple view) is its =
+      let whole = views_path (bases_in s.files) view.keys.unique (view ∷ []) in
+      let among = paths-contain s.files name file whole here
+      (subst (λ (f : FileSpec). Contains (paths_by s.files file.members f) whole) (sym is) (zero, omega arith, refl)) in
+      let in_bytes = recursion_from_All (λ (path : PathSpec). IsInBytes path later) (logical_paths (bases_in s.files) (Simple view))
+      (laws.view_bytes (bases_in s.files) (Simple view) later its.keyed (bases-have s.files later lawful.bases records-then name file (Simple view) here is)) in
+      let told : IsTold later now.paths (record { file = name; path = whole }) = path-told name whole among in_bytes.0 (λ u. (let one : 1 ≤ 1 = omega arith in one)) in
+      elim (view.keys.unique && is_over number whole) as (λ b. AllByRecursion (IsTold later now.paths)
+      (map (λ (path : PathSpec). record { file = name; path = path }) (cond b (whole ∷ []) []))) [
+        | true ↦ (told, tt)
+        | false ↦ tt
+      ]
+  logical-told name file here (Multi views) is its = absurd its.simple
+  logical-told name file here (Join view) is its = absurd its.simple
+
+  file-told : (name : List ℕ) (file : FileState) → named name s.files ≡ Some file
+      → AllByRecursion (IsTold (members_given number given s.members) now.paths) (uniques_by file.spec (memory_of s) number (name, file))
+  file-told name file here = by file.spec refl
+    where
+      by : (its : FileSpec) → file.spec ≡ its → AllByRecursion (IsTold later now.paths) (uniques_by its (memory_of s) number (name, file))
+      by (PhysicalFile spec) is = physical-told name file spec here is
+      by (LogicalFile spec) is = logical-told name file here spec is (view-of s.files name file spec indexed.views here is)
+
+  -- each unique path over the member
+  pub uniques-told : AreTold number (memory_of s) (members_given number given s.members) now.paths
+  uniques-told =
+      each-flat (IsTold later now.paths) (λ (entry : List ℕ × FileState). uniques_by entry.1.spec (memory_of s) number entry) s.files
+      (each-found (λ (name : List ℕ) (file : FileState). AllByRecursion (IsTold later now.paths) (uniques_by file.spec (memory_of s) number (name, file))) s.files distinct file-told)
+
+  -- so what is found in them is what the definition refuses
+  pub given-told : (result : Result (Unit {0}) Stop) → TellsAll s.files now.paths number result
+      → MayAllow result (all_apart (unique_paths number (memory_of s)) (with_given number given (memory_of s)))
+  given-told result tells = tells (memory_of s) (with_given number given (memory_of s)) refl indexed.views uniques-told

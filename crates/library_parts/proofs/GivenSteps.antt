@@ -2,7 +2,7 @@
 use Rattle.std.proofs.Common.{◌≡◌, ◌∙◌, ℕ, ◌+◌, ◌*◌, ◌≤◌, List, length, sym, ap, subst, arith}
 use Rattle.std.specs.Prelude.{reverse}
 use Rattle.std.specs.List.{AllByRecursion}
-use Rattle.member_slots.specs.Members.{NumberedMembers, member_of}
+use Rattle.member_slots.specs.Members.{member_of}
 use Rattle.path_set.specs.declared.moves.PathMove.{PathMove}
 use Rattle.path_set.specs.KeptPaths.{KeptPaths, NumberedPaths, AreShared, spare_of}
 use Rattle.path_set.specs.ManyChanges.{LeadTo, moves_of_all}

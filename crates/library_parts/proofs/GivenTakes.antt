@@ -1,8 +1,8 @@
 -- The paths can be asked about each image that slots given to a member have, and about each that they take the place of.
-use Rattle.std.proofs.Common.{◌≡◌, ℕ, zero, suc, List, [], ◌∷◌, map, length, Result, Ok, Err, IfOk, OnOk, refl, sym, ap, ◌∙◌, subst}
+use Rattle.std.proofs.Common.{◌≡◌, ℕ, zero, suc, List, [], ◌∷◌, map, length, Result, Ok, Err, IfOk, OnOk, sym, ap, ◌∙◌, subst}
 use Rattle.std.specs.Prelude.{All}
-use Rattle.std.specs.List.{AllByRecursion}
-use Rattle.std.specs.Option.{option_copied}
+use Rattle.std.specs.List.{AllByRecursion, IsDistinct}
+use Rattle.std.specs.Map.{keys_of}
 use Rattle.std.proofs.lemmas.List.{length-map}
 use Rattle.std.proofs.lemmas.List.Elements.{All-from_recursion, recursion_from_All}
 use Rattle.member_slots.specs.declared.slot.Slot.{Slot}
@@ -13,12 +13,12 @@ use Rattle.journal_model.specs.Places.{slot_of, put_slot}
 use Rattle.file_catalogue.specs.Owners.{Owns}
 use Rattle.path_set.specs.declared.moves.ImageChange.{ImageChange}
 use Rattle.path_set.specs.declared.moves.PathMove.{PathMove}
-use Rattle.path_set.specs.KeptPaths.{KeptPaths, NumberedPaths}
+use Rattle.path_set.specs.KeptPaths.{AreShared, KeptPaths, NumberedPaths}
 use Rattle.path_set.specs.ManyChanges.{change_in, TakeImages}
 use Rattle.path_set.specs.MemberSteps.{image_in}
 use Rattle.path_set.specs.RecordChanges.{RecordChange, TakeImage}
 use Rattle.job_table.specs.Opens.{OpenOrder}
-use Rattle.library_model.specs.Named.{Named}
+use Rattle.library_model.specs.Named.{Named, same_name}
 use Rattle.library_steps.specs.State.{State, FileState, fields_of}
 use Rattle.range_images.specs.declared.slot_given.SlotGiven.{SlotGiven}
 use Rattle.range_images.specs.Given.{place_given}
@@ -60,10 +60,11 @@ module _ (number : ℕ) (paths : NumberedPaths) where
   takes-images [] all = tt
   takes-images (c ∷ changes) all = (all.0, takes-images changes all.1)
 
-module _ (s : State) (number : ℕ) (orders : List (Named OpenOrder)) (moves : List (List (List PathMove))) (kept : KeptPaths) (keyed : AllAreKeyed s.files) (lawful : IsLibrary s) (are : AreMembers s.members)
+module _ (s : State) (number : ℕ) (orders : List (Named OpenOrder)) (moves : List (List (List PathMove))) (kept : KeptPaths) (keyed : AllAreKeyed s.files)
+    (distinct : IsDistinct same_name (keys_of s.files)) (lawful : IsLibrary s) (shared : AreShared kept.paths) (are : AreMembers s.members)
     (indexed : IsIndexed s.files s.members s.jobs orders moves kept) where
   takes-one : (slot : Slot) → MayStand s number slot → FitsSlot (member_of number s.members).record_length slot → HasBytes slot → TakesSlot number kept.paths slot
-  takes-one slot may fits bytes = takes-slot s number slot orders moves kept laws keyed lawful indexed may fits bytes
+  takes-one slot may fits bytes = takes-slot s number slot orders moves kept laws keyed distinct lawful shared indexed may fits bytes
 
   takes-stood : (slots : List Slot) → ((name : List ℕ) (file : FileState) → Owns s.files name file number → AllByRecursion (HoldsValues (fields_of file)) slots)
       → AllByRecursion (FitsSlot (member_of number s.members).record_length) slots → AllByRecursion HasBytes slots → AllByRecursion (TakesSlot number kept.paths) slots

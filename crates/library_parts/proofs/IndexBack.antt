@@ -33,7 +33,7 @@ use Rattle.library_parts.specs.Standing.{StandAsMade}
 use Rattle.library_parts.specs.TakingBack.{IsTakingBack, CanTakeBack, count_of}
 use Rattle.library_parts.proofs.BackLemmas.{FitsPlace-with}
 use Rattle.library_parts.proofs.MemberLemmas.{length-changed, record_length-changed}
-use Rattle.library_parts.proofs.IndexPaths.{count_on, changes_on-cons, room-fewer}
+use Rattle.library_parts.proofs.IndexPaths.{count_on, changes_on-cons, kept-of, room-fewer}
 use Rattle.library_parts.proofs.IndexChanges.{IsIndexed-ended, IsIndexed-rolled_back}
 use Rattle.library_parts.proofs.IndexRecords.{IsIndexed-made, bytes-changed, bytes-member, bytes-with, room-other}
 
@@ -206,7 +206,8 @@ module _ (files : Named FileState) (jobs : List JobState) (orders : List (Named 
               (room-fewer member (count_of member rest + changes_on member jobs + 1) (count_of member (undo ∷ rest) + changes_on member jobs) kept (omega (arith, more_of))
               (its.spares member)) paths spares)
           | inr differs ↦ (let same_of = count-not member undo rest differs in
-              room-other files (reversed (record_change undo)) member (count_of member rest + changes_on member jobs) kept later shared its.indexed.paths.owned paths spares (λ same. differs
+              room-other files (reversed (record_change undo)) member (count_of member rest + changes_on member jobs) kept later shared
+              (kept-of files members kept.paths its.indexed.views shared its.indexed.paths) paths spares (λ same. differs
               (sym same))
               (room-fewer member (count_of member rest + changes_on member jobs) (count_of member (undo ∷ rest) + changes_on member jobs) kept (omega (arith, same_of)) (its.spares member)))
         ];

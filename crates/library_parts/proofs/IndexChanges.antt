@@ -85,6 +85,7 @@ module _ (files : Named FileState) (members : NumberedMembers) (jobs : List JobS
     moves = (λ i. changed_at place (λ (ms : List (List PathMove)). is i ∷ ms) (indexed.moves i)) ∙ sym (noted-moves kept.paths place sequence undo jobs);
     room = λ member. by member (undo.member == member) refl (noted-count member place sequence undo jobs);
     bytes = indexed.bytes;
+    views = indexed.views;
   }
     where
       by : (member : ℕ) (b : Bool) → (undo.member == member) ≡ b
@@ -134,6 +135,7 @@ module _ (files : Named FileState) (members : NumberedMembers) (jobs : List JobS
     room = λ member. room-fewer member (changes_on member (job_changed place change jobs)) (changes_on member jobs) kept (changes_on-fewer member place change jobs (none-count member change none))
         (indexed.room member);
     bytes = indexed.bytes;
+    views = indexed.views;
   }
 
   pub IsIndexed-cycle_ended : (place : ℕ) (change : OpenState → OpenState) → ((opened : OpenState) → SameReads opened (change opened)) → IsIndexed files members jobs orders moves kept

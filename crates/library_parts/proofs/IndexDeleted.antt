@@ -1,202 +1,446 @@
--- The kept paths are those of a library still, with a file less that no job uses.
-use Rattle.std.proofs.Common.{ℕ, zero, suc, ◌*◌, ◌≤◌, ◌≡◌, ◌==◌, ◌&&◌, ◌||◌, if◌then◌else◌, Bool, true, false, cond, List, [], ◌∷◌, length, get_or, Option, Some, None, is_some, IsSome, IfSome}
-use Rattle.std.proofs.Common.{refl, sym, ap, arith, ◌∙◌, subst}
-use Rattle.std.specs.Prelude.{All, Any}
-use Rattle.std.specs.List.{AllByRecursion, AllZip, list_any}
-use Rattle.std.proofs.lemmas.Bool.{cond-true}
+-- The kept paths are those of a library still, with a file less that no job uses and on which no other depends.
+use Rattle.std.proofs.Common.{ℕ, ◌+◌, ◌≡◌, ◌≢◌, inl, inr, ◌==◌, ◌&&◌, ◌||◌, nat_lt, if◌then◌else◌, Bool, true, false, cond, not, List, [], ◌∷◌, ◌++◌, length, map, get_or, Contains, Option, Some, None}
+use Rattle.std.proofs.Common.{IsSome, IfSome, refl, sym, ap, arith, ◌∙◌, subst}
+use Rattle.std.specs.Prelude.{All, MatchOption}
+use Rattle.std.specs.List.{AllByRecursion, IsDistinct, list_any}
+use Rattle.std.specs.Map.{keys_of}
+use Rattle.std.specs.Option.{option_map}
+use Rattle.std.proofs.lemmas.Bool.{cases_eq, cond-false}
 use Rattle.std.proofs.lemmas.Bool.Decides.{nat_tests}
-use Rattle.journal_model.specs.Rollback.{MemberChange}
-use Rattle.member_slots.specs.Members.{Numbered, item_at}
-use Rattle.file_model.specs.declared.paths.PathFormat.{PathFormat}
+use Rattle.std.proofs.lemmas.List.Elements.{recursion_from_All}
+use Rattle.member_slots.specs.Members.{Numbered, NumberedMembers, item_at}
+use Rattle.dds_physical.specs.declared.physical_files.PhysicalSpec.{PhysicalSpec}
+use Rattle.dds_logical.specs.declared.views.LogicalSpec.{LogicalSpec}
 use Rattle.file_model.specs.declared.paths.PathSpec.{PathSpec}
-use Rattle.logical_model.specs.Bases.{FileSpec, PhysicalFile, LogicalFile}
+use Rattle.file_model.specs.FilePaths.{physical_path}
+use Rattle.logical_model.specs.Bases.{FileSpec, PhysicalFile, LogicalFile, base_members}
 use Rattle.logical_model.specs.Formats.{has_key}
+use Rattle.logical_laws.proofs.ListLemmas.{each-append, each-contained, each-weaker}
+use Rattle.logical_paths.specs.Steps.{own_path}
 use Rattle.path_set.specs.declared.moves.PathMove.{PathMove}
-use Rattle.path_set.specs.KeptPaths.{KeptPath, KeptPaths, NumberedPaths, spare_of}
-use Rattle.path_set.specs.RecordChanges.{reversed, moves_in}
+use Rattle.path_set.specs.KeptPaths.{KeptPath, KeptPaths, NumberedPaths, AreShared, spare_of}
 use Rattle.path_set.specs.MemberSteps.{is_over}
+use Rattle.path_set.specs.Sharing.{IsNew, detached}
+use Rattle.library_paths.specs.AllPaths.{AreKeptFor, all_paths, count_in, paths_by}
+use Rattle.library_paths.proofs.BaseLemmas.{AreAlike, all-alike-left, stand-left}
+use Rattle.library_paths.proofs.CountLemmas.{contained-count, count-append, count-contained, count-own}
+use Rattle.library_paths.proofs.KeptLemmas.{detached-shared, kept-contained}
+use Rattle.library_paths.proofs.ListLemmas.{each-filter, two-from}
+use Rattle.library_paths.proofs.NameLemmas.{each-named}
+use Rattle.library_paths.proofs.NumberLemmas.{IsBelow, any-at, at-any, each-at}
+use Rattle.library_paths.proofs.OwnerLemmas.{each-found, member-path, paths-apart, paths-contain}
+use Rattle.library_paths.proofs.PathsLemmas.{paths-left}
+use Rattle.file_catalogue.specs.Bodies.{logical_in}
 use Rattle.file_catalogue.specs.Owners.{AreApart, Owns, has_number}
-use Rattle.file_catalogue.specs.Physical.{IsPhysical, AllArePhysical}
-use Rattle.file_catalogue.proofs.NameLemmas.{named-without, named-without_other, same_name-equal, same_name-self, some-equal}
-use Rattle.file_catalogue.proofs.PhysicalLemmas.{physical-named}
+use Rattle.file_catalogue.proofs.NameLemmas.{named-without_other, same_name-equal, same_name-self, some-equal}
 use Rattle.job_table.specs.Opens.{OpenOrder}
 use Rattle.library_model.specs.Named.{Named, named, same_name}
-use Rattle.library_steps.specs.DeleteFile.{without_file, without_members}
+use Rattle.library_steps.specs.DeleteFile.{first_dependent, user_by, without_file, without_members}
+use Rattle.library_steps.specs.LogicalFiles.{bases_in, physical_paths}
 use Rattle.library_steps.specs.Opens.{first_of}
 use Rattle.library_steps.specs.Records.{is_file_path}
 use Rattle.library_steps.specs.State.{State, FileState, MemberStatus, OpenState, JobState, memory_of}
-use Rattle.library_steps.specs.Uses.{changes_in, user_of_any, uses}
-use Rattle.library_parts.specs.Indexed.{member_path, IsOfFile, ArePaths, HaveMembers, ReadsBy, ReadsFile, ReadsIn, OpensRead, record_change, moves_back, changes_on, IsIndexed}
-use Rattle.library_parts.specs.Lawful.{OpenHolds, OpensBy, OpensFile, OpensHold, IsLibrary}
-use Rattle.library_parts.specs.PathChanges.{without_paths}
+use Rattle.library_steps.specs.Uses.{has_changed, has_open_of, user_of_any, user_of_logical, uses}
+use Rattle.library_parts.specs.Indexed.{AreViews, IsIndexed, IsIndexedFor, IsViewBeside, path_by, path_read}
+use Rattle.library_parts.specs.Lawful.{IsBased, IsLibrary, OpenHolds, OpensBy, OpensFile, OpensHold}
+use Rattle.library_parts.specs.PathChanges.{IsPathOf, IsPathOfNamed, detached_from, without_path_over, without_paths}
+use Rattle.library_parts.specs.Reads.{IsNumberOf}
 use Rattle.library_parts.proofs.BackLemmas.{neither}
-use Rattle.library_parts.proofs.IndexPaths.{IsOfMember, OfChanges, member_path-is, moves-among, over-other, over-own, path_by}
-use Rattle.library_parts.proofs.IndexGone.{IsFree, any-left, bytes-left, changes-free, clash, is-free, jobs-free, left-apart, left-each, moves-left, over-left}
+use Rattle.library_parts.proofs.BaseLemmas.{Keeps-self}
+use Rattle.library_parts.proofs.IndexPaths.{FileStays, any-both, changes-each, over-other, over-own, own-same, physical-of}
+use Rattle.library_parts.proofs.IndexShared.{IsNumbered, IsUnchanged, OpenIsAmong, OpensAreAmong, OpensStay, clash, IsIndexed-detached, IsIndexed-files, IsIndexed-members, IsIndexed-same, files-stay, opens-stay}
+use Rattle.library_parts.proofs.IndexStatus.{turned-bases, views-alike}
+use Rattle.library_parts.proofs.IndexFiles.{own-of, single-path, stand-based, unchanged-path}
+use Rattle.library_parts.proofs.IndexGone.{IsFree, bytes-left, changes-free, has-first, has-later, is-free, jobs-free, over-left}
+use Rattle.library_parts.proofs.IndexDetached.{first-found, found_over, none-over}
 
-changes-each : (P Q : MemberChange → Type 0) → ((undo : MemberChange) → P undo → Q undo) → (jobs : List JobState) → OfChanges P jobs → OfChanges Q jobs
-changes-each P Q each [] all = tt
-changes-each P Q each (job ∷ jobs) all = (those (changes_in job.cycle) all.0, changes-each P Q each jobs all.1)
-  where
-    those : (undos : List MemberChange) → AllByRecursion P undos → AllByRecursion Q undos
-    those [] own = tt
-    those (undo ∷ undos) own = (each undo own.0, those undos own.1)
+-- ---- what some paths contain
 
--- each path is found by its number
-some-there : (paths : NumberedPaths) → All (λ (p : Numbered KeptPath). IsSome (item_at p.number paths)) paths
-some-there [] k d low = absurd (omega (arith, low))
-some-there (p ∷ paths) zero d low =
-    ap (λ (o : Option KeptPath). is_some o) (cond-true (p.number == p.number) (Some p.item) (item_at p.number paths) (let e : (p.number == p.number) ≡ true = grind (arith, nat_tests) in e))
-some-there (p ∷ paths) (suc k) d low =
-    elim (p.number == (get_or paths k d).number) as (λ b. IsSome (cond b (Some p.item) (item_at (get_or paths k d).number paths))) [
-      | true ↦ refl
-      | false ↦ some-there paths k d (omega (arith, low))
-    ]
+contained-right : (spec : PathSpec) (xs ys : List PathSpec) → Contains ys spec → Contains (xs ++ ys) spec
+contained-right spec xs ys there =
+    count-contained spec (xs ++ ys) (let some = contained-count spec ys there in let sum = count-append spec xs ys in omega (arith, some, sum))
 
--- an open over none of these members
-abbrev IsFreeOpen : Named MemberStatus → List ℕ × OpenState → Type 0
-IsFreeOpen gone entry = (member : ℕ) → has_number member gone ≡ true → list_any (λ (base : ℕ). base == member) entry.1.members ≡ false
+contained-first : (spec : PathSpec) (specs : List PathSpec) → Contains (spec ∷ specs) spec
+contained-first spec specs = count-contained spec (spec ∷ specs) (let one = count-own spec spec specs refl in omega (arith, one))
 
-opens-free : (gone : Named MemberStatus) (opens : Named OpenState)
-    → ((member : ℕ) → has_number member gone ≡ true → list_any (λ (entry : List ℕ × OpenState). list_any (λ (base : ℕ). base == member) entry.1.members) opens ≡ false)
-    → AllByRecursion (IsFreeOpen gone) opens
-opens-free gone [] none = tt
-opens-free gone (entry ∷ opens) none = (
-  λ member has. (neither (list_any (λ (base : ℕ). base == member) entry.1.members)
-      (list_any (λ (e : List ℕ × OpenState). list_any (λ (base : ℕ). base == member) e.1.members) opens) (none member has)).0,
-  opens-free gone opens (λ member has. (neither (list_any (λ (base : ℕ). base == member) entry.1.members)
-      (list_any (λ (e : List ℕ × OpenState). list_any (λ (base : ℕ). base == member) e.1.members) opens) (none member has)).1),
-)
+some-each : {A : Type 0} (P Q : A → Type 0) → ((a : A) → P a → Q a) → (o : Option A) → IfSome o P → IfSome o Q
+some-each P Q each None is = tt
+some-each P Q each (Some a) is = each a is
 
-module _ (s : State) (name : List ℕ) (file : FileState) (lawful : IsLibrary s) (apart : AreApart s.files) (physical : AllArePhysical s.files) (here : named name s.files ≡ Some file)
-    (unused : user_of_any file.members (memory_of s) ≡ None) where
-  free : AllByRecursion (IsFree file.members) s.jobs
-  free =
-      jobs-free (IsFree file.members) (λ number job. list_any (λ (entry : List ℕ × MemberStatus). uses entry.1.number s.locks number job) file.members)
-      (λ number job none. is-free file.members s.locks number job none) 1 s.jobs unused
+-- the path over a member of a physical file
+abbrev path_at : PhysicalSpec → ℕ → PathSpec
+path_at spec number = physical_path number spec.format.fields spec.keys
 
-  -- the file of a name that is the same
-  its-file : (other : List ℕ) (another : FileState) → named other s.files ≡ Some another → same_name name other ≡ true → file ≡ another
-  its-file other another found same = some-equal (sym here ∙ ap (λ (n : List ℕ). named n s.files) (same_name-equal name other same) ∙ found)
+among-more : (front specs : List PathSpec) (files : Named FileState) (jobs : List JobState) → OpensAreAmong specs files jobs → OpensAreAmong (front ++ specs) files jobs
+among-more front specs files jobs among =
+    each-weaker (λ (job : JobState). AllByRecursion (OpenIsAmong specs files) job.opens) (λ (job : JobState). AllByRecursion (OpenIsAmong (front ++ specs) files) job.opens)
+    (λ job own. each-weaker (OpenIsAmong specs files) (OpenIsAmong (front ++ specs) files)
+    (λ entry is. some-each (λ (f : FileState). IfSome (path_read (bases_in files) f entry.1) (Contains specs)) (λ (f : FileState). IfSome (path_read (bases_in files) f entry.1) (Contains (front ++ specs)))
+    (λ f its. some-each (Contains specs) (Contains (front ++ specs)) (λ spec there. contained-right spec front specs there) (path_read (bases_in files) f entry.1) its)
+    (named entry.1.file files) is) job.opens own) jobs among
 
-  -- a member of another file isn't one of its own
-  not-own : (other : List ℕ) (another : FileState) (number : ℕ) → Owns s.files other another number → same_name name other ≡ false → has_number number file.members ≡ true → ⊥
-  not-own other another number owns differ has =
-      clash (subst (λ (n : List ℕ). same_name name n ≡ true) (apart.apart name other file another number (record { there = here; has = has }) owns) (same_name-self name)) differ
+turned-sum : (a b c : ℕ) → a + b ≡ c → c ≡ b + a
+turned-sum a b c is = omega (arith, is)
 
-  owned-left : (spec : PathSpec) → IsOfFile s.files spec → ((number : ℕ) → has_number number file.members ≡ true → is_over number spec ≡ false) → IsOfFile (without_file name s.files) spec
-  owned-left spec is none =
-      let o = is.owner in
-      elim (same_name name o.0) as (λ b. same_name name o.0 ≡ b → IsOfFile (without_file name s.files) spec) [
-        | true ↦ λ same. absurd (clash (over-own o.2 spec (member_path-is o.1.spec o.2 spec o.4))
-            (none o.2 (subst (λ (f : FileState). has_number o.2 f.members ≡ true) (sym (its-file o.0 o.1 o.3.there same)) o.3.has)))
-        | false ↦ λ differ. record { owner = (o.0, o.1, o.2, record { there = named-without_other name o.0 s.files differ ∙ o.3.there; has = o.3.has }, o.4) }
-      ] refl
+-- no open is of the file
+abbrev pub OpensApart : List ℕ → List JobState → Type 0
+OpensApart gone jobs = AllByRecursion (λ job. AllByRecursion (λ (entry : List ℕ × OpenState). same_name gone entry.1.file ≡ false) job.opens) jobs
 
-  there-left : (paths : NumberedPaths) → HaveMembers s.files paths → HaveMembers (without_file name s.files) (without_paths file.members paths)
-  there-left paths have other another number owns = by (member_path another.spec number) refl (have other another number before)
-    where
-      was : (named other s.files ≡ Some another) × (same_name name other ≡ false)
-      was = named-without name other s.files another owns.there
+module _ (s : State) (name : List ℕ) (file : FileState) (lawful : IsLibrary s) (distinct : IsDistinct same_name (keys_of s.files)) (apart : AreApart s.files) (here : named name s.files ≡ Some file)
+    (alone : first_dependent name s.files ≡ None) (views : AreViews s.files) where
+  abbrev others : Named FileState
+  others = without_file name s.files
 
-      before : Owns s.files other another number
-      before = record { there = was.0; has = owns.has }
+  alike-of : (other : List ℕ) (another : FileState) → named other s.files ≡ Some another → AreAlike (bases_in others) (bases_in s.files) another.spec
+  alike-of other another found =
+      each-named (λ (n : List ℕ) (f : FileState). AreAlike (bases_in others) (bases_in s.files) f.spec) other s.files another (all-alike-left name s.files alone) found
 
-      by : (o : Option PathSpec) → member_path another.spec number ≡ o → IfSome o (λ spec. Any (λ (p : Numbered KeptPath). p.item.spec ≡ spec) paths)
-          → IfSome o (λ spec. Any (λ (p : Numbered KeptPath). p.item.spec ≡ spec) (without_paths file.members paths))
-      by None is h = h
-      by (Some spec) is h =
-          any-left (λ (p : Numbered KeptPath). p.item.spec ≡ spec) file.members paths
-          (λ n has p same. over-other number n p.item.spec (subst (IsOfMember number) (sym same) (member_path-is another.spec number spec is))
-          (λ equal. not-own other another number before was.1 (subst (λ (k : ℕ). has_number k file.members ≡ true) equal has))) h
+  view-of : (other : List ℕ) (another : FileState) → named other s.files ≡ Some another → IsViewBeside s.files another.spec
+  view-of other another found = each-named (λ (n : List ℕ) (f : FileState). IsViewBeside s.files f.spec) other s.files another views found
 
-  -- ---- opens
+  -- ---- the paths of the others are over none of its members
 
-  module _ (paths : NumberedPaths) where
-    -- the path of the open's member is left
-    reads-left : (opened : OpenState) (order : OpenOrder) (its : FileState) (number : ℕ) → Owns s.files opened.file its number → same_name name opened.file ≡ false → first_of opened.members ≡ number
-        → ReadsFile paths opened order (Some its) → ReadsFile (without_paths file.members paths) opened order (Some its)
-    reads-left opened order its number owns differ first reads = by (path_by its.spec opened) refl reads
-      where
-        is-its : (b : Bool) (spec : PathSpec) → (if b then member_path its.spec (first_of opened.members) else None) ≡ Some spec → IsOfMember number spec
-        is-its true spec is = subst (λ (n : ℕ). IsOfMember n spec) first (member_path-is its.spec (first_of opened.members) spec is)
-        is-its false spec is = absurd cc
+  module _ (number : ℕ) (has : has_number number file.members ≡ true) where
+    other-number : (other : List ℕ) (another : FileState) (m : ℕ) → Owns s.files other another m → same_name name other ≡ false → number ≢ m
+    other-number other another m owns differ same =
+        clash (subst (λ (n : List ℕ). same_name name n ≡ true)
+        (apart.apart name other file another m (record { there = here; has = subst (λ (k : ℕ). has_number k file.members ≡ true) same has }) owns) (same_name-self name)) differ
 
-        by : (o : Option PathSpec) → path_by its.spec opened ≡ o → ReadsBy paths o order → ReadsBy (without_paths file.members paths) o order
-        by None is h = h
-        by (Some spec) is h =
-            let own = is-its (is_file_path opened.access_path && has_key its.spec) spec is in
-            record {
-              path = (
-                h.path.0,
-                h.path.1,
-                any-left (λ (p : Numbered KeptPath). (p.number ≡ h.path.0) × (p.item.spec ≡ spec)) file.members paths
-                    (λ n has p same. over-other number n p.item.spec (subst (IsOfMember number) (sym same.1) own)
-                    (λ equal. not-own opened.file its number owns differ (subst (λ (k : ℕ). has_number k file.members ≡ true) equal has))) h.path.2,
-              );
-              formats = h.formats;
-            }
+    others-lack : (files : Named FileState) → AllByRecursion (λ (entry : List ℕ × FileState). same_name name entry.0 ≡ false → has_number number entry.1.members ≡ false) files
+        → AllByRecursion (λ (entry : List ℕ × FileState). has_number number entry.1.members ≡ false) (without_file name files)
+    others-lack [] each = tt
+    others-lack (entry ∷ files) each =
+        elim (same_name name entry.0) as (λ b. same_name name entry.0 ≡ b
+        → AllByRecursion (λ (e : List ℕ × FileState). has_number number e.1.members ≡ false) (cond (not b) (entry ∷ without_file name files) (without_file name files))) [
+          | true ↦ λ same. others-lack files each.1
+          | false ↦ λ differ. (each.0 differ, others-lack files each.1)
+        ] refl
 
-    open-left : (entry : List ℕ × OpenState) (order : List ℕ × OpenOrder) → OpenHolds s.files entry.1 → IsFreeOpen file.members entry → ReadsIn s.files paths entry order
-        → ReadsIn (without_file name s.files) (without_paths file.members paths) entry order
-    open-left entry order holds none reads = by (named entry.1.file s.files) refl holds reads
-      where
-        by-kind : (its : FileState) (spec : FileSpec) → its.spec ≡ spec → named entry.1.file s.files ≡ Some its → OpensBy s.files entry.1 its.members spec → ReadsFile paths entry.1 order.1 (Some its)
-            → ReadsIn (without_file name s.files) (without_paths file.members paths) entry order
-        by-kind its (LogicalFile spec) kind found own r = absurd (subst IsPhysical kind (physical-named entry.1.file its s.files physical found))
-        by-kind its (PhysicalFile spec) kind found own r =
-            elim (same_name name entry.1.file) as (λ b. same_name name entry.1.file ≡ b → ReadsIn (without_file name s.files) (without_paths file.members paths) entry order) [
-              | true ↦ λ same. absurd (clash
-                  (ap (list_any (λ (base : ℕ). base == entry.1.member)) own.only
-                  ∙ ap (λ (b : Bool). b || false) (let e : (entry.1.member == entry.1.member) ≡ true = grind (arith, nat_tests) in e))
-                  (none entry.1.member (subst (λ (f : FileState). has_number entry.1.member f.members ≡ true) (sym (its-file entry.1.file its found same)) own.has)))
-              | false ↦ λ differ.
-                  subst (ReadsFile (without_paths file.members paths) entry.1 order.1) (sym (named-without_other name entry.1.file s.files differ ∙ found))
-                  (reads-left entry.1 order.1 its entry.1.member (record { there = found; has = own.has }) differ (ap first_of own.only) r)
-            ] refl
+    it-lacks : (other : List ℕ) (another : FileState) → named other s.files ≡ Some another → same_name name other ≡ false → has_number number another.members ≡ false
+    it-lacks other another found differ =
+        elim (has_number number another.members) as (λ b. has_number number another.members ≡ b → b ≡ false) [
+          | true ↦ λ also. absurd (other-number other another number (record { there = found; has = also }) differ refl)
+          | false ↦ λ none. refl
+        ] refl
 
-        by : (o : Option FileState) → named entry.1.file s.files ≡ o → OpensFile s.files entry.1 o → ReadsFile paths entry.1 order.1 o
-            → ReadsIn (without_file name s.files) (without_paths file.members paths) entry order
-        by None found h r = absurd h
-        by (Some its) found h r = by-kind its its.spec refl found h r
+    pub left-apart : AllByRecursion (λ (p : PathSpec). is_over number p ≡ false) (all_paths (without_file name s.files))
+    left-apart =
+        paths-apart others number (stand-left name s.files alone (stand-based s.files distinct lawful.bases))
+        (others-lack s.files (each-found (λ (n : List ℕ) (f : FileState). same_name name n ≡ false → has_number number f.members ≡ false) s.files distinct it-lacks))
 
-    opens-left : (opens : Named OpenState) (orders : Named OpenOrder) → AllByRecursion (λ (e : List ℕ × OpenState). OpenHolds s.files e.1) opens → AllByRecursion (IsFreeOpen file.members) opens
-        → AllZip (ReadsIn s.files paths) opens orders → AllZip (ReadsIn (without_file name s.files) (without_paths file.members paths)) opens orders
-    opens-left [] [] holds none reads = tt
-    opens-left [] (order ∷ orders) holds none reads = absurd reads
-    opens-left (entry ∷ opens) [] holds none reads = absurd reads
-    opens-left (entry ∷ opens) (order ∷ orders) holds none reads = (open-left entry order holds.0 none.0 reads.0, opens-left opens orders holds.1 none.1 reads.1)
+  -- ---- opens of the others
 
-    jobs-left : (jobs : List JobState) (orders : List (Named OpenOrder)) → AllByRecursion (OpensHold s.files) jobs → AllByRecursion (IsFree file.members) jobs
-        → AllZip (OpensRead s.files paths) jobs orders → AllZip (OpensRead (without_file name s.files) (without_paths file.members paths)) jobs orders
-    jobs-left [] [] holds none reads = tt
-    jobs-left [] (its ∷ orders) holds none reads = absurd reads
-    jobs-left (job ∷ jobs) [] holds none reads = absurd reads
-    jobs-left (job ∷ jobs) (its ∷ orders) holds none reads =
-        (opens-left job.opens its holds.0 (opens-free file.members job.opens (λ member has. none.0.opens member has)) reads.0, jobs-left jobs orders holds.1 none.1 reads.1)
-
-  pub IsIndexed-without_file : (orders : List (Named OpenOrder)) (moves : List (List (List PathMove))) (old new : KeptPaths) → new.paths ≡ without_paths file.members old.paths
-      → ((id : ℕ) → IsSome (item_at id new.paths) → spare_of id new ≡ spare_of id old) → IsIndexed s.files s.members s.jobs orders moves old
-      → IsIndexed (without_file name s.files) (without_members file.members s.members) s.jobs orders moves new
-  IsIndexed-without_file orders moves old new is spares indexed = record {
-    paths = subst (ArePaths (without_file name s.files) (without_members file.members s.members)) (sym is) (record {
-      over = over-left file.members s.members old.paths indexed.paths.over;
-      owned = λ k d low. owned-left (get_or (without_paths file.members old.paths) k d).item.spec
-          (left-each (λ (p : Numbered KeptPath). IsOfFile s.files p.item.spec) file.members old.paths indexed.paths.owned k d low)
-          (left-apart file.members old.paths k d low);
-      there = there-left old.paths indexed.paths.there;
-      single = left-each (λ (p : Numbered KeptPath). p.item.files ≡ 1) file.members old.paths indexed.paths.single;
-    });
-    orders = subst (λ (p : NumberedPaths). AllZip (OpensRead (without_file name s.files) p) s.jobs orders) (sym is) (jobs-left old.paths s.jobs orders lawful.opens free indexed.orders);
-    moves = indexed.moves ∙ sym (moves-among old.paths new.paths s.jobs
-        (changes-each (λ undo. has_number undo.member file.members ≡ false) (λ undo. moves_back new.paths undo ≡ moves_back old.paths undo)
-        (λ undo absent. ap (moves_in (reversed (record_change undo))) is ∙ moves-left s.files (reversed (record_change undo)) file.members old.paths indexed.paths.owned absent)
-        s.jobs (changes-free file.members s.jobs free)));
-    room = λ member k d low any.
-        let had = subst (λ (p : NumberedPaths). All (λ (path : Numbered KeptPath). Any (λ (f : PathFormat). f.member ≡ member) path.item.spec.formats
-        → changes_on member s.jobs * length path.item.spec.formats ≤ spare_of path.number old) p) (sym is)
-        (left-each (λ (path : Numbered KeptPath). Any (λ (f : PathFormat). f.member ≡ member) path.item.spec.formats
-        → changes_on member s.jobs * length path.item.spec.formats ≤ spare_of path.number old) file.members old.paths (indexed.room member)) k d low any in
-        let same = spares (get_or new.paths k d).number (some-there new.paths k d low) in
-        omega (arith, had, same);
-    bytes = bytes-left file.members s.members indexed.bytes;
+  file-stays : (other : List ℕ) (another : FileState) → named other s.files ≡ Some another → same_name name other ≡ false → FileStays s.files others other another
+  file-stays other another found differ = record {
+    kept = record { another = another; there = named-without_other name other s.files differ ∙ found; keeps = Keeps-self another };
+    bases = turned-bases (bases_in s.files) (bases_in others) another.spec (alike-of other another found);
   }
+
+  opens-left : (jobs : List JobState) → OpensApart name jobs → OpensStay s.files others jobs
+  opens-left [] all = tt
+  opens-left (job ∷ jobs) all = (each job.opens all.0, opens-left jobs all.1)
+    where
+      each : (opens : Named OpenState) → AllByRecursion (λ (entry : List ℕ × OpenState). same_name name entry.1.file ≡ false) opens
+          → AllByRecursion (λ (entry : List ℕ × OpenState). (f : FileState) → named entry.1.file s.files ≡ Some f → FileStays s.files others entry.1.file f) opens
+      each [] own = tt
+      each (entry ∷ opens) own = (λ f found. file-stays entry.1.file f found own.0, each opens own.1)
+
+  -- the path by which one reads is one of those left
+  kind-among : (opened : OpenState) (f : FileState) → named opened.file s.files ≡ Some f → (spec : FileSpec) → f.spec ≡ spec → OpensBy s.files opened f.members spec
+      → IfSome (path_by (bases_in s.files) (is_file_path opened.access_path && has_key spec) (first_of opened.members) spec) (Contains (paths_by others f.members spec))
+  kind-among opened f found (PhysicalFile spec) is own = by (is_file_path opened.access_path) (nat_lt 0 (length spec.keys.parts)) refl
+    where
+      by : (a b : Bool) → nat_lt 0 (length spec.keys.parts) ≡ b → IfSome (if a && b then Some (physical_path (first_of opened.members) spec.format.fields spec.keys) else None)
+          (Contains (physical_paths spec f.members))
+      by true true keyed =
+          subst (λ (n : ℕ). Contains (physical_paths spec f.members) (path_at spec n)) (sym (ap first_of own.only)) (member-path spec f.members opened.member keyed own.has)
+      by true false keyed = tt
+      by false b keyed = tt
+  kind-among opened f found (LogicalFile spec) is own =
+      let alike : AreAlike (bases_in others) (bases_in s.files) (LogicalFile spec) = subst (AreAlike (bases_in others) (bases_in s.files)) is (alike-of opened.file f found) in
+      let view : IsViewBeside s.files (LogicalFile spec) = subst (IsViewBeside s.files) is (view-of opened.file f found) in
+      subst (λ (ps : List PathSpec). Contains ps (own_path (bases_in s.files) spec)) (sym (single-path (bases_in others) spec view.simple))
+      (subst (λ (p : PathSpec). Contains (own_path (bases_in others) spec ∷ []) p) (own-same (bases_in others) (bases_in s.files) spec alike) (contained-first (own_path (bases_in others) spec) []))
+
+  open-among : (entry : List ℕ × OpenState) → same_name name entry.1.file ≡ false → OpenHolds s.files entry.1 → OpenIsAmong (all_paths others) s.files entry
+  open-among entry differ holds = by (named entry.1.file s.files) refl holds
+    where
+      by : (o : Option FileState) → named entry.1.file s.files ≡ o → OpensFile s.files entry.1 o
+          → IfSome o (λ f. IfSome (path_read (bases_in s.files) f entry.1) (Contains (all_paths others)))
+      by None found h = tt
+      by (Some f) found h =
+          some-each (Contains (paths_by others f.members f.spec)) (Contains (all_paths others))
+          (λ spec own. paths-contain others entry.1.file f spec (named-without_other name entry.1.file s.files differ ∙ found) own)
+          (path_read (bases_in s.files) f entry.1) (kind-among entry.1 f found f.spec refl h)
+
+  opens-among : (jobs : List JobState) → OpensApart name jobs → AllByRecursion (OpensHold s.files) jobs → OpensAreAmong (all_paths others) s.files jobs
+  opens-among [] all hold = tt
+  opens-among (job ∷ jobs) all hold = (each job.opens all.0 hold.0, opens-among jobs all.1 hold.1)
+    where
+      each : (opens : Named OpenState) → AllByRecursion (λ (entry : List ℕ × OpenState). same_name name entry.1.file ≡ false) opens
+          → AllByRecursion (λ (entry : List ℕ × OpenState). OpenHolds s.files entry.1) opens → AllByRecursion (OpenIsAmong (all_paths others) s.files) opens
+      each [] own its = tt
+      each (entry ∷ opens) own its = (open-among entry own.0 its.0, each opens own.1 its.1)
+
+  module _ (orders : List (Named OpenOrder)) (moves : List (List (List PathMove))) where
+    -- its own paths before those of the others
+    own-first : (kept : KeptPaths) → IsIndexed s.files s.members s.jobs orders moves kept
+        → IsIndexedFor (paths_by s.files file.members file.spec ++ all_paths others) s.files s.members s.jobs orders moves kept
+    own-first kept indexed =
+        IsIndexed-files (all_paths s.files) s.files s.members s.jobs orders moves (paths_by s.files file.members file.spec ++ all_paths others) s.files kept
+        (opens-stay s.files s.files (files-stay s.files) s.jobs) views
+        (λ path. turned-sum (count_in path (all_paths others)) (count_in path (paths_by s.files file.members file.spec)) (count_in path (all_paths s.files))
+        (paths-left s.files path name file here distinct alone)
+        ∙ sym (count-append path (paths_by s.files file.members file.spec) (all_paths others))) indexed
+
+    -- the others' paths are those of the library that is left
+    others-left : (members : NumberedMembers) (kept : KeptPaths) → OpensApart name s.jobs → IsIndexedFor (all_paths others) s.files members s.jobs orders moves kept
+        → IsIndexed (without_file name s.files) members s.jobs orders moves kept
+    others-left members kept opens indexed =
+        IsIndexed-files (all_paths others) s.files members s.jobs orders moves (all_paths others) others kept (opens-left s.jobs opens)
+        (each-filter (λ (entry : List ℕ × FileState). not (same_name name entry.0)) (λ (entry : List ℕ × FileState). IsViewBeside others entry.1.spec) s.files
+        (views-alike s.files others s.files (all-alike-left name s.files alone) views)) (λ path. refl) indexed
+
+    -- ---- a logical file
+
+    module _ (spec : LogicalSpec) (is : file.spec ≡ LogicalFile spec) (unused : user_of_logical name (base_members (bases_in s.files) spec) (memory_of s) ≡ None) where
+      its-view : IsViewBeside s.files (LogicalFile spec)
+      its-view = subst (IsViewBeside s.files) is (view-of name file here)
+
+      opens-none : (opens : Named OpenState) → list_any (λ (entry : List ℕ × OpenState). same_name name entry.1.file) opens ≡ false
+          → AllByRecursion (λ (entry : List ℕ × OpenState). same_name name entry.1.file ≡ false) opens
+      opens-none [] none = tt
+      opens-none (entry ∷ opens) none =
+          let parts = neither (same_name name entry.1.file) (list_any (λ (e : List ℕ × OpenState). same_name name e.1.file) opens) none in (parts.0, opens-none opens parts.1)
+
+      -- no job has it open
+      view-opens : OpensApart name s.jobs
+      view-opens =
+          jobs-free (λ (job : JobState). AllByRecursion (λ (entry : List ℕ × OpenState). same_name name entry.1.file ≡ false) job.opens)
+          (λ number job. has_open_of name job || list_any (λ member. has_changed member job) (base_members (bases_in s.files) spec))
+          (λ number job none. opens-none job.opens (neither (has_open_of name job) (list_any (λ member. has_changed member job) (base_members (bases_in s.files) spec)) none).0) 1 s.jobs unused
+
+      -- or has changed its base's member
+      view-unchanged : IsUnchanged (own_path (bases_in s.files) spec) s.jobs
+      view-unchanged =
+          let own = own-of (bases_in s.files) spec its-view.simple in
+          unchanged-path (own_path (bases_in s.files) spec) own.0 s.jobs own.2
+          (jobs-free (λ (job : JobState). has_changed own.0 job ≡ false)
+          (λ number job. has_open_of name job || list_any (λ member. has_changed member job) (base_members (bases_in s.files) spec))
+          (λ number job none.
+          let changed = (neither (has_open_of name job) (list_any (λ member. has_changed member job) (base_members (bases_in s.files) spec)) none).1 in
+          (neither (has_changed own.0 job) false (ap (list_any (λ member. has_changed member job)) (sym own.1) ∙ changed)).0) 1 s.jobs unused)
+
+      own-paths : paths_by s.files file.members file.spec ≡ own_path (bases_in s.files) spec ∷ []
+      own-paths = ap (paths_by s.files file.members) is ∙ single-path (bases_in s.files) spec its-view.simple
+
+      pub IsIndexed-without_view : (id : Option ℕ) (old new : KeptPaths) → AreShared old.paths → IsNumberOf (own_path (bases_in s.files) spec) id old.paths → new.paths ≡ detached_from id old.paths
+          → ((number : ℕ) → IsSome (item_at number new.paths) → spare_of number new ≡ spare_of number old) → IsIndexed s.files s.members s.jobs orders moves old
+          → IsIndexed (without_file name s.files) s.members s.jobs orders moves new
+      IsIndexed-without_view id old new shared its paths spares indexed = by id its paths
+        where
+          own : PathSpec
+          own = own_path (bases_in s.files) spec
+
+          before : IsIndexedFor (own_path (bases_in s.files) spec ∷ all_paths others) s.files s.members s.jobs orders moves old
+          before = subst (λ (ps : List PathSpec). IsIndexedFor (ps ++ all_paths others) s.files s.members s.jobs orders moves old) own-paths (own-first old indexed)
+
+          by : (o : Option ℕ) → IsNumberOf (own_path (bases_in s.files) spec) o old.paths → new.paths ≡ detached_from o old.paths → IsIndexed (without_file name s.files) s.members s.jobs orders moves new
+          by None none same =
+              let both = any-both (λ (p : Numbered KeptPath). p.item.spec ≢ own) (λ (p : Numbered KeptPath). p.item.spec ≡ own) old.paths none before.paths.there.0 in
+              absurd (both.1 both.2)
+          by (Some number) any same =
+              let found = at-any (IsNumbered number own) old.paths (two-from IsBelow old.paths shared.ascend) any in
+              let at : item_at number old.paths ≡ Some found.path = ap (λ (n : ℕ). item_at n old.paths) (sym found.holds.0) ∙ found.at in
+              others-left s.members new view-opens
+              (IsIndexed-same (all_paths others) s.files s.members s.jobs orders moves (record { paths = detached number old.paths; rooms = old.rooms }) new same spares
+              (IsIndexed-detached (all_paths others) s.files s.members s.jobs orders moves own view-unchanged old shared number found.path at found.holds.1 (opens-among s.jobs view-opens lawful.opens) before))
+
+    -- ---- a physical file
+
+    module _ (spec : PhysicalSpec) (is : file.spec ≡ PhysicalFile spec) (unused : user_of_any file.members (memory_of s) ≡ None) where
+      free : AllByRecursion (IsFree file.members) s.jobs
+      free =
+          jobs-free (IsFree file.members) (λ number job. list_any (λ (entry : List ℕ × MemberStatus). uses entry.1.number s.locks number job) file.members)
+          (λ number job none. is-free file.members s.locks number job none) 1 s.jobs unused
+
+      its-file : (other : List ℕ) (another : FileState) → named other s.files ≡ Some another → same_name name other ≡ true → another ≡ file
+      its-file other another found same = some-equal (sym found ∙ ap (λ (n : List ℕ). named n s.files) (sym (same_name-equal name other same)) ∙ here)
+
+      -- an open over none of its members isn't of it
+      open-apart : (opened : OpenState) → OpenHolds s.files opened → ((member : ℕ) → has_number member file.members ≡ true → list_any (λ (base : ℕ). base == member) opened.members ≡ false)
+          → same_name name opened.file ≡ false
+      open-apart opened holds none =
+          elim (same_name name opened.file) as (λ b. same_name name opened.file ≡ b → b ≡ false) [
+            | true ↦ λ same.
+                let found : named opened.file s.files ≡ Some file = ap (λ (n : List ℕ). named n s.files) (sym (same_name-equal name opened.file same)) ∙ here in
+                let own : OpensBy s.files opened file.members (PhysicalFile spec) = subst (OpensBy s.files opened file.members) is (subst (OpensFile s.files opened) found holds) in
+                absurd (clash (ap (list_any (λ (base : ℕ). base == opened.member)) own.only
+                ∙ ap (λ (b : Bool). b || false) (let e : (opened.member == opened.member) ≡ true = grind (arith, nat_tests) in e)) (none opened.member own.has))
+            | false ↦ λ differ. refl
+          ] refl
+
+      file-opens : (jobs : List JobState) → AllByRecursion (OpensHold s.files) jobs → AllByRecursion (IsFree file.members) jobs → OpensApart name jobs
+      file-opens [] hold all = tt
+      file-opens (job ∷ jobs) hold all = (each job.opens hold.0 (λ member has. all.0.opens member has), file-opens jobs hold.1 all.1)
+        where
+          each : (opens : Named OpenState) → AllByRecursion (λ (entry : List ℕ × OpenState). OpenHolds s.files entry.1) opens
+              → ((member : ℕ) → has_number member file.members ≡ true → list_any (λ (entry : List ℕ × OpenState). list_any (λ (base : ℕ). base == member) entry.1.members) opens ≡ false)
+              → AllByRecursion (λ (entry : List ℕ × OpenState). same_name name entry.1.file ≡ false) opens
+          each [] its none = tt
+          each (entry ∷ opens) its none = (
+            open-apart entry.1 its.0 (λ member has. (neither (list_any (λ (base : ℕ). base == member) entry.1.members)
+                (list_any (λ (e : List ℕ × OpenState). list_any (λ (base : ℕ). base == member) e.1.members) opens) (none member has)).0),
+            each opens its.1 (λ member has. (neither (list_any (λ (base : ℕ). base == member) entry.1.members)
+                (list_any (λ (e : List ℕ × OpenState). list_any (λ (base : ℕ). base == member) e.1.members) opens) (none member has)).1),
+          )
+
+      its-opens : OpensApart name s.jobs
+      its-opens = file-opens s.jobs lawful.opens free
+
+      -- no change is of one of its members
+      its-unchanged : (number : ℕ) → has_number number file.members ≡ true → IsUnchanged (path_at spec number) s.jobs
+      its-unchanged number has =
+          changes-each (λ undo. has_number undo.member file.members ≡ false) (λ undo. is_over undo.member (path_at spec number) ≡ false)
+          (λ undo absent. over-other number undo.member (path_at spec number) (physical-of number spec)
+          (λ same. clash has (subst (λ (n : ℕ). has_number n file.members ≡ false) same absent))) s.jobs (changes-free file.members s.jobs free)
+
+      -- of its paths the one over a member is that of the member
+      own-over : (number : ℕ) (gone : Named MemberStatus)
+          → AllByRecursion (λ (p : PathSpec). is_over number p ≡ true → p ≡ path_at spec number) (map (λ entry. physical_path entry.1.number spec.format.fields spec.keys) gone)
+      own-over number [] = tt
+      own-over number (entry ∷ gone) = (
+        λ over. elim (cases_eq number entry.1.number) [
+          | inl same ↦ ap (path_at spec) (sym same)
+          | inr differs ↦ absurd (clash over (over-other entry.1.number number (path_at spec entry.1.number) (physical-of entry.1.number spec) differs))
+        ],
+        own-over number gone,
+      )
+
+      either-over : (number : ℕ) → has_number number file.members ≡ true → (gone : Named MemberStatus)
+          → AllByRecursion (λ (p : PathSpec). is_over number p ≡ true → p ≡ path_at spec number) (map (λ entry. physical_path entry.1.number spec.format.fields spec.keys) gone ++ all_paths others)
+      either-over number has gone =
+          each-append (λ (p : PathSpec). is_over number p ≡ true → p ≡ path_at spec number) (map (λ entry. physical_path entry.1.number spec.format.fields spec.keys) gone) (all_paths others)
+          (own-over number gone)
+          (each-weaker (λ (p : PathSpec). is_over number p ≡ false) (λ (p : PathSpec). is_over number p ≡ true → p ≡ path_at spec number) (λ p none over. absurd (clash over none)) (all_paths others)
+          (left-apart number has))
+
+      abbrev WithoutFor : Named MemberStatus → KeptPaths → Type 0
+      WithoutFor gone now =
+          AreShared (without_paths gone now.paths)
+          × IsIndexedFor (all_paths others) s.files s.members s.jobs orders moves (record { paths = without_paths gone now.paths; rooms = now.rooms })
+
+      -- the paths of a file with a key are given up one after another
+      giving : (gone : Named MemberStatus) → ((number : ℕ) → has_number number gone ≡ true → has_number number file.members ≡ true) → (now : KeptPaths) → AreShared now.paths
+          → IsIndexedFor (map (λ entry. physical_path entry.1.number spec.format.fields spec.keys) gone ++ all_paths others) s.files s.members s.jobs orders moves now → WithoutFor gone now
+      giving [] inside now shared indexed = (shared, indexed)
+      giving (entry ∷ gone) inside now shared indexed =
+          by (found_over entry.1.number now.paths) refl (λ later some now_indexed. giving gone (λ number has. inside number (has-later number entry gone has)) later some now_indexed)
+        where
+          number : ℕ
+          number = entry.1.number
+
+          has : has_number entry.1.number file.members ≡ true
+          has = inside entry.1.number (has-first entry gone)
+
+          rest : List PathSpec
+          rest = map (λ entry. physical_path entry.1.number spec.format.fields spec.keys) gone ++ all_paths others
+
+          by : (o : Option (Numbered KeptPath)) → found_over entry.1.number now.paths ≡ o
+              → ((later : KeptPaths) → AreShared later.paths
+              → IsIndexedFor (map (λ entry. physical_path entry.1.number spec.format.fields spec.keys) gone ++ all_paths others) s.files s.members s.jobs orders moves later → WithoutFor gone later)
+              → WithoutFor (entry ∷ gone) now
+          by None found more =
+              let both = any-both (λ (p : Numbered KeptPath). is_over number p.item.spec ≡ false) (λ (p : Numbered KeptPath). p.item.spec ≡ path_at spec number) now.paths
+              (none-over number now.paths found) indexed.paths.there.0 in
+              absurd (clash (over-own number (path_at spec number) (physical-of number spec)) (ap (is_over number) (sym both.2) ∙ both.1))
+          by (Some p) found more =
+              let at = first-found number p now.paths shared.ascend found in
+              let contained : Contains (path_at spec number ∷ rest) p.item.spec =
+              each-at (λ (q : Numbered KeptPath). Contains (path_at spec number ∷ rest) q.item.spec) p.number p.item now.paths
+              (recursion_from_All (λ (q : Numbered KeptPath). Contains (path_at spec number ∷ rest) q.item.spec) now.paths
+              (kept-contained (path_at spec number ∷ rest) s.members now.paths shared indexed.paths)) at.0 in
+              let same : p.item.spec ≡ path_at spec number =
+              each-contained (λ (q : PathSpec). is_over number q ≡ true → q ≡ path_at spec number) (path_at spec number ∷ rest) p.item.spec (either-over number has (entry ∷ gone)) contained at.1 in
+              let fewer : detached p.number now.paths ≡ without_path_over number now.paths =
+              sym (ap (λ (o : Option (Numbered KeptPath)). detached_from (option_map (λ (q : Numbered KeptPath). q.number) o) now.paths) found) in
+              subst (λ (ps : NumberedPaths). AreShared (without_paths gone ps)
+              × IsIndexedFor (all_paths others) s.files s.members s.jobs orders moves (record { paths = without_paths gone ps; rooms = now.rooms })) fewer
+              (more (record { paths = detached p.number now.paths; rooms = now.rooms }) (detached-shared p.number p.item now.paths shared at.0)
+              (IsIndexed-detached rest s.files s.members s.jobs orders moves (path_at spec number) (its-unchanged number has) now shared p.number p.item at.0 same
+              (among-more (map (λ entry. physical_path entry.1.number spec.format.fields spec.keys) gone) (all_paths others) s.files s.jobs (opens-among s.jobs its-opens lawful.opens)) indexed))
+
+      -- those left are over none of its members
+      not-over : (now : NumberedPaths) → AreShared now → AreKeptFor (all_paths others) s.members now → (number : ℕ) → has_number number file.members ≡ true
+          → All (λ (p : Numbered KeptPath). is_over number p.item.spec ≡ false) now
+      not-over now shared kept number has = λ k d low.
+          each-contained (λ (p : PathSpec). is_over number p ≡ false) (all_paths others) (get_or now k d).item.spec (left-apart number has) (kept-contained (all_paths others) s.members now shared kept k d low)
+
+      none-found : (number : ℕ) (paths : NumberedPaths) → AllByRecursion (λ (p : Numbered KeptPath). is_over number p.item.spec ≡ false) paths → found_over number paths ≡ None
+      none-found number [] all = refl
+      none-found number (p ∷ paths) all = cond-false (is_over number p.item.spec) (Some p) (found_over number paths) all.0 ∙ none-found number paths all.1
+
+      -- a file without a key has none
+      giving-none : (gone : Named MemberStatus) → ((number : ℕ) → has_number number gone ≡ true → has_number number file.members ≡ true) → (now : KeptPaths) → AreShared now.paths
+          → IsIndexedFor (all_paths others) s.files s.members s.jobs orders moves now → WithoutFor gone now
+      giving-none [] inside now shared indexed = (shared, indexed)
+      giving-none (entry ∷ gone) inside now shared indexed =
+          let none = none-found entry.1.number now.paths (recursion_from_All (λ (p : Numbered KeptPath). is_over entry.1.number p.item.spec ≡ false) now.paths
+          (not-over now.paths shared indexed.paths entry.1.number (inside entry.1.number (has-first entry gone)))) in
+          let same : now.paths ≡ without_path_over entry.1.number now.paths =
+          sym (ap (λ (o : Option (Numbered KeptPath)). detached_from (option_map (λ (q : Numbered KeptPath). q.number) o) now.paths) none) in
+          subst (λ (ps : NumberedPaths). AreShared (without_paths gone ps)
+          × IsIndexedFor (all_paths others) s.files s.members s.jobs orders moves (record { paths = without_paths gone ps; rooms = now.rooms })) same
+          (giving-none gone (λ number has. inside number (has-later number entry gone has)) now shared indexed)
+
+      its-paths : (b : Bool) (old : KeptPaths) → AreShared old.paths
+          → IsIndexedFor ((if b then map (λ entry. physical_path entry.1.number spec.format.fields spec.keys) file.members else []) ++ all_paths others) s.files s.members s.jobs orders moves old
+          → WithoutFor file.members old
+      its-paths true old shared indexed = giving file.members (λ number has. has) old shared indexed
+      its-paths false old shared indexed = giving-none file.members (λ number has. has) old shared indexed
+
+      pub IsIndexed-without_physical : (old new : KeptPaths) → AreShared old.paths → new.paths ≡ without_paths file.members old.paths
+          → ((number : ℕ) → IsSome (item_at number new.paths) → spare_of number new ≡ spare_of number old) → IsIndexed s.files s.members s.jobs orders moves old
+          → IsIndexed (without_file name s.files) (without_members file.members s.members) s.jobs orders moves new
+      IsIndexed-without_physical old new shared same spares indexed =
+          let fewer = its-paths (nat_lt 0 (length spec.keys.parts)) old shared
+          (subst (λ (ps : List PathSpec). IsIndexedFor (ps ++ all_paths others) s.files s.members s.jobs orders moves old) (ap (paths_by s.files file.members) is) (own-first old indexed)) in
+          let some : AreShared new.paths = subst AreShared (sym same) fewer.0 in
+          let left : IsIndexedFor (all_paths others) s.files s.members s.jobs orders moves new =
+          IsIndexed-same (all_paths others) s.files s.members s.jobs orders moves (record { paths = without_paths file.members old.paths; rooms = old.rooms }) new same spares fewer.1 in
+          others-left (without_members file.members s.members) new its-opens
+          (IsIndexed-members (all_paths others) s.files s.members s.jobs orders moves (without_members file.members s.members) new
+          (over-left file.members s.members new.paths (λ k d low number has. not-over new.paths some left.paths number has k d low) left.paths.over)
+          (bytes-left file.members s.members left.bytes) left)
+
+-- a file of either kind, and its path, where it is a logical one
+pub IsIndexed-without_file : (s : State) (name : List ℕ) (file : FileState) → IsLibrary s → IsDistinct same_name (keys_of s.files) → AreApart s.files → named name s.files ≡ Some file
+    → first_dependent name s.files ≡ None → (orders : List (Named OpenOrder)) (moves : List (List (List PathMove))) (path : Option ℕ) (old new : KeptPaths) → AreShared old.paths
+    → IsPathOfNamed s.files old.paths (named name s.files) path → user_by file.spec name file (memory_of s) ≡ None → new.paths ≡ detached_from path (without_paths file.members old.paths)
+    → ((number : ℕ) → IsSome (item_at number new.paths) → spare_of number new ≡ spare_of number old) → IsIndexed s.files s.members s.jobs orders moves old
+    → IsIndexed (without_file name s.files) (without_members file.members s.members) s.jobs orders moves new
+IsIndexed-without_file s name file lawful distinct apart here alone orders moves path old new shared its unused paths spares indexed =
+    by file.spec refl (subst (λ (o : Option FileState). IsPathOfNamed s.files old.paths o path) here its) unused (lawful.bases name file here)
+  where
+    by : (kind : FileSpec) → file.spec ≡ kind → IsPathOf s.files old.paths kind path → user_by kind name file (memory_of s) ≡ None → IsBased s.files name file.members kind
+        → IsIndexed (without_file name s.files) (without_members file.members s.members) s.jobs orders moves new
+    by (PhysicalFile spec) is none free based =
+        IsIndexed-without_physical s name file lawful distinct apart here alone indexed.views orders moves spec is free old new shared
+        (paths ∙ ap (λ (o : Option ℕ). detached_from o (without_paths file.members old.paths)) none) spares indexed
+    by (LogicalFile spec) is own free based =
+        subst (λ (gone : Named MemberStatus). IsIndexed (without_file name s.files) (without_members gone s.members) s.jobs orders moves new) (sym based.none)
+        (IsIndexed-without_view s name file lawful distinct apart here alone indexed.views orders moves spec is free path old new shared own
+        (paths ∙ ap (λ (gone : Named MemberStatus). detached_from path (without_paths gone old.paths)) based.none) spares indexed)
+
+-- the number of a logical file's path
+pub view-numbered : (files : Named FileState) (paths : NumberedPaths) (kind : FileSpec) (view : LogicalSpec) (path : PathSpec) (id : Option ℕ) → logical_in kind ≡ Some view
+    → path ≡ own_path (bases_in files) view → MatchOption id (IsNew path paths) (λ n. (k : KeptPath) × (item_at n paths ≡ Some k) × (k.spec ≡ path)) → IsPathOf files paths kind id
+view-numbered files paths (PhysicalFile spec) view path id e is found = absurd cc
+view-numbered files paths (LogicalFile spec) view path id e is found = by id found
+  where
+    own : path ≡ own_path (bases_in files) spec
+    own = is ∙ ap (own_path (bases_in files)) (sym (some-equal e))
+
+    by : (o : Option ℕ) → MatchOption o (IsNew path paths) (λ n. (k : KeptPath) × (item_at n paths ≡ Some k) × (k.spec ≡ path)) → IsNumberOf (own_path (bases_in files) spec) o paths
+    by None new = subst (λ (p : PathSpec). IsNew p paths) own new
+    by (Some n) there = any-at (IsNumbered n (own_path (bases_in files) spec)) n there.0 paths there.1 (refl, there.2 ∙ own)

@@ -1,101 +1,90 @@
--- The kept paths are those of a library still, with a file more, or a member.
-use Rattle.std.proofs.Common.{ℕ, ◌*◌, ◌<◌, ◌≤◌, ◌≡◌, ◌≢◌, ◌==◌, ◌||◌, ◌⊎◌, inl, inr, nat_lt, if◌then◌else◌, Bool, true, false, cond, List, [], ◌∷◌, ◌++◌, length, get_or, Option, Some, None}
-use Rattle.std.proofs.Common.{is_some, IfSome, refl}
-use Rattle.std.proofs.Common.{sym, ap, arith, ◌∙◌, subst}
-use Rattle.std.specs.Prelude.{All, Any}
-use Rattle.std.specs.List.{AllByRecursion, AllZip}
-use Rattle.std.specs.Option.{option_map}
-use Rattle.std.proofs.lemmas.Bool.{cond-true, eqb-true}
+-- The kept paths are those of a library still, with a file more, physical or logical, or a member.
+use Rattle.std.proofs.Common.{ℕ, ◌+◌, ◌-◌, ◌<◌, ◌≤◌, ◌≡◌, ◌≢◌, ◌==◌, ◌||◌, nat_eq, nat_lt, if◌then◌else◌, Bool, true, false, cond, List, [], ◌∷◌, ◌++◌, length, map, length-append, Option, Some, None, is_some, IfSome, Ok, Err, Result, refl, sym, ap, arith, ◌∙◌, subst}
+use Rattle.std.specs.Prelude.{All, replicate}
+use Rattle.std.specs.List.{AllByRecursion, IsDistinct, list_any}
+use Rattle.std.specs.Map.{keys_of}
+use Rattle.std.specs.Option.{option_and_then, option_to_list}
+use Rattle.std.proofs.lemmas.Bool.{cond-true}
 use Rattle.std.proofs.lemmas.Bool.Decides.{nat_tests}
-use Rattle.std.proofs.Math.Bool.{or-true}
-use Rattle.std.proofs.lemmas.List.Elements.{All-from_recursion, recursion_from_All}
+use Rattle.std.proofs.lemmas.List.{length-replicate}
+use Rattle.std.proofs.lemmas.List.Elements.{recursion_from_All}
+use Rattle.access_path.specs.PathBytes.{IsInBytes}
 use Rattle.member_slots.specs.Member.{MemberState, empty_member}
-use Rattle.member_slots.specs.Members.{Numbered, NumberedMembers, item_at, member_at, put_item, put_member}
-use Rattle.record_fmt.specs.Layout.{record_length}
+use Rattle.member_slots.specs.Members.{Numbered, NumberedMembers, member_at, put_member}
+use Rattle.record_fmt.specs.Layout.{IsLaidOut}
+use Rattle.dds_physical.specs.declared.physical_files.PhysicalSpec.{PhysicalSpec}
+use Rattle.dds_source.specs.declared.faults.DdsFault.{DdsFault}
+use Rattle.dds_source.specs.declared.specifications.Source.{Source}
+use Rattle.dds_source.specs.Reading.{source_of}
+use Rattle.dds_source.specs.declared.keywords.Keyword.{Keyword}
+use Rattle.dds_source.specs.Faults.{first_after}
+use Rattle.dds_physical.specs.Physical.{ties_of}
+use Rattle.key_spec.specs.declared.KeyPart.{KeyPart}
+use Rattle.key_spec.specs.declared.KeyPart.TheVariants.{Absent}
+use Rattle.key_spec.specs.declared.Ties.TheVariants.{Rising}
+use Rattle.dds_logical.specs.FormatLines.{FormatLines, formats_in, is_join_file, is_multi_format}
+use Rattle.dds_logical.specs.Keys.{padded}
+use Rattle.dds_logical.specs.Logical.{described_by, faults_over, format_parts, join_described_by, logical_faults, logical_of, logical_specification, most_parts, one_or_several, view_described}
+use Rattle.dds_logical.specs.declared.views.LogicalSpec.{LogicalSpec}
+use Rattle.dds_logical.specs.declared.views.LogicalSpec.TheVariants.{Simple, Multi, Join}
+use Rattle.logical_model.specs.Bases.{Base, Bases, FileSpec, PhysicalFile, LogicalFile, base_members, base_names}
+use Rattle.logical_model.specs.FilePaths.{logical_paths, view_format}
+use Rattle.logical_laws.proofs.ListLemmas.{each-append, each-weaker}
+use Rattle.logical_laws.proofs.MappedLemmas.{described-mapped, described-there}
+use Rattle.logical_paths.specs.KeyedViews.{HaveFewPairs, HaveRecords}
+use Rattle.logical_paths.specs.Steps.{own_path}
+use Rattle.logical_paths.proofs.DescribedLemmas.{described-keyed, found-right}
+use Rattle.logical_paths.proofs.ViewLemmas.{paths-bytes, paths-kept}
 use Rattle.journal_model.specs.Rollback.{MemberChange}
-use Rattle.access_path.specs.Moves.{Move}
 use Rattle.file_model.specs.declared.paths.PathFormat.{PathFormat}
 use Rattle.file_model.specs.declared.paths.PathSpec.{PathSpec}
-use Rattle.logical_model.specs.Bases.{FileSpec}
+use Rattle.file_model.specs.FilePaths.{physical_path}
+use Rattle.file_model.specs.Paths.{repeated_in}
+use Rattle.path_entrants.specs.Repeated.{TellsRepeated}
 use Rattle.path_set.specs.declared.moves.PathMove.{PathMove}
-use Rattle.path_set.specs.KeptPaths.{KeptPath, KeptPaths, NumberedPaths, spare_of, entries_of}
-use Rattle.path_set.specs.RecordChanges.{RecordChange, reversed, moves_of, in_path, moves_in}
-use Rattle.path_set.specs.Sharing.{IsNew, IsShared, IsPut, path_over}
-use Rattle.path_set.proofs.AttachLemmas.{shared-not-new}
-use Rattle.path_set.proofs.MemberStepLemmas.{moves-others, over-new}
+use Rattle.path_set.specs.KeptPaths.{KeptPaths, AreShared}
+use Rattle.path_set.specs.MemberSteps.{is_over}
+use Rattle.path_set.specs.Sharing.{CanBeKept}
+use Rattle.path_set.proofs.MemberStepLemmas.{over-new}
+use Rattle.file_catalogue.specs.Keyed.{AllAreKeyed}
 use Rattle.file_catalogue.specs.Owners.{Owns, has_number}
-use Rattle.file_catalogue.proofs.ChangeLemmas.{changed-from, named-file_changed}
-use Rattle.file_catalogue.proofs.NameLemmas.{named-append, same_name-equal, same_name-self, some-equal}
-use Rattle.file_catalogue.proofs.StatusLemmas.{has_number-push}
+use Rattle.file_catalogue.specs.Physical.{IsPhysical}
+use Rattle.file_catalogue.proofs.NameLemmas.{some-equal}
+use Rattle.file_catalogue.proofs.StatusLemmas.{has_number-cons}
+use Rattle.physical_paths.specs.KeyedFiles.{HasRecordsOf}
 use Rattle.job_table.specs.Opens.{OpenOrder}
 use Rattle.library_model.specs.Named.{Named, named, same_name}
+use Rattle.library_paths.specs.AllPaths.{AllStand, StandsBy, all_paths, count_in, paths_by}
+use Rattle.library_paths.proofs.BaseLemmas.{all-alike-more, all-alike-wider, alike-more}
+use Rattle.library_paths.proofs.CountLemmas.{count-append}
+use Rattle.library_paths.proofs.OwnerLemmas.{all-stand}
+use Rattle.library_paths.proofs.PathsLemmas.{paths-more, paths-own, paths-wider}
+use Rattle.library_steps.specs.CreateLogicalFile.{NewLogical, first_repeated, logical_by, logical_described, logical_file}
 use Rattle.library_steps.specs.CreatePhysicalFile.{new_status}
+use Rattle.library_steps.specs.LogicalFiles.{base_in, bases_in, bases_of, physical_paths}
 use Rattle.library_steps.specs.MemberCommands.{file_changed, with_member_name}
-use Rattle.library_steps.specs.State.{State, FileState, MemberStatus, fields_of, physical_among}
-use Rattle.library_parts.specs.Indexed.{member_path, IsOfFile, ArePaths, OpensRead, record_change, moves_back, changes_on, AreOfBytes, IsIndexed}
-use Rattle.library_parts.specs.Lawful.{GoesBack, IsLibrary}
-use Rattle.library_parts.specs.PathChanges.{IsAttached, AttachesPath}
-use Rattle.library_parts.proofs.BaseLemmas.{kept-more, kept-wider, named-only, physical-found}
-use Rattle.library_parts.proofs.MemberLemmas.{IsThere-is_some}
-use Rattle.library_parts.proofs.IndexPaths.{FilesStay, IsOfMember, any-cons, any-first, any-later, any-none, any-own, changes-all, changes-none, member_path-is, moves-among, one-member}
-use Rattle.library_parts.proofs.IndexPaths.{orders-stay, over-other}
-use Rattle.library_parts.proofs.IndexStatus.{owned-stay, paths-stay}
+use Rattle.library_steps.specs.State.{State, Memory, FileState, MemberStatus, JobState, fields_of, format_in, if_physical, memory_of, physical_among, physical_in, physical_spec}
+use Rattle.library_steps.specs.Uses.{changer_of_any, changes_in, has_changed}
+use Rattle.library_parts.specs.Indexed.{AreOfBytes, AreViewsBeside, IsIndexed, IsIndexedFor, IsSimple, IsView, IsViewBeside, RisesIfKeyless}
+use Rattle.library_parts.specs.Lawful.{AreBased, GoesBack, IsBased, IsLibrary, StandsOver}
+use Rattle.library_parts.specs.PathChanges.{AttachesPath, IsAttached, member_path}
+use Rattle.library_parts.proofs.BaseLemmas.{base-is, kept-more, kept-wider, physical-described, physical-found, physical-here, physical-member, some-of}
+use Rattle.library_parts.proofs.BackLemmas.{neither}
+use Rattle.library_parts.proofs.IndexPaths.{IsOfMember, changes-all, over-other, physical-of}
+use Rattle.library_parts.proofs.IndexShared.{IsUnchanged, IsIndexed-attached, IsIndexed-files, IsIndexed-members, opens-stay}
+use Rattle.library_parts.proofs.IndexStatus.{beside-alike, files-alike, views-alike}
+use Rattle.library_parts.proofs.IndexGone.{jobs-free}
 
--- ---- a path more in the list
+-- ---- each file stands
 
-module _ (id : ℕ) (item : KeptPath) where
-  abbrev added : Numbered KeptPath
-  added = record { number = id; item = item }
+stands-based : (files : Named FileState) (name : List ℕ) (members : Named MemberStatus) (spec : FileSpec) → IsBased files name members spec → StandsBy files name members spec
+stands-based files name members (PhysicalFile spec) based = based
+stands-based files name members (LogicalFile spec) based = based.bases
 
-  all-put : (P : Numbered KeptPath → Type 0) (paths : NumberedPaths) → P added → AllByRecursion P paths → AllByRecursion P (put_item id item paths)
-  all-put P [] own all = (own, tt)
-  all-put P (path ∷ paths) own all =
-      elim (nat_lt path.number id) as (λ b. AllByRecursion P (if b then path ∷ put_item id item paths else if path.number == id then added ∷ paths else added ∷ path ∷ paths)) [
-        | true ↦ (all.0, all-put P paths own all.1)
-        | false ↦ elim (path.number == id) as (λ b. AllByRecursion P (if b then added ∷ paths else added ∷ path ∷ paths)) [
-          | true ↦ (own, all.1)
-          | false ↦ (own, all)
-        ]
-      ]
-
-  pub each-put : (P : Numbered KeptPath → Type 0) (paths : NumberedPaths) → P added → All P paths → All P (put_item id item paths)
-  each-put P paths own all = All-from_recursion P (put_item id item paths) (all-put P paths own (recursion_from_All P paths all))
-
-  pub any-put : (P : Numbered KeptPath → Type 0) (paths : NumberedPaths) → item_at id paths ≡ None → Any P paths → Any P (put_item id item paths)
-  any-put P [] none any = absurd (any-none P any)
-  any-put P (path ∷ paths) none any = by (path.number == id) (nat_lt path.number id) none (λ later rest. any-put P paths later rest)
-    where
-      by : (b less : Bool) → cond b (Some path.item) (item_at id paths) ≡ None → (item_at id paths ≡ None → Any P paths → Any P (put_item id item paths))
-          → Any P (cond less (path ∷ put_item id item paths) (cond b (added ∷ paths) (added ∷ path ∷ paths)))
-      by true less absent more = absurd cc
-      by false true absent more =
-          elim (any-cons P path paths any) [
-            | inl is ↦ any-first P path (put_item id item paths) is
-            | inr rest ↦ any-later P path (put_item id item paths) (more absent rest)
-          ]
-      by false false absent more = any-later P added (path ∷ paths) any
-
-  pub any-new : (P : Numbered KeptPath → Type 0) (paths : NumberedPaths) → P added → Any P (put_item id item paths)
-  any-new P [] own = any-first P added [] own
-  any-new P (path ∷ paths) own =
-      elim (nat_lt path.number id) as (λ b. Any P (if b then path ∷ put_item id item paths else if path.number == id then added ∷ paths else added ∷ path ∷ paths)) [
-        | true ↦ any-later P path (put_item id item paths) (any-new P paths own)
-        | false ↦ elim (path.number == id) as (λ b. Any P (if b then added ∷ paths else added ∷ path ∷ paths)) [
-          | true ↦ any-first P added paths own
-          | false ↦ any-first P added (path ∷ paths) own
-        ]
-      ]
-
-  -- it has no part in changes of other members
-  pub moves-put : (c : RecordChange) (paths : NumberedPaths) → item_at id paths ≡ None → moves_of c item.spec ≡ [] → moves_in c (put_item id item paths) ≡ moves_in c paths
-  moves-put c [] none apart = ap (λ (w : List Move). in_path id w ++ []) apart
-  moves-put c (path ∷ paths) none apart = by (path.number == id) (nat_lt path.number id) none (λ later. moves-put c paths later apart)
-    where
-      by : (b less : Bool) → cond b (Some path.item) (item_at id paths) ≡ None → (item_at id paths ≡ None → moves_in c (put_item id item paths) ≡ moves_in c paths)
-          → moves_in c (cond less (path ∷ put_item id item paths) (cond b (added ∷ paths) (added ∷ path ∷ paths))) ≡ moves_in c (path ∷ paths)
-      by true less absent more = absurd cc
-      by false true absent more = ap (λ (w : List PathMove). in_path path.number (moves_of c path.item.spec) ++ w) (more absent)
-      by false false absent more = ap (λ (w : List Move). in_path id w ++ moves_in c (path ∷ paths)) apart
+pub stand-based : (files : Named FileState) → IsDistinct same_name (keys_of files) → AreBased files → AllStand files
+stand-based files distinct based =
+    all-stand files distinct
+    (λ name file found. stands-based files name file.members file.spec (based name file found))
 
 -- ---- a member more
 
@@ -116,22 +105,11 @@ bytes-put next long (entry ∷ members) all =
           ]
     ]
 
--- each member of the files is one that was there, or has this path
-abbrev pub OwnedSince : Named FileState → Named FileState → Option PathSpec → Type 0
-OwnedSince files others path =
-    (name : List ℕ) (file : FileState) (number : ℕ) → Owns others name file number
-    → ((before : FileState) × Owns files name before number × (before.spec ≡ file.spec)) ⊎ (member_path file.spec number ≡ path)
+-- ---- the next number
 
 module _ (s : State) (lawful : IsLibrary s) where
   pub next-none : member_at s.next_member s.members ≡ None
   next-none = fresh s.members s.next_member lawful.numbers
-
-  -- none that is there has the next number
-  owned-other : (name : List ℕ) (file : FileState) (number : ℕ) → Owns s.files name file number → number ≢ s.next_member
-  owned-other name file number owns same =
-      let there : is_some (member_at number s.members) ≡ true = IsThere-is_some (fields_of file) (member_at number s.members) (lawful.members name file number owns) in
-      let none : is_some (member_at number s.members) ≡ false = ap (λ (n : ℕ). is_some (member_at n s.members)) same ∙ ap (λ (o : Option MemberState). is_some o) next-none in
-      absurd cc
 
   changed-other : (sequence : ℕ) (undo : MemberChange) → GoesBack s.files s.members sequence undo → undo.member ≢ s.next_member
   changed-other sequence undo back same =
@@ -139,236 +117,350 @@ module _ (s : State) (lawful : IsLibrary s) where
       let none : is_some (member_at undo.member s.members) ≡ false = ap (λ (n : ℕ). is_some (member_at n s.members)) same ∙ ap (λ (o : Option MemberState). is_some o) next-none in
       absurd cc
 
-  -- the next member's path is no other's
-  path-new : (spec : PathSpec) (paths : NumberedPaths) → IsOfMember s.next_member spec → All (λ (path : Numbered KeptPath). IsOfFile s.files path.item.spec) paths → IsNew spec paths
-  path-new spec paths its owned k d low same =
-      let owner = (owned k d low).owner in
-      owned-other owner.0 owner.1 owner.2 owner.3
-      (one-member owner.2 s.next_member spec (subst (IsOfMember owner.2) same (member_path-is owner.1.spec owner.2 (get_or paths k d).item.spec owner.4)) its)
+  -- no change is of a member that a path of the next member is over
+  next-unchanged : (spec : PathSpec) → IsOfMember s.next_member spec → IsUnchanged spec s.jobs
+  next-unchanged spec its =
+      changes-all s.files s.members (λ undo. is_over undo.member spec ≡ false)
+      (λ sequence undo back. over-other s.next_member undo.member spec its (changed-other sequence undo back)) s.jobs lawful.changes
 
-  put-only : (old new : KeptPaths) (spec : PathSpec) → IsOfMember s.next_member spec → All (λ (path : Numbered KeptPath). IsOfFile s.files path.item.spec) old.paths
-      → (is : IsAttached spec s.members old new)
-      → IsPut spec s.members is.path.0 old.paths new.paths
-  put-only old new spec its owned is = by is.path.1
+-- ---- the path of a member of a physical file, as a list
+
+own-member : (spec : PhysicalSpec) (number : ℕ) → IfSome (member_path spec number) (IsOfMember number)
+own-member spec number =
+    elim (nat_lt 0 (length spec.keys.parts)) as (λ b. IfSome (if b then Some (physical_path number spec.format.fields spec.keys) else None) (IsOfMember number)) [
+      | true ↦ physical-of number spec
+      | false ↦ tt
+    ]
+
+listed : (spec : PhysicalSpec) (member : List ℕ) (number : ℕ) → option_to_list (member_path spec number) ≡ physical_paths spec ((member, new_status number) ∷ [])
+listed spec member number =
+    elim (nat_lt 0 (length spec.keys.parts)) as (λ b. option_to_list (if b then Some (physical_path number spec.format.fields spec.keys) else None)
+    ≡ (if b then physical_path number spec.format.fields spec.keys ∷ [] else [])) [
+      | true ↦ refl
+      | false ↦ refl
+    ]
+
+turned : (a b c : ℕ) → c ≡ b + a → a + b ≡ c
+turned a b c is = omega (arith, is)
+
+-- one path more, wherever it stands among them
+alike-grown : (path : PathSpec) (spec : PhysicalSpec) (member : List ℕ) (number : ℕ) (specs more : List PathSpec)
+    → count_in path more ≡ count_in path specs + count_in path (physical_paths spec ((member, new_status number) ∷ []))
+    → count_in path (option_to_list (member_path spec number) ++ specs) ≡ count_in path more
+alike-grown path spec member number specs more grown =
+    count-append path (option_to_list (member_path spec number)) specs
+    ∙ ap (λ (ps : List PathSpec). count_in path ps + count_in path specs) (listed spec member number)
+    ∙ turned (count_in path (physical_paths spec ((member, new_status number) ∷ []))) (count_in path specs) (count_in path more) grown
+
+module _ (s : State) (orders : List (Named OpenOrder)) (moves : List (List (List PathMove))) (lawful : IsLibrary s) (distinct : IsDistinct same_name (keys_of s.files)) where
+  stand : AllStand s.files
+  stand = stand-based s.files distinct lawful.bases
+
+  -- the next member comes, and its path is attached, where there is one
+  with-member : (long : ℕ) (path : Option PathSpec) → IfSome path (IsOfMember s.next_member) → (old new : KeptPaths) → AreShared old.paths → AttachesPath path s.members old new
+      → IsIndexed s.files s.members s.jobs orders moves old
+      → IsIndexedFor (option_to_list path ++ all_paths s.files) s.files (put_member s.next_member (empty_member long) s.members) s.jobs orders moves new
+  with-member long path own old new shared attached indexed =
+      let widened = by path own attached in
+      IsIndexed-members (option_to_list path ++ all_paths s.files) s.files s.members s.jobs orders moves (put_member s.next_member (empty_member long) s.members) new
+      (over-new s.next_member long s.members new.paths (next-none s lawful) widened.paths.over) (bytes-put s.next_member long s.members indexed.bytes) widened
     where
-      by : IsShared spec is.path.0 old.paths new.paths ⊎ IsPut spec s.members is.path.0 old.paths new.paths → IsPut spec s.members is.path.0 old.paths new.paths
-      by (inl shared) = absurd (shared-not-new spec is.path.0 old.paths new.paths shared (path-new spec old.paths its owned))
-      by (inr put) = put
+      by : (o : Option PathSpec) → IfSome o (IsOfMember s.next_member) → AttachesPath o s.members old new
+          → IsIndexedFor (option_to_list o ++ all_paths s.files) s.files s.members s.jobs orders moves new
+      by None its same = subst (λ (k : KeptPaths). IsIndexed s.files s.members s.jobs orders moves k) (sym same) indexed
+      by (Some spec) its is =
+          IsIndexed-attached (all_paths s.files) s.files s.members s.jobs orders moves spec (next-unchanged s lawful spec its) old new shared is indexed
 
-  module _ (orders : List (Named OpenOrder)) (moves : List (List (List PathMove))) (others : Named FileState) (long : ℕ) (stay : FilesStay s.files others) where
-    abbrev after : NumberedMembers
-    after = put_member s.next_member (empty_member long) s.members
+  -- ---- a file more
 
-    -- its path was attached
-    pub widened : (old new : KeptPaths) (spec : PathSpec) → IsOfFile others spec → IsOfMember s.next_member spec → OwnedSince s.files others (Some spec) → IsAttached spec s.members old new
-        → IsIndexed s.files s.members s.jobs orders moves old → IsIndexed others after s.jobs orders moves new
-    widened old new spec file its since is indexed = record {
-      paths = subst (ArePaths others after) (sym put.put) (record {
-        over = over-new s.next_member long s.members grown next-none
-            (each-put id item (λ (path : Numbered KeptPath). path.item.entries ≡ entries_of path.item.spec s.members) old.paths refl indexed.paths.over);
-        owned = each-put id item (λ (path : Numbered KeptPath). IsOfFile others path.item.spec) old.paths file
-            (λ k d low. owned-stay s.files others (get_or old.paths k d).item.spec stay (indexed.paths.owned k d low));
-        there = λ name its_file number owns. there name its_file number (since name its_file number owns);
-        single = each-put id item (λ (path : Numbered KeptPath). path.item.files ≡ 1) old.paths refl indexed.paths.single;
-      });
-      orders = subst (λ (p : NumberedPaths). AllZip (OpensRead others p) s.jobs orders) (sym put.put)
-          (orders-stay s.files others old.paths grown stay
-          (λ n sp any. any-put id item (λ (path : Numbered KeptPath). (path.number ≡ n) × (path.item.spec ≡ sp)) old.paths put.number.free any) s.jobs orders indexed.orders);
-      moves = indexed.moves ∙ sym (moves-among old.paths new.paths s.jobs (changes-all s.files s.members (λ undo. moves_back new.paths undo ≡ moves_back old.paths undo)
-          (λ sequence undo back. ap (moves_in (reversed (record_change undo))) put.put
-          ∙ moves-put id item (reversed (record_change undo)) old.paths put.number.free
-          (moves-others (reversed (record_change undo)) spec (over-other s.next_member undo.member spec its (changed-other sequence undo back)))) s.jobs lawful.changes));
-      room = λ member. subst (λ (p : NumberedPaths). All (HasRoomIn member) p) (sym put.put)
-          (each-put id item (HasRoomIn member) old.paths (none-held member)
-          (λ k d low any. let h = indexed.room member k d low any in let m = is.spares (get_or old.paths k d).number in omega (arith, h, m)));
-      bytes = bytes-put s.next_member long s.members indexed.bytes;
-    }
-      where
-        id : ℕ
-        id = is.path.0
+  module _ (name : List ℕ) (file : FileState) where
+    abbrev more : Named FileState
+    more = s.files ++ (name, file) ∷ []
 
-        put : IsPut spec s.members is.path.0 old.paths new.paths
-        put = put-only old new spec its indexed.paths.owned is
+    -- whose paths are kept
+    with-file : (specs : List PathSpec) (members : NumberedMembers) (kept : KeptPaths) → IsViewBeside (s.files ++ (name, file) ∷ []) file.spec
+        → ((path : PathSpec) → count_in path specs ≡ count_in path (all_paths (s.files ++ (name, file) ∷ []))) → IsIndexedFor specs s.files members s.jobs orders moves kept
+        → IsIndexed (s.files ++ (name, file) ∷ []) members s.jobs orders moves kept
+    with-file specs members kept own alike indexed =
+        IsIndexed-files specs s.files members s.jobs orders moves (all_paths more) more kept
+        (opens-stay s.files more (files-alike s.files more (all-alike-more s.files (name, file) stand) (kept-more s.files (name, file))) s.jobs)
+        (each-append (λ (entry : List ℕ × FileState). IsViewBeside more entry.1.spec) s.files ((name, file) ∷ [])
+        (views-alike s.files more s.files (all-alike-more s.files (name, file) stand) indexed.views) (own, tt)) alike indexed
 
-        item : KeptPath
-        item = path_over spec s.members
+    -- a physical file with its first member, and the path that it has, if it has any
+    module _ (member : List ℕ) (spec : PhysicalSpec) (is : file.spec ≡ PhysicalFile spec) (first : file.members ≡ (member, new_status s.next_member) ∷ []) where
+      pub IsIndexed-with_file : (long : ℕ) (old new : KeptPaths) → AreShared old.paths → AttachesPath (member_path spec s.next_member) s.members old new
+          → IsIndexed s.files s.members s.jobs orders moves old
+          → IsIndexed (s.files ++ (name, file) ∷ []) (put_member s.next_member (empty_member long) s.members) s.jobs orders moves new
+      IsIndexed-with_file long old new shared attached indexed =
+          with-file (option_to_list (member_path spec s.next_member) ++ all_paths s.files) (put_member s.next_member (empty_member long) s.members) new
+          (subst (IsViewBeside more) (sym is) tt) grown (with-member long (member_path spec s.next_member) (own-member spec s.next_member) old new shared attached indexed)
+        where
+          own : paths_by more file.members file.spec ≡ physical_paths spec ((member, new_status s.next_member) ∷ [])
+          own = λ i. paths_by more (first i) (is i)
 
-        grown : NumberedPaths
-        grown = put_item is.path.0 (path_over spec s.members) old.paths
-
-        had : (number : ℕ) (o : Option PathSpec) → IfSome o (λ sp. Any (λ (path : Numbered KeptPath). path.item.spec ≡ sp) old.paths)
-            → IfSome o (λ sp. Any (λ (path : Numbered KeptPath). path.item.spec ≡ sp) (put_item is.path.0 (path_over spec s.members) old.paths))
-        had number None h = h
-        had number (Some sp) h = any-put is.path.0 (path_over spec s.members) (λ (path : Numbered KeptPath). path.item.spec ≡ sp) old.paths put.number.free h
-
-        there : (name : List ℕ) (its_file : FileState) (number : ℕ)
-            → ((before : FileState) × Owns s.files name before number × (before.spec ≡ its_file.spec)) ⊎ (member_path its_file.spec number ≡ Some spec)
-            → IfSome (member_path its_file.spec number) (λ sp. Any (λ (path : Numbered KeptPath). path.item.spec ≡ sp) (put_item is.path.0 (path_over spec s.members) old.paths))
-        there name its_file number (inl was) =
-            subst (λ (f : FileSpec). IfSome (member_path f number) (λ sp. Any (λ (path : Numbered KeptPath). path.item.spec ≡ sp) (put_item is.path.0 (path_over spec s.members) old.paths))) was.2
-            (had number (member_path was.0.spec number) (indexed.paths.there name was.0 number was.1))
-        there name its_file number (inr own) =
-            subst (λ (o : Option PathSpec). IfSome o (λ sp. Any (λ (path : Numbered KeptPath). path.item.spec ≡ sp) (put_item is.path.0 (path_over spec s.members) old.paths))) (sym own)
-            (any-new is.path.0 (path_over spec s.members) (λ (path : Numbered KeptPath). path.item.spec ≡ spec) old.paths refl)
-
-        HasRoomIn : (member : ℕ) → Numbered KeptPath → Type 0
-        HasRoomIn member path =
-            Any (λ (f : PathFormat). f.member ≡ member) path.item.spec.formats → changes_on member s.jobs * length path.item.spec.formats ≤ spare_of path.number new
-
-        none-held : (member : ℕ) → Any (λ (f : PathFormat). f.member ≡ member) spec.formats → changes_on member s.jobs * length spec.formats ≤ spare_of is.path.0 new
-        none-held member any =
-            let none : changes_on member s.jobs ≡ 0 = ap (λ (n : ℕ). changes_on n s.jobs) (any-own s.next_member member spec its any)
-            ∙ changes-none s.next_member s.jobs (changes-all s.files s.members (λ undo. undo.member ≢ s.next_member) changed-other s.jobs lawful.changes) in
-            let product : changes_on member s.jobs * length spec.formats ≡ 0 * length spec.formats = ap (λ (n : ℕ). n * length spec.formats) none in
-            omega (arith, product)
-
-    -- it has none
-    pub widened-alone : (kept : KeptPaths) → OwnedSince s.files others None → IsIndexed s.files s.members s.jobs orders moves kept → IsIndexed others after s.jobs orders moves kept
-    widened-alone kept since indexed = record {
-      paths = record {
-        over = over-new s.next_member long s.members kept.paths next-none indexed.paths.over;
-        owned = λ k d low. owned-stay s.files others (get_or kept.paths k d).item.spec stay (indexed.paths.owned k d low);
-        there = λ name its_file number owns. there name its_file number (since name its_file number owns);
-        single = indexed.paths.single;
-      };
-      orders = orders-stay s.files others kept.paths kept.paths stay (paths-stay kept.paths) s.jobs orders indexed.orders;
-      moves = indexed.moves;
-      room = indexed.room;
-      bytes = bytes-put s.next_member long s.members indexed.bytes;
-    }
-      where
-        there : (name : List ℕ) (its_file : FileState) (number : ℕ)
-            → ((before : FileState) × Owns s.files name before number × (before.spec ≡ its_file.spec)) ⊎ (member_path its_file.spec number ≡ None)
-            → IfSome (member_path its_file.spec number) (λ sp. Any (λ (path : Numbered KeptPath). path.item.spec ≡ sp) kept.paths)
-        there name its_file number (inl was) =
-            subst (λ (f : FileSpec). IfSome (member_path f number) (λ sp. Any (λ (path : Numbered KeptPath). path.item.spec ≡ sp) kept.paths)) was.2 (indexed.paths.there name was.0 number was.1)
-        there name its_file number (inr own) =
-            subst (λ (o : Option PathSpec). IfSome o (λ sp. Any (λ (path : Numbered KeptPath). path.item.spec ≡ sp) kept.paths)) (sym own) tt
-
--- ---- a file more
-
--- the last file is found where no other has its name
-named-behind : (name : List ℕ) (file : FileState) (files : Named FileState) → named name files ≡ None → named name (files ++ (name, file) ∷ []) ≡ Some file
-named-behind name file [] none = named-only name file
-named-behind name file (first ∷ files) none =
-    elim (same_name name first.0) as (λ b. cond b (Some first.1) (named name files) ≡ None → cond b (Some first.1) (named name (files ++ (name, file) ∷ [])) ≡ Some file) [
-      | true ↦ λ e. absurd cc
-      | false ↦ λ e. named-behind name file files e
-    ] none
-
-module _ (s : State) (orders : List (Named OpenOrder)) (moves : List (List (List PathMove))) (lawful : IsLibrary s) where
-  module _ (name member : List ℕ) (file : FileState) (first : file.members ≡ (member, new_status s.next_member) ∷ []) where
-    first-number : (another : FileState) (number : ℕ) → file ≡ another → has_number number another.members ≡ true → s.next_member ≡ number
-    first-number another number same has =
-        let here : has_number number ((member, new_status s.next_member) ∷ []) ≡ true =
-        subst (λ (m : Named MemberStatus). has_number number m ≡ true) (ap (λ (f : FileState). f.members) (sym same) ∙ first) has in
-        grind (arith, nat_tests, here)
-
-    file-since : (path : Option PathSpec) → member_path file.spec s.next_member ≡ path → OwnedSince s.files (s.files ++ (name, file) ∷ []) path
-    file-since path is other another number owns = by (named-append other name s.files file another owns.there)
-      where
-        by : (named other s.files ≡ Some another) ⊎ ((other ≡ name) × (file ≡ another))
-            → ((before : FileState) × Owns s.files other before number × (before.spec ≡ another.spec)) ⊎ (member_path another.spec number ≡ path)
-        by (inl there) = inl (another, record { there = there; has = owns.has }, refl)
-        by (inr same) =
-            inr (subst (λ (f : FileState). member_path f.spec number ≡ path) same.1
-            (ap (member_path file.spec) (sym (first-number another number same.1 owns.has)) ∙ is))
-
-    first-has : has_number s.next_member file.members ≡ true
-    first-has = ap (has_number s.next_member) first ∙ (let e : has_number s.next_member ((member, new_status s.next_member) ∷ []) ≡ true = grind (arith, nat_tests) in e)
-
-    -- a file more with its first member, which has a path
-    IsIndexed-with_path : (old new : KeptPaths) (spec : PathSpec) → named name s.files ≡ None → member_path file.spec s.next_member ≡ Some spec → IsAttached spec s.members old new
-        → IsIndexed s.files s.members s.jobs orders moves old
-        → IsIndexed (s.files ++ (name, file) ∷ []) (put_member s.next_member (empty_member (record_length (fields_of file))) s.members) s.jobs orders moves new
-    IsIndexed-with_path old new spec absent is attached =
-        widened s lawful orders moves (s.files ++ (name, file) ∷ []) (record_length (fields_of file)) (kept-more s.files (name, file)) old new spec
-        (record { owner = (name, file, s.next_member, record { there = named-behind name file s.files absent; has = first-has }, is) })
-        (member_path-is file.spec s.next_member spec is) (file-since (Some spec) is) attached
-
-    -- which has none
-    IsIndexed-alone : (kept : KeptPaths) → member_path file.spec s.next_member ≡ None → IsIndexed s.files s.members s.jobs orders moves kept
-        → IsIndexed (s.files ++ (name, file) ∷ []) (put_member s.next_member (empty_member (record_length (fields_of file))) s.members) s.jobs orders moves kept
-    IsIndexed-alone kept is =
-        widened-alone s lawful orders moves (s.files ++ (name, file) ∷ []) (record_length (fields_of file)) (kept-more s.files (name, file)) kept (file-since None is)
-
-    -- a file more with its first member, and the path that it has, if it has any
-    pub IsIndexed-with_file : (old new : KeptPaths) → named name s.files ≡ None → AttachesPath (member_path file.spec s.next_member) s.members old new
-        → IsIndexed s.files s.members s.jobs orders moves old
-        → IsIndexed (s.files ++ (name, file) ∷ []) (put_member s.next_member (empty_member (record_length (fields_of file))) s.members) s.jobs orders moves new
-    IsIndexed-with_file old new absent attached indexed = by (member_path file.spec s.next_member) refl attached
-      where
-        by : (path : Option PathSpec) → member_path file.spec s.next_member ≡ path → AttachesPath path s.members old new
-            → IsIndexed (s.files ++ (name, file) ∷ []) (put_member s.next_member (empty_member (record_length (fields_of file))) s.members) s.jobs orders moves new
-        by None is same =
-            subst (λ (k : KeptPaths). IsIndexed (s.files ++ (name, file) ∷ []) (put_member s.next_member (empty_member (record_length (fields_of file))) s.members) s.jobs orders moves k) (sym same)
-            (IsIndexed-alone old is indexed)
-        by (Some spec) is its = IsIndexed-with_path old new spec absent is its indexed
+          grown : (path : PathSpec) → count_in path (option_to_list (member_path spec s.next_member) ++ all_paths s.files) ≡ count_in path (all_paths (s.files ++ (name, file) ∷ []))
+          grown path =
+              alike-grown path spec member s.next_member (all_paths s.files) (all_paths more)
+              (ap (count_in path) (paths-more s.files name file stand ∙ ap (λ (ps : List PathSpec). all_paths s.files ++ ps) own)
+              ∙ count-append path (all_paths s.files) (physical_paths spec ((member, new_status s.next_member) ∷ [])))
 
   -- ---- a member more
 
-  module _ (name member : List ℕ) (file : FileState) (found : physical_among name s.files ≡ Some file) where
+  module _ (name member : List ℕ) (file : FileState) (spec : PhysicalSpec) (found : physical_among name s.files ≡ Some file) (is : file.spec ≡ PhysicalFile spec) where
     abbrev wider : Named FileState
     wider = file_changed name (with_member_name member s.next_member) s.files
 
-    there : named name s.files ≡ Some file
-    there = (physical-found name s.files file found).0
+    views-wider : (all files : Named FileState) → AreViewsBeside all files → AreViewsBeside all (file_changed name (with_member_name member s.next_member) files)
+    views-wider all [] views = tt
+    views-wider all (entry ∷ files) views = (one (same_name name entry.0) views.0, views-wider all files views.1)
+      where
+        one : (b : Bool) → IsViewBeside all entry.1.spec → IsViewBeside all (cond b (with_member_name member s.next_member entry.1) entry.1).spec
+        one true its = its
+        one false its = its
 
-    either : (a b : Bool) → (a || b) ≡ true → (a ≡ true) ⊎ (b ≡ true)
-    either true b h = inl refl
-    either false b h = inr h
+    -- with the path that it has, if it has any
+    pub IsIndexed-with_member : (long : ℕ) (old new : KeptPaths) → AreShared old.paths → AttachesPath (member_path spec s.next_member) s.members old new
+        → IsIndexed s.files s.members s.jobs orders moves old
+        → IsIndexed (file_changed name (with_member_name member s.next_member) s.files) (put_member s.next_member (empty_member long) s.members) s.jobs orders moves new
+    IsIndexed-with_member long old new shared attached indexed =
+        IsIndexed-files (option_to_list (member_path spec s.next_member) ++ all_paths s.files) s.files (put_member s.next_member (empty_member long) s.members) s.jobs orders moves (all_paths wider) wider
+        new
+        (opens-stay s.files wider
+        (files-alike s.files wider (all-alike-wider s.files name member s.next_member stand s.files) (kept-wider s.files name member s.next_member file found)) s.jobs)
+        (views-alike s.files wider wider (all-alike-wider s.files name member s.next_member stand wider) (views-wider s.files s.files indexed.views))
+        (λ path. alike-grown path spec member s.next_member (all_paths s.files) (all_paths wider)
+        (paths-wider s.files path name member s.next_member file spec found is distinct stand))
+        (with-member long (member_path spec s.next_member) (own-member spec s.next_member) old new shared attached indexed)
 
-    member-since : (path : Option PathSpec) → member_path file.spec s.next_member ≡ path → OwnedSince s.files wider path
-    member-since path is other another number owns =
-        elim (same_name name other) as (λ b. same_name name other ≡ b
-        → cond b (option_map (with_member_name member s.next_member) (named other s.files)) (named other s.files) ≡ Some another
-        → ((before : FileState) × Owns s.files other before number × (before.spec ≡ another.spec)) ⊎ (member_path another.spec number ≡ path)) [
-          | true ↦ λ same e. (
-              let was = changed-from (with_member_name member s.next_member) (named other s.files) another e in
-              let its : Some was.0 ≡ Some file = sym was.1 ∙ ap (λ (n : List ℕ). named n s.files) (sym (same_name-equal name other same)) ∙ there in
-              let spec : was.0.spec ≡ another.spec = ap (λ (f : FileState). f.spec) was.2 in
-              let has : has_number number (with_member_name member s.next_member was.0).members ≡ true = ap (λ (f : FileState). has_number number f.members) was.2 ∙ owns.has in
-              elim (either (has_number number was.0.members) (s.next_member == number) (sym (has_number-push number was.0.members member s.next_member) ∙ has)) [
-                | inl before ↦ inl (was.0, record { there = was.1; has = before }, spec)
-                | inr own ↦ inr ((λ i. member_path (sym spec i) number) ∙ ap (λ (f : FileState). member_path f.spec number) (some-equal its)
-                    ∙ ap (member_path file.spec) (sym (eqb-true s.next_member number own)) ∙ is)
-              ])
-          | false ↦ λ differ e. inl (another, record { there = e; has = owns.has }, refl)
-        ] refl (sym (named-file_changed name other (with_member_name member s.next_member) s.files) ∙ owns.there)
+-- ---- a logical file
 
-    wider-owns : Owns wider name (with_member_name member s.next_member file) s.next_member
-    wider-owns = record {
-      there = named-file_changed name name (with_member_name member s.next_member) s.files
-          ∙ cond-true (same_name name name) (option_map (with_member_name member s.next_member) (named name s.files)) (named name s.files) (same_name-self name)
-          ∙ ap (option_map (with_member_name member s.next_member)) there;
-      has = has_number-push s.next_member file.members member s.next_member
-          ∙ ap (λ (b : Bool). has_number s.next_member file.members || b) (let e : (s.next_member == s.next_member) ≡ true = grind (arith, nat_tests) in e)
-          ∙ or-true (has_number s.next_member file.members);
+pub single-path : (bases : Bases) (spec : LogicalSpec) → IsSimple (LogicalFile spec) → logical_paths bases spec ≡ own_path bases spec ∷ []
+single-path bases (Simple view) simple = refl
+single-path bases (Multi views) simple = absurd simple
+single-path bases (Join view) simple = absurd simple
+
+-- its path is over its base's member
+pub own-of : (bases : Bases) (spec : LogicalSpec) → IsSimple (LogicalFile spec) → (number : ℕ) × (base_members bases spec ≡ number ∷ []) × IsOfMember number (own_path bases spec)
+own-of bases (Simple view) simple = ((bases view.base).member, refl, record { format = view_format bases view; formats = refl; member = refl })
+own-of bases (Multi views) simple = absurd simple
+own-of bases (Join view) simple = absurd simple
+
+few-pairs : (spec : LogicalSpec) → IsSimple (LogicalFile spec) → HaveFewPairs spec
+few-pairs (Simple view) simple = tt
+few-pairs (Multi views) simple = absurd simple
+few-pairs (Join view) simple = absurd simple
+
+none-laid : IsLaidOut []
+none-laid = record { few = (let few : 0 ≤ 1000 = omega arith in few); narrow = (let narrow : 0 ≤ 32766 = omega arith in narrow); lies = refl }
+
+-- the fields of each base lie one behind another
+laid-base : (files : Named FileState) (name : List ℕ) → AllAreKeyed files → IsLaidOut (bases_in files name).fields
+laid-base files name keyed = by (named name files) refl
+  where
+    kind : (file : FileState) → named name files ≡ Some file → (its : FileSpec) → file.spec ≡ its → IsLaidOut (base_in name (if_physical its file)).fields
+    kind file found (PhysicalFile spec) is =
+        subst (λ (sp : FileSpec). IsLaidOut (format_in sp).fields) (sym is) (keyed name file spec found is).laid
+    kind file found (LogicalFile spec) is = none-laid
+
+    by : (o : Option FileState) → named name files ≡ o → IsLaidOut (base_in name (option_and_then (λ (file : FileState). if_physical file.spec file) o)).fields
+    by None found = none-laid
+    by (Some file) found = kind file found file.spec refl
+
+laid-bases : (files : Named FileState) → AllAreKeyed files → (names : List (List ℕ)) → AllByRecursion (λ name. IsLaidOut (bases_in files name).fields) names
+laid-bases files keyed [] = tt
+laid-bases files keyed (name ∷ names) = (laid-base files name keyed, laid-bases files keyed names)
+
+fields-there : (name : List ℕ) (o : Option FileState) (spec : PhysicalSpec) → option_and_then (λ file. physical_in file.spec) o ≡ Some spec
+    → (base_in name (option_and_then (λ file. if_physical file.spec file) o)).fields ≡ spec.format.fields
+fields-there name None spec h = absurd cc
+fields-there name (Some file) spec h = by file.spec refl h
+  where
+    by : (its : FileSpec) → file.spec ≡ its → physical_in its ≡ Some spec → (base_in name (if_physical its file)).fields ≡ spec.format.fields
+    by (PhysicalFile other) is e = let same : other ≡ spec = cc in ap (λ (sp : FileSpec). (format_in sp).fields) is ∙ ap (λ (p : PhysicalSpec). p.format.fields) same
+    by (LogicalFile other) is e = absurd cc
+
+-- ---- a file of one format without a key stands by rising numbers
+
+no-positions : (count : ℕ) (ps : List KeyPart) → padded count ps ≡ [] → count ≡ 0
+no-positions count ps none =
+    let both : length (padded count ps) ≡ length ps + length (replicate (count - length ps) Absent) = length-append ps (replicate (count - length ps) Absent) in
+    let rest : length (replicate (count - length ps) Absent) ≡ count - length ps = length-replicate (count - length ps) Absent in
+    let zero : length (padded count ps) ≡ 0 = ap (λ (xs : List KeyPart). length xs) none in
+    omega (arith, both, rest, zero)
+
+rises-several : (described : List ℕ → Option PhysicalSpec) (ks : List Keyword) (fs : List FormatLines)
+    → RisesIfKeyless (one_or_several (map (view_described described ks (is_multi_format fs) (most_parts fs)) fs))
+rises-several described ks [] = tt
+rises-several described ks (f ∷ []) = λ none.
+    let zero : most_parts (f ∷ []) ≡ 0 = no-positions (most_parts (f ∷ [])) (format_parts described f) none in
+    cond-true (most_parts (f ∷ []) == 0) Rising (ties_of ks) (let e : (most_parts (f ∷ []) == 0) ≡ true = grind (arith, nat_tests) in e)
+rises-several described ks (f ∷ g ∷ fs) = tt
+
+rises-join : (described : List ℕ → Option PhysicalSpec) (ks : List Keyword) (fs : List FormatLines) → RisesIfKeyless (join_described_by described ks fs)
+rises-join described ks [] = tt
+rises-join described ks (f ∷ fs) = tt
+
+described-rises : (described : List ℕ → Option PhysicalSpec) (source : Source) (spec : LogicalSpec) → logical_of described source ≡ Ok spec → RisesIfKeyless spec
+unfolding logical_of logical_specification logical_faults
+described-rises described source spec h =
+    let fs : List FormatLines = formats_in source.specifications in
+    let right = found-right spec (described_by described source fs) (first_after None (faults_over described source (is_join_file fs) fs)) h in
+    subst RisesIfKeyless right.1
+    (elim (is_join_file fs) as (λ b. RisesIfKeyless (if b then join_described_by described source.file fs
+    else one_or_several (map (view_described described source.file (is_multi_format fs) (most_parts fs)) fs))) [
+      | true ↦ rises-join described source.file fs
+      | false ↦ rises-several described source.file fs
+    ])
+
+physical-there : (m : Memory) (name : List ℕ) → is_some (physical_spec name m) ≡ true → is_some (physical_among name m.files) ≡ true
+physical-there m name some = let it = some-of (physical_spec name m) some in physical-described name m it.0 it.1
+
+-- what a source describes over the files that are there is a view over them
+pub record IsDescribedOver (m : Memory) (spec : LogicalSpec) : Type 0 where
+  pub over : StandsOver m.files [] spec
+  pub view : IsView (bases_of m) spec
+
+described-by : (m : Memory) (r : Result Source DdsFault) (spec : LogicalSpec) → AllAreKeyed m.files → IsSimple (LogicalFile spec) → logical_by (λ name. physical_spec name m) r ≡ Ok spec
+    → IsDescribedOver m spec
+described-by m (Err fault) spec keyed simple h = absurd cc
+described-by m (Ok source) spec keyed simple h =
+    let described : List ℕ → Option PhysicalSpec = λ name. physical_spec name m in record {
+      over = record {
+        none = refl;
+        bases = each-weaker (λ (name : List ℕ). is_some (described name) ≡ true) (λ (name : List ℕ). is_some (physical_among name m.files) ≡ true) (physical-there m) (base_names spec)
+            (described-there described source spec h);
+      };
+      view = record {
+        simple = simple;
+        keyed = described-keyed described (bases_of m) source spec (λ name its e. fields-there name (named name m.files) its e) h (laid-bases m.files keyed (base_names spec)) (few-pairs spec simple);
+        mapped = described-mapped described (bases_of m) source spec (λ name its e. fields-there name (named name m.files) its e) h;
+        rises = described-rises described source spec h;
+      };
     }
 
-    -- a member more, with its path
-    member-with_path : (old new : KeptPaths) (spec : PathSpec) → member_path file.spec s.next_member ≡ Some spec → IsAttached spec s.members old new
-        → IsIndexed s.files s.members s.jobs orders moves old
-        → IsIndexed (file_changed name (with_member_name member s.next_member) s.files) (put_member s.next_member (empty_member (record_length (fields_of file))) s.members) s.jobs orders moves new
-    member-with_path old new spec is attached =
-        widened s lawful orders moves wider (record_length (fields_of file)) (kept-wider s.files name member s.next_member file found) old new spec
-        (record { owner = (name, with_member_name member s.next_member file, s.next_member, wider-owns, is) })
-        (member_path-is file.spec s.next_member spec is) (member-since (Some spec) is) attached
+pub described-over : (m : Memory) (text : List ℕ) (spec : LogicalSpec) → AllAreKeyed m.files → IsSimple (LogicalFile spec) → logical_described m text ≡ Ok spec → IsDescribedOver m spec
+described-over m text spec keyed simple h = described-by m (source_of text) spec keyed simple h
 
-    -- which has none
-    member-alone : (kept : KeptPaths) → member_path file.spec s.next_member ≡ None → IsIndexed s.files s.members s.jobs orders moves kept
-        → IsIndexed (file_changed name (with_member_name member s.next_member) s.files) (put_member s.next_member (empty_member (record_length (fields_of file))) s.members) s.jobs orders moves kept
-    member-alone kept is =
-        widened-alone s lawful orders moves wider (record_length (fields_of file)) (kept-wider s.files name member s.next_member file found) kept (member-since None is)
+-- no open commit cycle has changed its base's member
+none-changed : (number : ℕ) (undos : List MemberChange) → list_any (λ (undo : MemberChange). undo.member == number) undos ≡ false → AllByRecursion (λ (undo : MemberChange). undo.member ≢ number) undos
+none-changed number [] none = tt
+none-changed number (undo ∷ undos) none =
+    let parts = neither (undo.member == number) (list_any (λ (u : MemberChange). u.member == number) undos) none in
+    ((λ same. let e = parts.0 in let own : (undo.member == number) ≡ true = grind (arith, nat_tests) in absurd cc), none-changed number undos parts.1)
 
-    -- a member more, and the path that it has, if it has any
-    pub IsIndexed-with_member : (old new : KeptPaths) → AttachesPath (member_path file.spec s.next_member) s.members old new → IsIndexed s.files s.members s.jobs orders moves old
-        → IsIndexed (file_changed name (with_member_name member s.next_member) s.files) (put_member s.next_member (empty_member (record_length (fields_of file))) s.members) s.jobs orders moves new
-    IsIndexed-with_member old new attached indexed = by (member_path file.spec s.next_member) refl attached
-      where
-        by : (path : Option PathSpec) → member_path file.spec s.next_member ≡ path → AttachesPath path s.members old new
-            → IsIndexed (file_changed name (with_member_name member s.next_member) s.files) (put_member s.next_member (empty_member (record_length (fields_of file))) s.members) s.jobs orders moves new
-        by None is same =
-            subst (λ (k : KeptPaths). IsIndexed (file_changed name (with_member_name member s.next_member) s.files) (put_member s.next_member (empty_member (record_length (fields_of file))) s.members)
-            s.jobs orders moves k) (sym same) (member-alone old is indexed)
-        by (Some spec) is its = member-with_path old new spec is its indexed
+unchanged-by : (spec : PathSpec) (number : ℕ) → IsOfMember number spec → (undos : List MemberChange) → AllByRecursion (λ (undo : MemberChange). undo.member ≢ number) undos
+    → AllByRecursion (λ (undo : MemberChange). is_over undo.member spec ≡ false) undos
+unchanged-by spec number its [] all = tt
+unchanged-by spec number its (undo ∷ undos) all = (over-other number undo.member spec its all.0, unchanged-by spec number its undos all.1)
+
+pub unchanged-path : (spec : PathSpec) (number : ℕ) (jobs : List JobState) → IsOfMember number spec → AllByRecursion (λ (job : JobState). has_changed number job ≡ false) jobs → IsUnchanged spec jobs
+unchanged-path spec number [] its none = tt
+unchanged-path spec number (job ∷ jobs) its none =
+    (unchanged-by spec number its (changes_in job.cycle) (none-changed number (changes_in job.cycle) none.0), unchanged-path spec number jobs its none.1)
+
+-- ---- a logical file more
+
+module _ (s : State) (orders : List (Named OpenOrder)) (moves : List (List (List PathMove))) (lawful : IsLibrary s) (distinct : IsDistinct same_name (keys_of s.files)) (name : List ℕ)
+    (plan : NewLogical) (its : IsDescribedOver (memory_of s) plan.spec) (unchanged : changer_of_any (base_members (bases_in s.files) plan.spec) (memory_of s) ≡ None) where
+  abbrev with_view : Named FileState
+  with_view = s.files ++ (name, logical_file plan) ∷ []
+
+  abbrev own : PathSpec
+  own = own_path (bases_in s.files) plan.spec
+
+  own-unchanged : IsUnchanged (own_path (bases_in s.files) plan.spec) s.jobs
+  own-unchanged =
+      let base = own-of (bases_in s.files) plan.spec its.view.simple in
+      unchanged-path own base.0 s.jobs base.2
+      (jobs-free (λ (job : JobState). has_changed base.0 job ≡ false) (λ number job. list_any (λ member. has_changed member job) (base_members (bases_in s.files) plan.spec))
+      (λ number job none. (neither (has_changed base.0 job) false (ap (list_any (λ member. has_changed member job)) (sym base.1) ∙ none)).0) 1 s.jobs unchanged)
+
+  own-view : IsView (bases_in with_view) plan.spec
+  own-view = beside-alike s.files with_view (LogicalFile plan.spec) (alike-more s.files (name, logical_file plan) name [] (LogicalFile plan.spec) its.over.bases) its.view
+
+  own-grown : (path : PathSpec) → count_in path (own_path (bases_in s.files) plan.spec ∷ all_paths s.files) ≡ count_in path (all_paths (s.files ++ (name, logical_file plan) ∷ []))
+  own-grown path =
+      count-append path (own ∷ []) (all_paths s.files)
+      ∙ turned (count_in path (own ∷ [])) (count_in path (all_paths s.files)) (count_in path (all_paths with_view))
+      (ap (count_in path) (paths-more s.files name (logical_file plan) (stand-based s.files distinct lawful.bases)
+      ∙ ap (λ (ps : List PathSpec). all_paths s.files ++ ps) (paths-own s.files name (logical_file plan) its.over.bases ∙ single-path (bases_in s.files) plan.spec its.view.simple))
+      ∙ count-append path (all_paths s.files) (own ∷ []))
+
+  pub IsIndexed-with_view : (old new : KeptPaths) → AreShared old.paths → IsAttached (own_path (bases_in s.files) plan.spec) s.members old new → IsIndexed s.files s.members s.jobs orders moves old
+      → IsIndexed (s.files ++ (name, logical_file plan) ∷ []) s.members s.jobs orders moves new
+  IsIndexed-with_view old new shared is indexed =
+      with-file s orders moves lawful distinct name (logical_file plan) (own ∷ all_paths s.files) s.members new own-view own-grown
+      (IsIndexed-attached (all_paths s.files) s.files s.members s.jobs orders moves own own-unchanged old new shared is indexed)
+
+-- ---- whether its path can be kept
+
+named-has : (name : List ℕ) (members : Named MemberStatus) (status : MemberStatus) → named name members ≡ Some status → has_number status.number members ≡ true
+named-has name [] status found = absurd cc
+named-has name (entry ∷ members) status found = has_number-cons status.number entry members ∙ by (same_name name entry.0) found (named-has name members status)
+  where
+    by : (b : Bool) → cond b (Some entry.1) (named name members) ≡ Some status → (named name members ≡ Some status → has_number status.number members ≡ true)
+        → ((entry.1.number == status.number) || has_number status.number members) ≡ true
+    by true e more = let own : entry.1.number ≡ status.number = ap (λ (m : MemberStatus). m.number) (some-equal e) in grind (arith, nat_tests)
+    by false e more = let rest = more e in grind (arith, nat_tests)
+
+module _ (s : State) (lawful : IsLibrary s)
+    (records : (name : List ℕ) (file : FileState) (number : ℕ) → Owns s.files name file number → HasRecordsOf (fields_of file) number s.members) where
+  -- the member of a base has records of its fields
+  base-records : (base : List ℕ) → is_some (physical_among base s.files) ≡ true → HasRecordsOf (bases_in s.files base).fields (bases_in s.files base).member s.members
+  base-records base there =
+      let its = some-of (physical_among base s.files) there in
+      let found = physical-found base s.files its.0 its.1 in
+      let first = some-of (named base its.0.members) (physical-member s.files base its.0.members its.0.spec found.1 (lawful.bases base its.0 found.0)) in
+      subst (λ (b : Base). HasRecordsOf b.fields b.member s.members) (sym (base-is s.files base its.0 first.0 its.1 first.1))
+      (records base its.0 first.0.number (record { there = found.0; has = named-has base its.0.members first.0 first.1 }))
+
+  have-records : (spec : LogicalSpec) → StandsOver s.files [] spec → HaveRecords (bases_in s.files) spec s.members
+  have-records spec over =
+      each-weaker (λ (base : List ℕ). is_some (physical_among base s.files) ≡ true)
+      (λ (base : List ℕ). HasRecordsOf (bases_in s.files base).fields (bases_in s.files base).member s.members) base-records (base_names spec) over.bases
+
+  pub view-can : (spec : LogicalSpec) → IsDescribedOver (memory_of s) spec → CanBeKept (own_path (bases_in s.files) spec) s.members
+  view-can spec its =
+      (recursion_from_All (λ (p : PathSpec). CanBeKept p s.members) (own_path (bases_in s.files) spec ∷ [])
+      (subst (λ (ps : List PathSpec). All (λ (p : PathSpec). CanBeKept p s.members) ps) (single-path (bases_in s.files) spec its.view.simple)
+      (paths-kept (bases_in s.files) spec s.members its.view.keyed (have-records spec its.over)))).0
+
+  pub view-tells : (spec : LogicalSpec) → IsDescribedOver (memory_of s) spec → TellsRepeated (own_path (bases_in s.files) spec) s.members
+  view-tells spec its = record {
+    bytes = (recursion_from_All (λ (p : PathSpec). IsInBytes p s.members) (own_path (bases_in s.files) spec ∷ [])
+        (subst (λ (ps : List PathSpec). All (λ (p : PathSpec). IsInBytes p s.members) ps) (single-path (bases_in s.files) spec its.view.simple)
+        (paths-bytes (bases_in s.files) spec s.members its.view.keyed (have-records spec its.over)))).0;
+    one = λ unique. (let own = (own-of (bases_in s.files) spec its.view.simple).2 in let one : length (own_path (bases_in s.files) spec).formats ≡ 1 = ap (λ (fs : List PathFormat). length fs) own.formats in
+        omega (arith, one));
+  }
+
+-- what is refused of equal keys in its path
+pub view-repeated : (m : Memory) (spec : LogicalSpec) → IsSimple (LogicalFile spec) → first_repeated (logical_paths (bases_of m) spec) m ≡ repeated_in (own_path (bases_of m) spec) m.members
+view-repeated m spec simple = ap (λ (ps : List PathSpec). first_repeated ps m) (single-path (bases_of m) spec simple)
+
+-- ---- physical files
+
+pub physical-is : (file : FileSpec) (spec : PhysicalSpec) → physical_in file ≡ Some spec → file ≡ PhysicalFile spec
+physical-is (PhysicalFile its) spec e = ap (λ (p : PhysicalSpec). PhysicalFile p) (some-equal e)
+physical-is (LogicalFile its) spec e = absurd cc
+
+pub physical-some : (file : FileSpec) → IsPhysical file → is_some (physical_in file) ≡ true
+physical-some (PhysicalFile spec) is = refl
+physical-some (LogicalFile spec) is = absurd is
+
+-- the physical file of a name, by what it is
+pub physical-by : (name : List ℕ) (files : Named FileState) (spec : PhysicalSpec) → option_and_then (λ (file : FileState). physical_in file.spec) (named name files) ≡ Some spec
+    → (file : FileState) × (physical_among name files ≡ Some file) × (file.spec ≡ PhysicalFile spec)
+physical-by name files spec e = by (named name files) refl e
+  where
+    by : (o : Option FileState) → named name files ≡ o → option_and_then (λ (file : FileState). physical_in file.spec) o ≡ Some spec
+        → (file : FileState) × (physical_among name files ≡ Some file) × (file.spec ≡ PhysicalFile spec)
+    by None found h = absurd cc
+    by (Some file) found h =
+        let is = physical-is file.spec spec h in
+        (file, physical-here name files file found (subst IsPhysical (sym is) tt), is)
+
+pub distinct-none : IsDistinct nat_eq []
+unfolding IsDistinct
+distinct-none = tt

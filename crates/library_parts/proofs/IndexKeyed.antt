@@ -13,22 +13,19 @@ use Rattle.library_model.specs.Named.{Named, named, same_name}
 use Rattle.library_steps.specs.DeleteFile.{without_file}
 use Rattle.library_steps.specs.MemberCommands.{file_changed, with_member_name}
 use Rattle.library_steps.specs.State.{FileState, status_changed}
+use Rattle.library_paths.proofs.KeptLemmas.{none-kept}
 use Rattle.library_parts.specs.Indexed.{IsIndexed}
 use Rattle.library_parts.specs.Keyed.{IsKeyedFile, AllAreKeyed}
 
 -- a library with nothing in it
 pub IsIndexed-empty : IsIndexed [] [] [] [] [] (record { paths = []; rooms = [] })
 IsIndexed-empty = record {
-  paths = record {
-    over = λ k d low. absurd (omega (arith, low));
-    owned = λ k d low. absurd (omega (arith, low));
-    there = λ name file number owns. absurd (let there = owns.there in cc);
-    single = λ k d low. absurd (omega (arith, low));
-  };
+  paths = none-kept [];
   orders = tt;
   moves = refl;
   room = λ member k d low. absurd (omega (arith, low));
   bytes = tt;
+  views = tt;
 }
 
 pub AllAreKeyed-empty : AllAreKeyed []

@@ -1,6 +1,16 @@
--- The laws of the paths of physical files, as lemmas on looks take them.
-use Rattle.physical_paths.proofs.RecordLemmas.{image-taken, keys-within, path-bytes}
+-- The laws of the paths of files, as lemmas on looks take them.
+use Rattle.physical_paths.proofs.RecordLemmas.{image-taken, keys-within, path-bytes, path-kept}
+use Rattle.logical_paths.proofs.ViewLemmas.{images-taken, keys-short, paths-bytes, paths-kept}
 use Rattle.library_parts.proofs.IndexLooks.{AreLaws}
 
 pub laws : AreLaws
-laws = record { image = image-taken; bytes = path-bytes; within = keys-within }
+laws = record {
+  image = image-taken;
+  kept = path-kept;
+  bytes = path-bytes;
+  within = keys-within;
+  view_image = images-taken;
+  view_kept = paths-kept;
+  view_bytes = paths-bytes;
+  view_within = keys-short;
+}

@@ -1,67 +1,155 @@
--- What an open reads by, and which images stand in kept paths.
-use Rattle.std.proofs.Common.{ℕ, zero, suc, ◌-◌, ◌<◌, ◌≡◌, ◌≢◌, ◌==◌, ◌&&◌, inl, inr, if◌then◌else◌, IsTrue, Bool, true, false, cond, List, [], ◌∷◌, length, get_or, slice_get, Option, Some}
-use Rattle.std.proofs.Common.{None, is_some, IsSome, refl, sym, ap, arith, ◌∙◌, subst}
-use Rattle.std.specs.Prelude.{All, AllPairs, unwrap_or}
-use Rattle.std.specs.List.{AllByRecursion, AllZip}
-use Rattle.std.proofs.lemmas.Bool.{cases_eq, cond-true, cond-false}
+-- What holds of the paths of physical and of logical files holds of each kept path: it can be asked about an image that holds values in the fields of the
+-- physical file that has the member.
+use Rattle.std.proofs.Common.{ℕ, ◌-◌, ◌≡◌, ◌≢◌, ◌==◌, ◌||◌, inl, inr, if◌then◌else◌, true, false, cond, List, [], ◌∷◌, length, get_or, slice_get, Contains, Option, Some, None, IsSome}
+use Rattle.std.proofs.Common.{refl, sym, ap, arith, ◌∙◌, subst}
+use Rattle.std.specs.Prelude.{All, unwrap_or}
+use Rattle.std.specs.List.{AllByRecursion, IsDistinct}
+use Rattle.std.specs.Map.{keys_of}
+use Rattle.std.proofs.lemmas.Bool.{cases_eq}
 use Rattle.std.proofs.lemmas.Bool.Decides.{nat_tests}
 use Rattle.std.proofs.lemmas.List.Elements.{All-from_recursion, recursion_from_All}
 use Rattle.record_fmt.specs.declared.formats.Field.{Field}
 use Rattle.record_fmt.specs.Layout.{record_length}
 use Rattle.key_order.specs.KeyFields.{AreBytes, key_width}
-use Rattle.key_pages.specs.EntryList.{EntryList}
 use Rattle.member_slots.specs.declared.slot.Slot.{Slot}
 use Rattle.member_slots.specs.declared.slot.Slot.TheVariants.{Live, Deleted}
 use Rattle.member_slots.specs.Member.{MemberState, FitsSlot, IsMember, empty_member, slot_at}
 use Rattle.member_slots.specs.Members.{Numbered, NumberedMembers, AreMembers, item_at, member_of}
 use Rattle.dds_physical.specs.declared.physical_files.PhysicalSpec.{PhysicalSpec}
+use Rattle.dds_logical.specs.declared.views.LogicalSpec.{LogicalSpec}
 use Rattle.file_model.specs.declared.paths.PathFormat.{PathFormat}
 use Rattle.file_model.specs.declared.paths.PathSpec.{PathSpec}
 use Rattle.file_model.specs.FilePaths.{key_parts, physical_path}
-use Rattle.access_path.specs.PathBytes.{IsInBytes, is_falling}
+use Rattle.access_path.specs.PathBytes.{IsInBytes}
 use Rattle.file_cursor.specs.PositionBytes.{HasKeysWithin}
-use Rattle.logical_model.specs.Bases.{FileSpec, PhysicalFile, LogicalFile}
-use Rattle.file_model.specs.Paths.{path}
-use Rattle.file_model.specs.Positions.{arrival_reading, path_reading}
-use Rattle.logical_model.specs.Formats.{has_key}
-use Rattle.logical_model.specs.Readings.{reading_in}
-use Rattle.open_position.specs.Reads.{IsPathOver}
+use Rattle.logical_model.specs.Bases.{Base, Bases, FileSpec, PhysicalFile, LogicalFile, base_names}
+use Rattle.logical_model.specs.FilePaths.{logical_paths}
+use Rattle.logical_laws.proofs.ListLemmas.{each-contained}
+use Rattle.logical_paths.specs.KeyedViews.{HaveRecords, IsKeyedLogical, IsRecordOfBases}
 use Rattle.path_entrants.specs.Formats.{IsAskable}
 use Rattle.path_set.specs.declared.moves.PathMove.{PathMove}
-use Rattle.path_set.specs.KeptPaths.{KeptPath, KeptPaths, NumberedPaths, PathRoom, AreShared, entries_of, pages_at, pages_of, pages_with}
-use Rattle.path_set.specs.RecordChanges.{TakeImage, TakesImage}
+use Rattle.path_set.specs.KeptPaths.{KeptPaths, NumberedPaths, AreShared}
 use Rattle.path_set.specs.MemberSteps.{image_in}
-use Rattle.path_set.specs.RebuiltPaths.{HaveRooms}
-use Rattle.path_set.proofs.ShareLemmas.{entries-path}
+use Rattle.path_set.specs.RecordChanges.{TakeImage, TakesImage}
+use Rattle.path_set.specs.Sharing.{CanBeKept}
 use Rattle.physical_paths.specs.KeyedFiles.{IsKeyed, IsRecord, IsRecordSlot, HasRecordsOf}
-use Rattle.file_catalogue.specs.Owners.{Owns}
+use Rattle.file_catalogue.specs.Owners.{Owns, has_number}
 use Rattle.file_catalogue.specs.Physical.{IsPhysical}
-use Rattle.file_catalogue.proofs.NameLemmas.{some-equal}
-use Rattle.job_table.specs.Opens.{OpenOrder, SameOpen}
-use Rattle.job_table.specs.Table.{job_of_number}
+use Rattle.file_catalogue.proofs.StatusLemmas.{has_number-cons}
+use Rattle.job_table.specs.Opens.{OpenOrder}
 use Rattle.library_model.specs.Named.{Named, named, same_name}
-use Rattle.library_steps.specs.History.{is_running}
-use Rattle.library_steps.specs.Opens.{first_of}
-use Rattle.library_steps.specs.LogicalFiles.{bases_of}
-use Rattle.library_steps.specs.Records.{is_file_path, is_keyed, reading_of}
-use Rattle.library_steps.specs.State.{State, Memory, FileState, OpenState, JobState, fields_of, format_in, job_at, or_new}
-use Rattle.library_parts.specs.Indexed.{HasBytes, member_path, path_read, IsByArrival, IsByPath, ReadsBy, ReadsFile, ReadsIn, OpensRead, IsOfFile, IsIndexed}
+use Rattle.library_paths.specs.AllPaths.{AreKeptFor, all_paths, paths_by}
+use Rattle.library_paths.proofs.KeptLemmas.{kept-contained}
+use Rattle.library_paths.proofs.NameLemmas.{each-named}
+use Rattle.library_paths.proofs.OwnerLemmas.{path-member, paths-owner}
+use Rattle.library_steps.specs.LogicalFiles.{bases_in}
+use Rattle.library_steps.specs.State.{State, FileState, MemberStatus, fields_of, format_in, physical_among}
+use Rattle.library_parts.specs.Indexed.{AreViews, HasBytes, IsIndexed, IsView, IsViewBeside}
 use Rattle.library_parts.specs.Keyed.{AllAreKeyed}
-use Rattle.library_parts.specs.Lawful.{HoldsValues, IsLibrary}
+use Rattle.library_parts.specs.Lawful.{AreBased, HoldsValues, IsBased, IsLibrary, StandsOver}
 use Rattle.library_parts.specs.Slots.{MayStand}
-use Rattle.library_parts.proofs.BaseLemmas.{some-of}
+use Rattle.library_parts.proofs.BaseLemmas.{base-is, each-name, physical-found, physical-member, some-of}
 use Rattle.library_parts.proofs.MemberLemmas.{AllByRecursion-get, HasRecords-member_of, HoldsValues-at}
-use Rattle.library_parts.proofs.IndexPaths.{IsOfMember, any-both, member_path-is}
+use Rattle.library_parts.proofs.IndexPaths.{IsOfMember, physical-of}
 use Rattle.library_parts.proofs.IndexRecords.{bytes-member}
 
--- the laws of the paths of physical files
+-- the laws of the paths of files
 pub record AreLaws : Type 0 where
   pub image : (spec : PhysicalSpec) (member : ℕ) (image : List ℕ) → IsKeyed spec → IsRecord spec.format.fields image
       → TakesImage member (Some image) (physical_path member spec.format.fields spec.keys)
+  pub kept : (spec : PhysicalSpec) (member : ℕ) (members : NumberedMembers) → IsKeyed spec → HasRecordsOf spec.format.fields member members
+      → CanBeKept (physical_path member spec.format.fields spec.keys) members
   pub bytes : (spec : PhysicalSpec) (member : ℕ) (members : NumberedMembers) → IsKeyed spec → HasRecordsOf spec.format.fields member members
       → IsInBytes (physical_path member spec.format.fields spec.keys) members
   pub within : (spec : PhysicalSpec) (member : ℕ) (members : NumberedMembers) → IsKeyed spec → HasRecordsOf spec.format.fields member members
       → All (HasKeysWithin (key_width (key_parts 0 spec.keys.parts)) members) (physical_path member spec.format.fields spec.keys).formats
+  pub view_image : (bases : Bases) (spec : LogicalSpec) (member : ℕ) (image : List ℕ) → IsKeyedLogical bases spec → IsRecordOfBases bases spec member image
+      → All (λ path. TakesImage member (Some image) path) (logical_paths bases spec)
+  pub view_kept : (bases : Bases) (spec : LogicalSpec) (members : NumberedMembers) → IsKeyedLogical bases spec → HaveRecords bases spec members
+      → All (λ path. CanBeKept path members) (logical_paths bases spec)
+  pub view_bytes : (bases : Bases) (spec : LogicalSpec) (members : NumberedMembers) → IsKeyedLogical bases spec → HaveRecords bases spec members
+      → All (λ path. IsInBytes path members) (logical_paths bases spec)
+  pub view_within : (bases : Bases) (spec : LogicalSpec) (members : NumberedMembers) → IsKeyedLogical bases spec → HaveRecords bases spec members
+      → All (λ path. All (λ format. HasKeysWithin (key_width format.key) members format) path.formats) (logical_paths bases spec)
+
+-- ---- whose path each is
+
+-- what holds of the paths of each file holds of each kept path
+module _ (files : Named FileState) (P : PathSpec → Type 0)
+    (physical : (name : List ℕ) (file : FileState) (number : ℕ) (spec : PhysicalSpec) → Owns files name file number → file.spec ≡ PhysicalFile spec
+    → P (physical_path number spec.format.fields spec.keys))
+    (logical : (name : List ℕ) (file : FileState) (spec : LogicalSpec) → named name files ≡ Some file → file.spec ≡ LogicalFile spec → AllByRecursion P (logical_paths (bases_in files) spec)) where
+  path-kind : (name : List ℕ) (file : FileState) (path : PathSpec) → named name files ≡ Some file → (its : FileSpec) → file.spec ≡ its → Contains (paths_by files file.members its) path → P path
+  path-kind name file path here (PhysicalFile spec) is among =
+      let own = path-member spec file.members path among in
+      subst P own.is (physical name file own.number spec (record { there = here; has = own.has }) is)
+  path-kind name file path here (LogicalFile spec) is among = each-contained P (logical_paths (bases_in files) spec) path (logical name file spec here is) among
+
+  pub each-kept : IsDistinct same_name (keys_of files) → (members : NumberedMembers) (kept : NumberedPaths) → AreShared kept → AreKeptFor (all_paths files) members kept
+      → All (λ path. P path.item.spec) kept
+  each-kept distinct members kept shared is = λ k d low.
+      let path = (get_or kept k d).item.spec in
+      let own = paths-owner files path distinct (kept-contained (all_paths files) members kept shared is k d low) in
+      path-kind own.name own.file path own.at own.file.spec refl own.among
+
+-- a logical file is a view
+pub view-of : (files : Named FileState) (name : List ℕ) (file : FileState) (spec : LogicalSpec) → AreViews files → named name files ≡ Some file → file.spec ≡ LogicalFile spec
+    → IsView (bases_in files) spec
+view-of files name file spec views here is =
+    subst (IsViewBeside files) is (each-named (λ (other : List ℕ) (f : FileState). IsViewBeside files f.spec) name files file views here)
+
+-- ---- bases
+
+-- a member that is found by its name has its number
+number-named : (name : List ℕ) (members : Named MemberStatus) (status : MemberStatus) → named name members ≡ Some status → has_number status.number members ≡ true
+number-named name [] status found = absurd cc
+number-named name (first ∷ members) status found =
+    has_number-cons status.number first members ∙
+    elim (same_name name first.0) as (λ b. cond b (Some first.1) (named name members) ≡ Some status → ((first.1.number == status.number) || has_number status.number members) ≡ true) [
+      | true ↦ λ here. let e : first.1 ≡ status = cc in subst (λ (other : MemberStatus). ((first.1.number == other.number) || has_number other.number members) ≡ true) e (grind (arith, nat_tests))
+      | false ↦ λ later. let rest = number-named name members status later in grind (arith, nat_tests, rest)
+    ] found
+
+-- a base is a physical file that is there, and has the member
+pub record IsBase (files : Named FileState) (name : List ℕ) : Type 0 where
+  pub file : FileState
+  pub physical : IsPhysical file.spec
+  pub owns : Owns files name file (bases_in files name).member
+  pub fields : fields_of file ≡ (bases_in files name).fields
+
+base-of : (files : Named FileState) → AreBased files → (name : List ℕ) → IsSome (physical_among name files) → IsBase files name
+base-of files based name there =
+    let file = some-of (physical_among name files) there in
+    let found = physical-found name files file.0 file.1 in
+    let first = some-of (named name file.0.members) (physical-member files name file.0.members file.0.spec found.1 (based name file.0 found.0)) in
+    let is = base-is files name file.0 first.0 file.1 first.1 in
+    let number : first.0.number ≡ (bases_in files name).member = sym (ap (λ (b : Base). b.member) is) in
+    record {
+      file = file.0;
+      physical = found.1;
+      owns = record { there = found.0; has = subst (λ (n : ℕ). has_number n file.0.members ≡ true) number (number-named name file.0.members first.0 first.1) };
+      fields = sym (ap (λ (b : Base). b.fields) is);
+    }
+
+-- so is each base of a logical file
+pub bases-of : (files : Named FileState) → AreBased files → (name : List ℕ) (file : FileState) (spec : LogicalSpec) → named name files ≡ Some file → file.spec ≡ LogicalFile spec
+    → AllByRecursion (IsBase files) (base_names spec)
+bases-of files based name file spec here is =
+    let stands : StandsOver files file.members spec = subst (IsBased files name file.members) is (based name file here) in
+    each-name (λ base. IsSome (physical_among base files)) (IsBase files) (base-of files based) (base_names spec) stands.bases
+
+-- where each member has records of its file, so have those of the bases
+pub bases-have : (files : Named FileState) (members : NumberedMembers) → AreBased files
+    → ((name : List ℕ) (file : FileState) (number : ℕ) → Owns files name file number → HasRecordsOf (fields_of file) number members)
+    → (name : List ℕ) (file : FileState) (spec : LogicalSpec) → named name files ≡ Some file → file.spec ≡ LogicalFile spec → HaveRecords (bases_in files) spec members
+bases-have files members based records name file spec here is =
+    each-name (IsBase files) (λ base. HasRecordsOf (bases_in files base).fields (bases_in files base).member members)
+    (λ base its. subst (λ (fs : List Field). HasRecordsOf fs (bases_in files base).member members) its.fields (records base its.file (bases_in files base).member its.owns))
+    (base_names spec) (bases-of files based name file spec here is)
+
+-- the fields of a physical file
+pub fields-are : (file : FileState) (spec : PhysicalSpec) → file.spec ≡ PhysicalFile spec → fields_of file ≡ spec.format.fields
+fields-are file spec is = ap (λ (f : FileSpec). (format_in f).fields) is
 
 -- ---- records
 
@@ -93,14 +181,6 @@ records-of s name file number orders moves kept lawful are indexed owns =
     (are-records (fields_of file) (member_of number s.members).record_length (member_of number s.members).slots has.long has.values (bytes-member number s.members indexed.bytes)
     (fits-of number s.members (recursion_from_All (λ (entry : Numbered MemberState). IsMember entry.item) s.members are.each)))
 
--- the path of a physical file's member
-pub path-of : (spec : PhysicalSpec) (number : ℕ) (path : PathSpec) → member_path (PhysicalFile spec) number ≡ Some path → physical_path number spec.format.fields spec.keys ≡ path
-path-of spec number path is =
-    elim (has_key (PhysicalFile spec)) as (λ b. (if b then Some (physical_path number spec.format.fields spec.keys) else None) ≡ Some path → physical_path number spec.format.fields spec.keys ≡ path) [
-      | true ↦ λ e. some-equal e
-      | false ↦ λ e. absurd cc
-    ] is
-
 -- a path of another member isn't asked
 takes-other : (number member : ℕ) (image : List ℕ) (path : PathSpec) → IsOfMember number path → number ≢ member → TakesImage member (Some image) path
 takes-other number member image path is differs =
@@ -108,28 +188,36 @@ takes-other number member image path is differs =
     (All-from_recursion (λ (f : PathFormat). f.member ≡ member → IsAskable f image) (is.format ∷ []) ((λ same. absurd (differs (sym is.member ∙ same))), tt))
 
 -- an image that may stand in the member can be asked of each path
-pub takes-image : (s : State) (member : ℕ) (image : List ℕ) (orders : List (Named OpenOrder)) (moves : List (List (List PathMove))) (kept : KeptPaths) → AreLaws → AllAreKeyed s.files → IsLibrary s
+pub takes-image : (s : State) (member : ℕ) (image : List ℕ) (orders : List (Named OpenOrder)) (moves : List (List (List PathMove))) (kept : KeptPaths) → AreLaws → AllAreKeyed s.files
+    → IsDistinct same_name (keys_of s.files) → IsLibrary s → AreShared kept.paths
     → IsIndexed s.files s.members s.jobs orders moves kept → MayStand s member (Live image) → length image ≡ (member_of member s.members).record_length → AreBytes image
     → TakeImage member (Some image) kept.paths
-takes-image s member image orders moves kept laws keyed lawful indexed may long bytes = λ k d low. one (get_or kept.paths k d).item.spec (indexed.paths.owned k d low)
+takes-image s member image orders moves kept laws keyed distinct lawful shared indexed may long bytes =
+    each-kept s.files (λ (path : PathSpec). TakesImage member (Some image) path) physical logical distinct s.members kept.paths shared indexed.paths
   where
-    kind : (name : List ℕ) (file : FileState) (path : PathSpec) → Owns s.files name file member → (its : FileSpec) → file.spec ≡ its → member_path its member ≡ Some path
-        → TakesImage member (Some image) path
-    kind name file path owns (LogicalFile spec) is e = absurd cc
-    kind name file path owns (PhysicalFile spec) is e =
-        let fields : fields_of file ≡ spec.format.fields = ap (λ (f : FileSpec). (format_in f).fields) is in
+    record-of : (name : List ℕ) (file : FileState) → Owns s.files name file member → IsRecord (fields_of file) image
+    record-of name file owns =
         let has = HasRecords-member_of (fields_of file) member s.members (lawful.members name file member owns) in
-        subst (TakesImage member (Some image)) (path-of spec member path e)
-        (laws.image spec member image (keyed name file spec owns.there is)
-        (subst (λ (fs : List Field). IsRecord fs image) fields (record { long = long ∙ has.long; held = may name file owns; bytes = bytes })))
+        record { long = long ∙ has.long; held = may name file owns; bytes = bytes }
 
-    one : (path : PathSpec) → IsOfFile s.files path → TakesImage member (Some image) path
-    one path is =
-        let o = is.owner in
-        elim (cases_eq o.2 member) [
-          | inl same ↦ kind o.0 o.1 path (subst (Owns s.files o.0 o.1) same o.3) o.1.spec refl (subst (λ (n : ℕ). member_path o.1.spec n ≡ Some path) same o.4)
-          | inr differs ↦ takes-other o.2 member image path (member_path-is o.1.spec o.2 path o.4) differs
+    physical : (name : List ℕ) (file : FileState) (number : ℕ) (spec : PhysicalSpec) → Owns s.files name file number → file.spec ≡ PhysicalFile spec
+        → TakesImage member (Some image) (physical_path number spec.format.fields spec.keys)
+    physical name file number spec owns is =
+        elim (cases_eq number member) [
+          | inl same ↦ subst (λ (n : ℕ). TakesImage member (Some image) (physical_path n spec.format.fields spec.keys)) (sym same)
+              (laws.image spec member image (keyed name file spec owns.there is)
+              (subst (λ (fs : List Field). IsRecord fs image) (fields-are file spec is) (record-of name file (subst (Owns s.files name file) same owns))))
+          | inr differs ↦ takes-other number member image (physical_path number spec.format.fields spec.keys) (physical-of number spec) differs
         ]
+
+    logical : (name : List ℕ) (file : FileState) (spec : LogicalSpec) → named name s.files ≡ Some file → file.spec ≡ LogicalFile spec
+        → AllByRecursion (λ (path : PathSpec). TakesImage member (Some image) path) (logical_paths (bases_in s.files) spec)
+    logical name file spec here is =
+        recursion_from_All (λ (path : PathSpec). TakesImage member (Some image) path) (logical_paths (bases_in s.files) spec)
+        (laws.view_image (bases_in s.files) spec member image (view-of s.files name file spec indexed.views here is).keyed
+        (each-name (IsBase s.files) (λ base. (bases_in s.files base).member ≡ member → IsRecord (bases_in s.files base).fields image)
+        (λ base its same. subst (λ (fs : List Field). IsRecord fs image) its.fields (record-of base its.file (subst (Owns s.files base its.file) same its.owns)))
+        (base_names spec) (bases-of s.files lawful.bases name file spec here is)))
 
 -- ---- slots
 
@@ -155,187 +243,23 @@ module _ (s : State) (member rrn : ℕ) (slot : Slot) (orders : List (Named Open
   stands-bytes = at-its-place HasBytes (bytes-member member s.members indexed.bytes)
 
 -- each path can be asked about the image in a slot that may stand in the member
-pub takes-slot : (s : State) (member : ℕ) (slot : Slot) (orders : List (Named OpenOrder)) (moves : List (List (List PathMove))) (kept : KeptPaths) → AreLaws → AllAreKeyed s.files → IsLibrary s
+pub takes-slot : (s : State) (member : ℕ) (slot : Slot) (orders : List (Named OpenOrder)) (moves : List (List (List PathMove))) (kept : KeptPaths) → AreLaws → AllAreKeyed s.files
+    → IsDistinct same_name (keys_of s.files) → IsLibrary s → AreShared kept.paths
     → IsIndexed s.files s.members s.jobs orders moves kept → MayStand s member slot → FitsSlot (member_of member s.members).record_length slot → HasBytes slot
     → TakeImage member (image_in slot) kept.paths
-takes-slot s member (Live image) orders moves kept laws keyed lawful indexed may fits bytes = takes-image s member image orders moves kept laws keyed lawful indexed may fits bytes
-takes-slot s member Deleted orders moves kept laws keyed lawful indexed may fits bytes = λ k d low. tt
+takes-slot s member (Live image) orders moves kept laws keyed distinct lawful shared indexed may fits bytes =
+    takes-image s member image orders moves kept laws keyed distinct lawful shared indexed may fits bytes
+takes-slot s member Deleted orders moves kept laws keyed distinct lawful shared indexed may fits bytes = λ k d low. tt
 
 -- so it can about the one that stands there
-pub takes-stood : (s : State) (member rrn : ℕ) (orders : List (Named OpenOrder)) (moves : List (List (List PathMove))) (kept : KeptPaths) → AreLaws → AllAreKeyed s.files → IsLibrary s
+pub takes-stood : (s : State) (member rrn : ℕ) (orders : List (Named OpenOrder)) (moves : List (List (List PathMove))) (kept : KeptPaths) → AreLaws → AllAreKeyed s.files
+    → IsDistinct same_name (keys_of s.files) → IsLibrary s → AreShared kept.paths
     → AreMembers s.members
     → IsIndexed s.files s.members s.jobs orders moves kept → TakeImage member (image_in (unwrap_or (slot_at (member_of member s.members) rrn) Deleted)) kept.paths
-takes-stood s member rrn orders moves kept laws keyed lawful are indexed = by (slot_at (member_of member s.members) rrn) refl
+takes-stood s member rrn orders moves kept laws keyed distinct lawful shared are indexed = by (slot_at (member_of member s.members) rrn) refl
   where
     by : (o : Option Slot) → slot_at (member_of member s.members) rrn ≡ o → TakeImage member (image_in (unwrap_or o Deleted)) kept.paths
     by None is = λ k d low. tt
     by (Some slot) is =
-        takes-slot s member slot orders moves kept laws keyed lawful indexed (stands-may s member rrn slot orders moves kept lawful indexed is)
+        takes-slot s member slot orders moves kept laws keyed distinct lawful shared indexed (stands-may s member rrn slot orders moves kept lawful indexed is)
         (stands-fits s member rrn slot orders moves kept lawful indexed is are) (stands-bytes s member rrn slot orders moves kept lawful indexed is)
-
--- ---- opens
-
-module _ (files : Named FileState) (paths : NumberedPaths) (name : List ℕ) (opened : OpenState) (order : OpenOrder) where
-  reads-opens : (opens : Named OpenState) (its : Named OpenOrder) → AllZip (ReadsIn files paths) opens its → AllZip SameOpen opens its → named name opens ≡ Some opened → named name its ≡ Some order
-      → ReadsFile paths opened order (named opened.file files)
-  reads-opens [] its reads same at also = absurd cc
-  reads-opens (entry ∷ opens) [] reads same at also = absurd reads
-  reads-opens (entry ∷ opens) (first ∷ its) reads same at also =
-      elim (same_name name entry.0) as (λ b. cond b (Some entry.1) (named name opens) ≡ Some opened → cond b (Some first.1) (named name its) ≡ Some order
-      → ReadsFile paths opened order (named opened.file files)) [
-        | true ↦ λ e o.
-            subst (λ (x : OpenState). ReadsFile paths x order (named x.file files)) (some-equal e)
-            (subst (λ (r : OpenOrder). ReadsFile paths entry.1 r (named entry.1.file files)) (some-equal o) reads.0)
-        | false ↦ λ e o. reads-opens opens its reads.1 same.1 e o
-      ] at (subst (λ (n : List ℕ). cond (same_name name n) (Some first.1) (named name its) ≡ Some order) (sym same.0.0) also)
-
-  reads-place : (place : ℕ) (jobs : List JobState) (orders : List (Named OpenOrder)) → AllZip (OpensRead files paths) jobs orders
-      → AllZip (λ (job : JobState) (its : Named OpenOrder). AllZip SameOpen job.opens its) jobs orders → IsTrue (is_running (slice_get jobs place))
-      → named name (or_new (slice_get jobs place)).opens ≡ Some opened → named name (get_or orders place []) ≡ Some order → ReadsFile paths opened order (named opened.file files)
-  reads-place place [] orders reads same running at also = absurd cc
-  reads-place place (job ∷ jobs) [] reads same running at also = absurd reads
-  reads-place zero (job ∷ jobs) (its ∷ orders) reads same running at also = reads-opens job.opens its reads.0 same.0 at also
-  reads-place (suc place) (job ∷ jobs) (its ∷ orders) reads same running at also = reads-place place jobs orders reads.1 same.1 running at also
-
--- the open of a name reads by its order
-pub reads-named : (files : Named FileState) (members : NumberedMembers) (jobs : List JobState) (orders : List (Named OpenOrder)) (moves : List (List (List PathMove))) (kept : KeptPaths)
-    (number : ℕ) (name : List ℕ) (opened : OpenState) (order : OpenOrder) → IsIndexed files members jobs orders moves kept
-    → AllZip (λ (job : JobState) (its : Named OpenOrder). AllZip SameOpen job.opens its) jobs orders → IsTrue (is_running (job_at number jobs))
-    → named name (job_of_number number jobs).opens ≡ Some opened → named name (get_or orders (number - 1) []) ≡ Some order
-    → ReadsFile kept.paths opened order (named opened.file files)
-reads-named files members jobs orders moves kept number name opened order indexed same running at also =
-    elim (number == 0) as (λ b. IsTrue (is_running (if b then None else slice_get jobs (number - 1)))
-    → named name (or_new (if b then None else slice_get jobs (number - 1))).opens ≡ Some opened → ReadsFile kept.paths opened order (named opened.file files)) [
-      | true ↦ λ h e. absurd cc
-      | false ↦ λ h e. reads-place files kept.paths name opened order (number - 1) jobs orders indexed.orders same h e also
-    ] running at
-
--- by whatever number it goes
-pub reads-renumbered : (paths : NumberedPaths) (opened : OpenState) (order other : OpenOrder) (file : Option FileState) → other.path ≡ order.path → other.formats ≡ order.formats
-    → ReadsFile paths opened order file
-    → ReadsFile paths opened other file
-reads-renumbered paths opened order other None path formats reads = reads
-reads-renumbered paths opened order other (Some file) path formats reads = by (path_read file opened) reads
-  where
-    by : (o : Option PathSpec) → ReadsBy paths o order → ReadsBy paths o other
-    by None is = record { path = path ∙ is.path; formats = formats ∙ is.formats }
-    by (Some spec) is = record { path = (is.path.0, path ∙ is.path.1, is.path.2); formats = formats ∙ is.formats }
-
--- an open of a physical file has a path where it reads by key
-pub reads-keyed : (paths : NumberedPaths) (opened : OpenState) (order : OpenOrder) (file : FileState) → IsPhysical file.spec → ReadsFile paths opened order (Some file)
-    → is_some order.path ≡ is_keyed file opened
-reads-keyed paths opened order file physical reads = by-kind file.spec physical reads
-  where
-    by-path : (o : Option PathSpec) → ReadsBy paths o order → is_some order.path ≡ is_some o
-    by-path None is = ap (λ (p : Option ℕ). is_some p) is.path
-    by-path (Some spec) is = ap (λ (p : Option ℕ). is_some p) is.path.1
-
-    there : (access key : Bool) (path : PathSpec) → is_some (if access && key then (if key then Some path else None) else None) ≡ (access && key)
-    there true true path = refl
-    there true false path = refl
-    there false key path = refl
-
-    by-kind : (its : FileSpec) → IsPhysical its → ReadsBy paths (if is_file_path opened.access_path && has_key its then member_path its (first_of opened.members) else None) order
-        → is_some order.path ≡ (is_file_path opened.access_path && has_key its)
-    by-kind (PhysicalFile spec) is r =
-        by-path (if is_file_path opened.access_path && has_key (PhysicalFile spec) then member_path (PhysicalFile spec) (first_of opened.members) else None) r
-        ∙ there (is_file_path opened.access_path) (has_key (PhysicalFile spec)) (physical_path (first_of opened.members) spec.format.fields spec.keys)
-    by-kind (LogicalFile spec) is r = absurd is
-
--- by arrival
-pub reads-arrival : (kept : KeptPaths) (opened : OpenState) (order : OpenOrder) (file : FileState) → ReadsFile kept.paths opened order (Some file) → is_keyed file opened ≡ false → IsByArrival order
-reads-arrival kept opened order file reads is = subst (λ (b : Bool). ReadsBy kept.paths (if b then member_path file.spec (first_of opened.members) else None) order) is reads
-
--- by a path that is kept, with the entries of the definition's path
-pub record IsReadBy (members : NumberedMembers) (kept : KeptPaths) (order : OpenOrder) (number : ℕ) (spec : PhysicalSpec) : Type 0 where
-  pub path : ℕ
-  pub list : EntryList
-  pub number_is : order.path ≡ Some path
-  pub pages : pages_at kept path ≡ Some list
-  pub over : IsPathOver order.formats (physical_path number spec.format.fields spec.keys) members list
-
--- a path's number finds it
-found-own : (paths : NumberedPaths) → AllPairs (λ (former later : Numbered KeptPath). former.number < later.number) paths → All (λ (p : Numbered KeptPath). item_at p.number paths ≡ Some p.item) paths
-found-own [] ascend k d low = absurd (omega (arith, low))
-found-own (p ∷ paths) ascend zero d low = cond-true (p.number == p.number) (Some p.item) (item_at p.number paths) (let e : (p.number == p.number) ≡ true = grind (arith, nat_tests) in e)
-found-own (p ∷ paths) ascend (suc k) d low =
-    let less : p.number < (get_or paths k d).number = ascend zero (suc k) d (omega arith) (omega (arith, low)) in
-    cond-false (p.number == (get_or paths k d).number) (Some p.item) (item_at (get_or paths k d).number paths)
-    (let e : (p.number == (get_or paths k d).number) ≡ false = grind (arith, nat_tests) in e)
-    ∙ found-own paths (λ i j e lt within. ascend (suc i) (suc j) e (omega (arith, lt)) (omega (arith, within))) k d (omega (arith, low))
-
--- what is known of each kept path
-record IsFound (members : NumberedMembers) (kept : KeptPaths) (p : Numbered KeptPath) : Type 0 where
-  here : item_at p.number kept.paths ≡ Some p.item
-  room : IsSome (item_at p.number kept.rooms)
-  entries : p.item.entries ≡ entries_of p.item.spec members
-
-both-are : (a b : Bool) → (a && b) ≡ true → b ≡ true
-both-are true b h = h
-both-are false b h = absurd cc
-
-pub reads-path : (s : State) (orders : List (Named OpenOrder)) (moves : List (List (List PathMove))) (kept : KeptPaths) (opened : OpenState) (order : OpenOrder) (name : List ℕ)
-    (file : FileState) (spec : PhysicalSpec)
-    → AreLaws → AllAreKeyed s.files → IsLibrary s → AreMembers s.members → AreShared kept.paths → HaveRooms kept → IsIndexed s.files s.members s.jobs orders moves kept → file.spec ≡ PhysicalFile spec
-    → Owns s.files name file (first_of opened.members) → is_keyed file opened ≡ true → ReadsFile kept.paths opened order (Some file) → IsReadBy s.members kept order (first_of opened.members) spec
-reads-path s orders moves kept opened order name file spec laws keyed lawful are shared rooms indexed is owns by_key reads = record {
-  path = read.path.0;
-  list = pages_of p.item room.0;
-  number_is = read.path.1;
-  pages = ap (pages_at kept) (sym found.2.0) ∙ (λ i. pages_with (found.1.here i) (room.1 i));
-  over = record {
-    keys = sym read.formats;
-    entries = found.1.entries ∙ ap (λ (q : PathSpec). entries_of q s.members) found.2.1 ∙ entries-path whole s.members (laws.bytes spec (first_of opened.members) s.members its_key records);
-    falling = ap (λ (q : PathSpec). is_falling q.ties) found.2.1;
-    comparable = laws.bytes spec (first_of opened.members) s.members its_key records;
-    held = (key_width (key_parts 0 spec.keys.parts), laws.within spec (first_of opened.members) s.members its_key records);
-  };
-}
-  where
-    whole : PathSpec
-    whole = physical_path (first_of opened.members) spec.format.fields spec.keys
-
-    its_key : IsKeyed spec
-    its_key = keyed name file spec owns.there is
-
-    records : HasRecordsOf spec.format.fields (first_of opened.members) s.members
-    records =
-        subst (λ (fs : List Field). HasRecordsOf fs (first_of opened.members) s.members) (ap (λ (f : FileSpec). (format_in f).fields) is)
-        (records-of s name file (first_of opened.members) orders moves kept lawful are indexed owns)
-
-    has : has_key (PhysicalFile spec) ≡ true
-    has = ap has_key (sym is) ∙ both-are (is_file_path opened.access_path) (has_key file.spec) by_key
-
-    path_is : member_path file.spec (first_of opened.members) ≡ Some (physical_path (first_of opened.members) spec.format.fields spec.keys)
-    path_is =
-        ap (λ (f : FileSpec). member_path f (first_of opened.members)) is
-        ∙ cond-true (has_key (PhysicalFile spec)) (Some (physical_path (first_of opened.members) spec.format.fields spec.keys)) None has
-
-    read : IsByPath kept.paths (physical_path (first_of opened.members) spec.format.fields spec.keys) order
-    read =
-        subst (λ (o : Option PathSpec). ReadsBy kept.paths o order) path_is
-        (subst (λ (b : Bool). ReadsBy kept.paths (if b then member_path file.spec (first_of opened.members) else None) order) by_key reads)
-
-    found : (p : Numbered KeptPath) × IsFound s.members kept p × ((p.number ≡ read.path.0) × (p.item.spec ≡ physical_path (first_of opened.members) spec.format.fields spec.keys))
-    found =
-        any-both (IsFound s.members kept) (λ (q : Numbered KeptPath). (q.number ≡ read.path.0) × (q.item.spec ≡ physical_path (first_of opened.members) spec.format.fields spec.keys)) kept.paths
-        (λ k d low. record { here = found-own kept.paths shared.ascend k d low; room = rooms k d low; entries = indexed.paths.over k d low }) read.path.2
-
-    p : Numbered KeptPath
-    p = found.0
-
-    room : (r : PathRoom) × (item_at p.number kept.rooms ≡ Some r)
-    room = some-of (item_at p.number kept.rooms) found.1.room
-
--- ---- what the definitions read
-
--- a physical file's member by key
-pub reading-keyed : (m : Memory) (file : FileState) (opened : OpenState) (spec : PhysicalSpec) → file.spec ≡ PhysicalFile spec → is_keyed file opened ≡ true
-    → reading_of file opened m
-    ≡ path_reading (physical_path opened.member spec.format.fields spec.keys).ties (path (physical_path opened.member spec.format.fields spec.keys) m.members)
-reading-keyed m file opened spec is keyed = λ i. reading_in (bases_of m) (is i) (keyed i) opened.member m.members
-
--- and in arrival order
-pub reading-arrival : (m : Memory) (file : FileState) (opened : OpenState) (spec : PhysicalSpec) → file.spec ≡ PhysicalFile spec → is_keyed file opened ≡ false
-    → reading_of file opened m ≡ arrival_reading (member_of opened.member m.members)
-reading-arrival m file opened spec is keyed = λ i. reading_in (bases_of m) (is i) (keyed i) opened.member m.members

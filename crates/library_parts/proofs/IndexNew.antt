@@ -1,5 +1,5 @@
 -- The path over a member that isn't there yet: it can be kept, and has no equal keys.
-use Rattle.std.proofs.Common.{ℕ, ◌+◌, ◌<◌, ◌≤◌, ◌≡◌, nat_lt, if◌then◌else◌, Bool, true, false, List, [], ◌∷◌, ◌++◌, length, Option, Some, None, refl, sym, ap, arith, ◌∙◌, subst}
+use Rattle.std.proofs.Common.{ℕ, ◌≤◌, ◌≡◌, nat_lt, if◌then◌else◌, Bool, true, false, List, [], ◌++◌, length, Option, Some, None, refl, sym, ap, arith, ◌∙◌, subst}
 use Rattle.std.specs.Prelude.{All, unwrap_or}
 use Rattle.std.proofs.lemmas.Bool.{cond-true}
 use Rattle.std.proofs.lemmas.Bool.Decides.{nat_tests}
@@ -7,26 +7,23 @@ use Rattle.record_fmt.specs.declared.formats.Field.{Field}
 use Rattle.member_slots.specs.Member.{MemberState, empty_member}
 use Rattle.member_slots.specs.Members.{NumberedMembers, member_at, member_of}
 use Rattle.dds_physical.specs.declared.physical_files.PhysicalSpec.{PhysicalSpec}
-use Rattle.file_model.specs.declared.paths.PathSpec.{PathSpec}
 use Rattle.file_model.specs.FilePaths.{every_record, own_fields, path_format, physical_path}
 use Rattle.file_model.specs.Paths.{entries_in, first_repeated, repeated_in}
-use Rattle.logical_model.specs.Bases.{PhysicalFile}
-use Rattle.logical_model.specs.Formats.{has_key}
 use Rattle.path_entrants.specs.Repeated.{TellsRepeated}
 use Rattle.path_set.specs.Sharing.{CanBeKept}
 use Rattle.physical_paths.specs.KeyedFiles.{IsKeyed, IsRecordSlot, HasRecordsOf}
 use Rattle.physical_paths.proofs.RecordLemmas.{path-bytes, path-kept}
-use Rattle.library_parts.specs.Indexed.{member_path}
+use Rattle.library_parts.specs.PathChanges.{member_path}
 
 -- ---- whether there is one
 
-pub path-none : (spec : PhysicalSpec) (number : ℕ) → spec.keys.parts ≡ [] → member_path (PhysicalFile spec) number ≡ None
+pub path-none : (spec : PhysicalSpec) (number : ℕ) → spec.keys.parts ≡ [] → member_path spec number ≡ None
 path-none spec number none =
     ap (λ (b : Bool). if b then Some (physical_path number spec.format.fields spec.keys) else None) (ap (λ (parts : List _). nat_lt 0 (length parts)) none)
 
-pub path-some : (spec : PhysicalSpec) (number : ℕ) → 1 ≤ length spec.keys.parts → member_path (PhysicalFile spec) number ≡ Some (physical_path number spec.format.fields spec.keys)
+pub path-some : (spec : PhysicalSpec) (number : ℕ) → 1 ≤ length spec.keys.parts → member_path spec number ≡ Some (physical_path number spec.format.fields spec.keys)
 path-some spec number some =
-    cond-true (has_key (PhysicalFile spec)) (Some (physical_path number spec.format.fields spec.keys)) None (let e : nat_lt 0 (length spec.keys.parts) ≡ true = grind (arith, nat_tests) in e)
+    cond-true (nat_lt 0 (length spec.keys.parts)) (Some (physical_path number spec.format.fields spec.keys)) None (let e : nat_lt 0 (length spec.keys.parts) ≡ true = grind (arith, nat_tests) in e)
 
 -- ---- over no member
 

@@ -20,12 +20,14 @@ use Rattle.library_model.specs.declared.requests.OpenFile.{OpenFile}
 use Rattle.library_model.specs.Named.{Named, named, same_name}
 use Rattle.library_steps.specs.ChangeRecord.{without_current, without_record, is_current}
 use Rattle.library_steps.specs.Commitment.{with_level}
+use Rattle.library_steps.specs.LogicalFiles.{bases_in}
 use Rattle.library_steps.specs.Opens.{new_open, with_open, without_open}
+use Rattle.library_steps.specs.Records.{is_file_path}
 use Rattle.library_steps.specs.Reads.{open_changed, positioned, has_read, entry_found}
 use Rattle.library_steps.specs.State.{FileState, OpenState, JobState, job_changed, with_opens, new_job}
 use Rattle.library_steps.specs.Uses.{changes_in}
-use Rattle.library_parts.specs.Indexed.{ReadsBy, ReadsFile, ReadsIn, OpensRead, moves_back, moves_of_job, changes_on, IsIndexed}
-use Rattle.library_parts.proofs.IndexPaths.{count_on, changes_on-cons, path_by}
+use Rattle.library_parts.specs.Indexed.{IsReadSo, ReadsBy, ReadsFile, ReadsIn, OpensRead, moves_back, moves_of_job, changes_on, path_read, IsIndexed}
+use Rattle.library_parts.proofs.IndexPaths.{count_on, changes_on-cons}
 
 -- ---- opens that read as they did
 
@@ -40,15 +42,15 @@ pub record IsSameJob (job other : JobState) : Type 0 where
   pub opens : AllZip (λ (entry another : List ℕ × OpenState). SameReads entry.1 another.1) job.opens other.opens
   pub changes : changes_in other.cycle ≡ changes_in job.cycle
 
-pub reads-alike : (files : Named FileState) (paths : NumberedPaths) (opened other : OpenState) (order : OpenOrder) → SameReads opened other → ReadsFile paths opened order (named opened.file files)
-    → ReadsFile paths other order (named other.file files)
+pub reads-alike : (files : Named FileState) (paths : NumberedPaths) (opened other : OpenState) (order : OpenOrder) → SameReads opened other → ReadsFile (bases_in files) paths opened order (named opened.file files)
+    → ReadsFile (bases_in files) paths other order (named other.file files)
 reads-alike files paths opened other order same reads =
-    subst (λ (n : List ℕ). ReadsFile paths other order (named n files)) (sym same.file) (by (named opened.file files) reads)
+    subst (λ (n : List ℕ). ReadsFile (bases_in files) paths other order (named n files)) (sym same.file) (by (named opened.file files) reads)
   where
-    by : (o : Option FileState) → ReadsFile paths opened order o → ReadsFile paths other order o
+    by : (o : Option FileState) → ReadsFile (bases_in files) paths opened order o → ReadsFile (bases_in files) paths other order o
     by None h = h
     by (Some file) h =
-        subst (λ (o : OpenState). ReadsBy paths (path_by file.spec o) order)
+        subst (λ (o : OpenState). ReadsBy paths (path_read (bases_in files) file o) order × IsReadSo (is_file_path o.access_path) file.spec)
         (λ i. record opened { members = sym same.members i; access_path = sym same.access_path i })
         h
 
@@ -96,6 +98,7 @@ IsIndexed-jobs files members jobs others orders moves kept same indexed = record
   moves = indexed.moves ∙ sym (moves-alike kept.paths jobs others same);
   room = λ member. subst (λ (n : ℕ). HaveRoom member n kept) (sym (counts-alike member jobs others same)) (indexed.room member);
   bytes = indexed.bytes;
+  views = indexed.views;
 }
 
 pub same-open : (opened : OpenState) → SameReads opened opened
@@ -220,10 +223,11 @@ module _ (files : Named FileState) (members : NumberedMembers) (jobs : List JobS
     moves = indexed.moves ∙ sym (moves-kept kept.paths place change jobs same);
     room = λ member. subst (λ (n : ℕ). HaveRoom member n kept) (sym (counts-kept member place change jobs same)) (indexed.room member);
     bytes = indexed.bytes;
+    views = indexed.views;
   }
 
   -- an open more, of members of a file
-  pub IsIndexed-with_open : (place : ℕ) (args : OpenFile) (numbers : List ℕ) (order : OpenOrder) → ReadsFile kept.paths (new_open args 0 numbers) order (named args.file files)
+  pub IsIndexed-with_open : (place : ℕ) (args : OpenFile) (numbers : List ℕ) (order : OpenOrder) → ReadsFile (bases_in files) kept.paths (new_open args 0 numbers) order (named args.file files)
       → IsIndexed files members jobs orders moves kept
       → IsIndexed files members (job_changed place (with_open args numbers) jobs) (changed_at place (λ its. its ++ (args.open_id, order) ∷ []) orders) moves kept
   IsIndexed-with_open place args numbers order reads indexed =
@@ -278,6 +282,7 @@ module _ (files : Named FileState) (members : NumberedMembers) (jobs : List JobS
         let same : changes_on member (jobs ++ new_job name ∷ []) ≡ changes_on member jobs = (let e = sum_by_push (count_on member) jobs (new_job name) in omega (arith, e)) in
         subst (λ (n : ℕ). HaveRoom member n kept) (sym same) (indexed.room member);
     bytes = indexed.bytes;
+    views = indexed.views;
   }
 
 -- the jobs after one has begun, or after it hasn't

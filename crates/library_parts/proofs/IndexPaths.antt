@@ -1,5 +1,5 @@
 -- What the kept paths are to files, opens and changes of commit cycles, where paths come, go, or change in their entries alone.
-use Rattle.std.proofs.Common.{ℕ, zero, suc, ◌+◌, ◌*◌, ◌≤◌, ◌≡◌, ◌≢◌, ◌==◌, ◌&&◌, ◌||◌, ◌⊎◌, inl, inr, Bool, true, false, if◌then◌else◌, List, [], ◌∷◌, ◌++◌, length, map, get_or, Option, Some}
+use Rattle.std.proofs.Common.{ℕ, zero, suc, ◌+◌, ◌*◌, ◌≤◌, ◌≡◌, ◌≢◌, ◌==◌, ◌&&◌, ◌||◌, ◌⊎◌, inl, inr, nat_lt, Bool, true, false, if◌then◌else◌, List, [], ◌∷◌, ◌++◌, length, map, get_or, Option, Some}
 use Rattle.std.proofs.Common.{None, IfSome, refl}
 use Rattle.std.proofs.Common.{sym, ap, arith, ◌∙◌, subst}
 use Rattle.std.specs.Prelude.{All, Any, filter}
@@ -14,11 +14,22 @@ use Rattle.member_slots.specs.Members.{Numbered, NumberedMembers}
 use Rattle.file_model.specs.declared.paths.PathFormat.{PathFormat}
 use Rattle.file_model.specs.declared.paths.PathSpec.{PathSpec}
 use Rattle.file_model.specs.FilePaths.{every_record, own_fields, path_format, physical_path}
-use Rattle.logical_model.specs.Bases.{FileSpec, PhysicalFile, LogicalFile}
+use Rattle.dds_physical.specs.declared.physical_files.PhysicalSpec.{PhysicalSpec}
+use Rattle.dds_logical.specs.declared.views.LogicalSpec.{LogicalSpec}
+use Rattle.dds_logical.specs.declared.views.LogicalSpec.TheVariants.{Simple, Multi, Join}
+use Rattle.logical_model.specs.Bases.{Bases, FileSpec, PhysicalFile, LogicalFile}
+use Rattle.logical_model.specs.FilePaths.{view_format}
 use Rattle.logical_model.specs.Formats.{has_key}
+use Rattle.logical_laws.specs.Mapped.{AreSameBases}
+use Rattle.logical_laws.proofs.ListLemmas.{each-append, each-contained}
+use Rattle.logical_laws.proofs.SameLemmas.{same-paths}
+use Rattle.logical_paths.specs.Steps.{own_path}
+use Rattle.library_paths.specs.AllPaths.{AreKeptFor, all_paths, paths_among, paths_by}
+use Rattle.library_paths.specs.KeptOnce.{with_entries}
+use Rattle.library_paths.proofs.KeptLemmas.{kept-contained}
 use Rattle.journal_model.specs.Rollback.{MemberChange}
 use Rattle.path_set.specs.declared.moves.PathMove.{PathMove}
-use Rattle.path_set.specs.KeptPaths.{KeptPath, KeptPaths, NumberedPaths, spare_of}
+use Rattle.path_set.specs.KeptPaths.{AreShared, KeptPath, KeptPaths, NumberedPaths, spare_of}
 use Rattle.path_set.specs.RecordChanges.{RecordChange, reversed, moves_of, in_path, moves_in, HaveRoom}
 use Rattle.path_set.specs.MemberSteps.{is_over}
 use Rattle.file_catalogue.proofs.NameLemmas.{some-equal}
@@ -26,9 +37,10 @@ use Rattle.job_table.specs.Opens.{OpenOrder}
 use Rattle.library_model.specs.Named.{Named, named}
 use Rattle.library_steps.specs.Opens.{first_of}
 use Rattle.library_steps.specs.Records.{is_file_path}
-use Rattle.library_steps.specs.State.{FileState, OpenState, CycleState, JobState, job_changed}
+use Rattle.library_steps.specs.LogicalFiles.{bases_in}
+use Rattle.library_steps.specs.State.{FileState, MemberStatus, OpenState, CycleState, JobState, job_changed}
 use Rattle.library_steps.specs.Uses.{changes_in}
-use Rattle.library_parts.specs.Indexed.{member_path, IsOfFile, HaveMembers, ReadsBy, ReadsFile, ReadsIn, OpensRead, record_change, moves_back, moves_of_job, changes_on, IsIndexed}
+use Rattle.library_parts.specs.Indexed.{AreViews, AreViewsBeside, IsViewBeside, AreSameBasesBy, IsIndexedFor, IsReadSo, OpensRead, ReadsBy, ReadsFile, ReadsIn, changes_on, moves_back, moves_of_job, path_by, record_change}
 use Rattle.library_parts.specs.Lawful.{GoesBack, CycleGoesBack, AllGoBack}
 use Rattle.library_parts.proofs.BaseLemmas.{IsKept}
 
@@ -82,17 +94,6 @@ pub record IsOfMember (number : ℕ) (spec : PathSpec) : Type 0 where
   pub formats : spec.formats ≡ format ∷ []
   pub member : format.member ≡ number
 
-pub member_path-is : (file : FileSpec) (number : ℕ) (spec : PathSpec) → member_path file number ≡ Some spec → IsOfMember number spec
-member_path-is (PhysicalFile s) number spec is =
-    elim (has_key (PhysicalFile s)) as (λ b. (if b then Some (physical_path number s.format.fields s.keys) else None) ≡ Some spec → IsOfMember number spec) [
-      | true ↦ λ e. subst (IsOfMember number) (some-equal e) (record { format = path_format number every_record (own_fields s.format.fields) s.keys.parts; formats = refl; member = refl })
-      | false ↦ λ e. absurd cc
-    ] is
-member_path-is (LogicalFile s) number spec is = absurd cc
-
-pub of-file : (files : Named FileState) (spec : PathSpec) → IsOfFile files spec → (number : ℕ) × IsOfMember number spec
-of-file files spec is = (is.owner.2, member_path-is is.owner.1.spec is.owner.2 spec is.owner.4)
-
 pub over-own : (number : ℕ) (spec : PathSpec) → IsOfMember number spec → is_over number spec ≡ true
 over-own number spec is =
     ap (list_any (λ (f : PathFormat). f.member == number)) is.formats
@@ -117,27 +118,51 @@ one-member number other spec is also =
     any-own other number spec also (subst (λ (fs : List PathFormat). Any (λ (f : PathFormat). f.member ≡ number) fs) (sym is.formats) (any-first (λ
     (f : PathFormat). f.member ≡ number) is.format [] is.member))
 
+-- ---- each path of a file is over one member
+
+-- some member, which a physical file has
+pub record IsOfOwner (files : Named FileState) (spec : PathSpec) : Type 0 where
+  pub number : ℕ
+  pub of : IsOfMember number spec
+
+pub physical-of : (number : ℕ) (spec : PhysicalSpec) → IsOfMember number (physical_path number spec.format.fields spec.keys)
+physical-of number spec = record { format = path_format number every_record (own_fields spec.format.fields) spec.keys.parts; formats = refl; member = refl }
+
+-- the paths over the members of a physical file
+physicals-of : (files : Named FileState) (spec : PhysicalSpec) (members : Named MemberStatus)
+    → AllByRecursion (IsOfOwner files) (map (λ (entry : List ℕ × MemberStatus). physical_path entry.1.number spec.format.fields spec.keys) members)
+physicals-of files spec [] = tt
+physicals-of files spec (entry ∷ members) = (record { number = entry.1.number; of = physical-of entry.1.number spec }, physicals-of files spec members)
+
+file-of : (files : Named FileState) (members : Named MemberStatus) (spec : FileSpec) → IsViewBeside files spec → AllByRecursion (IsOfOwner files) (paths_by files members spec)
+file-of files members (PhysicalFile spec) view =
+    elim (nat_lt 0 (length spec.keys.parts)) as (λ b. AllByRecursion (IsOfOwner files)
+    (if b then map (λ (entry : List ℕ × MemberStatus). physical_path entry.1.number spec.format.fields spec.keys) members else [])) [
+      | true ↦ physicals-of files spec members
+      | false ↦ tt
+    ]
+file-of files members (LogicalFile (Simple view)) is =
+    (record { number = (bases_in files view.base).member; of = record { format = view_format (bases_in files) view; formats = refl; member = refl } }, tt)
+file-of files members (LogicalFile (Multi views)) is = absurd is.simple
+file-of files members (LogicalFile (Join view)) is = absurd is.simple
+
+all-of : (all files : Named FileState) → AreViewsBeside all files → AllByRecursion (IsOfOwner all) (paths_among all files)
+all-of all [] views = tt
+all-of all (entry ∷ files) views =
+    each-append (IsOfOwner all) (paths_by all entry.1.members entry.1.spec) (paths_among all files) (file-of all entry.1.members entry.1.spec views.0) (all-of all files views.1)
+
+-- so is each kept path
+pub kept-of : (files : Named FileState) (members : NumberedMembers) (paths : NumberedPaths) → AreViews files → AreShared paths → AreKeptFor (all_paths files) members paths
+    → All (λ path. IsOfOwner files path.item.spec) paths
+kept-of files members paths views shared kept = λ k d low.
+    each-contained (IsOfOwner files) (all_paths files) (get_or paths k d).item.spec (all-of files files views) (kept-contained (all_paths files) members paths shared kept k d low)
+
+pub of-file : (files : Named FileState) (spec : PathSpec) → IsOfOwner files spec → (number : ℕ) × IsOfMember number spec
+of-file files spec is = (is.number, is.of)
+
 -- ---- paths with other entries
 
-abbrev pub with_entries : (Numbered KeptPath → List Entry) → Numbered KeptPath → Numbered KeptPath
-with_entries entries path = record { number = path.number; item = record { spec = path.item.spec; files = path.item.files; entries = entries path } }
-
 module _ (entries : Numbered KeptPath → List Entry) where
-  pub owned-with : (files : Named FileState) (paths : NumberedPaths) → All (λ (path : Numbered KeptPath). IsOfFile files path.item.spec) paths
-      → All (λ (path : Numbered KeptPath). IsOfFile files path.item.spec) (map (with_entries entries) paths)
-  owned-with files paths all = All-map (λ (path : Numbered KeptPath). IsOfFile files path.item.spec) (with_entries entries) paths all
-
-  pub single-with : (paths : NumberedPaths) → All (λ (path : Numbered KeptPath). path.item.files ≡ 1) paths → All (λ (path : Numbered KeptPath). path.item.files ≡ 1) (map (with_entries entries) paths)
-  single-with paths all = All-map (λ (path : Numbered KeptPath). path.item.files ≡ 1) (with_entries entries) paths all
-
-  pub have-with : (files : Named FileState) (paths : NumberedPaths) → HaveMembers files paths → HaveMembers files (map (with_entries entries) paths)
-  have-with files paths have name file number owns = by (member_path file.spec number) (have name file number owns)
-    where
-      by : (o : Option PathSpec) → IfSome o (λ spec. Any (λ (path : Numbered KeptPath). path.item.spec ≡ spec) paths)
-          → IfSome o (λ spec. Any (λ (path : Numbered KeptPath). path.item.spec ≡ spec) (map (with_entries entries) paths))
-      by None h = h
-      by (Some spec) h = any-map (λ (path : Numbered KeptPath). path.item.spec ≡ spec) (with_entries entries) paths h
-
   pub any-with : (paths : NumberedPaths) (id : ℕ) (spec : PathSpec) → Any (λ (path : Numbered KeptPath). (path.number ≡ id) × (path.item.spec ≡ spec)) paths
       → Any (λ (path : Numbered KeptPath). (path.number ≡ id) × (path.item.spec ≡ spec)) (map (with_entries entries) paths)
   any-with paths id spec any = any-map (λ (path : Numbered KeptPath). (path.number ≡ id) × (path.item.spec ≡ spec)) (with_entries entries) paths any
@@ -153,27 +178,56 @@ abbrev pub PathsStay : NumberedPaths → NumberedPaths → Type 0
 PathsStay old new =
     (id : ℕ) (spec : PathSpec) → Any (λ path. (path.number ≡ id) × (path.item.spec ≡ spec)) old → Any (λ path. (path.number ≡ id) × (path.item.spec ≡ spec)) new
 
+-- a file stays, and so do the files that it is over
+pub record FileStays (files others : Named FileState) (name : List ℕ) (file : FileState) : Type 0 where
+  pub kept : IsKept others name file
+  pub bases : AreSameBasesBy (bases_in files) (bases_in others) file.spec
+
 abbrev pub FilesStay : Named FileState → Named FileState → Type 0
-FilesStay files others = (name : List ℕ) (file : FileState) → named name files ≡ Some file → IsKept others name file
+FilesStay files others = (name : List ℕ) (file : FileState) → named name files ≡ Some file → FileStays files others name file
+
+abbrev head_of : List PathSpec → Option PathSpec
+head_of [] = None
+head_of (path ∷ paths) = Some path
+
+-- a logical file over the same bases has the same path
+pub own-same : (bases others : Bases) (spec : LogicalSpec) → AreSameBases bases others spec → own_path bases spec ≡ own_path others spec
+own-same bases others (Simple view) same = some-equal (ap head_of (same-paths bases others (Simple view) same))
+own-same bases others (Multi views) same = some-equal (ap head_of (same-paths bases others (Multi views) same))
+own-same bases others (Join view) same = some-equal (ap head_of (same-paths bases others (Join view) same))
+
+path_by-same : (bases others : Bases) (keyed : Bool) (member : ℕ) (spec : FileSpec) → AreSameBasesBy bases others spec → path_by bases keyed member spec ≡ path_by others keyed member spec
+path_by-same bases others keyed member (PhysicalFile spec) same = refl
+path_by-same bases others keyed member (LogicalFile spec) same = ap (λ (p : PathSpec). Some p) (own-same bases others spec same)
 
 pub reads-by : (old new : NumberedPaths) (path : Option PathSpec) (order : OpenOrder) → PathsStay old new → ReadsBy old path order → ReadsBy new path order
 reads-by old new None order stay is = is
 reads-by old new (Some spec) order stay is = record { path = (is.path.0, is.path.1, stay is.path.0 spec is.path.2); formats = is.formats }
 
 -- the path by which an open reads, by what its file is
-abbrev pub path_by : FileSpec → OpenState → Option PathSpec
-path_by spec opened = if is_file_path opened.access_path && has_key spec then member_path spec (first_of opened.members) else None
+abbrev pub path_of : Bases → FileSpec → OpenState → Option PathSpec
+path_of bases spec opened = path_by bases (is_file_path opened.access_path && has_key spec) (first_of opened.members) spec
+
+-- an open of a file that stays reads by the same path
+pub read-stays : (files others : Named FileState) (old new : NumberedPaths) → PathsStay old new → (entry : List ℕ × OpenState) (order : List ℕ × OpenOrder)
+    → ((file : FileState) → named entry.1.file files ≡ Some file → FileStays files others entry.1.file file) → ReadsIn files old entry order → ReadsIn others new entry order
+read-stays files others old new stay entry order kept reads = by (named entry.1.file files) refl reads
+  where
+    by : (o : Option FileState) → named entry.1.file files ≡ o → ReadsFile (bases_in files) old entry.1 order.1 o → ReadsFile (bases_in others) new entry.1 order.1 (named entry.1.file others)
+    by None is h = absurd h
+    by (Some file) is h =
+        let its = kept file is in
+        subst (ReadsFile (bases_in others) new entry.1 order.1) (sym its.kept.there)
+        (subst (λ (s : FileSpec). ReadsBy new (path_of (bases_in others) s entry.1) order.1 × IsReadSo (is_file_path entry.1.access_path) s) (sym its.kept.keeps.spec) (
+          subst (λ (p : Option PathSpec). ReadsBy new p order.1)
+              (path_by-same (bases_in files) (bases_in others) (is_file_path entry.1.access_path && has_key file.spec) (first_of entry.1.members) file.spec its.bases)
+              (reads-by old new (path_of (bases_in files) file.spec entry.1) order.1 stay h.0),
+          h.1,
+        ))
 
 pub reads-in : (files others : Named FileState) (old new : NumberedPaths) → FilesStay files others → PathsStay old new → (entry : List ℕ × OpenState) (order : List ℕ × OpenOrder)
     → ReadsIn files old entry order → ReadsIn others new entry order
-reads-in files others old new kept stay entry order reads = by (named entry.1.file files) refl reads
-  where
-    by : (o : Option FileState) → named entry.1.file files ≡ o → ReadsFile old entry.1 order.1 o → ReadsFile new entry.1 order.1 (named entry.1.file others)
-    by None is h = absurd h
-    by (Some file) is h =
-        let its = kept entry.1.file file is in
-        subst (ReadsFile new entry.1 order.1) (sym its.there)
-        (subst (λ (s : FileSpec). ReadsBy new (path_by s entry.1) order.1) (sym its.keeps.spec) (reads-by old new (path_by file.spec entry.1) order.1 stay h))
+reads-in files others old new kept stay entry order reads = read-stays files others old new stay entry order (kept entry.1.file) reads
 
 pub orders-stay : (files others : Named FileState) (old new : NumberedPaths) → FilesStay files others → PathsStay old new → (jobs : List JobState) (orders : List (Named OpenOrder))
     → AllZip (OpensRead files old) jobs orders → AllZip (OpensRead others new) jobs orders
@@ -199,9 +253,9 @@ room-more member changes old new same more had =
     (λ k d low any. let h = had k d low any in let m = more (get_or old.paths k d).number in omega (arith, h, m))
 
 -- memory is set aside
-pub IsIndexed-roomier : (files : Named FileState) (members : NumberedMembers) (jobs : List JobState) (orders : List (Named OpenOrder)) (moves : List (List (List PathMove))) (old new : KeptPaths)
-    → new.paths ≡ old.paths → ((id : ℕ) → spare_of id old ≤ spare_of id new) → IsIndexed files members jobs orders moves old → IsIndexed files members jobs orders moves new
-IsIndexed-roomier files members jobs orders moves old new same more indexed =
+pub IsIndexed-roomier : (specs : List PathSpec) (files : Named FileState) (members : NumberedMembers) (jobs : List JobState) (orders : List (Named OpenOrder)) (moves : List (List (List PathMove))) (old new : KeptPaths)
+    → new.paths ≡ old.paths → ((id : ℕ) → spare_of id old ≤ spare_of id new) → IsIndexedFor specs files members jobs orders moves old → IsIndexedFor specs files members jobs orders moves new
+IsIndexed-roomier specs files members jobs orders moves old new same more indexed =
     let rooms : (member : ℕ) → HaveRoom member (changes_on member jobs) new = λ member. room-more member (changes_on member jobs) old new same more (indexed.room member) in
     record {
       paths = rw same indexed.paths;
@@ -209,6 +263,7 @@ IsIndexed-roomier files members jobs orders moves old new same more indexed =
       moves = rw same indexed.moves;
       room = rooms;
       bytes = indexed.bytes;
+      views = indexed.views;
     }
 
 -- ---- how many changes there are of a member
@@ -235,6 +290,14 @@ changes_on-fewer member (suc place) change (job ∷ jobs) fewer =
 -- it holds of each change
 abbrev pub OfChanges : (MemberChange → Type 0) → List JobState → Type 0
 OfChanges P jobs = AllByRecursion (λ job. AllByRecursion P (changes_in job.cycle)) jobs
+
+pub changes-each : (P Q : MemberChange → Type 0) → ((undo : MemberChange) → P undo → Q undo) → (jobs : List JobState) → OfChanges P jobs → OfChanges Q jobs
+changes-each P Q each [] all = tt
+changes-each P Q each (job ∷ jobs) all = (those (changes_in job.cycle) all.0, changes-each P Q each jobs all.1)
+  where
+    those : (undos : List MemberChange) → AllByRecursion P undos → AllByRecursion Q undos
+    those [] own = tt
+    those (undo ∷ undos) own = (each undo own.0, those undos own.1)
 
 module _ (files : Named FileState) (members : NumberedMembers) (P : MemberChange → Type 0) (each : (sequence : ℕ) (undo : MemberChange) → GoesBack files members sequence undo → P undo) where
   undos-all : (sequence : ℕ) (undos : List MemberChange) → AllByRecursion (GoesBack files members sequence) undos → AllByRecursion P undos

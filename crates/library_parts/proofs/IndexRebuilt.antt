@@ -22,14 +22,17 @@ use Rattle.path_set.specs.RebuiltPaths.{AreRebuilt, HaveRooms, entries_or, kept_
 use Rattle.path_set.proofs.MemberStepLemmas.{same-with}
 use Rattle.path_set.proofs.RebuildLemmas.{IsChosen, all-chosen, rebuilt-over, rebuilt-room}
 use Rattle.path_set.proofs.RecordLemmas.{ascend-from}
+use Rattle.library_paths.specs.AllPaths.{all_paths}
+use Rattle.library_paths.specs.KeptOnce.{with_entries}
+use Rattle.library_paths.proofs.KeptLemmas.{kept-with}
 use Rattle.job_table.specs.Opens.{OpenOrder}
 use Rattle.library_model.specs.Named.{Named}
 use Rattle.library_steps.specs.State.{FileState, JobState}
 use Rattle.library_steps.specs.Uses.{changes_in, first_job, uses}
-use Rattle.library_parts.specs.Indexed.{HasBytes, MemberHasBytes, IsOfFile, ArePaths, OpensRead, changes_on, IsIndexed}
+use Rattle.library_parts.specs.Indexed.{HasBytes, MemberHasBytes, ArePaths, OpensRead, changes_on, IsIndexed}
 use Rattle.library_parts.proofs.BackLemmas.{neither, unused-unchanged}
-use Rattle.library_parts.proofs.IndexPaths.{any-own, any-with, changes-none, have-with, moves-stay, moves-with, of-file, orders-stay, over-other, owned-with, room-fewer, single-with, with_entries}
-use Rattle.library_parts.proofs.IndexStatus.{files-stay}
+use Rattle.library_parts.proofs.IndexPaths.{IsOfOwner, any-own, any-with, changes-none, kept-of, moves-stay, moves-with, of-file, orders-stay, over-other, room-fewer}
+use Rattle.library_parts.proofs.IndexShared.{files-stay}
 use Rattle.library_parts.proofs.IndexGone.{jobs-free}
 use Rattle.library_parts.proofs.IndexRecords.{bytes-with}
 
@@ -79,7 +82,7 @@ module _ (files : Named FileState) (members : NumberedMembers) (old : KeptPaths)
   abbrev HasRoomIn : Numbered KeptPath → Type 0
   HasRoomIn path = Any (λ (f : PathFormat). f.member ≡ member) path.item.spec.formats → changes * length path.item.spec.formats ≤ spare_of path.number (kept_with rebuilt old)
 
-  one-room : (path : Numbered KeptPath) → IsOfFile files path.item.spec → IsChosen members held (is_over number path.item.spec) path (item_at path.number rebuilt)
+  one-room : (path : Numbered KeptPath) → IsOfOwner files path.item.spec → IsChosen members held (is_over number path.item.spec) path (item_at path.number rebuilt)
       → (Any (λ (f : PathFormat). f.member ≡ member) path.item.spec.formats → changes * length path.item.spec.formats ≤ spare_of path.number old) → HasRoomIn path
   one-room path file chosen had any =
       let its = of-file files path.item.spec file in
@@ -90,7 +93,7 @@ module _ (files : Named FileState) (members : NumberedMembers) (old : KeptPaths)
       let h = had any in
       omega (arith, same, h)
 
-  all-room : (paths : NumberedPaths) → AllByRecursion (λ (path : Numbered KeptPath). IsOfFile files path.item.spec) paths
+  all-room : (paths : NumberedPaths) → AllByRecursion (λ (path : Numbered KeptPath). IsOfOwner files path.item.spec) paths
       → AllByRecursion (λ (path : Numbered KeptPath). IsChosen members held (is_over number path.item.spec) path (item_at path.number rebuilt)) paths
       → AllByRecursion (λ (path : Numbered KeptPath). Any (λ (f : PathFormat). f.member ≡ member) path.item.spec.formats → changes * length path.item.spec.formats ≤ spare_of path.number old) paths
       → AllByRecursion (λ (path : Numbered KeptPath). HasRoomIn (path_with rebuilt path)) paths
@@ -104,12 +107,9 @@ pub IsIndexed-rebuilt : (files : Named FileState) (members : NumberedMembers) (j
     → AreRebuilt (with_member number member members) held (paths_over number old.paths) rebuilt → MemberHasBytes member → changes_on number jobs ≤ held
     → IsIndexed files members jobs orders moves old → IsIndexed files (with_member number member members) jobs orders moves new
 IsIndexed-rebuilt files members jobs orders moves old new number held member rebuilt shared rooms is made bytes few indexed = record {
-  paths = subst (ArePaths files (with_member number member members)) (sym paths_are) (record {
-    over = rebuilt-over number held members (with_member number member members) old.paths rebuilt (same-with number member members) shared indexed.paths.over made;
-    owned = owned-with entries files old.paths indexed.paths.owned;
-    there = have-with entries files old.paths indexed.paths.there;
-    single = single-with entries old.paths indexed.paths.single;
-  });
+  paths = subst (ArePaths files (with_member number member members)) (sym paths_are)
+      (kept-with entries old.paths (all_paths files) members (with_member number member members)
+      (rebuilt-over number held members (with_member number member members) old.paths rebuilt (same-with number member members) shared indexed.paths.over made) indexed.paths);
   orders = subst (λ (p : NumberedPaths). AllZip (OpensRead files p) jobs orders) (sym paths_are)
       (orders-stay files files old.paths (map (with_entries entries) old.paths) (files-stay files) (any-with entries old.paths) jobs orders indexed.orders);
   moves = indexed.moves ∙ sym (moves-stay old.paths new.paths (λ c. ap (moves_in c) paths_are ∙ moves-with entries c old.paths) jobs);
@@ -121,12 +121,13 @@ IsIndexed-rebuilt files members jobs orders moves old new number held member reb
         (All-from_recursion (λ (path : Numbered KeptPath). HasRoomIn files (with_member number member members) old rebuilt number held other (changes_on other jobs) differs
         (path_with rebuilt path)) old.paths
         (all-room files (with_member number member members) old rebuilt number held other (changes_on other jobs) differs old.paths
-        (recursion_from_All (λ (path : Numbered KeptPath). IsOfFile files path.item.spec) old.paths indexed.paths.owned)
+        (recursion_from_All (λ (path : Numbered KeptPath). IsOfOwner files path.item.spec) old.paths (kept-of files members old.paths indexed.views shared indexed.paths))
         (all-chosen (with_member number member members) number held old.paths rebuilt (ascend-from old.paths shared.ascend) made)
         (recursion_from_All (λ (path : Numbered KeptPath). Any (λ (f : PathFormat). f.member ≡ other) path.item.spec.formats
         → changes_on other jobs * length path.item.spec.formats ≤ spare_of path.number old) old.paths (indexed.room other)))))
   ];
   bytes = bytes-with number member members bytes indexed.bytes;
+  views = indexed.views;
 }
   where
     entries : Numbered KeptPath → List Entry

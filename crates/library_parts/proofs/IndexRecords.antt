@@ -21,12 +21,15 @@ use Rattle.path_set.specs.MemberSteps.{record_added, slot_replaced, is_over}
 use Rattle.path_set.proofs.MemberStepLemmas.{added-changes, replaced-changes}
 use Rattle.path_set.proofs.RecordLemmas.{paths-over}
 use Rattle.path_set.proofs.RoomLemmas.{moves-few, room-falls}
+use Rattle.library_paths.specs.AllPaths.{all_paths}
+use Rattle.library_paths.specs.KeptOnce.{with_entries}
+use Rattle.library_paths.proofs.KeptLemmas.{kept-with}
 use Rattle.job_table.specs.Opens.{OpenOrder}
 use Rattle.library_model.specs.Named.{Named}
 use Rattle.library_steps.specs.State.{FileState, JobState}
-use Rattle.library_parts.specs.Indexed.{HasBytes, MemberHasBytes, AreOfBytes, IsOfFile, ArePaths, OpensRead, changes_on, IsIndexed}
-use Rattle.library_parts.proofs.IndexPaths.{any-own, any-with, have-with, moves-stay, moves-with, of-file, orders-stay, over-other, owned-with, single-with, with_entries}
-use Rattle.library_parts.proofs.IndexStatus.{files-stay}
+use Rattle.library_parts.specs.Indexed.{HasBytes, MemberHasBytes, AreOfBytes, ArePaths, OpensRead, changes_on, IsIndexed}
+use Rattle.library_parts.proofs.IndexPaths.{IsOfOwner, any-own, any-with, kept-of, moves-stay, moves-with, of-file, orders-stay, over-other}
+use Rattle.library_parts.proofs.IndexShared.{files-stay}
 
 -- ---- bytes
 
@@ -66,7 +69,7 @@ bytes-changed member rrn slot all own =
 
 -- the changes of another member have the room that they had
 pub room-other : (files : Named FileState) (c : RecordChange) (member changes : ℕ) (old new : KeptPaths) → AreShared old.paths
-    → All (λ (path : Numbered KeptPath). IsOfFile files path.item.spec) old.paths → new.paths ≡ paths_after (moves_in c old.paths) old.paths
+    → All (λ (path : Numbered KeptPath). IsOfOwner files path.item.spec) old.paths → new.paths ≡ paths_after (moves_in c old.paths) old.paths
     → ((id : ℕ) → spare_of id old ≤ spare_of id new + count_in id (moves_in c old.paths)) → member ≢ c.member → HaveRoom member changes old → HaveRoom member changes new
 room-other files c member changes old new shared owned is spare differs had =
     subst (λ (paths : NumberedPaths). All (λ (path : Numbered KeptPath). Any (λ (f : PathFormat). f.member ≡ member) path.item.spec.formats
@@ -75,7 +78,7 @@ room-other files c member changes old new shared owned is spare differs had =
     (with_entries (λ path. entries_after (is_falling path.item.spec.ties) path.number (moves_in c old.paths) path.item.entries)) old.paths
     (λ k d low any. one (get_or old.paths k d) (owned k d low) (had k d low any) (moves-few c old.paths shared k d low) any))
   where
-    one : (path : Numbered KeptPath) → IsOfFile files path.item.spec → changes * length path.item.spec.formats ≤ spare_of path.number old
+    one : (path : Numbered KeptPath) → IsOfOwner files path.item.spec → changes * length path.item.spec.formats ≤ spare_of path.number old
         → count_in path.number (moves_in c old.paths) ≤ cond (is_over c.member path.item.spec) (length path.item.spec.formats) 0
         → Any (λ (f : PathFormat). f.member ≡ member) path.item.spec.formats → changes * length path.item.spec.formats ≤ spare_of path.number new
     one path file h few any =
@@ -98,20 +101,17 @@ module _ (files : Named FileState) (before after : NumberedMembers) (jobs : List
       → ((id : ℕ) → spare_of id old ≤ spare_of id new + count_in id (moves_in c old.paths)) → HaveRoom c.member (changes_on c.member jobs + 1) old → AreOfBytes after
       → IsIndexed files before jobs orders moves old → IsIndexed files after jobs orders moves new
   IsIndexed-record c shared changes is spare room bytes indexed = record {
-    paths = subst (ArePaths files after) (sym is) (record {
-      over = paths-over c before after old.paths changes shared indexed.paths.over;
-      owned = owned-with entries files old.paths indexed.paths.owned;
-      there = have-with entries files old.paths indexed.paths.there;
-      single = single-with entries old.paths indexed.paths.single;
-    });
+    paths = subst (ArePaths files after) (sym is)
+        (kept-with entries old.paths (all_paths files) before after (paths-over c before after old.paths changes shared indexed.paths.over) indexed.paths);
     orders = subst (λ (p : NumberedPaths). AllZip (OpensRead files p) jobs orders) (sym is)
         (orders-stay files files old.paths (map (with_entries entries) old.paths) (files-stay files) (any-with entries old.paths) jobs orders indexed.orders);
     moves = indexed.moves ∙ sym (moves-stay old.paths new.paths (λ d. ap (moves_in d) is ∙ moves-with entries d old.paths) jobs);
     room = λ member. elim (cases_eq member c.member) [
       | inl same ↦ room-falls c member (changes_on member jobs) old new shared (subst (λ (n : ℕ). HaveRoom n (changes_on n jobs + 1) old) (sym same) room) is spare
-      | inr differs ↦ room-other files c member (changes_on member jobs) old new shared indexed.paths.owned is spare differs (indexed.room member)
+      | inr differs ↦ room-other files c member (changes_on member jobs) old new shared (kept-of files before old.paths indexed.views shared indexed.paths) is spare differs (indexed.room member)
     ];
     bytes = bytes;
+    views = indexed.views;
   }
     where
       entries : Numbered KeptPath → List Entry

@@ -1,87 +1,88 @@
 -- The kept paths are those of a library still, when files change in what doesn't tell their paths.
-use Rattle.std.proofs.Common.{◌≡◌, ℕ, List, map, IfSome, subst, sym, ◌∙◌, ap}
-use Rattle.std.specs.Prelude.{Any}
-use Rattle.member_slots.specs.Members.{Numbered, NumberedMembers}
-use Rattle.file_model.specs.declared.paths.PathSpec.{PathSpec}
-use Rattle.logical_model.specs.Bases.{FileSpec}
+use Rattle.std.proofs.Common.{◌≡◌, ℕ, List, [], ◌∷◌, map, Some, refl, ap, sym, subst}
+use Rattle.std.specs.List.{AllByRecursion}
+use Rattle.member_slots.specs.Members.{NumberedMembers}
+use Rattle.dds_logical.specs.declared.views.LogicalSpec.{LogicalSpec}
+use Rattle.dds_logical.specs.declared.views.LogicalSpec.TheVariants.{Simple, Multi, Join}
+use Rattle.logical_model.specs.Bases.{Base, Bases, FileSpec, PhysicalFile, LogicalFile, base_names}
+use Rattle.logical_laws.specs.Mapped.{AreSameBases}
+use Rattle.logical_laws.proofs.SameLemmas.{same-mapped}
+use Rattle.logical_paths.specs.KeyedViews.{IsKeyedView}
+use Rattle.library_paths.specs.AllPaths.{all_paths, count_in}
+use Rattle.library_paths.proofs.BaseLemmas.{AllAlike, AreAlike, all-alike-status}
+use Rattle.library_paths.proofs.NameLemmas.{each-named}
+use Rattle.library_paths.proofs.PathsLemmas.{paths-status}
 use Rattle.path_set.specs.declared.moves.PathMove.{PathMove}
-use Rattle.path_set.specs.KeptPaths.{KeptPath, KeptPaths, NumberedPaths}
-use Rattle.file_catalogue.specs.Owners.{Owns, has_number}
+use Rattle.path_set.specs.KeptPaths.{KeptPaths}
 use Rattle.file_catalogue.specs.Statuses.{after}
 use Rattle.file_catalogue.specs.declared.changes.StatusChange.{StatusChange}
-use Rattle.file_catalogue.proofs.ChangeLemmas.{changed-from, named-each_changed}
-use Rattle.file_catalogue.proofs.StatusLemmas.{after-number, has_number-changed_in}
+use Rattle.file_catalogue.proofs.StatusLemmas.{after-number}
 use Rattle.job_table.specs.Opens.{OpenOrder}
 use Rattle.library_model.specs.Named.{Named, named}
+use Rattle.library_steps.specs.LogicalFiles.{bases_in}
 use Rattle.library_steps.specs.State.{FileState, JobState, status_changed}
-use Rattle.library_parts.specs.Indexed.{member_path, IsOfFile, HaveMembers, IsIndexed}
-use Rattle.library_parts.proofs.BaseLemmas.{Keeps, Keeps-self, Keeps-status, kept-each}
-use Rattle.library_parts.proofs.IndexPaths.{FilesStay, PathsStay, orders-stay}
+use Rattle.library_parts.specs.Indexed.{AreSameBasesBy, AreViewsBeside, IsIndexed, IsView, IsViewBeside}
+use Rattle.library_parts.proofs.BaseLemmas.{IsKept, Keeps-status, kept-each}
+use Rattle.library_parts.proofs.IndexPaths.{FilesStay}
+use Rattle.library_parts.proofs.IndexShared.{IsIndexed-files, opens-stay}
 
--- each member of these files is a member of the same file before
-abbrev pub OwnedBefore : Named FileState → Named FileState → Type 0
-OwnedBefore files others = (name : List ℕ) (file : FileState) (number : ℕ) → Owns others name file number → (before : FileState) × Owns files name before number × (before.spec ≡ file.spec)
+-- ---- files whose bases are what they were
 
-pub files-stay : (files : Named FileState) → FilesStay files files
-files-stay files name file here = record { another = file; there = here; keeps = Keeps-self file }
+turned-names : (bases other : Bases) (names : List (List ℕ)) → AllByRecursion (λ name. other name ≡ bases name) names → AllByRecursion (λ name. bases name ≡ other name) names
+turned-names bases other [] all = tt
+turned-names bases other (name ∷ names) all = (sym all.0, turned-names bases other names all.1)
 
-pub paths-stay : (paths : NumberedPaths) → PathsStay paths paths
-paths-stay paths id spec any = any
+pub turned-bases : (bases other : Bases) (spec : FileSpec) → AreAlike other bases spec → AreSameBasesBy bases other spec
+turned-bases bases other (PhysicalFile spec) alike = tt
+turned-bases bases other (LogicalFile spec) alike = turned-names bases other (base_names spec) alike
 
-pub owned-stay : (files others : Named FileState) (spec : PathSpec) → FilesStay files others → IsOfFile files spec → IsOfFile others spec
-owned-stay files others spec stay is =
-    let its = stay is.owner.0 is.owner.1 is.owner.3.there in
-    record {
-      owner = (
-        is.owner.0,
-        its.another,
-        is.owner.2,
-        record { there = its.there; has = its.keeps.numbers is.owner.2 is.owner.3.has },
-        ap (λ (s : FileSpec). member_path s is.owner.2) its.keeps.spec ∙ is.owner.4,
-      );
-    }
+pub files-alike : (files others : Named FileState) → AllAlike files others files → ((name : List ℕ) (file : FileState) → named name files ≡ Some file → IsKept others name file) → FilesStay files others
+files-alike files others alike kept name file here = record {
+  kept = kept name file here;
+  bases = turned-bases (bases_in files) (bases_in others) file.spec
+      (each-named (λ (n : List ℕ) (f : FileState). AreAlike (bases_in others) (bases_in files) f.spec) name files file alike here);
+}
 
-pub have-stay : (files others : Named FileState) (paths : NumberedPaths) → OwnedBefore files others → HaveMembers files paths → HaveMembers others paths
-have-stay files others paths before have name file number owns =
-    let was = before name file number owns in
-    subst (λ (s : FileSpec). IfSome (member_path s number) (λ spec. Any (λ (path : Numbered KeptPath). path.item.spec ≡ spec) paths)) was.2 (have name was.0 number was.1)
+-- ---- logical files beside them
 
-module _ (files others : Named FileState) (members : NumberedMembers) (jobs : List JobState) (orders : List (Named OpenOrder)) (moves : List (List (List PathMove))) (kept : KeptPaths) where
-  pub IsIndexed-files : FilesStay files others → OwnedBefore files others → IsIndexed files members jobs orders moves kept → IsIndexed others members jobs orders moves kept
-  IsIndexed-files stay before indexed = record {
-    paths = record {
-      over = indexed.paths.over;
-      owned = λ k d low. owned-stay files others _ stay (indexed.paths.owned k d low);
-      there = have-stay files others kept.paths before indexed.paths.there;
-      single = indexed.paths.single;
-    };
-    orders = orders-stay files others kept.paths kept.paths stay (paths-stay kept.paths) jobs orders indexed.orders;
-    moves = indexed.moves;
-    room = indexed.room;
-    bytes = indexed.bytes;
-  }
+view-alike : (bases other : Bases) (spec : LogicalSpec) → AreSameBases bases other spec → IsView bases spec → IsView other spec
+view-alike bases other (Simple view) same is = record {
+  simple = tt;
+  keyed = subst (λ (b : Base). IsKeyedView b.fields view) same.0 is.keyed;
+  mapped = same-mapped bases other (Simple view) same is.mapped;
+  rises = is.rises;
+}
+view-alike bases other (Multi views) same is = absurd is.simple
+view-alike bases other (Join view) same is = absurd is.simple
 
--- ---- all files changed alike
+pub beside-alike : (files others : Named FileState) (spec : FileSpec) → AreAlike (bases_in others) (bases_in files) spec → IsViewBeside files spec → IsViewBeside others spec
+beside-alike files others (PhysicalFile spec) alike is = tt
+beside-alike files others (LogicalFile spec) alike is =
+    view-alike (bases_in files) (bases_in others) spec (turned-bases (bases_in files) (bases_in others) (LogicalFile spec) alike) is
 
-module _ (change : FileState → FileState) (keeps : (file : FileState) → Keeps file (change file))
-    (same_members : (file : FileState) (number : ℕ) → has_number number (change file).members ≡ has_number number file.members) where
-  owned-each : (files : Named FileState) → OwnedBefore files (map (λ entry. (entry.0, change entry.1)) files)
-  owned-each files name file number owns =
-      let was = changed-from change (named name files) file (sym (named-each_changed name change files) ∙ owns.there) in (
-        was.0,
-        record { there = was.1; has = sym (same_members was.0 number) ∙ ap (λ (f : FileState). has_number number f.members) was.2 ∙ owns.has },
-        sym (keeps was.0).spec ∙ ap (λ (f : FileState). f.spec) was.2,
-      )
+pub views-alike : (files others some : Named FileState) → AllAlike files others some → AreViewsBeside files some → AreViewsBeside others some
+views-alike files others [] alike views = tt
+views-alike files others (entry ∷ some) alike views = (beside-alike files others entry.1.spec alike.0 views.0, views-alike files others some alike.1 views.1)
 
-  pub IsIndexed-each : (files : Named FileState) (members : NumberedMembers) (jobs : List JobState) (orders : List (Named OpenOrder)) (moves : List (List (List PathMove))) (kept : KeptPaths)
-      → IsIndexed files members jobs orders moves kept → IsIndexed (map (λ entry. (entry.0, change entry.1)) files) members jobs orders moves kept
-  IsIndexed-each files members jobs orders moves kept =
-      IsIndexed-files files (map (λ entry. (entry.0, change entry.1)) files) members jobs orders moves kept (kept-each change keeps files) (owned-each files)
+-- files changed in what doesn't tell what they are
+pub views-each : (change : FileState → FileState) → ((file : FileState) → (change file).spec ≡ file.spec) → (all files : Named FileState) → AreViewsBeside all files
+    → AreViewsBeside all (map (λ entry. (entry.0, change entry.1)) files)
+views-each change same all [] views = tt
+views-each change same all (entry ∷ files) views = (subst (IsViewBeside all) (sym (same entry.1)) views.0, views-each change same all files views.1)
 
--- the status of a member changed
+-- ---- the status of a member changed
+
 pub IsIndexed-status : (files : Named FileState) (members : NumberedMembers) (jobs : List JobState) (orders : List (Named OpenOrder)) (moves : List (List (List PathMove))) (kept : KeptPaths)
     (number : ℕ) (change : StatusChange) → IsIndexed files members jobs orders moves kept
     → IsIndexed (map (λ entry. (entry.0, status_changed number (after change) entry.1)) files) members jobs orders moves kept
-IsIndexed-status files members jobs orders moves kept number change =
-    IsIndexed-each (status_changed number (after change)) (Keeps-status number (after change) (after-number change))
-    (λ file other. has_number-changed_in other number (after change) file.members (after-number change)) files members jobs orders moves kept
+IsIndexed-status files members jobs orders moves kept number change indexed =
+    IsIndexed-files (all_paths files) files members jobs orders moves (all_paths others) others kept
+    (opens-stay files others
+    (files-alike files others (all-alike-status number (after change) (after-number change) files files)
+    (kept-each (status_changed number (after change)) (Keeps-status number (after change) (after-number change)) files)) jobs)
+    (views-alike files others others (all-alike-status number (after change) (after-number change) files others)
+    (views-each (status_changed number (after change)) (λ file. refl) files files indexed.views))
+    (λ path. ap (count_in path) (sym (paths-status number (after change) (after-number change) files))) indexed
+  where
+    others : Named FileState
+    others = map (λ entry. (entry.0, status_changed number (after change) entry.1)) files

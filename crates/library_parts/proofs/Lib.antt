@@ -13,6 +13,7 @@ pub mod FindLemmas
 pub mod DeleteLemmas
 pub mod AddLemmas
 pub mod IndexPaths
+pub mod IndexShared
 pub mod IndexOpens
 pub mod IndexChanges
 pub mod IndexStatus
@@ -25,6 +26,8 @@ pub mod IndexDetached
 pub mod IndexMoves
 pub mod IndexRebuilt
 pub mod IndexLooks
+pub mod OpenLooks
+pub mod RisingLemmas
 pub mod IndexLaws
 pub mod IndexKeyed
 pub mod IndexNew
@@ -37,6 +40,7 @@ pub mod OpenLemmas
 pub mod HitLemmas
 pub mod NewKeyLemmas
 pub mod KeyPlanLemmas
+pub mod KeyLemmas
 pub mod TakenLemmas
 pub mod AllowLemmas
 pub mod GivenLemmas
@@ -46,3 +50,5 @@ pub mod GivenTakes
 pub mod NoteLemmas
 pub mod FreeKeyLemmas
 pub mod GivenSteps
+pub mod UserKinds
+pub mod ManyPaths

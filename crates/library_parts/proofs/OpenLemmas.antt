@@ -1,141 +1,131 @@
--- How a new open reads: by its file's path over the member, or in arrival order.
-use Rattle.std.proofs.Common.{◌≡◌, ℕ, ◌<◌, ◌&&◌, nat_lt, Bool, true, false, cond, if◌then◌else◌, List, [], ◌∷◌, length, Option, Some, None, Result, Ok, Err, IfOk, IfSome, refl, sym, ap, subst, ◌∙◌}
-use Rattle.std.specs.Prelude.{All, AllPairs, Any, find}
-use Rattle.std.specs.List.{AllByRecursion}
-use Rattle.std.specs.Option.{option_map}
-use Rattle.std.proofs.lemmas.List.Elements.{recursion_from_All}
+-- How a new open reads: by its file's path, or in arrival order.
+use Rattle.std.proofs.Common.{◌≡◌, ◌≢◌, ℕ, zero, ◌&&◌, Bool, true, false, if◌then◌else◌, List, [], ◌∷◌, length, map, Option, Some, None, Result, Ok, Err, IfOk, IfSome, refl, sym, ap, subst, ◌∙◌, arith}
+use Rattle.std.specs.Prelude.{All, Any, Contains, MatchOption}
+use Rattle.dds_logical.specs.declared.views.LogicalSpec.{LogicalSpec}
+use Rattle.dds_logical.specs.declared.views.LogicalSpec.TheVariants.{Simple, Multi, Join}
 use Rattle.dds_physical.specs.declared.physical_files.PhysicalSpec.{PhysicalSpec}
-use Rattle.key_order.specs.declared.widths.TheConstants.{MOST_POSITIONS}
 use Rattle.key_spec.specs.declared.KeyPart.{KeyPart}
 use Rattle.file_model.specs.declared.paths.PathSpec.{PathSpec}
 use Rattle.file_model.specs.FilePaths.{key_parts, physical_path}
 use Rattle.file_model.specs.Positions.{Start}
 use Rattle.logical_model.specs.Bases.{FileSpec, PhysicalFile, LogicalFile}
 use Rattle.logical_model.specs.Formats.{has_key}
+use Rattle.logical_model.specs.FilePaths.{views_path}
 use Rattle.member_slots.specs.Members.{Numbered, NumberedMembers, item_at}
 use Rattle.open_position.specs.OpenStand.{OpenStand}
-use Rattle.path_set.specs.KeptPaths.{KeptPath, NumberedPaths, entries_of}
-use Rattle.path_set.specs.MemberSteps.{is_over}
-use Rattle.file_catalogue.specs.Owners.{AreApart, Owns, has_number}
-use Rattle.file_catalogue.specs.Physical.{IsPhysical}
-use Rattle.file_catalogue.proofs.NameLemmas.{some-equal}
+use Rattle.path_set.specs.KeptPaths.{AreShared, KeptPath, NumberedPaths}
+use Rattle.path_set.specs.Sharing.{IsNew}
+use Rattle.library_paths.specs.AllPaths.{AreKeptFor, all_paths, paths_by}
+use Rattle.library_paths.proofs.KeptLemmas.{kept-once}
+use Rattle.library_paths.proofs.NumberLemmas.{any-at}
+use Rattle.library_paths.proofs.OwnerLemmas.{member-path, paths-contain}
 use Rattle.job_table.specs.Opens.{IsNewReads, order_by}
 use Rattle.job_table.specs.declared.reads.OpenReads.{OpenReads}
 use Rattle.library_model.specs.Named.{Named, named}
 use Rattle.library_model.specs.declared.requests.OpenFile.{OpenFile}
-use Rattle.library_steps.specs.Opens.{first_of, new_open}
-use Rattle.library_steps.specs.Records.{is_file_path, is_keyed}
-use Rattle.library_steps.specs.State.{FileState, OpenState, keys_in}
-use Rattle.library_parts.specs.Finds.{OpensMember}
-use Rattle.library_parts.specs.Indexed.{ArePaths, IsByPath, IsOfFile, ReadsBy, ReadsFile, member_path, path_read}
+use Rattle.library_steps.specs.LogicalFiles.{bases_in}
+use Rattle.library_steps.specs.Opens.{new_open}
+use Rattle.library_steps.specs.Records.{is_file_path}
+use Rattle.library_steps.specs.State.{FileState}
+use Rattle.library_parts.specs.Finds.{OpensMember, OpensBy}
+use Rattle.library_parts.specs.Indexed.{AreViews, IsReadSo, IsSimple, IsView, IsViewBeside, ReadsBy, ReadsFile, path_by}
 use Rattle.library_parts.specs.Parts.{LibraryParts}
-use Rattle.library_parts.specs.Reads.{ReadsFor}
-use Rattle.library_parts.proofs.IndexDetached.{first_over, first-found, none-over}
-use Rattle.library_parts.proofs.IndexGone.{same-over}
-use Rattle.library_parts.proofs.IndexPaths.{any-both, any-first, any-later, member_path-is, over-own}
+use Rattle.library_parts.specs.Reads.{IsNumberOf, MayReadSo, ReadsFor, ReadsNew}
+use Rattle.library_parts.proofs.IndexPaths.{any-both}
+use Rattle.library_parts.proofs.FindLemmas.{simple-of, view-of}
 
--- ---- the first path over a member
+-- ---- the number of a kept path
 
-found-holds : (P : Numbered KeptPath → Type 0) (number : ℕ) (path : Numbered KeptPath) (paths : NumberedPaths) → AllByRecursion P paths → first_over number paths ≡ Some path → P path
-found-holds P number path [] all at = absurd cc
-found-holds P number path (p ∷ paths) all at =
-    elim (is_over number p.item.spec) as (λ b. cond b (Some p) (first_over number paths) ≡ Some path → P path) [
-      | true ↦ λ e. subst P (some-equal e) all.0
-      | false ↦ λ e. found-holds P number path paths all.1 e
-    ] at
+abbrev IsThere : PathSpec → NumberedPaths → Type 0
+IsThere spec paths = Any (λ (path : Numbered KeptPath). path.item.spec ≡ spec) paths
 
-found-any : (P : Numbered KeptPath → Type 0) (number : ℕ) (path : Numbered KeptPath) (paths : NumberedPaths) → first_over number paths ≡ Some path → P path → Any P paths
-found-any P number path [] at holds = absurd cc
-found-any P number path (p ∷ paths) at holds =
-    elim (is_over number p.item.spec) as (λ b. cond b (Some p) (first_over number paths) ≡ Some path → Any P (p ∷ paths)) [
-      | true ↦ λ e. any-first P p paths (subst P (sym (some-equal e)) holds)
-      | false ↦ λ e. any-later P p paths (found-any P number path paths e holds)
-    ] at
+kept-there : (specs : List PathSpec) (members : NumberedMembers) (paths : NumberedPaths) (spec : PathSpec) → AreShared paths → AreKeptFor specs members paths → Contains specs spec → IsThere spec paths
+kept-there specs members paths spec shared are among =
+    let once = kept-once specs members paths spec shared are among in any-at (λ (path : Numbered KeptPath). path.item.spec ≡ spec) once.id once.path paths once.at once.same
 
-module _ (files : Named FileState) (members : NumberedMembers) (paths : NumberedPaths) (apart : AreApart files) (are : ArePaths files members paths)
-    (ascend : AllPairs (λ (former later : Numbered KeptPath). former.number < later.number) paths) (name : List ℕ) (file : FileState) (number : ℕ) (owns : Owns files name file number)
-    (spec : PathSpec) (is : member_path file.spec number ≡ Some spec) where
-  kept-there : Any (λ (path : Numbered KeptPath). path.item.spec ≡ spec) paths
-  kept-there = subst (λ (o : Option PathSpec). IfSome o (λ s. Any (λ (path : Numbered KeptPath). path.item.spec ≡ s) paths)) is (are.there name file number owns)
+numbered-there : (spec : PathSpec) (paths : NumberedPaths) (number : Option ℕ) → IsThere spec paths → IsNumberOf spec number paths
+    → (id : ℕ) × (number ≡ Some id) × Any (λ (path : Numbered KeptPath). (path.number ≡ id) × (path.item.spec ≡ spec)) paths
+numbered-there spec paths None there new =
+    let both = any-both (λ (path : Numbered KeptPath). path.item.spec ≢ spec) (λ (path : Numbered KeptPath). path.item.spec ≡ spec) paths new there in absurd (both.1 both.2)
+numbered-there spec paths (Some id) there at = (id, refl, at)
 
-  over-it : is_over number spec ≡ true
-  over-it = over-own number spec (member_path-is file.spec number spec is)
+-- what is found under a number has the specification
+number-of : (spec : PathSpec) (paths : NumberedPaths) (id : ℕ) (path : KeptPath) → item_at id paths ≡ Some path → path.spec ≡ spec → IsNumberOf spec (Some id) paths
+number-of spec paths id path at same = any-at (λ (p : Numbered KeptPath). (p.number ≡ id) × (p.item.spec ≡ spec)) id path paths at (refl, same)
 
-  -- the first path over the member is the member's, and its number finds it
-  pub first-path : (path : Numbered KeptPath) × (first_over number paths ≡ Some path) × (item_at path.number paths ≡ Some path.item) × (path.item.spec ≡ spec)
-  first-path = by (first_over number paths) refl
-    where
-      by : (o : Option (Numbered KeptPath)) → first_over number paths ≡ o
-          → (path : Numbered KeptPath) × (first_over number paths ≡ Some path) × (item_at path.number paths ≡ Some path.item) × (path.item.spec ≡ spec)
-      by None none =
-          let one =
-          any-both (λ (path : Numbered KeptPath). is_over number path.item.spec ≡ false) (λ (path : Numbered KeptPath). path.item.spec ≡ spec) paths
-          (none-over number paths none) kept-there in
-          let clash : false ≡ true = sym one.1 ∙ ap (λ (s : PathSpec). is_over number s) one.2 ∙ over-it in
-          absurd cc
-      by (Some path) at =
-          let found = first-found number path paths ascend at in
-          let owner = found-holds (λ (p : Numbered KeptPath). IsOfFile files p.item.spec) number path paths
-          (recursion_from_All (λ (p : Numbered KeptPath). IsOfFile files p.item.spec) paths are.owned) at in
-          let own : IsOfFile files spec = record { owner = (name, file, number, owns, is) } in
-          let same : path.item.spec ≡ spec = same-over files apart number path.item.spec spec owner own found.1 over-it in
-          (path, at, found.0, same)
-
-  -- so a new open reads by it
-  pub first-is : (id : ℕ) × (option_map (λ (path : Numbered KeptPath). path.number) (first_over number paths) ≡ Some id) × Any (λ (path : Numbered KeptPath). (path.number ≡ id) × (path.item.spec ≡ spec)) paths
-  first-is =
-      let first = first-path in (
-        first.0.number,
-        ap (option_map (λ (p : Numbered KeptPath). p.number)) first.1,
-        found-any (λ (p : Numbered KeptPath). (p.number ≡ first.0.number) × (p.item.spec ≡ spec)) number first.0 paths first.1 (refl, first.3),
-      )
-
-  -- with the entries that the members give it
-  pub first-entries : first-path.0.item.entries ≡ entries_of first-path.0.item.spec members
-  first-entries =
-      found-holds (λ (p : Numbered KeptPath). p.item.entries ≡ entries_of p.item.spec members) number first-path.0 paths
-      (recursion_from_All (λ (p : Numbered KeptPath). p.item.entries ≡ entries_of p.item.spec members) paths are.over) first-path.1
+-- so it is with what a look-up finds
+pub number-told : (spec : PathSpec) (paths : NumberedPaths) (result : Option ℕ)
+    → MatchOption result (IsNew spec paths) (λ id. (path : KeptPath) × (item_at id paths ≡ Some path) × (path.spec ≡ spec)) → IsNumberOf spec result paths
+number-told spec paths None told = told
+number-told spec paths (Some id) told = number-of spec paths id told.0 told.1 told.2
 
 -- ---- a new open
 
-opens-owns : (files : Named FileState) (name : List ℕ) (member : ℕ) (o : Option FileState) → named name files ≡ o → OpensMember member o → (file : FileState) × (named name files ≡ Some file) × Owns files name file member
-opens-owns files name member None is opens = absurd opens
-opens-owns files name member (Some file) is opens = (file, is, record { there = is; has = opens })
+new-by : (commit : Bool) (paths : NumberedPaths) (path : Option PathSpec) (reads : OpenReads) → IfSome path (λ spec. IsThere spec paths) → ReadsNew commit paths path reads → ReadsBy paths path (order_by 0 reads)
+new-by commit paths None reads there new = record { path = new.by.0; formats = new.by.1 }
+new-by commit paths (Some spec) reads there new = record { path = numbered-there spec paths reads.path there new.by.0; formats = new.by.1 }
 
-module _ (files : Named FileState) (members : NumberedMembers) (paths : NumberedPaths) (apart : AreApart files) (are : ArePaths files members paths)
-    (ascend : AllPairs (λ (former later : Numbered KeptPath). former.number < later.number) paths) (args : OpenFile) (member : ℕ) (file : FileState) (owns : Owns files args.file file member)
-    (reads : OpenReads) where
-  -- by the path
-  pub new-by-path : (spec : PhysicalSpec) → file.spec ≡ PhysicalFile spec → (is_file_path args.access_path && has_key file.spec) ≡ true
-      → reads.path ≡ option_map (λ (path : Numbered KeptPath). path.number) (first_over member paths) → reads.position.formats ≡ key_parts 0 spec.keys.parts ∷ []
-      → ReadsFile paths (new_open args 0 (member ∷ [])) (order_by 0 reads) (named args.file files)
-  new-by-path spec is keyed path formats =
-      let its : Bool → FileSpec → Option PathSpec = λ b f. if b then member_path f member else None in
-      let whole : PathSpec = physical_path member spec.format.fields spec.keys in
-      let has : has_key (PhysicalFile spec) ≡ true = ap has_key (sym is) ∙ both-are (is_file_path args.access_path) (has_key file.spec) keyed in
-      let own : member_path file.spec member ≡ Some whole = ap (λ (f : FileSpec). member_path f member) is ∙ ap (λ (b : Bool). if b then Some whole else None) has in
-      let first = first-is files members paths apart are ascend args.file file member owns whole own in
-      let read : ReadsBy paths (Some whole) (order_by 0 reads) = record { path = (first.0, path ∙ first.1, first.2); formats = formats } in
-      subst (ReadsFile paths (new_open args 0 (member ∷ [])) (order_by 0 reads)) (sym owns.there)
-      (subst (λ (o : Option PathSpec). ReadsBy paths o (order_by 0 reads)) (sym (ap (λ (b : Bool). its b file.spec) keyed ∙ own)) read)
+module _ (parts : LibraryParts) (shared : AreShared parts.room.paths.paths) (are : AreKeptFor (all_paths parts.state.files) parts.state.members parts.room.paths.paths) (views : AreViews parts.state.files)
+    (args : OpenFile) (member : ℕ) (opens : OpensMember parts.state.files member (named args.file parts.state.files)) (so : MayReadSo args (named args.file parts.state.files)) where
+  -- the file is there
+  pub file-there : (file : FileState) × (named args.file parts.state.files ≡ Some file)
+  file-there = by (named args.file parts.state.files) refl opens
     where
-      both-are : (a b : Bool) → (a && b) ≡ true → b ≡ true
-      both-are true b h = h
-      both-are false b h = absurd cc
+      by : (o : Option FileState) → named args.file parts.state.files ≡ o → OpensMember parts.state.files member o → (file : FileState) × (named args.file parts.state.files ≡ Some file)
+      by None is h = absurd h
+      by (Some file) is h = (file, is)
 
-  -- in arrival order
-  pub new-in-arrival : (is_file_path args.access_path && has_key file.spec) ≡ false → reads.path ≡ None → reads.position.formats ≡ [] ∷ []
-      → ReadsFile paths (new_open args 0 (member ∷ [])) (order_by 0 reads) (named args.file files)
-  new-in-arrival keyed path formats =
-      let its : Bool → Option PathSpec = λ b. if b then member_path file.spec member else None in
-      let read : ReadsBy paths None (order_by 0 reads) = record { path = path; formats = formats } in
-      subst (ReadsFile paths (new_open args 0 (member ∷ [])) (order_by 0 reads)) (sym owns.there)
-      (subst (λ (o : Option PathSpec). ReadsBy paths o (order_by 0 reads)) (sym (ap its keyed)) read)
+  module _ (file : FileState) (here : named args.file parts.state.files ≡ Some file) where
+    contained : (path : PathSpec) (spec : FileSpec) → file.spec ≡ spec → Contains (paths_by parts.state.files file.members spec) path → IsThere path parts.room.paths.paths
+    contained path spec is among =
+        kept-there (all_paths parts.state.files) parts.state.members parts.room.paths.paths path shared are
+        (paths-contain parts.state.files args.file file path here (subst (λ (s : FileSpec). Contains (paths_by parts.state.files file.members s) path) (sym is) among))
 
--- what holds of a value that is given, by two things that are known of it
-pub if-ok : {A E : Type 0} (P Q R : A → Type 0) (result : Result A E) → ((a : A) → P a → Q a → R a) → IfOk result P → IfOk result Q → IfOk result R
-if-ok P Q R (Ok a) so p q = so a p q
-if-ok P Q R (Err e) so p q = tt
+    both-are : (a b : Bool) → (a && b) ≡ true → b ≡ true
+    both-are true b h = h
+    both-are false b h = absurd cc
+
+    kept-own : (spec : FileSpec) → file.spec ≡ spec → IsSimple spec → OpensBy parts.state.files member file spec
+        → IfSome (path_by (bases_in parts.state.files) (is_file_path args.access_path && has_key spec) member spec) (λ path. IsThere path parts.room.paths.paths)
+    kept-own (PhysicalFile spec) is simple has = by (is_file_path args.access_path && has_key (PhysicalFile spec)) refl
+      where
+        by : (b : Bool) → (is_file_path args.access_path && has_key (PhysicalFile spec)) ≡ b
+            → IfSome (if b then Some (physical_path member spec.format.fields spec.keys) else None) (λ path. IsThere path parts.room.paths.paths)
+        by true keyed =
+            contained (physical_path member spec.format.fields spec.keys) (PhysicalFile spec) is
+            (member-path spec file.members member (both-are (is_file_path args.access_path) (has_key (PhysicalFile spec)) keyed) has)
+        by false keyed = tt
+    kept-own (LogicalFile (Simple view)) is simple all =
+        contained (views_path (bases_in parts.state.files) view.keys.unique (view ∷ [])) (LogicalFile (Simple view)) is (zero, omega arith, refl)
+    kept-own (LogicalFile (Multi views)) is simple all = absurd simple
+    kept-own (LogicalFile (Join view)) is simple all = absurd simple
+
+    -- so it reads by the file's path, or in arrival order
+    pub new-reads : (spec : FileSpec) → file.spec ≡ spec → (reads : OpenReads)
+        → ReadsNew args.commit parts.room.paths.paths (path_by (bases_in parts.state.files) (is_file_path args.access_path && has_key spec) member spec) reads → ReadsFor parts args member reads
+    new-reads spec is reads new =
+        let simple : IsSimple spec = subst IsSimple is (simple-of parts.state.files args.file file views here) in
+        let its : OpensBy parts.state.files member file spec =
+        subst (OpensBy parts.state.files member file) is (subst (λ (o : Option FileState). OpensMember parts.state.files member o) here opens) in
+        let read : ReadsBy parts.room.paths.paths (path_by (bases_in parts.state.files) (is_file_path args.access_path && has_key spec) member spec) (order_by 0 reads) =
+        new-by args.commit parts.room.paths.paths (path_by (bases_in parts.state.files) (is_file_path args.access_path && has_key spec) member spec) reads (kept-own spec is simple its) new in
+        record {
+          start = new.start;
+          order =
+              subst (ReadsFile (bases_in parts.state.files) parts.room.paths.paths (new_open args 0 (member ∷ [])) (order_by 0 reads)) (sym here) (
+                subst (λ (s : FileSpec). ReadsBy parts.room.paths.paths (path_by (bases_in parts.state.files) (is_file_path args.access_path && has_key s) member s) (order_by 0 reads)) (sym is) read,
+                subst (λ (o : Option FileState). MayReadSo args o) here so,
+              );
+        }
+
+    -- what a logical file shows is known of it
+    pub view-there : (spec : LogicalSpec) → file.spec ≡ LogicalFile spec → IsView (bases_in parts.state.files) spec
+    view-there spec is = subst (IsViewBeside parts.state.files) is (view-of parts.state.files args.file file views here)
+
+-- what holds of a value that is given, by what is known of it
+pub if-ok : {A E : Type 0} (P Q : A → Type 0) (result : Result A E) → ((a : A) → P a → Q a) → IfOk result P → IfOk result Q
+if-ok P Q (Ok a) so p = so a p
+if-ok P Q (Err e) so p = tt
 
 -- the position of a new open, whatever its formats are
 pub new-position : (commit : Bool) (formats : List (List KeyPart)) (reads : OpenReads) → reads.position ≡ record { position = Start; boundary = Start; formats = formats; marks = commit }
@@ -143,13 +133,15 @@ pub new-position : (commit : Bool) (formats : List (List KeyPart)) (reads : Open
 new-position commit formats reads is =
     is ∙ (λ i. record { position = Start; boundary = Start; formats = (sym (ap (λ (p : OpenStand). p.formats) is)) i; marks = commit })
 
-pub opened-owner : (files : Named FileState) (name : List ℕ) (member : ℕ) → OpensMember member (named name files) → (file : FileState) × (named name files ≡ Some file) × Owns files name file member
-opened-owner files name member opens = opens-owns files name member (named name files) refl opens
+-- by a path with one format
+pub new-by-path : (commit : Bool) (paths : NumberedPaths) (path : PathSpec) (ps : List KeyPart) (reads : OpenReads) → map (λ format. format.key) path.formats ≡ key_parts 0 ps ∷ []
+    → IsNumberOf path reads.path paths → reads.position ≡ record { position = Start; boundary = Start; formats = key_parts 0 ps ∷ []; marks = commit } → ReadsNew commit paths (Some path) reads
+new-by-path commit paths path ps reads keys number position = record {
+  start = new-position commit (key_parts 0 ps ∷ []) reads position;
+  by = (number, ap (λ (p : OpenStand). p.formats) position ∙ sym keys);
+}
 
-pub has-key-parts : (file : FileSpec) → IsPhysical file → nat_lt 0 (length (keys_in file).parts) ≡ has_key file
-has-key-parts (PhysicalFile spec) physical = refl
-has-key-parts (LogicalFile spec) physical = absurd physical
-
-pub physical-is : (file : FileSpec) → IsPhysical file → (spec : PhysicalSpec) × (file ≡ PhysicalFile spec)
-physical-is (PhysicalFile spec) physical = (spec, refl)
-physical-is (LogicalFile spec) physical = absurd physical
+-- in arrival order
+pub new-in-arrival : (commit : Bool) (paths : NumberedPaths) (reads : OpenReads) → reads.path ≡ None → reads.position ≡ record { position = Start; boundary = Start; formats = [] ∷ []; marks = commit }
+    → ReadsNew commit paths None reads
+new-in-arrival commit paths reads path position = record { start = new-position commit ([] ∷ []) reads position; by = (path, ap (λ (p : OpenStand). p.formats) position) }

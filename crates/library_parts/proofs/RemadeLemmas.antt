@@ -1,72 +1,84 @@
 -- The paths of a member can be made anew over other slots of records, and a copy of a member without its deleted slots is made slot by slot.
-use Rattle.std.proofs.Common.{ℕ, zero, suc, ◌+◌, ◌-◌, ◌≤◌, ◌≡◌, ◌≢◌, inl, inr, Bool, true, false, if◌then◌else◌, List, [], ◌∷◌, ◌++◌, drop, length, get_or, slice_get, Option, Some, None, IsSome, is_some, refl, sym, ap, arith}
+use Rattle.std.proofs.Common.{ℕ, zero, suc, ◌+◌, ◌-◌, ◌≤◌, ◌≡◌, inl, inr, List, [], ◌∷◌, ◌++◌, drop, length, slice_get, Option, Some, None, IsSome, refl, sym, ap, arith}
 use Rattle.std.proofs.Common.{◌∙◌, subst}
 use Rattle.std.specs.Prelude.{All, MatchOption, filter, unwrap_or}
-use Rattle.std.specs.List.{AllByRecursion}
+use Rattle.std.specs.List.{AllByRecursion, IsDistinct}
+use Rattle.std.specs.Map.{keys_of}
 use Rattle.std.proofs.lemmas.Bool.{cases_eq}
-use Rattle.std.proofs.lemmas.List.Elements.{All-filter, All-from_recursion, recursion_from_All}
+use Rattle.std.proofs.lemmas.List.Elements.{All-filter, recursion_from_All}
 use Rattle.record_fmt.specs.declared.formats.Field.{Field}
 use Rattle.dds_physical.specs.declared.physical_files.PhysicalSpec.{PhysicalSpec}
-use Rattle.logical_model.specs.Bases.{FileSpec, PhysicalFile, LogicalFile}
-use Rattle.logical_model.specs.Formats.{has_key}
+use Rattle.dds_logical.specs.declared.views.LogicalSpec.{LogicalSpec}
+use Rattle.logical_model.specs.Bases.{PhysicalFile, LogicalFile}
+use Rattle.logical_model.specs.FilePaths.{logical_paths}
 use Rattle.member_slots.specs.declared.slot.Slot.{Slot}
 use Rattle.member_slots.specs.declared.slot.Slot.TheVariants.{Live, Deleted}
 use Rattle.member_slots.specs.Member.{MemberState, cleared, empty_member, is_live, reorganized, slot_at}
-use Rattle.member_slots.specs.Members.{Numbered, NumberedMembers, AreMembers, member_at, member_of, with_member}
+use Rattle.member_slots.specs.Members.{NumberedMembers, AreMembers, member_at, member_of, with_member}
 use Rattle.file_model.specs.declared.paths.PathSpec.{PathSpec}
 use Rattle.file_model.specs.FilePaths.{physical_path}
 use Rattle.path_set.specs.declared.moves.PathMove.{PathMove}
-use Rattle.path_set.specs.KeptPaths.{KeptPath, KeptPaths}
-use Rattle.path_set.specs.MemberSteps.{is_over}
+use Rattle.path_set.specs.KeptPaths.{KeptPaths, AreShared}
 use Rattle.path_set.specs.RebuiltPaths.{CanBeRebuilt}
 use Rattle.path_set.specs.Sharing.{CanBeKept}
-use Rattle.physical_paths.specs.KeyedFiles.{IsKeyed, IsRecordSlot, HasRecordsOf}
-use Rattle.physical_paths.proofs.RecordLemmas.{path-kept}
+use Rattle.path_set.proofs.MemberStepLemmas.{same-with}
+use Rattle.physical_paths.specs.KeyedFiles.{IsRecordSlot, HasRecordsOf}
 use Rattle.file_catalogue.specs.Owners.{Owns}
 use Rattle.job_table.specs.Opens.{OpenOrder}
-use Rattle.library_model.specs.Named.{Named}
-use Rattle.library_steps.specs.State.{State, FileState, fields_of, format_in}
-use Rattle.library_parts.specs.Indexed.{IsOfFile, IsIndexed, member_path}
+use Rattle.library_model.specs.Named.{Named, named, same_name}
+use Rattle.library_steps.specs.LogicalFiles.{bases_in}
+use Rattle.library_steps.specs.State.{State, FileState, fields_of}
+use Rattle.library_parts.specs.Indexed.{IsIndexed}
 use Rattle.library_parts.specs.Keyed.{AllAreKeyed}
 use Rattle.library_parts.specs.Lawful.{IsLibrary}
 use Rattle.library_parts.specs.Slots.{with_live}
-use Rattle.library_parts.proofs.IndexLooks.{records-of, path-of}
+use Rattle.library_parts.proofs.IndexLooks.{bases-have, each-kept, fields-are, records-of, view-of}
+use Rattle.library_parts.proofs.IndexLaws.{laws}
 use Rattle.library_parts.proofs.IndexMoves.{at-place}
-use Rattle.library_parts.proofs.IndexPaths.{member_path-is, over-other}
 use Rattle.library_parts.proofs.MemberLemmas.{member_of-with, is_some-IsSome}
 
 -- ---- the paths over a member with other records
 
-module _ (s : State) (member : ℕ) (orders : List (Named OpenOrder)) (moves : List (List (List PathMove))) (kept : KeptPaths) (keyed : AllAreKeyed s.files) (lawful : IsLibrary s)
+module _ (s : State) (member : ℕ) (orders : List (Named OpenOrder)) (moves : List (List (List PathMove))) (kept : KeptPaths) (keyed : AllAreKeyed s.files)
+    (distinct : IsDistinct same_name (keys_of s.files)) (lawful : IsLibrary s) (are : AreMembers s.members) (shared : AreShared kept.paths)
     (indexed : IsIndexed s.files s.members s.jobs orders moves kept) (there : IsSome (member_at member s.members)) where
   module _ (after : MemberState)
       (records : (name : List ℕ) (file : FileState) → Owns s.files name file member → All (IsRecordSlot (fields_of file)) after.slots) where
-    remade-kind : (name : List ℕ) (file : FileState) (path : PathSpec) → Owns s.files name file member → (its : FileSpec) → file.spec ≡ its → member_path its member ≡ Some path
-        → CanBeKept path (with_member member after s.members)
-    remade-kind name file path owns (LogicalFile spec) is e = absurd cc
-    remade-kind name file path owns (PhysicalFile spec) is e =
-        let fields : fields_of file ≡ spec.format.fields = ap (λ (f : FileSpec). (format_in f).fields) is in
-        subst (λ (p : PathSpec). CanBeKept p (with_member member after s.members)) (path-of spec member path e)
-        (path-kept spec member (with_member member after s.members) (keyed name file spec owns.there is)
-        (subst (λ (m : MemberState). All (IsRecordSlot spec.format.fields) m.slots) (sym (member_of-with member after s.members (is_some-IsSome (member_at member s.members) there)))
-        (subst (λ (fs : List Field). All (IsRecordSlot fs) after.slots) fields (records name file owns))))
+    abbrev later : NumberedMembers
+    later = with_member member after s.members
 
-    remade-one : (path : PathSpec) → IsOfFile s.files path → is_over member path ≡ true → CanBeKept path (with_member member after s.members)
-    remade-one path is over =
-        let o = is.owner in
-        elim (cases_eq o.2 member) [
-          | inl same ↦ remade-kind o.0 o.1 path (subst (Owns s.files o.0 o.1) same o.3) o.1.spec refl (subst (λ (n : ℕ). member_path o.1.spec n ≡ Some path) same o.4)
-          | inr differs ↦ (let other : is_over member path ≡ false = over-other o.2 member path (member_path-is o.1.spec o.2 path o.4) (λ same. differs (sym same)) in absurd cc)
+    -- each member has records of its file then
+    pub remade-records : (name : List ℕ) (file : FileState) (number : ℕ) → Owns s.files name file number → HasRecordsOf (fields_of file) number (with_member member after s.members)
+    remade-records name file number owns =
+        elim (cases_eq number member) [
+          | inl same ↦ subst (λ (n : ℕ). HasRecordsOf (fields_of file) n later) (sym same)
+              (subst (λ (m : MemberState). All (IsRecordSlot (fields_of file)) m.slots) (sym (member_of-with member after s.members (is_some-IsSome (member_at member s.members) there)))
+              (records name file (subst (Owns s.files name file) same owns)))
+          | inr differs ↦ subst (λ (slots : List Slot). All (IsRecordSlot (fields_of file)) slots) (sym (same-with member after s.members number differs))
+              (records-of s name file number orders moves kept lawful are indexed owns)
         ]
 
+    remade-physical : (name : List ℕ) (file : FileState) (number : ℕ) (spec : PhysicalSpec) → Owns s.files name file number → file.spec ≡ PhysicalFile spec
+        → CanBeKept (physical_path number spec.format.fields spec.keys) (with_member member after s.members)
+    remade-physical name file number spec owns is =
+        laws.kept spec number later (keyed name file spec owns.there is)
+        (subst (λ (fs : List Field). HasRecordsOf fs number later) (fields-are file spec is) (remade-records name file number owns))
+
+    remade-logical : (name : List ℕ) (file : FileState) (spec : LogicalSpec) → named name s.files ≡ Some file → file.spec ≡ LogicalFile spec
+        → AllByRecursion (λ (path : PathSpec). CanBeKept path (with_member member after s.members)) (logical_paths (bases_in s.files) spec)
+    remade-logical name file spec here is =
+        recursion_from_All (λ (path : PathSpec). CanBeKept path later) (logical_paths (bases_in s.files) spec)
+        (laws.view_kept (bases_in s.files) spec later (view-of s.files name file spec indexed.views here is).keyed
+        (bases-have s.files later lawful.bases remade-records name file spec here is))
+
     remade-can : CanBeRebuilt member (with_member member after s.members) kept.paths
-    remade-can k d low over = remade-one (get_or kept.paths k d).item.spec (indexed.paths.owned k d low) over
+    remade-can k d low over = each-kept s.files (λ (path : PathSpec). CanBeKept path later) remade-physical remade-logical distinct s.members kept.paths shared indexed.paths k d low
 
   pub cleared-can : CanBeRebuilt member (with_member member (cleared (member_of member s.members)) s.members) kept.paths
   cleared-can = remade-can (cleared (member_of member s.members)) (λ name file owns k d low. absurd (omega (arith, low)))
 
-  pub reorganized-can : AreMembers s.members → CanBeRebuilt member (with_member member (reorganized (member_of member s.members)) s.members) kept.paths
-  reorganized-can are =
+  pub reorganized-can : CanBeRebuilt member (with_member member (reorganized (member_of member s.members)) s.members) kept.paths
+  reorganized-can =
       remade-can (reorganized (member_of member s.members))
       (λ name file owns. All-filter is_live (IsRecordSlot (fields_of file)) (member_of member s.members).slots (records-of s name file member orders moves kept lawful are indexed owns))
 
@@ -79,10 +91,10 @@ found-member number members state (Some y) x found is =
 
 -- ---- a copy without the deleted slots
 
-at-next : (slots : List Slot) (place : ℕ) (slot : Slot) → slice_get slots place ≡ Some slot → drop place slots ≡ slot ∷ drop (suc place) slots
-at-next [] place slot at = absurd cc
-at-next (s ∷ slots) zero slot at = cc
-at-next (s ∷ slots) (suc place) slot at = at-next slots place slot at
+pub at-next : {A : Type 0} (xs : List A) (place : ℕ) (x : A) → slice_get xs place ≡ Some x → drop place xs ≡ x ∷ drop (suc place) xs
+at-next [] place x at = absurd cc
+at-next (y ∷ xs) zero x at = cc
+at-next (y ∷ xs) (suc place) x at = at-next xs place x at
 
 filter-cons : (slot : Slot) (rest : List Slot) → filter is_live (slot ∷ rest) ≡ filter is_live (slot ∷ []) ++ filter is_live rest
 filter-cons (Live image) rest = refl

@@ -1,14 +1,19 @@
 -- What a look-up by names shows: an open and its file, or a member and its file, or the refusal of the first name that isn't there.
-use Rattle.std.specs.Prelude.{◌≡◌, ℕ, true, Option, Some, None, Result, Ok, Err, List}
+use Rattle.std.specs.Prelude.{◌≡◌, ℕ, true, Option, Some, None, Result, Ok, Err, List, [], ◌∷◌}
 use Rattle.std.specs.Borrow.{Bor}
 use Rattle.job_table.specs.Opens.{KeptOpen}
+use Rattle.dds_logical.specs.declared.views.LogicalSpec.TheVariants.{Simple, Multi, Join}
+use Rattle.record_fmt.specs.Layout.{IsLaidOut}
+use Rattle.logical_model.specs.Bases.{FileSpec, PhysicalFile, LogicalFile, base_members}
+use Rattle.library_model.specs.Named.{Named, named}
 use Rattle.library_model.specs.declared.replies.Reply.{Reply}
+use Rattle.library_steps.specs.LogicalFiles.{bases_in}
 use Rattle.file_catalogue.specs.Owners.{Owns, has_number}
 use Rattle.member_slots.specs.Members.{member_at}
 use Rattle.entry_codec.specs.declared.entries.Entry.{Entry}
 use Rattle.library_steps.specs.JournalReads.{are_there, are_kept, entries_between}
 use Rattle.library_steps.specs.State.{State, FileState, OpenState, fields_of, memory_of}
-use Rattle.library_parts.specs.Lawful.{IsThere}
+use Rattle.library_parts.specs.Lawful.{IsThere, OpenHolds}
 use Rattle.library_steps.specs.Refusals.{◌>>=◌, OpenedFile, FoundMember}
 use Rattle.library_parts.specs.declared.stop.Stop.{Stop}
 use Rattle.library_parts.specs.declared.stop.Stop.TheVariants.{NoMemory, Refused}
@@ -36,10 +41,35 @@ pub record HasMember (s : State) (name : List ℕ) (file : FileState) (number : 
   pub owns : Owns s.files name file number
   pub there : IsThere (fields_of file) (member_at number s.members)
 
--- the file is there, and has the member with this number
-abbrev pub OpensMember : ℕ → Option FileState → Type 0
-OpensMember number None = ⊥
-OpensMember number (Some file) = has_number number file.members ≡ true
+-- the physical file of this name has the records that a file shows: itself, or the one that it is over
+abbrev pub IsBaseOf : FileSpec → (name base : List ℕ) → Type 0
+IsBaseOf (PhysicalFile spec) name base = base ≡ name
+IsBaseOf (LogicalFile (Simple view)) name base = base ≡ view.base
+IsBaseOf (LogicalFile (Multi views)) name base = ⊥
+IsBaseOf (LogicalFile (Join view)) name base = ⊥
+
+-- so the member that an open reads is that file's, which is there, with records of the fields of this one
+pub record ReadsMember (s : State) (file : FileState) (opened : OpenState) : Type 0 where
+  pub there : named opened.file s.files ≡ Some file
+  pub holds : OpenHolds s.files opened
+  pub base : List ℕ
+  pub owner : FileState
+  pub over : IsBaseOf file.spec opened.file base
+  pub has : HasMember s base owner opened.member
+  pub laid : IsLaidOut (fields_of owner)
+  -- it is the one member that the open is over, and is read by its one format
+  pub only : opened.members ≡ opened.member ∷ []
+  pub format : opened.format ≡ 0
+
+-- a new open of this file may be over this member alone
+abbrev pub OpensBy : Named FileState → ℕ → FileState → FileSpec → Type 0
+OpensBy files number file (PhysicalFile spec) = has_number number file.members ≡ true
+OpensBy files number file (LogicalFile spec) = base_members (bases_in files) spec ≡ number ∷ []
+
+-- the file is there, and may be opened over this member
+abbrev pub OpensMember : Named FileState → ℕ → Option FileState → Type 0
+OpensMember files number None = ⊥
+OpensMember files number (Some file) = OpensBy files number file file.spec
 
 -- the entries from the first sequence up to the last, or the refusal
 abbrev pub entries_read : (first last : ℕ) → State → Result (List Entry) Reply

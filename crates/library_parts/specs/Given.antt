@@ -1,26 +1,23 @@
 -- What slots that are given to a member one after the other make of a library, and when they may be given. (Journal Management, "Applying
 -- journaled changes" and "Removing journaled changes".)
-use Rattle.std.specs.Prelude.{◌≡◌, ℕ, ◌+◌, ◌*◌, ◌<◌, ◌≤◌, true, IsSome, Option, Some, None, List, [], ◌∷◌, length, if◌then◌else◌}
-use Rattle.std.specs.List.{AllByRecursion, find}
-use Rattle.std.specs.Option.{option_map}
+use Rattle.std.specs.Prelude.{◌≡◌, ℕ, ◌+◌, ◌*◌, ◌<◌, ◌≤◌, true, IsSome, Option, Some, None, List, [], ◌∷◌, length}
+use Rattle.std.specs.List.{AllByRecursion}
+use Rattle.file_model.specs.declared.paths.PathSpec.{PathSpec}
+use Rattle.file_model.specs.Paths.{repeated_in}
 use Rattle.member_slots.specs.declared.member.TheConstants.{MOST_SLOTS, MOST_BYTES}
 use Rattle.member_slots.specs.declared.slot.Slot.{Slot}
 use Rattle.member_slots.specs.Member.{MemberState, FitsSlot, is_live}
-use Rattle.member_slots.specs.Members.{NumberedMembers, member_at, member_of, with_member}
+use Rattle.member_slots.specs.Members.{NumberedMembers, item_at, member_at, member_of, with_member}
 use Rattle.journal_model.specs.Places.{put_slot}
 use Rattle.path_set.specs.declared.moves.PathMove.{PathMove}
-use Rattle.path_set.specs.declared.repeated.Repeated.{Repeated}
-use Rattle.path_set.specs.EqualKeys.{first_repeated}
-use Rattle.path_set.specs.KeptPaths.{NumberedPaths}
+use Rattle.path_set.specs.EqualKeys.{repeated_of}
+use Rattle.path_set.specs.KeptPaths.{KeptPath, NumberedPaths}
 use Rattle.path_set.specs.ManyChanges.{moves_of_all}
-use Rattle.path_set.specs.MemberSteps.{is_over}
-use Rattle.file_catalogue.specs.Owners.{owner}
-use Rattle.library_model.specs.Named.{Named, named}
-use Rattle.library_model.specs.declared.replies.Reply.{Reply}
-use Rattle.library_model.specs.declared.replies.Reply.TheVariants.{DuplicateKey}
+use Rattle.path_set.specs.Sharing.{IsNew}
 use Rattle.library_steps.specs.declared.limits.TheConstants.{MOST_LIBRARY_BYTES}
 use Rattle.library_steps.specs.Ranges.{library_bytes}
-use Rattle.library_steps.specs.State.{State, Memory, FileState, keys_in}
+use Rattle.library_steps.specs.State.{State, Memory}
+use Rattle.library_steps.specs.UniqueKeys.{UniquePath, unique_paths}
 use Rattle.range_images.specs.declared.slot_given.SlotGiven.{SlotGiven}
 use Rattle.range_images.specs.Given.{given_slots, place_given, AreInPlace}
 use Rattle.given_changes.specs.GivenChanges.{changes_given}
@@ -74,26 +71,16 @@ pub record AreMovesOfAll (parts : LibraryParts) (number : ℕ) (given : List Slo
 
 -- ---- equal keys
 
--- the number of the first path over the member
-abbrev pub first_number : (member : ℕ) → NumberedPaths → Option ℕ
-first_number member paths = option_map (λ path. path.number) (find (λ path. is_over member path.item.spec) paths)
+-- the one unique path of a file, where it has one
+abbrev pub unique_of : (file : List ℕ) → Option PathSpec → List UniquePath
+unique_of file None = []
+unique_of file (Some path) = record { file = file; path = path } ∷ []
 
-abbrev pub repeated_at : (file : List ℕ) → Option Repeated → Option Reply
-repeated_at file None = None
-repeated_at file (Some repeated) = Some (DuplicateKey file repeated.rrn)
+-- the path is kept, and so are the entries by which equal keys in it are told
+pub record IsTold (members : NumberedMembers) (paths : NumberedPaths) (unique : UniquePath) : Type 0 where
+  pub there : IsNew unique.path paths → ⊥
+  pub told : (id : ℕ) (path : KeptPath) → item_at id paths ≡ Some path → path.spec ≡ unique.path → repeated_of path ≡ repeated_in unique.path members
 
-abbrev pub repeated_over : (file : List ℕ) → Option ℕ → NumberedPaths → Option Reply
-repeated_over file None paths = None
-repeated_over file (Some id) paths = repeated_at file (first_repeated (id ∷ []) paths)
-
-abbrev pub repeated_file : (name : List ℕ) → (member : ℕ) → Option FileState → NumberedPaths → Option Reply
-repeated_file name member None paths = None
-repeated_file name member (Some file) paths = if (keys_in file.spec).unique then repeated_over name (first_number member paths) paths else None
-
-abbrev pub repeated_of_owner : (member : ℕ) → Named FileState → Option (List ℕ) → NumberedPaths → Option Reply
-repeated_of_owner member files None paths = None
-repeated_of_owner member files (Some name) paths = repeated_file name member (named name files) paths
-
--- the refusal of equal keys in the one path over the member, where its file may have none
-abbrev pub repeated_key : (member : ℕ) → Named FileState → NumberedPaths → Option Reply
-repeated_key member files paths = repeated_of_owner member files (owner member files) paths
+-- each unique path over the member is
+abbrev pub AreTold : (member : ℕ) → Memory → NumberedMembers → NumberedPaths → Type 0
+AreTold member m members paths = AllByRecursion (IsTold members paths) (unique_paths member m)

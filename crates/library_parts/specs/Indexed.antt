@@ -1,53 +1,82 @@
--- What the kept access paths are of a library's files, members and jobs: each member of a file with a key has its path, which has the entries that
--- the member gives it; each open reads by the path of its member, or in arrival order; and for each change of an open commit cycle the moves that
--- take it back are at hand, with memory for them. (Our own.)
-use Rattle.std.specs.Prelude.{◌≡◌, ℕ, ◌+◌, ◌==◌, Option, Some, None, IfSome, List, [], ◌∷◌, length, map, filter, All, Any, if◌then◌else◌}
+-- What the kept access paths are of a library's files, members and jobs: each path of a file is kept, with the entries that the members give it; each
+-- open reads by the path of its file, or in arrival order; and for each change of an open commit cycle the moves that take it back are at hand, with
+-- memory for them. (Our own.)
+use Rattle.std.specs.Prelude.{◌≡◌, ℕ, ◌+◌, ◌==◌, Bool, IsTrue, Option, Some, None, IfSome, List, [], ◌∷◌, length, map, filter, All, Any, if◌then◌else◌}
 use Rattle.std.specs.List.{AllByRecursion, AllZip, sum_by}
 use Rattle.member_slots.specs.declared.slot.Slot.{Slot}
 use Rattle.member_slots.specs.declared.slot.Slot.TheVariants.{Live, Deleted}
 use Rattle.member_slots.specs.Member.{MemberState}
 use Rattle.member_slots.specs.Members.{NumberedMembers}
 use Rattle.key_order.specs.KeyFields.{AreBytes}
+use Rattle.key_spec.specs.declared.Ties.TheVariants.{Rising}
 use Rattle.file_model.specs.declared.paths.PathSpec.{PathSpec}
 use Rattle.file_model.specs.FilePaths.{physical_path}
-use Rattle.logical_model.specs.Bases.{FileSpec, PhysicalFile, LogicalFile}
-use Rattle.logical_model.specs.Formats.{has_key}
+use Rattle.dds_logical.specs.declared.views.LogicalSpec.{LogicalSpec}
+use Rattle.dds_logical.specs.declared.views.LogicalSpec.TheVariants.{Simple, Multi, Join}
+use Rattle.logical_model.specs.Bases.{Bases, FileSpec, PhysicalFile, LogicalFile}
+use Rattle.logical_laws.specs.Mapped.{AreSameBases, IsSpecMapped}
+use Rattle.logical_paths.specs.KeyedViews.{IsKeyedLogical}
+use Rattle.logical_paths.specs.Steps.{own_path}
+use Rattle.library_paths.specs.AllPaths.{AreKeptFor, all_paths}
 use Rattle.journal_model.specs.Replay.{before_of}
 use Rattle.journal_model.specs.Rollback.{MemberChange}
 use Rattle.path_set.specs.declared.moves.PathMove.{PathMove}
-use Rattle.path_set.specs.KeptPaths.{KeptPaths, NumberedPaths, AreOver}
+use Rattle.path_set.specs.KeptPaths.{KeptPaths, NumberedPaths}
 use Rattle.path_set.specs.RecordChanges.{RecordChange, reversed, moves_in, HaveRoom}
 use Rattle.path_set.specs.MemberSteps.{slot_replaced}
-use Rattle.file_catalogue.specs.Owners.{Owns}
 use Rattle.job_table.specs.Opens.{OpenOrder}
 use Rattle.library_model.specs.Named.{Named, named}
+use Rattle.library_steps.specs.LogicalFiles.{bases_in}
 use Rattle.library_steps.specs.Opens.{first_of}
-use Rattle.library_steps.specs.Records.{is_keyed}
+use Rattle.library_steps.specs.Records.{is_file_path, is_keyed}
 use Rattle.library_steps.specs.State.{FileState, OpenState, JobState}
 use Rattle.library_steps.specs.Uses.{changes_in}
 
 -- ---- the paths of files
 
--- the path over a member of a physical file with a key
-abbrev pub member_path : FileSpec → (number : ℕ) → Option PathSpec
-member_path (PhysicalFile spec) number = if has_key (PhysicalFile spec) then Some (physical_path number spec.format.fields spec.keys) else None
-member_path (LogicalFile spec) number = None
+-- each path that a file has is kept, and has the entries that the members give it; each kept path is that of a file
+abbrev pub ArePaths : Named FileState → NumberedMembers → NumberedPaths → Type 0
+ArePaths files members paths = AreKeptFor (all_paths files) members paths
 
--- it is the path of some file's member
-pub record IsOfFile (files : Named FileState) (spec : PathSpec) : Type 0 where
-  pub owner : (name : List ℕ) × (file : FileState) × (number : ℕ) × Owns files name file number × (member_path file.spec number ≡ Some spec)
+-- a physical file is read by its key over a member, where it is, and a logical file by its path
+abbrev pub path_by : Bases → (keyed : Bool) → (member : ℕ) → FileSpec → Option PathSpec
+path_by bases keyed member (PhysicalFile spec) = if keyed then Some (physical_path member spec.format.fields spec.keys) else None
+path_by bases keyed member (LogicalFile spec) = Some (own_path bases spec)
 
--- the path over each member is kept
-abbrev pub HaveMembers : Named FileState → NumberedPaths → Type 0
-HaveMembers files paths =
-    (name : List ℕ) (file : FileState) (number : ℕ) → Owns files name file number → IfSome (member_path file.spec number) (λ spec. Any (λ path. path.item.spec ≡ spec) paths)
+-- so far each logical file is over one physical file
+abbrev pub IsSimple : FileSpec → Type 0
+IsSimple (PhysicalFile spec) = Unit {0}
+IsSimple (LogicalFile (Simple view)) = Unit {0}
+IsSimple (LogicalFile (Multi views)) = ⊥
+IsSimple (LogicalFile (Join view)) = ⊥
 
--- each path is that of one file's member, and has the entries that the members give it
-pub record ArePaths (files : Named FileState) (members : NumberedMembers) (paths : NumberedPaths) : Type 0 where
-  pub over : AreOver members paths
-  pub owned : All (λ path. IsOfFile files path.item.spec) paths
-  pub there : HaveMembers files paths
-  pub single : All (λ path. path.item.files ≡ 1) paths
+-- where a file of one format has no key, its records stand by their rising numbers
+abbrev pub RisesIfKeyless : LogicalSpec → Type 0
+RisesIfKeyless (Simple view) = view.keys.parts ≡ [] → view.keys.ties ≡ Rising
+RisesIfKeyless (Multi views) = Unit {0}
+RisesIfKeyless (Join view) = Unit {0}
+
+-- its key is by fields of that file, and what is stored through it lies in whole fields of that file
+pub record IsView (bases : Bases) (spec : LogicalSpec) : Type 0 where
+  pub simple : IsSimple (LogicalFile spec)
+  pub keyed : IsKeyedLogical bases spec
+  pub mapped : IsSpecMapped bases spec
+  pub rises : RisesIfKeyless spec
+
+-- the bases of a logical file are the same
+abbrev pub AreSameBasesBy : Bases → Bases → FileSpec → Type 0
+AreSameBasesBy bases others (PhysicalFile spec) = Unit {0}
+AreSameBasesBy bases others (LogicalFile spec) = AreSameBases bases others spec
+
+abbrev pub IsViewBeside : Named FileState → FileSpec → Type 0
+IsViewBeside files (PhysicalFile spec) = Unit {0}
+IsViewBeside files (LogicalFile spec) = IsView (bases_in files) spec
+
+abbrev pub AreViewsBeside : (all files : Named FileState) → Type 0
+AreViewsBeside all files = AllByRecursion (λ entry. IsViewBeside all entry.1.spec) files
+
+abbrev pub AreViews : Named FileState → Type 0
+AreViews files = AreViewsBeside files files
 
 -- ---- opens
 
@@ -65,16 +94,21 @@ abbrev pub ReadsBy : NumberedPaths → Option PathSpec → OpenOrder → Type 0
 ReadsBy paths None order = IsByArrival order
 ReadsBy paths (Some spec) order = IsByPath paths spec order
 
--- the path by which an open of a file reads, where it reads by key
-abbrev pub path_read : FileState → OpenState → Option PathSpec
-path_read file opened = if is_keyed file opened then member_path file.spec (first_of opened.members) else None
+-- the path by which an open of a file reads, where it reads by one
+abbrev pub path_read : Bases → FileState → OpenState → Option PathSpec
+path_read bases file opened = path_by bases (is_keyed file opened) (first_of opened.members) file.spec
 
-abbrev pub ReadsFile : NumberedPaths → OpenState → OpenOrder → Option FileState → Type 0
-ReadsFile paths opened order None = ⊥
-ReadsFile paths opened order (Some file) = ReadsBy paths (path_read file opened) order
+-- a logical file isn't read in arrival order
+abbrev pub IsReadSo : (by_path : Bool) → FileSpec → Type 0
+IsReadSo by_path (PhysicalFile spec) = Unit {0}
+IsReadSo by_path (LogicalFile spec) = IsTrue by_path
+
+abbrev pub ReadsFile : Bases → NumberedPaths → OpenState → OpenOrder → Option FileState → Type 0
+ReadsFile bases paths opened order None = ⊥
+ReadsFile bases paths opened order (Some file) = ReadsBy paths (path_read bases file opened) order × IsReadSo (is_file_path opened.access_path) file.spec
 
 abbrev pub ReadsIn : Named FileState → NumberedPaths → List ℕ × OpenState → List ℕ × OpenOrder → Type 0
-ReadsIn files paths entry order = ReadsFile paths entry.1 order.1 (named entry.1.file files)
+ReadsIn files paths entry order = ReadsFile (bases_in files) paths entry.1 order.1 (named entry.1.file files)
 
 abbrev pub OpensRead : Named FileState → NumberedPaths → JobState → Named OpenOrder → Type 0
 OpensRead files paths job orders = AllZip (ReadsIn files paths) job.opens orders
@@ -110,9 +144,15 @@ AreOfBytes members = AllByRecursion (λ entry. MemberHasBytes entry.item) member
 
 -- ---- all of it
 
-pub record IsIndexed (files : Named FileState) (members : NumberedMembers) (jobs : List JobState) (reads : List (Named OpenOrder)) (backs : List (List (List PathMove))) (kept : KeptPaths) : Type 0 where
-  pub paths : ArePaths files members kept.paths
+-- the same of whatever paths files have
+pub record IsIndexedFor (specs : List PathSpec) (files : Named FileState) (members : NumberedMembers) (jobs : List JobState) (reads : List (Named OpenOrder)) (backs : List (List (List PathMove)))
+    (kept : KeptPaths) : Type 0 where
+  pub paths : AreKeptFor specs members kept.paths
   pub orders : AllZip (OpensRead files kept.paths) jobs reads
   pub moves : backs ≡ map (moves_of_job kept.paths) jobs
   pub room : (member : ℕ) → HaveRoom member (changes_on member jobs) kept
   pub bytes : AreOfBytes members
+  pub views : AreViews files
+
+abbrev pub IsIndexed : Named FileState → NumberedMembers → List JobState → List (Named OpenOrder) → List (List (List PathMove)) → KeptPaths → Type 0
+IsIndexed files members jobs reads backs kept = IsIndexedFor (all_paths files) files members jobs reads backs kept

@@ -1,59 +1,79 @@
--- Which records have the key of an image, by the positions of a file's key in its own records, and which of them do the changes of open commit
--- cycles keep to themselves? (Our own.)
-use Rattle.std.specs.Prelude.{◌≡◌, ℕ, ◌+◌, ◌==◌, ◌&&◌, nat_lt, Bool, true, false, Option, Some, None, Result, Ok, Err, List, [], ◌∷◌, find, if◌then◌else◌}
+-- Which records have a key in a path of one format, and which of them do the changes of open commit cycles keep to themselves?
+-- (Our own.)
+use Rattle.std.specs.Prelude.{◌≡◌, ℕ, ◌+◌, ◌==◌, nat_lt, Bool, true, false, Option, Some, None, unwrap_or, Result, Ok, Err, List, [], ◌∷◌, if◌then◌else◌}
 use Rattle.std.specs.List.{AllByRecursion, filter_map}
-use Rattle.std.specs.Ordering.{is_eq}
-use Rattle.key_spec.specs.declared.KeyPart.{KeyPart}
-use Rattle.key_order.specs.KeyFields.{HasKey}
-use Rattle.file_model.specs.KeyOrder.{compare_keys, key_of}
-use Rattle.member_slots.specs.Members.{Numbered, item_at}
+use Rattle.file_model.specs.KeyOrder.{KeyValue}
+use Rattle.file_model.specs.Paths.{path_key}
+use Rattle.file_model.specs.Views.{view_of}
+use Rattle.key_order.specs.KeyBytes.{encoded}
+use Rattle.file_model.specs.declared.paths.PathFormat.{PathFormat}
+use Rattle.key_order.specs.KeyFields.{AreBytes}
+use Rattle.member_slots.specs.Member.{slot_at}
+use Rattle.member_slots.specs.Members.{item_at, member_of}
 use Rattle.member_slots.specs.declared.slot.Slot.{Slot}
 use Rattle.member_slots.specs.declared.slot.Slot.TheVariants.{Live, Deleted}
 use Rattle.journal_model.specs.Rollback.{MemberChange}
 use Rattle.library_model.specs.declared.replies.Reply.{Reply}
-use Rattle.library_model.specs.declared.replies.Reply.TheVariants.{DuplicateKey, HeldByGroup, RecordInUse}
-use Rattle.path_entrants.specs.Formats.{CanBeAsked}
-use Rattle.path_set.specs.EqualKeys.{clash_in}
+use Rattle.library_model.specs.declared.replies.Reply.TheVariants.{HeldByGroup, RecordInUse}
+use Rattle.path_entrants.specs.Formats.{IsAskable}
 use Rattle.path_set.specs.KeptPaths.{KeptPath, NumberedPaths}
-use Rattle.path_set.specs.MemberSteps.{is_over}
+use Rattle.path_set.specs.MemberSteps.{image_in}
+use Rattle.path_set.specs.RecordChanges.{TakeImage}
+use Rattle.library_steps.specs.Records.{slot_there}
 use Rattle.library_steps.specs.Refusals.{◌>>=◌, refuse_with}
-use Rattle.library_steps.specs.State.{JobState}
-use Rattle.library_steps.specs.UniqueKeys.{Reservation}
+use Rattle.library_steps.specs.State.{Memory, FileState, JobState}
+use Rattle.library_steps.specs.UniqueKeys.{NewKey, Reservation, new_key_in, new_keys, none_repeated, none_reserved, takes_key, uniques_by}
 use Rattle.library_steps.specs.Uses.{changes_in}
-use Rattle.library_parts.specs.declared.keys.Reservation.{Reservation as Reserved}
+use Rattle.library_parts.specs.declared.keys.Reservation.{Reservation as Kept}
+use Rattle.library_parts.specs.declared.keys.Test.{Test}
+use Rattle.library_parts.specs.declared.keys.Test.TheVariants.{Reserved, Repeated}
+use Rattle.library_parts.specs.Parts.{LibraryParts}
 
--- the other image has the key of the first
-abbrev pub is_same_key : List KeyPart → (image other : List ℕ) → Bool
-is_same_key parts image other = is_eq (compare_keys (key_of parts other) (key_of parts image))
+-- the path of this number has this one format, which is over the member
+pub record IsFormatAt (id member : ℕ) (format : PathFormat) (paths : NumberedPaths) : Type 0 where
+  pub path : KeptPath
+  pub at : item_at id paths ≡ Some path
+  pub formats : path.spec.formats ≡ format ∷ []
+  pub its : format.member ≡ member
 
-abbrev pub is_key_of_slot : List KeyPart → (image : List ℕ) → Option Slot → Bool
-is_key_of_slot parts image None = false
-is_key_of_slot parts image (Some Deleted) = false
-is_key_of_slot parts image (Some (Live other)) = is_same_key parts image other
+-- ---- keys
 
--- the change took a record of the member with the key of the image away
-abbrev pub takes : List KeyPart → (member : ℕ) → (image : List ℕ) → MemberChange → Bool
-takes parts member image undo = (undo.member == member) && is_key_of_slot parts image undo.change.before
+-- these bytes are the key of the image, which the format selects
+abbrev pub ShowsKey : PathFormat → (image : List ℕ) → Option (List ℕ) → Option (List KeyValue) → Type 0
+ShowsKey format image None wanted = wanted ≡ None
+ShowsKey format image (Some bytes) wanted = (wanted ≡ Some (path_key format image)) × (bytes ≡ encoded format.key (view_of format.fields image))
 
--- the records that were taken away so
-abbrev pub taken : List KeyPart → (member : ℕ) → (image : List ℕ) → List MemberChange → List ℕ
-taken parts member image undos = filter_map (λ undo. if takes parts member image undo then Some (undo.change.place + 1) else None) undos
+-- these bytes stand for the key of some image
+pub record IsKeyIn (format : PathFormat) (bytes : List ℕ) (key : List KeyValue) : Type 0 where
+  pub image : List ℕ
+  pub are : AreBytes image
+  pub encoded_is : bytes ≡ encoded format.key (view_of format.fields image)
+  pub key_is : key ≡ path_key format image
 
--- the record that was taken away has a key
-abbrev pub HasKeyIn : List KeyPart → Option Slot → Type 0
-HasKeyIn parts None = Unit {0}
-HasKeyIn parts (Some Deleted) = Unit {0}
-HasKeyIn parts (Some (Live image)) = HasKey parts image
+-- so they do in the path of a number
+pub record IsKeyAt (id member : ℕ) (bytes : List ℕ) (format : PathFormat) (key : List KeyValue) (paths : NumberedPaths) : Type 0 where
+  pub over : IsFormatAt id member format paths
+  pub shows : IsKeyIn format bytes key
 
-abbrev pub HasKeyBefore : List KeyPart → (member : ℕ) → MemberChange → Type 0
-HasKeyBefore parts member undo = undo.member ≡ member → HasKeyIn parts undo.change.before
+-- the records with the key that changes took away
+abbrev pub taken : PathFormat → List KeyValue → List MemberChange → List ℕ
+taken format key undos = filter_map (λ undo. if takes_key format key undo then Some (undo.change.place + 1) else None) undos
 
-abbrev pub HaveKeysBefore : List KeyPart → (member : ℕ) → List MemberChange → Type 0
-HaveKeysBefore parts member undos = AllByRecursion (HasKeyBefore parts member) undos
+-- the format can be asked about the record that was taken away
+abbrev pub IsAskedIn : PathFormat → Option Slot → Type 0
+IsAskedIn format None = Unit {0}
+IsAskedIn format (Some Deleted) = Unit {0}
+IsAskedIn format (Some (Live image)) = IsAskable format image
+
+abbrev pub IsAskedBefore : PathFormat → (member : ℕ) → MemberChange → Type 0
+IsAskedBefore format member undo = undo.member ≡ member → IsAskedIn format undo.change.before
+
+abbrev pub AreAskedBefore : PathFormat → (member : ℕ) → List MemberChange → Type 0
+AreAskedBefore format member undos = AllByRecursion (IsAskedBefore format member) undos
 
 -- in each of the jobs
-abbrev pub AllHaveKeysBefore : List KeyPart → (member : ℕ) → List JobState → Type 0
-AllHaveKeysBefore parts member jobs = AllByRecursion (λ job. HaveKeysBefore parts member (changes_in job.cycle)) jobs
+abbrev pub AllAreAskedBefore : PathFormat → (member : ℕ) → List JobState → Type 0
+AllAreAskedBefore format member jobs = AllByRecursion (λ job. AreAskedBefore format member (changes_in job.cycle)) jobs
 
 -- ---- the least of them
 
@@ -70,7 +90,7 @@ lesser_reserved job rrn None = Some (record { job = job; rrn = rrn })
 lesser_reserved job rrn (Some other) = if nat_lt other.rrn rrn then Some other else Some (record { job = job; rrn = rrn })
 
 -- a reservation as the definitions have it
-abbrev pub reservation_of : Reserved → Reservation
+abbrev pub reservation_of : Kept → Reservation
 reservation_of its = record { job = its.job; rrn = its.rrn }
 
 -- that of a job before those of the jobs behind it
@@ -79,11 +99,11 @@ first_reserved job None rest = rest
 first_reserved job (Some rrn) rest = lesser_reserved job rrn rest
 
 -- of all jobs but this one, the first of which has that number
-abbrev pub least_reserved : List KeyPart → (member : ℕ) → (image : List ℕ) → (job number : ℕ) → List JobState → Option Reservation
-least_reserved parts member image job number [] = None
-least_reserved parts member image job number (one ∷ jobs) =
-    if number == job then least_reserved parts member image job (number + 1) jobs
-    else first_reserved number (least_of (taken parts member image (changes_in one.cycle))) (least_reserved parts member image job (number + 1) jobs)
+abbrev pub least_reserved : PathFormat → List KeyValue → (job number : ℕ) → List JobState → Option Reservation
+least_reserved format key job number [] = None
+least_reserved format key job number (one ∷ jobs) =
+    if number == job then least_reserved format key job (number + 1) jobs
+    else first_reserved number (least_of (taken format key (changes_in one.cycle))) (least_reserved format key job (number + 1) jobs)
 
 -- ---- whether open commit cycles keep the key to themselves
 
@@ -92,28 +112,47 @@ abbrev pub own_reserved : (commit : Bool) → Option ℕ → Option ℕ
 own_reserved true rrn = None
 own_reserved false rrn = rrn
 
-abbrev pub own_kept : List KeyPart → (member : ℕ) → (image : List ℕ) → (commit : Bool) → (own : List MemberChange) → Result Bool Reply
-own_kept parts member image commit own = refuse_with (λ rrn. HeldByGroup rrn) (own_reserved commit (least_of (taken parts member image own)))
+abbrev pub own_kept : PathFormat → List KeyValue → (commit : Bool) → (own : List MemberChange) → Result Bool Reply
+own_kept format key commit own = refuse_with (λ rrn. HeldByGroup rrn) (own_reserved commit (least_of (taken format key own)))
 
-abbrev pub keys_kept : List KeyPart → (member : ℕ) → (image : List ℕ) → (job : ℕ) → (commit : Bool) → (own : List MemberChange) → List JobState → Result Bool Reply
-keys_kept parts member image job commit own jobs = do
-  _ ← refuse_with (λ r. RecordInUse r.job member r.rrn) (least_reserved parts member image job 1 jobs)
-  own_kept parts member image commit own
+abbrev pub keys_kept : PathFormat → List KeyValue → (job : ℕ) → (commit : Bool) → (own : List MemberChange) → List JobState → Result Bool Reply
+keys_kept format key job commit own jobs = do
+  _ ← refuse_with (λ r. RecordInUse r.job format.member r.rrn) (least_reserved format key job 1 jobs)
+  own_kept format key commit own
 
--- ---- whether another record has the key
+-- ---- one path of a file: nothing where no key comes into it
 
--- the path over the member can be asked about the image
-pub record HasPathOver (member : ℕ) (image : List ℕ) (paths : NumberedPaths) : Type 0 where
-  pub path : Numbered KeptPath
-  pub first : find (λ p. is_over member p.item.spec) paths ≡ Some path
-  pub there : item_at path.number paths ≡ Some path.item
-  pub asks : CanBeAsked path.item.spec.formats 0 image
+-- the key that comes into the path, in the place of the slot with that number
+abbrev pub new_in : (file : List ℕ) → Memory → (member rrn : ℕ) → (image : List ℕ) → PathFormat → List NewKey
+new_in file m member rrn image format = filter_map (new_key_in file (slot_there member rrn m) image) (format ∷ [])
 
-abbrev pub keys_repeated : (file : List ℕ) → (image : List ℕ) → (rrn : ℕ) → KeptPath → Result Bool Reply
-keys_repeated file image rrn path = refuse_with (λ other. DuplicateKey file other) (clash_in 0 image rrn path)
+-- what refuses it, of the one kind or of the other
+abbrev pub tested : Test → (file : List ℕ) → Memory → (job : ℕ) → (commit : Bool) → (member rrn : ℕ) → (image : List ℕ) → PathFormat → Result Bool Reply
+tested Reserved file m job commit member rrn image format = none_reserved job commit (new_in file m member rrn image format) m
+tested Repeated file m job commit member rrn image format = none_repeated rrn (new_in file m member rrn image format) m
 
--- ---- all of it: nothing where the slot has the key already
+-- nothing, whichever file has the path
+pub record AreFreeIn (m : Memory) (job : ℕ) (commit : Bool) (member rrn : ℕ) (image : List ℕ) (format : PathFormat) : Type 0 where
+  pub reserved : (file : List ℕ) → tested Reserved file m job commit member rrn image format ≡ Ok true
+  pub repeated : (file : List ℕ) → tested Repeated file m job commit member rrn image format ≡ Ok true
 
-abbrev pub new_key_plan : List KeyPart → (member : ℕ) → (image : List ℕ) → (job : ℕ) → (commit : Bool) → (own : List MemberChange) → List JobState → Option Slot → (file : List ℕ) → (rrn : ℕ) → KeptPath → Result Bool Reply
-new_key_plan parts member image job commit own jobs slot file rrn path =
-    if is_key_of_slot parts image slot then Ok true else (keys_kept parts member image job commit own jobs >>= (λ _. keys_repeated file image rrn path))
+-- ---- all paths
+
+-- what the unique paths over a member refuse of this kind, in the order of their files
+abbrev pub keys_tested : Test → (job : ℕ) → (commit : Bool) → (member rrn : ℕ) → (image : List ℕ) → Memory → Result Bool Reply
+keys_tested Reserved job commit member rrn image m = none_reserved job commit (new_keys member (slot_there member rrn m) image m) m
+keys_tested Repeated job commit member rrn image m = none_repeated rrn (new_keys member (slot_there member rrn m) image m) m
+
+-- the number of the one unique path of a file over the member
+abbrev pub IsUniquePathOf : Memory → NumberedPaths → (member : ℕ) → List ℕ × FileState → Option ℕ → Type 0
+IsUniquePathOf m paths member entry None = uniques_by entry.1.spec m member entry ≡ []
+IsUniquePathOf m paths member entry (Some id) =
+    (path : KeptPath) × (item_at id paths ≡ Some path) × (uniques_by entry.1.spec m member entry ≡ record { file = entry.0; path = path.spec } ∷ [])
+
+-- the paths over the member can be asked about the image, about the record that it is to take the place of, and about those that open commit
+-- cycles took away
+pub record IsNewFor (parts : LibraryParts) (member rrn : ℕ) (image : List ℕ) : Type 0 where
+  pub new : TakeImage member (Some image) parts.room.paths.paths
+  pub old : TakeImage member (image_in (unwrap_or (slot_at (member_of member parts.state.members) rrn) Deleted)) parts.room.paths.paths
+  pub before : (id : ℕ) (format : PathFormat) → IsFormatAt id member format parts.room.paths.paths → AllAreAskedBefore format member parts.state.jobs
+  pub bytes : AreBytes image

@@ -1,5 +1,5 @@
 -- How an open of the library reads, what it is asked, and what it finds. (Database Programming, "Reading database records".)
-use Rattle.std.specs.Prelude.{◌≡◌, ℕ, ◌-◌, Bool, true, false, not, IsTrue, Option, Some, None, Result, Ok, Err, is_ok, List, [], ◌∷◌, length, map, option_map, slice_index_or}
+use Rattle.std.specs.Prelude.{◌≡◌, ℕ, ◌-◌, nat_lt, Any, Bool, true, false, not, IsTrue, Option, Some, None, IfSome, Result, Ok, Err, is_ok, List, [], ◌∷◌, length, map, option_map, slice_index_or}
 use Rattle.field_types.specs.declared.values.Value.{Value}
 use Rattle.key_spec.specs.declared.KeyPart.{KeyPart}
 use Rattle.file_model.specs.declared.paths.PathSpec.{PathSpec}
@@ -11,12 +11,15 @@ use Rattle.member_slots.specs.Members.{NumberedMembers, member_at}
 use Rattle.key_order.specs.GivenValues.{key_fault}
 use Rattle.key_pages.specs.EntryList.{EntryList}
 use Rattle.key_values.specs.KeyValues.{values_in}
+use Rattle.file_cursor.specs.Reading.{AreNumbered}
+use Rattle.logical_model.specs.Bases.{Bases}
 use Rattle.open_position.specs.OpenStand.{AreGivenBytes, HasNoKey}
 use Rattle.open_position.specs.Reads.{IsAskedOf, IsPathOver, asked_of, side_of}
 use Rattle.open_position.specs.declared.position.Side.{Side}
 use Rattle.open_position.specs.declared.reads.ReadBy.{ReadBy}
 use Rattle.open_position.specs.declared.reads.ReadBy.TheVariants as asked
-use Rattle.path_set.specs.KeptPaths.{KeptPaths, pages_at}
+use Rattle.path_set.specs.KeptPaths.{KeptPaths, NumberedPaths, pages_at}
+use Rattle.path_set.specs.Sharing.{IsNew}
 use Rattle.job_table.specs.declared.reads.OpenReads.{OpenReads}
 use Rattle.job_table.specs.Opens.{KeptOpen, OpenOrder, IsNewReads, order_by}
 use Rattle.library_model.specs.Named.{Named, named}
@@ -26,15 +29,16 @@ use Rattle.field_types.specs.declared.faults.RecordFault.{RecordFault}
 use Rattle.library_model.specs.declared.requests.OpenFile.{OpenFile}
 use Rattle.library_model.specs.declared.requests.Limit.{Limit}
 use Rattle.library_model.specs.declared.requests.Limit.TheVariants as limits
+use Rattle.library_steps.specs.LogicalFiles.{bases_in, bases_of}
 use Rattle.library_steps.specs.Opens.{new_open}
-use Rattle.library_steps.specs.Records.{is_keyed, reading_of, key_asked}
+use Rattle.library_steps.specs.Records.{is_file_path, is_keyed, reading_of, key_asked}
 use Rattle.library_steps.specs.Reads.{bound_asked}
 use Rattle.library_steps.specs.Refusals.{OpenedFile, opened_file}
 use Rattle.library_steps.specs.State.{Memory, FileState, OpenState, memory_of}
 use Rattle.library_parts.specs.declared.stop.Stop.{Stop}
 use Rattle.library_parts.specs.declared.stop.Stop.TheVariants.{NoMemory, Refused}
 use Rattle.library_parts.specs.declared.reading.Found.{Found}
-use Rattle.library_parts.specs.Indexed.{ReadsBy, ReadsFile, path_read}
+use Rattle.library_parts.specs.Indexed.{IsReadSo, IsSimple, ReadsBy, ReadsFile, path_read}
 use Rattle.library_parts.specs.Parts.{LibraryParts}
 
 -- the positions of the key by which an open reads, in each format; an open without a key reads one format that has none
@@ -42,24 +46,49 @@ abbrev pub formats_by : Option PathSpec → List (List KeyPart)
 formats_by None = [] ∷ []
 formats_by (Some spec) = map (λ format. format.key) spec.formats
 
-abbrev pub formats_read : FileState → OpenState → List (List KeyPart)
-formats_read file opened = formats_by (path_read file opened)
+abbrev pub formats_read : Bases → FileState → OpenState → List (List KeyPart)
+formats_read bases file opened = formats_by (path_read bases file opened)
 
-abbrev pub parts_read : FileState → OpenState → List KeyPart
-parts_read file opened = merged_parts (formats_read file opened)
+abbrev pub parts_read : Bases → FileState → OpenState → List KeyPart
+parts_read bases file opened = merged_parts (formats_read bases file opened)
 
--- the open is one of this library, and so is the way in which it reads
-abbrev pub ReadsAs : LibraryParts → KeptOpen → FileState → Type 0
-ReadsAs parts opened file = ReadsBy parts.room.paths.paths (path_read file opened.state) opened.order
+-- the open reads by a key
+abbrev pub has_positions : List (List KeyPart) → Bool
+has_positions formats = nat_lt 0 (length (merged_parts formats))
+
+-- a new open of the file may read so
+abbrev pub MayReadSo : OpenFile → Option FileState → Type 0
+MayReadSo args file = IfSome file (λ f. IsReadSo (is_file_path args.access_path) f.spec)
+
+-- the path of this specification is kept under that number
+abbrev pub IsNumberOf : PathSpec → Option ℕ → NumberedPaths → Type 0
+IsNumberOf spec None paths = IsNew spec paths
+IsNumberOf spec (Some id) paths = Any (λ path. (path.number ≡ id) × (path.item.spec ≡ spec)) paths
+
+-- the open is one of this library, of a simple file, and so is the way in which it reads
+pub record ReadsAs (parts : LibraryParts) (opened : KeptOpen) (file : FileState) : Type 0 where
+  pub by : ReadsBy parts.room.paths.paths (path_read (bases_in parts.state.files) file opened.state) opened.order
+  pub so : IsReadSo (is_file_path opened.state.access_path) file.spec
+  pub simple : IsSimple file.spec
 
 -- how the opens of the job read, by their names
 abbrev pub orders_in : (job : ℕ) → LibraryParts → Named OpenOrder
 orders_in job parts = slice_index_or parts.room.orders (job - 1) []
 
+-- a new open reads by the path of this specification, where it is kept, or in arrival order
+abbrev pub ReadsByNumber : NumberedPaths → Option PathSpec → OpenReads → Type 0
+ReadsByNumber paths None reads = (reads.path ≡ None) × (reads.position.formats ≡ [] ∷ [])
+ReadsByNumber paths (Some spec) reads = IsNumberOf spec reads.path paths × (reads.position.formats ≡ map (λ format. format.key) spec.formats)
+
+-- so, from the start
+pub record ReadsNew (commit : Bool) (paths : NumberedPaths) (spec : Option PathSpec) (reads : OpenReads) : Type 0 where
+  pub start : IsNewReads commit reads
+  pub by : ReadsByNumber paths spec reads
+
 -- how a new open of the member reads
 pub record ReadsFor (parts : LibraryParts) (args : OpenFile) (member : ℕ) (reads : OpenReads) : Type 0 where
   pub start : IsNewReads args.commit reads
-  pub order : ReadsFile parts.room.paths.paths (new_open args 0 (member ∷ [])) (order_by 0 reads) (named args.file parts.state.files)
+  pub order : ReadsFile (bases_in parts.state.files) parts.room.paths.paths (new_open args 0 (member ∷ [])) (order_by 0 reads) (named args.file parts.state.files)
 
 -- ---- the key that a request gives
 
@@ -73,10 +102,10 @@ pub record StandsFor (parts : List KeyPart) (given : List KeyValue) (key : List 
   pub bytes : AreGivenBytes parts key
   pub values : values_in parts key ≡ given
 
-abbrev pub GivesKey : FileState → OpenState → List Value → Result (List ℕ) Stop → Type 0
-GivesKey file opened values (Ok key) = (given : List KeyValue) × (key_asked file opened values ≡ Ok given) × StandsFor (parts_read file opened) given key
-GivesKey file opened values (Err NoMemory) = Unit {0}
-GivesKey file opened values (Err (Refused reply)) = key_asked file opened values ≡ Err reply
+abbrev pub GivesKey : Bases → FileState → OpenState → List Value → Result (List ℕ) Stop → Type 0
+GivesKey bases file opened values (Ok key) = (given : List KeyValue) × (key_asked file opened values ≡ Ok given) × StandsFor (parts_read bases file opened) given key
+GivesKey bases file opened values (Err NoMemory) = Unit {0}
+GivesKey bases file opened values (Err (Refused reply)) = key_asked file opened values ≡ Err reply
 
 -- the same by the positions of the key
 pub record IsKeyOf (parts : List KeyPart) (values : List Value) (key : List ℕ) : Type 0 where
@@ -102,7 +131,7 @@ pub record IsAlongPath (members : NumberedMembers) (kept : KeptPaths) (id : ℕ)
   pub pages : pages_at kept id ≡ Some list
   pub over : IsPathOver formats spec members list
   pub one : length formats ≡ 1
-  pub keyed : HasNoKey formats → ⊥
+  pub numbered : HasNoKey formats → AreNumbered list
   pub along : reading ≡ path_reading spec.ties (path spec members)
 
 abbrev pub ReadsAmong : NumberedMembers → KeptPaths → (member : ℕ) → (formats : List (List KeyPart)) → (path : Option ℕ) → Reading PathEntry → Type 0
@@ -122,7 +151,7 @@ IsLookedIn keyed (asked.Number rrn) = Unit {0}
 
 -- what the open finds in what it reads
 abbrev pub found_by : ReadBy → FileState → OpenState → Memory → Option PathEntry
-found_by by file opened m = asked_of by (parts_read file opened) (reading_of file opened m) opened.position
+found_by by file opened m = asked_of by (parts_read (bases_of m) file opened) (reading_of file opened m) opened.position
 
 abbrev pub FindsEntry : Option Found → Option PathEntry → Type 0
 FindsEntry None wanted = wanted ≡ None
@@ -132,7 +161,7 @@ FindsEntry (Some found) wanted = (entry : PathEntry) × (wanted ≡ Some entry) 
 pub record CanNote (parts : LibraryParts) (job : ℕ) (name : List ℕ) (by : ReadBy) : Type 0 where
   pub its : OpenedFile
   pub opened : opened_file name job (memory_of parts.state) ≡ Ok its
-  pub asked : IsAskedOf (formats_read its.file its.opened) by
+  pub asked : IsAskedOf (formats_read (bases_of (memory_of parts.state)) its.file its.opened) by
   pub looked : IsLookedIn (is_keyed its.file its.opened) by
   pub found : (entry : PathEntry) × (found_by by its.file its.opened (memory_of parts.state) ≡ Some entry)
 

@@ -1,29 +1,40 @@
 //! What effects change of the files and of whole members.
-ghost use Rattle.std.specs.Prelude.{◌≡◌, ℕ, ◌+◌, ◌≤◌, Some, None, IsSome, OnOk, OnErr, length};
+ghost use Rattle.std.specs.Prelude.{◌≡◌, ℕ, ◌+◌, ◌≤◌, ◌⊎◌, ◌∷◌, Some, None, IsSome, IfOk, OnOk, OnErr, MatchOption, length};
 ghost use Rattle.library_steps.specs.CreatePhysicalFile.{formats_of, with_file};
-ghost use Rattle.library_steps.specs.State.{FileState, memory_of};
+ghost use Rattle.library_steps.specs.CreateLogicalFile.{first_repeated, with_logical};
+ghost use Rattle.library_steps.specs.LogicalFiles.{bases_of};
+ghost use Rattle.library_steps.specs.Refusals.{refuse_with};
+ghost use Rattle.library_steps.specs.State.{FileState, memory_of, physical_spec};
 ghost use Rattle.library_model.specs.Named.{named};
-ghost use Rattle.member_slots.specs.Members.{item_at, member_at, without_member};
+ghost use Rattle.library_model.specs.declared.replies.Reply.TheVariants.{DuplicateKey};
+ghost use Rattle.file_model.specs.Paths.{repeated_in};
+ghost use Rattle.logical_model.specs.FilePaths.{logical_paths};
+ghost use Rattle.member_slots.specs.Members.{NumberedMembers, item_at, member_at, without_member};
 ghost use Rattle.library_steps.specs.declared.limits.TheConstants.{MOST_LIBRARY_BYTES};
-ghost use Rattle.library_steps.specs.DeleteFile.{deleted, first_dependent, without_members};
+ghost use Rattle.library_steps.specs.DeleteFile.{deleted, first_dependent, user_by, without_members};
 ghost use Rattle.library_steps.specs.MemberCommands.{member_added};
 ghost use Rattle.library_steps.specs.Ranges.{library_bytes};
-ghost use Rattle.library_steps.specs.Uses.{user_of_any};
 ghost use Rattle.file_catalogue.specs.Described.{Describes};
 ghost use Rattle.file_catalogue.specs.Owners.{AreApart};
-ghost use Rattle.file_catalogue.specs.Physical.{AllArePhysical};
-ghost use Rattle.path_set.specs.KeptPaths.{spare_of};
-ghost use Rattle.library_parts.specs.Indexed.{member_path};
-ghost use Rattle.library_parts.specs.PathChanges.{AreOwned, AttachesPath, without_paths, without_paths_over};
-ghost use Rattle.library_parts.specs.Files.{IsNewFile, IsNewMember};
+ghost use Rattle.file_catalogue.specs.Views.{DescribesView};
+ghost use Rattle.path_entrants.specs.Repeated.{TellsRepeated};
+ghost use Rattle.path_set.specs.KeptPaths.{AreOver, spare_of};
+ghost use Rattle.path_set.specs.Sharing.{CanBeKept, IsNew};
+ghost use Rattle.library_parts.specs.Answers.{MayAllow};
+ghost use Rattle.library_parts.specs.Files.{IsNewFile, IsNewMember, IsNewView};
+ghost use Rattle.library_parts.specs.PathChanges.{AttachesPath, IsAttached, IsPathOf, IsPathOfView, detached_from, member_path, without_path_over, without_paths};
 ghost use Rattle.library_parts.specs.Rooms.{HasFileRoom, HasMemberRoom};
 
 use crate::contents::Contents;
 use crate::members::weight;
+use crate::stop::Stop;
+use dds_logical::LogicalFault;
 use dds_physical::PhysicalError;
 use field_types::names::Name;
 use field_types::texts::SourceText;
-use file_catalogue::{Described, File, Members as FileMembers};
+use file_catalogue::{Described, DescribedView, File, Members as FileMembers};
+use file_model::paths::PathSpec;
+use library_model::replies::Reply;
 use library_model::requests::{DeleteFile, FileMember};
 use member_paths::member_path;
 use member_slots::member::Member;
@@ -33,31 +44,38 @@ use path_set::set::PathSet;
 use std::alloc::{AllocError, Global};
 
 impl Contents {
-    /// How many files there are, all of them physical ones, and the number of the next member. No two members have one number.
+    /// How many files there are, and the number of the next member. No two members have one number.
     pub fn counts(&self) -> (usize, u32)
         ensures files { result.0 ≡ length self.now.state.files }
         ensures next_member { result.1 ≡ self.now.state.next_member }
         ensures apart { AreApart self.now.state.files }
-        ensures physical { AllArePhysical self.now.state.files }
     {
         (self.catalogue.len(), self.next_member)
     }
 
-    /// The first file, by creation, whose source names that file. It looks at every source.
+    /// The first file, by creation, that depends on that file. It looks at every source.
     pub fn first_dependent(&self, name: &Name) -> Option<Name>
         ensures { result ≡ first_dependent name.now self.now.state.files }
     {
         self.catalogue.first_dependent(name)
     }
 
-    /// Reads a source, which may refer to the files that are there.
+    /// Reads a source for a physical file, which may refer to the files that are there.
     pub fn describe(&self, text: &SourceText) -> Result<Described, PhysicalError>
         ensures { Describes (formats_of (memory_of self.now.state)) text.now result }
     {
         Described::read(self.alloc, text, &self.catalogue)
     }
 
-    /// Adds a file, whose one member has its name and the next number, with its path where it has a key. Out of memory changes nothing.
+    /// Reads a source for a logical file, which may be over the physical files that are there.
+    pub fn describe_view(&self, text: &SourceText) -> Result<DescribedView, LogicalFault>
+        ensures { DescribesView (λ name. physical_spec name (memory_of self.now.state)) text.now result }
+    {
+        DescribedView::read(self.alloc, text, &self.catalogue)
+    }
+
+    /// Adds a physical file, whose one member has its name and the next number, with its path where it has a key. Out of memory changes
+    /// nothing.
     pub fn add_file(&mut self, name: Name, file: File) -> Result<(), AllocError>
         requires new { IsNewFile self.old.state name file }
         requires room { HasFileRoom self.old.room }
@@ -66,23 +84,47 @@ impl Contents {
         ensures entries { self.new.state.entries ≡ self.old.state.entries }
         ensures others { (self.new.room.entries ≡ self.old.room.entries) × (self.new.room.locks ≡ self.old.room.locks) × (self.new.room.undos ≡ self.old.room.undos) }
     {
-        // No two files have one name.
+        // No two files have one name, and the paths of all files are kept.
         let _len = self.catalogue.len();
+        let _kept = self.paths.kept();
+        let described = file.physical().unwrap();
         attach_path(
             self.alloc,
             &mut self.paths,
             &self.members,
             self.next_member,
-            &file,
+            described,
         )?;
-        let empty = Member::new(self.alloc, file.format().length());
+        let empty = Member::new(self.alloc, described.format().length());
         self.members.put(self.next_member, empty).unwrap();
         self.catalogue.add(name, file);
         self.next_member += 1;
         Ok(())
     }
 
-    /// Adds a member of that name to a file, with its path where the file has a key. It has the next number. Out of memory changes nothing.
+    /// Adds a logical file with its path, unless two records would have one key in it that may not. Out of memory changes nothing.
+    pub fn add_view(&mut self, name: Name, view: DescribedView) -> Result<(), Stop>
+        requires new { IsNewView self.old.state name view }
+        requires room { HasFileRoom self.old.room }
+        ensures apart { MayAllow result (refuse_with (DuplicateKey name) (first_repeated (logical_paths (bases_of (memory_of self.old.state)) view.spec) (memory_of self.old.state))) }
+        ensures memory { OnOk result (memory_of self.new.state ≡ with_logical name view (memory_of self.old.state)) }
+        ensures unchanged { OnErr result (self.new.state ≡ self.old.state) }
+        ensures entries { self.new.state.entries ≡ self.old.state.entries }
+        ensures others { (self.new.room.entries ≡ self.old.room.entries) × (self.new.room.locks ≡ self.old.room.locks) × (self.new.room.undos ≡ self.old.room.undos) }
+    {
+        // No two files have one name, the paths of all files are kept, and each record has the length of its member's records.
+        let _len = self.catalogue.len();
+        let _kept = self.paths.kept();
+        let _none = self.members.at(0);
+        let path = self.own_path(view.spec())?;
+        attach_own_path(&mut self.paths, &self.members, name, path)?;
+        let file = File::over(self.alloc, view);
+        self.catalogue.add(name, file);
+        Ok(())
+    }
+
+    /// Adds a member of that name to a physical file, with its path where the file has a key. It has the next number. Out of memory
+    /// changes nothing.
     pub fn add_member(&mut self, args: &FileMember) -> Result<(), AllocError>
         requires new { IsNewMember self.old.state args.now }
         requires room { HasMemberRoom self.old.room }
@@ -91,17 +133,18 @@ impl Contents {
         ensures entries { self.new.state.entries ≡ self.old.state.entries }
         ensures others { (self.new.room.entries ≡ self.old.room.entries) × (self.new.room.locks ≡ self.old.room.locks) × (self.new.room.undos ≡ self.old.room.undos) }
     {
-        // No two files have one name.
+        // No two files have one name, and the paths of all files are kept.
         let _len = self.catalogue.len();
-        let file = self.catalogue.named(&args.file).unwrap();
+        let _kept = self.paths.kept();
+        let described = self.catalogue.physical_named(&args.file).unwrap();
         attach_path(
             self.alloc,
             &mut self.paths,
             &self.members,
             self.next_member,
-            file,
+            described,
         )?;
-        let empty = Member::new(self.alloc, file.format().length());
+        let empty = Member::new(self.alloc, described.format().length());
         self.members.put(self.next_member, empty).unwrap();
         self.catalogue
             .add_member(&args.file, args.member, self.next_member);
@@ -109,20 +152,47 @@ impl Contents {
         Ok(())
     }
 
-    /// Takes out a file whose members no job uses, and its members and paths with it.
-    pub fn remove_file(&mut self, args: &DeleteFile) -> File
+    /// The number of the path of the file of that name, where it is a logical one.
+    pub fn view_path(&self, name: &Name) -> Result<Option<u64>, AllocError>
+        ensures { IfOk result (λ id. IsPathOfView self.now name.now id) }
+    {
+        match self.catalogue.named(name) {
+            Some(file) => self.path_of_view(file),
+            None => Ok(None),
+        }
+    }
+
+    /// The number of the path of a file, where it is a logical one.
+    fn path_of_view(&self, file: &File) -> Result<Option<u64>, AllocError>
+        ensures { IfOk result (λ id. IsPathOf self.now.state.files self.now.room.paths.paths file.now.spec id) }
+    {
+        match file.logical() {
+            Some(view) => {
+                let path = self.own_path(view)?;
+                Ok(self.paths.number_of(&path))
+            }
+            None => Ok(None),
+        }
+    }
+
+    /// Takes out a file that no job uses and on which no other depends, and its members and paths with it.
+    pub fn remove_file(&mut self, args: &DeleteFile, path: Option<u64>) -> File
         requires there { IsSome (named args.now.file self.old.state.files) }
-        requires unused { (file : FileState) → named args.now.file self.old.state.files ≡ Some file → user_of_any file.members (memory_of self.old.state) ≡ None }
+        requires alone { first_dependent args.now.file self.old.state.files ≡ None }
+        requires unused { (file : FileState) → named args.now.file self.old.state.files ≡ Some file → user_by file.spec args.now.file file (memory_of self.old.state) ≡ None }
+        requires path { IsPathOfView self.old args.now.file path }
         ensures file { named args.now.file self.old.state.files ≡ Some result }
         ensures memory { memory_of self.new.state ≡ deleted args.now result (memory_of self.old.state) }
         ensures entries { self.new.state.entries ≡ self.old.state.entries }
         ensures others { (self.new.room.entries ≡ self.old.room.entries) × (self.new.room.locks ≡ self.old.room.locks) × (self.new.room.undos ≡ self.old.room.undos) }
     {
-        // No two members have one number.
+        // No two members have one number, and the paths of all files are kept.
         let _len = self.catalogue.len();
+        let _kept = self.paths.kept();
         let file = self.catalogue.remove(&args.file);
         let gone = file.members();
         detach_paths(&mut self.paths, gone);
+        detach_own(&mut self.paths, path);
         let bytes = take_members(&mut self.members, gone);
         self.member_bytes -= bytes;
         file
@@ -158,7 +228,7 @@ fn attach_path(
     paths: &mut PathSet,
     members: &Members,
     number: u32,
-    file: &File,
+    file: &Described,
 ) -> Result<(), AllocError>
     requires { member_at number members.now.members ≡ None }
     ensures attached { OnOk result (AttachesPath (member_path file.now.spec number) members.now.members paths.old paths.new) }
@@ -178,9 +248,45 @@ fn attach_path(
     }
 }
 
+/// Keeps the path of a logical file, unless two records would have one key in it that may not.
+fn attach_own_path(
+    paths: &mut PathSet,
+    members: &Members,
+    file: Name,
+    path: PathSpec,
+) -> Result<(), Stop>
+    requires kept { CanBeKept path members.now.members }
+    requires tells { TellsRepeated path members.now.members }
+    requires over { AreOver members.now.members paths.old.paths }
+    ensures apart { MayAllow result (refuse_with (DuplicateKey file) (repeated_in path members.now.members)) }
+    ensures attached { OnOk result (IsAttached path members.now.members paths.old paths.new) }
+    ensures refused { OnErr result (paths.new ≡ paths.old) }
+{
+    if let Some(rrn) = repeated_there(paths, &path) {
+        return Err(Stop::Refused(Reply::DuplicateKey { file, rrn }));
+    }
+    match paths.attach(path, members, 0) {
+        Ok(_) => Ok(()),
+        Err(PathFault::NoMemory) => Err(Stop::NoMemory),
+        Err(PathFault::Equal { rrn }) => Err(Stop::Refused(Reply::DuplicateKey { file, rrn })),
+    }
+}
+
+/// The least record whose key a later one has in a path that may have none, where the path is kept already.
+fn repeated_there(paths: &PathSet, path: &PathSpec) -> Option<u32>
+    ensures { (members : NumberedMembers) → AreOver members paths.now.paths → TellsRepeated path.now members → MatchOption result (IsNew path.now paths.now.paths ⊎ (repeated_in path.now members ≡ None)) (λ rrn. repeated_in path.now members ≡ Some rrn) }
+{
+    let Some(id) = paths.number_of(path) else {
+        return None;
+    };
+    match paths.repeated_among(&[id]) {
+        Some(repeated) => Some(repeated.rrn),
+        None => None,
+    }
+}
+
 /// Gives up the paths over these members.
 fn detach_paths(paths: &mut PathSet, gone: &FileMembers)
-    requires { AreOwned paths.old.paths }
     ensures paths { paths.new.paths ≡ without_paths gone.now paths.old.paths }
     ensures spares { (id : ℕ) → IsSome (item_at id paths.new.paths) → spare_of id paths.new ≡ spare_of id paths.old }
 {
@@ -189,15 +295,21 @@ fn detach_paths(paths: &mut PathSet, gone: &FileMembers)
     }
 }
 
-/// Gives up the path over this member, where there is one.
+/// Gives up the first path over this member, where there is one.
 fn detach_path(paths: &mut PathSet, number: u32)
-    requires { AreOwned paths.old.paths }
-    ensures paths { paths.new.paths ≡ without_paths_over number paths.old.paths }
+    ensures paths { paths.new.paths ≡ without_path_over number paths.old.paths }
     ensures spares { (id : ℕ) → IsSome (item_at id paths.new.paths) → spare_of id paths.new ≡ spare_of id paths.old }
 {
-    // What holds of all kept paths.
-    let _kept = paths.kept();
-    match paths.first_over(number) {
+    let first = paths.first_over(number);
+    detach_own(paths, first);
+}
+
+/// Gives up the path of this number, where one is given.
+fn detach_own(paths: &mut PathSet, path: Option<u64>)
+    ensures paths { paths.new.paths ≡ detached_from path paths.old.paths }
+    ensures spares { (id : ℕ) → IsSome (item_at id paths.new.paths) → spare_of id paths.new ≡ spare_of id paths.old }
+{
+    match path {
         Some(id) => paths.detach(id),
         None => {}
     }

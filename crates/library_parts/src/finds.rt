@@ -7,13 +7,16 @@ ghost use Rattle.library_steps.specs.History.{is_running};
 ghost use Rattle.library_steps.specs.Refusals.{named_or_refused, opened_file, member_of_file, sequences_left};
 ghost use Rattle.library_parts.specs.declared.stop.Stop.TheVariants.{Refused};
 ghost use Rattle.library_parts.specs.Answers.{Shows, Allows};
-ghost use Rattle.library_parts.specs.Finds.{ShowsOpen, FindsOpen, FindsMember, HasMember};
+ghost use Rattle.file_catalogue.specs.Physical.{IsPhysical};
+ghost use Rattle.library_parts.specs.Finds.{ShowsOpen, FindsOpen, FindsMember, HasMember, ReadsMember};
+ghost use Rattle.library_parts.specs.Indexed.{IsSimple};
 ghost use Rattle.job_table.specs.Opens.{AllOfNumber};
 ghost use Rattle.library_model.specs.Named.{named};
 ghost use Rattle.library_parts.specs.Reads.{ReadsAs, orders_in};
 
 use crate::contents::Contents;
 use crate::stop::Stop;
+use entry_codec::FileKind;
 use field_types::names::Name;
 use file_catalogue::{File, MemberStatus};
 use job_table::Open;
@@ -59,12 +62,14 @@ impl Contents {
 
     /// The physical file of that name.
     pub fn physical_file(&self, name: &Name) -> Result<&File, Stop>
-        ensures { Shows result (named_or_refused name.now (physical_named name.now (memory_of self.now.state))) }
+        ensures shows { Shows result (named_or_refused name.now (physical_named name.now (memory_of self.now.state))) }
+        ensures physical { IfOk result (λ file. IsPhysical file.now.spec) }
     {
-        // There are no others.
-        let _len = self.catalogue.len();
         let file = self.file(name)?;
-        Ok(file)
+        match file.kind() {
+            FileKind::Physical => Ok(file),
+            FileKind::Logical => Err(no_such_name(*name)),
+        }
     }
 
     /// The job's open of that name, and its file.
@@ -73,16 +78,18 @@ impl Contents {
         ensures found { FindsOpen result (opened_file name.now job (memory_of self.now.state)) }
         ensures shows { IfOk result (λ its. open_named name.now job (memory_of self.now.state) ≡ Some its.opened.now.state) }
         ensures order { IfOk result (λ its. named name.now (orders_in job self.now) ≡ Some its.opened.now.order) }
-        ensures there { IfOk result (λ its. HasMember self.now.state its.opened.now.state.file its.file.now its.opened.now.state.member) }
+        ensures there { IfOk result (λ its. ReadsMember self.now.state its.file.now its.opened.now.state) }
+        ensures simple { IfOk result (λ its. IsSimple its.file.now.spec) }
         ensures reads { IfOk result (λ its. ReadsAs self.now its.opened.now its.file.now) }
         ensures alone { IfOk result (λ its. AllOfNumber its.opened.now.state.number (λ order. order ≡ its.opened.now.order) (orders_in job self.now)) }
     {
         // The file of each open is there, and has its member. Each open stands beside how it reads.
         let _jobs = self.jobs.len();
+        let _files = self.catalogue.len();
         let opened = self.opened(job, name)?;
         let file = self.file(&opened.file())?;
-        // It is a physical file.
-        let _format = file.format();
+        // It is over one member, and has one format.
+        let _only = opened.only_member();
         Ok(OpenFound { opened, file })
     }
 

@@ -1,26 +1,34 @@
 //! Slots that a range of the journal gives to a member: they are put one after the other, and all paths over the member follow.
-ghost use Rattle.std.specs.Prelude.{◌≡◌, ◌+◌, ◌<◌, ◌≤◌, [], ◌∷◌, length, IsSome, IfOk, OnErr, OnOk};
+ghost use Rattle.std.specs.Prelude.{◌≡◌, ℕ, ◌+◌, ◌<◌, ◌≤◌, List, [], ◌∷◌, length, Some, IsSome, IfOk, OnErr, OnOk, slice_get};
 ghost use Rattle.std.specs.List.{AllByRecursion};
 ghost use Rattle.member_slots.specs.Members.{member_at, member_of, spare_at};
 ghost use Rattle.range_images.specs.Given.{given_slots};
-ghost use Rattle.library_steps.specs.State.{memory_of};
-ghost use Rattle.library_steps.specs.UniqueKeys.{all_apart, unique_paths};
-ghost use Rattle.library_parts.specs.Answers.{Allows};
-ghost use Rattle.library_parts.specs.Given.{AreMovesOfAll, CanTake, HasRoomFor, MayGive, members_given, repeated_key, with_given};
-ghost use Rattle.library_parts.specs.Indexed.{HasBytes};
+ghost use Rattle.logical_model.specs.Bases.{LogicalFile};
+ghost use Rattle.library_model.specs.Named.{Named};
+ghost use Rattle.library_steps.specs.State.{Memory, FileState, MemberStatus, memory_of};
+ghost use Rattle.library_steps.specs.UniqueKeys.{all_apart, has_member, own_unique, unique_paths, uniques_by, view_unique};
+ghost use Rattle.library_parts.specs.Answers.{MayAllow};
+ghost use Rattle.library_parts.specs.Given.{AreMovesOfAll, AreTold, CanTake, HasRoomFor, IsTold, MayGive, members_given, unique_of, with_given};
+ghost use Rattle.library_parts.specs.Indexed.{AreViews, HasBytes, IsSimple};
 
+use crate::bases::LibraryBases;
 use crate::contents::Contents;
 use crate::members::{changes_with, of_bytes, weight};
 use crate::stop::Stop;
-use file_catalogue::Catalogue;
+use dds_logical::views::LogicalSpec;
+use field_types::names::Name;
+use file_catalogue::{Catalogue, Described, File, FileBody};
+use file_model::paths::PathSpec;
 use given_changes::image_changes;
 use library_model::replies::Reply;
+use logical_paths::paths::own_path;
+use member_paths::member_path;
 use member_slots::members::Members;
 use member_slots::slot::Slot;
 use path_set::moves::Moves;
 use path_set::set::PathSet;
 use range_images::SlotGiven;
-use std::alloc::AllocError;
+use std::alloc::{AllocError, Global};
 
 impl Contents {
     /// The moves that giving these slots to the member makes in all paths, with memory for them and for taking them back. Nothing is
@@ -43,7 +51,8 @@ impl Contents {
         self.paths.prepare_all(member, changes.as_slice(), held)
     }
 
-    /// Gives the slots to the member, unless two records would have one key then that may not. It takes no memory.
+    /// Gives the slots to the member, unless two records would have one key then that may not. It looks at every file, and builds the
+    /// unique paths over the member once more to find them.
     pub fn give_slots(
         &mut self,
         member: u32,
@@ -53,7 +62,7 @@ impl Contents {
         requires may { MayGive self.old.state member given.items }
         requires room { HasRoomFor self.old.state self.old.room member given.items }
         requires moves { AreMovesOfAll self.old member given.items moves }
-        ensures apart { Allows result (all_apart (unique_paths member (memory_of self.old.state)) (with_given member given.items (memory_of self.old.state))) }
+        ensures apart { MayAllow result (all_apart (unique_paths member (memory_of self.old.state)) (with_given member given.items (memory_of self.old.state))) }
         ensures memory { OnOk result (memory_of self.new.state ≡ with_given member given.items (memory_of self.old.state)) }
         ensures refused { OnErr result (self.new.state ≡ self.old.state) }
         ensures entries { self.new.state.entries ≡ self.old.state.entries }
@@ -65,12 +74,12 @@ impl Contents {
         are_of_bytes(given.as_slice());
         let before = weight(&self.members, member);
         let back = self.paths.change(moves);
-        match repeated_key(&self.catalogue, &self.paths, member) {
-            Some(reply) => {
+        match keys_apart(self.alloc, &self.catalogue, &self.paths, member) {
+            Err(stop) => {
                 let _moves = self.paths.change_back(back);
-                Err(Stop::Refused(reply))
+                Err(stop)
             }
-            None => {
+            Ok(()) => {
                 put_all(&mut self.members, member, given);
                 let after = weight(&self.members, member);
                 self.member_bytes = self.member_bytes - before + after;
@@ -80,21 +89,111 @@ impl Contents {
     }
 }
 
-/// The refusal where the one path over the member has equal keys and may have none.
-fn repeated_key(catalogue: &Catalogue, paths: &PathSet, member: u32) -> Option<Reply>
-    ensures { result ≡ repeated_key member catalogue.now.files paths.now.paths }
+/// The refusal where a unique path over the member has equal keys; the first by the order in which the files were made.
+fn keys_apart(
+    alloc: Global,
+    catalogue: &Catalogue,
+    paths: &PathSet,
+    member: u32,
+) -> Result<(), Stop>
+    ensures { (m later : Memory) → m.files ≡ catalogue.now.files → AreViews catalogue.now.files → AreTold member m later.members paths.now.paths → MayAllow result (all_apart (unique_paths member m) later) }
 {
-    let name = catalogue.owner(member)?;
-    let file = catalogue.named(&name)?;
-    if !file.keys().unique {
-        return None;
+    for place in 0..catalogue.len() {
+        file_apart(alloc, catalogue, paths, member, place)?;
     }
-    let id = paths.first_over(member)?;
-    let repeated = paths.repeated_among(&[id])?;
-    Some(Reply::DuplicateKey {
-        file: name,
-        rrn: repeated.rrn,
-    })
+    Ok(())
+}
+
+/// The refusal of the file at a place in the order of creation, counted from 0.
+fn file_apart(
+    alloc: Global,
+    catalogue: &Catalogue,
+    paths: &PathSet,
+    member: u32,
+    place: usize,
+) -> Result<(), Stop>
+    ensures { (m later : Memory) (entry : List ℕ × FileState) → m.files ≡ catalogue.now.files → slice_get catalogue.now.files place ≡ Some entry → IsSimple entry.1.spec
+        → AllByRecursion (IsTold later.members paths.now.paths) (uniques_by entry.1.spec m member entry) → MayAllow result (all_apart (uniques_by entry.1.spec m member entry) later) }
+{
+    let Some((name, file)) = catalogue.at(place) else {
+        return Ok(());
+    };
+    match unique_path(alloc, catalogue, member, file)? {
+        Some(path) => path_apart(paths, *name, &path),
+        None => Ok(()),
+    }
+}
+
+/// The refusal where the path of this specification has equal keys.
+fn path_apart(paths: &PathSet, file: Name, spec: &PathSpec) -> Result<(), Stop>
+    ensures { (later : Memory) → IsTold later.members paths.now.paths (record { file = file; path = spec.now }) → MayAllow result (all_apart (record { file = file; path = spec.now } ∷ []) later) }
+{
+    let Some(id) = paths.number_of(spec) else {
+        return Ok(());
+    };
+    match paths.repeated_among(&[id]) {
+        Some(repeated) => Err(Stop::Refused(Reply::DuplicateKey {
+            file,
+            rrn: repeated.rrn,
+        })),
+        None => Ok(()),
+    }
+}
+
+/// The path of a file over the member in which no two records may have one key, where it has such a path.
+fn unique_path(
+    alloc: Global,
+    catalogue: &Catalogue,
+    member: u32,
+    file: &File,
+) -> Result<Option<PathSpec>, AllocError>
+    ensures { IfOk result (λ path. (m : Memory) (name : List ℕ) → m.files ≡ catalogue.now.files → IsSimple file.now.spec → uniques_by file.now.spec m member (name, file.now) ≡ unique_of name path) }
+{
+    match file.described() {
+        FileBody::Physical(described) => {
+            own_unique(alloc, described, member, file.numbered(member).is_some())
+        }
+        FileBody::Logical(view) => view_unique(alloc, catalogue, member, view.spec()),
+    }
+}
+
+/// That of a physical file, where the member is one of its own.
+fn own_unique(
+    alloc: Global,
+    described: &Described,
+    member: u32,
+    is_own: bool,
+) -> Result<Option<PathSpec>, AllocError>
+    ensures { IfOk result (λ path. (name : List ℕ) (members : Named MemberStatus) → has_member member members ≡ is_own → own_unique name member described.now.spec members ≡ unique_of name path) }
+{
+    if described.keys().unique && is_own {
+        let path = member_path(alloc, member, described.format(), described.keys())?;
+        Ok(Some(path))
+    } else {
+        Ok(None)
+    }
+}
+
+/// That of a logical file, where it is over the member.
+fn view_unique(
+    alloc: Global,
+    catalogue: &Catalogue,
+    member: u32,
+    spec: &LogicalSpec,
+) -> Result<Option<PathSpec>, AllocError>
+    ensures { IfOk result (λ path. (m : Memory) (name : List ℕ) → m.files ≡ catalogue.now.files → IsSimple (LogicalFile spec.now) → view_unique m name member spec.now ≡ unique_of name path) }
+{
+    let LogicalSpec::Simple(view) = spec else {
+        return Ok(None);
+    };
+    let (base, _) = catalogue.base_of(&view.base);
+    if view.keys.unique && base == member {
+        let bases = LibraryBases { files: catalogue };
+        let path = own_path(alloc, &bases, spec)?;
+        Ok(Some(path))
+    } else {
+        Ok(None)
+    }
 }
 
 /// Puts each slot at its place; one behind the last is added. It takes no memory.

@@ -1,37 +1,54 @@
 //! Whether a record may have its keys: those that open commit cycles keep to themselves, and those of other records.
-ghost use Rattle.std.specs.Prelude.{◌≡◌, ℕ, ◌+◌, ◌<◌, ◌∷◌, Some, List, length, drop, IfOk, IfSome, IsSome, IsTrue, option_map};
-ghost use Rattle.key_order.specs.KeyFields.{HasKey};
+ghost use Rattle.std.specs.Prelude.{◌≡◌, ℕ, ◌+◌, ◌<◌, ◌∷◌, true, List, length, drop, IfOk, IsSome, IsTrue, option_map};
+ghost use Rattle.file_model.specs.declared.paths.PathFormat.{PathFormat};
+ghost use Rattle.file_model.specs.KeyOrder.{KeyValue};
+ghost use Rattle.file_model.specs.Paths.{clash};
+ghost use Rattle.library_model.specs.declared.replies.Reply.TheVariants.{DuplicateKey};
+ghost use Rattle.library_steps.specs.Refusals.{refuse_with};
 ghost use Rattle.journal_model.specs.Rollback.{MemberChange};
-ghost use Rattle.file_catalogue.specs.Owners.{owner};
-ghost use Rattle.path_set.specs.EqualKeys.{clash_in};
-ghost use Rattle.library_parts.specs.NewKeys.{AllHaveKeysBefore, HasKeyBefore, HasPathOver, HaveKeysBefore, first_reserved, is_key_of_slot, is_same_key, keys_kept, keys_repeated, least_of, least_reserved, lesser_of, new_key_plan, own_kept, reservation_of, taken, takes};
+ghost use Rattle.logical_model.specs.FilePaths.{is_over};
+ghost use Rattle.path_entrants.specs.Formats.{IsAskable};
+ghost use Rattle.library_parts.specs.NewKeys.{AllAreAskedBefore, AreAskedBefore, AreFreeIn, IsAskedBefore, IsFormatAt, IsKeyAt, IsNewFor, IsUniquePathOf, ShowsKey, first_reserved, keys_kept, keys_tested, least_of, least_reserved, lesser_of, own_reserved, reservation_of, taken, tested};
 ghost use Rattle.member_slots.specs.declared.slot.Slot.TheVariants.{Live};
-ghost use Rattle.member_slots.specs.Member.{FitsSlot, slot_at};
+ghost use Rattle.member_slots.specs.Member.{FitsSlot};
 ghost use Rattle.member_slots.specs.Members.{member_at, member_of};
-ghost use Rattle.library_steps.specs.Records.{live_record, slot_there};
+ghost use Rattle.library_model.specs.Named.{named};
+ghost use Rattle.library_steps.specs.Records.{slot_there};
 ghost use Rattle.library_steps.specs.Uses.{changes_in};
 ghost use Rattle.library_steps.specs.History.{is_running};
 ghost use Rattle.library_steps.specs.State.{memory_of, job_at, job_of};
-ghost use Rattle.library_steps.specs.UniqueKeys.{keys_free};
-ghost use Rattle.library_parts.specs.Answers.{Allows, MayAllow};
+ghost use Rattle.library_steps.specs.UniqueKeys.{has_key, if_new, key_in, key_of_slot, keys_free, takes_key};
+ghost use Rattle.library_parts.specs.Answers.{MayAllow};
 ghost use Rattle.library_parts.specs.Slots.{MayStand};
 
 use crate::contents::Contents;
 use crate::stop::Stop;
 use crate::texts::are_bytes;
 use field_types::names::Name;
+use file_catalogue::{File, FileBody};
+use file_model::paths::PathSpec;
 use job_table::{Undo, Undos};
-use key_order::comparing::compare;
-use key_spec::KeyPart;
+use key_pages::Key;
 use library_model::replies::Reply;
+use member_paths::member_path;
 use member_slots::slot::Slot;
 use std::alloc::AllocError;
 
-/// A record that is to have a key of a file.
+/// A key that comes into a unique path over a member.
+#[derive(Clone, Copy)]
+struct NewKey<'a> {
+    path: u64,
+    member: u32,
+    key: &'a [u8],
+}
+
+/// A record that is to have a key in the place of the slot with that number, by the call of a job.
 #[derive(Clone, Copy)]
 struct NewRecord<'a> {
+    job: u32,
+    commit: bool,
     member: u32,
-    parts: &'a [KeyPart],
+    rrn: u32,
     image: &'a [u8],
 }
 
@@ -42,75 +59,17 @@ pub struct Reservation {
     rrn: u32,
 }
 
-impl NewRecord<'_> {
-    /// Whether the other image has the key that the record would have.
-    fn has_key(&self, image: &[u8]) -> bool
-        requires mine { HasKey self.now.parts.now self.now.image.now }
-        requires other { HasKey self.now.parts.now image.now }
-        ensures { result ≡ is_same_key self.now.parts.now self.now.image.now image.now }
-    {
-        compare(self.parts, image, self.image).is_eq()
-    }
-
-    /// Whether the change took a record of the member with this key away.
-    fn is_taken_by(&self, undo: &Undo) -> bool
-        requires mine { HasKey self.now.parts.now self.now.image.now }
-        requires other { HasKeyBefore self.now.parts.now self.now.member undo.now.change }
-        ensures { result ≡ takes self.now.parts.now self.now.member self.now.image.now undo.now.change }
-    {
-        if undo.member() != self.member {
-            return false;
-        }
-        match undo.before() {
-            Slot::Live(image) => self.has_key(image.as_bytes()),
-            Slot::Deleted => false,
-        }
-    }
-
-    /// The least record with this key that one of the changes took away.
-    fn least_taken(&self, undos: &Undos) -> Option<u32>
-        requires mine { HasKey self.now.parts.now self.now.image.now }
-        requires each { HaveKeysBefore self.now.parts.now self.now.member undos.now.changes }
-        ensures { result ≡ least_of (taken self.now.parts.now self.now.member self.now.image.now undos.now.changes) }
-    {
-        let mut least = None;
-        let mut left = undos.len();
-        while left > 0 {
-            left -= 1;
-            let undo = undos.get(left).unwrap();
-            least = self.with_taken(undo, least);
-        }
-        least
-    }
-
-    /// The lesser of a record that was taken away by the change and of another.
-    fn with_taken(&self, undo: &Undo, least: Option<u32>) -> Option<u32>
-        requires mine { HasKey self.now.parts.now self.now.image.now }
-        requires other { HasKeyBefore self.now.parts.now self.now.member undo.now.change }
-        ensures { (more : List MemberChange) → least ≡ least_of (taken self.now.parts.now self.now.member self.now.image.now more)
-            → result ≡ least_of (taken self.now.parts.now self.now.member self.now.image.now (undo.now.change ∷ more)) }
-    {
-        if self.is_taken_by(undo) {
-            lesser(undo.rrn(), least)
-        } else {
-            least
-        }
-    }
-}
-
-/// The lesser of both, where there is another.
-fn lesser(rrn: u32, other: Option<u32>) -> Option<u32>
-    ensures { result ≡ lesser_of rrn other }
-{
-    match other {
-        Some(other) => { if other < rrn { Some(other) } else { Some(rrn) } }
-        None => Some(rrn),
-    }
+/// Whether the keys that come into unique paths are kept by open commit cycles, or those of other records.
+#[derive(Clone, Copy, PartialEq)]
+enum Test {
+    Reserved,
+    Repeated,
 }
 
 impl Contents {
     /// The refusal where a key that the image would have, in the place of the slot with that number, is another's: kept by an open
-    /// commit cycle, or that of another record. It goes over the changes of all open commit cycles.
+    /// commit cycle, or that of another record. It goes over the changes of all open commit cycles, and over the files only where it
+    /// refuses.
     pub fn keys_free(
         &self,
         job: u32,
@@ -125,181 +84,312 @@ impl Contents {
         requires values { MayStand self.now.state member (Live image.now) }
         ensures { MayAllow result (keys_free job commit member rrn (slot_there member rrn (memory_of self.now.state)) image.now (memory_of self.now.state)) }
     {
-        // All files are physical ones.
-        let _files = self.catalogue.len();
-        match self.catalogue.owner(member) {
-            Some(name) => self.keys_free_in(name, job, commit, member, rrn, image),
-            None => Ok(()),
-        }
-    }
-
-    /// The same in the file of that name, which has the member.
-    fn keys_free_in(
-        &self,
-        name: Name,
-        job: u32,
-        commit: bool,
-        member: u32,
-        rrn: u32,
-        image: &[u8],
-    ) -> Result<(), Stop>
-        requires running { IsTrue (is_running (job_at job self.now.state.jobs)) }
-        requires owner { owner member self.now.state.files ≡ Some name }
-        requires there { IsSome (member_at member self.now.state.members) }
-        requires fits { FitsSlot (member_of member self.now.state.members).record_length (Live image.now) }
-        requires values { MayStand self.now.state member (Live image.now) }
-        ensures { MayAllow result (keys_free job commit member rrn (slot_there member rrn (memory_of self.now.state)) image.now (memory_of self.now.state)) }
-    {
-        // The key of each file is by its fields, and the path over each member of a file with a key is kept.
-        let _files = self.catalogue.len();
-        let _paths = self.paths.kept();
-        let _member = self.members.at(member);
         are_bytes(image);
-        let file = self.catalogue.named(&name).unwrap();
-        let _format = file.format();
-        let keys = file.keys();
-        if keys.unique {
-            let new = NewRecord {
-                member,
-                parts: keys.parts.as_slice(),
-                image,
-            };
-            self.new_key_free(name, job, commit, &new, rrn)
-        } else {
-            Ok(())
+        let new = NewRecord {
+            job,
+            commit,
+            member,
+            rrn,
+            image,
+        };
+        if self.has_free_keys(new)? {
+            return Ok(());
         }
+        self.all_free(new, Test::Reserved)?;
+        self.all_free(new, Test::Repeated)
     }
 
-    /// The refusal of a key in the one path over the member, which may have no equal keys.
-    fn new_key_free(
-        &self,
-        name: Name,
-        job: u32,
-        commit: bool,
-        new: &NewRecord<'_>,
-        rrn: u32,
-    ) -> Result<(), Stop>
-        requires running { IsTrue (is_running (job_at job self.now.state.jobs)) }
-        requires mine { HasKey new.now.parts.now new.now.image.now }
-        requires other { IfSome (live_record new.now.member rrn (memory_of self.now.state)) (λ image. HasKey new.now.parts.now image) }
-        requires each { AllHaveKeysBefore new.now.parts.now new.now.member self.now.state.jobs }
-        requires path { HasPathOver new.now.member new.now.image.now self.now.room.paths.paths }
-        ensures { (over : HasPathOver new.now.member new.now.image.now self.now.room.paths.paths) → MayAllow result (new_key_plan new.now.parts.now new.now.member new.now.image.now job commit (changes_in (job_of job (memory_of self.now.state)).cycle) self.now.state.jobs (slot_at (member_of new.now.member self.now.state.members) rrn) name rrn over.path.item) }
+    /// Whether none of its new keys in the unique paths over its member is kept or another's.
+    fn has_free_keys(&self, new: NewRecord<'_>) -> Result<bool, AllocError>
+        requires running { IsTrue (is_running (job_at new.job self.now.state.jobs)) }
+        requires asked { IsNewFor self.now new.member new.rrn new.image.now }
+        ensures { IfOk result (λ free. IsTrue free → (id : ℕ) (format : PathFormat) (over : IsFormatAt id new.entry.member format self.now.room.paths.paths) → over.path.spec.unique ≡ true
+            → AreFreeIn (memory_of self.now.state) new.entry.job new.entry.commit new.entry.member new.entry.rrn new.entry.image.now format) }
     {
-        if self.has_key_there(new, rrn) {
-            Ok(())
-        } else {
-            match self.not_reserved(job, commit, new) {
-                Ok(()) => self.not_repeated(name, new, rrn),
-                Err(stop) => Err(stop),
+        let mut path = self.paths.unique_over(new.member, None);
+        while let Some(id) = path {
+            if !self.is_free_in(id, new)? {
+                return Ok(false);
+            }
+            path = self.paths.unique_over(new.member, Some(id));
+        }
+        Ok(true)
+    }
+
+    /// The same in one of these paths.
+    fn is_free_in(&self, id: u64, new: NewRecord<'_>) -> Result<bool, AllocError>
+        requires running { IsTrue (is_running (job_at new.job self.now.state.jobs)) }
+        requires asked { IsNewFor self.now new.member new.rrn new.image.now }
+        requires path { (format : PathFormat) × IsFormatAt id new.member format self.now.room.paths.paths }
+        ensures { IfOk result (λ free. IsTrue free → (format : PathFormat) → IsFormatAt id new.entry.member format self.now.room.paths.paths
+            → AreFreeIn (memory_of self.now.state) new.entry.job new.entry.commit new.entry.member new.entry.rrn new.entry.image.now format) }
+    {
+        let Some(key) = self.new_key(id, new)? else {
+            return Ok(true);
+        };
+        let its = NewKey {
+            path: id,
+            member: new.member,
+            key: key.as_bytes(),
+        };
+        if self.reservation_of_others(new.job, its)?.is_some() {
+            return Ok(false);
+        }
+        if self.own_reservation(new, its)?.is_some() {
+            return Ok(false);
+        }
+        let other = self.paths.clash(id, 0, new.image, new.rrn)?;
+        Ok(other.is_none())
+    }
+
+    /// The first refusal of this kind, by the order in which the files were made.
+    fn all_free(&self, new: NewRecord<'_>, test: Test) -> Result<(), Stop>
+        requires running { IsTrue (is_running (job_at new.job self.now.state.jobs)) }
+        requires asked { IsNewFor self.now new.member new.rrn new.image.now }
+        ensures { MayAllow result (keys_tested test new.entry.job new.entry.commit new.entry.member new.entry.rrn new.entry.image.now (memory_of self.now.state)) }
+    {
+        for (name, file) in self.catalogue.iter() {
+            if let Some(id) = self.unique_path_of(file, new.member)? {
+                self.free_in_file(*name, id, new, test)?;
+            }
+        }
+        Ok(())
+    }
+
+    /// The number of a file's unique path, where it has one over the member.
+    fn unique_path_of(&self, file: &File, member: u32) -> Result<Option<u64>, AllocError>
+        requires { (name : List ℕ) × (named name self.now.state.files ≡ Some file.now) }
+        ensures { (name : List ℕ) → named name self.now.state.files ≡ Some file.now → IfOk result (IsUniquePathOf (memory_of self.now.state) self.now.room.paths.paths member (name, file.now)) }
+    {
+        match file.described() {
+            FileBody::Physical(described) => {
+                if !described.keys().unique || file.numbered(member).is_none() {
+                    return Ok(None);
+                }
+                let spec = member_path(self.alloc, member, described.format(), described.keys())?;
+                Ok(self.paths.number_of(&spec))
+            }
+            FileBody::Logical(view) => {
+                let spec = self.own_path(view.spec())?;
+                if !spec.unique || !is_over(&spec, member) {
+                    return Ok(None);
+                }
+                Ok(self.paths.number_of(&spec))
             }
         }
     }
 
-    /// Whether the record at the place has the key already.
-    fn has_key_there(&self, new: &NewRecord<'_>, rrn: u32) -> bool
-        requires mine { HasKey new.now.parts.now new.now.image.now }
-        requires other { IfSome (live_record new.now.member rrn (memory_of self.now.state)) (λ image. HasKey new.now.parts.now image) }
-        ensures { result ≡ is_key_of_slot new.now.parts.now new.now.image.now (slot_at (member_of new.now.member self.now.state.members) rrn) }
+    /// The refusal of this kind in the path of a file.
+    fn free_in_file(&self, file: Name, id: u64, new: NewRecord<'_>, test: Test) -> Result<(), Stop>
+        requires running { IsTrue (is_running (job_at new.job self.now.state.jobs)) }
+        requires asked { IsNewFor self.now new.member new.rrn new.image.now }
+        requires path { (format : PathFormat) × IsFormatAt id new.member format self.now.room.paths.paths }
+        ensures { (format : PathFormat) → IsFormatAt id new.entry.member format self.now.room.paths.paths → MayAllow result (tested test file (memory_of self.now.state) new.entry.job new.entry.commit new.entry.member new.entry.rrn new.entry.image.now format) }
     {
-        match self.live_image(new.member, rrn) {
-            Some(image) => new.has_key(image),
-            None => false,
+        let Some(key) = self.new_key(id, new)? else {
+            return Ok(());
+        };
+        let its = NewKey {
+            path: id,
+            member: new.member,
+            key: key.as_bytes(),
+        };
+        match test {
+            Test::Reserved => self.not_reserved(new, its),
+            Test::Repeated => self.not_repeated(file, id, new),
+        }
+    }
+
+    /// The key that comes into the path: that of the image, where it is selected and the record at the place hasn't the same.
+    fn new_key(&self, id: u64, new: NewRecord<'_>) -> Result<Option<Key>, AllocError>
+        requires asked { IsNewFor self.now new.member new.rrn new.image.now }
+        requires path { (format : PathFormat) × IsFormatAt id new.member format self.now.room.paths.paths }
+        ensures { IfOk result (λ key. (format : PathFormat) → IsFormatAt id new.entry.member format self.now.room.paths.paths
+            → ShowsKey format new.entry.image.now key (if_new (key_of_slot format (slot_there new.entry.member new.entry.rrn (memory_of self.now.state))) (key_in format new.entry.image.now))) }
+    {
+        let Some(key) = self.paths.key(self.alloc, id, 0, new.image)? else {
+            return Ok(None);
+        };
+        let Some(old) = self.live_image(new.member, new.rrn) else {
+            return Ok(Some(key));
+        };
+        if self.has_key(id, old, key.as_bytes())? {
+            Ok(None)
+        } else {
+            Ok(Some(key))
+        }
+    }
+
+    /// Whether the image has that key in the path.
+    fn has_key(&self, id: u64, image: &[u8], key: &[u8]) -> Result<bool, AllocError>
+        requires { (member : ℕ) × (format : PathFormat) × IsFormatAt id member format self.now.room.paths.paths × IsAskable format image.now }
+        ensures { IfOk result (λ same. (member : ℕ) (format : PathFormat) (values : List KeyValue) → IsKeyAt id member key.now format values self.now.room.paths.paths → same ≡ has_key (key_in format image.now) values) }
+    {
+        are_bytes(image);
+        match self.paths.key(self.alloc, id, 0, image)? {
+            Some(other) => Ok(other.as_bytes() == key),
+            None => Ok(false),
+        }
+    }
+
+    /// Whether the change took a record of the member with that key away.
+    fn is_taken_by(&self, its: NewKey<'_>, undo: &Undo) -> Result<bool, AllocError>
+        requires { (format : PathFormat) × IsFormatAt its.path its.member format self.now.room.paths.paths × IsAskedBefore format its.member undo.now.change }
+        ensures { IfOk result (λ taken. (format : PathFormat) (key : List KeyValue) → IsKeyAt its.entry.path its.entry.member its.entry.key.now format key self.now.room.paths.paths → taken ≡ takes_key format key undo.now.change) }
+    {
+        if undo.member() != its.member {
+            return Ok(false);
+        }
+        match undo.before() {
+            Slot::Live(image) => self.has_key(its.path, image.as_bytes(), its.key),
+            Slot::Deleted => Ok(false),
+        }
+    }
+
+    /// The least record with that key that one of the changes took away.
+    fn least_taken(&self, its: NewKey<'_>, undos: &Undos) -> Result<Option<u32>, AllocError>
+        requires { (format : PathFormat) × IsFormatAt its.path its.member format self.now.room.paths.paths × AreAskedBefore format its.member undos.now.changes }
+        ensures { IfOk result (λ least. (format : PathFormat) (key : List KeyValue) → IsKeyAt its.entry.path its.entry.member its.entry.key.now format key self.now.room.paths.paths → least ≡ least_of (taken format key undos.now.changes)) }
+    {
+        let mut least = None;
+        let mut left = undos.len();
+        while left > 0 {
+            left -= 1;
+            let undo = undos.get(left).unwrap();
+            least = self.with_taken(its, undo, least)?;
+        }
+        Ok(least)
+    }
+
+    /// The lesser of a record that was taken away by the change and of another.
+    fn with_taken(
+        &self,
+        its: NewKey<'_>,
+        undo: &Undo,
+        least: Option<u32>,
+    ) -> Result<Option<u32>, AllocError>
+        requires { (format : PathFormat) × IsFormatAt its.path its.member format self.now.room.paths.paths × IsAskedBefore format its.member undo.now.change }
+        ensures { IfOk result (λ new. (format : PathFormat) (key : List KeyValue) (more : List MemberChange) → IsKeyAt its.entry.path its.entry.member its.entry.key.now format key self.now.room.paths.paths
+            → least ≡ least_of (taken format key more) → new ≡ least_of (taken format key (undo.now.change ∷ more))) }
+    {
+        if self.is_taken_by(its, undo)? {
+            Ok(lesser(undo.rrn(), least))
+        } else {
+            Ok(least)
         }
     }
 
     /// The refusal where an open commit cycle keeps the key to itself; that of the job itself is no hindrance under commitment.
-    fn not_reserved(&self, job: u32, commit: bool, new: &NewRecord<'_>) -> Result<(), Stop>
-        requires running { IsTrue (is_running (job_at job self.now.state.jobs)) }
-        requires mine { HasKey new.now.parts.now new.now.image.now }
-        requires each { AllHaveKeysBefore new.now.parts.now new.now.member self.now.state.jobs }
-        ensures { Allows result (keys_kept new.now.parts.now new.now.member new.now.image.now job commit (changes_in (job_of job (memory_of self.now.state)).cycle) self.now.state.jobs) }
+    fn not_reserved(&self, new: NewRecord<'_>, its: NewKey<'_>) -> Result<(), Stop>
+        requires running { IsTrue (is_running (job_at new.job self.now.state.jobs)) }
+        requires path { (format : PathFormat) × IsFormatAt its.path its.member format self.now.room.paths.paths × AllAreAskedBefore format its.member self.now.state.jobs }
+        ensures { (format : PathFormat) (key : List KeyValue) → IsKeyAt its.entry.path its.entry.member its.entry.key.now format key self.now.room.paths.paths
+            → MayAllow result (keys_kept format key new.entry.job new.entry.commit (changes_in (job_of new.entry.job (memory_of self.now.state)).cycle) self.now.state.jobs) }
     {
-        match self.reservation_of_others(job, new) {
-            Some(other) => Err(Stop::Refused(Reply::RecordInUse {
+        if let Some(other) = self.reservation_of_others(new.job, its)? {
+            return Err(Stop::Refused(Reply::RecordInUse {
                 job: other.job,
-                member: new.member,
+                member: its.member,
                 rrn: other.rrn,
-            })),
-            None => self.not_reserved_here(job, commit, new),
+            }));
+        }
+        match self.own_reservation(new, its)? {
+            Some(rrn) => Err(Stop::Refused(Reply::HeldByGroup { rrn })),
+            None => Ok(()),
         }
     }
 
-    /// The same of the job's own open commit cycle.
-    fn not_reserved_here(&self, job: u32, commit: bool, new: &NewRecord<'_>) -> Result<(), Stop>
-        requires running { IsTrue (is_running (job_at job self.now.state.jobs)) }
-        requires mine { HasKey new.now.parts.now new.now.image.now }
-        requires each { AllHaveKeysBefore new.now.parts.now new.now.member self.now.state.jobs }
-        ensures { Allows result (own_kept new.now.parts.now new.now.member new.now.image.now commit (changes_in (job_of job (memory_of self.now.state)).cycle)) }
+    /// The least record with the key that the job's own open commit cycle took away, where the job writes outside it.
+    fn own_reservation(
+        &self,
+        new: NewRecord<'_>,
+        its: NewKey<'_>,
+    ) -> Result<Option<u32>, AllocError>
+        requires running { IsTrue (is_running (job_at new.job self.now.state.jobs)) }
+        requires path { (format : PathFormat) × IsFormatAt its.path its.member format self.now.room.paths.paths × AllAreAskedBefore format its.member self.now.state.jobs }
+        ensures { IfOk result (λ rrn. (format : PathFormat) (key : List KeyValue) → IsKeyAt its.entry.path its.entry.member its.entry.key.now format key self.now.room.paths.paths
+            → rrn ≡ own_reserved new.entry.commit (least_of (taken format key (changes_in (job_of new.entry.job (memory_of self.now.state)).cycle)))) }
     {
-        if commit {
-            Ok(())
+        if new.commit {
+            Ok(None)
         } else {
-            match new.least_taken(self.jobs.undos(job)) {
-                Some(rrn) => Err(Stop::Refused(Reply::HeldByGroup { rrn })),
-                None => Ok(()),
-            }
+            self.least_taken(its, self.jobs.undos(new.job))
         }
     }
 
     /// The least record with the key that another job's open commit cycle took away. It goes over all jobs.
-    fn reservation_of_others(&self, job: u32, new: &NewRecord<'_>) -> Option<Reservation>
-        requires mine { HasKey new.now.parts.now new.now.image.now }
-        requires each { AllHaveKeysBefore new.now.parts.now new.now.member self.now.state.jobs }
-        ensures { option_map reservation_of result ≡ least_reserved new.now.parts.now new.now.member new.now.image.now job 1 self.now.state.jobs }
+    fn reservation_of_others(
+        &self,
+        job: u32,
+        its: NewKey<'_>,
+    ) -> Result<Option<Reservation>, AllocError>
+        requires path { (format : PathFormat) × IsFormatAt its.path its.member format self.now.room.paths.paths × AllAreAskedBefore format its.member self.now.state.jobs }
+        ensures { IfOk result (λ least. (format : PathFormat) (key : List KeyValue) → IsKeyAt its.entry.path its.entry.member its.entry.key.now format key self.now.room.paths.paths
+            → option_map reservation_of least ≡ least_reserved format key job 1 self.now.state.jobs) }
     {
         let mut least = None;
         let mut left = self.jobs.len();
         while left > 0 {
             left -= 1;
-            least = self.reserved_from(job, new, left, least);
+            least = self.reserved_from(job, its, left, least)?;
         }
-        least
+        Ok(least)
     }
 
     /// The reservation of the job at a place, counted from 0, and of those behind it, where `rest` is that of those behind it.
     fn reserved_from(
         &self,
         job: u32,
-        new: &NewRecord<'_>,
+        its: NewKey<'_>,
         place: usize,
         rest: Option<Reservation>,
-    ) -> Option<Reservation>
-        requires mine { HasKey new.now.parts.now new.now.image.now }
-        requires each { AllHaveKeysBefore new.now.parts.now new.now.member self.now.state.jobs }
+    ) -> Result<Option<Reservation>, AllocError>
+        requires path { (format : PathFormat) × IsFormatAt its.path its.member format self.now.room.paths.paths × AllAreAskedBefore format its.member self.now.state.jobs }
         requires place { place < length self.now.state.jobs }
-        ensures { (left : ℕ) → left ≡ place + 1
-            → option_map reservation_of rest ≡ least_reserved new.now.parts.now new.now.member new.now.image.now job (left + 1) (drop left self.now.state.jobs)
-            → option_map reservation_of result ≡ least_reserved new.now.parts.now new.now.member new.now.image.now job (place + 1) (drop place self.now.state.jobs) }
+        ensures { IfOk result (λ least. (format : PathFormat) (key : List KeyValue) (left : ℕ) → IsKeyAt its.entry.path its.entry.member its.entry.key.now format key self.now.room.paths.paths → left ≡ place + 1
+            → option_map reservation_of rest ≡ least_reserved format key job (left + 1) (drop left self.now.state.jobs)
+            → option_map reservation_of least ≡ least_reserved format key job (place + 1) (drop place self.now.state.jobs)) }
     {
         // There are no more jobs than can be counted.
         let _jobs = self.jobs.len();
         let number = place as u32 + 1;
         if number == job {
-            rest
-        } else {
-            first_of_both(number, new.least_taken(self.jobs.changes_of(place)), rest)
+            return Ok(rest);
         }
+        let own = self.least_taken(its, self.jobs.changes_of(place))?;
+        Ok(first_of_both(number, own, rest))
     }
 
     /// The refusal where another record has the key.
-    fn not_repeated(&self, file: Name, new: &NewRecord<'_>, rrn: u32) -> Result<(), Stop>
-        requires { HasPathOver new.now.member new.now.image.now self.now.room.paths.paths }
-        ensures { (over : HasPathOver new.now.member new.now.image.now self.now.room.paths.paths) → MayAllow result (keys_repeated file new.now.image.now rrn over.path.item) }
+    fn not_repeated(&self, file: Name, id: u64, new: NewRecord<'_>) -> Result<(), Stop>
+        requires { (format : PathFormat) × IsFormatAt id new.member format self.now.room.paths.paths × IsAskable format new.image.now }
+        ensures { (format : PathFormat) → IsFormatAt id new.entry.member format self.now.room.paths.paths
+            → MayAllow result (refuse_with (λ other. DuplicateKey file other) (clash format self.now.state.members new.entry.image.now new.entry.rrn)) }
     {
-        match self.clash_of(new, rrn)? {
-            Some(other) => Err(Stop::Refused(Reply::DuplicateKey { file, rrn: other })),
+        match self.paths.clash(id, 0, new.image, new.rrn)? {
+            Some(rrn) => Err(Stop::Refused(Reply::DuplicateKey { file, rrn })),
             None => Ok(()),
         }
     }
+}
 
-    /// The least other record that has the key.
-    fn clash_of(&self, new: &NewRecord<'_>, rrn: u32) -> Result<Option<u32>, AllocError>
-        requires { HasPathOver new.now.member new.now.image.now self.now.room.paths.paths }
-        ensures { (over : HasPathOver new.now.member new.now.image.now self.now.room.paths.paths) → IfOk result (λ other. other ≡ clash_in 0 new.now.image.now rrn over.path.item) }
-    {
-        let id = self.paths.first_over(new.member).unwrap();
-        self.paths.clash(id, 0, new.image, rrn)
+/// Whether the path has a format over the member.
+fn is_over(path: &PathSpec, member: u32) -> bool
+    ensures { result ≡ is_over member path.now }
+{
+    path.formats
+        .as_slice()
+        .iter()
+        .any(|format| format.member == member)
+}
+
+/// The lesser of both, where there is another.
+fn lesser(rrn: u32, other: Option<u32>) -> Option<u32>
+    ensures { result ≡ lesser_of rrn other }
+{
+    match other {
+        Some(other) => { if other < rrn { Some(other) } else { Some(rrn) } }
+        None => Some(rrn),
     }
 }
 

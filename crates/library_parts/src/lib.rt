@@ -1,6 +1,7 @@
 //! The memory of a library as one value over its parts, ready for the bodies of its requests. Begin with `contents.rt`.
 #![tactic(auto)]
 
+mod bases;
 mod boundaries;
 pub mod contents;
 mod cycles;

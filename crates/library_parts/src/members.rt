@@ -159,8 +159,9 @@ impl Contents {
         requires { IsSome (member_at member self.now.state.members) }
         ensures { IfOk result (AreRemade self.now member cleared) }
     {
-        // What holds of all files and members.
+        // What holds of all files, members and kept paths.
         let _files = self.catalogue.len();
+        let _kept = self.paths.kept();
         let _member = self.members.at(member);
         let empty = Member::new(self.alloc, self.record_length(member));
         self.paths.prepare_rebuild(&self.members, member, &empty, 0)
@@ -171,8 +172,9 @@ impl Contents {
         requires { IsSome (member_at member self.now.state.members) }
         ensures { IfOk result (AreRemade self.now member reorganized) }
     {
-        // What holds of all files.
+        // What holds of all files and kept paths.
         let _files = self.catalogue.len();
+        let _kept = self.paths.kept();
         let compact = without_deleted(self.alloc, self.members.at(member).unwrap())?;
         self.paths
             .prepare_rebuild(&self.members, member, &compact, 0)

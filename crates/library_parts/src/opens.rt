@@ -35,19 +35,17 @@ impl Contents {
         (self.jobs.open_count(job), self.jobs.opened(job))
     }
 
-    /// Opens a member for the job, which reads in that way.
+    /// Opens a file for the job over one member, which reads in that way.
     pub fn add_open(&mut self, job: u32, args: &OpenFile, member: u32, reads: OpenReads)
         requires running { IsTrue (is_running (job_at job self.old.state.jobs)) }
         requires few { length (job_of job (memory_of self.old.state)).opens < MOST_OPENS }
         requires numbered { (job_of job (memory_of self.old.state)).opened < LAST_OPEN }
-        requires there { OpensMember member (named args.now.file self.old.state.files) }
+        requires there { OpensMember self.old.state.files member (named args.now.file self.old.state.files) }
         requires reads { ReadsFor self.old args.now member reads }
         ensures memory { memory_of self.new.state ≡ with_job job (with_open args.now (member ∷ [])) (memory_of self.old.state) }
         ensures entries { self.new.state.entries ≡ self.old.state.entries }
         ensures room { self.new.room ≡ record self.old.room { orders = self.new.room.orders } }
     {
-        // All files are physical ones.
-        let _len = self.catalogue.len();
         self.jobs.add_open(job, args, member, reads);
     }
 

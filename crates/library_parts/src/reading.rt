@@ -22,18 +22,25 @@ ghost use Rattle.library_steps.specs.Refusals.{OpenedFile, opened_file};
 ghost use Rattle.library_steps.specs.State.{memory_of, job_at, open_named, with_job};
 ghost use Rattle.open_position.specs.OpenStand.{IsEntryIn};
 ghost use Rattle.open_position.specs.Reads.{IsAskedOf, IsStandAt, asked_of, entry_hit, side_of, stood};
-ghost use Rattle.library_parts.specs.Finds.{HasMember, OpensMember};
-ghost use Rattle.library_parts.specs.Reads.{CanNote, CanStand, CanStandIn, FindsEntry, GivesKey, HasKeyOf, IsAlongPath, IsInArrival, IsLookedIn, MayHaveKey, Stands, ReadsAmong, ReadsAs, ReadsFor, ReadsSo, formats_read, found_by, orders_in, stood_at};
+ghost use Rattle.library_steps.specs.LogicalFiles.{bases_in, bases_of};
+ghost use Rattle.logical_model.specs.Bases.{PhysicalFile};
+ghost use Rattle.logical_model.specs.Formats.{has_key};
+ghost use Rattle.logical_paths.specs.Steps.{own_path};
+ghost use Rattle.library_parts.specs.Indexed.{IsView, path_by};
+ghost use Rattle.library_parts.specs.Finds.{OpensMember, ReadsMember};
+ghost use Rattle.library_parts.specs.Reads.{CanNote, CanStand, CanStandIn, FindsEntry, GivesKey, HasKeyOf, IsAlongPath, IsInArrival, IsLookedIn, MayHaveKey, MayReadSo, Stands, ReadsAmong, ReadsAs, ReadsFor, ReadsNew, ReadsSo, formats_read, found_by, has_positions, orders_in, stood_at, IsNumberOf};
 
 use crate::contents::Contents;
 use crate::finds::OpenFound;
 use crate::stop::Stop;
 use crate::texts::are_of_bytes;
 use access_path::paths::Paths;
+use dds_logical::LogicalSpec;
 use field_types::names::Name;
 use field_types::values::Value;
-use file_catalogue::File;
+use file_catalogue::{Described, File, FileBody};
 use file_cursor::places::{Hit, Order};
+use file_model::paths::PathSpec;
 use job_table::{Jobs, Open, OpenReads};
 use key_order::given::{KeyFault, encode_values, key_fault};
 use key_pages::Key;
@@ -42,7 +49,7 @@ use key_values::laws::given_keys_are_read_back;
 use library_model::replies::Reply;
 use library_model::requests::{AccessPath, Limit, OpenFile};
 use lock_table::Call;
-use member_paths::path_positions;
+use member_paths::{member_path, path_positions};
 use member_slots::members::Members;
 use open_position::position::{OpenPosition, Side, StandAt};
 use open_position::reads::ReadBy;
@@ -56,57 +63,86 @@ pub struct Found {
 }
 
 impl Contents {
-    /// How a new open of the member reads: by the file's path over it, or in arrival order. It stands at the start.
+    /// How a new open reads: by its file's path, or in arrival order. It stands at the start.
     pub fn reads_for(&self, args: &OpenFile, member: u32) -> Result<OpenReads, AllocError>
-        requires { OpensMember member (named args.now.file self.now.state.files) }
+        requires member { OpensMember self.now.state.files member (named args.now.file self.now.state.files) }
+        requires so { MayReadSo args.now (named args.now.file self.now.state.files) }
         ensures { IfOk result (λ reads. ReadsFor self.now args.now member reads) }
     {
-        // Each member of a file with a key has its path.
+        // The path of each file is kept.
         let _files = self.catalogue.len();
         let _paths = self.paths.kept();
         let file = self.catalogue.named(&args.file).unwrap();
-        let _format = file.format();
-        let keys = file.keys();
+        match file.described() {
+            FileBody::Physical(described) => self.reads_physical(args, described, member),
+            FileBody::Logical(view) => self.reads_view(args.commit, view.spec()),
+        }
+    }
+
+    /// How a new open of a physical file's member reads.
+    fn reads_physical(
+        &self,
+        args: &OpenFile,
+        described: &Described,
+        member: u32,
+    ) -> Result<OpenReads, AllocError>
+        ensures { IfOk result (λ reads. ReadsNew args.now.commit self.now.room.paths.paths (path_by (bases_in self.now.state.files)
+            (is_file_path args.now.access_path && has_key (PhysicalFile described.now.spec)) member (PhysicalFile described.now.spec)) reads) }
+    {
+        // Its key is by its fields.
+        let _spec = described.spec();
+        let keys = described.keys();
         if is_by_key(args, keys) {
-            self.reads_by_path(args.commit, keys, member)
+            let path = member_path(self.alloc, member, described.format(), keys)?;
+            self.reads_by_path(args.commit, &path, keys)
         } else {
             reads_in_arrival(self.alloc, args.commit)
         }
     }
 
-    /// How a new open reads by the path over the member.
+    /// How a new open of a logical file reads: by its path, which is by relative record numbers where the file has no key.
+    fn reads_view(&self, commit: bool, spec: &LogicalSpec) -> Result<OpenReads, AllocError>
+        requires { IsView (bases_in self.now.state.files) spec.now }
+        ensures { IfOk result (λ reads. ReadsNew commit self.now.room.paths.paths (Some (own_path (bases_in self.now.state.files) spec.now)) reads) }
+    {
+        let path = self.own_path(spec)?;
+        match spec {
+            LogicalSpec::Simple(view) => self.reads_by_path(commit, &path, &view.keys),
+            _ => unreachable!(),
+        }
+    }
+
+    /// How a new open reads by a path whose key has these positions.
     fn reads_by_path(
         &self,
         commit: bool,
+        path: &PathSpec,
         keys: &KeySpec,
-        member: u32,
     ) -> Result<OpenReads, AllocError>
         requires few { length (key_parts 0 keys.now.parts) ≤ MOST_POSITIONS }
         requires allowed { ArePositions (key_parts 0 keys.now.parts) }
-        ensures path { IfOk result (λ reads. reads.path ≡ option_map (λ path. path.number) (find (λ path. is_over member path.item.spec) self.now.room.paths.paths)) }
+        ensures path { IfOk result (λ reads. IsNumberOf path.now reads.path self.now.room.paths.paths) }
         ensures position { IfOk result (λ reads. reads.position ≡ record { position = Start; boundary = Start; formats = key_parts 0 keys.now.parts ∷ []; marks = commit }) }
     {
         let parts = path_positions(self.alloc, keys)?;
         let position = OpenPosition::by_key(self.alloc, parts, commit)?;
-        let path = self.paths.first_over(member);
+        let path = self.paths.number_of(path);
         Ok(OpenReads { path, position })
     }
 
     /// The bytes of the key that a request gives through the open, or its refusal.
     pub fn given_key(&self, opened: &Open, file: &File, values: &[Value]) -> Result<Key, Stop>
         requires { ReadsAs self.now opened.now file.now }
-        ensures { GivesKey file.now opened.now.state values.now result }
+        ensures { GivesKey (bases_of (memory_of self.now.state)) file.now opened.now.state values.now result }
     {
-        // It is a physical file.
-        let _format = file.format();
         key_of_values(self.alloc, opened, values)
     }
 
     /// The record that a read through the open finds.
     pub fn find(&self, opened: &Open, file: &File, by: ReadBy<'_>) -> Option<Found>
         requires reads { ReadsAs self.now opened.now file.now }
-        requires member { HasMember self.now.state opened.now.state.file file.now opened.now.state.member }
-        requires asked { IsAskedOf (formats_read file.now opened.now.state) by }
+        requires member { ReadsMember self.now.state file.now opened.now.state }
+        requires asked { IsAskedOf (formats_read (bases_of (memory_of self.now.state)) file.now opened.now.state) by }
         requires looked { IsLookedIn (is_keyed file.now opened.now.state) by }
         ensures found { FindsEntry result (found_by by.entry file.now opened.now.state (memory_of self.now.state)) }
         ensures live { IfSome result (λ found. is_some (live_record opened.now.state.member found.rrn (memory_of self.now.state)) ≡ true) }
@@ -123,8 +159,6 @@ impl Contents {
         requires { ReadsAs self.now opened.now file.now }
         ensures { Stands (record { opened = opened.now.state; file = file.now }) to.now result }
     {
-        // It is a physical file.
-        let _format = file.format();
         match to {
             Limit::Key(values) => may_have_key(opened, values.as_slice()),
             Limit::LowValue => reads_so(opened, true),
@@ -158,8 +192,6 @@ impl Contents {
         ensures entries { self.new.state.entries ≡ self.old.state.entries }
         ensures room { self.new.room ≡ self.old.room }
     {
-        // All files are physical ones.
-        let _len = self.catalogue.len();
         let its = self.found_open(job, name);
         self.reads_there(its.opened, its.file);
         let number = its.opened.number();
@@ -175,7 +207,7 @@ impl Contents {
         ensures found { opened_file name.now job (memory_of self.now.state) ≡ Ok (record { opened = result.opened.now.state; file = result.file.now }) }
         ensures shows { open_named name.now job (memory_of self.now.state) ≡ Some result.opened.now.state }
         ensures order { named name.now (orders_in job self.now) ≡ Some result.opened.now.order }
-        ensures there { HasMember self.now.state result.opened.now.state.file result.file.now result.opened.now.state.member }
+        ensures there { ReadsMember self.now.state result.file.now result.opened.now.state }
         ensures reads { ReadsAs self.now result.opened.now result.file.now }
         ensures alone { AllOfNumber result.opened.now.state.number (λ order. order ≡ result.opened.now.order) (orders_in job self.now) }
     {
@@ -188,17 +220,15 @@ impl Contents {
     /// What an open reads is there: its path, or its member.
     fn reads_there(&self, opened: &Open, file: &File)
         requires reads { ReadsAs self.now opened.now file.now }
-        requires member { HasMember self.now.state opened.now.state.file file.now opened.now.state.member }
+        requires member { ReadsMember self.now.state file.now opened.now.state }
         ensures among { ReadsAmong self.now.state.members self.now.room.paths opened.now.state.member opened.now.order.formats opened.now.order.path (reading_of file.now opened.now.state (memory_of self.now.state)) }
-        ensures formats { formats_read file.now opened.now.state ≡ opened.now.order.formats }
-        ensures keyed { is_some opened.now.order.path ≡ is_keyed file.now opened.now.state }
-        ensures physical { IsPhysical file.now.spec }
+        ensures formats { formats_read (bases_of (memory_of self.now.state)) file.now opened.now.state ≡ opened.now.order.formats }
+        ensures keyed { has_positions opened.now.order.formats ≡ is_keyed file.now opened.now.state }
     {
         let _files = self.catalogue.len();
         let _paths = self.paths.kept();
         let _member = self.members.at(opened.member());
         let _only = opened.only_member();
-        let _format = file.format();
     }
 }
 
@@ -256,7 +286,7 @@ fn hit_of<'a>(
 ) -> Option<Hit<'a>>
     requires read { (reading : Reading PathEntry) × ReadsAmong members.now.members paths.now opened.now.state.member opened.now.order.formats opened.now.order.path reading }
     requires asked { IsAskedOf opened.now.order.formats by }
-    requires looked { IsLookedIn (is_some opened.now.order.path) by }
+    requires looked { IsLookedIn (has_positions opened.now.order.formats) by }
     ensures found { (reading : Reading PathEntry) → ReadsAmong members.now.members paths.now opened.now.state.member opened.now.order.formats opened.now.order.path reading
         → option_map (entry_hit (merged_parts opened.now.order.formats)) result ≡ asked_of by.entry (merged_parts opened.now.order.formats) reading opened.now.state.position }
     ensures bytes { IfSome result (λ hit. IsEntryIn opened.now.order.formats (entry_of hit)) }
@@ -294,12 +324,13 @@ fn hit_in<'a>(members: &'a Members, opened: &Open, by: ReadBy<'_>) -> Option<Hit
 
 /// The bytes of values for the first positions of the open's key, or their refusal.
 fn key_of_values(alloc: Global, opened: &Open, values: &[Value]) -> Result<Key, Stop>
-    ensures { HasKeyOf (is_some opened.now.order.path) (merged_parts opened.now.order.formats) values.now result }
+    ensures { HasKeyOf (has_positions opened.now.order.formats) (merged_parts opened.now.order.formats) values.now result }
 {
-    match opened.path() {
-        Some(_) => bytes_of_values(alloc, opened.stand().parts(), values),
-        None => Err(Stop::Refused(Reply::WrongOpen)),
+    let parts = opened.stand().parts();
+    if parts.is_empty() {
+        return Err(Stop::Refused(Reply::WrongOpen));
     }
+    bytes_of_values(alloc, parts, values)
 }
 
 /// The bytes of values for the first positions of a key.
@@ -319,12 +350,13 @@ fn bytes_of_values(alloc: Global, parts: &[KeyPart], values: &[Value]) -> Result
 
 /// The refusal of values that are no key of the open.
 fn may_have_key(opened: &Open, values: &[Value]) -> Result<(), Stop>
-    ensures { MayHaveKey (is_some opened.now.order.path) (merged_parts opened.now.order.formats) values.now result }
+    ensures { MayHaveKey (has_positions opened.now.order.formats) (merged_parts opened.now.order.formats) values.now result }
 {
-    match opened.path() {
-        Some(_) => may_be_key(opened.stand().parts(), values),
-        None => Err(Stop::Refused(Reply::WrongOpen)),
+    let parts = opened.stand().parts();
+    if parts.is_empty() {
+        return Err(Stop::Refused(Reply::WrongOpen));
     }
+    may_be_key(parts, values)
 }
 
 /// The refusal of values that are none of a key.
@@ -341,9 +373,9 @@ fn may_be_key(parts: &[KeyPart], values: &[Value]) -> Result<(), Stop>
 
 /// The refusal of an open that doesn't read by a key, or of one that does.
 fn reads_so(opened: &Open, by_key: bool) -> Result<(), Stop>
-    ensures { ReadsSo (is_some opened.now.order.path) by_key result }
+    ensures { ReadsSo (has_positions opened.now.order.formats) by_key result }
 {
-    if opened.path().is_some() == by_key {
+    if opened.stand().parts().is_empty() != by_key {
         Ok(())
     } else {
         Err(Stop::Refused(Reply::WrongOpen))

@@ -1,16 +1,18 @@
 -- How many different paths there are among those of files: as many as are kept. So it is of those over a member.
-use Rattle.std.proofs.Common.{◌≡◌, ◌≢◌, ◌∙◌, ◌⊎◌, inl, inr, ℕ, zero, suc, Bool, true, false, cond, List, [], ◌∷◌, ◌++◌, length, map, Contains, refl, sym, ap, arith, subst}
+use Rattle.std.proofs.Common.{◌≡◌, ◌≢◌, ◌∙◌, ◌⊎◌, inl, inr, ℕ, zero, suc, Bool, true, false, ◌||◌, ◌+◌, cond, List, [], ◌∷◌, ◌++◌, length, map, Contains, refl, sym, ap, arith, subst}
 use Rattle.std.specs.Prelude.{Any, filter, flat_map}
-use Rattle.std.specs.List.{AllByRecursion}
+use Rattle.std.specs.List.{AllByRecursion, list_any}
 use Rattle.std.proofs.lemmas.List.{length-map}
 use Rattle.std.proofs.lemmas.List.Elements.{filter-append, recursion_from_All}
 use Rattle.member_slots.specs.Members.{Numbered, NumberedMembers}
 use Rattle.file_model.specs.declared.paths.PathSpec.{PathSpec}
 use Rattle.logical_model.specs.Bases.{FileSpec, PhysicalFile, LogicalFile}
 use Rattle.logical_model.specs.FilePaths.{is_over}
-use Rattle.logical_model.specs.SamePaths.{count_paths}
+use Rattle.logical_model.specs.SamePaths.{count_paths, same_path}
 use Rattle.path_set.specs.KeptPaths.{KeptPath, NumberedPaths, AreShared}
 use Rattle.path_set.specs.MemberSteps.{paths_over as kept_over}
+use Rattle.path_laws.proofs.PathLemmas.{path-either_way, path-told}
+use Rattle.path_laws.proofs.CountLemmas.{count-new, count-there}
 use Rattle.path_laws.proofs.DifferentLemmas.{count-different}
 use Rattle.library_model.specs.Named.{Named}
 use Rattle.library_steps.specs.LogicalFiles.{paths_by as paths_by_memory, paths_of, paths_over}
@@ -122,3 +124,60 @@ among-memory member m (entry ∷ files) =
 -- the paths over a member are those of all paths that are
 pub over-all : (member : ℕ) (m : Memory) → paths_over member m ≡ filter (is_over member) (all_paths m.files)
 over-all member m = among-memory member m m.files
+
+-- ---- one path more
+
+any-last : (first last : PathSpec) (specs : List PathSpec) → list_any (same_path first) (specs ++ last ∷ []) ≡ (list_any (same_path first) specs || same_path first last)
+any-last first last [] = by (same_path first last)
+  where
+    by : (b : Bool) → (b || false) ≡ b
+    by true = refl
+    by false = refl
+any-last first last (spec ∷ specs) = by (same_path first spec) (any-last first last specs)
+  where
+    by : (b : Bool) → list_any (same_path first) (specs ++ last ∷ []) ≡ (list_any (same_path first) specs || same_path first last)
+        → (b || list_any (same_path first) (specs ++ last ∷ [])) ≡ ((b || list_any (same_path first) specs) || same_path first last)
+    by true rest = refl
+    by false rest = rest
+
+-- a path at the end counts as much as at the front
+count-last : (path : PathSpec) (specs : List PathSpec) → count_paths (specs ++ path ∷ []) ≡ count_paths (path ∷ specs)
+count-last path [] = refl
+count-last path (spec ∷ specs) =
+    ap (λ (b : Bool). cond b (count_paths (specs ++ path ∷ [])) (count_paths (specs ++ path ∷ []) + 1)) (any-last spec path specs)
+    ∙ ap (λ (n : ℕ). cond (list_any (same_path spec) specs || same_path spec path) n (n + 1)) (count-last path specs)
+    ∙ by (list_any (same_path spec) specs) (same_path spec path) (list_any (same_path path) specs) (count_paths specs)
+    (λ same. ap (λ (s : PathSpec). list_any (same_path s) specs) (path-told spec path same))
+    ∙ ap (λ (b : Bool). cond (b || list_any (same_path path) specs) (count_paths (spec ∷ specs)) (count_paths (spec ∷ specs) + 1)) (path-either_way spec path)
+  where
+    by : (a b d : Bool) (n : ℕ) → (b ≡ true → a ≡ d) → cond (a || b) (cond d n (n + 1)) (cond d n (n + 1) + 1) ≡ cond (b || d) (cond a n (n + 1)) (cond a n (n + 1) + 1)
+    by true true true n same = refl
+    by true true false n same = absurd (let e = same refl in cc)
+    by false true true n same = absurd (let e = same refl in cc)
+    by false true false n same = refl
+    by true false true n same = refl
+    by true false false n same = refl
+    by false false true n same = refl
+    by false false false n same = refl
+
+module _ (member : ℕ) (m : Memory) (kept : NumberedPaths) (shared : AreShared kept) (is : AreKeptFor (all_paths m.files) m.members kept) (path : PathSpec) (over : is_over member path ≡ true) where
+  abbrev among : List PathSpec
+  among = filter (is_over member) (all_paths m.files)
+
+  with-last : count_paths (paths_over member m ++ path ∷ []) ≡ count_paths (path ∷ among)
+  with-last = ap (λ (specs : List PathSpec). count_paths (specs ++ path ∷ [])) (over-all member m) ∙ count-last path among
+
+  -- a path that is kept counts no more
+  pub over-there : Any (λ (q : Numbered KeptPath). q.item.spec ≡ path) kept → count_paths (paths_over member m ++ path ∷ []) ≡ length (kept_over member kept)
+  over-there any =
+      let owned = recursion_from_All (λ (q : Numbered KeptPath). Contains (all_paths m.files) q.item.spec) kept (kept-contained (all_paths m.files) m.members kept shared is) in
+      let found = in-kept (is_over member) path (all_paths m.files) kept owned (kept-in (is_over member) path kept over any) in
+      with-last ∙ count-there path among (in-contained path among found) ∙ over-kept member (all_paths m.files) m.members kept shared is
+
+  -- and a new one counts as one more
+  pub over-new : (Any (λ (q : Numbered KeptPath). q.item.spec ≡ path) kept → ⊥) → count_paths (paths_over member m ++ path ∷ []) ≡ length (kept_over member kept) + 1
+  over-new absent =
+      let none : Contains among path → ⊥ = λ found.
+      absent (count-each (λ (s : PathSpec). Any (λ (q : Numbered KeptPath). q.item.spec ≡ s) kept) (all_paths m.files) is.there path
+      (contained-count path (all_paths m.files) (in-contained path (all_paths m.files) (in-filter (is_over member) path (all_paths m.files) (contained-in path among found)).0))) in
+      with-last ∙ count-new path among none ∙ ap (λ (n : ℕ). n + 1) (over-kept member (all_paths m.files) m.members kept shared is)

@@ -9,25 +9,17 @@ use Rattle.std.specs.declared.cmp.Ordering.{Ordering}
 use Rattle.std.specs.declared.cmp.Ordering.TheVariants.{Less}
 use Rattle.std.proofs.lemmas.Bool.Decides.{nat_tests}
 use Rattle.std.proofs.lemmas.List.Elements.{All-from_recursion, All-weaker, filter_agree}
-use Rattle.lock_table.specs.declared.lock.LockKind.{LockKind}
 use Rattle.lock_table.specs.declared.lock.Holder.{Holder}
 use Rattle.lock_table.specs.declared.lock.RecordId.{RecordId}
 use Rattle.lock_table.specs.declared.lock.Lock.{Lock}
 use Rattle.lock_table.specs.declared.lock.Reach.TheVariants.{Open, Boundary}
 use Rattle.lock_table.specs.declared.part.Part.TheVariants.{InMember, OnRecord, Reaching}
-use Rattle.lock_table.specs.Lock.{Clashes, are_apart, blocks, is_boundary_in, is_by, is_in, is_of_group_on, is_of_open, is_of_open_on, is_on, is_open, lock_cmp}
+use Rattle.lock_table.specs.Lock.{Clashes, blocks, is_boundary_in, is_by, is_in, is_of_group_on, is_of_open, is_of_open_on, is_on, is_open, lock_cmp}
 use Rattle.lock_table.specs.Table.{IsOneOf, least_job, blocker}
 use Rattle.lock_table.specs.Index.{is_part}
 use Rattle.lock_table.proofs.Kept.{filter-filter, filter-none, list_any-filter}
 use Rattle.lock_table.proofs.Locks.{is_part-kept, is_part-member, is_part-open, is_part-record}
 use Rattle.lock_table.proofs.Sides.{each_map}
-
-or_or : (a b c d : Bool) → ((a || b) || (c || d)) ≡ ((a || c) || (b || d))
-or_or true b c d = refl
-or_or false true true d = refl
-or_or false true false d = refl
-or_or false false true d = refl
-or_or false false false d = refl
 
 module _ {X : Type 0} where
   pub find-filter : (q t : X → Bool) (xs : List X) → find t (filter q xs) ≡ find (λ x. q x && t x) xs
@@ -54,25 +46,9 @@ module _ {X : Type 0} where
   find-none t xs h = filter-none t xs (sym (is_some-find t xs) ∙ ap is_some h)
 
   -- tests that agree
-  pub list_any-agree : (p q : X → Bool) → ((x : X) → p x ≡ q x) → (xs : List X) → list_any p xs ≡ list_any q xs
-  list_any-agree p q same [] = refl
-  list_any-agree p q same (x ∷ xs) = ap (λ b. b || list_any p xs) (same x) ∙ ap (λ b. q x || b) (list_any-agree p q same xs)
-
   find-agree : (p q : X → Bool) → ((x : X) → p x ≡ q x) → (xs : List X) → find p xs ≡ find q xs
   find-agree p q same [] = refl
   find-agree p q same (x ∷ xs) = ap (λ b. cond b (Some x) (find p xs)) (same x) ∙ ap (λ r. cond (q x) (Some x) r) (find-agree p q same xs)
-
-  list_any-or : (p q : X → Bool) (xs : List X) → (list_any p xs || list_any q xs) ≡ list_any (λ x. p x || q x) xs
-  list_any-or p q [] = refl
-  list_any-or p q (x ∷ xs) = or_or (p x) (list_any p xs) (q x) (list_any q xs) ∙ ap (λ b. (p x || q x) || b) (list_any-or p q xs)
-
-  -- what passes in one of two filtered lists
-  pub list_any-two : (p q t s : X → Bool) → ((x : X) → ((p x && t x) || (q x && t x)) ≡ s x) → (xs : List X) → (list_any t (filter p xs) || list_any t (filter q xs)) ≡ list_any s xs
-  list_any-two p q t s same xs =
-      ap (λ b. b || list_any t (filter q xs)) (list_any-filter p t xs)
-      ∙ ap (λ b. list_any (λ x. p x && t x) xs || b) (list_any-filter q t xs)
-      ∙ list_any-or (λ x. p x && t x) (λ x. q x && t x) xs
-      ∙ list_any-agree (λ x. (p x && t x) || (q x && t x)) s same xs
 
 -- ---- what a look in a part answers, where a wider test says what is looked for
 module _ (q t s : Lock → Bool) (same : (l : Lock) → (q l && t l) ≡ s l) (held locks : List Lock) (found : Option Lock) (run : locks ≡ filter q held) (h : found ≡ find t locks) where
@@ -187,7 +163,7 @@ next-found from (x ∷ xs) first s found =
     ] refl found
 
 -- what a filter keeps passes, and has what a lock that passes has
-each_kept : (t : Lock → Bool) (P : Lock → Type 0) (xs : List Lock) → AllByRecursion (λ l. t l ≡ true → P l) xs → AllByRecursion P (filter t xs)
+pub each_kept : (t : Lock → Bool) (P : Lock → Type 0) (xs : List Lock) → AllByRecursion (λ l. t l ≡ true → P l) xs → AllByRecursion P (filter t xs)
 each_kept t P [] h = tt
 each_kept t P (x ∷ xs) h =
     elim (t x) as (λ b. (b ≡ true → P x) → AllByRecursion P (cond b (x ∷ filter t xs) (filter t xs))) [
@@ -265,64 +241,8 @@ alone-from_blocker lock held h =
     All-weaker (λ l. blocks lock.job lock.at lock.kind l ≡ true → ⊥) (λ other. Clashes lock other → ⊥) (λ l f k. f k) held
     (All-from_recursion _ held (each_out (blocks lock.job lock.at lock.kind) held (none_least _ h)))
 
--- ---- the tests of the loops over the jobs
-module _ (job other : ℕ) (at : RecordId) (kind : LockKind) where
-  blocks_bool : (on apart : Bool) (j : ℕ) → (other ≡ job → ⊥) → (on && ((j == other) && apart)) ≡ ((on && (not (j == job) && apart)) && (j == other))
-  blocks_bool on apart j h = grind (arith, nat_tests)
-
-  own_bool : (on apart : Bool) (j : ℕ) → other ≡ job → ((on && (not (j == job) && apart)) && (j == other)) ≡ false
-  own_bool on apart j h = grind (arith, nat_tests)
-
-  pub blocks-by-other : (other ≡ job → ⊥) → (locks : List Lock) (found : Bool) → found ≡ list_any (λ l. is_on at l && (is_by other l && are_apart l.kind kind)) locks → found ≡ list_any (λ l. blocks job at kind l && is_by other l) locks
-  blocks-by-other h locks found f =
-      f
-      ∙ list_any-agree (λ l. is_on at l && (is_by other l && are_apart l.kind kind)) (λ l. blocks job at kind l && is_by other l)
-      (λ l. blocks_bool (is_on at l) (are_apart l.kind kind) l.job h) locks
-
-  pub blocks-own : other ≡ job → (locks : List Lock) → not (other == job) ≡ list_any (λ l. blocks job at kind l && is_by other l) locks
-  blocks-own h locks = own_test ∙ sym (none locks)
-    where
-      own_test : not (other == job) ≡ false
-      own_test = grind (arith, nat_tests)
-
-      none : (xs : List Lock) → list_any (λ l. blocks job at kind l && is_by other l) xs ≡ false
-      none [] = refl
-      none (l ∷ xs) = rw (own_bool (is_on at l) (are_apart l.kind kind) l.job h) (none xs)
-
--- a lock of one of the two reaches stands against the request
-module _ (other : ℕ) (at : RecordId) (kind : LockKind) (locks first_run kept : List Lock) (o : first_run ≡ filter (is_part (OnRecord other Open at)) locks) (k : kept ≡ filter (is_part (OnRecord other Boundary at)) locks) where
-  abbrev apart : Lock → Bool
-  apart l = are_apart l.kind kind
-
-  reach_bool : (on is_open by apart : Bool) → (((on && (is_open && by)) && apart) || ((on && (not is_open && by)) && apart)) ≡ (on && (by && apart))
-  reach_bool true true true b = or_end b
-    where
-      or_end : (b : Bool) → (b || false) ≡ b
-      or_end true = refl
-      or_end false = refl
-  reach_bool true true false b = refl
-  reach_bool true false true b = refl
-  reach_bool true false false b = refl
-  reach_bool false a by b = refl
-
-  both_reaches : (list_any apart first_run || list_any apart kept) ≡ list_any (λ l. is_on at l && (is_by other l && are_apart l.kind kind)) locks
-  both_reaches =
-      ap (λ xs. list_any apart xs || list_any apart kept) o ∙ ap (λ xs. list_any apart (filter (is_part (OnRecord other Open at)) locks) || list_any apart xs) k
-      ∙ list_any-two (is_part (OnRecord other Open at)) (is_part (OnRecord other Boundary at)) apart (λ l. is_on at l && (is_by other l && are_apart l.kind kind))
-      (λ l.
-      ap (λ b. (b && apart l) || (is_part (OnRecord other Boundary at) l && apart l)) (is_part-record other l at)
-      ∙ ap (λ b. ((is_on at l && (is_open l.reach && is_by other l)) && apart l) || (b && apart l)) (is_part-kept other l at)
-      ∙ reach_bool (is_on at l) (is_open l.reach) (is_by other l) (apart l)) locks
-
-  module _ (first : Bool) (f : first ≡ list_any (λ l. are_apart l.kind kind) first_run) where
-    pub stands-first : first ≡ true → first ≡ list_any (λ l. is_on at l && (is_by other l && are_apart l.kind kind)) locks
-    stands-first h = let e : list_any apart first_run ≡ true = sym f ∙ h in h ∙ sym (ap (λ b. b || list_any apart kept) e) ∙ both_reaches
-
-    pub stands-second : first ≡ false → (second : Bool) → second ≡ list_any (λ l. are_apart l.kind kind) kept → second ≡ list_any (λ l. is_on at l && (is_by other l && are_apart l.kind kind)) locks
-    stands-second h second s = let e : list_any apart first_run ≡ false = sym f ∙ h in s ∙ sym (ap (λ b. b || list_any apart kept) e) ∙ both_reaches
-
 -- ---- what is found in a part is what a narrower test finds in all
-and_true : (a : Bool) → (a && true) ≡ a
+pub and_true : (a : Bool) → (a && true) ≡ a
 and_true true = refl
 and_true false = refl
 

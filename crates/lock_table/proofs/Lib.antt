@@ -4,6 +4,7 @@ pub mod Kept
 pub mod Locks
 pub mod Nodes
 pub mod Found
+pub mod ByRecord
 pub mod Releases
 pub mod Stored
 pub mod Counts

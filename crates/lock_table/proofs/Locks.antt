@@ -16,12 +16,12 @@ use Rattle.lock_table.specs.declared.part.Part.TheVariants.{OfJob, Reaching, InM
 use Rattle.lock_table.specs.Lock.{is_by, is_in, is_on, is_open, is_of_group, is_of_job, lock_cmp, reach_number}
 use Rattle.lock_table.specs.Index.{is_part, part_cmp}
 
-then_equal : (a b : Ordering) → ordering_then a b ≡ Equal → (a ≡ Equal) × (b ≡ Equal)
+pub then_equal : (a b : Ordering) → ordering_then a b ≡ Equal → (a ≡ Equal) × (b ≡ Equal)
 then_equal Less b h = absurd (cc)
 then_equal Equal b h = (refl, h)
 then_equal Greater b h = absurd (cc)
 
-nat_cmp_equal : (x y : ℕ) → nat_cmp x y ≡ Equal → x ≡ y
+pub nat_cmp_equal : (x y : ℕ) → nat_cmp x y ≡ Equal → x ≡ y
 nat_cmp_equal x y h = grind (arith, nat_tests)
 
 abbrev kind_of : ℕ → LockKind
@@ -172,22 +172,22 @@ part_cmp-falls t b (OnRecord job reach at) x y =
     (Falls-then t b reach_cmp (λ x y. ordering_then (id_cmp x y) (rest_cmp x y)) reach_total id_cmp (Falls-first t b id_cmp rest_cmp id_total)) x y (sample (OnRecord job reach at))
 
 -- ---- what a part's locks are
-is_eq-then : (a b : Ordering) → is_eq (ordering_then a b) ≡ (is_eq a && is_eq b)
+pub is_eq-then : (a b : Ordering) → is_eq (ordering_then a b) ≡ (is_eq a && is_eq b)
 is_eq-then Less b = refl
 is_eq-then Equal b = refl
 is_eq-then Greater b = refl
 
-both : (a b : Ordering) (p q : Bool) → is_eq a ≡ p → is_eq b ≡ q → is_eq (ordering_then a b) ≡ (p && q)
+pub both : (a b : Ordering) (p q : Bool) → is_eq a ≡ p → is_eq b ≡ q → is_eq (ordering_then a b) ≡ (p && q)
 both a b p q e f = is_eq-then a b ∙ (ap (λ x. x && is_eq b) e ∙ ap (λ x. p && x) f)
 
-is_eq-nat : (x y : ℕ) → is_eq (nat_cmp x y) ≡ (x == y)
+pub is_eq-nat : (x y : ℕ) → is_eq (nat_cmp x y) ≡ (x == y)
 is_eq-nat x y = grind (arith, nat_tests)
 
-is_eq-open : (r : Reach) → is_eq (nat_cmp (reach_number r) 0) ≡ is_open r
+pub is_eq-open : (r : Reach) → is_eq (nat_cmp (reach_number r) 0) ≡ is_open r
 is_eq-open Open = refl
 is_eq-open Boundary = refl
 
-is_eq-boundary : (r : Reach) → is_eq (nat_cmp (reach_number r) 1) ≡ not (is_open r)
+pub is_eq-boundary : (r : Reach) → is_eq (nat_cmp (reach_number r) 1) ≡ not (is_open r)
 is_eq-boundary Open = refl
 is_eq-boundary Boundary = refl
 

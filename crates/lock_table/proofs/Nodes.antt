@@ -1,5 +1,5 @@
 -- A tree whose locks are in order, around its node: what is true of its two sides, and what a search makes of them.
-use Rattle.std.proofs.Common.{◌≡◌, ℕ, ◌+◌, ◌≤◌, ◌<◌, nat_le, Bool, true, false, not, ◌==◌, cond, Box, Option, None, Some, List, [], ◌∷◌, ◌++◌, length, refl, sym, ap, ◌∙◌, arith, subst, append_assoc, length-append}
+use Rattle.std.proofs.Common.{◌≡◌, ℕ, ◌+◌, ◌≤◌, ◌<◌, nat_le, Bool, true, false, not, ◌==◌, cond, Box, Option, None, Some, List, [], ◌∷◌, ◌++◌, length, refl, sym, ap, ◌∙◌, arith, subst, length-append}
 use Rattle.std.specs.Prelude.{if◌then◌else◌}
 use Rattle.std.specs.List.{filter, find, AllByRecursion}
 use Rattle.std.specs.List.Sorted.{IsStrictlySortedBy}
@@ -17,13 +17,12 @@ use Rattle.lock_table.specs.declared.tree.Node.{Node}
 use Rattle.lock_table.specs.declared.tree.Top.{Top}
 use Rattle.lock_table.specs.declared.tree.Top.TheVariants.{Empty, At}
 use Rattle.lock_table.specs.Lock.{lock_cmp}
-use Rattle.lock_table.specs.Table.{freed, with_lock, without_lock}
-use Rattle.lock_table.specs.Index.{is_ahead, is_part, part_cmp}
+use Rattle.lock_table.specs.Table.{with_lock, without_lock}
+use Rattle.lock_table.specs.Index.{is_part, part_cmp}
 use Rattle.lock_table.specs.Tree.{locks_at}
-use Rattle.lock_table.proofs.InOrder.{filter-all}
 use Rattle.lock_table.proofs.Kept.{length-filter-≤}
 use Rattle.lock_table.proofs.Locks.{IsBelow, lock_cmp-total, part_cmp-falls}
-use Rattle.lock_table.proofs.Sides.{AreSides, sides, each_map, each-append, each_front, filter-here, filter-left, filter-right, filter-out, with_item-left, with_item-right, with_item-here, without-left, without-right, without-here}
+use Rattle.lock_table.proofs.Sides.{AreSides, sides, each_map, filter-here, filter-left, filter-right, with_item-left, with_item-right, with_item-here, without-left, without-right, without-here}
 
 -- the locks of a node, whose sides are in order
 pub record IsNode (locks left : List Lock) (lock : Lock) (right : List Lock) : Type 0 where
@@ -139,10 +138,6 @@ is_lt-below = record { less = refl; greater = refl }
 pub is_le-below : IsBelow is_le
 is_le-below = record { less = refl; greater = refl }
 
-pub is_ahead-below : (itself : Bool) → IsBelow (is_ahead itself)
-is_ahead-below false = record { less = refl; greater = refl }
-is_ahead-below true = record { less = refl; greater = refl }
-
 lt_not_eq : (o : Ordering) → is_lt o ≡ true → is_eq o ≡ false
 lt_not_eq Less h = refl
 lt_not_eq Equal h = absurd (cc)
@@ -152,11 +147,6 @@ not_le_eq : (o : Ordering) → is_le o ≡ false → is_eq o ≡ false
 not_le_eq Less h = absurd (cc)
 not_le_eq Equal h = absurd (cc)
 not_le_eq Greater h = refl
-
-eq_between : (o : Ordering) → is_lt o ≡ false → is_le o ≡ true → is_eq o ≡ true
-eq_between Less h k = absurd (cc)
-eq_between Equal h k = refl
-eq_between Greater h k = k
 
 module _ (part : Part) where
   rises : (t : Ordering → Bool) → IsBelow t → (x y : Lock) → lock_cmp x y ≡ Less → t (part_cmp part x) ≡ false → t (part_cmp part y) ≡ false
@@ -192,61 +182,6 @@ module _ (part : Part) where
 
     pub told-here : {Y : Type 0} (F : List Lock → Y) (y : Y) → part_cmp part x ≡ Equal → F (filter (is_part part) left ++ x ∷ filter (is_part part) right) ≡ y → y ≡ F (filter (is_part part) locks)
     told-here F y h e = sym (ap F (run-here h) ∙ e)
-
-    -- the side of a part that a lock is on is that of the locks before it, or of those after it
-    module _ (itself : Bool) where
-      pub left-ahead : is_ahead itself (part_cmp part x) ≡ true → AllByRecursion (λ y. is_ahead itself (part_cmp part y) ≡ true) left
-      left-ahead h = each_map (λ y. lock_cmp y x ≡ Less) (λ y. is_ahead itself (part_cmp part y) ≡ true) (λ y e. part_cmp-falls (is_ahead itself) (is_ahead-below itself) part y x e h) left n.sides.below
-
-      pub right-behind : is_ahead itself (part_cmp part x) ≡ false → AllByRecursion (λ y. is_ahead itself (part_cmp part y) ≡ false) right
-      right-behind h = each_map (λ y. lock_cmp x y ≡ Less) (λ y. is_ahead itself (part_cmp part y) ≡ false) (λ y e. rises (is_ahead itself) (is_ahead-below itself) x y e h) right n.sides.above
-
-      -- what is parted from a node, where its lock and its other side are known by equations
-      pub ahead-joined : (y : Lock) → y ≡ x → (old ahead : List Lock) → old ≡ left → is_ahead itself (part_cmp part y) ≡ true → AllByRecursion (λ l. is_ahead itself (part_cmp part l) ≡ true) ahead → AllByRecursion (λ l. is_ahead itself (part_cmp part l) ≡ true) (old ++ y ∷ ahead)
-      ahead-joined y e old ahead f h more =
-          each-append (λ l. is_ahead itself (part_cmp part l) ≡ true) old (y ∷ ahead)
-          (subst (AllByRecursion (λ l. is_ahead itself (part_cmp part l) ≡ true)) (sym f) (left-ahead (ap (λ (l : Lock). is_ahead itself (part_cmp part l)) (sym e) ∙ h))) (h, more)
-
-      pub behind-joined : (y : Lock) → y ≡ x → (behind old : List Lock) → old ≡ right → is_ahead itself (part_cmp part y) ≡ false → AllByRecursion (λ l. is_ahead itself (part_cmp part l) ≡ false) behind → AllByRecursion (λ l. is_ahead itself (part_cmp part l) ≡ false) (behind ++ y ∷ old)
-      behind-joined y e behind old f h more =
-          each-append (λ l. is_ahead itself (part_cmp part l) ≡ false) behind (y ∷ old) more
-          (h, subst (AllByRecursion (λ l. is_ahead itself (part_cmp part l) ≡ false)) (sym f) (right-behind (ap (λ (l : Lock). is_ahead itself (part_cmp part l)) (sym e) ∙ h)))
-
-  -- what is left without a part, between the places where it was parted
-  module _ (locks before rest run after : List Lock) (w : locks ≡ before ++ rest) (v : rest ≡ run ++ after) (a : AllByRecursion (λ y. is_ahead false (part_cmp part y) ≡ true) before) (b : AllByRecursion (λ y. is_ahead false (part_cmp part y) ≡ false) rest) (c : AllByRecursion (λ y. is_ahead true (part_cmp part y) ≡ true) run) (d : AllByRecursion (λ y. is_ahead true (part_cmp part y) ≡ false) after) where
-    in_run : (xs : List Lock) → AllByRecursion (λ y. is_lt (part_cmp part y) ≡ false) xs → AllByRecursion (λ y. is_le (part_cmp part y) ≡ true) xs → AllByRecursion (λ y. not (is_part part y) ≡ false) xs
-    in_run [] h k = tt
-    in_run (x ∷ xs) h k = (ap not (eq_between (part_cmp part x) h.0 k.0), in_run xs h.1 k.1)
-
-    front-same : freed (is_part part) before ≡ before
-    front-same = filter-all (λ y. not (is_part part y)) before (each_map (λ y. is_lt (part_cmp part y) ≡ true) (λ y. not (is_part part y) ≡ true) (λ y e. ap not (lt_not_eq (part_cmp part y) e)) before a)
-
-    back-same : freed (is_part part) after ≡ after
-    back-same = filter-all (λ y. not (is_part part y)) after (each_map (λ y. is_le (part_cmp part y) ≡ false) (λ y. not (is_part part y) ≡ true) (λ y e. ap not (not_le_eq (part_cmp part y) e)) after d)
-
-    run-gone : freed (is_part part) run ≡ []
-    run-gone =
-        filter-out (λ y. not (is_part part y)) run
-        (in_run run (each_front (λ y. is_lt (part_cmp part y) ≡ false) run after (subst (AllByRecursion (λ y. is_lt (part_cmp part y) ≡ false)) v b)) c)
-
-    pub freed-parted : before ++ after ≡ freed (is_part part) locks
-    freed-parted =
-        sym
-        (ap (freed (is_part part)) (w ∙ ap (λ zs. before ++ zs) v)
-        ∙ filter-append (λ y. not (is_part part y)) before (run ++ after)
-        ∙ ap (λ zs. zs ++ freed (is_part part) (run ++ after)) front-same
-        ∙ ap (λ zs. before ++ zs) (filter-append (λ y. not (is_part part y)) run after ∙ ap (λ zs. zs ++ freed (is_part part) after) run-gone ∙ back-same))
-
-    pub length-parted : length (before ++ after) + length run ≡ length locks
-    length-parted =
-        omega (arith, length-append before after, ap length w, ap length v, length-append before rest, length-append run after)
-
--- ---- what a tree holds where it was parted at its node
-pub whole-ahead : {locks left right : List Lock} {x : Lock} (n : IsNode locks left x right) (ahead behind : List Lock) → right ≡ ahead ++ behind → locks ≡ (left ++ x ∷ ahead) ++ behind
-whole-ahead {locks} {left} {right} {x} n ahead behind h = n.is ∙ ap (λ zs. left ++ x ∷ zs) h ∙ sym (append_assoc left (x ∷ ahead) behind)
-
-pub whole-behind : {locks left right : List Lock} {x : Lock} (n : IsNode locks left x right) (ahead behind : List Lock) → left ≡ ahead ++ behind → locks ≡ ahead ++ (behind ++ x ∷ right)
-whole-behind {locks} {left} {right} {x} n ahead behind h = n.is ∙ ap (λ zs. zs ++ x ∷ right) h ∙ append_assoc ahead behind (x ∷ right)
 
 -- ---- the first that passes a test
 module _ (t : Lock → Bool) (before : List Lock) (x : Lock) (after : List Lock) where

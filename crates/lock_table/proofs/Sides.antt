@@ -17,10 +17,6 @@ module _ {X : Type 0} where
   each_map P Q f [] h = tt
   each_map P Q f (x ∷ xs) h = (f x h.0, each_map P Q f xs h.1)
 
-  pub each-append : (P : X → Type 0) (xs ys : List X) → AllByRecursion P xs → AllByRecursion P ys → AllByRecursion P (xs ++ ys)
-  each-append P [] ys h k = k
-  each-append P (x ∷ xs) ys h k = (h.0, each-append P xs ys h.1 k)
-
   pub each_front : (P : X → Type 0) (xs ys : List X) → AllByRecursion P (xs ++ ys) → AllByRecursion P xs
   each_front P [] ys h = tt
   each_front P (x ∷ xs) ys h = (h.0, each_front P xs ys h.1)
@@ -69,11 +65,6 @@ module _ {X : Type 0} (R : X → X → Ordering) where
         below = (later.0, more.below);
         above = more.above;
       }
-
-  pub IsStrictlySortedBy-back : (xs ys : List X) → IsStrictlySortedBy R (xs ++ ys) → IsStrictlySortedBy R ys
-  unfolding IsStrictlySortedBy
-  IsStrictlySortedBy-back [] ys s = s
-  IsStrictlySortedBy-back (x ∷ xs) ys s = IsStrictlySortedBy-back xs ys s.1
 
   -- where no item is added, the list is as it was
   pub with_item-same : (item : X) (xs : List X) → length (with_item R item xs) ≡ length xs → with_item R item xs ≡ xs

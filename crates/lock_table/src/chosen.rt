@@ -2,12 +2,12 @@
 ghost use Rattle.std.specs.List.{find, list_any};
 ghost use Rattle.std.specs.List.Sorted.{IsStrictlySortedBy};
 ghost use Rattle.std.specs.Prelude.{◌≡◌, ◌≤◌, ◌+◌, ◌&&◌, ◌==◌, filter, length, nat_le, if◌then◌else◌};
-ghost use Rattle.lock_table.specs.Lock.{are_apart, blocks, is_boundary_in, is_by, is_on, lock_cmp};
-ghost use Rattle.lock_table.specs.Table.{blocker, least_job, with_lock, without_lock};
-ghost use Rattle.lock_table.specs.Index.{is_part, is_through};
+ghost use Rattle.lock_table.specs.Lock.{is_boundary_in, is_by, lock_cmp};
+ghost use Rattle.lock_table.specs.Table.{least_job, with_lock, without_lock};
+ghost use Rattle.lock_table.specs.Index.{first_against, is_part, is_sought, lesser};
 
 use crate::lock::{Lock, LockKind, Reach, RecordId};
-use crate::part::Part;
+use crate::part::{Part, Sought};
 use crate::table::MOST_LOCKS;
 use crate::tree::{LockTree, Top};
 use std::cmp::Ordering;
@@ -35,37 +35,48 @@ pub fn is_there(tree: &LockTree, lock: &Lock) -> bool
     }
 }
 
-/// The first lock of the part, or where an open is given, the first one through it.
-pub fn first_in(tree: &LockTree, part: Part, opened: Option<u32>) -> Option<Lock>
+/// The first lock of the part that is looked for.
+pub fn first_in(tree: &LockTree, part: Part, sought: Sought) -> Option<Lock>
     requires { IsStrictlySortedBy lock_cmp tree.now }
-    ensures { result ≡ find (is_through opened) (filter (is_part part) tree.now) }
+    ensures { result ≡ find (is_sought sought) (filter (is_part part) tree.now) }
 {
     match &tree.top {
         Top::Empty => None,
         Top::At(node) => match part.side_of(&node.lock) {
-            Ordering::Less => first_in(&node.right, part, opened),
+            Ordering::Less => first_in(&node.right, part, sought),
             Ordering::Equal => {
-                let here = own(&node.lock, opened);
-                match first_in(&node.left, part, opened) {
+                let here = own(&node.lock, sought);
+                match first_in(&node.left, part, sought) {
                     Some(lock) => Some(lock),
                     None => match here {
                         Some(lock) => Some(lock),
-                        None => first_in(&node.right, part, opened),
+                        None => first_in(&node.right, part, sought),
                     },
                 }
             }
-            Ordering::Greater => first_in(&node.left, part, opened),
+            Ordering::Greater => first_in(&node.left, part, sought),
         },
     }
 }
 
-// The lock, if it is through the open that is given.
-fn own(lock: &Lock, opened: Option<u32>) -> Option<Lock>
-    ensures { result ≡ (if is_through opened lock.now then Some lock.now else None) }
+// The lock, if it is looked for.
+fn own(lock: &Lock, sought: Sought) -> Option<Lock>
+    ensures { result ≡ (if is_sought sought lock.now then Some lock.now else None) }
 {
-    match opened {
-        Some(opened) if lock.opened != opened => None,
-        _ => Some(*lock),
+    if is_sought(lock, sought) {
+        Some(*lock)
+    } else {
+        None
+    }
+}
+
+fn is_sought(lock: &Lock, sought: Sought) -> bool
+    ensures { result ≡ is_sought sought lock.now }
+{
+    match sought {
+        Sought::Any => true,
+        Sought::Through(opened) => lock.opened == opened,
+        Sought::Against(job, kind) => lock.at.rrn != job && lock.kind.clashes_with(kind),
     }
 }
 
@@ -93,53 +104,28 @@ pub fn count_in(tree: &LockTree, part: Part, opened: u32) -> usize
     }
 }
 
-/// The least job that has a lock that clashes with this job's lock of that kind on the record.
-pub fn least_blocker(tree: &LockTree, job: u32, at: RecordId, kind: LockKind) -> Option<u32>
+/// The least job that has a lock of this reach on the record against this job's lock of that kind. The locks are by record.
+pub fn first_against(tree: &LockTree, reach: Reach, asked: (u32, RecordId, LockKind)) -> Option<u32>
     requires { IsStrictlySortedBy lock_cmp tree.now }
-    ensures { result ≡ blocker job at kind tree.now }
-{
-    let mut from: u64 = 0;
-    while let Some(first) = first_from(tree, from) {
-        let other = first.job;
-        if blocks_by(tree, other, (job, at, kind)) {
-            return Some(other);
-        }
-        from = other as u64 + 1;
-    }
-    None
-}
-
-// Whether a lock of this other job clashes.
-fn blocks_by(tree: &LockTree, other: u32, asked: (u32, RecordId, LockKind)) -> bool
-    requires { IsStrictlySortedBy lock_cmp tree.now }
-    ensures { result ≡ list_any (λ lock. blocks asked.0 asked.1 asked.2 lock && is_by other lock) tree.now }
+    ensures { result ≡ first_against reach asked.0 asked.1 asked.2 tree.now }
 {
     let (job, at, kind) = asked;
-    other != job && stands_against(tree, other, at, kind)
+    let part = Part::InMember(at.member, reach, at.rrn);
+    match first_in(tree, part, Sought::Against(job, kind)) {
+        Some(lock) => Some(lock.at.rrn),
+        None => None,
+    }
 }
 
-fn stands_against(tree: &LockTree, other: u32, at: RecordId, kind: LockKind) -> bool
-    requires { IsStrictlySortedBy lock_cmp tree.now }
-    ensures { result ≡ list_any (λ lock. is_on at lock && (is_by other lock && are_apart lock.kind kind)) tree.now }
+/// The lesser of two numbers, or the one that is given.
+pub fn lesser(one: Option<u32>, other: Option<u32>) -> Option<u32>
+    ensures { result ≡ lesser one other }
 {
-    has_apart(tree, Part::OnRecord(other, Reach::Open, at), kind)
-        || has_apart(tree, Part::OnRecord(other, Reach::Boundary, at), kind)
-}
-
-fn has_apart(tree: &LockTree, part: Part, kind: LockKind) -> bool
-    requires { IsStrictlySortedBy lock_cmp tree.now }
-    ensures { result ≡ list_any (λ lock. are_apart lock.kind kind) (filter (is_part part) tree.now) }
-{
-    match &tree.top {
-        Top::Empty => false,
-        Top::At(node) => match part.side_of(&node.lock) {
-            Ordering::Less => has_apart(&node.right, part, kind),
-            Ordering::Equal => {
-                node.lock.kind.clashes_with(kind)
-                    || has_apart(&node.left, part, kind)
-                    || has_apart(&node.right, part, kind)
-            }
-            Ordering::Greater => has_apart(&node.left, part, kind),
+    match one {
+        None => other,
+        Some(number) => match other {
+            None => Some(number),
+            Some(second) => Some(number.min(second)),
         },
     }
 }
@@ -164,7 +150,12 @@ fn keeps_in(tree: &LockTree, job: u32, member: u32) -> bool
     requires { IsStrictlySortedBy lock_cmp tree.now }
     ensures { result ≡ list_any (λ lock. is_boundary_in member lock && is_by job lock) tree.now }
 {
-    first_in(tree, Part::InMember(job, Reach::Boundary, member), None).is_some()
+    first_in(
+        tree,
+        Part::InMember(job, Reach::Boundary, member),
+        Sought::Any,
+    )
+    .is_some()
 }
 
 // The first lock of this job and those after it.

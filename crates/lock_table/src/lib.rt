@@ -7,6 +7,7 @@ mod fault;
 pub mod laws;
 mod levels;
 mod lock;
+mod marks;
 mod part;
 mod sorted;
 mod table;

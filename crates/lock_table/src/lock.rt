@@ -115,6 +115,7 @@ impl Holder {
 
 impl Lock {
     ghost use Rattle.lock_table.specs.Lock.{are_apart, bound, is_of_open, is_of_open_on, is_on};
+    ghost use Rattle.lock_table.specs.Index.{record_first};
 
     /// The same lock, kept to the boundary.
     pub fn to_boundary(&self) -> Lock
@@ -123,6 +124,23 @@ impl Lock {
         Lock {
             reach: Reach::Boundary,
             ..*self
+        }
+    }
+
+    /// The same lock with its record in the place of its job, so that locks are by record.
+    pub fn record_first(&self) -> Lock
+        ensures { result ≡ record_first self.now }
+    {
+        let at = RecordId {
+            member: self.at.rrn,
+            rrn: self.job,
+        };
+        Lock {
+            job: self.at.member,
+            reach: self.reach,
+            at,
+            opened: self.opened,
+            kind: self.kind,
         }
     }
 

@@ -2,7 +2,7 @@
 //! The locks of a part stand side by side. Where they stand is found in sorted.rt.
 ghost use Rattle.std.specs.Prelude.{◌≡◌};
 
-use crate::lock::{Lock, Reach, RecordId};
+use crate::lock::{Lock, LockKind, Reach, RecordId};
 use std::cmp::Ordering;
 
 /// Which locks are looked for.
@@ -12,6 +12,16 @@ pub enum Part {
     Reaching(u32, Reach),
     InMember(u32, Reach, u32),
     OnRecord(u32, Reach, RecordId),
+}
+
+/// Which lock of a part is looked for.
+#[derive(Clone, Copy)]
+pub enum Sought {
+    Any,
+    /// One through this open.
+    Through(u32),
+    /// One of another job than this, that clashes with this kind. The locks are by record.
+    Against(u32, LockKind),
 }
 
 impl Part {

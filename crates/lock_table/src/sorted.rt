@@ -1,15 +1,12 @@
-//! Trees of locks in strict order: where a lock is put in, where it is taken out, and where a part of them is taken out.
-ghost use Rattle.std.specs.List.{AllByRecursion};
+//! Trees of locks in strict order: where a lock is put in, and where it is taken out.
 ghost use Rattle.std.specs.List.Sorted.{IsStrictlySortedBy};
-ghost use Rattle.std.specs.Prelude.{◌≡◌, ◌≤◌, ◌+◌, ◌++◌, true, false, length, is_some, if◌then◌else◌, vec_len, vec_capacity};
+ghost use Rattle.std.specs.Prelude.{◌≡◌, ◌≤◌, ◌+◌, length, is_some, if◌then◌else◌, vec_len, vec_capacity};
 ghost use Rattle.lock_table.specs.Lock.{lock_cmp};
-ghost use Rattle.lock_table.specs.Table.{freed, with_lock, without_lock};
-ghost use Rattle.lock_table.specs.Index.{is_ahead, is_part, part_cmp};
+ghost use Rattle.lock_table.specs.Table.{with_lock, without_lock};
 
 use crate::chosen::{is_there, order};
 use crate::lock::Lock;
-use crate::part::Part;
-use crate::tree::{LockTree, Node, Top, appended, balanced, drained, joined, leaf};
+use crate::tree::{LockTree, Node, Top, appended, balanced, joined, leaf};
 use std::cmp::Ordering;
 use std::mem;
 
@@ -90,48 +87,4 @@ fn removed(tree: LockTree, lock: &Lock) -> (LockTree, Option<Box<Node>>)
             }
         }
     }
-}
-
-/// Takes the locks of a part out. Their nodes are free then.
-pub fn take_locks(locks: &mut LockTree, free: &mut Vec<Box<Node>>, part: Part)
-    requires ordered { IsStrictlySortedBy lock_cmp locks.old }
-    requires stored { length locks.old + vec_len free.old ≤ vec_capacity free.old }
-    ensures locks { locks.new ≡ freed (is_part part) locks.old }
-    ensures nodes { length locks.new + vec_len free.new ≡ length locks.old + vec_len free.old }
-    ensures capacity { vec_capacity free.new ≡ vec_capacity free.old }
-{
-    let tree = mem::replace(locks, LockTree::new());
-    let (before, rest) = parted(tree, part, false);
-    let (run, after) = parted(rest, part, true);
-    *locks = appended(before, after);
-    drained(run, free);
-}
-
-// The locks before the part, or with `itself` also those in it, and the other ones.
-fn parted(tree: LockTree, part: Part, itself: bool) -> (LockTree, LockTree)
-    requires { IsStrictlySortedBy lock_cmp tree }
-    ensures whole { tree ≡ result.0 ++ result.1 }
-    ensures ahead { AllByRecursion (λ lock. is_ahead itself (part_cmp part lock) ≡ true) result.0 }
-    ensures behind { AllByRecursion (λ lock. is_ahead itself (part_cmp part lock) ≡ false) result.1 }
-{
-    match tree.top {
-        Top::Empty => (LockTree::new(), LockTree::new()),
-        Top::At(mut top) => {
-            let left = mem::replace(&mut top.left, LockTree::new());
-            let right = mem::replace(&mut top.right, LockTree::new());
-            if is_ahead(part.side_of(&top.lock), itself) {
-                let (ahead, behind) = parted(right, part, itself);
-                (joined(left, top, ahead), behind)
-            } else {
-                let (ahead, behind) = parted(left, part, itself);
-                (ahead, joined(behind, top, right))
-            }
-        }
-    }
-}
-
-fn is_ahead(side: Ordering, itself: bool) -> bool
-    ensures { result ≡ is_ahead itself side }
-{
-    if itself { side.is_le() } else { side.is_lt() }
 }

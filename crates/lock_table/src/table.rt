@@ -1,6 +1,6 @@
 //! The table of all record locks: one list in order, where those of a job stand side by side, its open locks before its
 //! boundary locks. It is kept as a tree (tree.rt), so that no lock moves for another one. The searches in it are in
-//! sorted.rt and chosen.rt.
+//! sorted.rt and chosen.rt. Its locks are kept by record besides (marks.rt).
 ghost use Rattle.std.specs.List.{All, Contains, list_any};
 ghost use Rattle.std.specs.Prelude.{true, false, ◌≡◌, ℕ, ◌+◌, ◌<◌, ◌≤◌, ◌==◌, ◌↔◌, Bool, Option, IsOk, IsErrOf, OnOk, OnErr, IfSome, IfNone, Some, None, Err, [], length, filter};
 ghost use Rattle.commit_level.specs.declared.Level.{Level};
@@ -12,11 +12,12 @@ ghost use Rattle.lock_table.specs.Table.{IsTable, IsOneOf, HasRoom, without_lock
 ghost use Rattle.lock_table.specs.Index.{is_part};
 ghost use Rattle.lock_table.specs.Levels.{locks_after};
 
-use crate::chosen::{count_in, first_in, is_there, least_blocker, least_keeper};
+use crate::chosen::{count_in, first_in, is_there, least_keeper};
 use crate::fault::{InUse, LockFault};
 use crate::lock::{Holder, Lock, LockKind, Reach, RecordId};
-use crate::part::Part;
-use crate::sorted::{put_lock, take_lock, take_locks};
+use crate::marks::Marks;
+use crate::part::{Part, Sought};
+use crate::sorted::{put_lock, take_lock};
 use crate::tree::{LockTree, Node, add_free};
 use std::alloc::Global;
 use std::marker::Model;
@@ -31,19 +32,21 @@ pub struct LockTable {
     free: Vec<Box<Node>>,
     // Those of the locks and the free ones.
     nodes: usize,
+    // The same locks by record.
+    marks: Marks,
     room: usize,
 }
 
 impl Model for LockTable {
     ghost use Rattle.std.specs.Vec.{vec_len, vec_capacity};
     ghost use Rattle.lock_table.specs.Table.{Locks};
-    ghost use Rattle.lock_table.specs.Index.{IsStored};
+    ghost use Rattle.lock_table.specs.Index.{IsMarked};
 
     ghost Value = { Locks };
 
     ghost view = { λ t. record { held = t.locks; room = t.room } };
 
-    ghost invariant = { λ t. IsStored t.locks t.room t.nodes (vec_len t.free) (vec_capacity t.free) };
+    ghost invariant = { λ t. IsMarked t.locks t.room t.nodes (vec_len t.free) (vec_capacity t.free) t.marks };
 }
 
 /// What a job holds on a record.
@@ -64,6 +67,7 @@ impl LockTable {
             locks: LockTree::new(),
             free: Vec::new(alloc),
             nodes: 0,
+            marks: Marks::new(alloc),
             room: 0,
         }
     }
@@ -97,6 +101,7 @@ impl LockTable {
             self.nodes = held + self.free.len();
             added?;
         }
+        self.marks.reserve(wanted)?;
         self.room = self.room.max(wanted);
         Ok(())
     }
@@ -105,7 +110,7 @@ impl LockTable {
     pub fn clash(&self, job: u32, at: RecordId, kind: LockKind) -> Option<u32>
         ensures { result ≡ blocker job at kind self.now.held }
     {
-        least_blocker(&self.locks, job, at, kind)
+        self.marks.blocker(job, at, kind)
     }
 
     /// How many locks would be held after a read through this open that locks the record so.
@@ -233,7 +238,7 @@ impl LockTable {
         let kept = Part::OnRecord(holder.job, Reach::Boundary, at);
         Held {
             by_open: self.open_lock_on(holder, at).is_some(),
-            to_boundary: first_in(&self.locks, kept, None).is_some(),
+            to_boundary: first_in(&self.locks, kept, Sought::Any).is_some(),
         }
     }
 
@@ -282,7 +287,7 @@ impl LockTable {
         ensures none { IfNone result (filter (is_of_open holder) self.now.held ≡ []) }
     {
         let part = Part::Reaching(holder.job, Reach::Open);
-        first_in(&self.locks, part, Some(holder.opened))
+        first_in(&self.locks, part, Sought::Through(holder.opened))
     }
 
     fn open_lock_on(&self, holder: Holder, at: RecordId) -> Option<Lock>
@@ -291,7 +296,14 @@ impl LockTable {
         ensures none { IfNone result (filter (is_of_open_on holder at) self.now.held ≡ []) }
     {
         let part = Part::OnRecord(holder.job, Reach::Open, at);
-        first_in(&self.locks, part, Some(holder.opened))
+        first_in(&self.locks, part, Sought::Through(holder.opened))
+    }
+
+    fn first_of(&self, part: Part) -> Option<Lock>
+        ensures some { IfSome result (λ lock. IsOneOf (is_part part) lock self.now.held) }
+        ensures none { IfNone result (filter (is_part part) self.now.held ≡ []) }
+    {
+        first_in(&self.locks, part, Sought::Any)
     }
 
     // Puts a lock that clashes with none into the list.
@@ -301,6 +313,7 @@ impl LockTable {
         ensures { self.new ≡ holding (with_lock lock self.old.held) self.old }
     {
         put_lock(&mut self.locks, &mut self.free, lock);
+        self.marks.put(lock);
     }
 
     // Takes a lock out, where it is held.
@@ -308,20 +321,24 @@ impl LockTable {
         ensures { self.new ≡ holding (without_lock lock self.old.held) self.old }
     {
         take_lock(&mut self.locks, &mut self.free, &lock);
+        self.marks.take(lock);
     }
 
     // Keeps a lock that is held to the boundary.
     fn keep(&mut self, lock: Lock)
-        requires { Contains self.old.held lock }
+        requires table { IsTable self.old }
+        requires there { Contains self.old.held lock }
         ensures { self.new ≡ holding (with_lock (bound lock) (without_lock lock self.old.held)) self.old }
     {
-        take_lock(&mut self.locks, &mut self.free, &lock);
-        put_lock(&mut self.locks, &mut self.free, lock.to_boundary());
+        self.free(lock);
+        self.add(lock.to_boundary());
     }
 
     fn free_part(&mut self, part: Part)
         ensures { self.new ≡ holding (freed (is_part part) self.old.held) self.old }
     {
-        take_locks(&mut self.locks, &mut self.free, part);
+        while let Some(lock) = self.first_of(part) {
+            self.free(lock);
+        }
     }
 }

@@ -275,21 +275,6 @@ fn first_taken(tree: LockTree) -> (LockTree, Option<Box<Node>>)
     }
 }
 
-/// Puts the nodes of the tree to the free ones.
-pub fn drained(tree: LockTree, free: &mut Vec<Box<Node>>)
-    requires { vec_len free.old + length tree ≤ vec_capacity free.old }
-    ensures count { vec_len free.new ≡ vec_len free.old + length tree }
-    ensures capacity { vec_capacity free.new ≡ vec_capacity free.old }
-{
-    if let Top::At(mut node) = tree.top {
-        let left = mem::replace(&mut node.left, LockTree::new());
-        let right = mem::replace(&mut node.right, LockTree::new());
-        free.push_reserved(node);
-        drained(left, free);
-        drained(right, free);
-    }
-}
-
 /// Makes so many free nodes more.
 pub fn add_free(free: &mut Vec<Box<Node>>, held: usize, count: usize) -> Result<(), AllocError>
     requires few { held + vec_len free.old + count ≤ MOST_LOCKS }

@@ -1,19 +1,17 @@
 -- The least other record with a key, told by the bytes of the keys, is that of the definition.
-use Rattle.std.proofs.Common.{◌≡◌, ℕ, zero, ◌+◌, ◌<◌, ◌≤◌, Bool, true, false, not, cond, ◌&&◌, ◌==◌, Option, Some, None, List, [], ◌∷◌, ◌++◌, map, min, refl, sym, ◌∙◌, ap, subst, arith}
+use Rattle.std.proofs.Common.{◌≡◌, ℕ, zero, ◌<◌, Bool, true, false, not, cond, ◌&&◌, ◌==◌, Option, Some, None, List, [], ◌∷◌, ◌++◌, map, min, refl, ◌∙◌, ap, subst, arith}
 use Rattle.std.specs.Prelude.{All}
 use Rattle.std.specs.List.{AllByRecursion, find}
 use Rattle.std.specs.Cmp.Lexicographic.{slice_cmp}
 use Rattle.std.specs.Option.{option_map}
 use Rattle.std.specs.declared.cmp.Ordering.{Ordering}
 use Rattle.std.specs.Ordering.{is_eq, is_lt, nat_cmp}
-use Rattle.std.proofs.lemmas.Bool.{cond-true, cond-false}
 use Rattle.std.proofs.lemmas.List.Elements.{recursion_from_All}
 use Rattle.key_spec.specs.declared.KeyPart.{KeyPart}
 use Rattle.key_spec.specs.declared.Ties.{Ties}
-use Rattle.key_pages.specs.declared.entries.Entry.{Entry}
 use Rattle.member_slots.specs.Members.{NumberedMembers, member_of}
 use Rattle.file_model.specs.declared.paths.PathFormat.{PathFormat}
-use Rattle.file_model.specs.KeyOrder.{KeyValue, compare_keys}
+use Rattle.file_model.specs.KeyOrder.{KeyValue}
 use Rattle.file_model.specs.Selection.{selects}
 use Rattle.file_model.specs.Sorting.{put_in_order, in_order}
 use Rattle.file_model.specs.Views.{view_of}
@@ -21,7 +19,7 @@ use Rattle.file_model.specs.Paths.{PathEntry, compare_entries, path_key, entries
 use Rattle.key_order.specs.KeyBytes.{key_bytes}
 use Rattle.key_order.specs.KeyFields.{AreBytes}
 use Rattle.key_order.proofs.KeyLemmas.{AreFit, keys-cmp, image-fits, Matches-itself}
-use Rattle.access_path.specs.Clash.{lesser, other_number, least_other}
+use Rattle.access_path.specs.Clash.{lesser, least_other}
 use Rattle.access_path.specs.PathBytes.{in_bytes, parts_of, ShowsBytes, IsInBytes}
 use Rattle.access_path.proofs.OrderedLemmas.{all-in_order}
 use Rattle.path_entrants.proofs.RepeatedLemmas.{lesser-swap, IsGood, Rises, rises-from, good-from}

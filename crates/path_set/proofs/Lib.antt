@@ -4,6 +4,10 @@ pub mod SearchLemmas
 pub mod OrderLemmas
 pub mod FoundLemmas
 pub mod MoveLemmas
+pub mod NumberLemmas
+pub mod OverLemmas
+pub mod IndexLemmas
+pub mod TurnLemmas
 pub mod PrepareLemmas
 pub mod ShareLemmas
 pub mod AttachLemmas

@@ -1,5 +1,5 @@
 -- The moves of several changes lead the paths to the members after the last one.
-use Rattle.std.proofs.Common.{ℕ, zero, suc, ◌+◌, ◌*◌, ◌<◌, ◌≤◌, ◌≡◌, ◌≢◌, ◌==◌, Bool, true, false, cond, ◌||◌, List, [], ◌∷◌, ◌++◌, length, map, get_or, IsSome, refl}
+use Rattle.std.proofs.Common.{ℕ, zero, suc, ◌*◌, ◌<◌, ◌≤◌, ◌≡◌, ◌≢◌, ◌==◌, Bool, true, false, cond, ◌||◌, List, [], ◌∷◌, ◌++◌, length, map, get_or, IsSome, refl}
 use Rattle.std.proofs.Common.{sym, ap, arith, ◌∙◌, subst}
 use Rattle.std.specs.Prelude.{All, Any, AllPairs}
 use Rattle.std.specs.List.{AllByRecursion, list_any}
@@ -10,17 +10,16 @@ use Rattle.std.proofs.lemmas.List.Elements.{All-map, All-from_recursion, recursi
 use Rattle.key_pages.specs.declared.entries.Entry.{Entry}
 use Rattle.member_slots.specs.Members.{Numbered, NumberedMembers, item_at}
 use Rattle.file_model.specs.declared.paths.PathFormat.{PathFormat}
-use Rattle.access_path.specs.Moves.{Move}
 use Rattle.access_path.specs.PathBytes.{is_falling}
 use Rattle.path_set.specs.declared.moves.ImageChange.{ImageChange}
 use Rattle.path_set.specs.declared.moves.PathMove.{PathMove}
 use Rattle.path_set.specs.KeptPaths.{KeptPath, KeptPaths, NumberedPaths, AreShared, AreOver, spare_of}
-use Rattle.path_set.specs.RecordChanges.{RecordChange, moves_of, in_path, moves_in, entries_after, path_after, paths_after, FitEntries, CanBeMade, count_in, HaveRoom}
+use Rattle.path_set.specs.RecordChanges.{RecordChange, moves_of, in_path, moves_in, path_after, paths_after, FitEntries, CanBeMade, count_in, HaveRoom}
 use Rattle.path_set.specs.ManyChanges.{change_in, moves_of_all, LeadTo}
 use Rattle.path_set.specs.MemberSteps.{is_over}
 use Rattle.path_set.proofs.MoveLemmas.{paths_after-none}
 use Rattle.path_set.proofs.RecordLemmas.{Ascend, ascend-from, after-append, fit-append, both-moves, paths-there, paths-fit, paths-over, moves-later, count-append, count-other}
-use Rattle.path_set.proofs.RoomLemmas.{most_in, own-few, others-counted, later-apart}
+use Rattle.path_set.proofs.RoomLemmas.{own-few, others-counted, later-apart}
 
 -- ---- one list of moves after another
 

@@ -1,13 +1,12 @@
 -- Changes that are prepared one after another, and moves that are made from the last one to the first.
-use Rattle.std.proofs.Common.{ℕ, zero, suc, ◌+◌, ◌*◌, ◌<◌, ◌≤◌, ◌≡◌, List, [], ◌∷◌, ◌++◌, length, map, drop, get_or, Option, Some, None, refl, sym, ap, arith, ◌∙◌, subst, append_assoc}
+use Rattle.std.proofs.Common.{ℕ, zero, suc, ◌+◌, ◌<◌, ◌≤◌, ◌≡◌, List, [], ◌∷◌, ◌++◌, length, map, drop, get_or, Option, Some, None, refl, sym, ap, arith, ◌∙◌, subst, append_assoc}
 use Rattle.std.specs.Prelude.{All, reverse, option_to_list}
-use Rattle.std.specs.Option.{option_copied}
 use Rattle.std.proofs.lemmas.List.{map-append, reverse-append, reverse-reverse, length-reverse}
 use Rattle.access_path.specs.Moves.{Move, opposite}
 use Rattle.path_set.specs.declared.moves.ImageChange.{ImageChange}
 use Rattle.path_set.specs.declared.moves.PathMove.{PathMove}
 use Rattle.path_set.specs.KeptPaths.{KeptPaths, NumberedPaths, spare_of}
-use Rattle.path_set.specs.RecordChanges.{RecordChange, TakeImage, moves_in, opposites, paths_after, HaveRoom, CanBeMade, count_in}
+use Rattle.path_set.specs.RecordChanges.{moves_in, opposites, paths_after, HaveRoom, CanBeMade, count_in}
 use Rattle.path_set.specs.ManyChanges.{change_in, TakeImages, moves_of_all}
 use Rattle.path_set.proofs.MoveLemmas.{IsUnderway, IsMade, IsNext, underway-first, underway-length, underway-next, underway-end}
 use Rattle.path_set.proofs.UndoLemmas.{count-reverse}

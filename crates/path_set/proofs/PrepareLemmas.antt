@@ -1,9 +1,11 @@
 -- Changes that are prepared in one format after another, and in one path after another.
-use Rattle.std.proofs.Common.{ℕ, zero, suc, ◌+◌, ◌*◌, ◌<◌, ◌≤◌, ◌≡◌, ◌≢◌, ◌==◌, Bool, true, false, List, [], ◌∷◌, ◌++◌, length, map, drop, set, get_or, Option, Some, None, IfSome, refl}
-use Rattle.std.proofs.Common.{sym, ap, arith, ◌∙◌, subst, append_assoc}
+use Rattle.std.proofs.Common.{ℕ, zero, suc, ◌+◌, ◌*◌, ◌<◌, ◌≤◌, ◌≡◌, ◌≢◌, ◌==◌, Bool, true, false, cond, ◌||◌, List, [], ◌∷◌, ◌++◌, length, map, drop, set, get_or, Option, Some, None, IfSome, refl}
+use Rattle.std.proofs.Common.{sym, ap, arith, ◌∙◌, subst, append_assoc, eqb-true}
 use Rattle.std.specs.Prelude.{All, Any, slice_get}
+use Rattle.std.specs.List.{AllByRecursion, list_any}
 use Rattle.std.proofs.lemmas.Bool.Decides.{nat_tests}
-use Rattle.std.proofs.lemmas.List.{map-append, length-map, get_or-map, get_or-set_same, get_or-set_other}
+use Rattle.std.proofs.lemmas.List.{map-append, length-map}
+use Rattle.std.proofs.lemmas.List.Elements.{All-from_recursion, recursion_from_All}
 use Rattle.file_model.specs.declared.paths.PathFormat.{PathFormat}
 use Rattle.file_model.specs.declared.paths.PathSpec.{PathSpec}
 use Rattle.key_pages.specs.declared.entries.Entry.{Entry}
@@ -17,7 +19,13 @@ use Rattle.path_set.specs.declared.moves.PathMove.{PathMove}
 use Rattle.path_set.specs.KeptPaths.{KeptPath, KeptPaths, NumberedPaths, spare_of}
 use Rattle.path_set.specs.RecordChanges.{RecordChange, TakesImage, TakeImage, in_path, moves_at, moves_from, moves_of, moves_in, HaveRoom}
 use Rattle.path_set.specs.Entries.{AreKept, HasMoreRoom, paths_of, numbered, path_of}
+use Rattle.path_set.specs.declared.by_member.PathOver.{PathOver}
+use Rattle.path_set.specs.MemberSteps.{is_over, paths_over}
+use Rattle.path_set.specs.ByMember.{AreNumbers}
 use Rattle.path_set.proofs.FoundLemmas.{IsFound, found, found-each, IsPlace-at}
+use Rattle.path_set.proofs.MemberStepLemmas.{moves-over}
+use Rattle.path_set.proofs.RebuildLemmas.{over-any}
+use Rattle.path_set.proofs.TurnLemmas.{IsOver, IsTurn, over-length, turns-end}
 
 -- ---- the formats of a path
 
@@ -118,141 +126,143 @@ preparing-end start c changes begun format moves now p high =
 
 -- ---- one path after another
 
--- a path of the member has memory for the moves of so many changes
-abbrev pub HasRoomAt : (member changes : ℕ) → Kept → Type 0
-HasRoomAt member changes kept =
-    (k : ℕ) → k < length (members_of kept.by.formats) → get_or (members_of kept.by.formats) k 0 ≡ member → changes * length (members_of kept.by.formats) ≤ kept.path.spare
-
 path-same : (kept new : Kept) → HasMoreRoom kept new → path_of new ≡ path_of kept
 path-same kept new more =
     ap (λ (s : PathSpec). record { spec = s; files = new.files; entries = new.path.entries }) more.by
     ∙ ap (λ (n : ℕ). record { spec = kept.by; files = n; entries = new.path.entries }) more.files
     ∙ ap (λ (w : List Entry). record { spec = kept.by; files = kept.files; entries = w }) more.entries
 
-pub record IsStepped (c : RecordChange) (changes : ℕ) (value : KeptPaths) (items : List Kept) (place : ℕ) (kept new : Kept) (moves more : List PathMove) : Type 0 where
+-- the path at a place has more room
+pub record IsStepped (items : List Kept) (place : ℕ) (kept new : Kept) : Type 0 where
   pub kept_after : AreKept (set items place new)
-  pub same : map (numbered path_of) (set items place new) ≡ value.paths
-  pub moves_after : (whole : List PathMove) → more ≡ moves ++ in_path kept.id (moves_of c kept.by) → moves ++ moves_in c (drop place value.paths) ≡ whole
-      → more ++ moves_in c (drop (place + 1) value.paths) ≡ whole
-  pub rooms : ((id : ℕ) → spare_of id value ≤ spare_of id (paths_of items)) → (id : ℕ) → spare_of id value ≤ spare_of id (paths_of (set items place new))
-  pub room : ((k : ℕ) (d : Kept) → k < place → HasRoomAt c.member changes (get_or items k d)) → HasRoomAt c.member changes new
-      → (k : ℕ) (d : Kept) → k < place + 1 → HasRoomAt c.member changes (get_or (set items place new) k d)
+  pub same : map (numbered path_of) (set items place new) ≡ map (numbered path_of) items
+  pub rooms : (id : ℕ) → spare_of id (paths_of items) ≤ spare_of id (paths_of (set items place new))
+  pub here : spare_of kept.id (paths_of (set items place new)) ≡ new.path.spare
 
-pub prepare-step : (c : RecordChange) (changes : ℕ) (value : KeptPaths) (items : List Kept) (place : ℕ) (kept new : Kept) (moves more : List PathMove) → AreKept items
-    → map (numbered path_of) items ≡ value.paths → place < length items → kept ≡ get_or items place kept → HasMoreRoom kept new → IsStepped c changes value items place kept new moves more
-prepare-step c changes value items place kept new moves more h same low read wider = record {
+prepare-step : (items : List Kept) (place : ℕ) (kept new : Kept) → AreKept items → place < length items → kept ≡ get_or items place kept → HasMoreRoom kept new → IsStepped items place kept new
+prepare-step items place kept new h low read wider = record {
   kept_after = entry.ordered new wider.id wider.by (record {
     falling = wider.falling ∙ entry.is.falling ∙ ap (λ (s : PathSpec). is_falling s.ties) (sym wider.by);
     attached = let e = wider.files in let a = entry.is.attached in omega (arith, e, a);
   });
-  same = entry.paths_after new wider.id ∙ ap (λ (p : KeptPath). with_item kept.id p (map (numbered path_of) items)) (path-same kept new wider) ∙ entry.same_paths ∙ same;
-  moves_after = λ whole is before.
-      let at : get_or value.paths place (numbered path_of kept) ≡ numbered path_of kept =
-      ap (λ (w : NumberedPaths). get_or w place (numbered path_of kept)) (sym same)
-      ∙ get_or-map (numbered path_of) items place kept (numbered path_of kept) low ∙ ap (numbered path_of) (sym read) in
-      let within : place < length value.paths = rw (← same) (rw length-map low) in
-      let split : drop place value.paths ≡ numbered path_of kept ∷ drop (place + 1) value.paths =
-      drop-first value.paths place (numbered path_of kept) within ∙ ap (λ (p : Numbered KeptPath). p ∷ drop (place + 1) value.paths) at in
-      ap (λ (w : List PathMove). w ++ moves_in c (drop (place + 1) value.paths)) is
-      ∙ append_assoc moves (in_path kept.id (moves_of c kept.by)) (moves_in c (drop (place + 1) value.paths))
-      ∙ ap (λ (w : NumberedPaths). moves ++ moves_in c w) (sym split)
-      ∙ before;
-  rooms = λ so id.
-      equal-or-not (spare_of id value ≤ spare_of id (paths_of (set items place new))) id kept.id
-      (λ own. subst (λ n. spare_of n value ≤ spare_of n (paths_of (set items place new))) (sym own)
-      (let a = so kept.id in let b = entry.spare in let e = entry.spare_after new wider.id in let w = wider.spare in omega (arith, a, b, e, w)))
-      (λ other. let a = so id in let e = entry.others_after new id wider.id other in omega (arith, a, e));
-  room = λ so here k d below.
-      equal-or-not (HasRoomAt c.member changes (get_or (set items place new) k d)) k place
-      (λ own. subst (λ n. HasRoomAt c.member changes (get_or (set items place new) n d)) (sym own) (subst (HasRoomAt c.member changes) (sym (get_or-set_same items place new d low)) here))
-      (λ other. subst (HasRoomAt c.member changes) (sym (get_or-set_other items place k new d other)) (so k d (omega arith)));
+  same = entry.paths_after new wider.id ∙ ap (λ (p : KeptPath). with_item kept.id p (map (numbered path_of) items)) (path-same kept new wider) ∙ entry.same_paths;
+  rooms = λ id.
+      equal-or-not (spare_of id (paths_of items) ≤ spare_of id (paths_of (set items place new))) id kept.id
+      (λ own. subst (λ n. spare_of n (paths_of items) ≤ spare_of n (paths_of (set items place new))) (sym own)
+      (let b = entry.spare in let e = entry.spare_after new wider.id in let w = wider.spare in omega (arith, b, e, w)))
+      (λ other. let e = entry.others_after new id wider.id other in omega (arith, e));
+  here = entry.spare_after new wider.id;
 }
   where
     entry : IsFound items (paths_of items) kept.id place kept
     entry = found items items (paths_of items) kept.id place kept refl h refl (IsPlace-at items place kept h low read) read
 
--- what is prepared in the paths before this place
-pub record IsGathering (start : KeptPaths) (begun : List PathMove) (c : RecordChange) (changes place : ℕ) (moves : List PathMove) (items : List Kept) : Type 0 where
+-- a path has memory for the moves of so many changes
+abbrev pub HasRoomIn : (changes : ℕ) → List Kept → Numbered KeptPath → Type 0
+HasRoomIn changes items path = changes * length path.item.spec.formats ≤ spare_of path.number (paths_of items)
+
+-- what is prepared in the paths before this turn
+pub record IsGathering (start : KeptPaths) (begun : List PathMove) (c : RecordChange) (changes turn : ℕ) (moves : List PathMove) (items : List Kept) : Type 0 where
   pub kept : AreKept items
   pub same : map (numbered path_of) items ≡ start.paths
-  pub moves_left : moves ++ moves_in c (drop place start.paths) ≡ begun ++ moves_in c start.paths
+  pub moves_left : moves ++ moves_in c (drop turn (paths_over c.member start.paths)) ≡ begun ++ moves_in c start.paths
   pub rooms : (id : ℕ) → spare_of id start ≤ spare_of id (paths_of items)
-  pub room : (k : ℕ) (d : Kept) → k < place → HasRoomAt c.member changes (get_or items k d)
+  pub room : (k : ℕ) (d : Numbered KeptPath) → k < turn → HasRoomIn changes items (get_or (paths_over c.member start.paths) k d)
 
-pub gathering-first : (start : KeptPaths) (begun : List PathMove) (c : RecordChange) (changes : ℕ) (items : List Kept) → paths_of items ≡ start → AreKept items
-    → IsGathering start begun c changes 0 begun items
-gathering-first start begun c changes items view h = record {
+pub gathering-first : (begun : List PathMove) (c : RecordChange) (changes : ℕ) (items : List Kept) → AreKept items → IsGathering (paths_of items) begun c changes 0 begun items
+gathering-first begun c changes items h = record {
   kept = h;
-  same = ap (λ (v : KeptPaths). v.paths) view;
-  moves_left = refl;
-  rooms = λ id. subst (λ (v : KeptPaths). spare_of id v ≤ spare_of id (paths_of items)) view (omega arith);
+  same = refl;
+  moves_left = ap (λ (w : List PathMove). begun ++ w) (sym (moves-over c (map (numbered path_of) items)));
+  rooms = λ id. omega arith;
   room = λ k d low. absurd (omega arith);
 }
 
-pub gathering-takes : (start : KeptPaths) (begun : List PathMove) (c : RecordChange) (changes place : ℕ) (moves : List PathMove) (items : List Kept) (kept : Kept) (member : ℕ) (image : Option (List ℕ))
-    → IsGathering start begun c changes place moves items → place < length items → kept ≡ get_or items place kept → TakeImage member image start.paths → TakesImage member image kept.by
-gathering-takes start begun c changes place moves items kept member image g low read takes =
-    found-each (λ (path : Numbered KeptPath). TakesImage member image path.item.spec) items place kept low read
-    (subst (λ (w : NumberedPaths). TakeImage member image w) (sym g.same) takes)
+pub gathering-over : (start : KeptPaths) (begun : List PathMove) (c : RecordChange) (changes turn : ℕ) (moves : List PathMove) (items : List Kept) (over : List PathOver)
+    → IsGathering start begun c changes turn moves items → AreNumbers c.member over start.paths → IsOver items start.paths c.member over
+gathering-over start begun c changes turn moves items over g numbers = record { kept = g.kept; same = g.same; numbers = numbers }
 
--- the path at this place has more room
-pub gathering-wider : (start : KeptPaths) (begun : List PathMove) (c : RecordChange) (changes place : ℕ) (moves : List PathMove) (items : List Kept) (kept new : Kept)
-    → IsGathering start begun c changes place moves items → place < length items → kept ≡ get_or items place kept → HasMoreRoom kept new → IsStepped c changes start items place kept new moves moves
-gathering-wider start begun c changes place moves items kept new g low read wider = prepare-step c changes start items place kept new moves moves g.kept g.same low read wider
+module _ (start : KeptPaths) (begun : List PathMove) (c : RecordChange) (changes turn : ℕ) (moves : List PathMove) (items : List Kept) (g : IsGathering start begun c changes turn moves items)
+    (number place : ℕ) (kept : Kept) (here : IsTurn items start.paths c.member turn number place kept) where
+  pub gathering-takes : (image : Option (List ℕ)) → TakeImage c.member image start.paths → TakesImage c.member image kept.by
+  gathering-takes image takes =
+      found-each (λ (path : Numbered KeptPath). TakesImage c.member image path.item.spec) items place kept here.low here.read
+      (subst (λ (w : NumberedPaths). TakeImage c.member image w) (sym g.same) takes)
 
-pub gathering-next : (start : KeptPaths) (begun : List PathMove) (c : RecordChange) (changes place : ℕ) (moves more : List PathMove) (items : List Kept) (kept new : Kept)
-    → IsGathering start begun c changes place moves items → place < length items → kept ≡ get_or items place kept → HasMoreRoom kept new
-    → more ≡ moves ++ in_path kept.id (moves_of c kept.by)
-    → ((k : ℕ) → k < length (members_of kept.by.formats) → get_or (members_of kept.by.formats) k 0 ≡ c.member → changes * length (members_of kept.by.formats) ≤ new.path.spare)
-    → IsGathering start begun c changes (place + 1) more (set items place new)
-gathering-next start begun c changes place moves more items kept new g low read wider is room =
-    let step = prepare-step c changes start items place kept new moves more g.kept g.same low read wider in
-    record {
-      kept = step.kept_after;
-      same = step.same;
-      moves_left = step.moves_after (begun ++ moves_in c start.paths) is g.moves_left;
-      rooms = step.rooms g.rooms;
-      room = step.room g.room (subst (λ (s : PathSpec). (k : ℕ) → k < length (members_of s.formats) → get_or (members_of s.formats) k 0 ≡ c.member
-          → changes * length (members_of s.formats) ≤ new.path.spare) (sym wider.by) room);
-    }
+  -- the path at this turn has more room
+  pub gathering-wider : (new : Kept) → HasMoreRoom kept new → IsStepped items place kept new
+  gathering-wider new wider = prepare-step items place kept new g.kept here.low here.read wider
 
-pub gathering-end : (start : KeptPaths) (begun : List PathMove) (c : RecordChange) (changes place : ℕ) (moves : List PathMove) (items : List Kept) → IsGathering start begun c changes place moves items → length items ≤ place
-    → moves ≡ begun ++ moves_in c start.paths
-gathering-end start begun c changes place moves items g high =
-    let longer : length start.paths ≤ place = rw (← g.same) (rw length-map high) in
-    sym (append-none moves) ∙ ap (λ (w : NumberedPaths). moves ++ moves_in c w) (sym (drop-all start.paths place longer)) ∙ g.moves_left
+  pub gathering-rooms : (new : Kept) → HasMoreRoom kept new → (id : ℕ) → spare_of id start ≤ spare_of id (paths_of (set items place new))
+  gathering-rooms new wider id = let a = g.rooms id in let b = (gathering-wider new wider).rooms id in omega (arith, a, b)
 
-pub prepare-room : (member changes : ℕ) (items : List Kept) → AreKept items → ((k : ℕ) (d : Kept) → k < length items → HasRoomAt member changes (get_or items k d))
-    → HaveRoom member changes (paths_of items)
-prepare-room member changes items h room k d within any = by items h room within refl
+  -- one of its formats is over the member
+  format-there : (formats : List PathFormat) → list_any (λ (f : PathFormat). f.member == c.member) formats ≡ true
+      → (k : ℕ) × (k < length (members_of formats)) × (get_or (members_of formats) k 0 ≡ c.member)
+  format-there [] is = absurd (let e : false ≡ true = is in cc)
+  format-there (f ∷ formats) is = by (f.member == c.member) refl is (format-there formats)
+    where
+      by : (b : Bool) → (f.member == c.member) ≡ b → b || list_any (λ (x : PathFormat). x.member == c.member) formats ≡ true
+          → (list_any (λ (x : PathFormat). x.member == c.member) formats ≡ true → (k : ℕ) × (k < length (members_of formats)) × (get_or (members_of formats) k 0 ≡ c.member))
+          → (k : ℕ) × (k < length (members_of (f ∷ formats))) × (get_or (members_of (f ∷ formats)) k 0 ≡ c.member)
+      by true own is rest = (zero, (let e : zero < length (members_of (f ∷ formats)) = omega arith in e), eqb-true f.member c.member own)
+      by false own is rest = let found = rest is in (suc found.0, (let low = found.1 in omega (arith, low)), found.2)
+
+  has-room : (spare : ℕ) → ((k : ℕ) → k < length (members_of kept.by.formats) → get_or (members_of kept.by.formats) k 0 ≡ c.member → changes * length (members_of kept.by.formats) ≤ spare)
+      → changes * length kept.by.formats ≤ spare
+  has-room spare room =
+      let there = format-there kept.by.formats here.is in
+      subst (λ (n : ℕ). changes * n ≤ spare) (length-map kept.by.formats (λ (f : PathFormat). f.member)) (room there.0 there.1 there.2)
+
+  pub gathering-next : (more : List PathMove) (new : Kept) → HasMoreRoom kept new → more ≡ moves ++ in_path kept.id (moves_of c kept.by)
+      → ((k : ℕ) → k < length (members_of kept.by.formats) → get_or (members_of kept.by.formats) k 0 ≡ c.member → changes * length (members_of kept.by.formats) ≤ new.path.spare)
+      → IsGathering start begun c changes (turn + 1) more (set items place new)
+  gathering-next more new wider is room =
+      let step = gathering-wider new wider in
+      record {
+        kept = step.kept_after;
+        same = step.same ∙ g.same;
+        moves_left = ap (λ (w : List PathMove). w ++ moves_in c (drop (turn + 1) (paths_over c.member start.paths))) is
+            ∙ append_assoc moves (in_path kept.id (moves_of c kept.by)) (moves_in c (drop (turn + 1) (paths_over c.member start.paths)))
+            ∙ ap (λ (w : NumberedPaths). moves ++ moves_in c w) (sym here.split)
+            ∙ g.moves_left;
+        rooms = gathering-rooms new wider;
+        room = λ k d below.
+            equal-or-not (HasRoomIn changes (set items place new) (get_or (paths_over c.member start.paths) k d)) k turn
+            (λ own. subst (λ n. HasRoomIn changes (set items place new) (get_or (paths_over c.member start.paths) n d)) (sym own)
+            (subst (HasRoomIn changes (set items place new)) (sym (here.at d))
+            (let enough = has-room new.path.spare room in let spare = step.here in omega (arith, enough, spare))))
+            (λ other.
+            let path = get_or (paths_over c.member start.paths) k d in
+            let before = g.room k d (omega arith) in
+            let wide = step.rooms path.number in
+            omega (arith, before, wide));
+      }
+
+pub gathering-end : (start : KeptPaths) (begun : List PathMove) (c : RecordChange) (changes turn : ℕ) (moves : List PathMove) (items : List Kept) (over : List PathOver)
+    → IsGathering start begun c changes turn moves items → AreNumbers c.member over start.paths → length over ≤ turn → moves ≡ begun ++ moves_in c start.paths
+gathering-end start begun c changes turn moves items over g numbers high =
+    sym (append-none moves) ∙ ap (λ (w : NumberedPaths). moves ++ moves_in c w) (sym (turns-end c.member over start.paths turn numbers high)) ∙ g.moves_left
+
+abbrev HasRoomWhere : (member changes : ℕ) → List Kept → Numbered KeptPath → Type 0
+HasRoomWhere member changes items path = Any (λ (f : PathFormat). f.member ≡ member) path.item.spec.formats → HasRoomIn changes items path
+
+-- so each path of the member has room
+pub gathering-room : (start : KeptPaths) (begun : List PathMove) (c : RecordChange) (changes turn : ℕ) (moves : List PathMove) (items : List Kept) (over : List PathOver)
+    → IsGathering start begun c changes turn moves items → AreNumbers c.member over start.paths → length over ≤ turn → HaveRoom c.member changes (paths_of items)
+gathering-room start begun c changes turn moves items over g numbers high =
+    subst (λ (w : NumberedPaths). All (HasRoomWhere c.member changes items) w) (sym g.same)
+    (All-from_recursion (HasRoomWhere c.member changes items) start.paths (all start.paths (recursion_from_All (HasRoomIn changes items) (paths_over c.member start.paths)
+    (λ k d low. g.room k d (let same = over-length c.member over start.paths numbers in omega (arith, low, same, high))))))
   where
-    get-same : (xs : List Kept) (i : ℕ) (a d : Kept) → i < length xs → get_or xs i a ≡ get_or xs i d
-    get-same [] i a d low = absurd (omega arith)
-    get-same (x ∷ xs) zero a d low = refl
-    get-same (x ∷ xs) (suc i) a d low = get-same xs i a d (omega arith)
-
-    by : (xs : List Kept) → AreKept xs → ((k : ℕ) (d : Kept) → k < length xs → HasRoomAt member changes (get_or xs k d)) → k < length (map (numbered path_of) xs) → xs ≡ items
-        → changes * length (get_or (map (numbered path_of) items) k d).item.spec.formats ≤ spare_of (get_or (map (numbered path_of) items) k d).number (paths_of items)
-    by [] g r low is = absurd (omega arith)
-    by (x ∷ xs) g r low is =
-        let inside : k < length items = rw length-map at within in
-        let read : get_or items k x ≡ get_or items k (get_or items k x) = get-same items k x (get_or items k x) inside in
-        let entry : IsFound items (paths_of items) (get_or items k x).id k (get_or items k x) =
-        found items items (paths_of items) (get_or items k x).id k (get_or items k x) refl h refl (IsPlace-at items k (get_or items k x) h inside read) read in
-        let at : get_or (map (numbered path_of) items) k d ≡ numbered path_of (get_or items k x) = get_or-map (numbered path_of) items k x d inside in
-        let some : Any (λ (f : PathFormat). f.member ≡ member) (get_or items k x).by.formats = subst (λ (p : Numbered KeptPath). Any (λ (f : PathFormat). f.member
-        ≡ member) p.item.spec.formats) at any in
-        let formats = (get_or items k x).by.formats in
-        let place : get_or (members_of formats) some.0 0 ≡ member =
-        get_or-map (λ (f : PathFormat). f.member) formats some.0 some.1 0 some.2 ∙ ap (λ (f : PathFormat). f.member) some.3 ∙ some.4 in
-        let longer : length (members_of formats) ≡ length formats = length-map formats (λ (f : PathFormat). f.member) in
-        let holds : changes * length (members_of formats) ≤ (get_or items k x).path.spare = room k x inside some.0 (rw longer some.2) place in
-        subst (λ (p : Numbered KeptPath). changes * length p.item.spec.formats ≤ spare_of p.number (paths_of items)) (sym at)
-        (rw entry.spare (rw longer at holds))
+    all : (rest : NumberedPaths) → AllByRecursion (HasRoomIn changes items) (paths_over c.member rest) → AllByRecursion (HasRoomWhere c.member changes items) rest
+    all [] room = tt
+    all (path ∷ rest) room = by (is_over c.member path.item.spec) refl room (all rest)
+      where
+        by : (b : Bool) → is_over c.member path.item.spec ≡ b → AllByRecursion (HasRoomIn changes items) (cond b (path ∷ paths_over c.member rest) (paths_over c.member rest))
+            → (AllByRecursion (HasRoomIn changes items) (paths_over c.member rest) → AllByRecursion (HasRoomWhere c.member changes items) rest) → AllByRecursion (HasRoomWhere c.member changes items) (path ∷ rest)
+        by true is has more = (λ any. has.0, more has.1)
+        by false is has more = (λ any. absurd (let e : true ≡ false = sym (over-any c.member path.item.spec.formats any) ∙ is in cc), more has)
 
 pub view-length : (items : List Kept) (value : KeptPaths) → paths_of items ≡ value → length value.paths ≡ length items
 view-length items value view = ap (λ (v : KeptPaths). length v.paths) (sym view) ∙ length-map items (numbered path_of)
-
-pub gathering-length : (start : KeptPaths) (begun : List PathMove) (c : RecordChange) (changes place : ℕ) (moves : List PathMove) (items : List Kept) → IsGathering start begun c changes place moves items
-    → length items ≡ length start.paths
-gathering-length start begun c changes place moves items g = sym (length-map items (numbered path_of)) ∙ ap length g.same

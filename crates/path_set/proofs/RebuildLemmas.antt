@@ -1,11 +1,10 @@
 -- Paths made anew, and what they make of the kept paths.
 use Rattle.std.proofs.Common.{ℕ, zero, suc, ◌+◌, ◌*◌, ◌<◌, ◌≤◌, ◌≡◌, ◌≢◌, ◌==◌, Bool, true, false, cond, ◌||◌, List, [], ◌∷◌, ◌++◌, length, map, drop, set, get_or, Option, Some, None, IsSome, IfSome, refl}
 use Rattle.std.proofs.Common.{sym, ap, arith, ◌∙◌, subst, append_assoc, ◌⊎◌, inl, inr}
-use Rattle.std.specs.Prelude.{All, Any, unwrap_or, option_map}
-use Rattle.std.specs.List.{AllByRecursion, AllZip, list_any}
+use Rattle.std.specs.Prelude.{Any, unwrap_or, option_map}
+use Rattle.std.specs.List.{AllByRecursion, list_any}
 use Rattle.std.proofs.lemmas.Bool.{cond-true, cond-false}
 use Rattle.std.proofs.lemmas.Bool.Decides.{nat_tests}
-use Rattle.std.proofs.lemmas.List.{get_or-map, length-map}
 use Rattle.std.proofs.lemmas.List.Elements.{All-map, All-from_recursion, recursion_from_All}
 use Rattle.key_pages.specs.declared.entries.Entry.{Entry}
 use Rattle.key_pages.specs.EntryList.{EntryList}
@@ -19,7 +18,7 @@ use Rattle.path_set.specs.RecordChanges.{HaveRoom}
 use Rattle.path_set.specs.Sharing.{CanBeKept}
 use Rattle.path_set.specs.MemberSteps.{AreSameBut, is_over, paths_over}
 use Rattle.path_set.specs.RebuiltPaths.{CanBeRebuilt, IsRebuilt, AreRebuilt, HaveRooms, HaveTies, entries_or, room_or, path_with, room_with, kept_with, IsAdded}
-use Rattle.path_set.specs.Entries.{AreKept, IsKept, IsPlace, IsGap, paths_of, numbered, path_of, room_of}
+use Rattle.path_set.specs.Entries.{IsPlace, IsGap, paths_of, numbered, path_of, room_of}
 use Rattle.path_set.proofs.FoundLemmas.{IsFound, found-each}
 use Rattle.path_set.proofs.PlaceLemmas.{IsPlace-tail}
 use Rattle.path_set.proofs.RecordLemmas.{Ascend, ascend-from, each-apart}
@@ -28,64 +27,33 @@ use Rattle.path_set.proofs.MemberStepLemmas.{entries-others}
 
 -- ---- one path after another is made
 
--- those at this place and after it are still to be made
-pub record IsMaking (members : NumberedMembers) (number held : ℕ) (paths : NumberedPaths) (place : ℕ) (rebuilt : List (Numbered EntryList)) : Type 0 where
-  pub rest : (more : List (Numbered EntryList)) → AreRebuilt members held (paths_over number (drop place paths)) more → AreRebuilt members held (paths_over number paths) (rebuilt ++ more)
+-- those at this turn and after it are still to be made
+pub record IsMaking (members : NumberedMembers) (number held : ℕ) (paths : NumberedPaths) (turn : ℕ) (rebuilt : List (Numbered EntryList)) : Type 0 where
+  pub rest : (more : List (Numbered EntryList)) → AreRebuilt members held (drop turn (paths_over number paths)) more → AreRebuilt members held (paths_over number paths) (rebuilt ++ more)
 
 pub making-first : (members : NumberedMembers) (number held : ℕ) (paths : NumberedPaths) (rebuilt : List (Numbered EntryList)) → rebuilt ≡ [] → IsMaking members number held paths 0 rebuilt
 making-first members number held paths rebuilt none = record {
   rest = λ more made. subst (λ (w : List (Numbered EntryList)). AreRebuilt members held (paths_over number paths) (w ++ more)) (sym none) made;
 }
 
-drop-first : (xs : NumberedPaths) (i : ℕ) (d : Numbered KeptPath) → i < length xs → drop i xs ≡ get_or xs i d ∷ drop (i + 1) xs
-drop-first [] i d low = absurd (omega arith)
-drop-first (x ∷ xs) zero d low = refl
-drop-first (x ∷ xs) (suc i) d low = drop-first xs i d (omega arith) ∙ ap (λ (n : ℕ). get_or xs i d ∷ drop n (x ∷ xs)) (let e : suc (i + 1) ≡ suc i + 1 = omega arith in e)
-
-pub making-next : (members : NumberedMembers) (number held : ℕ) (value : KeptPaths) (items : List Kept) (place : ℕ) (kept : Kept) (rebuilt more : List (Numbered EntryList))
-    → IsMaking members number held value.paths place rebuilt → paths_of items ≡ value → place < length items → kept ≡ get_or items place kept
-    → IsAdded (is_over number kept.by) members held (numbered path_of kept) rebuilt more → IsMaking members number held value.paths (place + 1) more
-making-next members number held value items place kept rebuilt more making view low read step = by (is_over number kept.by) refl step
-  where
-    split : drop place value.paths ≡ numbered path_of kept ∷ drop (place + 1) value.paths
-    split =
-        let same : map (numbered path_of) items ≡ value.paths = ap (λ (v : KeptPaths). v.paths) view in
-        let at : get_or value.paths place (numbered path_of kept) ≡ numbered path_of kept =
-        ap (λ (w : NumberedPaths). get_or w place (numbered path_of kept)) (sym same)
-        ∙ get_or-map (numbered path_of) items place kept (numbered path_of kept) low ∙ ap (numbered path_of) (sym read) in
-        let within : place < length value.paths = rw (← same) (rw length-map low) in
-        drop-first value.paths place (numbered path_of kept) within ∙ ap (λ (p : Numbered KeptPath). p ∷ drop (place + 1) value.paths) at
-
-    by : (b : Bool) → is_over number kept.by ≡ b → IsAdded b members held (numbered path_of kept) rebuilt more → IsMaking members number held value.paths (place + 1) more
-    by false is same = record {
-      rest = λ others made.
-          subst (λ (w : List (Numbered EntryList)). AreRebuilt members held (paths_over number value.paths) (w ++ others)) (sym same)
-          (making.rest others (subst (λ (w : NumberedPaths). AreRebuilt members held (paths_over number w) others) (sym split)
-          (subst (λ (w : NumberedPaths). AreRebuilt members held w others) (sym (cond-false (is_over number kept.by) (numbered path_of kept ∷ paths_over number (drop (place + 1) value.paths)) (paths_over number (drop (place + 1) value.paths)) is)) made)));
-    }
-    by true is (item, added, new) = record {
-      rest = λ others made.
-          subst (λ (w : List (Numbered EntryList)). AreRebuilt members held (paths_over number value.paths) (w ++ others)) (sym added)
-          (subst (λ (w : List (Numbered EntryList)). AreRebuilt members held (paths_over number value.paths) w) (sym (append_assoc rebuilt (item ∷ []) others))
-          (making.rest (item ∷ others) (subst (λ (w : NumberedPaths). AreRebuilt members held (paths_over number w) (item ∷ others)) (sym split)
-          (subst (λ (w : NumberedPaths). AreRebuilt members held w (item ∷ others)) (sym (cond-true (is_over number kept.by) (numbered path_of kept ∷ paths_over number (drop (place + 1) value.paths)) (paths_over number (drop (place + 1) value.paths)) is)) (new, made)))));
-    }
-
-drop-all : (xs : NumberedPaths) (i : ℕ) → length xs ≤ i → drop i xs ≡ []
-drop-all [] zero high = refl
-drop-all [] (suc i) high = refl
-drop-all (x ∷ xs) zero high = absurd (omega arith)
-drop-all (x ∷ xs) (suc i) high = drop-all xs i (omega arith)
+pub making-next : (members : NumberedMembers) (number held : ℕ) (paths : NumberedPaths) (turn : ℕ) (path : Numbered KeptPath) (rebuilt more : List (Numbered EntryList))
+    → IsMaking members number held paths turn rebuilt → drop turn (paths_over number paths) ≡ path ∷ drop (turn + 1) (paths_over number paths)
+    → IsAdded members held path rebuilt more → IsMaking members number held paths (turn + 1) more
+making-next members number held paths turn path rebuilt more making split (item, added, new) = record {
+  rest = λ others made.
+      subst (λ (w : List (Numbered EntryList)). AreRebuilt members held (paths_over number paths) (w ++ others)) (sym added)
+      (subst (λ (w : List (Numbered EntryList)). AreRebuilt members held (paths_over number paths) w) (sym (append_assoc rebuilt (item ∷ []) others))
+      (making.rest (item ∷ others) (subst (λ (w : NumberedPaths). AreRebuilt members held w (item ∷ others)) (sym split) (new, made))));
+}
 
 append-none : (xs : List (Numbered EntryList)) → xs ++ [] ≡ xs
 append-none [] = refl
 append-none (x ∷ xs) = ap (λ (w : List (Numbered EntryList)). x ∷ w) (append-none xs)
 
-pub making-end : (members : NumberedMembers) (number held : ℕ) (paths : NumberedPaths) (place : ℕ) (rebuilt : List (Numbered EntryList)) → IsMaking members number held paths place rebuilt
-    → length paths ≤ place → AreRebuilt members held (paths_over number paths) rebuilt
-making-end members number held paths place rebuilt making high =
-    subst (AreRebuilt members held (paths_over number paths)) (append-none rebuilt)
-    (making.rest [] (subst (λ (w : NumberedPaths). AreRebuilt members held (paths_over number w) []) (sym (drop-all paths place high)) tt))
+pub making-end : (members : NumberedMembers) (number held : ℕ) (paths : NumberedPaths) (turn : ℕ) (rebuilt : List (Numbered EntryList)) → IsMaking members number held paths turn rebuilt
+    → drop turn (paths_over number paths) ≡ [] → AreRebuilt members held (paths_over number paths) rebuilt
+making-end members number held paths turn rebuilt making none =
+    subst (AreRebuilt members held (paths_over number paths)) (append-none rebuilt) (making.rest [] (subst (λ (w : NumberedPaths). AreRebuilt members held w []) (sym none) tt))
 
 -- each path that is over the member can be made
 pub making-can : (members : NumberedMembers) (number : ℕ) (value : KeptPaths) (items : List Kept) (place : ℕ) (kept : Kept) → paths_of items ≡ value → place < length items
@@ -393,7 +361,7 @@ rebuilt-shared rebuilt paths shared = record {
 
 -- ---- ties of those made anew
 
-own-there : (whole : NumberedPaths) → Ascend whole → AllByRecursion (λ (path : Numbered KeptPath). item_at path.number whole ≡ Some path.item) whole
+pub own-there : (whole : NumberedPaths) → Ascend whole → AllByRecursion (λ (path : Numbered KeptPath). item_at path.number whole ≡ Some path.item) whole
 own-there whole ascend =
     each-apart (λ (path : Numbered KeptPath). item_at path.number whole ≡ Some path.item) whole
     (λ front path back is first second. ap (item_at path.number) is ∙ past path back front first) ascend
@@ -435,7 +403,7 @@ rebuilt-ties member held members paths rebuilt shared made =
 
 -- ---- room
 
-over-any : (member : ℕ) (formats : List PathFormat) → Any (λ (f : PathFormat). f.member ≡ member) formats → list_any (λ (f : PathFormat). f.member == member) formats ≡ true
+pub over-any : (member : ℕ) (formats : List PathFormat) → Any (λ (f : PathFormat). f.member ≡ member) formats → list_any (λ (f : PathFormat). f.member == member) formats ≡ true
 over-any member [] (k, x, low, at, is) = absurd (omega (arith, low))
 over-any member (f ∷ formats) (zero, x, low, at, is) =
     ap (λ (b : Bool). b || list_any (λ (g : PathFormat). g.member == member) formats)

@@ -1,5 +1,5 @@
 -- A path is shared, put under the least free number, and given up.
-use Rattle.std.proofs.Common.{ℕ, zero, suc, ◌+◌, ◌-◌, ◌<◌, ◌≤◌, ◌≡◌, ◌≢◌, Bool, true, false, cond, List, [], ◌∷◌, length, map, set, get_or, Option, Some, None, IsSome, refl, sym, ap, arith}
+use Rattle.std.proofs.Common.{ℕ, zero, suc, ◌+◌, ◌<◌, ◌≤◌, ◌≡◌, ◌≢◌, Bool, true, false, cond, List, [], ◌∷◌, length, map, set, get_or, Option, Some, None, IsSome, refl, sym, ap, arith}
 use Rattle.std.proofs.Common.{◌∙◌, subst}
 use Rattle.std.specs.Prelude.{All, HoldsAt, nat_lt, ◌==◌, unwrap_or, option_map}
 use Rattle.std.specs.List.{insert}

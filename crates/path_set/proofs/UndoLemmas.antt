@@ -1,11 +1,11 @@
 -- The opposites of moves, the last one first, take the moves back.
-use Rattle.std.proofs.Common.{ℕ, suc, ◌≤◌, ◌≡◌, ◌==◌, Bool, true, false, cond, List, [], ◌∷◌, ◌++◌, length, map, Option, Some, None, IsSome, refl, sym, ap, arith, ◌∙◌, subst}
-use Rattle.std.specs.Prelude.{All, filter, reverse}
+use Rattle.std.proofs.Common.{ℕ, suc, ◌≤◌, ◌≡◌, ◌==◌, Bool, true, false, cond, List, [], ◌∷◌, ◌++◌, length, Option, Some, None, IsSome, refl, sym, ap, arith, ◌∙◌, subst}
+use Rattle.std.specs.Prelude.{filter, reverse}
 use Rattle.std.specs.List.{AllByRecursion}
-use Rattle.std.proofs.lemmas.Bool.{cond-true, cond-false}
+use Rattle.std.proofs.lemmas.Bool.{cond-true}
 use Rattle.std.proofs.lemmas.Bool.Decides.{nat_tests}
 use Rattle.std.proofs.lemmas.List.{reverse-append}
-use Rattle.std.proofs.lemmas.List.Elements.{All-map, All-from_recursion, recursion_from_All}
+use Rattle.std.proofs.lemmas.List.Elements.{All-from_recursion, recursion_from_All}
 use Rattle.key_pages.specs.declared.entries.Entry.{Entry}
 use Rattle.key_pages.specs.Order.{IsInOrder}
 use Rattle.key_pages.proofs.OrderLemmas.{IsInOrder-with_entry, IsInOrder-without_entry}
@@ -19,7 +19,7 @@ use Rattle.access_path.proofs.MoveLemmas.{move-undone, opposite-fits}
 use Rattle.path_entrants.specs.Formats.{keys_of}
 use Rattle.path_set.specs.declared.moves.PathMove.{PathMove}
 use Rattle.path_set.specs.KeptPaths.{KeptPath, KeptPaths, NumberedPaths, AreOver, entries_of, spare_of}
-use Rattle.path_set.specs.RecordChanges.{opposites, entries_after, path_after, paths_after, FitEntries, count_in, CanBeMade}
+use Rattle.path_set.specs.RecordChanges.{opposites, entries_after, paths_after, FitEntries, count_in, CanBeMade}
 use Rattle.path_set.specs.ManyChanges.{AreInOrder}
 use Rattle.path_set.proofs.MoveLemmas.{some-after}
 use Rattle.path_set.proofs.RecordLemmas.{after-append, fit-append, both-moves, count-append}

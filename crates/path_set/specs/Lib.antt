@@ -7,3 +7,4 @@ pub mod MemberSteps
 pub mod RebuiltPaths
 pub mod ManyChanges
 pub mod EqualKeys
+pub mod ByMember

@@ -1,12 +1,12 @@
 -- Which record does each change of a member change, and which paths are over the member? (Database Programming, "Relative record number".)
-use Rattle.std.specs.Prelude.{◌≡◌, ◌≢◌, ℕ, ◌+◌, ◌==◌, Bool, List, [], ◌∷◌, ◌++◌, length, filter, Option, Some, None}
+use Rattle.std.specs.Prelude.{◌≡◌, ◌≢◌, ℕ, ◌+◌, ◌==◌, nat_lt, Bool, true, ◌&&◌, List, [], ◌∷◌, ◌++◌, length, filter, Option, Some, None}
 use Rattle.std.specs.List.{list_any}
 use Rattle.member_slots.specs.declared.slot.Slot.{Slot}
 use Rattle.member_slots.specs.declared.slot.Slot.TheVariants.{Live, Deleted}
 use Rattle.member_slots.specs.Member.{MemberState}
-use Rattle.member_slots.specs.Members.{NumberedMembers, member_of}
+use Rattle.member_slots.specs.Members.{Numbered, NumberedMembers, member_of}
 use Rattle.file_model.specs.declared.paths.PathSpec.{PathSpec}
-use Rattle.path_set.specs.KeptPaths.{NumberedPaths}
+use Rattle.path_set.specs.KeptPaths.{KeptPath, NumberedPaths}
 use Rattle.path_set.specs.RecordChanges.{RecordChange}
 
 -- the image of the record that stands there
@@ -41,3 +41,12 @@ is_over member spec = list_any (λ format. format.member == member) spec.formats
 -- the paths over the member
 abbrev pub paths_over : (member : ℕ) → NumberedPaths → NumberedPaths
 paths_over member paths = filter (λ path. is_over member path.item.spec) paths
+
+-- the number comes after that one, where one is given
+abbrev pub is_above : Option ℕ → ℕ → Bool
+is_above None number = true
+is_above (Some after) number = nat_lt after number
+
+-- the path is over the member, may have no equal keys, and its number comes after that one, where one is given
+abbrev pub is_unique_over : (member : ℕ) → (after : Option ℕ) → Numbered KeptPath → Bool
+is_unique_over member after path = is_over member path.item.spec && (path.item.spec.unique && is_above after path.number)

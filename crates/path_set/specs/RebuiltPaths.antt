@@ -1,5 +1,5 @@
 -- What is a path that is made anew, and what becomes of the kept paths when it takes the place of the old one? (Our own.)
-use Rattle.std.specs.Prelude.{◌≡◌, ℕ, ◌≤◌, ◌*◌, Bool, true, false, List, [], ◌∷◌, ◌++◌, length, map, All, Option, Some, None, IsSome, IfSome}
+use Rattle.std.specs.Prelude.{◌≡◌, ℕ, ◌≤◌, ◌*◌, true, List, [], ◌∷◌, ◌++◌, length, map, All, Option, Some, None, IsSome, IfSome}
 use Rattle.std.specs.List.{AllZip}
 use Rattle.key_pages.specs.declared.entries.Entry.{Entry}
 use Rattle.key_pages.specs.EntryList.{EntryList}
@@ -58,7 +58,6 @@ kept_with rebuilt kept = record { paths = map (path_with rebuilt) kept.paths; ro
 
 -- ---- one after another
 
--- a path more has been made anew, where it is over the member
-abbrev pub IsAdded : Bool → NumberedMembers → (held : ℕ) → Numbered KeptPath → (old new : List (Numbered EntryList)) → Type 0
-IsAdded false members held path old new = new ≡ old
-IsAdded true members held path old new = (item : Numbered EntryList) × (new ≡ old ++ item ∷ []) × IsRebuilt members held path item
+-- a path more has been made anew
+abbrev pub IsAdded : NumberedMembers → (held : ℕ) → Numbered KeptPath → (old new : List (Numbered EntryList)) → Type 0
+IsAdded members held path old new = (item : Numbered EntryList) × (new ≡ old ++ item ∷ []) × IsRebuilt members held path item

@@ -1,14 +1,16 @@
 //! One kept path, and paths in a list by ascending number. The set itself is in `set.rt`.
-ghost use Rattle.std.specs.Prelude.{◌≡◌, ◌≢◌, ◌*◌, ◌+◌, ◌<◌, ◌≤◌, ◌++◌, ℕ, All, IfSome, IfNone, IsSome, IfOk, IfErr, OnOk, OnErr, HoldsAt, length, slice_index};
+ghost use Rattle.std.specs.Prelude.{◌≡◌, ◌≢◌, ◌*◌, ◌+◌, ◌<◌, ◌≤◌, ◌++◌, ℕ, All, IfSome, IfNone, IsSome, IfOk, IfErr, OnOk, OnErr, HoldsAt, length, slice_index, insert, vec_len, vec_capacity};
 ghost use Rattle.std.specs.Option.{option_copied};
 ghost use Rattle.member_slots.specs.Members.{item_at};
 ghost use Rattle.access_path.specs.PathBytes.{is_falling, members_of};
 ghost use Rattle.path_entrants.specs.Formats.{keys_of};
-ghost use Rattle.path_set.specs.KeptPaths.{entries_of};
-ghost use Rattle.path_set.specs.RecordChanges.{TakesImage, in_path, moves_at, moves_of};
+ghost use Rattle.path_set.specs.KeptPaths.{entries_of, spare_of};
+ghost use Rattle.path_set.specs.RecordChanges.{TakesImage, TakeImage, in_path, moves_at, moves_of, moves_in, HaveRoom};
 ghost use Rattle.path_set.specs.Sharing.{CanBeKept};
+ghost use Rattle.path_set.specs.ByMember.{AreNumbers};
 ghost use Rattle.path_set.specs.Entries.{AreKept, IsPlace, IsGap, IsFirstFree, HasMoreRoom, with_files, change_of, paths_of};
 
+use crate::by_member::PathOver;
 use crate::moves::Moves;
 use access_path::entrant::Entrant;
 use access_path::path::Path;
@@ -101,6 +103,30 @@ impl Kept {
     }
 }
 
+/// Prepares a change in each of the paths over its member, which these are.
+pub(crate) fn prepare_each(
+    kept: &mut Vec<Kept>,
+    over: &[PathOver],
+    asked: Asked<'_>,
+    moves: &mut Moves,
+) -> Result<(), AllocError>
+    requires sorted { AreKept kept.old.items }
+    requires numbers { AreNumbers asked.member over.now (paths_of kept.old.items).paths }
+    requires old { TakeImage asked.member (option_copied asked.old) (paths_of kept.old.items).paths }
+    requires new { TakeImage asked.member (option_copied asked.new) (paths_of kept.old.items).paths }
+    ensures sorted { AreKept kept.new.items }
+    ensures moves { OnOk result (moves.new ≡ moves.old ++ moves_in (change_of asked.entry) (paths_of kept.old.items).paths) }
+    ensures room { OnOk result (HaveRoom asked.entry.member (asked.entry.held + 2) (paths_of kept.new.items)) }
+    ensures paths { (paths_of kept.new.items).paths ≡ (paths_of kept.old.items).paths }
+    ensures rooms { (id : ℕ) → spare_of id (paths_of kept.old.items) ≤ spare_of id (paths_of kept.new.items) }
+{
+    for turn in 0..over.len() {
+        let place = place_of_kept(kept.as_slice(), over[turn].id);
+        kept[place].prepare(asked, moves)?;
+    }
+    Ok(())
+}
+
 /// The path of a specification over the members, with memory for the moves of so many changes.
 pub(crate) fn path_over(
     alloc: Global,
@@ -136,6 +162,15 @@ pub(crate) fn inserts(changes: u32, formats: u16) -> Result<u32, AllocError>
         Some(more) => Ok(more),
         None => Err(AllocError),
     }
+}
+
+/// Puts a path there. It takes no memory.
+pub(crate) fn insert_kept(paths: &mut Vec<Kept>, place: usize, kept: Kept)
+    requires within { place ≤ length paths.old.items }
+    requires room { vec_len paths.old < vec_capacity paths.old }
+    ensures { paths.new.items ≡ insert paths.old.items place kept }
+{
+    paths.insert(place, kept).unwrap();
 }
 
 /// Where the path of a number is, or where it would go.

@@ -2,6 +2,7 @@
 //! `specs/KeptPaths.antt`, then `set.rt`.
 #![tactic(auto)]
 
+mod by_member;
 pub mod faults;
 mod kept;
 pub mod key_laws;

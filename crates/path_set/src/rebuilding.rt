@@ -1,19 +1,19 @@
 //! Paths made anew where a member loses its records or their numbers, first beside the old ones, then in their places.
-ghost use Rattle.std.specs.Prelude.{◌≡◌, ◌*◌, ◌≤◌, ℕ, true, [], ◌∷◌, ◌++◌, IsSome, IfOk, OnOk, length};
+ghost use Rattle.std.specs.Prelude.{◌≡◌, ◌*◌, ◌≤◌, ℕ, [], ◌∷◌, ◌++◌, IsSome, IfOk, OnOk, length};
 ghost use Rattle.member_slots.specs.Members.{NumberedMembers, member_at, with_member};
 ghost use Rattle.access_path.specs.PathBytes.{is_falling};
 ghost use Rattle.path_set.specs.KeptPaths.{entries_of};
 ghost use Rattle.path_set.specs.RecordChanges.{HaveRoom};
 ghost use Rattle.path_set.specs.Sharing.{CanBeKept};
-ghost use Rattle.path_set.specs.MemberSteps.{is_over, paths_over};
+ghost use Rattle.path_set.specs.MemberSteps.{paths_over};
 ghost use Rattle.path_set.specs.RebuiltPaths.{CanBeRebuilt, AreRebuilt, HaveTies, kept_with, IsAdded};
 ghost use Rattle.path_set.specs.Entries.{numbered, path_of};
 
-use crate::kept::{Kept, inserts, is_falling, place_of};
+use crate::by_member::paths_of_member;
+use crate::kept::{Kept, inserts, is_falling, place_of, place_of_kept};
 use crate::set::PathSet;
 use access_path::entrant::Entrant;
 use access_path::path::Path;
-use file_model::paths::PathSpec;
 use member_slots::member::Member;
 use member_slots::members::Members;
 use path_entrants::entrant::SpecEntrant;
@@ -86,7 +86,9 @@ impl PathSet {
         ensures { IfOk result (λ rebuilt. AreRebuilt (with_member number member.now.state members.now.members) held (paths_over number self.now.paths) rebuilt) }
     {
         let mut rebuilt = Rebuilt::new(self.alloc);
-        for place in 0..self.paths.len() {
+        let over = paths_of_member(&self.by_member, number);
+        for turn in 0..over.len() {
+            let place = place_of_kept(&self.paths, over[turn].id);
             let kept = &self.paths[place];
             add_rebuilt(
                 self.alloc,
@@ -129,7 +131,7 @@ impl PathSet {
     }
 }
 
-/// Makes a path anew and adds it, where it is over the member.
+/// Makes a path anew and adds it.
 fn add_rebuilt(
     alloc: Global,
     kept: &Kept,
@@ -140,24 +142,11 @@ fn add_rebuilt(
     rebuilt: &mut Rebuilt,
 ) -> Result<(), AllocError>
     requires there { IsSome (member_at number members.now.members) }
-    requires can { is_over number kept.now.by ≡ true → CanBeKept kept.now.by (with_member number member.now.state members.now.members) }
-    ensures { OnOk result (IsAdded (is_over number kept.now.by) (with_member number member.now.state members.now.members) held (numbered path_of kept.now) rebuilt.old rebuilt.new) }
+    requires can { CanBeKept kept.now.by (with_member number member.now.state members.now.members) }
+    ensures { OnOk result (IsAdded (with_member number member.now.state members.now.members) held (numbered path_of kept.now) rebuilt.old rebuilt.new) }
 {
-    if !is_over(kept.by.spec(), number) {
-        return Ok(());
-    }
     let path = path_with(alloc, &kept.by, members, number, member, held)?;
     rebuilt.push(kept.id, path)
-}
-
-/// Whether a format of the path is over the member.
-pub(crate) fn is_over(spec: &PathSpec, number: u32) -> bool
-    ensures { result ≡ is_over number spec.now }
-{
-    spec.formats
-        .as_slice()
-        .iter()
-        .any(|format| format.member == number)
 }
 
 /// The path of a specification over the members with one in another state, with memory for the moves of so many changes.

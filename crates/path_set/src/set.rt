@@ -14,9 +14,11 @@ ghost use Rattle.path_set.specs.Entries.{change_of};
 ghost use Rattle.path_set.specs.RebuiltPaths.{HaveRooms};
 ghost use Rattle.path_set.specs.Sharing.{CanBeKept, IsNew, IsShared, IsPut, IsLeastFree, detached};
 
+use crate::by_member::{PathOver, add_path, paths_of_member, remove_path};
 use crate::faults::PathFault;
 use crate::kept::{
-    Asked, Kept, MOST_PATHS, first_free, path_over, place_of, place_of_kept, place_of_spec,
+    Asked, Kept, MOST_PATHS, first_free, insert_kept, path_over, place_of, place_of_kept,
+    place_of_spec, prepare_each,
 };
 use crate::moves::{Moves, PathMove};
 use access_path::entrant::Entrant;
@@ -36,17 +38,20 @@ use std::marker::Model;
 pub struct PathSet {
     pub(crate) alloc: Global,
     pub(crate) paths: Vec<Kept>,
+    /// Which of them are over which members.
+    pub(crate) by_member: Vec<PathOver>,
 }
 
 impl Model for PathSet {
     ghost use Rattle.path_set.specs.KeptPaths.{KeptPaths};
     ghost use Rattle.path_set.specs.Entries.{paths_of, AreKept};
+    ghost use Rattle.path_set.specs.ByMember.{AreIndexed};
 
     ghost Value = { KeptPaths };
 
     ghost view = { λ s. paths_of s.paths.items };
 
-    ghost invariant = { λ s. AreKept s.paths.items };
+    ghost invariant = { λ s. AreKept s.paths.items × AreIndexed s.paths.items s.by_member.items };
 }
 
 impl PathSet {
@@ -57,6 +62,7 @@ impl PathSet {
         PathSet {
             alloc,
             paths: Vec::new(alloc),
+            by_member: Vec::new(alloc),
         }
     }
 
@@ -67,6 +73,16 @@ impl PathSet {
         ensures rooms { HaveRooms self.now }
     {
         self.paths.len() as u32
+    }
+
+    /// The number of the path with that specification.
+    pub fn number_of(&self, spec: &PathSpec) -> Option<u64>
+        ensures { MatchOption result (IsNew spec.now self.now.paths) (λ id. (path : KeptPath) × (item_at id self.now.paths ≡ Some path) × (path.spec ≡ spec.now)) }
+    {
+        match place_of_spec(&self.paths, spec) {
+            Some(place) => Some(self.paths[place].id),
+            None => None,
+        }
     }
 
     /// Gives a file its path, and answers the path's number. A path that isn't kept yet is made of the members, with
@@ -135,6 +151,8 @@ impl PathSet {
         }
         let place = first_free(&self.paths);
         let id = place as u64;
+        self.paths.reserve(1)?;
+        add_path(&mut self.by_member, by.spec(), id)?;
         let files = 1;
         let kept = Kept {
             id,
@@ -142,7 +160,7 @@ impl PathSet {
             files,
             path,
         };
-        self.paths.insert(place, kept)?;
+        insert_kept(&mut self.paths, place, kept);
         Ok(id)
     }
 
@@ -155,13 +173,14 @@ impl PathSet {
             Ok(place) if self.paths[place].files > 1 => self.paths[place].files -= 1,
             Ok(place) => {
                 self.paths.remove(place);
+                remove_path(&mut self.by_member, id);
             }
             Err(_) => {}
         }
     }
 
     /// Prepares a change of the record of this number in each path of the member, and its undoing, and sets memory aside
-    /// for the undos that are held, this one and one more. The entries stay.
+    /// for the undos that are held, this one and one more. The entries stay. It looks at no other path.
     pub fn prepare(
         &mut self,
         member: u32,
@@ -202,9 +221,8 @@ impl PathSet {
         ensures paths { self.new.paths ≡ self.old.paths }
         ensures rooms { (id : ℕ) → spare_of id self.old ≤ spare_of id self.new }
     {
-        for place in 0..self.paths.len() {
-            self.paths[place].prepare(asked, moves)?;
-        }
+        let over = paths_of_member(&self.by_member, asked.member);
+        prepare_each(&mut self.paths, over, asked, moves)?;
         Ok(())
     }
 

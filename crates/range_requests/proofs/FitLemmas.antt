@@ -1,10 +1,13 @@
 -- What fits the fields of one file that has a member fits those of each.
-use Rattle.std.proofs.Common.{◌≡◌, ℕ, List, Option, OnOk, Result, Ok, Err, unwrap_or, sym, ap, ◌∙◌, subst}
+use Rattle.std.proofs.Common.{◌≡◌, ℕ, List, Option, Some, OnOk, Result, Ok, Err, unwrap_or, sym, ap, ◌∙◌, subst}
 use Rattle.std.specs.List.{AllByRecursion}
+use Rattle.std.specs.Option.{option_map}
 use Rattle.record_fmt.specs.declared.formats.Format.{Format}
+use Rattle.dds_physical.specs.declared.physical_files.PhysicalSpec.{PhysicalSpec}
+use Rattle.logical_model.specs.Bases.{FileSpec, PhysicalFile, LogicalFile}
 use Rattle.library_model.specs.Named.{Named, named}
 use Rattle.file_catalogue.specs.Owners.{AreApart, Owns}
-use Rattle.library_steps.specs.State.{State, FileState, fields_of, format_in}
+use Rattle.library_steps.specs.State.{State, FileState, fields_of, format_in, physical_in}
 use Rattle.range_images.specs.declared.slot_given.SlotGiven.{SlotGiven}
 use Rattle.range_requests.specs.declared.found.Found.{Found}
 use Rattle.range_requests.specs.declared.walks.Walk.{Walk}
@@ -12,6 +15,11 @@ use Rattle.range_requests.specs.Fits.{IsFit}
 use Rattle.library_parts.specs.Given.{AddRecords}
 use Rattle.range_requests.specs.Plans.{IsKept}
 use Rattle.range_requests.specs.Steps.{IsFitWalk, slots_of}
+
+-- a file that holds records of a format has this one
+pub format-of : (spec : FileSpec) (format : Format) → Some format ≡ option_map (λ (p : PhysicalSpec). p.format) (physical_in spec) → format ≡ format_in spec
+format-of (PhysicalFile spec) format is = cc
+format-of (LogicalFile view) format is = absurd cc
 
 same-file : (files : Named FileState) (name other : List ℕ) (file another : FileState) (number : ℕ) → AreApart files → Owns files name file number → Owns files other another number → file ≡ another
 same-file files name other file another number apart one two =

@@ -116,7 +116,11 @@ fn check_walk(contents: &Contents, found: Found, walk: &Walk) -> Result<(), Stop
 {
     // No two files have one member.
     let _counts = contents.counts();
-    check_fit(found.file.format(), walk.given.as_slice())
+    match found.file.format() {
+        Some(format) => check_fit(format, walk.given.as_slice()),
+        // A logical file has no members.
+        None => Err(Stop::NoMemory),
+    }
 }
 
 fn entries_read<'a>(contents: &'a Contents, found: Found) -> Read<'a>

@@ -1,9 +1,11 @@
 mod AnswerLemmas
 mod ChangeLemmas
 mod FindLemmas
+mod FormatLemmas
+mod ImageLemmas
 mod LockLemmas
 mod MoveLemmas
-mod PhysicalLemmas
+mod OwnerLemmas
 mod PlaceLemmas
 mod ReadyLemmas
 mod WriteLemmas

@@ -18,7 +18,7 @@ use Rattle.library_parts.specs.Finds.{HasMember}
 use Rattle.library_parts.specs.Lawful.{HoldsValues, HasRecords}
 use Rattle.library_parts.proofs.MemberLemmas.{IsThere-IsSome, HasRecords-member_of, item_at-with_item_same, length-changed, record_length-changed, slot_put-appended, slot_put-changed}
 use Rattle.library_parts.specs.Slots.{MayStand}
-use Rattle.record_changes.specs.Places.{MayPut, MayReturn}
+use Rattle.record_changes.specs.Places.{FitsMember, MayPut, MayReturn}
 use Rattle.record_changes.proofs.MoveLemmas.{changed-there, appended-there}
 
 -- a place where a record stands, and in each field of it a value
@@ -68,6 +68,10 @@ module _ (s : State) (name : List ℕ) (file : FileState) (member : ℕ) (has : 
   its-values apart holds other another owns =
       subst (λ (f : FileState). HoldsValues (fields_of f) slot) (Owns-same s.files name other file another member apart has.owns owns) holds
 
+-- no record stands in a deleted slot
+pub deleted-fits : (s : State) (name : List ℕ) (file : FileState) (member : ℕ) → HasMember s name file member → FitsMember s member Deleted
+deleted-fits s name file member has = record { there = its-there s name file member has; fits = tt; values = λ other another owns. tt }
+
 module _ (s : State) (name : List ℕ) (file : FileState) (member rrn : ℕ) (has : HasMember s name file member) (old : List ℕ) (found : live_record member rrn (memory_of s) ≡ Some old) where
   its-records : HasRecords (fields_of file) (member_of member s.members)
   its-records = HasRecords-member_of (fields_of file) member s.members has.there
@@ -79,15 +83,23 @@ module _ (s : State) (name : List ℕ) (file : FileState) (member rrn : ℕ) (ha
   pub live-held : is_some (record_held (fields_of file) old) ≡ true
   live-held = its-place.held
 
-  pub MayPut-live : (slot : Slot) → AreApart s.files → FitsSlot (record_length (fields_of file)) slot → HoldsValues (fields_of file) slot → MayPut s.files s.members member rrn slot
-  MayPut-live slot apart fits holds =
+  -- so it may stand in the member
+  pub live-fits : AreApart s.files → length old ≡ (member_of member s.members).record_length → FitsMember s member (Live old)
+  live-fits apart long = record {
+    there = its-there s name file member has;
+    fits = long;
+    values = its-values s name file member has (Live old) apart live-held;
+  }
+
+  pub MayPut-live : (slot : Slot) → FitsMember s member slot → MayPut s.files s.members member rrn slot
+  MayPut-live slot may =
       let within = its-place.within in
       record {
-        there = IsThere-IsSome (fields_of file) member s.members has.there;
+        there = may.there;
         first = its-place.first;
         near = omega (arith, within);
-        fits = its-fits s name file member has slot fits;
-        values = its-values s name file member has slot apart holds;
+        fits = may.fits;
+        values = may.values;
         added = λ behind. absurd (omega (arith, within, behind));
       }
 

@@ -1,3 +1,4 @@
+pub mod Images
 pub mod Opens
 pub mod Plans
 pub mod Places

@@ -23,6 +23,12 @@ use Rattle.record_changes.specs.declared.planned.Prepared.{Prepared}
 use Rattle.record_changes.specs.declared.planned.UndoSlots.{UndoSlots}
 use Rattle.record_changes.specs.Plans.{new_slot}
 
+-- the slot may stand in the member, which is there: it is as long as its records, with a value in each field of the file that has it
+pub record FitsMember (s : State) (member : ℕ) (slot : Slot) : Type 0 where
+  pub there : IsSome (member_at member s.members)
+  pub fits : FitsSlot (member_of member s.members).record_length slot
+  pub values : MayStand s member slot
+
 -- the slot adds a record, for which the member and the library have room
 pub record MayAdd (members : NumberedMembers) (member : ℕ) (slot : Slot) : Type 0 where
   pub live : is_live slot ≡ true

@@ -1,12 +1,13 @@
 -- How a plan answers for a slot to change or a record to unlock: with it, the refusal, or out of memory. (Our own.)
 use Rattle.std.specs.Prelude.{◌≡◌, ℕ, Option, None, Some, Result, Ok, Err, List, if◌then◌else◌}
 use Rattle.std.specs.Str.{bytes_eq}
-use Rattle.record_fmt.specs.Records.{record_given}
+use Rattle.logical_model.specs.Formats.{given_in}
 use Rattle.library_model.specs.declared.requests.WriteRecord.{WriteRecord}
 use Rattle.library_model.specs.declared.replies.Reply.{Reply}
 use Rattle.library_model.specs.declared.replies.Reply.TheVariants.{NoSuchName}
 use Rattle.library_model.specs.declared.replies.Missing.TheVariants.{Name}
-use Rattle.library_steps.specs.State.{Memory, FileState, OpenState, fields_of}
+use Rattle.library_steps.specs.State.{Memory, FileState, OpenState}
+use Rattle.library_steps.specs.LogicalFiles.{bases_of}
 use Rattle.library_steps.specs.Refusals.{◌>>=◌, OpenedFile}
 use Rattle.library_steps.specs.SlotChange.{NewSlot}
 use Rattle.library_steps.specs.WriteRecord.{packed, place_plan}
@@ -26,15 +27,15 @@ last_read read = record { opened = read.opened; rrn = read.rrn }
 abbrev pub opened_with : OpenState → FileState → OpenedFile
 opened_with opened file = record { opened = opened; file = file }
 
--- the one format of a physical file is asked for, by its name or by none
+-- the one format of a file is asked for, by its name or by none
 abbrev pub format_named : Option (List ℕ) → (own : List ℕ) → Result ℕ Reply
 format_named None own = Ok 0
 format_named (Some name) own = if bytes_eq name own then Ok 0 else Err (NoSuchName (Name name))
 
--- a record to add through an open of a physical file, from the values on
+-- a record to add through an open that reads by its one format, from the values on
 abbrev pub given_plan : Memory → (job : ℕ) → OpenedFile → WriteRecord → Result NewSlot Reply
 given_plan m job its args =
-    packed (record_given (fields_of its.file) args.values None) >>= λ image. place_plan m job its.opened args.record_number image
+    packed (given_in (bases_of m) its.file.spec its.opened.format args.values None) >>= λ image. place_plan m job its.opened args.record_number image
 
 -- the wanted one, or its refusal, as the effect reads it
 abbrev pub as_read : {A : Type 0} → (A → A) → Result A Reply → Result A Reply

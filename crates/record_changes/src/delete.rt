@@ -47,8 +47,6 @@ fn plan_delete(contents: &Contents, job: u32, args: &OpenName) -> Result<Planned
     ensures locks { IfOk result (λ planned. MayLock Delete job planned.opened planned.rrn (memory_of contents.now.state)) }
     ensures may { IfOk result (λ planned. MayChange contents.now.state planned) }
 {
-    // No two members have one number.
-    let _counts = contents.counts();
     may_deposit(contents)?;
     let OpenFound { opened, file: _ } = contents.opened_file(job, &args.open_id)?;
     may_change(opened)?;

@@ -7,12 +7,13 @@ ghost use Rattle.library_steps.specs.History.{is_running};
 ghost use Rattle.lock_table.specs.declared.levels.Call.TheVariants.{Update};
 ghost use Rattle.library_parts.specs.Answers.{Answers};
 ghost use Rattle.library_parts.specs.Locks.{HasLockRoom};
+ghost use Rattle.joint_state.specs.Views.{HaveDefaults};
 ghost use Rattle.record_changes.specs.Locks.{MayLock};
 ghost use Rattle.record_changes.specs.Places.{AreFewChanges, IsReady, MayChange};
 ghost use Rattle.record_changes.specs.Plans.{PlansSlot, new_slot};
 
 use crate::change_slot::change_slot;
-use crate::images::image_over;
+use crate::images::image_through;
 use crate::locks::{leave_locks, may_lock};
 use crate::planned::{PlannedSlot, Prepared, Through};
 use crate::prepare::prepare_change;
@@ -24,7 +25,7 @@ use library_parts::{Contents, OpenFound, Stop};
 use lock_table::Call;
 use member_slots::slot::Slot;
 
-/// Changes the current record of the open.
+/// Changes the current record of the open. Through a logical file the record of the file that it is over is changed.
 pub fn update_record(
     contents: &mut Contents,
     job: u32,
@@ -32,6 +33,7 @@ pub fn update_record(
     args: &UpdateRecord,
 ) -> Result<Reply, Stop>
     requires running { IsTrue (is_running (job_at job contents.old.state.jobs)) }
+    requires defaults { HaveDefaults contents.old.state.files }
     ensures answers { Answers contents.old.state contents.new.state result (update_record (memory_of contents.old.state) job timestamp args.now) }
 {
     let planned = plan_update(contents, job, args)?;
@@ -42,6 +44,7 @@ pub fn update_record(
 #[tactic(auto, unfolding(library_steps::specs::ChangeRecord::update_plan))]
 fn plan_update(contents: &Contents, job: u32, args: &UpdateRecord) -> Result<PlannedSlot, Stop>
     requires running { IsTrue (is_running (job_at job contents.now.state.jobs)) }
+    requires defaults { HaveDefaults contents.now.state.files }
     ensures plan { PlansSlot result (update_plan (memory_of contents.now.state) job args.now) }
     ensures left { IfOk result (λ planned. (memory_of contents.now.state).last_entry ≤ LAST_SEQUENCE) }
     ensures few { IfOk result (λ planned. AreFewChanges planned (memory_of contents.now.state)) }
@@ -58,9 +61,9 @@ fn plan_update(contents: &Contents, job: u32, args: &UpdateRecord) -> Result<Pla
     let Some(old) = contents.live_image(opened.member(), rrn) else {
         return Err(Stop::NoMemory);
     };
-    let image = image_over(contents, file, opened, args.values.as_slice(), old)?;
+    let image = image_through(contents, file, opened, args.values.as_slice(), Some(old))?;
     contents.not_held(job, opened, rrn)?;
-    keys_free(contents, job, opened, file, rrn, &image)?;
+    keys_free(contents, job, opened, rrn, &image)?;
     let slot = Slot::Live(image);
     few_changes(contents, opened, rrn, &slot)?;
     may_lock(contents, Call::Update, job, opened, rrn)?;

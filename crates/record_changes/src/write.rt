@@ -8,14 +8,16 @@ ghost use Rattle.library_steps.specs.Locking.{clashing};
 ghost use Rattle.library_steps.specs.Records.{slot_there};
 ghost use Rattle.library_steps.specs.WriteRecord.{next_place, place_asked, write_call, write_change, write_plan, write_record};
 ghost use Rattle.library_parts.specs.Answers.{Answers, Gives};
-ghost use Rattle.library_parts.specs.Finds.{HasMember};
+ghost use Rattle.library_parts.specs.Finds.{ReadsMember};
+ghost use Rattle.library_parts.specs.Indexed.{IsViewBeside};
 ghost use Rattle.library_parts.specs.Locks.{HasLockRoom, IsWrite};
+ghost use Rattle.joint_state.specs.Views.{HaveDefaults};
 ghost use Rattle.record_changes.specs.Locks.{MayLock};
 ghost use Rattle.record_changes.specs.Places.{AreFewChanges, IsReady, MayChange};
 ghost use Rattle.record_changes.specs.Plans.{PlansSlot, given_plan, new_slot, opened_with};
 
 use crate::change_slot::change_slot;
-use crate::images::new_image;
+use crate::images::image_through;
 use crate::locks::leave_locks;
 use crate::planned::{PlannedSlot, Prepared, Through};
 use crate::prepare::prepare_change;
@@ -29,7 +31,8 @@ use library_parts::{Contents, OpenFound, Stop};
 use lock_table::Call;
 use member_slots::slot::Slot;
 
-/// Adds a record past the last place of the open's member, or at a deleted place.
+/// Adds a record past the last place of the open's member, or at a deleted place. Through a logical file it is one of the file
+/// that it is over.
 pub fn write_record(
     contents: &mut Contents,
     job: u32,
@@ -37,6 +40,7 @@ pub fn write_record(
     args: &WriteRecord,
 ) -> Result<Reply, Stop>
     requires running { IsTrue (is_running (job_at job contents.old.state.jobs)) }
+    requires defaults { HaveDefaults contents.old.state.files }
     ensures answers { Answers contents.old.state contents.new.state result (write_record (memory_of contents.old.state) job timestamp args.now) }
 {
     let planned = plan_write(contents, job, args)?;
@@ -48,6 +52,7 @@ pub fn write_record(
 #[tactic(auto, unfolding(library_steps::specs::WriteRecord::write_plan))]
 fn plan_write(contents: &Contents, job: u32, args: &WriteRecord) -> Result<PlannedSlot, Stop>
     requires running { IsTrue (is_running (job_at job contents.now.state.jobs)) }
+    requires defaults { HaveDefaults contents.now.state.files }
     ensures plan { PlansSlot result (write_plan (memory_of contents.now.state) job args.now) }
     ensures left { IfOk result (λ planned. (memory_of contents.now.state).last_entry ≤ LAST_SEQUENCE) }
     ensures few { IfOk result (λ planned. AreFewChanges planned (memory_of contents.now.state)) }
@@ -57,7 +62,6 @@ fn plan_write(contents: &Contents, job: u32, args: &WriteRecord) -> Result<Plann
     may_deposit(contents)?;
     let OpenFound { opened, file } = contents.opened_file(job, &args.open_id)?;
     let _number = format_asked(file, args.format)?;
-    let _member = opened.only_member();
     may_change(opened)?;
     plan_given(contents, job, opened, file, args)
 }
@@ -72,21 +76,21 @@ fn plan_given(
     args: &WriteRecord,
 ) -> Result<PlannedSlot, Stop>
     requires running { IsTrue (is_running (job_at job contents.now.state.jobs)) }
-    requires there { HasMember contents.now.state opened.now.state.file file.now opened.now.state.member }
+    requires there { ReadsMember contents.now.state file.now opened.now.state }
+    requires view { IsViewBeside contents.now.state.files file.now.spec }
+    requires defaults { HaveDefaults contents.now.state.files }
     ensures plan { PlansSlot result (given_plan (memory_of contents.now.state) job (opened_with opened.now.state file.now) args.now) }
     ensures few { IfOk result (λ planned. AreFewChanges planned (memory_of contents.now.state)) }
     ensures locks { IfOk result (λ planned. MayLock (write_call args.now.record_number) job planned.opened planned.rrn (memory_of contents.now.state)) }
     ensures may { IfOk result (λ planned. MayChange contents.now.state planned) }
 {
-    // No two members have one number.
-    let _counts = contents.counts();
-    let image = new_image(contents.alloc(), file.format(), args.values.as_slice())?;
+    let image = image_through(contents, file, opened, args.values.as_slice(), None)?;
     let rrn = place_asked(contents, job, opened, args.record_number)?;
     contents.has_room(
         contents.is_behind_last(opened.member(), rrn),
         opened.member(),
     )?;
-    added_keys_free(contents, job, opened, file, rrn, &image)?;
+    added_keys_free(contents, job, opened, rrn, &image)?;
     contents.few_locks_to_write(write_call(args.record_number), job, opened, rrn)?;
     let slot = Slot::Live(image);
     contents.few_changes(opened.commit(), &Slot::Deleted, &slot)?;

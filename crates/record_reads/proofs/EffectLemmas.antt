@@ -1,19 +1,21 @@
 -- What the locks leave as it was, and the memory once a position is set or a record is read.
-use Rattle.std.proofs.Common.{◌≡◌, ℕ, None, Some, Ok, List, sym, ◌∙◌, ap}
+use Rattle.std.proofs.Common.{◌≡◌, ℕ, None, Some, Ok, List, sym, ◌∙◌, ap, subst}
 use Rattle.lock_table.specs.declared.lock.Lock.{Lock}
 use Rattle.lock_table.specs.declared.levels.Call.TheVariants.{Position as PositionCall}
 use Rattle.file_model.specs.Paths.{PathEntry}
 use Rattle.file_model.specs.Positions.{Position}
 use Rattle.open_position.specs.declared.reads.ReadBy.{ReadBy}
+use Rattle.open_position.specs.Reads.{IsAskedOf}
 use Rattle.library_steps.specs.State.{Memory, FileState, OpenState, with_job}
+use Rattle.library_steps.specs.LogicalFiles.{bases_of}
 use Rattle.library_steps.specs.Refusals.{OpenedFile, opened_file}
 use Rattle.library_steps.specs.Locking.{locks_left, with_locks}
 use Rattle.library_steps.specs.Reads.{entry_found, has_read, open_changed, positioned}
-use Rattle.library_parts.specs.Reads.{found_by}
+use Rattle.library_parts.specs.Reads.{formats_read, found_by}
 use Rattle.record_reads.specs.declared.asked.AskedBy.{AskedBy}
 use Rattle.record_reads.specs.declared.plans.UsedOpen.{UsedOpen}
 use Rattle.record_reads.specs.declared.plans.PlannedRead.{PlannedRead}
-use Rattle.record_reads.specs.Asked.{AsksThe, found_through}
+use Rattle.record_reads.specs.Asked.{AsksThe, CanBeAsked, found_through}
 use Rattle.record_reads.specs.Plans.{used_of, locks_through}
 
 -- ---- once the locks are left
@@ -22,6 +24,12 @@ module _ (m later : Memory) (locks : List Lock) (left : later ≡ with_locks loc
   -- the job has the same opens, of the same files
   pub opened-still : (name : List ℕ) (job : ℕ) (its : OpenedFile) → opened_file name job m ≡ Ok its → opened_file name job later ≡ Ok its
   opened-still name job its is = ap (λ (w : Memory). opened_file name job w) left ∙ is
+
+  -- the open can be asked the same
+  pub asked-still : (asks : AskedBy) (by : ReadBy) (file : FileState) (opened : OpenState) → AsksThe asks by → CanBeAsked asks file opened m
+      → IsAskedOf (formats_read (bases_of later) file opened) by
+  asked-still asks by file opened same can =
+      subst (λ (w : Memory). IsAskedOf (formats_read (bases_of w) file opened) by) (sym left) (same.formats (formats_read (bases_of m) file opened) can.formats)
 
   -- the open finds the same
   pub found-still : (asks : AskedBy) (by : ReadBy) (file : FileState) (opened : OpenState) (entry : PathEntry) → AsksThe asks by → found_through asks file opened m ≡ Some entry

@@ -1,4 +1,4 @@
-pub mod PhysicalLemmas
+pub mod SimpleLemmas
 pub mod PlanLemmas
 pub mod StopLemmas
 pub mod ReadLemmas

@@ -1,11 +1,11 @@
--- What the definitions make of a request through an open of a physical file, once the open is found.
+-- What the definitions make of a request through an open of a file of one format, once the open is found.
 use Rattle.std.proofs.Common.{◌≡◌, ℕ, Bool, true, false, IsTrue, if◌then◌else◌, Option, None, Result, Ok, Err, is_ok, List, refl, sym, ◌∙◌, ap}
 use Rattle.std.specs.Option.{option_map}
 use Rattle.field_types.specs.declared.values.Value.{Value}
 use Rattle.key_values.specs.KeyValues.{values_in}
 use Rattle.file_model.specs.KeyOrder.{KeyValue}
 use Rattle.file_model.specs.Paths.{PathEntry}
-use Rattle.file_model.specs.Positions.{Position, chain_key, chain_number}
+use Rattle.file_model.specs.Positions.{Position, Before, chain_key, chain_number}
 use Rattle.dds_logical.specs.declared.join_views.JoinView.{JoinView}
 use Rattle.open_position.specs.OpenStand.{AreGivenBytes, HasNoKey}
 use Rattle.open_position.specs.Reads.{side_of}
@@ -13,16 +13,16 @@ use Rattle.open_position.specs.declared.position.Side.{Side}
 use Rattle.library_model.specs.declared.requests.SetPosition.{SetPosition}
 use Rattle.library_model.specs.declared.requests.ReadRecord.{ReadRecord}
 use Rattle.library_model.specs.declared.requests.ReadEqual.{ReadEqual}
-use Rattle.library_model.specs.declared.requests.ChainTo.{ChainTo}
 use Rattle.library_model.specs.declared.requests.ChainTo.TheVariants.{Key, RecordNumber}
 use Rattle.library_model.specs.declared.requests.ChainRecord.{ChainRecord}
+use Rattle.library_model.specs.declared.requests.Limit.TheVariants as limits
 use Rattle.library_model.specs.declared.requests.LockOption.{LockOption}
 use Rattle.library_model.specs.declared.replies.Reply.{Reply}
 use Rattle.library_model.specs.declared.replies.Reply.TheVariants.{NotFound, Done, WrongOpen}
 use Rattle.lock_table.specs.declared.levels.Call.TheVariants.{Position as PositionCall}
-use Rattle.file_catalogue.specs.Physical.{IsPhysical}
 use Rattle.library_steps.specs.State.{Memory, FileState, OpenState}
 use Rattle.library_steps.specs.Change.{Change, unjournaled, does}
+use Rattle.library_steps.specs.LogicalFiles.{bases_of}
 use Rattle.library_steps.specs.Refusals.{◌>>=◌, found, OpenedFile, opened_file}
 use Rattle.logical_model.specs.Formats.{parts_in}
 use Rattle.library_steps.specs.Records.{is_keyed, reading_of, key_fault, key_or_fault, key_asked, number_asked}
@@ -31,6 +31,7 @@ use Rattle.library_steps.specs.Reads.{Found, entry_found, find_in, with_opened, 
 use Rattle.library_steps.specs.Reads.{if_lockable, read_plan, read_change, read_equal_plan, chained, chain_plan, chain}
 use Rattle.library_parts.specs.declared.stop.Stop.{Stop}
 use Rattle.library_parts.specs.declared.stop.Stop.TheVariants.{NoMemory, Refused}
+use Rattle.library_parts.specs.Indexed.{IsSimple}
 use Rattle.library_parts.specs.Reads.{GivesKey, Stands, formats_read, parts_read}
 use Rattle.record_reads.specs.declared.asked.AskedBy.{AskedBy}
 use Rattle.record_reads.specs.declared.asked.AskedBy.TheVariants.{FirstEqual, Number}
@@ -38,21 +39,21 @@ use Rattle.record_reads.specs.declared.asked.Direction.{Direction}
 use Rattle.record_reads.specs.declared.asked.Direction.TheVariants as directions
 use Rattle.record_reads.specs.Asked.{found_through, CanBeAsked, any_in, equal_in, any_from, equal_from, end_in}
 use Rattle.record_reads.specs.Plans.{AsksChain, AsksOf, PlansPosition, Plans, position_set, read_from, read_equal_from, read_found}
-use Rattle.record_reads.proofs.PhysicalLemmas.{join_in-physical, find_in-physical}
+use Rattle.record_reads.proofs.SimpleLemmas.{join_in-simple, find_in-simple, number-refused}
 
 pub ok-value : {A B : Type 0} (r : Result A B) → is_ok r ≡ true → (a : A) × (r ≡ Ok a)
 ok-value (Ok a) is = (a, refl)
 ok-value (Err b) is = absurd cc
 
 -- any read can be asked in a direction, and one of a key where the key was given
-pub any-asked : (direction : Direction) (file : FileState) (opened : OpenState) → CanBeAsked (any_in direction) file opened
-any-asked directions.Next file opened = record { formats = tt; looked = tt }
-any-asked directions.Prior file opened = record { formats = tt; looked = tt }
+pub any-asked : (direction : Direction) (file : FileState) (opened : OpenState) (m : Memory) → CanBeAsked (any_in direction) file opened m
+any-asked directions.Next file opened m = record { formats = tt; looked = tt }
+any-asked directions.Prior file opened m = record { formats = tt; looked = tt }
 
-pub equal-asked : (direction : Direction) (key : List ℕ) (file : FileState) (opened : OpenState) → AreGivenBytes (parts_read file opened) key
-    → CanBeAsked (equal_in direction key) file opened
-equal-asked directions.Next key file opened given = record { formats = given; looked = tt }
-equal-asked directions.Prior key file opened given = record { formats = given; looked = tt }
+pub equal-asked : (direction : Direction) (key : List ℕ) (file : FileState) (opened : OpenState) (m : Memory) → AreGivenBytes (parts_read (bases_of m) file opened) key
+    → CanBeAsked (equal_in direction key) file opened m
+equal-asked directions.Next key file opened m given = record { formats = given; looked = tt }
+equal-asked directions.Prior key file opened m given = record { formats = given; looked = tt }
 
 -- a key is given where the open reads by one
 keyed-by : (keyed : Bool) (asked : Result (List KeyValue) Reply) (given : List KeyValue) → (if keyed then asked else Err WrongOpen) ≡ Ok given → IsTrue keyed
@@ -62,15 +63,15 @@ keyed-by false asked given is = absurd cc
 module _ (m : Memory) (job : ℕ) (its : OpenedFile) where
   -- ---- positions
 
-  pub position-made : (side : Side) (args : SetPosition) (position : Position PathEntry) → opened_file args.open_id job m ≡ Ok its → IsPhysical its.file.spec
+  pub position-made : (side : Side) (args : SetPosition) (position : Position PathEntry) → opened_file args.open_id job m ≡ Ok its → IsSimple its.file.spec
       → bound_asked its (side_of side) args.to ≡ Ok position
       → position_set side m job args ≡ Ok (unjournaled Done (with_opened job its.opened (positioned None position) (with_locks (locks_left PositionCall job its.opened 0 m) m)))
   unfolding position_plan
-  position-made side args position there physical at =
+  position-made side args position there simple at =
       ap (λ (r : Result OpenedFile Reply). does (position_change m job) (r >>= λ o. (bound_asked o (side_of side) args.to >>= λ p. Ok (record { its = o; position = p })))) there
       ∙ ap (λ (r : Result (Position PathEntry) Reply). does (position_change m job) (r >>= λ p. Ok (record { its = its; position = p }))) at
       ∙ ap (λ (join : Option JoinView). Ok (unjournaled Done (with_opened job its.opened (positioned join position) (with_locks (locks_left PositionCall job its.opened 0 m) m))))
-      (join_in-physical its.file.spec physical)
+      (join_in-simple its.file.spec simple)
 
   position-refused : (side : Side) (args : SetPosition) (reply : Reply) → opened_file args.open_id job m ≡ Ok its → bound_asked its (side_of side) args.to ≡ Err reply
       → position_set side m job args ≡ Err reply
@@ -90,14 +91,14 @@ module _ (m : Memory) (job : ℕ) (its : OpenedFile) where
   abbrev pub read_of : LockOption → Reply → Option Found → Result Change Reply
   read_of lock nothing item = does (read_change m job) (found item nothing >>= λ it. if_lockable job m its lock it)
 
-  pub read-through : (direction : Direction) (args : ReadRecord) → opened_file args.open_id job m ≡ Ok its → IsPhysical its.file.spec
+  pub read-through : (direction : Direction) (args : ReadRecord) → opened_file args.open_id job m ≡ Ok its → IsSimple its.file.spec
       → read_from direction m job args ≡ read_found m job its args.lock (any_in direction)
   unfolding read_plan
-  read-through direction args there physical =
+  read-through direction args there simple =
       ap (λ (r : Result OpenedFile Reply). does (read_change m job) (r >>= λ o. (found (find_in o m (λ reading. any_from direction reading o.opened.position)
       (λ reading. any_from direction reading o.opened.rows)) (end_in direction) >>= λ it. if_lockable job m o args.lock it))) there
       ∙ ap (λ (item : Option Found). read_of args.lock (end_in direction) item)
-      (find_in-physical its m (λ reading. any_from direction reading its.opened.position) (λ reading. any_from direction reading its.opened.rows) physical)
+      (find_in-simple its m (λ reading. any_from direction reading its.opened.position) (λ reading. any_from direction reading its.opened.rows) simple)
       ∙ by direction
     where
       by : (d : Direction) → read_of args.lock (end_in d) (option_map entry_found (any_from d (reading_of its.file its.opened m) its.opened.position)) ≡ read_found m job its args.lock (any_in d)
@@ -119,26 +120,26 @@ module _ (m : Memory) (job : ℕ) (its : OpenedFile) where
       (λ reading. equal_from direction reading key o.opened.rows)) (end_in direction) >>= λ it. if_lockable job m o args.lock it)))) there
       ∙ ap (equal_after direction args) is
 
-  equal-found : (direction : Direction) (args : ReadEqual) (given : List KeyValue) (key : List ℕ) → IsPhysical its.file.spec → values_in (parts_read its.file its.opened) key ≡ given
+  equal-found : (direction : Direction) (args : ReadEqual) (given : List KeyValue) (key : List ℕ) → IsSimple its.file.spec → values_in (parts_read (bases_of m) its.file its.opened) key ≡ given
       → equal_after direction args (Ok given) ≡ read_found m job its args.lock (equal_in direction key)
-  equal-found direction args given key physical is =
+  equal-found direction args given key simple is =
       ap (λ (item : Option Found). read_of args.lock (end_in direction) item)
-      (find_in-physical its m (λ reading. equal_from direction reading given its.opened.position) (λ reading. equal_from direction reading given its.opened.rows) physical)
+      (find_in-simple its m (λ reading. equal_from direction reading given its.opened.position) (λ reading. equal_from direction reading given its.opened.rows) simple)
       ∙ ap (λ (values : List KeyValue). read_of args.lock (end_in direction) (option_map entry_found (equal_from direction (reading_of its.file its.opened m) values its.opened.position))) (sym is)
       ∙ by direction
     where
       by : (d : Direction)
-          → read_of args.lock (end_in d) (option_map entry_found (equal_from d (reading_of its.file its.opened m) (values_in (parts_read its.file its.opened) key) its.opened.position))
+          → read_of args.lock (end_in d) (option_map entry_found (equal_from d (reading_of its.file its.opened m) (values_in (parts_read (bases_of m) its.file its.opened) key) its.opened.position))
           ≡ read_found m job its args.lock (equal_in d key)
       by directions.Next = refl
       by directions.Prior = refl
 
-  pub equal-through : (direction : Direction) (args : ReadEqual) (key : List ℕ) → opened_file args.open_id job m ≡ Ok its → IsPhysical its.file.spec
-      → GivesKey its.file its.opened args.key (Ok key) → read_equal_from direction m job args ≡ read_found m job its args.lock (equal_in direction key)
-  equal-through direction args key there physical gives =
-      equal-of direction args (Ok gives.0) there gives.1 ∙ equal-found direction args gives.0 key physical gives.2.values
+  pub equal-through : (direction : Direction) (args : ReadEqual) (key : List ℕ) → opened_file args.open_id job m ≡ Ok its → IsSimple its.file.spec
+      → GivesKey (bases_of m) its.file its.opened args.key (Ok key) → read_equal_from direction m job args ≡ read_found m job its args.lock (equal_in direction key)
+  equal-through direction args key there simple gives =
+      equal-of direction args (Ok gives.0) there gives.1 ∙ equal-found direction args gives.0 key simple gives.2.values
 
-  pub equal-refused : (direction : Direction) (args : ReadEqual) (stop : Stop) → opened_file args.open_id job m ≡ Ok its → GivesKey its.file its.opened args.key (Err stop)
+  pub equal-refused : (direction : Direction) (args : ReadEqual) (stop : Stop) → opened_file args.open_id job m ≡ Ok its → GivesKey (bases_of m) its.file its.opened args.key (Err stop)
       → Plans m job args.open_id (read_equal_from direction m job args) (Err stop)
   equal-refused direction args NoMemory there gives = tt
   equal-refused direction args (Refused reply) there gives = equal-of direction args (Err reply) there gives
@@ -166,26 +167,22 @@ module _ (m : Memory) (job : ℕ) (its : OpenedFile) where
       → chained its m (Key values) ≡ (asked >>= λ key. Ok (find_in its m (λ reading. chain_key reading key) (λ reading. chain_key reading key)))
   chained-key values asked is = ap (λ (k : Result (List KeyValue) Reply). k >>= λ key. Ok (find_in its m (λ reading. chain_key reading key) (λ reading. chain_key reading key))) is
 
-  pub key-chained : (values : List Value) (key : List ℕ) → IsPhysical its.file.spec → GivesKey its.file its.opened values (Ok key) → AsksChain m its (Key values) (FirstEqual key)
-  key-chained values key physical gives = record {
+  pub key-chained : (values : List Value) (key : List ℕ) → IsSimple its.file.spec → GivesKey (bases_of m) its.file its.opened values (Ok key) → AsksChain m its (Key values) (FirstEqual key)
+  key-chained values key simple gives = record {
     asked = record {
       formats = gives.2.bytes;
       looked = keyed-by (is_keyed its.file its.opened) (key_or_fault (parts_in its.file.spec) values (key_fault (parts_in its.file.spec) values)) gives.0 gives.1;
     };
     chains =
         chained-key values (Ok gives.0) gives.1
-        ∙ ap (λ (item : Option Found). Ok item) (find_in-physical its m (λ reading. chain_key reading gives.0) (λ reading. chain_key reading gives.0) physical)
+        ∙ ap (λ (item : Option Found). Ok item) (find_in-simple its m (λ reading. chain_key reading gives.0) (λ reading. chain_key reading gives.0) simple)
         ∙ ap (λ (given : List KeyValue). Ok (option_map entry_found (chain_key (reading_of its.file its.opened m) given))) (sym gives.2.values);
     none = refl;
   }
 
-  key-not-chained : (values : List Value) (stop : Stop) → GivesKey its.file its.opened values (Err stop) → AsksOf m its (Key values) (Err stop)
+  pub key-not-chained : (values : List Value) (stop : Stop) → GivesKey (bases_of m) its.file its.opened values (Err stop) → AsksOf m its (Key values) (Err stop)
   key-not-chained values NoMemory gives = tt
   key-not-chained values (Refused reply) gives = chained-key values (Err reply) gives
-
-  pub key-stopped : (values : List Value) (to : ChainTo) (result : Result AskedBy Stop) (stop : Stop) → to ≡ Key values → result ≡ Err stop
-      → GivesKey its.file its.opened values (Err stop) → AsksOf m its to result
-  key-stopped values to result stop key is gives = rw (key, is) (key-not-chained values stop gives)
 
   -- by a relative record number
   chained-number : (rrn : ℕ) (asked : Result ℕ Reply) → number_asked its.file its.opened rrn ≡ asked
@@ -193,15 +190,16 @@ module _ (m : Memory) (job : ℕ) (its : OpenedFile) where
   chained-number rrn asked is =
       ap (λ (n : Result ℕ Reply). n >>= λ number. Ok (find_in its m (λ reading. chain_number reading number) (λ reading. chain_number reading number))) is
 
-  pub number-chained : (rrn : ℕ) → IsPhysical its.file.spec → HasNoKey (formats_read its.file its.opened) → number_asked its.file its.opened rrn ≡ Ok rrn
+  pub number-chained : (rrn : ℕ) → IsSimple its.file.spec → HasNoKey (formats_read (bases_of m) its.file its.opened) → number_asked its.file its.opened rrn ≡ Ok rrn
       → AsksChain m its (RecordNumber rrn) (Number rrn)
-  number-chained rrn physical none is = record {
+  number-chained rrn simple none is = record {
     asked = record { formats = none; looked = tt };
     chains =
         chained-number rrn (Ok rrn) is
-        ∙ ap (λ (item : Option Found). Ok item) (find_in-physical its m (λ reading. chain_number reading rrn) (λ reading. chain_number reading rrn) physical);
+        ∙ ap (λ (item : Option Found). Ok item) (find_in-simple its m (λ reading. chain_number reading rrn) (λ reading. chain_number reading rrn) simple);
     none = refl;
   }
 
-  pub number-not-chained : (rrn : ℕ) (reply : Reply) → number_asked its.file its.opened rrn ≡ Err reply → chained its m (RecordNumber rrn) ≡ Err reply
-  number-not-chained rrn reply is = chained-number rrn (Err reply) is
+  pub number-not-chained : (rrn : ℕ) (stop : Stop) → Stands its (limits.RecordNumber rrn) (Err stop) → AsksOf m its (RecordNumber rrn) (Err stop)
+  number-not-chained rrn NoMemory stands = tt
+  number-not-chained rrn (Refused reply) stands = chained-number rrn (Err reply) (number-refused (number_asked its.file its.opened rrn) reply (stands Before))

@@ -1,18 +1,14 @@
 -- The read of what an open finds is what the request wants.
-use Rattle.std.proofs.Common.{◌≡◌, ℕ, Bool, Option, Some, None, IfOk, Result, Ok, Err, List, [], unwrap_or, refl, ◌∙◌, ap, subst}
+use Rattle.std.proofs.Common.{◌≡◌, ℕ, Bool, Option, Some, None, IfOk, Result, Ok, Err, List, [], ◌∷◌, refl, ◌∙◌, ap, subst}
 use Rattle.std.specs.Option.{option_map}
 use Rattle.file_model.specs.Paths.{PathEntry}
-use Rattle.logical_model.specs.Formats.{Shown}
 use Rattle.library_model.specs.declared.requests.LockOption.{LockOption}
 use Rattle.library_model.specs.declared.replies.Reply.{Reply}
-use Rattle.library_model.specs.declared.replies.Reply.TheVariants.{Record}
 use Rattle.library_steps.specs.State.{Memory, FileState, OpenState}
-use Rattle.library_steps.specs.Change.{Change, unjournaled, does}
-use Rattle.library_steps.specs.LogicalFiles.{bases_of}
+use Rattle.library_steps.specs.Change.{Change, does}
 use Rattle.library_steps.specs.Refusals.{◌>>=◌, found, OpenedFile, opened_file}
-use Rattle.library_steps.specs.Records.{live_record}
-use Rattle.library_steps.specs.Locking.{locks_left, with_locks, not_locked, few_locks}
-use Rattle.library_steps.specs.Reads.{FoundEntry, entry_found, at_format, read_call, read_as, has_read, with_opened, lockable, if_lockable, read_change}
+use Rattle.library_steps.specs.Locking.{not_locked, few_locks}
+use Rattle.library_steps.specs.Reads.{FoundEntry, entry_found, at_format, read_call, lockable, if_lockable, read_change}
 use Rattle.library_parts.specs.declared.stop.Stop.{Stop}
 use Rattle.library_parts.specs.declared.stop.Stop.TheVariants.{NoMemory, Refused}
 use Rattle.library_parts.specs.Answers.{Gives}
@@ -21,10 +17,10 @@ use Rattle.record_reads.specs.declared.plans.UsedOpen.{UsedOpen}
 use Rattle.record_reads.specs.declared.plans.PlannedRead.{PlannedRead}
 use Rattle.record_reads.specs.declared.plans.FoundRead.{FoundRead}
 use Rattle.record_reads.specs.Asked.{found_through, nothing_found}
-use Rattle.record_reads.specs.Plans.{ReadsOneFormat, opened_with, used_of, record_shown, record_planned, planned_change, read_found, MayLock, PlansReadBy, PlansFound, Plans}
-use Rattle.record_reads.proofs.PhysicalLemmas.{at_format-only, shown_in-physical}
+use Rattle.record_reads.specs.Plans.{opened_with, used_of, record_shown, record_planned, planned_change, read_found, MayLock, PlansReadBy, PlansFound, Plans}
+use Rattle.record_reads.proofs.SimpleLemmas.{at_format-only}
 
-module _ (m : Memory) (job : ℕ) (file : FileState) (opened : OpenState) (lock : LockOption) (one : ReadsOneFormat file opened) where
+module _ (m : Memory) (job : ℕ) (file : FileState) (opened : OpenState) (lock : LockOption) (only : opened.members ≡ opened.member ∷ []) (first : opened.format ≡ 0) where
   abbrev pub through_open : OpenedFile
   through_open = opened_with opened file
 
@@ -33,7 +29,7 @@ module _ (m : Memory) (job : ℕ) (file : FileState) (opened : OpenState) (lock 
       → does (read_change m job) (if_lockable job m through_open lock (entry_found entry)) ≡ does (λ plan. planned_change m job plan entry) (record_planned m job through_open lock entry.rrn)
   read-planned entry zeroth =
       ap (λ (n : ℕ). does (read_change m job) (lockable job m file (at_format n opened) lock (entry_found entry))) zeroth
-      ∙ ap (λ (o : OpenState). does (read_change m job) (lockable job m file o lock (entry_found entry))) (at_format-only opened one.only one.format)
+      ∙ ap (λ (o : OpenState). does (read_change m job) (lockable job m file o lock (entry_found entry))) (at_format-only opened only first)
       ∙ by (not_locked (read_call lock opened) job opened entry.rrn m) (few_locks (read_call lock opened) job opened entry.rrn m)
     where
       it : FoundEntry
@@ -42,17 +38,11 @@ module _ (m : Memory) (job : ℕ) (file : FileState) (opened : OpenState) (lock 
       plan : PlannedRead
       plan = record { used = used_of job opened m; call = read_call lock opened; rrn = entry.rrn; shown = record_shown m file opened entry.rrn }
 
-      same : read_change m job it ≡ planned_change m job plan entry
-      same =
-          ap (λ (shown : Shown). unjournaled (Record (read_as entry.rrn shown))
-          (with_opened job opened (has_read (read_call lock opened) (entry_found entry)) (with_locks (locks_left (read_call lock opened) job opened entry.rrn m) m)))
-          (shown_in-physical (bases_of m) m.members file.spec opened.format (unwrap_or (live_record opened.member entry.rrn m) []) None one.physical)
-
       by : (unlocked few : Result Bool Reply)
           → does (read_change m job) (unlocked >>= λ _. (few >>= λ _. Ok it)) ≡ does (λ plan. planned_change m job plan entry) (unlocked >>= λ _. (few >>= λ _. Ok plan))
       by (Err reply) few = refl
       by (Ok _) (Err reply) = refl
-      by (Ok _) (Ok _) = ap (λ (c : Change). Ok c) same
+      by (Ok _) (Ok _) = refl
 
   module _ (asks : AskedBy) where
     abbrev pub its_read : Result Change Reply

@@ -11,6 +11,7 @@ use Rattle.open_position.specs.Reads.{IsAskedOf, asked_of}
 use Rattle.open_position.specs.declared.reads.ReadBy.{ReadBy}
 use Rattle.library_model.specs.declared.replies.Reply.{Reply}
 use Rattle.library_model.specs.declared.replies.Reply.TheVariants.{EndOfFile, BeginOfFile, NotFound}
+use Rattle.library_steps.specs.LogicalFiles.{bases_of}
 use Rattle.library_steps.specs.Records.{is_keyed, reading_of}
 use Rattle.library_steps.specs.State.{Memory, FileState, OpenState}
 use Rattle.library_parts.specs.Reads.{IsLookedIn, formats_read, parts_read}
@@ -30,7 +31,7 @@ found_in (Number rrn) parts reading position = chain_number reading rrn
 
 -- what the open finds in what it reads
 abbrev pub found_through : AskedBy → FileState → OpenState → Memory → Option PathEntry
-found_through by file opened m = found_in by (parts_read file opened) (reading_of file opened m) opened.position
+found_through by file opened m = found_in by (parts_read (bases_of m) file opened) (reading_of file opened m) opened.position
 
 -- it can be asked of these formats
 abbrev pub IsOfFormats : AskedBy → List (List KeyPart) → Type 0
@@ -51,8 +52,8 @@ IsLookedFor keyed (FirstEqual key) = IsTrue keyed
 IsLookedFor keyed (Number rrn) = Unit {0}
 
 -- it can be asked of the open
-pub record CanBeAsked (by : AskedBy) (file : FileState) (opened : OpenState) : Type 0 where
-  pub formats : IsOfFormats by (formats_read file opened)
+pub record CanBeAsked (by : AskedBy) (file : FileState) (opened : OpenState) (m : Memory) : Type 0 where
+  pub formats : IsOfFormats by (formats_read (bases_of m) file opened)
   pub looked : IsLookedFor (is_keyed file opened) by
 
 -- the same is asked

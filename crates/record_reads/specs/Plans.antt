@@ -1,5 +1,5 @@
 -- What the plan of a request hands on to its effect, and the change that the effect makes of it. (Our own.)
-use Rattle.std.specs.Prelude.{◌≡◌, ℕ, ◌≤◌, true, None, Some, IfSome, Result, Ok, Err, is_ok, List, [], ◌∷◌, length, unwrap_or}
+use Rattle.std.specs.Prelude.{◌≡◌, ℕ, ◌≤◌, true, None, Some, IfSome, Result, Ok, Err, is_ok, List, [], length, unwrap_or}
 use Rattle.std.specs.Option.{option_map}
 use Rattle.lock_table.specs.declared.lock.Lock.{Lock}
 use Rattle.lock_table.specs.declared.lock.Holder.{Holder}
@@ -10,7 +10,7 @@ use Rattle.lock_table.specs.Levels.{asked, locks_after}
 use Rattle.lock_table.specs.Table.{blocker}
 use Rattle.file_model.specs.Paths.{PathEntry}
 use Rattle.file_model.specs.Positions.{Bound, Position}
-use Rattle.logical_model.specs.Formats.{values_shown}
+use Rattle.logical_model.specs.Formats.{shown_in}
 use Rattle.open_position.specs.Reads.{side_of}
 use Rattle.open_position.specs.declared.position.Side.{Side}
 use Rattle.library_model.specs.declared.requests.SetPosition.{SetPosition}
@@ -21,15 +21,16 @@ use Rattle.library_model.specs.declared.requests.LockOption.{LockOption}
 use Rattle.library_model.specs.declared.replies.RecordRead.{RecordRead}
 use Rattle.library_model.specs.declared.replies.Reply.{Reply}
 use Rattle.library_model.specs.declared.replies.Reply.TheVariants.{NotFound, Record}
-use Rattle.file_catalogue.specs.Physical.{IsPhysical}
-use Rattle.library_steps.specs.State.{Memory, FileState, OpenState, format_in, job_of, with_job}
+use Rattle.library_steps.specs.State.{Memory, FileState, OpenState, job_of, with_job}
 use Rattle.library_steps.specs.Change.{Change, unjournaled, does}
+use Rattle.library_steps.specs.LogicalFiles.{bases_of}
 use Rattle.library_steps.specs.Refusals.{◌>>=◌, found, OpenedFile, opened_file}
 use Rattle.library_steps.specs.Records.{live_record}
 use Rattle.library_steps.specs.Locking.{level_of, is_committed, with_locks, not_locked, few_locks}
-use Rattle.library_steps.specs.Reads.{entry_found, open_changed, bound_asked, position_plan, position_change, read_call, has_read, read_plan, read_equal_plan, read_change, if_lockable, chained}
+use Rattle.library_steps.specs.Reads.{entry_found, open_changed, bound_asked, position_plan, position_change, read_call, read_as, has_read, read_plan, read_equal_plan, read_change, if_lockable, chained}
 use Rattle.library_parts.specs.declared.stop.Stop.{Stop}
 use Rattle.library_parts.specs.declared.stop.Stop.TheVariants.{NoMemory, Refused}
+use Rattle.library_parts.specs.Indexed.{IsSimple}
 use Rattle.library_parts.specs.Locks.{IsRead}
 use Rattle.record_reads.specs.Asked.{found_through, CanBeAsked, nothing_found, any_from, equal_from, end_in}
 use Rattle.record_reads.specs.declared.asked.AskedBy.{AskedBy}
@@ -39,12 +40,6 @@ use Rattle.record_reads.specs.declared.plans.PlannedRead.{PlannedRead}
 use Rattle.record_reads.specs.declared.plans.FoundRead.{FoundRead}
 
 -- ---- the open
-
--- an open of a physical file, which is over one member and reads by one format
-pub record ReadsOneFormat (file : FileState) (opened : OpenState) : Type 0 where
-  pub physical : IsPhysical file.spec
-  pub only : opened.members ≡ opened.member ∷ []
-  pub format : opened.format ≡ 0
 
 abbrev pub opened_with : OpenState → FileState → OpenedFile
 opened_with opened file = record { opened = opened; file = file }
@@ -73,7 +68,7 @@ position_set side m job args = does (position_change m job) (position_plan (side
 pub record CanBeSet (m : Memory) (job : ℕ) (args : SetPosition) (used : UsedOpen) : Type 0 where
   pub its : OpenedFile
   pub opened : opened_file args.open_id job m ≡ Ok its
-  pub physical : IsPhysical its.file.spec
+  pub simple : IsSimple its.file.spec
   pub place : (side : Bound → Position PathEntry) → is_ok (bound_asked its side args.to) ≡ true
   pub same : used ≡ used_of job its.opened m
 
@@ -102,7 +97,7 @@ read_found m job its lock by =
 
 -- by what CHAIN finds its record through the open, or its refusal
 pub record AsksChain (m : Memory) (its : OpenedFile) (to : ChainTo) (by : AskedBy) : Type 0 where
-  pub asked : CanBeAsked by its.file its.opened
+  pub asked : CanBeAsked by its.file its.opened m
   pub chains : chained its m to ≡ Ok (option_map entry_found (found_through by its.file its.opened m))
   pub none : nothing_found by ≡ NotFound
 
@@ -111,13 +106,9 @@ AsksOf m its to (Ok by) = AsksChain m its to by
 AsksOf m its to (Err NoMemory) = Unit {0}
 AsksOf m its to (Err (Refused reply)) = chained its m to ≡ Err reply
 
--- what the one format of a physical file shows of a record of the open's member
+-- what the open's format shows of a record of its member; it is no row of a join
 abbrev pub record_shown : Memory → FileState → OpenState → (rrn : ℕ) → RecordRead
-record_shown m file opened rrn = record {
-  format = (format_in file.spec).name;
-  rrn = rrn;
-  values = values_shown (format_in file.spec).fields (unwrap_or (live_record opened.member rrn m) []);
-}
+record_shown m file opened rrn = read_as rrn (shown_in (bases_of m) m.members file.spec opened.format (unwrap_or (live_record opened.member rrn m) []) None)
 
 -- the read of a record through the open, where the locks allow it
 abbrev pub record_planned : Memory → (job : ℕ) → OpenedFile → LockOption → (rrn : ℕ) → Result PlannedRead Reply
@@ -153,7 +144,7 @@ PlansReadBy m job its by wanted (Err (Refused reply)) = wanted ≡ Err reply
 
 -- the same with what it is found by
 pub record IsFoundRead (m : Memory) (job : ℕ) (its : OpenedFile) (wanted : Result Change Reply) (plan : FoundRead) : Type 0 where
-  pub asked : CanBeAsked plan.by its.file its.opened
+  pub asked : CanBeAsked plan.by its.file its.opened m
   pub read : IsReadBy m job its plan.by wanted plan.read
 
 abbrev pub PlansFound : Memory → (job : ℕ) → OpenedFile → Result Change Reply → Result FoundRead Stop → Type 0
@@ -165,7 +156,7 @@ PlansFound m job its wanted (Err (Refused reply)) = wanted ≡ Err reply
 pub record CanRead (m : Memory) (job : ℕ) (name : List ℕ) (by : AskedBy) (plan : PlannedRead) : Type 0 where
   pub its : OpenedFile
   pub opened : opened_file name job m ≡ Ok its
-  pub asked : CanBeAsked by its.file its.opened
+  pub asked : CanBeAsked by its.file its.opened m
   pub entry : PathEntry
   pub finds : found_through by its.file its.opened m ≡ Some entry
   pub number : plan.used.number ≡ its.opened.number

@@ -2,10 +2,9 @@
 ghost use Rattle.std.specs.Prelude.{◌≡◌, IsTrue};
 ghost use Rattle.library_steps.specs.State.{memory_of, job_at};
 ghost use Rattle.library_steps.specs.History.{is_running};
-ghost use Rattle.record_reads.specs.Plans.{ReadsOneFormat, used_of, holder_through, record_through};
+ghost use Rattle.record_reads.specs.Plans.{used_of, holder_through, record_through};
 
 use crate::asked::AskedBy;
-use file_catalogue::File;
 use job_table::Open;
 use library_model::replies::RecordRead;
 use library_parts::Contents;
@@ -67,12 +66,4 @@ pub(crate) fn used_open(contents: &Contents, job: u32, opened: &Open) -> UsedOpe
         member: opened.member(),
         level: contents.level_of(job, opened),
     }
-}
-
-/// The open is over one member of a physical file, and reads by its one format.
-pub(crate) fn reads_one_format(opened: &Open, file: &File)
-    ensures { ReadsOneFormat file.now opened.now.state }
-{
-    let _member = opened.only_member();
-    let _format = file.format();
 }

@@ -7,7 +7,7 @@ ghost use Rattle.library_parts.specs.Answers.{Answers};
 ghost use Rattle.library_parts.specs.declared.stop.Stop.TheVariants.{NoMemory};
 ghost use Rattle.record_reads.specs.Plans.{CanBeSet, PlansPosition, position_set};
 
-use crate::plans::{UsedOpen, reads_one_format, used_open};
+use crate::plans::{UsedOpen, used_open};
 use library_model::replies::Reply;
 use library_model::requests::SetPosition;
 use library_parts::laws::effects_answer;
@@ -46,7 +46,6 @@ fn plan_position(contents: &Contents, job: u32, args: &SetPosition) -> Result<Us
     ensures { PlansPosition (memory_of contents.now.state) job args.now result }
 {
     let OpenFound { opened, file } = contents.opened_file(job, &args.open_id)?;
-    reads_one_format(opened, file);
     contents.may_stand(opened, file, &args.to)?;
     Ok(used_open(contents, job, opened))
 }

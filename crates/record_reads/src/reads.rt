@@ -1,29 +1,31 @@
 //! READ, READP, READE, READPE and CHAIN.
 ghost use Rattle.std.specs.Prelude.{◌≡◌, Result, Ok, true, is_some, IfOk, IsTrue};
-ghost use Rattle.member_slots.specs.Members.{member_at};
 ghost use Rattle.library_model.specs.declared.replies.Reply.{Reply as AnyReply};
-ghost use Rattle.library_steps.specs.State.{memory_of, job_at, fields_of};
+ghost use Rattle.library_model.specs.declared.requests.ChainTo.TheVariants as chain_to;
+ghost use Rattle.library_model.specs.declared.requests.Limit.TheVariants as limits;
+ghost use Rattle.library_steps.specs.State.{memory_of, job_at};
 ghost use Rattle.library_steps.specs.Change.{Change};
 ghost use Rattle.library_steps.specs.History.{is_running};
 ghost use Rattle.library_steps.specs.Records.{live_record};
 ghost use Rattle.library_steps.specs.Reads.{read, read_prior, read_equal, read_prior_equal, chain, read_call};
 ghost use Rattle.library_parts.specs.Answers.{Answers, Gives};
-ghost use Rattle.library_parts.specs.Finds.{HasMember};
-ghost use Rattle.library_parts.specs.Lawful.{IsThere};
+ghost use Rattle.library_parts.specs.Finds.{ReadsMember};
+ghost use Rattle.library_parts.specs.Indexed.{IsSimple, IsViewBeside};
 ghost use Rattle.library_parts.specs.Locks.{HasLockRoom, IsRead};
-ghost use Rattle.library_parts.specs.Reads.{ReadsAs};
+ghost use Rattle.library_parts.specs.Reads.{ReadsAs, Stands};
 ghost use Rattle.record_reads.specs.Asked.{CanBeAsked};
-ghost use Rattle.record_reads.specs.Plans.{AsksOf, CanRead, IsWanted, MayLock, Plans, PlansFound, PlansReadBy, ReadsOneFormat, opened_with, read_equal_from, read_found, read_from, record_planned, used_of};
+ghost use Rattle.record_reads.specs.Plans.{AsksOf, CanRead, IsWanted, MayLock, Plans, PlansFound, PlansReadBy, opened_with, read_equal_from, read_found, read_from, record_planned, used_of};
 
 use crate::asked::{AskedBy, Direction};
-use crate::plans::{FoundRead, PlannedRead, reads_one_format, used_open};
+use crate::plans::{FoundRead, PlannedRead, used_open};
 use crate::shown::record_shown;
 use field_types::names::Name;
+use field_types::values::Value;
 use file_catalogue::File;
 use job_table::Open;
 use library_model::replies::Reply;
 use library_model::requests::{
-    ChainRecord, ChainTo, LockOption, OpenOption, ReadEqual, ReadRecord,
+    ChainRecord, ChainTo, Limit, LockOption, OpenOption, ReadEqual, ReadRecord,
 };
 use library_parts::laws::{effects_answer, locks_fit};
 use library_parts::{Contents, OpenFound, Stop};
@@ -85,7 +87,6 @@ fn plan_read(
     ensures { Plans (memory_of contents.now.state) job args.now.open_id (read_from direction (memory_of contents.now.state) job args.now) result }
 {
     let OpenFound { opened, file } = contents.opened_file(job, &args.open_id)?;
-    reads_one_format(opened, file);
     plan_found(contents, job, opened, file, args.lock, direction.any())
 }
 
@@ -100,7 +101,6 @@ fn plan_equal(
     ensures { Plans (memory_of contents.now.state) job args.now.open_id (read_equal_from direction (memory_of contents.now.state) job args.now) result }
 {
     let OpenFound { opened, file } = contents.opened_file(job, &args.open_id)?;
-    reads_one_format(opened, file);
     let key = contents.given_key(opened, file, args.key.as_slice())?;
     plan_found(contents, job, opened, file, args.lock, direction.equal(key))
 }
@@ -111,7 +111,6 @@ fn plan_chain(contents: &Contents, job: u32, args: &ChainRecord) -> Result<Found
     ensures { Plans (memory_of contents.now.state) job args.now.open_id (chain (memory_of contents.now.state) job args.now) result }
 {
     let OpenFound { opened, file } = contents.opened_file(job, &args.open_id)?;
-    reads_one_format(opened, file);
     let by = chained_by(contents, opened, file, &args.to)?;
     plan_found(contents, job, opened, file, args.lock, by)
 }
@@ -124,19 +123,56 @@ fn chained_by(
     to: &ChainTo,
 ) -> Result<AskedBy, Stop>
     requires reads { ReadsAs contents.now opened.now file.now }
-    requires one { ReadsOneFormat file.now opened.now.state }
+    requires simple { IsSimple file.now.spec }
     ensures { AsksOf (memory_of contents.now.state) (opened_with opened.now.state file.now) to.now result }
 {
     match to {
-        ChainTo::Key(values) => {
-            let key = contents.given_key(opened, file, values.as_slice())?;
-            Ok(AskedBy::FirstEqual(key))
-        }
-        ChainTo::RecordNumber(rrn) => match opened.path() {
-            Some(_) => Err(Stop::Refused(Reply::WrongOpen)),
-            None => Ok(AskedBy::Number(*rrn)),
-        },
+        ChainTo::Key(values) => chained_by_key(contents, opened, file, values.as_slice()),
+        ChainTo::RecordNumber(rrn) => chained_by_number(contents, opened, file, *rrn),
     }
+}
+
+/// The first record of a key.
+fn chained_by_key(
+    contents: &Contents,
+    opened: &Open,
+    file: &File,
+    values: &[Value],
+) -> Result<AskedBy, Stop>
+    requires reads { ReadsAs contents.now opened.now file.now }
+    requires simple { IsSimple file.now.spec }
+    ensures { AsksOf (memory_of contents.now.state) (opened_with opened.now.state file.now) (chain_to.Key values.now) result }
+{
+    match contents.given_key(opened, file, values) {
+        Ok(key) => Ok(AskedBy::FirstEqual(key)),
+        Err(stop) => Err(stop),
+    }
+}
+
+/// The record of a relative record number.
+fn chained_by_number(
+    contents: &Contents,
+    opened: &Open,
+    file: &File,
+    rrn: u32,
+) -> Result<AskedBy, Stop>
+    requires reads { ReadsAs contents.now opened.now file.now }
+    requires simple { IsSimple file.now.spec }
+    ensures { AsksOf (memory_of contents.now.state) (opened_with opened.now.state file.now) (chain_to.RecordNumber rrn) result }
+{
+    match may_stand_at(contents, opened, file, rrn) {
+        Ok(()) => Ok(AskedBy::Number(rrn)),
+        Err(stop) => Err(stop),
+    }
+}
+
+/// The refusal of a relative record number. A logical file without a key takes one, though it is read by a path.
+fn may_stand_at(contents: &Contents, opened: &Open, file: &File, rrn: u32) -> Result<(), Stop>
+    requires { ReadsAs contents.now opened.now file.now }
+    ensures { Stands (opened_with opened.now.state file.now) (limits.RecordNumber rrn) result }
+{
+    let to = Limit::RecordNumber(rrn);
+    contents.may_stand(opened, file, &to)
 }
 
 /// The read of what the open finds by this, with that.
@@ -150,9 +186,10 @@ fn plan_found(
 ) -> Result<FoundRead, Stop>
     requires running { IsTrue (is_running (job_at job contents.now.state.jobs)) }
     requires reads { ReadsAs contents.now opened.now file.now }
-    requires member { HasMember contents.now.state opened.now.state.file file.now opened.now.state.member }
-    requires one { ReadsOneFormat file.now opened.now.state }
-    requires asked { CanBeAsked by file.now opened.now.state }
+    requires member { ReadsMember contents.now.state file.now opened.now.state }
+    requires simple { IsSimple file.now.spec }
+    requires view { IsViewBeside contents.now.state.files file.now.spec }
+    requires asked { CanBeAsked by file.now opened.now.state (memory_of contents.now.state) }
     ensures { PlansFound (memory_of contents.now.state) job (opened_with opened.now.state file.now) (read_found (memory_of contents.now.state) job (opened_with opened.now.state file.now) lock by) result }
 {
     match plan_asked(contents, job, opened, file, lock, &by) {
@@ -172,9 +209,10 @@ fn plan_asked(
 ) -> Result<PlannedRead, Stop>
     requires running { IsTrue (is_running (job_at job contents.now.state.jobs)) }
     requires reads { ReadsAs contents.now opened.now file.now }
-    requires member { HasMember contents.now.state opened.now.state.file file.now opened.now.state.member }
-    requires one { ReadsOneFormat file.now opened.now.state }
-    requires asked { CanBeAsked by.now file.now opened.now.state }
+    requires member { ReadsMember contents.now.state file.now opened.now.state }
+    requires simple { IsSimple file.now.spec }
+    requires view { IsViewBeside contents.now.state.files file.now.spec }
+    requires asked { CanBeAsked by.now file.now opened.now.state (memory_of contents.now.state) }
     ensures { PlansReadBy (memory_of contents.now.state) job (opened_with opened.now.state file.now) by.now (read_found (memory_of contents.now.state) job (opened_with opened.now.state file.now) lock by.now) result }
 {
     let Some(found) = contents.find(opened, file, by.as_read()) else {
@@ -193,7 +231,9 @@ fn plan_record(
     rrn: u32,
 ) -> Result<PlannedRead, Stop>
     requires running { IsTrue (is_running (job_at job contents.now.state.jobs)) }
-    requires there { IsThere (fields_of file.now) (member_at opened.now.state.member contents.now.state.members) }
+    requires member { ReadsMember contents.now.state file.now opened.now.state }
+    requires simple { IsSimple file.now.spec }
+    requires view { IsViewBeside contents.now.state.files file.now.spec }
     requires live { is_some (live_record opened.now.state.member rrn (memory_of contents.now.state)) ≡ true }
     ensures plan { Gives result (record_planned (memory_of contents.now.state) job (opened_with opened.now.state file.now) lock rrn) }
     ensures lockable { IfOk result (MayLock (memory_of contents.now.state) job) }

@@ -1,37 +1,97 @@
-//! What a record shows.
-ghost use Rattle.std.specs.Prelude.{◌≡◌, true, is_some, length, IfOk};
-ghost use Rattle.member_slots.specs.Members.{member_at};
+//! What a record shows through the one format of a file.
+ghost use Rattle.std.specs.Prelude.{◌≡◌, ℕ, true, is_some, length, None, Some, IfOk};
+ghost use Rattle.key_order.specs.KeyFields.{AreBytes};
+ghost use Rattle.member_slots.specs.Members.{NumberedMembers, member_of};
 ghost use Rattle.record_fmt.specs.Layout.{record_length};
 ghost use Rattle.record_fmt.specs.Records.{record_held};
-ghost use Rattle.logical_model.specs.Formats.{values_shown};
-ghost use Rattle.library_steps.specs.State.{memory_of, fields_of};
+ghost use Rattle.physical_paths.specs.KeyedFiles.{IsRecord};
+ghost use Rattle.logical_model.specs.Bases.{Bases, LogicalFile};
+ghost use Rattle.logical_model.specs.Formats.{shown_in, shown_through, values_shown};
+ghost use Rattle.view_records.specs.Through.{IsFormatOf, IsReadThrough};
+ghost use Rattle.file_catalogue.specs.Bodies.{spec_in};
+ghost use Rattle.library_steps.specs.State.{memory_of};
+ghost use Rattle.library_steps.specs.Reads.{read_as};
 ghost use Rattle.library_steps.specs.Records.{live_record};
-ghost use Rattle.library_parts.specs.Lawful.{IsThere};
+ghost use Rattle.library_parts.specs.Finds.{ReadsMember};
+ghost use Rattle.library_parts.specs.Indexed.{IsSimple, IsViewBeside};
 ghost use Rattle.record_reads.specs.Plans.{record_shown};
+ghost use Rattle.record_reads.specs.Shown.{ShowsImage, shown_as_held};
 
+use dds_logical::{LogicalSpec, View};
 use field_values::fields::ImageFault;
-use file_catalogue::File;
+use file_catalogue::{Described, File, FileBody};
 use job_table::Open;
 use library_model::replies::RecordRead;
 use library_model::value_lists::Values;
 use library_parts::Contents;
 use record_fmt::formats::Format;
 use std::alloc::{AllocError, Global};
+use view_records::shown::values_shown;
 
-/// The record of that number of the open's member.
+/// The record of that number of the open's member, through the format of its file.
 pub(crate) fn record_shown(
     contents: &Contents,
     file: &File,
     opened: &Open,
     rrn: u32,
 ) -> Result<RecordRead, AllocError>
-    requires there { IsThere (fields_of file.now) (member_at opened.now.state.member contents.now.state.members) }
+    requires member { ReadsMember contents.now.state file.now opened.now.state }
+    requires simple { IsSimple file.now.spec }
+    requires view { IsViewBeside contents.now.state.files file.now.spec }
     requires live { is_some (live_record opened.now.state.member rrn (memory_of contents.now.state)) ≡ true }
     ensures { IfOk result (λ shown. shown ≡ record_shown (memory_of contents.now.state) file.now opened.now.state rrn) }
 {
-    let image = contents.live_image(opened.member(), rrn).unwrap();
-    let format = file.format();
-    let values = values_shown(contents.alloc(), format, image)?;
+    // What the parts of a library need of each other holds.
+    let _jobs = contents.jobs_begun();
+    let image = image_there(contents, opened.member(), rrn);
+    shown_by(contents.alloc(), file.described(), rrn, image)
+}
+
+/// The image of the record of that number, which is there.
+fn image_there(contents: &Contents, member: u32, rrn: u32) -> &[u8]
+    requires { is_some (live_record member rrn (memory_of contents.now.state)) ≡ true }
+    ensures live { live_record member rrn (memory_of contents.now.state) ≡ Some result.now }
+    ensures long { length result.now ≡ (member_of member contents.now.state.members).record_length }
+    ensures bytes { AreBytes result.now }
+{
+    let image = contents.live_image(member, rrn).unwrap();
+    are_bytes(image);
+    image
+}
+
+/// A slice of bytes is of bytes.
+fn are_bytes(bytes: &[u8])
+    ensures { AreBytes bytes.now }
+{}
+
+/// What a file of one format shows of a record.
+fn shown_by(
+    alloc: Global,
+    body: &FileBody,
+    rrn: u32,
+    image: &[u8],
+) -> Result<RecordRead, AllocError>
+    requires { ShowsImage (spec_in body.now) image.now }
+    ensures { (bases : Bases) (members : NumberedMembers) (number : ℕ) → IfOk result (λ shown. shown ≡ read_as rrn (shown_in bases members (spec_in body.now) number image.now None)) }
+{
+    match body {
+        FileBody::Physical(described) => shown_physical(alloc, described, rrn, image),
+        FileBody::Logical(view) => shown_logical(alloc, view.spec(), rrn, image),
+    }
+}
+
+/// What a physical file shows of a record of its own.
+fn shown_physical(
+    alloc: Global,
+    described: &Described,
+    rrn: u32,
+    image: &[u8],
+) -> Result<RecordRead, AllocError>
+    requires { IsRecord described.now.spec.format.fields image.now }
+    ensures { IfOk result (λ shown. shown ≡ read_as rrn (shown_as_held described.now.spec.format image.now)) }
+{
+    let format = described.format();
+    let values = values_held(alloc, format, image)?;
     Ok(RecordRead {
         format: format.name,
         rrn,
@@ -39,8 +99,38 @@ pub(crate) fn record_shown(
     })
 }
 
-/// The values that a record shows, in which one stands in each field.
-fn values_shown(alloc: Global, format: &Format, image: &[u8]) -> Result<Values, AllocError>
+/// What a logical file of one format shows of a record of its base file.
+fn shown_logical(
+    alloc: Global,
+    spec: &LogicalSpec,
+    rrn: u32,
+    image: &[u8],
+) -> Result<RecordRead, AllocError>
+    requires { ShowsImage (LogicalFile spec.now) image.now }
+    ensures { (bases : Bases) (members : NumberedMembers) (number : ℕ) → IfOk result (λ shown. shown ≡ read_as rrn (shown_in bases members (LogicalFile spec.now) number image.now None)) }
+{
+    match spec {
+        LogicalSpec::Simple(view) => shown_view(alloc, view, rrn, image),
+        LogicalSpec::Multi(_) | LogicalSpec::Join(_) => unreachable!(),
+    }
+}
+
+/// What a format shows of a record of its base file.
+fn shown_view(alloc: Global, view: &View, rrn: u32, image: &[u8]) -> Result<RecordRead, AllocError>
+    requires read { IsReadThrough view.now image.now }
+    requires format { IsFormatOf view.now }
+    ensures { IfOk result (λ shown. shown ≡ read_as rrn (shown_through view.now image.now)) }
+{
+    let values = values_shown(alloc, view, image)?;
+    Ok(RecordRead {
+        format: view.format.name,
+        rrn,
+        values: Values::from_vec(values),
+    })
+}
+
+/// The values of a record, in which one stands in each field.
+fn values_held(alloc: Global, format: &Format, image: &[u8]) -> Result<Values, AllocError>
     requires long { length image.now ≡ record_length format.now.fields }
     requires held { is_some (record_held format.now.fields image.now) ≡ true }
     ensures { IfOk result (λ values. values ≡ values_shown format.now.fields image.now) }

@@ -11,9 +11,7 @@ returns c =
     let m = memory_of old in
     let job = c.args.job in
     let args = c.args.args.now in
-    let status = c.in_ok-status.status in
-    let memory = rw c.number-member.ensures at c.add_open.ensures.memory in
     record {
-      answers = c.effects_answer.ensures.unjournaled old c.add_open.new.self.state Done (with_job job (with_open args (status.number ∷ [])) m) _
-          (ap (does (λ (members : List ℕ). unjournaled Done (with_job job (with_open args members) m))) c.in_ok-status.ensures.plan) memory refl c.add_open.ensures.entries;
+      answers = c.effects_answer.ensures.unjournaled old c.add_open.new.self.state Done (with_job job (with_open args (c.in_ok-member.member ∷ [])) m) _
+          (ap (does (λ (members : List ℕ). unjournaled Done (with_job job (with_open args members) m))) c.in_ok-member.ensures.plan) c.add_open.ensures.memory refl c.add_open.ensures.entries;
     }

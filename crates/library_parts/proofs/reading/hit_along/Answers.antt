@@ -2,6 +2,7 @@ use Rattle.std.proofs.Common.{◌∙◌, List, IfSome, sym, subst}
 use Rattle.key_spec.specs.declared.KeyPart.{KeyPart}
 use Rattle.key_pages.specs.EntryList.{EntryList}
 use Rattle.file_cursor.specs.CursorPosition.{entry_of}
+use Rattle.file_cursor.specs.Reading.{AreNumbered}
 use Rattle.file_cursor.specs.declared.places.Order.TheVariants.{Path}
 use Rattle.open_position.specs.OpenStand.{IsEntryIn}
 use Rattle.open_position.specs.Reads.{IsAskedOf, IsPathOver}
@@ -12,7 +13,10 @@ pub unwrap-path-requires : goal.unwrap-path-requires
 unwrap-path-requires c = copied-some c.path.result c.requires.read.2.list (c.path.ensures ∙ c.requires.read.2.pages)
 
 pub find-requires-clause-order : goal.find-requires-clause-order
-find-requires-clause-order c = λ none. absurd (c.requires.read.2.keyed (sym c.stand.ensures.formats ∙ none))
+find-requires-clause-order c = λ none.
+    let along = c.requires.read.2 in
+    let path = copied-is c.path.result c.unwrap-path.result along.list c.unwrap-path.ensures (c.path.ensures ∙ along.pages) in
+    subst (λ (list : EntryList). AreNumbered list) (sym path) (along.numbered (sym c.stand.ensures.formats ∙ none))
 
 pub find-requires-clause-asked : goal.find-requires-clause-asked
 find-requires-clause-asked c = subst (λ (formats : List (List KeyPart)). IsAskedOf formats c.args.by) (sym c.stand.ensures.formats) c.requires.asked

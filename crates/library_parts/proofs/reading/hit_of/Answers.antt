@@ -1,5 +1,6 @@
-use Rattle.std.proofs.Common.{◌≡◌, ◌∙◌, ℕ, Option, Some, None, is_some, sym, subst}
-use Rattle.library_parts.specs.Reads.{IsLookedIn, ReadsAmong}
+use Rattle.std.proofs.Common.{◌≡◌, ◌∙◌, ℕ, List, Option, Some, None, sym, subst}
+use Rattle.key_spec.specs.declared.KeyPart.{KeyPart}
+use Rattle.library_parts.specs.Reads.{IsLookedIn, ReadsAmong, has_positions}
 use Rattle.library_parts.proofs.reading.hit_of.Goals as goal
 
 pub hit_along-requires-clause-read : goal.hit_along-requires-clause-read
@@ -30,8 +31,12 @@ hit_in-requires-clause-read c =
 
 pub hit_in-requires-clause-looked : goal.hit_in-requires-clause-looked
 hit_in-requires-clause-looked c =
-    let path : c.args.opened.now.order.path ≡ None = sym c.path.ensures ∙ c.in-None.is in
-    subst (λ (p : Option ℕ). IsLookedIn (is_some p) c.args.by) path c.requires.looked
+    let opened = c.args.opened.now in
+    let path : opened.order.path ≡ None = sym c.path.ensures ∙ c.in-None.is in
+    let reading = c.requires.read.0 in
+    let among =
+    subst (λ (p : Option ℕ). ReadsAmong c.args.members.now.members c.args.paths.now opened.state.member opened.order.formats p reading) path c.requires.read.1 in
+    subst (λ (formats : List (List KeyPart)). IsLookedIn (has_positions formats) c.args.by) among.none c.requires.looked
 
 pub returns-in-None-clause-found : goal.returns-in-None-clause-found
 returns-in-None-clause-found c = λ reading among.

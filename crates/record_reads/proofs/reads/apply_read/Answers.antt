@@ -2,7 +2,7 @@ use Rattle.std.proofs.Common.{◌∙◌, refl}
 use Rattle.library_model.specs.declared.replies.Reply.TheVariants.{Record}
 use Rattle.library_steps.specs.State.{memory_of}
 use Rattle.record_reads.proofs.LockLemmas.{IsRead-IsOfOpen}
-use Rattle.record_reads.proofs.EffectLemmas.{opened-still, found-still, read-after}
+use Rattle.record_reads.proofs.EffectLemmas.{opened-still, asked-still, found-still, read-after}
 use Rattle.record_reads.proofs.reads.apply_read.Goals as goal
 
 pub lock_for-requires-clause-room : goal.lock_for-requires-clause-room
@@ -18,7 +18,7 @@ note_read-requires-clause-found c =
     record {
       its = can.its;
       opened = opened-still old left _ c.lock_for.ensures.memory c.args.name.now c.args.job can.its can.opened;
-      asked = c.as_read.ensures.formats _ can.asked.formats;
+      asked = asked-still old left _ c.lock_for.ensures.memory c.args.by.now c.as_read.result can.its.file can.its.opened c.as_read.ensures can.asked;
       looked = c.as_read.ensures.looked _ can.asked.looked;
       found = (can.entry, found-still old left _ c.lock_for.ensures.memory c.args.by.now c.as_read.result can.its.file can.its.opened can.entry c.as_read.ensures can.finds);
     }

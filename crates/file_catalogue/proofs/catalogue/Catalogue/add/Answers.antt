@@ -5,6 +5,7 @@ use Rattle.indexmap.proofs.CallerLemmas.{insert_entry-new}
 use Rattle.file_catalogue.proofs.MapLemmas.{on_ok}
 use Rattle.file_catalogue.proofs.ChangeLemmas.{owned-added}
 use Rattle.file_catalogue.proofs.KeyedLemmas.{keyed-append}
+use Rattle.file_catalogue.proofs.OwnMemberLemmas.{members-append}
 use Rattle.file_catalogue.proofs.catalogue.Catalogue.add.Goals as goal
 
 pub invariant_of-self : goal.invariant_of-self
@@ -14,7 +15,8 @@ invariant_of-self c =
     rw added (
       owned-added c.self.inside.files.entries (get nat_eq c.self.inside.owners) (get nat_eq c.add_owned.new.owners) c.args.name c.args.file c.self.invariant.0
           (rw (← c.self.view_is) at c.requires.fresh) c.requires.apart (λ number. rw c.members.ensures at (c.add_owned.ensures number)),
-      keyed-append c.self.inside.files.entries c.args.name c.args.file c.self.invariant.1 c.format-format.ensures.keyed,
+      keyed-append c.self.inside.files.entries c.args.name c.args.file c.self.invariant.1 c.described-described.ensures.keyed,
+      members-append c.self.inside.files.entries c.args.name c.args.file c.self.invariant.2 c.described-described.ensures.members,
     )
 
 pub returns : goal.returns

@@ -11,6 +11,7 @@ use Rattle.file_catalogue.proofs.StatusLemmas.{after-number}
 use Rattle.file_catalogue.proofs.OwnerLemmas.{owner-owns}
 use Rattle.file_catalogue.proofs.ChangeLemmas.{each_changed, each_changed-no_owner, set_value-each_changed, owned-each_changed}
 use Rattle.file_catalogue.proofs.KeyedLemmas.{keyed-each_changed}
+use Rattle.file_catalogue.proofs.OwnMemberLemmas.{members-each_changed}
 use Rattle.file_catalogue.proofs.catalogue.Catalogue.change.Goals as goal
 
 pub returns-in_default-clause-files : goal.returns-in_default-clause-files
@@ -37,6 +38,7 @@ invariant_of-self c =
     rw (files c) (
       owned-each_changed c.args.number (after c.args.change) c.self.inside.files.entries (get nat_eq c.self.inside.owners) (after-number c.args.change) c.self.invariant.0,
       keyed-each_changed c.args.number (after c.args.change) c.self.inside.files.entries c.self.invariant.1,
+      members-each_changed c.args.number (after c.args.change) c.self.inside.files.entries c.self.invariant.2,
     )
 
 pub returns-clause-files : goal.returns-clause-files

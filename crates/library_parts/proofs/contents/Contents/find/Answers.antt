@@ -6,6 +6,7 @@ use Rattle.library_steps.specs.Records.{reading_of}
 use Rattle.library_steps.specs.State.{memory_of}
 use Rattle.library_parts.specs.Parts.{state_of}
 use Rattle.library_parts.specs.Reads.{FindsEntry}
+use Rattle.library_parts.proofs.FindLemmas.{over-own}
 use Rattle.library_parts.proofs.ReadLemmas.{asked-live, found-live, none-found, one-format, some-found}
 use Rattle.library_parts.proofs.contents.Contents.find.Goals as goal
 
@@ -29,7 +30,7 @@ returns-in-None-clause-found c =
     let reading = reading_of c.args.file.now opened.state m in
     let found = c.hit_of.ensures.found reading (rw (← c.self.view_is) at c.reads_there.ensures.among) in
     rw (← c.self.view_is)
-    (subst (λ (formats : List (List KeyPart)). FindsEntry None (asked_of c.args.by (merged_parts formats) reading opened.state.position)) (sym c.reads_there.ensures.formats)
+    (subst (λ (formats : List (List KeyPart)). FindsEntry None (asked_of c.args.by (merged_parts formats) reading opened.state.position)) (sym (rw (← c.self.view_is) at c.reads_there.ensures.formats))
     (none-found (merged_parts opened.order.formats) c.hit_of.result _ c.in-None.is found))
 
 pub returns-in-Some-clause-found : goal.returns-in-Some-clause-found
@@ -44,13 +45,14 @@ returns-in-Some-clause-found c =
     let its = some-found (merged_parts opened.order.formats) opened.order.formats c.hit_of.result c.in-Some.hit _ c.in-Some.is found one c.hit_of.ensures.bytes in
     rw (← c.self.view_is)
     (subst (λ (formats : List (List KeyPart)). FindsEntry (Some (record { rrn = c.in-Some.hit.rrn })) (asked_of c.args.by (merged_parts formats) reading opened.state.position))
-    (sym c.reads_there.ensures.formats) (its.entry, its.is, its.rrn, its.format))
+    (sym (rw (← c.self.view_is) at c.reads_there.ensures.formats)) (its.entry, its.is, its.rrn, its.format))
 
 pub returns-in-Some-clause-live : goal.returns-in-Some-clause-live
 returns-in-Some-clause-live c =
     let opened = c.args.opened.now in
     let inside = c.self.inside in
-    let m = memory_of (state_of inside.catalogue inside.members inside.next_member inside.journal inside.locks inside.jobs) in
+    let s = state_of inside.catalogue inside.members inside.next_member inside.journal inside.locks inside.jobs in
+    let m = memory_of s in
     let reading = reading_of c.args.file.now opened.state m in
     let among = rw (← c.self.view_is) at c.reads_there.ensures.among in
     let found = c.hit_of.ensures.found reading among in
@@ -58,4 +60,5 @@ returns-in-Some-clause-live c =
     let its = some-found (merged_parts opened.order.formats) opened.order.formats c.hit_of.result c.in-Some.hit _ c.in-Some.is found one c.hit_of.ensures.bytes in
     rw (← c.self.view_is)
     (found-live opened.state.member m c.in-Some.hit _ its
-    (asked-live c.args.file.now opened.state m c.args.by (merged_parts opened.order.formats) opened.state.position c.reads_there.ensures.physical))
+    (asked-live c.args.file.now opened.state m c.args.by (merged_parts opened.order.formats) opened.state.position
+    (over-own s opened.state c.args.file.now (rw (← c.self.view_is) at c.requires.member) c.requires.reads.simple)))

@@ -1,18 +1,14 @@
-use Rattle.std.proofs.Common.{◌≡◌, ◌∙◌, ◌+◌, ◌-◌, ◌≤◌, List, Some, None, Option, Result, Ok, Err, Bool, sym, ap, subst, arith}
+use Rattle.std.proofs.Common.{◌≡◌, ◌∙◌, ◌+◌, ◌-◌, List, Result, Ok, Err, ap, subst, arith}
 use Rattle.std.specs.List.{AllByRecursion}
-use Rattle.member_slots.specs.Member.{MemberState}
 use Rattle.member_slots.specs.Members.{NumberedMembers, member_of}
-use Rattle.library_model.specs.declared.replies.Reply.{Reply}
-use Rattle.library_steps.specs.Refusals.{refuse_with}
-use Rattle.library_steps.specs.State.{memory_of}
-use Rattle.library_steps.specs.UniqueKeys.{all_apart, unique_paths}
 use Rattle.range_images.specs.declared.slot_given.SlotGiven.{SlotGiven}
-use Rattle.library_parts.specs.Given.{given_to, repeated_key, with_given}
+use Rattle.library_parts.specs.declared.stop.Stop.{Stop}
+use Rattle.library_parts.specs.Given.{given_to}
 use Rattle.library_parts.specs.Indexed.{HasBytes}
 use Rattle.library_parts.specs.Parts.{state_of}
 use Rattle.library_parts.specs.Slots.{weight}
 use Rattle.library_parts.proofs.DeleteLemmas.{bytes-without}
-use Rattle.library_parts.proofs.GivenKeys.{apart-told}
+use Rattle.library_parts.proofs.GivenKeys.{TellsAll, given-told}
 use Rattle.library_parts.proofs.GivenLemmas.{given-one}
 use Rattle.library_parts.proofs.GivenSteps.{giving-back, giving-indexed, giving-made, giving-shared, giving-undone}
 use Rattle.library_parts.proofs.MemberLemmas.{is_some-IsSome, member_of-with}
@@ -48,8 +44,8 @@ invariant_of-self c =
           c.change_back-moves.new.self c.change_back-moves.ensures.paths c.change_back-moves.ensures.rooms,
     )
 
-pub returns-in-Some-clause-apart : goal.returns-in-Some-clause-apart
-returns-in-Some-clause-apart c =
+pub returns-in-Err-clause-apart : goal.returns-in-Err-clause-apart
+returns-in-Err-clause-apart c =
     let parts = c.self.inside in
     let state = state_of parts.catalogue parts.members parts.next_member parts.journal parts.locks parts.jobs in
     let may = rw (← c.self.view_is) at c.requires.may in
@@ -60,9 +56,10 @@ returns-in-Some-clause-apart c =
     now c.change-back.ensures.paths c.change-back.ensures.rooms bytes in
     let shared = giving-shared state parts.jobs.orders parts.jobs.moves parts.paths c.args.member c.args.given.items c.args.moves c.kept-kept.ensures.shared c.self.invariant.2 may moves.same moves.room
     now c.change-back.ensures.paths c.change-back.ensures.rooms in
-    let told = apart-told state c.args.member c.args.given.items parts.jobs.orders parts.jobs.moves parts.paths now c.self.invariant.0.lawful c.weight-before.ensures.lawful c.self.invariant.2 indexed shared
-    c.len-files.ensures.physical c.len-files.ensures.unique c.len-files.ensures.apart c.len-files.ensures.keyed may bytes in
-    rw (← c.self.view_is) (told ∙ ap (λ (o : Option Reply). refuse_with (λ (r : Reply). r) o) (sym c.repeated_key.ensures ∙ c.in-Some.is))
+    rw (← c.self.view_is)
+    (given-told state c.args.member c.args.given.items parts.jobs.orders parts.jobs.moves parts.paths now c.self.invariant.0.lawful c.weight-before.ensures.lawful c.self.invariant.2 indexed
+    c.kept-kept.ensures.shared shared c.len-files.ensures.unique c.len-files.ensures.keyed may bytes (Err c.in-Err.stop)
+    (subst (λ (r : Result (Unit {0}) Stop). TellsAll parts.catalogue.files now.paths c.args.member r) c.in-Err.is c.keys_apart.ensures))
 
 pub overflow_sub-self : goal.overflow_sub-self
 overflow_sub-self c =
@@ -71,8 +68,8 @@ overflow_sub-self c =
     let rest = bytes-without c.args.member c.self.inside.members.members c.weight-before.ensures.lawful in
     omega (arith, counted, was, rest)
 
-pub invariant_of-self-in-None-1 : goal.invariant_of-self-in-None-1
-invariant_of-self-in-None-1 c =
+pub invariant_of-self-in-Ok-1 : goal.invariant_of-self-in-Ok-1
+invariant_of-self-in-Ok-1 c =
     let parts = c.self.inside in
     let state = state_of parts.catalogue parts.members parts.next_member parts.journal parts.locks parts.jobs in
     let may = rw (← c.self.view_is) at c.requires.may in
@@ -95,8 +92,8 @@ invariant_of-self-in-None-1 c =
           c.change-back.new.self c.change-back.ensures.paths c.change-back.ensures.rooms bytes,
     )
 
-pub returns-in-None-clause-apart : goal.returns-in-None-clause-apart
-returns-in-None-clause-apart c =
+pub returns-in-Ok-clause-apart : goal.returns-in-Ok-clause-apart
+returns-in-Ok-clause-apart c =
     let parts = c.self.inside in
     let state = state_of parts.catalogue parts.members parts.next_member parts.journal parts.locks parts.jobs in
     let may = rw (← c.self.view_is) at c.requires.may in
@@ -107,6 +104,7 @@ returns-in-None-clause-apart c =
     now c.change-back.ensures.paths c.change-back.ensures.rooms bytes in
     let shared = giving-shared state parts.jobs.orders parts.jobs.moves parts.paths c.args.member c.args.given.items c.args.moves c.kept-kept.ensures.shared c.self.invariant.2 may moves.same moves.room
     now c.change-back.ensures.paths c.change-back.ensures.rooms in
-    let told = apart-told state c.args.member c.args.given.items parts.jobs.orders parts.jobs.moves parts.paths now c.self.invariant.0.lawful c.weight-before.ensures.lawful c.self.invariant.2 indexed shared
-    c.len-files.ensures.physical c.len-files.ensures.unique c.len-files.ensures.apart c.len-files.ensures.keyed may bytes in
-    rw (← c.self.view_is) (told ∙ ap (λ (o : Option Reply). refuse_with (λ (r : Reply). r) o) (sym c.repeated_key.ensures ∙ c.in-None.is))
+    rw (← c.self.view_is)
+    (given-told state c.args.member c.args.given.items parts.jobs.orders parts.jobs.moves parts.paths now c.self.invariant.0.lawful c.weight-before.ensures.lawful c.self.invariant.2 indexed
+    c.kept-kept.ensures.shared shared c.len-files.ensures.unique c.len-files.ensures.keyed may bytes (Ok tt)
+    (subst (λ (r : Result (Unit {0}) Stop). TellsAll parts.catalogue.files now.paths c.args.member r) c.in-Ok.is c.keys_apart.ensures))

@@ -1,13 +1,13 @@
-use Rattle.std.proofs.Common.{Bool, List, true, false, is_some, sym, subst}
+use Rattle.std.proofs.Common.{Bool, List, true, false, sym, subst}
 use Rattle.key_spec.specs.declared.KeyPart.{KeyPart}
 use Rattle.file_model.specs.KeyOrder.{merged_parts}
+use Rattle.library_steps.specs.LogicalFiles.{bases_in}
 use Rattle.library_steps.specs.Records.{is_keyed}
 use Rattle.library_steps.specs.Refusals.{OpenedFile}
 use Rattle.library_parts.specs.Indexed.{path_read}
 use Rattle.library_parts.specs.Reads.{MayHaveKey, ReadsSo}
-use Rattle.library_parts.proofs.IndexLooks.{reads-keyed}
 use Rattle.library_parts.proofs.PlaceLemmas.{stands-high, stands-key, stands-low, stands-number}
-use Rattle.library_parts.proofs.ReadLemmas.{formats-by}
+use Rattle.library_parts.proofs.ReadLemmas.{formats-by, order-keyed}
 use Rattle.library_parts.proofs.contents.Contents.may_stand.Goals as goal
 
 pub returns-in-Key : goal.returns-in-Key
@@ -16,11 +16,12 @@ returns-in-Key c =
     let file = c.args.file.now in
     let paths = c.args.self.now.room.paths.paths in
     let its : OpenedFile = record { opened = opened.state; file = file } in
-    let keyed = reads-keyed paths opened.state opened.order file c.format-format.ensures.physical c.requires in
-    let formats = formats-by paths (path_read file opened.state) opened.order c.requires in
+    let bases = bases_in c.args.self.now.state.files in
+    let keyed = order-keyed bases paths file opened.state opened.order c.requires.simple c.requires.so c.requires.by in
+    let formats = formats-by paths (path_read bases file opened.state) opened.order c.requires.by in
     let may = rw c.as_slice.ensures at c.may_have_key.ensures in
     rw c.in-Key.is
-    (stands-key its c.in-Key.values c.may_have_key.result c.format-format.ensures.physical
+    (stands-key bases its c.in-Key.values c.may_have_key.result c.requires.simple c.requires.so
     (subst (λ (fs : List (List KeyPart)). MayHaveKey (is_keyed file opened.state) (merged_parts fs) c.in-Key.values c.may_have_key.result) (sym formats)
     (subst (λ (b : Bool). MayHaveKey b (merged_parts opened.order.formats) c.in-Key.values c.may_have_key.result) keyed may)))
 
@@ -30,7 +31,8 @@ returns-in-LowValue c =
     let file = c.args.file.now in
     let paths = c.args.self.now.room.paths.paths in
     let its : OpenedFile = record { opened = opened.state; file = file } in
-    let keyed = reads-keyed paths opened.state opened.order file c.format-format.ensures.physical c.requires in
+    let bases = bases_in c.args.self.now.state.files in
+    let keyed = order-keyed bases paths file opened.state opened.order c.requires.simple c.requires.so c.requires.by in
     rw c.in-LowValue.is (stands-low its c.reads_so.result (subst (λ (b : Bool). ReadsSo b true c.reads_so.result) keyed c.reads_so.ensures))
 
 pub returns-in-HighValue : goal.returns-in-HighValue
@@ -39,7 +41,8 @@ returns-in-HighValue c =
     let file = c.args.file.now in
     let paths = c.args.self.now.room.paths.paths in
     let its : OpenedFile = record { opened = opened.state; file = file } in
-    let keyed = reads-keyed paths opened.state opened.order file c.format-format.ensures.physical c.requires in
+    let bases = bases_in c.args.self.now.state.files in
+    let keyed = order-keyed bases paths file opened.state opened.order c.requires.simple c.requires.so c.requires.by in
     rw c.in-HighValue.is (stands-high its c.reads_so-in-HighValue.result (subst (λ (b : Bool). ReadsSo b true c.reads_so-in-HighValue.result) keyed c.reads_so-in-HighValue.ensures))
 
 pub returns-in-RecordNumber : goal.returns-in-RecordNumber
@@ -48,6 +51,7 @@ returns-in-RecordNumber c =
     let file = c.args.file.now in
     let paths = c.args.self.now.room.paths.paths in
     let its : OpenedFile = record { opened = opened.state; file = file } in
-    let keyed = reads-keyed paths opened.state opened.order file c.format-format.ensures.physical c.requires in
+    let bases = bases_in c.args.self.now.state.files in
+    let keyed = order-keyed bases paths file opened.state opened.order c.requires.simple c.requires.so c.requires.by in
     rw c.in-RecordNumber.is
-    (stands-number its _ c.reads_so-in-RecordNumber.result c.format-format.ensures.physical (subst (λ (b : Bool). ReadsSo b false c.reads_so-in-RecordNumber.result) keyed c.reads_so-in-RecordNumber.ensures))
+    (stands-number its _ c.reads_so-in-RecordNumber.result c.requires.simple (subst (λ (b : Bool). ReadsSo b false c.reads_so-in-RecordNumber.result) keyed c.reads_so-in-RecordNumber.ensures))

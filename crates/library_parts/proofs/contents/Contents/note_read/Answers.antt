@@ -7,12 +7,13 @@ use Rattle.open_position.specs.OpenStand.{IsEntryIn}
 use Rattle.open_position.specs.Reads.{IsAskedOf, asked_of, entry_hit}
 use Rattle.job_table.specs.Opens.{AllOfNumber, KeptOpen, OpenOrder}
 use Rattle.job_table.specs.Table.{orders_at}
+use Rattle.library_steps.specs.LogicalFiles.{bases_in}
 use Rattle.library_steps.specs.Reads.{entry_found, has_read}
 use Rattle.library_steps.specs.Records.{is_keyed, reading_of}
 use Rattle.library_steps.specs.Refusals.{OpenedFile}
 use Rattle.library_steps.specs.State.{OpenState, memory_of}
 use Rattle.library_parts.specs.Parts.{state_of}
-use Rattle.library_parts.specs.Reads.{IsLookedIn, ReadsAmong, formats_read, found_by}
+use Rattle.library_parts.specs.Reads.{IsLookedIn, ReadsAmong, formats_read, found_by, has_positions}
 use Rattle.library_parts.proofs.DueLemmas.{HasDue-kept}
 use Rattle.library_parts.proofs.FindLemmas.{OpenHolds-first_read}
 use Rattle.library_parts.proofs.IndexOpens.{IsIndexed-has_read}
@@ -53,9 +54,10 @@ hit_of-requires-clause-asked c =
     let same : c.requires.found.its ≡ its = found-same _ c.requires.found.its its c.requires.found.opened c.found_open-its.ensures.found in
     let one : seen ≡ kept =
     same-open seen kept _ _ c.kept_open-opened.ensures.state (rw (← c.self.view_is) at c.found_open-its.ensures.shows) c.kept_open-opened.ensures.order (rw (← c.self.view_is) at c.found_open-its.ensures.order) in
-    let formats = c.reads_there.ensures.formats in
+    let formats = rw (← c.self.view_is) at c.reads_there.ensures.formats in
     subst (λ (o : KeptOpen). IsAskedOf o.order.formats by) (sym one)
-    (subst (λ (fs : List (List KeyPart)). IsAskedOf fs by) formats (subst (λ (o : OpenedFile). IsAskedOf (formats_read o.file o.opened) by) same c.requires.found.asked))
+    (subst (λ (fs : List (List KeyPart)). IsAskedOf fs by) formats (subst (λ (o : OpenedFile). IsAskedOf (formats_read (bases_in c.self.inside.catalogue.files) o.file o.opened) by) same
+    (rw (← c.self.view_is) at c.requires.found.asked)))
 
 pub hit_of-requires-clause-looked : goal.hit_of-requires-clause-looked
 hit_of-requires-clause-looked c =
@@ -66,7 +68,7 @@ hit_of-requires-clause-looked c =
     let same : c.requires.found.its ≡ its = found-same _ c.requires.found.its its c.requires.found.opened c.found_open-its.ensures.found in
     let one : seen ≡ kept =
     same-open seen kept _ _ c.kept_open-opened.ensures.state (rw (← c.self.view_is) at c.found_open-its.ensures.shows) c.kept_open-opened.ensures.order (rw (← c.self.view_is) at c.found_open-its.ensures.order) in
-    subst (λ (o : KeptOpen). IsLookedIn (is_some o.order.path) by) (sym one)
+    subst (λ (o : KeptOpen). IsLookedIn (has_positions o.order.formats) by) (sym one)
     (rw c.reads_there.ensures.keyed (subst (λ (o : OpenedFile). IsLookedIn (is_keyed o.file o.opened) by) same c.requires.found.looked))
 
 pub unwrap-hit-requires : goal.unwrap-hit-requires
@@ -85,7 +87,7 @@ unwrap-hit-requires c =
     let members = inside.members.members in
     let paths = inside.paths in
     let among_seen = subst (λ (o : KeptOpen). ReadsAmong members paths o.state.member o.order.formats o.order.path reading) (sym one) among in
-    let formats = c.reads_there.ensures.formats in
+    let formats = rw (← c.self.view_is) at c.reads_there.ensures.formats in
     let shown =
     subst (λ (o : KeptOpen). option_map (entry_hit (merged_parts o.order.formats)) c.hit_of.result ≡ asked_of by (merged_parts o.order.formats) reading o.state.position) one
     (c.hit_of.ensures.found reading among_seen) in
@@ -110,7 +112,7 @@ note_read-requires-clause-entry c =
     let members = inside.members.members in
     let paths = inside.paths in
     let among_seen = subst (λ (o : KeptOpen). ReadsAmong members paths o.state.member o.order.formats o.order.path reading) (sym one) among in
-    let formats = c.reads_there.ensures.formats in
+    let formats = rw (← c.self.view_is) at c.reads_there.ensures.formats in
     let shown =
     subst (λ (o : KeptOpen). option_map (entry_hit (merged_parts o.order.formats)) c.hit_of.result ≡ asked_of by (merged_parts o.order.formats) reading o.state.position) one
     (c.hit_of.ensures.found reading among_seen) in
@@ -141,7 +143,7 @@ invariant_of-self c =
     let members = inside.members.members in
     let paths = inside.paths in
     let among_seen = subst (λ (o : KeptOpen). ReadsAmong members paths o.state.member o.order.formats o.order.path reading) (sym one) among in
-    let formats = c.reads_there.ensures.formats in
+    let formats = rw (← c.self.view_is) at c.reads_there.ensures.formats in
     let shown =
     subst (λ (o : KeptOpen). option_map (entry_hit (merged_parts o.order.formats)) c.hit_of.result ≡ asked_of by (merged_parts o.order.formats) reading o.state.position) one
     (c.hit_of.ensures.found reading among_seen) in
@@ -157,7 +159,7 @@ invariant_of-self c =
     let all = of-number c.number-number.result kept.order (λ (order : OpenOrder). entry_hit (merged_parts order.formats) c.unwrap-hit.result ≡ entry) (orders_at c.args.job inside.jobs) numbered its_entry.is in
     rw (c.note_read.ensures entry all) (
       AreOne-open_changed _ _ _ c.number-number.result (has_read c.args.call (entry_found entry)) c.self.invariant.0
-          (λ opened holds. OpenHolds-first_read _ c.args.call entry opened c.len-len.ensures.physical its_entry.format holds),
+          (λ opened holds. OpenHolds-first_read _ c.args.call entry opened its_entry.format holds),
       HasDue-kept _ _ _ _ _ (λ job. refl) c.self.invariant.1,
       IsIndexed-has_read _ _ _ _ _ _ _ c.number-number.result c.args.call entry c.self.invariant.2,
     )
@@ -177,7 +179,7 @@ returns-clause-memory c = λ other entry is asks.
     let members = inside.members.members in
     let paths = inside.paths in
     let among_seen = subst (λ (o : KeptOpen). ReadsAmong members paths o.state.member o.order.formats o.order.path reading) (sym one) among in
-    let formats = c.reads_there.ensures.formats in
+    let formats = rw (← c.self.view_is) at c.reads_there.ensures.formats in
     let shown =
     subst (λ (o : KeptOpen). option_map (entry_hit (merged_parts o.order.formats)) c.hit_of.result ≡ asked_of by (merged_parts o.order.formats) reading o.state.position) one
     (c.hit_of.ensures.found reading among_seen) in
@@ -209,7 +211,7 @@ returns-clause-room c =
     let members = inside.members.members in
     let paths = inside.paths in
     let among_seen = subst (λ (o : KeptOpen). ReadsAmong members paths o.state.member o.order.formats o.order.path reading) (sym one) among in
-    let formats = c.reads_there.ensures.formats in
+    let formats = rw (← c.self.view_is) at c.reads_there.ensures.formats in
     let shown =
     subst (λ (o : KeptOpen). option_map (entry_hit (merged_parts o.order.formats)) c.hit_of.result ≡ asked_of by (merged_parts o.order.formats) reading o.state.position) one
     (c.hit_of.ensures.found reading among_seen) in

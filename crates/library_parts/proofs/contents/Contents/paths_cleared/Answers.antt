@@ -13,7 +13,8 @@ prepare_rebuild-requires-clause-can c =
     let state = state_of parts.catalogue parts.members parts.next_member parts.journal parts.locks parts.jobs in
     let same : c.new-empty.result.state ≡ cleared (member_of c.args.member parts.members.members) = c.new-empty.ensures ∙ ap empty_member (rw (← c.self.view_is) at c.record_length.ensures) in
     subst (λ (m : MemberState). CanBeRebuilt c.args.member (with_member c.args.member m parts.members.members) parts.paths.paths) (sym same)
-    (cleared-can state c.args.member parts.jobs.orders parts.jobs.moves parts.paths c.len-files.ensures.keyed c.self.invariant.0.lawful c.self.invariant.2 (rw (← c.self.view_is) at c.requires))
+    (cleared-can state c.args.member parts.jobs.orders parts.jobs.moves parts.paths c.len-files.ensures.keyed c.len-files.ensures.unique c.self.invariant.0.lawful c.at-member.ensures.lawful
+    c.kept-kept.ensures.shared c.self.invariant.2 (rw (← c.self.view_is) at c.requires))
 
 pub returns : goal.returns
 returns c =

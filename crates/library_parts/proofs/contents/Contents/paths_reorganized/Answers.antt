@@ -14,8 +14,8 @@ prepare_rebuild-requires-clause-can c =
     let found = found-member c.args.member parts.members.members _ c.at.result c.unwrap.result c.at.ensures.found c.unwrap.ensures in
     let same : c.in_ok-compact.compact.state ≡ reorganized (member_of c.args.member parts.members.members) = c.in_ok-compact.ensures ∙ ap reorganized found in
     subst (λ (m : MemberState). CanBeRebuilt c.args.member (with_member c.args.member m parts.members.members) parts.paths.paths) (sym same)
-    (reorganized-can state c.args.member parts.jobs.orders parts.jobs.moves parts.paths c.len-files.ensures.keyed c.self.invariant.0.lawful c.self.invariant.2 (rw (← c.self.view_is) at c.requires)
-    c.at.ensures.lawful)
+    (reorganized-can state c.args.member parts.jobs.orders parts.jobs.moves parts.paths c.len-files.ensures.keyed c.len-files.ensures.unique c.self.invariant.0.lawful c.at.ensures.lawful
+    c.kept-kept.ensures.shared c.self.invariant.2 (rw (← c.self.view_is) at c.requires))
 
 pub returns : goal.returns
 returns c =

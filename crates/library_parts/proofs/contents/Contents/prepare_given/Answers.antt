@@ -31,12 +31,13 @@ prepare_all-requires c =
     let found = found-member c.args.member parts.members.members _ c.at.result c.unwrap-stands.result c.at.ensures.found c.unwrap-stands.ensures in
     let is = c.in_ok-changes.ensures c.args.member ∙ ap (λ (m : MemberState). changes_given c.args.member c.args.given.now m.slots) found in
     subst (λ (changes : List ImageChange). All (TakeImages c.args.member parts.paths.paths) changes) (sym c.as_slice.ensures.value)
-    (given-asked state c.args.member parts.jobs.orders parts.jobs.moves parts.paths c.len-files.ensures.keyed c.self.invariant.0.lawful c.at.ensures.lawful c.self.invariant.2 c.args.given.now
+    (given-asked state c.args.member parts.jobs.orders parts.jobs.moves parts.paths c.len-files.ensures.keyed c.len-files.ensures.unique c.self.invariant.0.lawful c.kept-kept.ensures.shared
+    c.at.ensures.lawful c.self.invariant.2 c.args.given.now
     c.in_ok-changes.changes.items may c.are_of_bytes.ensures is)
 
 pub invariant_of-self : goal.invariant_of-self
 invariant_of-self c =
-    (c.self.invariant.0, c.self.invariant.1, IsIndexed-roomier _ _ _ _ _ c.self.inside.paths c.prepare_all.new.self c.prepare_all.ensures.paths c.prepare_all.ensures.rooms c.self.invariant.2)
+    (c.self.invariant.0, c.self.invariant.1, IsIndexed-roomier _ _ _ _ _ _ c.self.inside.paths c.prepare_all.new.self c.prepare_all.ensures.paths c.prepare_all.ensures.rooms c.self.invariant.2)
 
 pub returns-clause-moves : goal.returns-clause-moves
 returns-clause-moves c =

@@ -1,13 +1,11 @@
 use Rattle.std.proofs.Common.{◌≡◌, ◌∙◌, ◌+◌, List, ℕ, Option, OnOk, sym, ap, subst, arith}
 use Rattle.std.specs.Prelude.{unwrap_or}
-use Rattle.member_slots.specs.declared.slot.Slot.{Slot}
 use Rattle.member_slots.specs.declared.slot.Slot.TheVariants.{Deleted}
 use Rattle.member_slots.specs.Member.{slot_at}
 use Rattle.member_slots.specs.Members.{member_of}
 use Rattle.path_set.specs.declared.moves.PathMove.{PathMove}
-use Rattle.path_set.specs.KeptPaths.{NumberedPaths}
 use Rattle.path_set.specs.MemberSteps.{image_in, slot_replaced}
-use Rattle.path_set.specs.RecordChanges.{RecordChange, TakeImage, HaveRoom, moves_in}
+use Rattle.path_set.specs.RecordChanges.{TakeImage, HaveRoom, moves_in}
 use Rattle.job_table.specs.Table.{changes_held}
 use Rattle.library_parts.specs.Parts.{state_of}
 use Rattle.library_parts.proofs.IndexLaws.{laws}
@@ -21,20 +19,21 @@ prepare-requires-clause-old c =
     let parts = c.self.inside in
     let state = state_of parts.catalogue parts.members parts.next_member parts.journal parts.locks parts.jobs in
     subst (λ (o : Option (List ℕ)). TakeImage c.args.member o parts.paths.paths) (sym c.live_image-old.ensures.image)
-    (takes-stood state c.args.member c.args.rrn parts.jobs.orders parts.jobs.moves parts.paths laws c.len-files.ensures.keyed c.self.invariant.0.lawful c.live_image-old.ensures.lawful
-    c.self.invariant.2)
+    (takes-stood state c.args.member c.args.rrn parts.jobs.orders parts.jobs.moves parts.paths laws c.len-files.ensures.keyed c.len-files.ensures.unique
+    c.self.invariant.0.lawful c.kept-kept.ensures.shared c.live_image-old.ensures.lawful c.self.invariant.2)
 
 pub prepare-requires-clause-new : goal.prepare-requires-clause-new
 prepare-requires-clause-new c =
     let parts = c.self.inside in
     let state = state_of parts.catalogue parts.members parts.next_member parts.journal parts.locks parts.jobs in
     subst (λ (o : Option (List ℕ)). TakeImage c.args.member o parts.paths.paths) (sym c.image_in.ensures)
-    (takes-slot state c.args.member c.args.new.now parts.jobs.orders parts.jobs.moves parts.paths laws c.len-files.ensures.keyed c.self.invariant.0.lawful c.self.invariant.2
+    (takes-slot state c.args.member c.args.new.now parts.jobs.orders parts.jobs.moves parts.paths laws c.len-files.ensures.keyed c.len-files.ensures.unique
+    c.self.invariant.0.lawful c.kept-kept.ensures.shared c.self.invariant.2
     (rw (← c.self.view_is) at c.requires.values) (rw (← c.self.view_is) at c.requires.fits) c.of_bytes.ensures)
 
 pub invariant_of-self : goal.invariant_of-self
 invariant_of-self c =
-    (c.self.invariant.0, c.self.invariant.1, IsIndexed-roomier _ _ _ _ _ c.self.inside.paths c.prepare.new.self c.prepare.ensures.paths c.prepare.ensures.rooms c.self.invariant.2)
+    (c.self.invariant.0, c.self.invariant.1, IsIndexed-roomier _ _ _ _ _ _ c.self.inside.paths c.prepare.new.self c.prepare.ensures.paths c.prepare.ensures.rooms c.self.invariant.2)
 
 pub returns-clause-moves : goal.returns-clause-moves
 returns-clause-moves c =

@@ -1,7 +1,7 @@
+use Rattle.library_steps.specs.LogicalFiles.{bases_in}
 use Rattle.library_parts.specs.Indexed.{path_read}
 use Rattle.library_parts.specs.Parts.{state_of}
-use Rattle.library_parts.proofs.IndexLooks.{reads-keyed}
-use Rattle.library_parts.proofs.ReadLemmas.{formats-by, reads-among}
+use Rattle.library_parts.proofs.ReadLemmas.{formats-by, order-keyed, reads-among}
 use Rattle.library_parts.proofs.contents.Contents.reads_there.Goals as goal
 
 pub returns-clause-among : goal.returns-clause-among
@@ -13,15 +13,13 @@ returns-clause-among c =
     let reads = rw (← c.self.view_is) at c.requires.reads in
     rw (← c.self.view_is)
     (reads-among s inside.jobs.orders inside.jobs.moves inside.paths c.len-files.ensures.keyed c.self.invariant.0.lawful c.at-member.ensures.lawful c.kept-paths.ensures.shared
-    c.kept-paths.ensures.rooms c.self.invariant.2 opened.state opened.order opened.state.file c.args.file.now has c.only_member-only.ensures.only reads c.format-format.ensures.physical)
+    c.kept-paths.ensures.rooms c.self.invariant.2 opened.state opened.order c.args.file.now has reads.by reads.simple)
 
 pub returns-clause-formats : goal.returns-clause-formats
 returns-clause-formats c =
-    formats-by c.args.self.now.room.paths.paths (path_read c.args.file.now c.args.opened.now.state) c.args.opened.now.order c.requires.reads
+    formats-by c.args.self.now.room.paths.paths (path_read (bases_in c.args.self.now.state.files) c.args.file.now c.args.opened.now.state) c.args.opened.now.order c.requires.reads.by
 
 pub returns-clause-keyed : goal.returns-clause-keyed
 returns-clause-keyed c =
-    reads-keyed c.args.self.now.room.paths.paths c.args.opened.now.state c.args.opened.now.order c.args.file.now c.format-format.ensures.physical c.requires.reads
-
-pub returns-clause-physical : goal.returns-clause-physical
-returns-clause-physical c = c.format-format.ensures.physical
+    order-keyed (bases_in c.args.self.now.state.files) c.args.self.now.room.paths.paths c.args.file.now c.args.opened.now.state c.args.opened.now.order c.requires.reads.simple c.requires.reads.so
+    c.requires.reads.by

@@ -1,23 +1,16 @@
-use Rattle.std.proofs.Common.{◌≡◌, ◌∙◌, ◌+◌, ◌-◌, ap, arith}
-use Rattle.member_slots.specs.Members.{NumberedMembers}
+use Rattle.std.proofs.Common.{◌≡◌, ◌∙◌, ℕ, ◌+◌, ◌-◌, IsSome, ap, arith}
+use Rattle.member_slots.specs.Members.{NumberedMembers, item_at}
 use Rattle.library_model.specs.Named.{Named}
 use Rattle.library_steps.specs.DeleteFile.{without_members}
 use Rattle.library_steps.specs.Ranges.{library_bytes}
-use Rattle.library_steps.specs.State.{MemberStatus, memory_of}
-use Rattle.file_catalogue.proofs.PhysicalLemmas.{physical-named}
+use Rattle.library_steps.specs.State.{MemberStatus}
+use Rattle.path_set.specs.KeptPaths.{spare_of}
 use Rattle.library_parts.specs.Parts.{state_of}
-use Rattle.library_parts.specs.PathChanges.{without_paths}
+use Rattle.library_parts.specs.PathChanges.{detached_from, without_paths}
+use Rattle.library_parts.proofs.IndexDetached.{some-from}
 use Rattle.library_parts.proofs.IndexDeleted.{IsIndexed-without_file}
-use Rattle.library_parts.proofs.DeleteLemmas.{AreOne-deleted, free-physical, user-physical}
+use Rattle.library_parts.proofs.DeleteLemmas.{AreOne-deleted, free-independent}
 use Rattle.library_parts.proofs.contents.Contents.remove_file.Goals as goal
-
-pub detach_paths-requires : goal.detach_paths-requires
-detach_paths-requires c = record {
-  files = c.self.inside.catalogue.files;
-  apart = c.len-len.ensures.apart;
-  owned = c.self.invariant.2.paths.owned;
-  single = c.self.invariant.2.paths.single;
-}
 
 pub invariant_of-self : goal.invariant_of-self
 invariant_of-self c =
@@ -31,14 +24,18 @@ invariant_of-self c =
     let left : library_bytes taken.new.members.members ≡ library_bytes (without_members file.members members) = ap (λ (ms : NumberedMembers). library_bytes ms) gone in
     let bytes : library_bytes taken.new.members.members + taken.result ≡ library_bytes members = taken.ensures.bytes in
     let name = c.args.args.now.file in
-    let free = free-physical name parts.catalogue.files c.len-len.ensures.physical in
-    let physical = physical-named name file parts.catalogue.files c.len-len.ensures.physical c.remove-file.ensures.file in
-    let unused = user-physical name file (memory_of state) physical ∙ (rw (← c.self.view_is) at c.requires.unused) file c.remove-file.ensures.file in
+    let alone = rw (← c.self.view_is) at c.requires.alone in
+    let free = free-independent name parts.catalogue.files alone in
+    let unused = (rw (← c.self.view_is) at c.requires.unused) file c.remove-file.ensures.file in
+    let path = rw (← c.self.view_is) at c.requires.path in
+    let paths = c.detach_own.ensures.paths
+    ∙ ap (detached_from c.args.path) (c.detach_paths.ensures.paths ∙ ap (λ (names : Named MemberStatus). without_paths names parts.paths.paths) c.members-gone.ensures) in
+    let spares : (number : ℕ) → IsSome (item_at number c.detach_own.new.paths.paths) → spare_of number c.detach_own.new.paths ≡ spare_of number parts.paths = λ number there. c.detach_own.ensures.spares number there
+    ∙ c.detach_paths.ensures.spares number (some-from c.args.path number c.detach_paths.new.paths.paths (rw c.detach_own.ensures.paths at there)) in
     rw (c.remove-file.ensures.removed, taken.ensures.gone, c.members-gone.ensures) (
       AreOne-deleted state parts.member_bytes (parts.member_bytes - taken.result) name file c.self.invariant.0 c.len-len.ensures.apart free c.remove-file.ensures.file unused
           (omega (arith, counted, left, bytes)) (omega arith),
       c.self.invariant.1,
-      IsIndexed-without_file state name file c.self.invariant.0.lawful c.len-len.ensures.apart c.len-len.ensures.physical c.remove-file.ensures.file
-          ((rw (← c.self.view_is) at c.requires.unused) file c.remove-file.ensures.file) parts.jobs.orders parts.jobs.moves parts.paths c.detach_paths.new.paths
-          (c.detach_paths.ensures.paths ∙ ap (λ (names : Named MemberStatus). without_paths names parts.paths.paths) c.members-gone.ensures) c.detach_paths.ensures.spares c.self.invariant.2,
+      IsIndexed-without_file state name file c.self.invariant.0.lawful c.len-len.ensures.unique c.len-len.ensures.apart c.remove-file.ensures.file alone parts.jobs.orders parts.jobs.moves
+          c.args.path parts.paths c.detach_own.new.paths c.kept-kept.ensures.shared path unused paths spares c.self.invariant.2,
     )

@@ -4,6 +4,7 @@ use Rattle.file_model.specs.KeyOrder.{merged_parts}
 use Rattle.open_position.specs.Reads.{IsStandAt, side_of, stood}
 use Rattle.job_table.specs.Opens.{AllOfNumber, OpenOrder}
 use Rattle.job_table.specs.Table.{orders_at}
+use Rattle.library_steps.specs.LogicalFiles.{bases_in}
 use Rattle.library_steps.specs.Reads.{bound_asked, positioned}
 use Rattle.library_steps.specs.Refusals.{OpenedFile}
 use Rattle.library_parts.specs.Reads.{CanStandIn, stood_at}
@@ -23,12 +24,15 @@ set_position-requires-clause-place c =
     let kept = c.found_open-its.result.opened.now in
     let its : OpenedFile = record { opened = kept.state; file = c.found_open-its.result.file.now } in
     let to = c.args.to.now in
-    let there = placed-there _ c.requires.place.its its c.args.side to c.reads_there.ensures.physical c.requires.place.opened c.found_open-its.ensures.found (c.requires.place.place (side_of c.args.side)) in
+    let reads = c.found_open-its.ensures.reads in
+    let bases = bases_in inside.catalogue.files in
+    let formats = rw (← c.self.view_is) at c.reads_there.ensures.formats in
+    let there = placed-there bases _ c.requires.place.its its c.args.side to reads.simple reads.so c.requires.place.opened c.found_open-its.ensures.found (c.requires.place.place (side_of c.args.side)) in
     let alone = rw (← c.self.view_is) at c.found_open-its.ensures.alone in
     let number = c.number-number.ensures in
     of-number c.number-number.result kept.order (λ (order : OpenOrder). IsStandAt order.formats c.place_of-at.result) (orders_at c.args.job inside.jobs)
     (subst (λ (n : ℕ). AllOfNumber n (λ order. order ≡ kept.order) (orders_at c.args.job inside.jobs)) (sym number) alone)
-    (c.place_of-at.ensures.can kept.order.formats (subst (λ (fs : List (List KeyPart)). CanStandIn fs to) c.reads_there.ensures.formats there.placed.can))
+    (c.place_of-at.ensures.can kept.order.formats (subst (λ (fs : List (List KeyPart)). CanStandIn fs to) formats there.placed.can))
 
 pub invariant_of-self : goal.invariant_of-self
 invariant_of-self c =
@@ -36,14 +40,17 @@ invariant_of-self c =
     let kept = c.found_open-its.result.opened.now in
     let its : OpenedFile = record { opened = kept.state; file = c.found_open-its.result.file.now } in
     let to = c.args.to.now in
-    let there = placed-there _ c.requires.place.its its c.args.side to c.reads_there.ensures.physical c.requires.place.opened c.found_open-its.ensures.found (c.requires.place.place (side_of c.args.side)) in
+    let reads = c.found_open-its.ensures.reads in
+    let bases = bases_in inside.catalogue.files in
+    let formats = rw (← c.self.view_is) at c.reads_there.ensures.formats in
+    let there = placed-there bases _ c.requires.place.its its c.args.side to reads.simple reads.so c.requires.place.opened c.found_open-its.ensures.found (c.requires.place.place (side_of c.args.side)) in
     let alone = rw (← c.self.view_is) at c.found_open-its.ensures.alone in
     let number = c.number-number.ensures in
     let all =
     of-number c.number-number.result kept.order (λ (order : OpenOrder). stood c.args.side (merged_parts order.formats) c.place_of-at.result ≡ there.position) (orders_at c.args.job inside.jobs)
     (subst (λ (n : ℕ). AllOfNumber n (λ order. order ≡ kept.order) (orders_at c.args.job inside.jobs)) (sym number) alone)
     (c.place_of-at.ensures.stood c.args.side (merged_parts kept.order.formats)
-    ∙ subst (λ (fs : List (List KeyPart)). stood_at c.args.side (merged_parts fs) to ≡ there.position) c.reads_there.ensures.formats there.placed.stood) in
+    ∙ subst (λ (fs : List (List KeyPart)). stood_at c.args.side (merged_parts fs) to ≡ there.position) formats there.placed.stood) in
     rw (c.set_position.ensures there.position all) (
       AreOne-open_changed _ _ _ c.number-number.result (positioned None there.position) c.self.invariant.0
           (λ opened holds. OpenHolds-positioned _ None there.position opened holds),
@@ -57,16 +64,19 @@ returns-clause-memory c = λ other position is bound.
     let kept = c.found_open-its.result.opened.now in
     let its : OpenedFile = record { opened = kept.state; file = c.found_open-its.result.file.now } in
     let to = c.args.to.now in
-    let there = placed-there _ c.requires.place.its its c.args.side to c.reads_there.ensures.physical c.requires.place.opened c.found_open-its.ensures.found (c.requires.place.place (side_of c.args.side)) in
+    let reads = c.found_open-its.ensures.reads in
+    let bases = bases_in inside.catalogue.files in
+    let formats = rw (← c.self.view_is) at c.reads_there.ensures.formats in
+    let there = placed-there bases _ c.requires.place.its its c.args.side to reads.simple reads.so c.requires.place.opened c.found_open-its.ensures.found (c.requires.place.place (side_of c.args.side)) in
     let alone = rw (← c.self.view_is) at c.found_open-its.ensures.alone in
     let number = c.number-number.ensures in
     let same : other ≡ its = found-same _ other its is c.found_open-its.ensures.found in
-    let placed = is-place its c.args.side to position c.reads_there.ensures.physical (subst (λ (o : OpenedFile). bound_asked o (side_of c.args.side) to ≡ Ok position) same bound) in
+    let placed = is-place bases its reads.simple reads.so c.args.side to position (subst (λ (o : OpenedFile). bound_asked o (side_of c.args.side) to ≡ Ok position) same bound) in
     let all =
     of-number c.number-number.result kept.order (λ (order : OpenOrder). stood c.args.side (merged_parts order.formats) c.place_of-at.result ≡ position) (orders_at c.args.job inside.jobs)
     (subst (λ (n : ℕ). AllOfNumber n (λ order. order ≡ kept.order) (orders_at c.args.job inside.jobs)) (sym number) alone)
     (c.place_of-at.ensures.stood c.args.side (merged_parts kept.order.formats)
-    ∙ subst (λ (fs : List (List KeyPart)). stood_at c.args.side (merged_parts fs) to ≡ position) c.reads_there.ensures.formats placed.stood) in
+    ∙ subst (λ (fs : List (List KeyPart)). stood_at c.args.side (merged_parts fs) to ≡ position) formats placed.stood) in
     rw (← c.self.view_is, c.set_position.ensures position all, number, same) refl
 
 pub returns-clause-room : goal.returns-clause-room
@@ -75,12 +85,15 @@ returns-clause-room c =
     let kept = c.found_open-its.result.opened.now in
     let its : OpenedFile = record { opened = kept.state; file = c.found_open-its.result.file.now } in
     let to = c.args.to.now in
-    let there = placed-there _ c.requires.place.its its c.args.side to c.reads_there.ensures.physical c.requires.place.opened c.found_open-its.ensures.found (c.requires.place.place (side_of c.args.side)) in
+    let reads = c.found_open-its.ensures.reads in
+    let bases = bases_in inside.catalogue.files in
+    let formats = rw (← c.self.view_is) at c.reads_there.ensures.formats in
+    let there = placed-there bases _ c.requires.place.its its c.args.side to reads.simple reads.so c.requires.place.opened c.found_open-its.ensures.found (c.requires.place.place (side_of c.args.side)) in
     let alone = rw (← c.self.view_is) at c.found_open-its.ensures.alone in
     let number = c.number-number.ensures in
     let all =
     of-number c.number-number.result kept.order (λ (order : OpenOrder). stood c.args.side (merged_parts order.formats) c.place_of-at.result ≡ there.position) (orders_at c.args.job inside.jobs)
     (subst (λ (n : ℕ). AllOfNumber n (λ order. order ≡ kept.order) (orders_at c.args.job inside.jobs)) (sym number) alone)
     (c.place_of-at.ensures.stood c.args.side (merged_parts kept.order.formats)
-    ∙ subst (λ (fs : List (List KeyPart)). stood_at c.args.side (merged_parts fs) to ≡ there.position) c.reads_there.ensures.formats there.placed.stood) in
+    ∙ subst (λ (fs : List (List KeyPart)). stood_at c.args.side (merged_parts fs) to ≡ there.position) formats there.placed.stood) in
     rw (← c.self.view_is, c.set_position.ensures there.position all) refl

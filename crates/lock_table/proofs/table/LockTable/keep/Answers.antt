@@ -1,21 +1,20 @@
 -- The lock leaves the list, and comes back with the other reach.
-use Rattle.std.proofs.Common.{◌≡◌, subst, sym}
-use Rattle.std.specs.List.{Contains}
+use Rattle.std.proofs.Common.{◌≤◌, length, sym, subst}
+use Rattle.std.specs.List.{All}
 use Rattle.lock_table.specs.declared.lock.Lock.{Lock}
-use Rattle.lock_table.specs.Table.{Locks}
-use Rattle.lock_table.proofs.Stored.{IsStored-kept, kept-room, taken-ordered}
+use Rattle.lock_table.specs.Lock.{Clashes}
+use Rattle.lock_table.specs.Table.{Locks, with_lock, without_lock}
+use Rattle.lock_table.proofs.Stored.{kept-alone, kept-fits}
 use Rattle.lock_table.proofs.table.LockTable.keep.Goals as goal
 
-there : (t u : Locks) (lock : Lock) → t ≡ u → Contains u.held lock → Contains t.held lock
-there t u lock e h = subst (λ v. Contains v.held lock) (sym e) h
+pub add-requires-clause-room : goal.add-requires-clause-room
+add-requires-clause-room c =
+    subst (λ (t : Locks). length (with_lock c.to_boundary.result t.held) ≤ t.room) (sym c.free.ensures)
+    (subst (λ (l : Lock). length (with_lock l (without_lock c.args.lock c.args.self.now.held)) ≤ c.args.self.now.room) (sym c.to_boundary.ensures)
+    (kept-fits c.args.self.now.held c.args.self.now.room c.requires.table c.args.lock c.requires.there))
 
-pub put_lock-requires-clause-ordered : goal.put_lock-requires-clause-ordered
-put_lock-requires-clause-ordered c = taken-ordered _ _ _ _ _ _ _ _ c.self.invariant c.args.lock c.to_boundary.result (there _ _ c.args.lock c.self.view_is c.requires) c.to_boundary.ensures c.take_lock.ensures.locks c.take_lock.ensures.nodes c.take_lock.ensures.capacity
-
-pub put_lock-requires-clause-room : goal.put_lock-requires-clause-room
-put_lock-requires-clause-room c = kept-room _ _ _ _ _ _ _ _ c.self.invariant c.args.lock c.to_boundary.result (there _ _ c.args.lock c.self.view_is c.requires) c.to_boundary.ensures c.take_lock.ensures.locks c.take_lock.ensures.nodes c.take_lock.ensures.capacity
-
-pub invariant_of-self : goal.invariant_of-self
-invariant_of-self c =
-    IsStored-kept _ _ _ _ _ _ _ _ c.self.invariant c.args.lock c.to_boundary.result (there _ _ c.args.lock c.self.view_is c.requires) c.to_boundary.ensures c.take_lock.ensures.locks c.take_lock.ensures.nodes c.take_lock.ensures.capacity
-    _ _ _ c.put_lock.ensures.capacity c.put_lock.ensures.nodes c.put_lock.ensures.locks
+pub add-requires-clause-alone : goal.add-requires-clause-alone
+add-requires-clause-alone c =
+    subst (λ (t : Locks). All (λ other. Clashes c.to_boundary.result other → ⊥) t.held) (sym c.free.ensures)
+    (subst (λ (l : Lock). All (λ other. Clashes l other → ⊥) (without_lock c.args.lock c.args.self.now.held)) (sym c.to_boundary.ensures)
+    (kept-alone c.args.self.now.held c.args.self.now.room c.requires.table c.args.lock c.requires.there))

@@ -1,4 +1,3 @@
-use Rattle.std.proofs.Common.{length}
 use Rattle.std.specs.Prelude.{vec_len}
 use Rattle.path_set.proofs.RebuildLemmas.{IsPutting}
 use Rattle.path_set.proofs.set.PathSet.rebuild.Given as goal

@@ -4,7 +4,7 @@ use Rattle.path_set.proofs.set.PathSetPaths.path.Goals as goal
 
 pub returns-in-Ok : goal.returns-in-Ok
 returns-in-Ok c =
-    let entry = found _ _ _ _ _ _ c.self.view_is c.self.invariant c.deref.ensures.value c.in-Ok.ensures.found c.index.ensures in
+    let entry = found _ _ _ _ _ _ c.self.view_is c.self.invariant.0 c.deref.ensures.value c.in-Ok.ensures.found c.index.ensures in
     rw (entry.present, entry.room, ← entry.is.falling) refl
 
 pub returns-in-Err : goal.returns-in-Err

@@ -1,0 +1,149 @@
+-- How the plan of CRTLF ends with the keys, and what it leaves.
+use Rattle.std.proofs.Common.{◌≡◌, ◌∙◌, ℕ, Bool, nat_le, Option, Some, None, Result, Ok, Err, IfOk, IfSome, OnOk, OnErr, List, [], ◌∷◌, length, if◌then◌else◌, refl, ap, subst}
+use Rattle.std.specs.List.{list_any}
+use Rattle.std.specs.Option.{is_some}
+use Rattle.entry_codec.specs.declared.entries.Draft.{Draft}
+use Rattle.dds_source.specs.declared.faults.DdsFault.{DdsFault}
+use Rattle.dds_logical.specs.declared.views.LogicalSpec.{LogicalSpec}
+use Rattle.logical_model.specs.Bases.{LogicalFile, base_members}
+use Rattle.logical_model.specs.FilePaths.{logical_paths}
+use Rattle.library_model.specs.declared.limits.TheConstants.{MOST_FILES}
+use Rattle.library_model.specs.declared.requests.CreateLogicalFile.{CreateLogicalFile}
+use Rattle.library_model.specs.declared.sources.NamedSource.{NamedSource}
+use Rattle.library_model.specs.declared.replies.Reply.{Reply}
+use Rattle.library_model.specs.declared.replies.Reply.TheVariants.{NameExists, LimitReached, NotJournaled, Done}
+use Rattle.library_model.specs.declared.replies.LimitKind.TheVariants.{Files, Paths}
+use Rattle.library_model.specs.SourceList.{text_of}
+use Rattle.library_model.specs.Named.{named}
+use Rattle.library_steps.specs.declared.limits.TheConstants.{MOST_PATHS}
+use Rattle.library_steps.specs.State.{Memory, State, file_named, memory_of}
+use Rattle.library_steps.specs.Change.{does}
+use Rattle.library_steps.specs.CreateLogicalFile.{
+  NewLogical,
+  create_logical_change,
+  create_logical_file,
+  create_logical_plan,
+  first_undone,
+  has_many,
+  is_unique,
+  logical_described,
+  logical_or_refused,
+  with_logical,
+}
+use Rattle.library_steps.specs.LogicalFiles.{bases_of}
+use Rattle.library_steps.specs.Refusals.{◌>>=◌, refuse_if, refuse_with, named_or_refused, sequences_left}
+use Rattle.library_steps.specs.Uses.{changer_of_any, unused}
+use Rattle.library_parts.specs.Answers.{Answers, Gives, MayAllow}
+use Rattle.library_parts.specs.Files.{IsNewView}
+use Rattle.library_parts.specs.Indexed.{IsSimple}
+use Rattle.library_parts.specs.declared.stop.Stop.{Stop}
+use Rattle.library_parts.specs.declared.stop.Stop.TheVariants.{NoMemory, Refused}
+use Rattle.draft_list.proofs.DepositLemmas.{Answers-left}
+use Rattle.file_requests.specs.Effects.{Deposits}
+use Rattle.file_requests.specs.Views.{IsSimpleSource, PlansView, done, keys_differ, new_view, view_draft, view_named, view_of, view_plan}
+
+-- ---- the keys come last
+
+-- refusals one by one, or in three groups with the last behind them
+then : (left absent few : Result Bool Reply) (text : Result (List ℕ) Reply) (described : List ℕ → Result LogicalSpec Reply) (many changed undone repeated : LogicalSpec → Result Bool Reply)
+    → (left >>= λ _. absent >>= λ _. few >>= λ _. text >>= λ t. described t >>= λ spec. many spec >>= λ _. changed spec >>= λ _. undone spec >>= λ _. repeated spec >>= λ _. Ok (new_view t spec))
+    ≡ ((left >>= λ _. (absent >>= λ _. few) >>= λ _. (text >>= λ t. described t >>= λ spec. Ok (new_view t spec)) >>= λ plan. (many plan.spec >>= λ _. changed plan.spec >>= λ _. undone plan.spec)
+    >>= λ _. Ok plan) >>= λ plan. repeated plan.spec >>= λ _. Ok plan)
+then (Err reply) absent few text described many changed undone repeated = refl
+then (Ok a) (Err reply) few text described many changed undone repeated = refl
+then (Ok a) (Ok b) (Err reply) text described many changed undone repeated = refl
+then (Ok a) (Ok b) (Ok c) (Err reply) described many changed undone repeated = refl
+then (Ok a) (Ok b) (Ok c) (Ok t) described many changed undone repeated = by (described t)
+  where
+    last : (spec : LogicalSpec) (one two three : Result Bool Reply) → (one >>= λ _. two >>= λ _. three >>= λ _. repeated spec >>= λ _. Ok (new_view t spec))
+        ≡ (((one >>= λ _. two >>= λ _. three) >>= λ _. Ok (new_view t spec)) >>= λ plan. repeated plan.spec >>= λ _. Ok plan)
+    last spec (Err reply) two three = refl
+    last spec (Ok x) (Err reply) three = refl
+    last spec (Ok x) (Ok y) (Err reply) = refl
+    last spec (Ok x) (Ok y) (Ok z) = refl
+
+    by : (found : Result LogicalSpec Reply) → (found >>= λ spec. many spec >>= λ _. changed spec >>= λ _. undone spec >>= λ _. repeated spec >>= λ _. Ok (new_view t spec))
+        ≡ (((found >>= λ spec. Ok (new_view t spec)) >>= λ plan. (many plan.spec >>= λ _. changed plan.spec >>= λ _. undone plan.spec) >>= λ _. Ok plan) >>= λ plan. repeated plan.spec >>= λ _. Ok plan)
+    by (Err reply) = refl
+    by (Ok spec) = last spec (many spec) (changed spec) (undone spec)
+
+pub plan-then : (sources : List NamedSource) (m : Memory) (args : CreateLogicalFile) → create_logical_plan sources m args ≡ (view_plan sources m args >>= λ plan. keys_differ args.file plan m >>= λ _. Ok plan)
+unfolding create_logical_plan view_plan
+plan-then sources m args =
+    then (sequences_left m) (refuse_if (is_some (file_named args.file m)) (NameExists args.file)) (refuse_if (nat_le MOST_FILES (length m.files)) (LimitReached Files MOST_FILES))
+    (named_or_refused args.source (text_of sources args.source)) (λ text. logical_or_refused (logical_described m text))
+    (λ spec. refuse_if (list_any (has_many (logical_paths (bases_of m) spec) m) (base_members (bases_of m) spec)) (LimitReached Paths MOST_PATHS))
+    (λ spec. unused (changer_of_any (base_members (bases_of m) spec) m))
+    (λ spec. refuse_with NotJournaled (if is_unique (logical_paths (bases_of m) spec) then first_undone m (base_members (bases_of m) spec) else None))
+    (λ spec. keys_differ args.file (new_view [] spec) m)
+
+pub plans-view : (sources : List NamedSource) (m : Memory) (args : CreateLogicalFile) (result : Result NewLogical Stop) → Gives result (view_plan sources m args) → PlansView sources m args result
+plans-view sources m args (Ok plan) gives = plan-then sources m args ∙ ap (λ (found : Result NewLogical Reply). found >>= λ p. keys_differ args.file p m >>= λ _. Ok p) gives
+plans-view sources m args (Err NoMemory) gives = tt
+plans-view sources m args (Err (Refused reply)) gives = plan-then sources m args ∙ ap (λ (found : Result NewLogical Reply). found >>= λ p. keys_differ args.file p m >>= λ _. Ok p) gives
+
+-- ---- what a source describes
+
+ok-equal : (x y : NewLogical) → (let first : Result NewLogical Reply = Ok x in first) ≡ Ok y → x ≡ y
+ok-equal x y same = cc
+
+described-by : (m : Memory) (name : List ℕ) (text : Option (List ℕ)) (plan : NewLogical) → (named_or_refused name text >>= λ t. view_of m t) ≡ Ok plan → logical_described m plan.source ≡ Ok plan.spec
+described-by m name None plan is = absurd cc
+described-by m name (Some t) plan is = by (logical_described m t) refl is
+  where
+    by : (found : Result LogicalSpec DdsFault) → logical_described m t ≡ found → (logical_or_refused found >>= λ spec. Ok (new_view t spec)) ≡ Ok plan → logical_described m plan.source ≡ Ok plan.spec
+    by (Err fault) same is = absurd cc
+    by (Ok spec) same is = subst (λ (p : NewLogical). logical_described m p.source ≡ Ok p.spec) (ok-equal (new_view t spec) plan is) same
+
+simple-by : (m : Memory) (name : List ℕ) (text : Option (List ℕ)) (plan : NewLogical) → IfSome text (λ t. IfOk (logical_described m t) (λ spec. IsSimple (LogicalFile spec)))
+    → (named_or_refused name text >>= λ t. view_of m t) ≡ Ok plan → IsSimple (LogicalFile plan.spec)
+simple-by m name None plan simple is = absurd cc
+simple-by m name (Some t) plan simple is = by (logical_described m t) simple is
+  where
+    by : (found : Result LogicalSpec DdsFault) → IfOk found (λ spec. IsSimple (LogicalFile spec)) → (logical_or_refused found >>= λ spec. Ok (new_view t spec)) ≡ Ok plan
+        → IsSimple (LogicalFile plan.spec)
+    by (Err fault) simple is = absurd cc
+    by (Ok spec) simple is = subst (λ (p : NewLogical). IsSimple (LogicalFile p.spec)) (ok-equal (new_view t spec) plan is) simple
+
+pub is-described : (sources : List NamedSource) (m : Memory) (source : List ℕ) (result : Result NewLogical Stop) → Gives result (view_named sources m source)
+    → IfOk result (λ plan. logical_described m plan.source ≡ Ok plan.spec)
+is-described sources m source (Ok plan) gives = described-by m source (text_of sources source) plan gives
+is-described sources m source (Err stop) gives = tt
+
+pub is-simple : (sources : List NamedSource) (m : Memory) (source : List ℕ) (result : Result NewLogical Stop) → IsSimpleSource sources m source → Gives result (view_named sources m source)
+    → IfOk result (λ plan. IsSimple (LogicalFile plan.spec))
+is-simple sources m source (Ok plan) simple gives = simple-by m source (text_of sources source) plan simple gives
+is-simple sources m source (Err stop) simple gives = tt
+
+pub is-new : (s : State) (name : List ℕ) (result : Result NewLogical Stop) → OnOk result (named name s.files ≡ None) → IfOk result (λ plan. logical_described (memory_of s) plan.source ≡ Ok plan.spec)
+    → IfOk result (λ plan. IsSimple (LogicalFile plan.spec)) → IfOk result (λ plan. changer_of_any (base_members (bases_of (memory_of s)) plan.spec) (memory_of s) ≡ None)
+    → IfOk result (λ plan. IsNewView s name plan)
+is-new s name (Ok plan) absent described simple unchanged = record { absent = absent; described = described; simple = simple; unchanged = unchanged }
+is-new s name (Err stop) absent described simple unchanged = tt
+
+-- ---- what is left
+
+module _ (old new : State) (job timestamp : ℕ) (sources : List NamedSource) (args : CreateLogicalFile) (plan : NewLogical) (draft : Draft)
+    (told : draft ≡ view_draft (memory_of old) job timestamp args.file plan.source) (planned : PlansView sources (memory_of old) args (Ok plan)) where
+  refused-or : (keys : Result Bool Reply) → keys_differ args.file plan (memory_of old) ≡ keys
+      → create_logical_file sources (memory_of old) job timestamp args ≡ does (create_logical_change (memory_of old) job timestamp args) (keys >>= λ _. Ok plan)
+  refused-or keys is = ap (does (create_logical_change (memory_of old) job timestamp args)) (planned ∙ ap (λ (r : Result Bool Reply). r >>= λ _. Ok plan) is)
+
+  left-by : (added : Result (Unit {0}) Stop) → MayAllow added (keys_differ args.file plan (memory_of old)) → OnOk added (Deposits old new (draft ∷ []) (with_logical args.file plan))
+      → OnErr added (new ≡ old) → Answers old new (done added) (create_logical_file sources (memory_of old) job timestamp args)
+  left-by (Ok nothing) apart left kept =
+      Answers-left old old new (draft ∷ []) (view_draft (memory_of old) job timestamp args.file plan.source ∷ []) (with_logical args.file plan) Done _ refl (ap (λ (d : Draft). d ∷ []) told)
+      (refused-or _ apart) left
+  left-by (Err NoMemory) apart left kept = kept
+  left-by (Err (Refused reply)) apart left kept = (kept, refused-or _ apart)
+
+pub view-answers : (old mid new : State) (job timestamp : ℕ) (sources : List NamedSource) (args : CreateLogicalFile) (plan made : NewLogical) (draft : Draft) (added : Result (Unit {0}) Stop)
+    → mid ≡ old → made ≡ plan → draft ≡ view_draft (memory_of old) job timestamp args.file plan.source → PlansView sources (memory_of old) args (Ok plan)
+    → MayAllow added (keys_differ args.file made (memory_of mid)) → OnOk added (Deposits mid new (draft ∷ []) (with_logical args.file made)) → OnErr added (new ≡ mid)
+    → Answers old new (done added) (create_logical_file sources (memory_of old) job timestamp args)
+view-answers old mid new job timestamp sources args plan made draft added same is told planned apart left kept =
+    left-by old new job timestamp sources args plan draft told planned added
+    (subst (λ (s : State). MayAllow added (keys_differ args.file plan (memory_of s))) same (subst (λ (p : NewLogical). MayAllow added (keys_differ args.file p (memory_of mid))) is apart))
+    (subst (λ (s : State). OnOk added (Deposits s new (draft ∷ []) (with_logical args.file plan))) same
+    (subst (λ (p : NewLogical). OnOk added (Deposits mid new (draft ∷ []) (with_logical args.file p))) is left))
+    (subst (λ (s : State). OnErr added (new ≡ s)) same kept)

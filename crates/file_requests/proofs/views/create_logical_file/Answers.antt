@@ -1,0 +1,13 @@
+use Rattle.library_steps.specs.State.{memory_of}
+use Rattle.file_requests.proofs.ViewLemmas.{view-answers}
+use Rattle.file_requests.proofs.views.create_logical_file.Goals as goal
+
+pub returns : goal.returns
+returns c =
+    let old = c.args.contents.now.state in
+    record {
+      answers = rw c.done.ensures
+          (view-answers old c.prepare_view.new.contents.state c.apply_view-added.new.contents.state c.args.job c.args.timestamp c.args.sources.now c.args.args.now c.in_ok-described.described
+          c.in_ok-new.new.described c.in_ok-new.new.draft c.apply_view-added.result c.prepare_view.ensures.state c.in_ok-new.ensures.file c.in_ok-new.ensures.draft c.in_ok-described.ensures.plan
+          c.apply_view-added.ensures.apart c.apply_view-added.ensures.added c.apply_view-added.ensures.unchanged);
+    }

@@ -1,0 +1,8 @@
+use Rattle.std.proofs.Common.{◌≡◌, ◌+◌, map, drop}
+use Rattle.library_steps.specs.Uses.{first_job, has_open_of}
+use Rattle.job_table.proofs.users.first_opener.Given as goal
+
+abbrev pub invariant-loop-i : goal.invariant-loop-i
+invariant-loop-i l =
+    first_job (λ number job. has_open_of l.file job) (l.i + 1) (map (λ job. job.state) (drop l.i l.jobs))
+    ≡ first_job (λ number job. has_open_of l.file job) 1 (map (λ job. job.state) l.jobs)

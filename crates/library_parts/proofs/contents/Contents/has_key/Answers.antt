@@ -1,0 +1,9 @@
+use Rattle.std.proofs.Common.{◌∙◌}
+use Rattle.library_parts.proofs.KeyLemmas.{key-told}
+use Rattle.library_parts.proofs.contents.Contents.has_key.Goals as goal
+
+pub returns-in-Some : goal.returns-in-Some
+returns-in-Some c = λ member format values at.
+    rw (c.eq.ensures, c.as_bytes.ensures)
+    (key-told c.args.id member c.args.key.now format values c.self.inside.paths.paths c.args.image.now c.in_ok-other.field-0 c.in-Some.other (rw (← c.self.view_is) at at) c.are_bytes.ensures
+    c.in_ok-other.ensures c.in-Some.is)

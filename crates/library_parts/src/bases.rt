@@ -1,0 +1,46 @@
+//! The base files of a library's logical files.
+ghost use Rattle.std.specs.Prelude.{◌≡◌, IfOk};
+ghost use Rattle.library_steps.specs.LogicalFiles.{bases_in};
+ghost use Rattle.logical_paths.specs.Steps.{own_path};
+
+use crate::contents::Contents;
+use dds_logical::LogicalSpec;
+use field_types::names::Name;
+use file_catalogue::Catalogue;
+use file_model::paths::PathSpec;
+use logical_paths::bases::BaseFiles;
+use logical_paths::paths::own_path;
+use record_fmt::formats::Field;
+use std::alloc::AllocError;
+
+/// The files of a library as the base files of its logical files.
+#[derive(Clone, Copy)]
+pub(crate) struct LibraryBases<'a> {
+    pub(crate) files: &'a Catalogue,
+}
+
+impl BaseFiles for LibraryBases<'_> {
+    ghost bases = { λ b. bases_in b.files.now.files };
+
+    fn member(&self, file: &Name) -> u32 {
+        let (member, _) = self.files.base_of(file);
+        member
+    }
+
+    fn fields(&self, file: &Name) -> &[Field] {
+        let (_, fields) = self.files.base_of(file);
+        fields
+    }
+}
+
+impl Contents {
+    /// The path by which a logical file is read.
+    pub(crate) fn own_path(&self, spec: &LogicalSpec) -> Result<PathSpec, AllocError>
+        ensures { IfOk result (λ path. path ≡ own_path (bases_in self.now.state.files) spec.now) }
+    {
+        let bases = LibraryBases {
+            files: &self.catalogue,
+        };
+        own_path(self.alloc, &bases, spec)
+    }
+}

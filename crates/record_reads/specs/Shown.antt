@@ -1,0 +1,20 @@
+-- Of which images does a file of one format show the values? (DDS for Physical and Logical Files, "PFILE". That a record has a value in each of its fields
+-- is our own.)
+use Rattle.std.specs.Prelude.{ℕ, List}
+use Rattle.record_fmt.specs.declared.formats.Format.{Format}
+use Rattle.physical_paths.specs.KeyedFiles.{IsRecord}
+use Rattle.dds_logical.specs.declared.views.LogicalSpec.TheVariants.{Simple, Multi, Join}
+use Rattle.logical_model.specs.Bases.{FileSpec, PhysicalFile, LogicalFile}
+use Rattle.logical_model.specs.Formats.{Shown, values_shown}
+use Rattle.view_records.specs.Through.{IsFormatOf, IsReadThrough}
+
+-- the image is a record of the physical file, or of the base file of a logical one, whose format is that of what it shows
+abbrev pub ShowsImage : FileSpec → (image : List ℕ) → Type 0
+ShowsImage (PhysicalFile spec) image = IsRecord spec.format.fields image
+ShowsImage (LogicalFile (Simple view)) image = IsReadThrough view image × IsFormatOf view
+ShowsImage (LogicalFile (Multi views)) image = ⊥
+ShowsImage (LogicalFile (Join view)) image = ⊥
+
+-- what a format shows of a record of its own
+abbrev pub shown_as_held : Format → (image : List ℕ) → Shown
+shown_as_held format image = record { format = format.name; values = values_shown format.fields image }

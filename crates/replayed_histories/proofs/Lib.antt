@@ -1,0 +1,15 @@
+pub mod ListLemmas
+pub mod DepositLemmas
+pub mod QuietLemmas
+pub mod StandsLemmas
+pub mod EmptyLemmas
+pub mod CycleLemmas
+pub mod JobRequests
+pub mod CommitRequests
+pub mod ReceiverRequests
+pub mod EndedRequests
+pub mod UntoldRequests
+pub mod StepLemmas
+pub mod MemberLemmas
+pub mod StatusLemmas
+pub mod FreeLemmas
