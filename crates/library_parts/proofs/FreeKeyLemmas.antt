@@ -14,7 +14,8 @@ use Rattle.library_steps.specs.Refusals.{◌>>=◌, refuse_with}
 use Rattle.library_steps.specs.State.{JobState, job_at, or_new}
 use Rattle.library_steps.specs.UniqueKeys.{Reservation}
 use Rattle.library_steps.specs.Uses.{changes_in}
-use Rattle.library_parts.specs.NewKeys.{AllAreAskedBefore, AreAskedBefore, first_reserved, keys_kept, least_of, least_reserved, own_kept, own_reserved, taken}
+use Rattle.library_parts.specs.NewKeys.{AllAreAskedBefore, AreAskedBefore, first_reserved, keys_kept, least_of, least_reserved, own_kept, own_reserved, reservation_of, taken}
+use Rattle.library_parts.specs.declared.keys.Reservation.{Reservation as Kept}
 use Rattle.library_parts.proofs.TakenLemmas.{drop-at, each-at}
 
 -- ---- the change at a place
@@ -120,3 +121,11 @@ module _ (format : PathFormat) (key : List KeyValue) (own : List MemberChange) w
 
   pub own-outside : (commit : Bool) (o : Option ℕ) → commit ≡ false → o ≡ least_of (taken format key own) → own_kept format key commit own ≡ refuse_with (λ rrn. HeldByGroup rrn) o
   own-outside commit o outside least_is = (λ i. refuse_with (λ rrn. HeldByGroup rrn) (own_reserved (outside i) (sym least_is i)))
+
+-- nobody
+pub kept-none : (format : PathFormat) (key : List KeyValue) (job : ℕ) (own : List MemberChange) (jobs : List JobState) (commit : Bool) (others : Option Kept) (least : Option ℕ)
+    → option_map reservation_of others ≡ least_reserved format key job 1 jobs → least ≡ own_reserved commit (least_of (taken format key own)) → others ≡ None → least ≡ None
+    → keys_kept format key job commit own jobs ≡ Ok true
+kept-none format key job own jobs commit others least others_is least_is none nothing =
+    kept-here format key job own jobs commit (sym others_is ∙ ap (λ (o : Option Kept). option_map reservation_of o) none)
+    ∙ ap (λ (o : Option ℕ). refuse_with (λ rrn. HeldByGroup rrn) o) (sym least_is ∙ nothing)

@@ -17,7 +17,6 @@ use Rattle.record_fmt.specs.declared.formats.Field.{Field}
 use Rattle.record_fmt.specs.Layout.{record_length}
 use Rattle.logical_model.specs.Bases.{FileSpec, PhysicalFile, LogicalFile}
 use Rattle.logical_model.specs.FilePaths.{is_over, logical_paths, views_path}
-use Rattle.logical_laws.proofs.ListLemmas.{each-append}
 use Rattle.member_slots.specs.declared.slot.Slot.{Slot}
 use Rattle.member_slots.specs.declared.slot.Slot.TheVariants.{Live, Deleted}
 use Rattle.member_slots.specs.Member.{FitsSlot}
@@ -51,42 +50,12 @@ use Rattle.library_parts.specs.Indexed.{AreViews, HasBytes, IsIndexed, IsSimple,
 use Rattle.library_parts.specs.Keyed.{AllAreKeyed}
 use Rattle.library_parts.specs.Lawful.{HoldsValues, IsLibrary}
 use Rattle.library_parts.specs.Slots.{MayStand}
+use Rattle.library_parts.proofs.FlatLemmas.{each-flat, flat-at, none-behind, some-at}
 use Rattle.library_parts.proofs.GivenLemmas.{given-hold}
 use Rattle.library_parts.proofs.IndexLooks.{bases-have, fields-are, records-of, view-of}
 use Rattle.library_parts.proofs.IndexLaws.{laws}
 use Rattle.library_parts.proofs.MemberLemmas.{AllByRecursion-get, HasRecords-member_of}
 use Rattle.library_parts.proofs.RemadeLemmas.{at-next, remade-records}
-
--- ---- lists
-
-each-flat : {A B : Type 0} (Q : B → Type 0) (f : A → List B) (xs : List A) → AllByRecursion (λ (x : A). AllByRecursion Q (f x)) xs → AllByRecursion Q (flat_map f xs)
-each-flat Q f [] all = tt
-each-flat Q f (x ∷ xs) all = each-append Q (f x) (flat_map f xs) all.0 (each-flat Q f xs all.1)
-
-each-front : {B : Type 0} (Q : B → Type 0) (xs ys : List B) → AllByRecursion Q (xs ++ ys) → AllByRecursion Q xs
-each-front Q [] ys all = tt
-each-front Q (x ∷ xs) ys all = (all.0, each-front Q xs ys all.1)
-
-each-back : {B : Type 0} (Q : B → Type 0) (xs ys : List B) → AllByRecursion Q (xs ++ ys) → AllByRecursion Q ys
-each-back Q [] ys all = all
-each-back Q (x ∷ xs) ys all = each-back Q xs ys all.1
-
--- what holds of all of them holds of those of one place
-flat-at : {A B : Type 0} (Q : B → Type 0) (f : A → List B) (xs : List A) (place : ℕ) (x : A) → AllByRecursion Q (flat_map f xs) → slice_get xs place ≡ Some x → AllByRecursion Q (f x)
-flat-at Q f [] place x all at = absurd cc
-flat-at {A = A} Q f (y ∷ xs) zero x all at = subst (λ (z : A). AllByRecursion Q (f z)) (some-equal at) (each-front Q (f y) (flat_map f xs) all)
-flat-at Q f (y ∷ xs) (suc place) x all at = flat-at Q f xs place x (each-back Q (f y) (flat_map f xs) all) at
-
-some-at : {A : Type 0} (xs : List A) (place : ℕ) → place < length xs → (x : A) × (slice_get xs place ≡ Some x)
-some-at [] place low = absurd (omega (arith, low))
-some-at (x ∷ xs) zero low = (x, refl)
-some-at (x ∷ xs) (suc place) low = some-at xs place (omega (arith, low))
-
-none-behind : {A : Type 0} (xs : List A) (place : ℕ) → length xs ≤ place → drop place xs ≡ []
-none-behind [] zero all = refl
-none-behind [] (suc place) all = refl
-none-behind (x ∷ xs) zero all = absurd (omega (arith, all))
-none-behind (x ∷ xs) (suc place) all = none-behind xs place (omega (arith, all))
 
 -- ---- unique paths, file by file
 
@@ -205,7 +174,7 @@ each-record s number [] name file long is owns fits values bytes = tt
 each-record s number (g ∷ given) name file long is owns fits values bytes =
     (record-slot (fields_of file) long g.slot is fits.0.fits (values.0 name file owns) bytes.0, each-record s number given name file long is owns fits.1 values.1 bytes.1)
 
-has-status : (number : ℕ) (members : Named MemberStatus) → has_member number members ≡ true → has_number number members ≡ true
+pub has-status : (number : ℕ) (members : Named MemberStatus) → has_member number members ≡ true → has_number number members ≡ true
 has-status number members = by (find (λ entry. entry.1.number == number) members)
   where
     by : (o : Option (List ℕ × MemberStatus)) → is_some o ≡ true → is_some (option_map (λ (entry : List ℕ × MemberStatus). entry.1) o) ≡ true
@@ -236,6 +205,10 @@ module _ (s : State) (number : ℕ) (given : List SlotGiven) (orders : List (Nam
   path-told : (file : List ℕ) (spec : PathSpec) → Contains (all_paths s.files) spec → IsInBytes spec (members_given number given s.members) → (spec.unique ≡ true → length spec.formats ≤ 1)
       → IsTold (members_given number given s.members) now.paths (record { file = file; path = spec })
   path-told file spec among in_bytes one = record {
+    number = (kept-once (all_paths s.files) later now.paths spec shared indexed.paths among).id;
+    kept = (kept-once (all_paths s.files) later now.paths spec shared indexed.paths among).path;
+    at = (kept-once (all_paths s.files) later now.paths spec shared indexed.paths among).at;
+    same = (kept-once (all_paths s.files) later now.paths spec shared indexed.paths among).same;
     there = λ absent.
         let its = kept-once (all_paths s.files) later now.paths spec shared indexed.paths among in
         each-at (λ (q : Numbered KeptPath). q.item.spec ≢ spec) its.id its.path now.paths (recursion_from_All (λ (q : Numbered KeptPath). q.item.spec ≢ spec) now.paths absent) its.at its.same;

@@ -45,10 +45,15 @@ pub mod TakenLemmas
 pub mod AllowLemmas
 pub mod GivenLemmas
 pub mod GivenIndex
+pub mod FlatLemmas
 pub mod GivenKeys
+pub mod ApartLemmas
 pub mod GivenTakes
 pub mod NoteLemmas
 pub mod FreeKeyLemmas
 pub mod GivenSteps
 pub mod UserKinds
 pub mod ManyPaths
+pub mod UniqueOver
+pub mod FreePaths
+pub mod NewRecords

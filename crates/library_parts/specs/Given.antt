@@ -78,6 +78,10 @@ unique_of file (Some path) = record { file = file; path = path } ∷ []
 
 -- the path is kept, and so are the entries by which equal keys in it are told
 pub record IsTold (members : NumberedMembers) (paths : NumberedPaths) (unique : UniquePath) : Type 0 where
+  pub number : ℕ
+  pub kept : KeptPath
+  pub at : item_at number paths ≡ Some kept
+  pub same : kept.spec ≡ unique.path
   pub there : IsNew unique.path paths → ⊥
   pub told : (id : ℕ) (path : KeptPath) → item_at id paths ≡ Some path → path.spec ≡ unique.path → repeated_of path ≡ repeated_in unique.path members
 

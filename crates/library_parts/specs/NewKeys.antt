@@ -1,9 +1,9 @@
 -- Which records have a key in a path of one format, and which of them do the changes of open commit cycles keep to themselves?
 -- (Our own.)
-use Rattle.std.specs.Prelude.{◌≡◌, ℕ, ◌+◌, ◌==◌, nat_lt, Bool, true, false, Option, Some, None, unwrap_or, Result, Ok, Err, List, [], ◌∷◌, if◌then◌else◌}
+use Rattle.std.specs.Prelude.{◌≡◌, ℕ, ◌+◌, ◌==◌, nat_lt, Bool, true, false, Option, Some, None, unwrap_or, Result, Ok, List, [], ◌∷◌, flat_map, if◌then◌else◌}
 use Rattle.std.specs.List.{AllByRecursion, filter_map}
 use Rattle.file_model.specs.KeyOrder.{KeyValue}
-use Rattle.file_model.specs.Paths.{path_key}
+use Rattle.file_model.specs.Paths.{clash, path_key}
 use Rattle.file_model.specs.Views.{view_of}
 use Rattle.key_order.specs.KeyBytes.{encoded}
 use Rattle.file_model.specs.declared.paths.PathFormat.{PathFormat}
@@ -16,13 +16,14 @@ use Rattle.journal_model.specs.Rollback.{MemberChange}
 use Rattle.library_model.specs.declared.replies.Reply.{Reply}
 use Rattle.library_model.specs.declared.replies.Reply.TheVariants.{HeldByGroup, RecordInUse}
 use Rattle.path_entrants.specs.Formats.{IsAskable}
-use Rattle.path_set.specs.KeptPaths.{KeptPath, NumberedPaths}
-use Rattle.path_set.specs.MemberSteps.{image_in}
+use Rattle.path_set.specs.EqualKeys.{clash_in}
+use Rattle.path_set.specs.KeptPaths.{AreShared, KeptPath, NumberedPaths}
+use Rattle.path_set.specs.MemberSteps.{image_in, is_over}
 use Rattle.path_set.specs.RecordChanges.{TakeImage}
 use Rattle.library_steps.specs.Records.{slot_there}
 use Rattle.library_steps.specs.Refusals.{◌>>=◌, refuse_with}
-use Rattle.library_steps.specs.State.{Memory, FileState, JobState}
-use Rattle.library_steps.specs.UniqueKeys.{NewKey, Reservation, new_key_in, new_keys, none_repeated, none_reserved, takes_key, uniques_by}
+use Rattle.library_steps.specs.State.{Memory, JobState, memory_of}
+use Rattle.library_steps.specs.UniqueKeys.{NewKey, Reservation, UniquePath, new_key_in, new_keys, none_repeated, none_reserved, takes_key, unique_paths}
 use Rattle.library_steps.specs.Uses.{changes_in}
 use Rattle.library_parts.specs.declared.keys.Reservation.{Reservation as Kept}
 use Rattle.library_parts.specs.declared.keys.Test.{Test}
@@ -59,11 +60,15 @@ pub record IsKeyAt (id member : ℕ) (bytes : List ℕ) (format : PathFormat) (k
 abbrev pub taken : PathFormat → List KeyValue → List MemberChange → List ℕ
 taken format key undos = filter_map (λ undo. if takes_key format key undo then Some (undo.change.place + 1) else None) undos
 
--- the format can be asked about the record that was taken away
+-- the format can be asked about an image of bytes
+abbrev pub MayBeAsked : PathFormat → (image : List ℕ) → Type 0
+MayBeAsked format image = AreBytes image → IsAskable format image
+
+-- so it can about the record that was taken away
 abbrev pub IsAskedIn : PathFormat → Option Slot → Type 0
 IsAskedIn format None = Unit {0}
 IsAskedIn format (Some Deleted) = Unit {0}
-IsAskedIn format (Some (Live image)) = IsAskable format image
+IsAskedIn format (Some (Live image)) = MayBeAsked format image
 
 abbrev pub IsAskedBefore : PathFormat → (member : ℕ) → MemberChange → Type 0
 IsAskedBefore format member undo = undo.member ≡ member → IsAskedIn format undo.change.before
@@ -126,33 +131,45 @@ keys_kept format key job commit own jobs = do
 abbrev pub new_in : (file : List ℕ) → Memory → (member rrn : ℕ) → (image : List ℕ) → PathFormat → List NewKey
 new_in file m member rrn image format = filter_map (new_key_in file (slot_there member rrn m) image) (format ∷ [])
 
--- what refuses it, of the one kind or of the other
+-- what refuses some new keys, of the one kind or of the other
+abbrev pub refused_by : Test → (job : ℕ) → (commit : Bool) → (rrn : ℕ) → List NewKey → Memory → Result Bool Reply
+refused_by Reserved job commit rrn keys m = none_reserved job commit keys m
+refused_by Repeated job commit rrn keys m = none_repeated rrn keys m
+
+-- what refuses that of the path
 abbrev pub tested : Test → (file : List ℕ) → Memory → (job : ℕ) → (commit : Bool) → (member rrn : ℕ) → (image : List ℕ) → PathFormat → Result Bool Reply
-tested Reserved file m job commit member rrn image format = none_reserved job commit (new_in file m member rrn image format) m
-tested Repeated file m job commit member rrn image format = none_repeated rrn (new_in file m member rrn image format) m
+tested test file m job commit member rrn image format = refused_by test job commit rrn (new_in file m member rrn image format) m
 
 -- nothing, whichever file has the path
 pub record AreFreeIn (m : Memory) (job : ℕ) (commit : Bool) (member rrn : ℕ) (image : List ℕ) (format : PathFormat) : Type 0 where
-  pub reserved : (file : List ℕ) → tested Reserved file m job commit member rrn image format ≡ Ok true
-  pub repeated : (file : List ℕ) → tested Repeated file m job commit member rrn image format ≡ Ok true
+  pub free : (test : Test) (file : List ℕ) → tested test file m job commit member rrn image format ≡ Ok true
 
 -- ---- all paths
 
+-- the keys that come into these unique paths
+abbrev pub new_in_paths : List UniquePath → Memory → (member rrn : ℕ) → (image : List ℕ) → List NewKey
+new_in_paths uniques m member rrn image = flat_map (λ unique. filter_map (new_key_in unique.file (slot_there member rrn m) image) unique.path.formats) uniques
+
 -- what the unique paths over a member refuse of this kind, in the order of their files
 abbrev pub keys_tested : Test → (job : ℕ) → (commit : Bool) → (member rrn : ℕ) → (image : List ℕ) → Memory → Result Bool Reply
-keys_tested Reserved job commit member rrn image m = none_reserved job commit (new_keys member (slot_there member rrn m) image m) m
-keys_tested Repeated job commit member rrn image m = none_repeated rrn (new_keys member (slot_there member rrn m) image m) m
+keys_tested test job commit member rrn image m = refused_by test job commit rrn (new_keys member (slot_there member rrn m) image m) m
 
--- the number of the one unique path of a file over the member
-abbrev pub IsUniquePathOf : Memory → NumberedPaths → (member : ℕ) → List ℕ × FileState → Option ℕ → Type 0
-IsUniquePathOf m paths member entry None = uniques_by entry.1.spec m member entry ≡ []
-IsUniquePathOf m paths member entry (Some id) =
-    (path : KeptPath) × (item_at id paths ≡ Some path) × (uniques_by entry.1.spec m member entry ≡ record { file = entry.0; path = path.spec } ∷ [])
+-- the unique path is kept, and has one format, which is over the member
+pub record IsKeptOver (member : ℕ) (paths : NumberedPaths) (unique : UniquePath) : Type 0 where
+  pub id : ℕ
+  pub format : PathFormat
+  pub over : IsFormatAt id member format paths
+  pub same : over.path.spec ≡ unique.path
+  pub once : unique.path.unique ≡ true
 
 -- the paths over the member can be asked about the image, about the record that it is to take the place of, and about those that open commit
--- cycles took away
+-- cycles took away; each has one format, and tells which record has the key; and the unique paths of files over the member are among them
 pub record IsNewFor (parts : LibraryParts) (member rrn : ℕ) (image : List ℕ) : Type 0 where
   pub new : TakeImage member (Some image) parts.room.paths.paths
   pub old : TakeImage member (image_in (unwrap_or (slot_at (member_of member parts.state.members) rrn) Deleted)) parts.room.paths.paths
   pub before : (id : ℕ) (format : PathFormat) → IsFormatAt id member format parts.room.paths.paths → AllAreAskedBefore format member parts.state.jobs
   pub bytes : AreBytes image
+  pub shared : AreShared parts.room.paths.paths
+  pub one : (id : ℕ) (path : KeptPath) → item_at id parts.room.paths.paths ≡ Some path → is_over member path.spec ≡ true → (format : PathFormat) × IsFormatAt id member format parts.room.paths.paths
+  pub told : (id : ℕ) (format : PathFormat) (over : IsFormatAt id member format parts.room.paths.paths) → clash_in 0 image rrn over.path ≡ clash format parts.state.members image rrn
+  pub kept : AllByRecursion (IsKeptOver member parts.room.paths.paths) (unique_paths member (memory_of parts.state))

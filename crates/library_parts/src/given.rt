@@ -1,7 +1,10 @@
 //! Slots that a range of the journal gives to a member: they are put one after the other, and all paths over the member follow.
-ghost use Rattle.std.specs.Prelude.{◌≡◌, ℕ, ◌+◌, ◌<◌, ◌≤◌, List, [], ◌∷◌, length, Some, IsSome, IfOk, OnErr, OnOk, slice_get};
+ghost use Rattle.std.specs.Prelude.{◌≡◌, ℕ, ◌+◌, ◌<◌, ◌≤◌, true, false, List, [], ◌∷◌, length, Some, None, IsSome, IfOk, OnErr, OnOk, slice_get};
 ghost use Rattle.std.specs.List.{AllByRecursion};
-ghost use Rattle.member_slots.specs.Members.{member_at, member_of, spare_at};
+ghost use Rattle.member_slots.specs.Members.{item_at, member_at, member_of, spare_at};
+ghost use Rattle.path_set.specs.EqualKeys.{repeated_of};
+ghost use Rattle.path_set.specs.KeptPaths.{KeptPath};
+ghost use Rattle.path_set.specs.MemberSteps.{is_over};
 ghost use Rattle.range_images.specs.Given.{given_slots};
 ghost use Rattle.logical_model.specs.Bases.{LogicalFile};
 ghost use Rattle.library_model.specs.Named.{Named};
@@ -51,8 +54,8 @@ impl Contents {
         self.paths.prepare_all(member, changes.as_slice(), held)
     }
 
-    /// Gives the slots to the member, unless two records would have one key then that may not. It looks at every file, and builds the
-    /// unique paths over the member once more to find them.
+    /// Gives the slots to the member, unless two records would have one key then that may not. It goes over the unique paths of the
+    /// member, and over the files only where it refuses.
     pub fn give_slots(
         &mut self,
         member: u32,
@@ -89,8 +92,42 @@ impl Contents {
     }
 }
 
-/// The refusal where a unique path over the member has equal keys; the first by the order in which the files were made.
+/// The refusal where a unique path over the member has equal keys; the first by the order in which the files were made. Where there is
+/// none it looks at the unique paths over the member alone.
 fn keys_apart(
+    alloc: Global,
+    catalogue: &Catalogue,
+    paths: &PathSet,
+    member: u32,
+) -> Result<(), Stop>
+    ensures { (m later : Memory) → m.files ≡ catalogue.now.files → AreViews catalogue.now.files → AreTold member m later.members paths.now.paths → MayAllow result (all_apart (unique_paths member m) later) }
+{
+    if has_repeated(paths, member) {
+        first_repeated(alloc, catalogue, paths, member)
+    } else {
+        Ok(())
+    }
+}
+
+/// Whether a unique path over the member has equal keys.
+fn has_repeated(paths: &PathSet, member: u32) -> bool
+    ensures { result ≡ false → (id : ℕ) (path : KeptPath) → item_at id paths.now.paths ≡ Some path → is_over member path.spec ≡ true → path.spec.unique ≡ true → repeated_of path ≡ None }
+{
+    // Their numbers ascend.
+    let _kept = paths.kept();
+    let mut path = paths.unique_over(member, None);
+    while let Some(id) = path {
+        let repeated = paths.repeated_among(&[id]);
+        if repeated.is_some() {
+            return true;
+        }
+        path = paths.unique_over(member, Some(id));
+    }
+    false
+}
+
+/// The refusal of the first file whose unique path over the member has equal keys. It goes over all files.
+fn first_repeated(
     alloc: Global,
     catalogue: &Catalogue,
     paths: &PathSet,
@@ -141,7 +178,7 @@ fn path_apart(paths: &PathSet, file: Name, spec: &PathSpec) -> Result<(), Stop>
 }
 
 /// The path of a file over the member in which no two records may have one key, where it has such a path.
-fn unique_path(
+pub(crate) fn unique_path(
     alloc: Global,
     catalogue: &Catalogue,
     member: u32,

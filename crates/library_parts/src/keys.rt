@@ -1,36 +1,35 @@
 //! Whether a record may have its keys: those that open commit cycles keep to themselves, and those of other records.
-ghost use Rattle.std.specs.Prelude.{◌≡◌, ℕ, ◌+◌, ◌<◌, ◌∷◌, true, List, length, drop, IfOk, IsSome, IsTrue, option_map};
+ghost use Rattle.std.specs.Prelude.{◌≡◌, ℕ, ◌+◌, ◌<◌, [], ◌∷◌, true, false, List, Some, Ok, length, drop, IfOk, IsSome, IsTrue, option_map, slice_get};
+ghost use Rattle.std.specs.List.{AllByRecursion};
 ghost use Rattle.file_model.specs.declared.paths.PathFormat.{PathFormat};
 ghost use Rattle.file_model.specs.KeyOrder.{KeyValue};
 ghost use Rattle.file_model.specs.Paths.{clash};
 ghost use Rattle.library_model.specs.declared.replies.Reply.TheVariants.{DuplicateKey};
 ghost use Rattle.library_steps.specs.Refusals.{refuse_with};
 ghost use Rattle.journal_model.specs.Rollback.{MemberChange};
-ghost use Rattle.logical_model.specs.FilePaths.{is_over};
-ghost use Rattle.path_entrants.specs.Formats.{IsAskable};
-ghost use Rattle.library_parts.specs.NewKeys.{AllAreAskedBefore, AreAskedBefore, AreFreeIn, IsAskedBefore, IsFormatAt, IsKeyAt, IsNewFor, IsUniquePathOf, ShowsKey, first_reserved, keys_kept, keys_tested, least_of, least_reserved, lesser_of, own_reserved, reservation_of, taken, tested};
+ghost use Rattle.library_parts.specs.Indexed.{IsSimple};
+ghost use Rattle.library_parts.specs.NewKeys.{AllAreAskedBefore, AreAskedBefore, AreFreeIn, IsAskedBefore, IsFormatAt, IsKeptOver, IsKeyAt, IsNewFor, MayBeAsked, ShowsKey, first_reserved, keys_kept, keys_tested, least_of, least_reserved, lesser_of, new_in_paths, own_reserved, refused_by, reservation_of, taken, tested};
 ghost use Rattle.member_slots.specs.declared.slot.Slot.TheVariants.{Live};
 ghost use Rattle.member_slots.specs.Member.{FitsSlot};
 ghost use Rattle.member_slots.specs.Members.{member_at, member_of};
-ghost use Rattle.library_model.specs.Named.{named};
 ghost use Rattle.library_steps.specs.Records.{slot_there};
 ghost use Rattle.library_steps.specs.Uses.{changes_in};
 ghost use Rattle.library_steps.specs.History.{is_running};
-ghost use Rattle.library_steps.specs.State.{memory_of, job_at, job_of};
-ghost use Rattle.library_steps.specs.UniqueKeys.{has_key, if_new, key_in, key_of_slot, keys_free, takes_key};
+ghost use Rattle.library_steps.specs.State.{FileState, memory_of, job_at, job_of};
+ghost use Rattle.library_steps.specs.UniqueKeys.{has_key, if_new, key_in, key_of_slot, keys_free, takes_key, uniques_by};
 ghost use Rattle.library_parts.specs.Answers.{MayAllow};
 ghost use Rattle.library_parts.specs.Slots.{MayStand};
 
 use crate::contents::Contents;
+use crate::given::unique_path;
 use crate::stop::Stop;
 use crate::texts::are_bytes;
 use field_types::names::Name;
-use file_catalogue::{File, FileBody};
+use file_catalogue::File;
 use file_model::paths::PathSpec;
 use job_table::{Undo, Undos};
 use key_pages::Key;
 use library_model::replies::Reply;
-use member_paths::member_path;
 use member_slots::slot::Slot;
 use std::alloc::AllocError;
 
@@ -68,8 +67,8 @@ enum Test {
 
 impl Contents {
     /// The refusal where a key that the image would have, in the place of the slot with that number, is another's: kept by an open
-    /// commit cycle, or that of another record. It goes over the changes of all open commit cycles, and over the files only where it
-    /// refuses.
+    /// commit cycle, or that of another record. It goes over the unique paths of the member and the changes of all open commit cycles,
+    /// and over the files only where it refuses.
     pub fn keys_free(
         &self,
         job: u32,
@@ -84,6 +83,10 @@ impl Contents {
         requires values { MayStand self.now.state member (Live image.now) }
         ensures { MayAllow result (keys_free job commit member rrn (slot_there member rrn (memory_of self.now.state)) image.now (memory_of self.now.state)) }
     {
+        // What holds of all files, members and kept paths.
+        let _files = self.catalogue.len();
+        let _kept = self.paths.kept();
+        let _none = self.members.at(0);
         are_bytes(image);
         let new = NewRecord {
             job,
@@ -92,11 +95,12 @@ impl Contents {
             rrn,
             image,
         };
-        if self.has_free_keys(new)? {
-            return Ok(());
+        let free = self.has_free_keys(new)?;
+        if free {
+            Ok(())
+        } else {
+            self.first_refusal(new)
         }
-        self.all_free(new, Test::Reserved)?;
-        self.all_free(new, Test::Repeated)
     }
 
     /// Whether none of its new keys in the unique paths over its member is kept or another's.
@@ -108,7 +112,8 @@ impl Contents {
     {
         let mut path = self.paths.unique_over(new.member, None);
         while let Some(id) = path {
-            if !self.is_free_in(id, new)? {
+            let free = self.is_free_in(id, new)?;
+            if !free {
                 return Ok(false);
             }
             path = self.paths.unique_over(new.member, Some(id));
@@ -132,14 +137,40 @@ impl Contents {
             member: new.member,
             key: key.as_bytes(),
         };
-        if self.reservation_of_others(new.job, its)?.is_some() {
-            return Ok(false);
+        let kept = self.is_kept(new, its)?;
+        if kept {
+            Ok(false)
+        } else {
+            let other = self.paths.clash(id, 0, new.image, new.rrn)?;
+            Ok(other.is_none())
         }
-        if self.own_reservation(new, its)?.is_some() {
-            return Ok(false);
+    }
+
+    /// Whether an open commit cycle keeps the key to itself, so that the job may not write it.
+    fn is_kept(&self, new: NewRecord<'_>, its: NewKey<'_>) -> Result<bool, AllocError>
+        requires running { IsTrue (is_running (job_at new.job self.now.state.jobs)) }
+        requires path { (format : PathFormat) × IsFormatAt its.path its.member format self.now.room.paths.paths × AllAreAskedBefore format its.member self.now.state.jobs }
+        ensures { IfOk result (λ kept. kept ≡ false → (format : PathFormat) (key : List KeyValue) → IsKeyAt its.entry.path its.entry.member its.entry.key.now format key self.now.room.paths.paths
+            → keys_kept format key new.entry.job new.entry.commit (changes_in (job_of new.entry.job (memory_of self.now.state)).cycle) self.now.state.jobs ≡ Ok true) }
+    {
+        let others = self.reservation_of_others(new.job, its)?;
+        let own = self.own_reservation(new, its)?;
+        match others {
+            Some(_) => Ok(true),
+            None => Ok(own.is_some()),
         }
-        let other = self.paths.clash(id, 0, new.image, new.rrn)?;
-        Ok(other.is_none())
+    }
+
+    /// The first refusal: where none of the keys is kept, that of a record which has one.
+    fn first_refusal(&self, new: NewRecord<'_>) -> Result<(), Stop>
+        requires running { IsTrue (is_running (job_at new.job self.now.state.jobs)) }
+        requires asked { IsNewFor self.now new.member new.rrn new.image.now }
+        ensures { MayAllow result (keys_free new.entry.job new.entry.commit new.entry.member new.entry.rrn (slot_there new.entry.member new.entry.rrn (memory_of self.now.state)) new.entry.image.now (memory_of self.now.state)) }
+    {
+        match self.all_free(new, Test::Reserved) {
+            Ok(()) => self.all_free(new, Test::Repeated),
+            Err(stop) => Err(stop),
+        }
     }
 
     /// The first refusal of this kind, by the order in which the files were made.
@@ -148,34 +179,62 @@ impl Contents {
         requires asked { IsNewFor self.now new.member new.rrn new.image.now }
         ensures { MayAllow result (keys_tested test new.entry.job new.entry.commit new.entry.member new.entry.rrn new.entry.image.now (memory_of self.now.state)) }
     {
-        for (name, file) in self.catalogue.iter() {
-            if let Some(id) = self.unique_path_of(file, new.member)? {
-                self.free_in_file(*name, id, new, test)?;
-            }
+        let (files, _) = self.counts();
+        for place in 0..files {
+            self.free_at(new, test, place)?;
         }
         Ok(())
     }
 
-    /// The number of a file's unique path, where it has one over the member.
-    fn unique_path_of(&self, file: &File, member: u32) -> Result<Option<u64>, AllocError>
-        requires { (name : List ℕ) × (named name self.now.state.files ≡ Some file.now) }
-        ensures { (name : List ℕ) → named name self.now.state.files ≡ Some file.now → IfOk result (IsUniquePathOf (memory_of self.now.state) self.now.room.paths.paths member (name, file.now)) }
+    /// That of the file at a place in the order of creation, counted from 0.
+    fn free_at(&self, new: NewRecord<'_>, test: Test, place: usize) -> Result<(), Stop>
+        requires running { IsTrue (is_running (job_at new.job self.now.state.jobs)) }
+        requires asked { IsNewFor self.now new.member new.rrn new.image.now }
+        ensures { (entry : List ℕ × FileState) → slice_get self.now.state.files place ≡ Some entry
+            → MayAllow result (refused_by test new.entry.job new.entry.commit new.entry.rrn (new_in_paths (uniques_by entry.1.spec (memory_of self.now.state) new.entry.member entry) (memory_of self.now.state) new.entry.member new.entry.rrn new.entry.image.now) (memory_of self.now.state)) }
     {
-        match file.described() {
-            FileBody::Physical(described) => {
-                if !described.keys().unique || file.numbered(member).is_none() {
-                    return Ok(None);
-                }
-                let spec = member_path(self.alloc, member, described.format(), described.keys())?;
-                Ok(self.paths.number_of(&spec))
-            }
-            FileBody::Logical(view) => {
-                let spec = self.own_path(view.spec())?;
-                if !spec.unique || !is_over(&spec, member) {
-                    return Ok(None);
-                }
-                Ok(self.paths.number_of(&spec))
-            }
+        match self.catalogue.at(place) {
+            Some((name, file)) => self.free_of_file(*name, file, new, test),
+            None => Ok(()),
+        }
+    }
+
+    /// That of a file, in its unique path over the member where it has one.
+    fn free_of_file(
+        &self,
+        name: Name,
+        file: &File,
+        new: NewRecord<'_>,
+        test: Test,
+    ) -> Result<(), Stop>
+        requires running { IsTrue (is_running (job_at new.job self.now.state.jobs)) }
+        requires asked { IsNewFor self.now new.member new.rrn new.image.now }
+        requires simple { IsSimple file.now.spec }
+        requires kept { AllByRecursion (IsKeptOver new.member self.now.room.paths.paths) (uniques_by file.now.spec (memory_of self.now.state) new.member (name, file.now)) }
+        ensures { MayAllow result (refused_by test new.entry.job new.entry.commit new.entry.rrn (new_in_paths (uniques_by file.now.spec (memory_of self.now.state) new.entry.member (name, file.now)) (memory_of self.now.state) new.entry.member new.entry.rrn new.entry.image.now) (memory_of self.now.state)) }
+    {
+        match unique_path(self.alloc, &self.catalogue, new.member, file)? {
+            Some(path) => self.free_in_path(name, &path, new, test),
+            None => Ok(()),
+        }
+    }
+
+    /// That of a file in the path of this specification.
+    fn free_in_path(
+        &self,
+        file: Name,
+        path: &PathSpec,
+        new: NewRecord<'_>,
+        test: Test,
+    ) -> Result<(), Stop>
+        requires running { IsTrue (is_running (job_at new.job self.now.state.jobs)) }
+        requires asked { IsNewFor self.now new.member new.rrn new.image.now }
+        requires kept { IsKeptOver new.member self.now.room.paths.paths (record { file = file; path = path.now }) }
+        ensures { MayAllow result (refused_by test new.entry.job new.entry.commit new.entry.rrn (new_in_paths (record { file = file; path = path.now } ∷ []) (memory_of self.now.state) new.entry.member new.entry.rrn new.entry.image.now) (memory_of self.now.state)) }
+    {
+        match self.paths.number_of(path) {
+            Some(id) => self.free_in_file(file, id, new, test),
+            None => Ok(()),
         }
     }
 
@@ -222,7 +281,7 @@ impl Contents {
 
     /// Whether the image has that key in the path.
     fn has_key(&self, id: u64, image: &[u8], key: &[u8]) -> Result<bool, AllocError>
-        requires { (member : ℕ) × (format : PathFormat) × IsFormatAt id member format self.now.room.paths.paths × IsAskable format image.now }
+        requires { (member : ℕ) × (format : PathFormat) × IsFormatAt id member format self.now.room.paths.paths × MayBeAsked format image.now }
         ensures { IfOk result (λ same. (member : ℕ) (format : PathFormat) (values : List KeyValue) → IsKeyAt id member key.now format values self.now.room.paths.paths → same ≡ has_key (key_in format image.now) values) }
     {
         are_bytes(image);
@@ -362,7 +421,8 @@ impl Contents {
 
     /// The refusal where another record has the key.
     fn not_repeated(&self, file: Name, id: u64, new: NewRecord<'_>) -> Result<(), Stop>
-        requires { (format : PathFormat) × IsFormatAt id new.member format self.now.room.paths.paths × IsAskable format new.image.now }
+        requires asked { IsNewFor self.now new.member new.rrn new.image.now }
+        requires path { (format : PathFormat) × IsFormatAt id new.member format self.now.room.paths.paths }
         ensures { (format : PathFormat) → IsFormatAt id new.entry.member format self.now.room.paths.paths
             → MayAllow result (refuse_with (λ other. DuplicateKey file other) (clash format self.now.state.members new.entry.image.now new.entry.rrn)) }
     {
@@ -371,16 +431,6 @@ impl Contents {
             None => Ok(()),
         }
     }
-}
-
-/// Whether the path has a format over the member.
-fn is_over(path: &PathSpec, member: u32) -> bool
-    ensures { result ≡ is_over member path.now }
-{
-    path.formats
-        .as_slice()
-        .iter()
-        .any(|format| format.member == member)
 }
 
 /// The lesser of both, where there is another.

@@ -1,5 +1,5 @@
 use Rattle.library_parts.proofs.GivenKeys.{AreApartTo}
-use Rattle.library_parts.proofs.given.keys_apart.Given as goal
+use Rattle.library_parts.proofs.given.first_repeated.Given as goal
 
 abbrev pub invariant-loop-place : goal.invariant-loop-place
 invariant-loop-place l = AreApartTo l.catalogue.files l.paths.paths l.member l.place
