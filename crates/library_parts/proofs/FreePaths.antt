@@ -7,6 +7,7 @@ use Rattle.member_slots.specs.Members.{Numbered, item_at}
 use Rattle.file_model.specs.declared.paths.PathFormat.{PathFormat}
 use Rattle.file_model.specs.declared.paths.PathSpec.{PathSpec}
 use Rattle.path_set.specs.KeptPaths.{KeptPath, NumberedPaths}
+use Rattle.path_set.specs.MemberSteps.{is_over}
 use Rattle.path_set.specs.Sharing.{IsNew}
 use Rattle.library_model.specs.Named.{Named}
 use Rattle.library_model.specs.declared.replies.Reply.{Reply}
@@ -22,6 +23,7 @@ use Rattle.library_parts.specs.declared.stop.Stop.TheVariants.{NoMemory, Refused
 use Rattle.library_parts.specs.Answers.{MayAllow}
 use Rattle.library_parts.specs.NewKeys.{AreFreeIn, IsFormatAt, IsKeptOver, keys_tested, new_in_paths, refused_by}
 use Rattle.library_parts.proofs.FlatLemmas.{none-behind, some-at}
+use Rattle.library_parts.proofs.IndexPaths.{over-own}
 use Rattle.library_parts.proofs.KeyPlanLemmas.{keys-first, keys_from, keys_of_path, refused-append, refused-none}
 use Rattle.library_parts.proofs.RemadeLemmas.{at-next}
 
@@ -59,6 +61,10 @@ all-free m job commit member rrn image paths free kept =
     ∙ paths-free m job commit member rrn image paths free Repeated (unique_paths member m) kept
 
 -- ---- a unique path is kept
+
+-- the path of one format is over its member
+pub free-over : (member id : ℕ) (format : PathFormat) (paths : NumberedPaths) (over : IsFormatAt id member format paths) → is_over member over.path.spec ≡ true
+free-over member id format paths over = over-own member over.path.spec (record { format = format; formats = over.formats; member = over.its })
 
 -- under this number
 pub kept-at : (member id : ℕ) (paths : NumberedPaths) (unique : UniquePath) (path : KeptPath) (is : IsKeptOver member paths unique) → item_at id paths ≡ Some path → path.spec ≡ unique.path

@@ -34,6 +34,7 @@ use Rattle.logical_laws.proofs.MappedLemmas.{described-mapped, described-there}
 use Rattle.logical_paths.specs.KeyedViews.{HaveFewPairs, HaveRecords}
 use Rattle.logical_paths.specs.Steps.{own_path}
 use Rattle.logical_paths.proofs.DescribedLemmas.{described-keyed, found-right}
+use Rattle.view_records.proofs.FormatLemmas.{described-bytes, described-formatted}
 use Rattle.logical_paths.proofs.ViewLemmas.{paths-bytes, paths-kept}
 use Rattle.journal_model.specs.Rollback.{MemberChange}
 use Rattle.file_model.specs.declared.paths.PathFormat.{PathFormat}
@@ -336,6 +337,8 @@ described-by m (Ok source) spec keyed simple h =
         keyed = described-keyed described (bases_of m) source spec (λ name its e. fields-there name (named name m.files) its e) h (laid-bases m.files keyed (base_names spec)) (few-pairs spec simple);
         mapped = described-mapped described (bases_of m) source spec (λ name its e. fields-there name (named name m.files) its e) h;
         rises = described-rises described source spec h;
+        formats = described-formatted described source spec h;
+        bytes = described-bytes described source spec h;
       };
     }
 

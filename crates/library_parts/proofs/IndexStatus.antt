@@ -51,6 +51,8 @@ view-alike bases other (Simple view) same is = record {
   keyed = subst (λ (b : Base). IsKeyedView b.fields view) same.0 is.keyed;
   mapped = same-mapped bases other (Simple view) same is.mapped;
   rises = is.rises;
+  formats = is.formats;
+  bytes = is.bytes;
 }
 view-alike bases other (Multi views) same is = absurd is.simple
 view-alike bases other (Join view) same is = absurd is.simple

@@ -17,6 +17,7 @@ use Rattle.logical_model.specs.Bases.{Bases, FileSpec, PhysicalFile, LogicalFile
 use Rattle.logical_laws.specs.Mapped.{AreSameBases, IsSpecMapped}
 use Rattle.logical_paths.specs.KeyedViews.{IsKeyedLogical}
 use Rattle.logical_paths.specs.Steps.{own_path}
+use Rattle.view_records.specs.Through.{HasFormats, HasBytesIn}
 use Rattle.library_paths.specs.AllPaths.{AreKeptFor, all_paths}
 use Rattle.journal_model.specs.Replay.{before_of}
 use Rattle.journal_model.specs.Rollback.{MemberChange}
@@ -56,12 +57,15 @@ RisesIfKeyless (Simple view) = view.keys.parts ≡ [] → view.keys.ties ≡ Ris
 RisesIfKeyless (Multi views) = Unit {0}
 RisesIfKeyless (Join view) = Unit {0}
 
--- its key is by fields of that file, and what is stored through it lies in whole fields of that file
+-- its key is by fields of that file, and what is stored through it lies in whole fields of that file; the fields of its formats are those of what
+-- it shows, and what they are made of has a byte
 pub record IsView (bases : Bases) (spec : LogicalSpec) : Type 0 where
   pub simple : IsSimple (LogicalFile spec)
   pub keyed : IsKeyedLogical bases spec
   pub mapped : IsSpecMapped bases spec
   pub rises : RisesIfKeyless spec
+  pub formats : HasFormats spec
+  pub bytes : HasBytesIn spec
 
 -- the bases of a logical file are the same
 abbrev pub AreSameBasesBy : Bases → Bases → FileSpec → Type 0

@@ -9,7 +9,7 @@ ghost use Rattle.library_parts.specs.declared.stop.Stop.TheVariants.{Refused};
 ghost use Rattle.library_parts.specs.Answers.{Shows, Allows};
 ghost use Rattle.file_catalogue.specs.Physical.{IsPhysical};
 ghost use Rattle.library_parts.specs.Finds.{ShowsOpen, FindsOpen, FindsMember, HasMember, ReadsMember};
-ghost use Rattle.library_parts.specs.Indexed.{IsSimple};
+ghost use Rattle.library_parts.specs.Indexed.{IsSimple, IsViewBeside};
 ghost use Rattle.job_table.specs.Opens.{AllOfNumber};
 ghost use Rattle.library_model.specs.Named.{named};
 ghost use Rattle.library_parts.specs.Reads.{ReadsAs, orders_in};
@@ -80,6 +80,7 @@ impl Contents {
         ensures order { IfOk result (λ its. named name.now (orders_in job self.now) ≡ Some its.opened.now.order) }
         ensures there { IfOk result (λ its. ReadsMember self.now.state its.file.now its.opened.now.state) }
         ensures simple { IfOk result (λ its. IsSimple its.file.now.spec) }
+        ensures view { IfOk result (λ its. IsViewBeside self.now.state.files its.file.now.spec) }
         ensures reads { IfOk result (λ its. ReadsAs self.now its.opened.now its.file.now) }
         ensures alone { IfOk result (λ its. AllOfNumber its.opened.now.state.number (λ order. order ≡ its.opened.now.order) (orders_in job self.now)) }
     {

@@ -3,7 +3,7 @@ use Rattle.library_model.specs.Named.{named}
 use Rattle.library_steps.specs.LogicalFiles.{bases_in}
 use Rattle.library_steps.specs.State.{memory_of, open_named}
 use Rattle.library_parts.specs.Parts.{state_of}
-use Rattle.library_parts.proofs.FindLemmas.{found-is, open-holds, reads-member, simple-of}
+use Rattle.library_parts.proofs.FindLemmas.{found-is, open-holds, reads-member, simple-of, view-of}
 use Rattle.library_parts.proofs.OpenLooks.{reads-named}
 use Rattle.library_parts.specs.Indexed.{ReadsFile}
 use Rattle.library_parts.proofs.contents.Contents.opened_file.Goals as goal
@@ -32,6 +32,15 @@ returns-clause-simple c =
     let file = c.in_ok-file.file.now in
     let here : named opened.file s.files ≡ Some file = found-is _ _ _ (rw (← c.self.view_is, c.file.ensures) at c.in_ok-file.ensures) in
     simple-of s.files opened.file file c.self.invariant.2.views here
+
+pub returns-clause-view : goal.returns-clause-view
+returns-clause-view c =
+    let inside = c.self.inside in
+    let s = state_of inside.catalogue inside.members inside.next_member inside.journal inside.locks inside.jobs in
+    let opened = c.in_ok-opened.opened.now.state in
+    let file = c.in_ok-file.file.now in
+    let here : named opened.file s.files ≡ Some file = found-is _ _ _ (rw (← c.self.view_is, c.file.ensures) at c.in_ok-file.ensures) in
+    rw (← c.self.view_is) (view-of s.files opened.file file c.self.invariant.2.views here)
 
 pub returns-clause-reads : goal.returns-clause-reads
 returns-clause-reads c =

@@ -1,0 +1,37 @@
+use Rattle.std.proofs.Common.{◌∙◌, Option, Some, None, sym}
+use Rattle.file_model.specs.Paths.{path_key}
+use Rattle.library_steps.specs.State.{memory_of}
+use Rattle.library_parts.proofs.KeyLemmas.{asked-there, can-ask, clash-shown, key-at, none-is}
+use Rattle.library_parts.proofs.KeyPlanLemmas.{free-new, free-none}
+use Rattle.library_parts.proofs.contents.Contents.is_free_in.Goals as goal
+
+pub returns-in-None : goal.returns-in-None
+returns-in-None c = λ free format at.
+    let new = c.args.new in
+    free-none (memory_of c.args.self.now.state) new.job new.commit new.member new.rrn new.image.now format ((rw c.in-None.is at c.in_ok-key.ensures) format at)
+
+pub is_kept-requires-clause-path : goal.is_kept-requires-clause-path
+is_kept-requires-clause-path c = (c.requires.path.0, c.requires.path.1, c.requires.asked.before c.args.id c.requires.path.0 c.requires.path.1)
+
+pub clash-requires : goal.clash-requires
+clash-requires c =
+    let paths = c.self.inside.paths.paths in
+    let asked = rw (← c.self.view_is) at c.requires.asked in
+    let path = rw (← c.self.view_is) at c.requires.path in
+    can-ask c.args.id c.args.new.member _ path.0 paths path.1 (asked-there c.args.id c.args.new.member _ path.0 paths asked.new path.1)
+
+pub returns-else-kept : goal.returns-else-kept
+returns-else-kept c = λ free format at.
+    let new = c.args.new in
+    let image = new.image.now in
+    let m = memory_of c.args.self.now.state in
+    let paths = c.args.self.now.room.paths.paths in
+    let shows = (rw c.in-Some.is at c.in_ok-key.ensures) format at in
+    let kept = c.in_ok-kept.ensures c.if-kept.false format (path_key format image)
+    (key-at c.args.id new.member format paths image c.as_bytes.result.now at c.requires.asked.bytes (c.as_bytes.ensures ∙ shows.1)) in
+    let over = rw (← c.self.view_is) at at in
+    let asked = rw (← c.self.view_is) at c.requires.asked in
+    let told = clash-shown c.args.id new.member format c.self.inside.paths.paths image new.rrn c.self.inside.members.members c.in_ok-other.other over (asked.told c.args.id format over)
+    c.in_ok-other.ensures in
+    free-new m new.job new.commit new.member new.rrn image format c.requires.running shows.0 kept
+    (rw (← c.self.view_is) (sym told ∙ none-is c.in_ok-other.other (sym c.is_none.ensures ∙ free)))
