@@ -117,7 +117,7 @@ module _ (files : Named FileState) (paths : NumberedPaths) (member : ℕ) where
       flat-at (IsTold later.members paths) (λ (e : List ℕ × FileState). uniques_by e.1.spec m member e) files place entry
       (subst (λ (fs : Named FileState). AllByRecursion (IsTold later.members paths) (uniques_from member m fs)) same told) at
 
-  simple-at : (place : ℕ) (entry : List ℕ × FileState) → AreViews files → slice_get files place ≡ Some entry → IsSimple entry.1.spec
+  pub simple-at : (place : ℕ) (entry : List ℕ × FileState) → AreViews files → slice_get files place ≡ Some entry → IsSimple entry.1.spec
   simple-at place entry views at =
       simple-of files entry.1.spec (AllByRecursion-get (λ (e : List ℕ × FileState). IsViewBeside files e.1.spec) files place entry views at)
 

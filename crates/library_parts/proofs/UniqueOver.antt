@@ -90,6 +90,24 @@ find-none test id path paths at none = each-at (λ (q : Numbered KeptPath). test
 
 -- ---- how many are left
 
+both-more : (a b : ℕ) → a ≤ b → suc a ≤ suc b
+both-more a b low = omega (arith, low)
+
+one-more : (a b : ℕ) → a ≤ b → a ≤ suc b
+one-more a b low = omega (arith, low)
+
+both-above : (a b : ℕ) → a < b → suc a < suc b
+both-above a b less = omega (arith, less)
+
+one-above : (a b : ℕ) → a ≤ b → a < suc b
+one-above a b low = omega (arith, low)
+
+some-above : (b : ℕ) → 0 < suc b
+some-above b = omega arith
+
+weaker : (a b : ℕ) → a < b → a ≤ b
+weaker a b less = omega (arith, less)
+
 abbrev pub above_of : ℕ → NumberedPaths → NumberedPaths
 above_of id paths = filter (λ (q : Numbered KeptPath). nat_lt id q.number) paths
 
@@ -98,14 +116,14 @@ left_from None paths = 0
 left_from (Some id) paths = suc (length (above_of id paths))
 
 fewer-above : (id next : ℕ) → id ≤ next → (paths : NumberedPaths) → length (above_of next paths) ≤ length (above_of id paths)
-fewer-above id next low [] = omega arith
+fewer-above id next low [] = (let none : 0 ≤ 0 = omega arith in none)
 fewer-above id next low (p ∷ paths) = by (nat_lt next p.number) refl (nat_lt id p.number) refl (fewer-above id next low paths)
   where
     by : (b : Bool) → nat_lt next p.number ≡ b → (d : Bool) → nat_lt id p.number ≡ d → length (above_of next paths) ≤ length (above_of id paths)
         → length (cond b (p ∷ above_of next paths) (above_of next paths)) ≤ length (cond d (p ∷ above_of id paths) (above_of id paths))
-    by true past true also rest = omega (arith, rest)
+    by true past true also rest = both-more (length (above_of next paths)) (length (above_of id paths)) rest
     by true past false also rest = absurd (grind (arith, nat_tests))
-    by false past true also rest = omega (arith, rest)
+    by false past true also rest = one-more (length (above_of next paths)) (length (above_of id paths)) rest
     by false past false also rest = rest
 
 less-above : (test : Numbered KeptPath → Bool) (id : ℕ) (q : Numbered KeptPath) (paths : NumberedPaths) → id < q.number → find test paths ≡ Some q
@@ -121,11 +139,12 @@ less-above test id q (p ∷ paths) above found = step (nat_lt q.number p.number)
     step : (b : Bool) → nat_lt q.number p.number ≡ b → (d : Bool) → nat_lt id p.number ≡ d → (p.number ≡ q.number) ⊎ (length (above_of q.number paths) < length (above_of id paths))
         → length (cond b (p ∷ above_of q.number paths) (above_of q.number paths)) < length (cond d (p ∷ above_of id paths) (above_of id paths))
     step true past d also (inl same) = absurd (grind (arith, nat_tests))
-    step false past true also (inl same) = let fewer = fewer-above id q.number (omega (arith, above)) paths in omega (arith, fewer)
+    step false past true also (inl same) = one-above (length (above_of q.number paths)) (length (above_of id paths)) (fewer-above id q.number (weaker id q.number above) paths)
     step false past false also (inl same) = absurd (grind (arith, nat_tests))
-    step true past true also (inr less) = omega (arith, less)
+    step true past true also (inr less) = both-above (length (above_of q.number paths)) (length (above_of id paths)) less
     step true past false also (inr less) = absurd (grind (arith, nat_tests))
-    step false past true also (inr less) = omega (arith, less)
+    step false past true also (inr less) =
+        one-above (length (above_of q.number paths)) (length (above_of id paths)) (weaker (length (above_of q.number paths)) (length (above_of id paths)) less)
     step false past false also (inr less) = less
 
 -- behind each of them fewer are left
@@ -136,13 +155,12 @@ left-fewer member id next paths is =
   where
     by : (o : Option (Numbered KeptPath)) → find (is_unique_over member (Some id)) paths ≡ o
         → left_from (option_map (λ (q : Numbered KeptPath). q.number) o) paths < suc (length (above_of id paths))
-    by None found = omega arith
+    by None found = some-above (length (above_of id paths))
     by (Some q) found =
         let passes = find-passes (is_unique_over member (Some id)) q paths found in
         let past : nat_lt id q.number ≡ true = and-second q.item.spec.unique (nat_lt id q.number) (and-second (is_over member q.item.spec) (q.item.spec.unique && nat_lt id q.number) passes) in
         let above : id < q.number = grind (arith, nat_tests) in
-        let less = less-above (is_unique_over member (Some id)) id q paths above found in
-        omega (arith, less)
+        both-above (length (above_of q.number paths)) (length (above_of id paths)) (less-above (is_unique_over member (Some id)) id q paths above found)
 
 -- ---- one after the other
 
@@ -160,7 +178,7 @@ pub record IsPathOver (member id : ℕ) (paths : NumberedPaths) : Type 0 where
 
 module _ (member : ℕ) (paths : NumberedPaths) (D : ℕ → KeptPath → Type 0) where
   pub done-first : (next : Option ℕ) → next ≡ option_map (λ (q : Numbered KeptPath). q.number) (find (is_unique_over member None) paths) → AreDoneTo member paths D next
-  done-first next is = record { after = None; next_is = is; done = λ id path at over unique past. absurd cc }
+  done-first next is = record { after = None; next_is = is; done = λ id path at over unique past. absurd (let e : true ≡ false = past in cc) }
 
   -- the next one is there
   pub next-there : (next : Option ℕ) (id : ℕ) → AreShared paths → AreDoneTo member paths D next → next ≡ Some id → IsPathOver member id paths

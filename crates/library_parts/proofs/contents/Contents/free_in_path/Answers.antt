@@ -3,6 +3,7 @@ use Rattle.library_model.specs.declared.replies.Reply.{Reply}
 use Rattle.library_steps.specs.State.{memory_of}
 use Rattle.library_steps.specs.UniqueKeys.{UniquePath}
 use Rattle.library_parts.specs.Answers.{MayAllow}
+use Rattle.library_parts.specs.Parts.{state_of}
 use Rattle.library_parts.proofs.FreePaths.{kept-at, kept-formats, kept-old}
 use Rattle.library_parts.proofs.KeyPlanLemmas.{path-told}
 use Rattle.library_parts.proofs.contents.Contents.free_in_path.Goals as goal
@@ -17,16 +18,16 @@ free_in_file-requires-clause-path c =
 pub returns-in-Some : goal.returns-in-Some
 returns-in-Some c =
     let new = c.args.new in
-    let paths = c.args.self.now.room.paths.paths in
+    let inside = c.self.inside in
+    let s = state_of inside.catalogue inside.members inside.next_member inside.journal inside.locks inside.jobs in
     let unique : UniquePath = record { file = c.args.file; path = c.args.path.now } in
-    let kept = c.requires.kept in
     let found = rw c.in-Some.is at c.number_of.ensures in
-    let also = rw (← c.self.view_is) at c.requires.kept in
-    let over = kept-at new.member c.in-Some.id c.self.inside.paths.paths unique found.0 also found.1 found.2 in
-    let told = (rw (← c.self.view_is) at c.free_in_file.ensures) also.format over in
+    let kept = rw (← c.self.view_is) at c.requires.kept in
+    let over = kept-at new.member c.in-Some.id inside.paths.paths unique found.0 kept found.1 found.2 in
+    let told = (rw (← c.self.view_is) at c.free_in_file.ensures) kept.format over in
     rw (← c.self.view_is)
     (subst (λ (r : Result Bool Reply). MayAllow c.free_in_file.result r)
-    (sym (path-told c.args.test (memory_of _) new.job new.commit new.member new.rrn new.image.now also.format unique (kept-formats new.member c.self.inside.paths.paths unique also))) told)
+    (sym (path-told c.args.test (memory_of s) new.job new.commit new.member new.rrn new.image.now kept.format unique (kept-formats new.member inside.paths.paths unique kept))) told)
 
 pub returns-in-None : goal.returns-in-None
 returns-in-None c =

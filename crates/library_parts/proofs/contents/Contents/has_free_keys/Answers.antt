@@ -8,7 +8,7 @@ pub loop-path-init : goal.loop-path-init
 loop-path-init c =
     let s = c.args.self.now.state in
     let new = c.args.new in
-    done-first new.member c.args.self.now.room.paths.paths (IsFreeAt (memory_of s) c.args.self.now.room.paths.paths new.job new.commit new.member new.rrn new.image.now) _
+    done-first new.member c.args.self.now.room.paths.paths (IsFreeAt (memory_of s) c.args.self.now.room.paths.paths new.job new.commit new.member new.rrn new.image.now) c.unique_over-path.result
     (rw (← c.self.view_is) c.unique_over-path.ensures)
 
 pub is_free_in-requires-clause-path : goal.is_free_in-requires-clause-path
@@ -25,12 +25,12 @@ loop-path-preserved c =
     let s = c.args.self.now.state in
     let paths = c.args.self.now.room.paths.paths in
     let new = c.args.new in
-    done-next new.member paths (IsFreeAt (memory_of s) paths new.job new.commit new.member new.rrn new.image.now) c.loop-path.path _ c.in-Some.id c.requires.asked.shared
+    done-next new.member paths (IsFreeAt (memory_of s) paths new.job new.commit new.member new.rrn new.image.now) c.loop-path.path c.unique_over-path-2.result c.in-Some.id c.requires.asked.shared
     c.loop-path.invariant c.in-Some.is (λ path at format over. c.in_ok-free.ensures c.if-free.true format over) (rw (← c.self.view_is) c.unique_over-path-2.ensures)
 
 pub loop-path-smaller : goal.loop-path-smaller
 loop-path-smaller c =
-    rw c.in-Some.is (left-fewer c.args.new.member c.in-Some.id _ c.args.self.now.room.paths.paths (rw (← c.self.view_is) c.unique_over-path-2.ensures))
+    rw c.in-Some.is (left-fewer c.args.new.member c.in-Some.id c.unique_over-path-2.result c.args.self.now.room.paths.paths (rw (← c.self.view_is) c.unique_over-path-2.ensures))
 
 pub returns : goal.returns
 returns c =
