@@ -1,6 +1,11 @@
 use Rattle.std.proofs.Common.{◌∙◌}
-use Rattle.library_parts.proofs.KeyLemmas.{key-told}
+use Rattle.library_parts.proofs.KeyLemmas.{can-ask, key-told}
 use Rattle.library_parts.proofs.contents.Contents.has_key.Goals as goal
+
+pub key-requires : goal.key-requires
+key-requires c =
+    let its = rw (← c.self.view_is) at c.requires in
+    can-ask c.args.id its.0 _ its.1 c.self.inside.paths.paths its.2 (its.3 c.are_bytes.ensures)
 
 pub returns-in-Some : goal.returns-in-Some
 returns-in-Some c = λ member format values at.
