@@ -1,7 +1,6 @@
 -- Whether the keys of a record are free in all unique paths over its member: by the kept paths, or file by file.
-use Rattle.std.proofs.Common.{◌≡◌, ◌≢◌, ℕ, suc, ◌+◌, ◌<◌, ◌≤◌, Bool, true, IsTrue, List, [], ◌∷◌, drop, length, slice_get, Some, Result, Ok, Err, sym, ap, refl, ◌∙◌, arith}
-use Rattle.std.specs.Prelude.{All}
-use Rattle.std.specs.List.{AllByRecursion, flat_map}
+use Rattle.std.proofs.Common.{◌≡◌, ◌≢◌, ℕ, suc, ◌+◌, ◌<◌, ◌≤◌, Bool, true, List, [], ◌∷◌, drop, length, slice_get, Some, Result, Ok, Err, sym, ap, refl, ◌∙◌, arith}
+use Rattle.std.specs.List.{AllByRecursion}
 use Rattle.std.proofs.lemmas.List.Elements.{recursion_from_All}
 use Rattle.member_slots.specs.Members.{Numbered, item_at}
 use Rattle.file_model.specs.declared.paths.PathFormat.{PathFormat}
@@ -15,7 +14,7 @@ use Rattle.library_paths.proofs.NumberLemmas.{each-at}
 use Rattle.library_steps.specs.Records.{slot_there}
 use Rattle.library_steps.specs.Refusals.{◌>>=◌}
 use Rattle.library_steps.specs.State.{FileState, Memory}
-use Rattle.library_steps.specs.UniqueKeys.{UniquePath, keys_free, new_key_in, new_keys, none_repeated, unique_paths, uniques_by}
+use Rattle.library_steps.specs.UniqueKeys.{UniquePath, keys_free, new_keys, none_repeated, unique_paths, uniques_by}
 use Rattle.library_parts.specs.declared.keys.Test.{Test}
 use Rattle.library_parts.specs.declared.keys.Test.TheVariants.{Reserved, Repeated}
 use Rattle.library_parts.specs.declared.stop.Stop.{Stop}

@@ -1,7 +1,6 @@
 -- The key of an image in a path of one format, in bytes and as the definitions have it.
 use Rattle.std.proofs.Common.{◌≡◌, ℕ, ◌==◌, ◌&&◌, ◌<◌, Bool, true, false, if◌then◌else◌, List, [], ◌∷◌, Option, Some, None, Result, Ok, Err, IfOk, IfSome, refl, sym, ap, subst, ◌∙◌, arith}
 use Rattle.std.specs.Prelude.{All, MatchOption, unwrap_or}
-use Rattle.std.specs.Option.{is_none}
 use Rattle.std.specs.Ordering.{is_eq}
 use Rattle.std.specs.Str.{bytes_eq}
 use Rattle.std.proofs.lemmas.Bool.Decides.{nat_tests}
@@ -150,8 +149,3 @@ pub clash-shown : (id member : ℕ) (format : PathFormat) (paths : NumberedPaths
 clash-shown id member format paths image rrn members other over is told =
     let here : other ≡ clash_in 0 image rrn over.path = subst (λ (o : Option KeptPath). MatchOption o (other ≡ None) (λ path. other ≡ clash_in 0 image rrn path)) over.at told in
     here ∙ is
-
--- none is nothing
-pub none-is : {A : Type 0} (o : Option A) → is_none o ≡ true → o ≡ None
-none-is None none = refl
-none-is (Some x) none = absurd cc

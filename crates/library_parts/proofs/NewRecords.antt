@@ -22,7 +22,7 @@ use Rattle.logical_model.specs.FilePaths.{is_over, logical_paths, view_format, v
 use Rattle.member_slots.specs.declared.slot.Slot.{Slot}
 use Rattle.member_slots.specs.declared.slot.Slot.TheVariants.{Live, Deleted}
 use Rattle.member_slots.specs.Member.{FitsSlot}
-use Rattle.member_slots.specs.Members.{Numbered, NumberedMembers, AreMembers, item_at, member_of}
+use Rattle.member_slots.specs.Members.{Numbered, AreMembers, item_at, member_of}
 use Rattle.journal_model.specs.Replay.{before_of}
 use Rattle.journal_model.specs.Rollback.{MemberChange}
 use Rattle.access_path.specs.PathBytes.{IsInBytes}
@@ -31,7 +31,7 @@ use Rattle.path_set.specs.EqualKeys.{clash_in}
 use Rattle.path_set.specs.KeptPaths.{KeptPath, NumberedPaths, AreShared, entries_of}
 use Rattle.path_set.proofs.ClashLemmas.{clash-told}
 use Rattle.physical_paths.specs.KeyedFiles.{HasRecordsOf}
-use Rattle.file_catalogue.specs.Owners.{Owns, has_number}
+use Rattle.file_catalogue.specs.Owners.{Owns}
 use Rattle.job_table.specs.Opens.{OpenOrder}
 use Rattle.library_model.specs.Named.{Named, named, same_name}
 use Rattle.library_paths.specs.AllPaths.{all_paths, paths_by}
@@ -39,8 +39,8 @@ use Rattle.library_paths.proofs.KeptLemmas.{kept-once}
 use Rattle.library_paths.proofs.NumberLemmas.{each-at}
 use Rattle.library_paths.proofs.OwnerLemmas.{each-found, member-path, paths-contain}
 use Rattle.library_steps.specs.LogicalFiles.{bases_in}
-use Rattle.library_steps.specs.State.{State, FileState, MemberStatus, fields_of, memory_of}
-use Rattle.library_steps.specs.UniqueKeys.{UniquePath, has_member, own_unique, unique_paths, uniques_by, view_unique}
+use Rattle.library_steps.specs.State.{State, FileState, fields_of, memory_of}
+use Rattle.library_steps.specs.UniqueKeys.{has_member, own_unique, unique_paths, uniques_by, view_unique}
 use Rattle.library_parts.specs.Indexed.{IsIndexed, IsView}
 use Rattle.library_parts.specs.Keyed.{AllAreKeyed}
 use Rattle.library_parts.specs.Lawful.{GoesBack, HoldsValues, IsLibrary}

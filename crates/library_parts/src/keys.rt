@@ -112,8 +112,8 @@ impl Contents {
     {
         let mut path = self.paths.unique_over(new.member, None);
         while let Some(id) = path {
-            let free = self.is_free_in(id, new)?;
-            if !free {
+            let refused = self.is_refused_in(id, new)?;
+            if refused {
                 return Ok(false);
             }
             path = self.paths.unique_over(new.member, Some(id));
@@ -121,16 +121,16 @@ impl Contents {
         Ok(true)
     }
 
-    /// The same in one of these paths.
-    fn is_free_in(&self, id: u64, new: NewRecord<'_>) -> Result<bool, AllocError>
+    /// Whether its new key in one of these paths is kept or another's.
+    fn is_refused_in(&self, id: u64, new: NewRecord<'_>) -> Result<bool, AllocError>
         requires running { IsTrue (is_running (job_at new.job self.now.state.jobs)) }
         requires asked { IsNewFor self.now new.member new.rrn new.image.now }
         requires path { (format : PathFormat) × IsFormatAt id new.member format self.now.room.paths.paths }
-        ensures { IfOk result (λ free. IsTrue free → (format : PathFormat) → IsFormatAt id new.entry.member format self.now.room.paths.paths
+        ensures { IfOk result (λ refused. refused ≡ false → (format : PathFormat) → IsFormatAt id new.entry.member format self.now.room.paths.paths
             → AreFreeIn (memory_of self.now.state) new.entry.job new.entry.commit new.entry.member new.entry.rrn new.entry.image.now format) }
     {
         let Some(key) = self.new_key(id, new)? else {
-            return Ok(true);
+            return Ok(false);
         };
         let its = NewKey {
             path: id,
@@ -139,10 +139,10 @@ impl Contents {
         };
         let kept = self.is_kept(new, its)?;
         if kept {
-            Ok(false)
+            Ok(true)
         } else {
             let other = self.paths.clash(id, 0, new.image, new.rrn)?;
-            Ok(other.is_none())
+            Ok(other.is_some())
         }
     }
 

@@ -1,4 +1,3 @@
-use Rattle.std.proofs.Common.{◌∙◌, sym}
 use Rattle.library_parts.proofs.ApartLemmas.{all-apart}
 use Rattle.library_parts.proofs.given.keys_apart.Goals as goal
 

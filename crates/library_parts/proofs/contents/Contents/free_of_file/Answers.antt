@@ -1,4 +1,4 @@
-use Rattle.std.proofs.Common.{◌≡◌, ◌∙◌, List, refl, sym, ap, subst}
+use Rattle.std.proofs.Common.{◌∙◌, List, refl, sym, ap, subst}
 use Rattle.std.specs.List.{AllByRecursion}
 use Rattle.library_steps.specs.State.{memory_of}
 use Rattle.library_steps.specs.UniqueKeys.{UniquePath}

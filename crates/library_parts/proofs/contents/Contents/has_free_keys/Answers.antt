@@ -1,4 +1,3 @@
-use Rattle.std.proofs.Common.{◌∙◌}
 use Rattle.library_steps.specs.State.{memory_of}
 use Rattle.library_parts.proofs.FreePaths.{IsFreeAt, free-over}
 use Rattle.library_parts.proofs.UniqueOver.{done-end, done-first, done-next, left-fewer, next-there}
@@ -11,8 +10,8 @@ loop-path-init c =
     done-first new.member c.args.self.now.room.paths.paths (IsFreeAt (memory_of s) c.args.self.now.room.paths.paths new.job new.commit new.member new.rrn new.image.now) c.unique_over-path.result
     (rw (← c.self.view_is) c.unique_over-path.ensures)
 
-pub is_free_in-requires-clause-path : goal.is_free_in-requires-clause-path
-is_free_in-requires-clause-path c =
+pub is_refused_in-requires-clause-path : goal.is_refused_in-requires-clause-path
+is_refused_in-requires-clause-path c =
     let s = c.args.self.now.state in
     let paths = c.args.self.now.room.paths.paths in
     let new = c.args.new in
@@ -25,12 +24,12 @@ loop-path-preserved c =
     let s = c.args.self.now.state in
     let paths = c.args.self.now.room.paths.paths in
     let new = c.args.new in
-    done-next new.member paths (IsFreeAt (memory_of s) paths new.job new.commit new.member new.rrn new.image.now) c.loop-path.path c.unique_over-path-2.result c.in-Some.id c.requires.asked.shared
-    c.loop-path.invariant c.in-Some.is (λ path at format over. c.in_ok-free.ensures c.if-free.true format over) (rw (← c.self.view_is) c.unique_over-path-2.ensures)
+    done-next new.member paths (IsFreeAt (memory_of s) paths new.job new.commit new.member new.rrn new.image.now) c.loop-path.path c.unique_over-path-in-loop-path.result c.in-Some.id c.requires.asked.shared
+    c.loop-path.invariant c.in-Some.is (λ path at format over. c.in_ok-refused.ensures c.if-refused.false format over) (rw (← c.self.view_is) c.unique_over-path-in-loop-path.ensures)
 
 pub loop-path-smaller : goal.loop-path-smaller
 loop-path-smaller c =
-    rw c.in-Some.is (left-fewer c.args.new.member c.in-Some.id c.unique_over-path-2.result c.args.self.now.room.paths.paths (rw (← c.self.view_is) c.unique_over-path-2.ensures))
+    rw c.in-Some.is (left-fewer c.args.new.member c.in-Some.id c.unique_over-path-in-loop-path.result c.args.self.now.room.paths.paths (rw (← c.self.view_is) c.unique_over-path-in-loop-path.ensures))
 
 pub returns : goal.returns
 returns c =
@@ -38,5 +37,5 @@ returns c =
     let paths = c.args.self.now.room.paths.paths in
     let new = c.args.new in
     λ free id format over once.
-    done-end new.member paths (IsFreeAt (memory_of s) paths new.job new.commit new.member new.rrn new.image.now) c.loop-path.path c.loop-path.invariant c.in-None.is id over.path over.at
+    done-end new.member paths (IsFreeAt (memory_of s) paths new.job new.commit new.member new.rrn new.image.now) c.loop-path.path c.loop-path.invariant c.in_default.is id over.path over.at
     (free-over new.member id format paths over) once format over

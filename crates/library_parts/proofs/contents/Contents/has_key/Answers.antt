@@ -1,4 +1,3 @@
-use Rattle.std.proofs.Common.{◌∙◌}
 use Rattle.library_parts.proofs.KeyLemmas.{can-ask, key-told}
 use Rattle.library_parts.proofs.contents.Contents.has_key.Goals as goal
 

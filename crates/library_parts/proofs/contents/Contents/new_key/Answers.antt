@@ -1,4 +1,4 @@
-use Rattle.std.proofs.Common.{◌≡◌, ◌∙◌, List, ℕ, Option, sym, ap}
+use Rattle.std.proofs.Common.{◌∙◌, List, ℕ, Option, sym, ap}
 use Rattle.std.specs.Borrow.{Bor}
 use Rattle.std.specs.Option.{option_map}
 use Rattle.member_slots.specs.Member.{slot_at}

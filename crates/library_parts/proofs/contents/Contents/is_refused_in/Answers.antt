@@ -1,14 +1,15 @@
-use Rattle.std.proofs.Common.{◌∙◌, Option, Some, None, sym}
+use Rattle.std.proofs.Common.{◌∙◌, sym}
 use Rattle.file_model.specs.Paths.{path_key}
 use Rattle.library_steps.specs.State.{memory_of}
-use Rattle.library_parts.proofs.KeyLemmas.{asked-there, can-ask, clash-shown, key-at, none-is}
+use Rattle.library_parts.proofs.KeyLemmas.{asked-there, can-ask, clash-shown, key-at}
 use Rattle.library_parts.proofs.KeyPlanLemmas.{free-new, free-none}
-use Rattle.library_parts.proofs.contents.Contents.is_free_in.Goals as goal
+use Rattle.library_parts.proofs.ResultLemmas.{is_nothing}
+use Rattle.library_parts.proofs.contents.Contents.is_refused_in.Goals as goal
 
-pub returns-in-None : goal.returns-in-None
-returns-in-None c = λ free format at.
+pub returns-in_default : goal.returns-in_default
+returns-in_default c = λ free format at.
     let new = c.args.new in
-    free-none (memory_of c.args.self.now.state) new.job new.commit new.member new.rrn new.image.now format ((rw c.in-None.is at c.in_ok-key.ensures) format at)
+    free-none (memory_of c.args.self.now.state) new.job new.commit new.member new.rrn new.image.now format ((rw c.in_default.is at c.in_ok-key.ensures) format at)
 
 pub is_kept-requires-clause-path : goal.is_kept-requires-clause-path
 is_kept-requires-clause-path c = (c.requires.path.0, c.requires.path.1, c.requires.asked.before c.args.id c.requires.path.0 c.requires.path.1)
@@ -34,4 +35,4 @@ returns-else-kept c = λ free format at.
     let told = clash-shown c.args.id new.member format c.self.inside.paths.paths image new.rrn c.self.inside.members.members c.in_ok-other.other over (asked.told c.args.id format over)
     c.in_ok-other.ensures in
     free-new m new.job new.commit new.member new.rrn image format c.requires.running shows.0 kept
-    (rw (← c.self.view_is) (sym told ∙ none-is c.in_ok-other.other (sym c.is_none.ensures ∙ free)))
+    (rw (← c.self.view_is) (sym told ∙ is_nothing c.in_ok-other.other (sym c.is_some.ensures ∙ free)))
