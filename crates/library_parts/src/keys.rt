@@ -7,6 +7,7 @@ ghost use Rattle.file_model.specs.Paths.{clash};
 ghost use Rattle.library_model.specs.declared.replies.Reply.TheVariants.{DuplicateKey};
 ghost use Rattle.library_steps.specs.Refusals.{refuse_with};
 ghost use Rattle.journal_model.specs.Rollback.{MemberChange};
+ghost use Rattle.path_entrants.specs.Formats.{IsAskable};
 ghost use Rattle.library_parts.specs.Indexed.{IsSimple};
 ghost use Rattle.library_parts.specs.NewKeys.{AllAreAskedBefore, AreAskedBefore, AreFreeIn, IsAskedBefore, IsFormatAt, IsKeptOver, IsKeyAt, IsNewFor, MayBeAsked, ShowsKey, first_reserved, keys_kept, keys_tested, least_of, least_reserved, lesser_of, new_in_paths, own_reserved, refused_by, reservation_of, taken, tested};
 ghost use Rattle.member_slots.specs.declared.slot.Slot.TheVariants.{Live};
@@ -125,7 +126,7 @@ impl Contents {
     fn is_refused_in(&self, id: u64, new: NewRecord<'_>) -> Result<bool, AllocError>
         requires running { IsTrue (is_running (job_at new.job self.now.state.jobs)) }
         requires asked { IsNewFor self.now new.member new.rrn new.image.now }
-        requires path { (format : PathFormat) × IsFormatAt id new.member format self.now.room.paths.paths }
+        requires path { (format : PathFormat) × IsFormatAt id new.member format self.now.room.paths.paths × IsAskable format new.image.now }
         ensures { IfOk result (λ refused. refused ≡ false → (format : PathFormat) → IsFormatAt id new.entry.member format self.now.room.paths.paths
             → AreFreeIn (memory_of self.now.state) new.entry.job new.entry.commit new.entry.member new.entry.rrn new.entry.image.now format) }
     {
@@ -242,7 +243,7 @@ impl Contents {
     fn free_in_file(&self, file: Name, id: u64, new: NewRecord<'_>, test: Test) -> Result<(), Stop>
         requires running { IsTrue (is_running (job_at new.job self.now.state.jobs)) }
         requires asked { IsNewFor self.now new.member new.rrn new.image.now }
-        requires path { (format : PathFormat) × IsFormatAt id new.member format self.now.room.paths.paths }
+        requires path { (format : PathFormat) × IsFormatAt id new.member format self.now.room.paths.paths × IsAskable format new.image.now }
         ensures { (format : PathFormat) → IsFormatAt id new.entry.member format self.now.room.paths.paths → MayAllow result (tested test file (memory_of self.now.state) new.entry.job new.entry.commit new.entry.member new.entry.rrn new.entry.image.now format) }
     {
         let Some(key) = self.new_key(id, new)? else {
@@ -262,7 +263,7 @@ impl Contents {
     /// The key that comes into the path: that of the image, where it is selected and the record at the place hasn't the same.
     fn new_key(&self, id: u64, new: NewRecord<'_>) -> Result<Option<Key>, AllocError>
         requires asked { IsNewFor self.now new.member new.rrn new.image.now }
-        requires path { (format : PathFormat) × IsFormatAt id new.member format self.now.room.paths.paths }
+        requires path { (format : PathFormat) × IsFormatAt id new.member format self.now.room.paths.paths × IsAskable format new.image.now }
         ensures { IfOk result (λ key. (format : PathFormat) → IsFormatAt id new.entry.member format self.now.room.paths.paths
             → ShowsKey format new.entry.image.now key (if_new (key_of_slot format (slot_there new.entry.member new.entry.rrn (memory_of self.now.state))) (key_in format new.entry.image.now))) }
     {
@@ -422,7 +423,7 @@ impl Contents {
     /// The refusal where another record has the key.
     fn not_repeated(&self, file: Name, id: u64, new: NewRecord<'_>) -> Result<(), Stop>
         requires asked { IsNewFor self.now new.member new.rrn new.image.now }
-        requires path { (format : PathFormat) × IsFormatAt id new.member format self.now.room.paths.paths }
+        requires path { (format : PathFormat) × IsFormatAt id new.member format self.now.room.paths.paths × IsAskable format new.image.now }
         ensures { (format : PathFormat) → IsFormatAt id new.entry.member format self.now.room.paths.paths
             → MayAllow result (refuse_with (λ other. DuplicateKey file other) (clash format self.now.state.members new.entry.image.now new.entry.rrn)) }
     {

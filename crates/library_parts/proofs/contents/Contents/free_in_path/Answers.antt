@@ -5,6 +5,7 @@ use Rattle.library_steps.specs.UniqueKeys.{UniquePath}
 use Rattle.library_parts.specs.Answers.{MayAllow}
 use Rattle.library_parts.specs.Parts.{state_of}
 use Rattle.library_parts.proofs.FreePaths.{kept-at, kept-formats, kept-old}
+use Rattle.library_parts.proofs.KeyLemmas.{asked-there}
 use Rattle.library_parts.proofs.KeyPlanLemmas.{path-told}
 use Rattle.library_parts.proofs.contents.Contents.free_in_path.Goals as goal
 
@@ -13,7 +14,10 @@ free_in_file-requires-clause-path c =
     let unique : UniquePath = record { file = c.args.file; path = c.args.path.now } in
     let found = rw c.in-Some.is at c.number_of.ensures in
     let kept = rw (← c.self.view_is) at c.requires.kept in
-    rw (← c.self.view_is) (kept.format, kept-at c.args.new.member c.in-Some.id c.self.inside.paths.paths unique found.0 kept found.1 found.2)
+    let asked = rw (← c.self.view_is) at c.requires.asked in
+    let over = kept-at c.args.new.member c.in-Some.id c.self.inside.paths.paths unique found.0 kept found.1 found.2 in
+    rw (← c.self.view_is)
+    (kept.format, over, asked-there c.in-Some.id c.args.new.member c.args.new.image.now kept.format c.self.inside.paths.paths asked.new over)
 
 pub returns-in-Some : goal.returns-in-Some
 returns-in-Some c =

@@ -1,7 +1,7 @@
 use Rattle.std.proofs.Common.{◌∙◌, sym}
 use Rattle.file_model.specs.Paths.{path_key}
 use Rattle.library_steps.specs.State.{memory_of}
-use Rattle.library_parts.proofs.KeyLemmas.{asked-there, can-ask, clash-shown, key-at}
+use Rattle.library_parts.proofs.KeyLemmas.{clash-shown, key-at}
 use Rattle.library_parts.proofs.KeyPlanLemmas.{free-new, free-none}
 use Rattle.library_parts.proofs.ResultLemmas.{is_nothing}
 use Rattle.library_parts.proofs.contents.Contents.is_refused_in.Goals as goal
@@ -13,13 +13,6 @@ returns-in_default c = λ free format at.
 
 pub is_kept-requires-clause-path : goal.is_kept-requires-clause-path
 is_kept-requires-clause-path c = (c.requires.path.0, c.requires.path.1, c.requires.asked.before c.args.id c.requires.path.0 c.requires.path.1)
-
-pub clash-requires : goal.clash-requires
-clash-requires c =
-    let paths = c.self.inside.paths.paths in
-    let asked = rw (← c.self.view_is) at c.requires.asked in
-    let path = rw (← c.self.view_is) at c.requires.path in
-    can-ask c.args.id c.args.new.member _ path.0 paths path.1 (asked-there c.args.id c.args.new.member _ path.0 paths asked.new path.1)
 
 pub returns-else-kept : goal.returns-else-kept
 returns-else-kept c = λ free format at.

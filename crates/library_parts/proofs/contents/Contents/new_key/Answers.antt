@@ -5,15 +5,8 @@ use Rattle.member_slots.specs.Member.{slot_at}
 use Rattle.member_slots.specs.Members.{member_of}
 use Rattle.library_steps.specs.Records.{slot_there}
 use Rattle.library_steps.specs.State.{memory_of}
-use Rattle.library_parts.proofs.KeyLemmas.{asked-stood, asked-there, can-ask, key-known, key-new, key-shown, slot-shown}
+use Rattle.library_parts.proofs.KeyLemmas.{asked-stood, key-known, key-new, key-shown, slot-shown}
 use Rattle.library_parts.proofs.contents.Contents.new_key.Goals as goal
-
-pub key-requires : goal.key-requires
-key-requires c =
-    let paths = c.self.inside.paths.paths in
-    let asked = rw (← c.self.view_is) at c.requires.asked in
-    let path = rw (← c.self.view_is) at c.requires.path in
-    can-ask c.args.id c.args.new.member _ path.0 paths path.1 (asked-there c.args.id c.args.new.member _ path.0 paths asked.new path.1)
 
 pub has_key-requires : goal.has_key-requires
 has_key-requires c =

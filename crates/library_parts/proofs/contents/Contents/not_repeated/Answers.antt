@@ -1,15 +1,8 @@
 use Rattle.std.proofs.Common.{◌∙◌, ℕ, Option, sym, ap}
 use Rattle.library_model.specs.declared.replies.Reply.TheVariants.{DuplicateKey}
 use Rattle.library_steps.specs.Refusals.{refuse_with}
-use Rattle.library_parts.proofs.KeyLemmas.{asked-there, can-ask, clash-shown}
+use Rattle.library_parts.proofs.KeyLemmas.{clash-shown}
 use Rattle.library_parts.proofs.contents.Contents.not_repeated.Goals as goal
-
-pub clash-requires : goal.clash-requires
-clash-requires c =
-    let paths = c.self.inside.paths.paths in
-    let asked = rw (← c.self.view_is) at c.requires.asked in
-    let path = rw (← c.self.view_is) at c.requires.path in
-    can-ask c.args.id c.args.new.member _ path.0 paths path.1 (asked-there c.args.id c.args.new.member _ path.0 paths asked.new path.1)
 
 pub returns-in-Some : goal.returns-in-Some
 returns-in-Some c =
