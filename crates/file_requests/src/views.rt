@@ -99,7 +99,7 @@ fn plan_but_keys(
     may_deposit(contents)?;
     may_be_named(contents, &args.file)?;
     let described = view_named(contents, sources, &args.source)?;
-    may_stand(contents, described.spec())?;
+    described_may_stand(contents, &described)?;
     Ok(described)
 }
 
@@ -150,6 +150,15 @@ fn describe_view(contents: &Contents, text: &SourceText) -> Result<DescribedView
         Err(LogicalFault::NoMemory) => Err(Stop::NoMemory),
         Err(LogicalFault::Fault(fault)) => Err(Stop::Refused(Reply::DdsFault(fault))),
     }
+}
+
+/// The same refusals of what was described.
+fn described_may_stand(contents: &Contents, described: &DescribedView) -> Result<(), Stop>
+    requires { IsSimple (LogicalFile described.now.spec) }
+    ensures allowed { MayAllow result (may_stand (memory_of contents.now.state) described.now.spec) }
+    ensures unchanged { OnOk result (changer_of_any (base_members (bases_of (memory_of contents.now.state)) described.now.spec) (memory_of contents.now.state) ≡ None) }
+{
+    may_stand(contents, described.spec())
 }
 
 /// The refusal where its base would have too many paths, an open commit cycle has changed a record of it, or a restart might bring
