@@ -1,5 +1,6 @@
 pub mod RecordLemmas
 pub mod PlanLemmas
 pub mod PhysicalLemmas
+pub mod DeleteLemmas
 pub mod OpenLemmas
 pub mod ViewLemmas

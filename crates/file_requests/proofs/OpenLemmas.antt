@@ -62,14 +62,24 @@ read-so args file o there so = subst (λ (found : Option FileState). MayReadSo a
 
 -- ---- a physical file's member
 
+or-later : (a b : Bool) → b ≡ true → (a || b) ≡ true
+or-later true b is = refl
+or-later false b is = is
+
+first-is : (one other : MemberStatus) (later : Bool) → one ≡ other → ((one.number == other.number) || later) ≡ true
+first-is one other later same =
+    let own : (one.number == one.number) ≡ true = grind (arith, nat_tests) in
+    subst (λ (s : MemberStatus). ((one.number == s.number) || later) ≡ true) same (ap (λ (b : Bool). b || later) own)
+
 pub has-number : (name : List ℕ) (members : Named MemberStatus) (status : MemberStatus) → named name members ≡ Some status → has_number status.number members ≡ true
 has-number name [] status found = absurd cc
 has-number name (first ∷ members) status found =
-    has_number-cons status.number first members ∙
+    let step : ((first.1.number == status.number) || has_number status.number members) ≡ true =
     elim (same_name name first.0) as (λ b. cond b (Some first.1) (named name members) ≡ Some status → ((first.1.number == status.number) || has_number status.number members) ≡ true) [
-      | true ↦ λ here. let e : first.1 ≡ status = cc in subst (λ (other : MemberStatus). ((first.1.number == other.number) || has_number other.number members) ≡ true) e (grind (arith, nat_tests))
-      | false ↦ λ later. let rest = has-number name members status later in grind (arith, nat_tests, rest)
-    ] found
+      | true ↦ λ here. let e : first.1 ≡ status = cc in first-is first.1 status (has_number status.number members) e
+      | false ↦ λ later. or-later (first.1.number == status.number) (has_number status.number members) (has-number name members status later)
+    ] found in
+    has_number-cons status.number first members ∙ step
 
 abbrev pub IsNoView : FileSpec → Type 0
 IsNoView spec = None ≡ logical_in spec

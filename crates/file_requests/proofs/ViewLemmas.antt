@@ -1,12 +1,14 @@
 -- How the plan of CRTLF ends with the keys, and what it leaves.
-use Rattle.std.proofs.Common.{◌≡◌, ◌∙◌, ℕ, Bool, nat_le, Option, Some, None, Result, Ok, Err, IfOk, IfSome, OnOk, OnErr, List, [], ◌∷◌, length, if◌then◌else◌, refl, ap, subst}
+use Rattle.std.proofs.Common.{◌≡◌, ◌∙◌, ℕ, Bool, true, false, nat_le, Option, Some, None, Result, Ok, Err, IfOk, IfSome, OnOk, OnErr, List, [], ◌∷◌, length, if◌then◌else◌, refl, sym, ap, subst}
 use Rattle.std.specs.List.{list_any}
-use Rattle.std.specs.Option.{is_some}
+use Rattle.std.specs.Option.{is_some, option_and_then}
 use Rattle.entry_codec.specs.declared.entries.Draft.{Draft}
 use Rattle.dds_source.specs.declared.faults.DdsFault.{DdsFault}
 use Rattle.dds_logical.specs.declared.views.LogicalSpec.{LogicalSpec}
-use Rattle.logical_model.specs.Bases.{LogicalFile, base_members}
-use Rattle.logical_model.specs.FilePaths.{logical_paths}
+use Rattle.dds_logical.specs.declared.views.LogicalSpec.TheVariants.{Simple}
+use Rattle.dds_logical.specs.declared.views.View.{View}
+use Rattle.logical_model.specs.Bases.{Bases, LogicalFile, base_members}
+use Rattle.logical_model.specs.FilePaths.{logical_paths, views_path}
 use Rattle.library_model.specs.declared.limits.TheConstants.{MOST_FILES}
 use Rattle.library_model.specs.declared.requests.CreateLogicalFile.{CreateLogicalFile}
 use Rattle.library_model.specs.declared.sources.NamedSource.{NamedSource}
@@ -16,7 +18,7 @@ use Rattle.library_model.specs.declared.replies.LimitKind.TheVariants.{Files, Pa
 use Rattle.library_model.specs.SourceList.{text_of}
 use Rattle.library_model.specs.Named.{named}
 use Rattle.library_steps.specs.declared.limits.TheConstants.{MOST_PATHS}
-use Rattle.library_steps.specs.State.{Memory, State, file_named, memory_of}
+use Rattle.library_steps.specs.State.{Memory, State, MemberStatus, file_named, memory_of}
 use Rattle.library_steps.specs.Change.{does}
 use Rattle.library_steps.specs.CreateLogicalFile.{
   NewLogical,
@@ -25,22 +27,25 @@ use Rattle.library_steps.specs.CreateLogicalFile.{
   create_logical_plan,
   first_undone,
   has_many,
+  has_undone,
   is_unique,
   logical_described,
   logical_or_refused,
+  undone_number,
   with_logical,
 }
 use Rattle.library_steps.specs.LogicalFiles.{bases_of}
 use Rattle.library_steps.specs.Refusals.{◌>>=◌, refuse_if, refuse_with, named_or_refused, sequences_left}
+use Rattle.library_steps.specs.SlotChange.{status_among}
 use Rattle.library_steps.specs.Uses.{changer_of_any, unused}
-use Rattle.library_parts.specs.Answers.{Answers, Gives, MayAllow}
+use Rattle.library_parts.specs.Answers.{Allows, Answers, Gives, MayAllow}
 use Rattle.library_parts.specs.Files.{IsNewView}
 use Rattle.library_parts.specs.Indexed.{IsSimple}
 use Rattle.library_parts.specs.declared.stop.Stop.{Stop}
 use Rattle.library_parts.specs.declared.stop.Stop.TheVariants.{NoMemory, Refused}
 use Rattle.draft_list.proofs.DepositLemmas.{Answers-left}
 use Rattle.file_requests.specs.Effects.{Deposits}
-use Rattle.file_requests.specs.Views.{IsSimpleSource, PlansView, done, keys_differ, new_view, view_draft, view_named, view_of, view_plan}
+use Rattle.file_requests.specs.Views.{IsSimpleSource, PlansView, allowed_by, done, keys_differ, may_stand, new_view, view_draft, view_named, view_of, view_plan}
 
 -- ---- the keys come last
 
@@ -68,7 +73,7 @@ then (Ok a) (Ok b) (Ok c) (Ok t) described many changed undone repeated = by (de
     by (Ok spec) = last spec (many spec) (changed spec) (undone spec)
 
 pub plan-then : (sources : List NamedSource) (m : Memory) (args : CreateLogicalFile) → create_logical_plan sources m args ≡ (view_plan sources m args >>= λ plan. keys_differ args.file plan m >>= λ _. Ok plan)
-unfolding create_logical_plan view_plan
+unfolding create_logical_plan view_plan view_named may_stand
 plan-then sources m args =
     then (sequences_left m) (refuse_if (is_some (file_named args.file m)) (NameExists args.file)) (refuse_if (nat_le MOST_FILES (length m.files)) (LimitReached Files MOST_FILES))
     (named_or_refused args.source (text_of sources args.source)) (λ text. logical_or_refused (logical_described m text))
@@ -107,11 +112,13 @@ simple-by m name (Some t) plan simple is = by (logical_described m t) simple is
 
 pub is-described : (sources : List NamedSource) (m : Memory) (source : List ℕ) (result : Result NewLogical Stop) → Gives result (view_named sources m source)
     → IfOk result (λ plan. logical_described m plan.source ≡ Ok plan.spec)
+unfolding view_named
 is-described sources m source (Ok plan) gives = described-by m source (text_of sources source) plan gives
 is-described sources m source (Err stop) gives = tt
 
 pub is-simple : (sources : List NamedSource) (m : Memory) (source : List ℕ) (result : Result NewLogical Stop) → IsSimpleSource sources m source → Gives result (view_named sources m source)
     → IfOk result (λ plan. IsSimple (LogicalFile plan.spec))
+unfolding view_named
 is-simple sources m source (Ok plan) simple gives = simple-by m source (text_of sources source) plan simple gives
 is-simple sources m source (Err stop) simple gives = tt
 
@@ -120,6 +127,44 @@ pub is-new : (s : State) (name : List ℕ) (result : Result NewLogical Stop) →
     → IfOk result (λ plan. IsNewView s name plan)
 is-new s name (Ok plan) absent described simple unchanged = record { absent = absent; described = described; simple = simple; unchanged = unchanged }
 is-new s name (Err stop) absent described simple unchanged = tt
+
+pub new-kept : (old mid : State) (name : List ℕ) (plan made : NewLogical) → mid ≡ old → made ≡ plan → IsNewView old name plan → IsNewView mid name made
+new-kept old mid name plan made same is new = subst (λ (s : State). IsNewView s name made) (sym same) (subst (λ (p : NewLogical). IsNewView old name p) (sym is) new)
+
+-- ---- whether it may stand
+
+allows-may : (result : Result (Unit {0}) Stop) (one other : Result Bool Reply) → one ≡ other → Allows result one → MayAllow result other
+allows-may (Ok nothing) one other same allows = sym same ∙ allows
+allows-may (Err NoMemory) one other same allows = tt
+allows-may (Err (Refused reply)) one other same allows = sym same ∙ allows
+
+pub stands-by : (m : Memory) (spec : LogicalSpec) (many : Bool) (changer undone : Option ℕ) (result : Result (Unit {0}) Stop)
+    → many ≡ list_any (has_many (logical_paths (bases_of m) spec) m) (base_members (bases_of m) spec) → changer ≡ changer_of_any (base_members (bases_of m) spec) m
+    → undone ≡ (if is_unique (logical_paths (bases_of m) spec) then first_undone m (base_members (bases_of m) spec) else None) → Allows result (allowed_by many changer undone)
+    → MayAllow result (may_stand m spec)
+unfolding may_stand
+stands-by m spec many changer undone result paths changed left allows =
+    let same : allowed_by many changer undone ≡ may_stand m spec = λ i. allowed_by (paths i) (changed i) (left i) in
+    allows-may result (allowed_by many changer undone) (may_stand m spec) same allows
+
+pub unchanged-by : (changer wanted : Option ℕ) (result : Result (Unit {0}) Stop) → changer ≡ wanted → OnOk result (changer ≡ None) → OnOk result (wanted ≡ None)
+unchanged-by changer wanted (Ok nothing) same none = sym same ∙ none
+unchanged-by changer wanted (Err stop) same none = tt
+
+-- UNIQUE stands with the keys of the one format
+pub unique-one : (bases : Bases) (spec : LogicalSpec) (view : View) → spec ≡ Simple view → view.keys.unique ≡ is_unique (logical_paths bases spec)
+unique-one bases spec view is = one view.keys.unique ∙ sym (ap (λ (s : LogicalSpec). is_unique (logical_paths bases s)) is)
+  where
+    one : (b : Bool) → b ≡ is_unique (views_path bases b (view ∷ []) ∷ [])
+    one true = refl
+    one false = refl
+
+pub undone-one : (m : Memory) (member : ℕ) (status : MemberStatus) (has : Bool) (number : ℕ) (result : Option ℕ) → result ≡ (if has then Some number else None) → has ≡ has_undone status
+    → number ≡ status.number → status_among member m.files ≡ Some status → result ≡ undone_number m member
+undone-one m member status has number result is tested numbered found =
+    is
+    ∙ (λ i. if tested i then Some (numbered i) else None)
+    ∙ sym (ap (λ (o : Option MemberStatus). option_and_then (λ (s : MemberStatus). if has_undone s then Some s.number else None) o) found)
 
 -- ---- what is left
 

@@ -1,5 +1,5 @@
 -- Whether CRTLF may make a logical file, but for equal keys, which come last; and what it makes. (CL reference, CRTLF.)
-use Rattle.std.specs.Prelude.{◌≡◌, ℕ, Bool, nat_le, None, IfSome, IfOk, Result, Ok, Err, List, length, if◌then◌else◌}
+use Rattle.std.specs.Prelude.{◌≡◌, ℕ, Bool, nat_le, Option, None, IfSome, IfOk, Result, Ok, Err, List, length, if◌then◌else◌}
 use Rattle.std.specs.List.{list_any}
 use Rattle.std.specs.Option.{is_some}
 use Rattle.entry_codec.specs.declared.entries.Draft.{Draft}
@@ -47,17 +47,23 @@ view_of m text = do
   spec ← logical_or_refused (logical_described m text)
   Ok (new_view text spec)
 
-abbrev pub view_named : List NamedSource → Memory → (source : List ℕ) → Result NewLogical Reply
+unfoldable pub view_named : List NamedSource → Memory → (source : List ℕ) → Result NewLogical Reply
 view_named sources m source = do
   text ← named_or_refused source (text_of sources source)
   view_of m text
 
+-- there are few enough paths, no job has changed a record, and no member has changes that a restart undoes
+abbrev pub allowed_by : (many : Bool) (changer undone : Option ℕ) → Result Bool Reply
+allowed_by many changer undone = do
+  _ ← refuse_if many (LimitReached Paths MOST_PATHS)
+  _ ← unused changer
+  refuse_with NotJournaled undone
+
 -- its members have few enough paths, no open commit cycle has changed their records, and no restart can bring equal keys back
-abbrev pub may_stand : Memory → LogicalSpec → Result Bool Reply
-may_stand m spec = do
-  _ ← refuse_if (list_any (has_many (logical_paths (bases_of m) spec) m) (base_members (bases_of m) spec)) (LimitReached Paths MOST_PATHS)
-  _ ← unused (changer_of_any (base_members (bases_of m) spec) m)
-  refuse_with NotJournaled (if is_unique (logical_paths (bases_of m) spec) then first_undone m (base_members (bases_of m) spec) else None)
+unfoldable pub may_stand : Memory → LogicalSpec → Result Bool Reply
+may_stand m spec =
+    allowed_by (list_any (has_many (logical_paths (bases_of m) spec) m) (base_members (bases_of m) spec)) (changer_of_any (base_members (bases_of m) spec) m)
+    (if is_unique (logical_paths (bases_of m) spec) then first_undone m (base_members (bases_of m) spec) else None)
 
 -- no two records have one key that may not
 abbrev pub keys_differ : (file : List ℕ) → NewLogical → Memory → Result Bool Reply

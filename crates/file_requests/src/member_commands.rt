@@ -5,7 +5,7 @@ ghost use Rattle.memory_journal.specs.declared.journal.TheConstants.{LAST_BEFORE
 ghost use Rattle.member_slots.specs.Members.{member_at};
 ghost use Rattle.library_model.specs.Named.{named};
 ghost use Rattle.library_steps.specs.declared.limits.TheConstants.{LAST_SEQUENCE};
-ghost use Rattle.library_steps.specs.State.{FileState, job_at, memory_of, physical_named};
+ghost use Rattle.library_steps.specs.State.{FileState, job_at, memory_of, physical_among, physical_named};
 ghost use Rattle.library_steps.specs.Refusals.{named_or_refused};
 ghost use Rattle.library_steps.specs.History.{is_running};
 ghost use Rattle.library_steps.specs.Change.{does};
@@ -97,6 +97,7 @@ fn plan_add<'a>(contents: &'a Contents, args: &FileMember) -> Result<&'a File, S
 fn physical_file<'a>(contents: &'a Contents, name: &Name) -> Result<&'a File, Stop>
     ensures found { Shows result (named_or_refused name.now (physical_named name.now (memory_of contents.now.state))) }
     ensures there { IfOk result (λ file. named name.now contents.now.state.files ≡ Some file.now) }
+    ensures among { IfOk result (λ file. physical_among name.now contents.now.state.files ≡ Some file.now) }
 {
     contents.physical_file(name)
 }

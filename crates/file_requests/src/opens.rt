@@ -4,13 +4,14 @@ ghost use Rattle.std.specs.Option.{is_some};
 ghost use Rattle.logical_model.specs.Bases.{LogicalFile, base_members};
 ghost use Rattle.file_catalogue.specs.Owners.{has_number};
 ghost use Rattle.library_model.specs.Named.{named, same_name};
+ghost use Rattle.library_model.specs.declared.replies.Reply.TheVariants.{NotJournaled};
 ghost use Rattle.library_model.specs.declared.limits.TheConstants.{MOST_OPENS};
 ghost use Rattle.library_steps.specs.State.{job_at, job_of, memory_of, open_named};
 ghost use Rattle.library_steps.specs.History.{is_running};
 ghost use Rattle.library_steps.specs.LogicalFiles.{bases_of};
-ghost use Rattle.library_steps.specs.Opens.{close_file, logical_members, may_commit, may_commit_all, members_by, open_file, open_plan, physical_members};
+ghost use Rattle.library_steps.specs.Opens.{close_file, first_unjournaled, logical_members, may_commit, may_commit_all, members_by, open_file, open_plan, physical_members};
 ghost use Rattle.library_steps.specs.Records.{is_file_path};
-ghost use Rattle.library_steps.specs.Refusals.{named_or_refused};
+ghost use Rattle.library_steps.specs.Refusals.{named_or_refused, refuse_with};
 ghost use Rattle.library_parts.specs.Answers.{Allows, Answers, Gives, Shows};
 ghost use Rattle.library_parts.specs.Finds.{OpensBy, OpensMember};
 ghost use Rattle.library_parts.specs.Indexed.{IsReadSo, IsSimple};
@@ -203,12 +204,19 @@ fn may_commit_all(contents: &Contents, job: u32, commit: bool, member: u32) -> R
         return Ok(());
     }
     match contents.level(job) {
+        Some(_) => is_journaled(contents, member),
         None => Err(Stop::Refused(Reply::NoDefinition)),
-        Some(_) if contents.images_of(member).is_none() => {
-            Err(Stop::Refused(Reply::NotJournaled { member }))
-        }
-        Some(_) => Ok(()),
     }
+}
+
+/// The refusal where the member isn't journaled.
+fn is_journaled(contents: &Contents, member: u32) -> Result<(), Stop>
+    ensures { Allows result (refuse_with NotJournaled (first_unjournaled (member ∷ []) (memory_of contents.now.state))) }
+{
+    if contents.images_of(member).is_none() {
+        return Err(Stop::Refused(Reply::NotJournaled { member }));
+    }
+    Ok(())
 }
 
 // ---- CLOF

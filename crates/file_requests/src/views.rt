@@ -6,7 +6,7 @@ ghost use Rattle.library_model.specs.Named.{named};
 ghost use Rattle.library_steps.specs.declared.limits.TheConstants.{LAST_SEQUENCE};
 ghost use Rattle.library_steps.specs.State.{job_at, memory_of};
 ghost use Rattle.library_steps.specs.History.{is_running};
-ghost use Rattle.library_steps.specs.CreateLogicalFile.{create_logical_file, first_undone, is_unique, logical_described, undone_number, with_logical};
+ghost use Rattle.library_steps.specs.CreateLogicalFile.{create_logical_file, first_undone, has_undone, is_unique, logical_described, undone_number, with_logical};
 ghost use Rattle.library_steps.specs.LogicalFiles.{bases_of};
 ghost use Rattle.library_steps.specs.Uses.{changer_of_any};
 ghost use Rattle.library_parts.specs.Answers.{Allows, Answers, Gives, MayAllow};
@@ -14,7 +14,7 @@ ghost use Rattle.library_parts.specs.Files.{IsNewView};
 ghost use Rattle.library_parts.specs.Indexed.{IsSimple};
 ghost use Rattle.library_parts.specs.Rooms.{HasFileRoom};
 ghost use Rattle.file_requests.specs.Effects.{Deposits};
-ghost use Rattle.file_requests.specs.Views.{IsSimpleSource, PlansView, done, keys_differ, may_stand, view_allowed, view_draft, view_named, view_of, view_plan};
+ghost use Rattle.file_requests.specs.Views.{IsSimpleSource, PlansView, allowed_by, done, keys_differ, may_stand, view_allowed, view_draft, view_named, view_of, view_plan};
 
 use crate::create::has_file;
 use dds_logical::{LogicalFault, LogicalSpec};
@@ -22,7 +22,7 @@ use draft_list::{Author, may_deposit, with_room};
 use entry_codec::{Draft, EntryKind, FileKind};
 use field_types::names::Name;
 use field_types::texts::SourceText;
-use file_catalogue::DescribedView;
+use file_catalogue::{DescribedView, MemberStatus};
 use library_model::limits::MOST_FILES;
 use library_model::replies::{LimitKind, Reply};
 use library_model::requests::CreateLogicalFile;
@@ -99,7 +99,7 @@ fn plan_but_keys(
     may_deposit(contents)?;
     may_be_named(contents, &args.file)?;
     let described = view_named(contents, sources, &args.source)?;
-    may_stand(contents, described.spec())?;
+    described_may_stand(contents, &described)?;
     Ok(described)
 }
 
@@ -131,6 +131,7 @@ fn view_named(contents: &Contents, sources: &Sources, source: &Name) -> Result<D
     view_read(contents, sources, source)
 }
 
+#[tactic(auto, unfolding(crate::specs::Views::view_named))]
 fn view_read(contents: &Contents, sources: &Sources, source: &Name) -> Result<DescribedView, Stop>
     ensures { Gives result (view_named sources.now (memory_of contents.now.state) source.now) }
 {
@@ -151,6 +152,15 @@ fn describe_view(contents: &Contents, text: &SourceText) -> Result<DescribedView
     }
 }
 
+/// The same refusals of what was described.
+fn described_may_stand(contents: &Contents, described: &DescribedView) -> Result<(), Stop>
+    requires { IsSimple (LogicalFile described.now.spec) }
+    ensures allowed { MayAllow result (may_stand (memory_of contents.now.state) described.now.spec) }
+    ensures unchanged { OnOk result (changer_of_any (base_members (bases_of (memory_of contents.now.state)) described.now.spec) (memory_of contents.now.state) ≡ None) }
+{
+    may_stand(contents, described.spec())
+}
+
 /// The refusal where its base would have too many paths, an open commit cycle has changed a record of it, or a restart might bring
 /// equal keys back that may not be.
 fn may_stand(contents: &Contents, view: &LogicalSpec) -> Result<(), Stop>
@@ -158,16 +168,27 @@ fn may_stand(contents: &Contents, view: &LogicalSpec) -> Result<(), Stop>
     ensures allowed { MayAllow result (may_stand (memory_of contents.now.state) view.now) }
     ensures unchanged { OnOk result (changer_of_any (base_members (bases_of (memory_of contents.now.state)) view.now) (memory_of contents.now.state) ≡ None) }
 {
-    if contents.has_many_paths(view)? {
+    let many = contents.has_many_paths(view)?;
+    let changer = contents.changer_under(view);
+    let undone = undone_under(contents, view);
+    allowed_by(many, changer, undone)
+}
+
+/// The first refusal of these: too many paths, a job that has changed a record, a member that was changed and isn't journaled.
+fn allowed_by(many: bool, changer: Option<u32>, undone: Option<u32>) -> Result<(), Stop>
+    ensures allowed { Allows result (allowed_by many changer undone) }
+    ensures unchanged { OnOk result (changer ≡ None) }
+{
+    if many {
         return Err(Stop::Refused(Reply::LimitReached {
             which: LimitKind::Paths,
             number: MOST_PATHS as u64,
         }));
     }
-    if let Some(job) = contents.changer_under(view) {
+    if let Some(job) = changer {
         return Err(Stop::Refused(Reply::InUse { job }));
     }
-    if let Some(member) = undone_under(contents, view) {
+    if let Some(member) = undone {
         return Err(Stop::Refused(Reply::NotJournaled { member }));
     }
     Ok(())
@@ -204,11 +225,17 @@ fn is_unique(view: &LogicalSpec) -> bool
 fn undone_number(contents: &Contents, member: u32) -> Option<u32>
     ensures { result ≡ undone_number (memory_of contents.now.state) member }
 {
-    let status = contents.status(member)?;
-    if status.images().is_none() && status.changed() && status.records_then() >= 2 {
-        return Some(status.number());
+    match contents.status(member) {
+        Some(status) => undone_if(has_undone(status), Some(status.number())),
+        None => None,
     }
-    None
+}
+
+/// It isn't journaled, was changed since it was, and had two records or more then.
+fn has_undone(status: MemberStatus) -> bool
+    ensures { result ≡ has_undone status }
+{
+    status.images().is_none() && status.changed() && status.records_then() >= 2
 }
 
 // ---- what takes memory

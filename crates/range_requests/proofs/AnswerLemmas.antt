@@ -7,8 +7,9 @@ use Rattle.library_steps.specs.State.{State, memory_of}
 use Rattle.library_steps.specs.UniqueKeys.{all_apart, unique_paths}
 use Rattle.library_steps.specs.Change.{Change, does, journaled}
 use Rattle.library_steps.specs.Ranges.{RangeWork, range_change, with_range}
-use Rattle.library_parts.specs.Answers.{Answers}
+use Rattle.library_parts.specs.Answers.{Answers, MayAllow}
 use Rattle.library_parts.specs.declared.stop.Stop.{Stop}
+use Rattle.library_parts.specs.declared.stop.Stop.TheVariants.{NoMemory, Refused}
 use Rattle.library_steps.specs.Refusals.{◌>>=◌}
 use Rattle.draft_list.specs.Deposits.{Leaves}
 use Rattle.range_requests.specs.declared.plans.Plan.{Plan}
@@ -51,6 +52,13 @@ pub given-answers : (old new : State) (work : RangeWork) (plan : Plan) → IsPla
     → Leaves old new (plan_change old plan) → Answers old new (Ok (replies.Range plan.first plan.last plan.changes)) (range_answer old work)
 given-answers old new work plan is apart left =
     kept-answers old new (Ok (replies.Range plan.first plan.last plan.changes)) work (keys-given old work plan is ∙ apart) (give-answers old new work plan is left)
+
+-- where it was refused or memory was wanting, nothing has changed
+pub stopped-answers : (old new : State) (work : RangeWork) (plan : Plan) → IsPlanOf old work plan → (stop : Stop) → new ≡ old
+    → MayAllow (Err stop) (all_apart (unique_paths plan.member (memory_of old)) (with_given plan.member plan.given.items (memory_of old))) → Answers old new (Err stop) (range_answer old work)
+stopped-answers old new work plan is NoMemory same apart = same
+stopped-answers old new work plan is (Refused reply) same apart =
+    (same, ap (λ (r : Result Bool Reply). r >>= λ v. Ok (range_change (memory_of old) work)) (keys-given old work plan is ∙ apart))
 
 pub done-answers : (old new : State) (result : Result Reply Stop) (plan : Result RangeWork Reply) (work : RangeWork) → plan ≡ (keys_apart old work >>= λ apart. Ok work)
     → Answers old new result (range_answer old work)

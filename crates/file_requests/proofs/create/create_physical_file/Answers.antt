@@ -8,7 +8,14 @@ use Rattle.library_steps.specs.Change.{does, journaled}
 use Rattle.library_steps.specs.CreatePhysicalFile.{create_change, with_file}
 use Rattle.library_steps.specs.Drafts.{author_of, member_draft}
 use Rattle.draft_list.proofs.DepositLemmas.{Answers-left}
+use Rattle.file_requests.proofs.PhysicalLemmas.{is-new-file}
 use Rattle.file_requests.proofs.create.create_physical_file.Goals as goal
+
+pub apply_create-requires-clause-new : goal.apply_create-requires-clause-new
+apply_create-requires-clause-new c =
+    let described = c.in_ok-described.ensures in
+    is-new-file c.args.contents.now.state c.prepare_create.new.contents.state c.args.args.now.file c.in_ok-described.described c.in_ok-new.new.file c.prepare_create.ensures.state described.absent
+    described.number c.in_ok-new.ensures.file
 
 pub returns : goal.returns
 returns c =

@@ -7,7 +7,13 @@ use Rattle.library_steps.specs.Change.{does}
 use Rattle.library_steps.specs.DeleteFile.{delete_change, deleted}
 use Rattle.library_steps.specs.Drafts.{Author, author_of, library_draft}
 use Rattle.draft_list.proofs.DepositLemmas.{Answers-left}
+use Rattle.file_requests.proofs.DeleteLemmas.{unused-kept}
 use Rattle.file_requests.proofs.delete.delete_file.Goals as goal
+
+pub apply_delete-requires-clause-unused : goal.apply_delete-requires-clause-unused
+apply_delete-requires-clause-unused c =
+    let file = c.in_ok-_file.ensures in
+    unused-kept c.args.contents.now.state c.with_room.new.contents.state c.args.args.now.file c.in_ok-_file._file.now c.with_room.ensures.state file.there file.unused
 
 pub returns : goal.returns
 returns c =

@@ -1,13 +1,19 @@
-use Rattle.std.proofs.Common.{◌≡◌, ◌∙◌, ℕ, [], ◌∷◌, true, ap}
+use Rattle.std.proofs.Common.{◌≡◌, ◌∙◌, ℕ, [], ◌∷◌, true, sym, ap, subst}
 use Rattle.entry_codec.specs.declared.entries.Draft.{Draft}
 use Rattle.entry_codec.specs.declared.kinds.EntryKind.TheVariants.{MemberAdded}
 use Rattle.library_model.specs.declared.replies.Reply.TheVariants.{Done}
-use Rattle.library_steps.specs.State.{FileState, memory_of}
+use Rattle.library_steps.specs.State.{State, FileState, memory_of}
 use Rattle.library_steps.specs.Change.{does, journaled}
 use Rattle.library_steps.specs.MemberCommands.{member_added}
 use Rattle.library_steps.specs.Drafts.{Author, author_of, member_draft}
 use Rattle.draft_list.proofs.DepositLemmas.{Answers-left}
+use Rattle.library_parts.specs.Files.{IsNewMember}
 use Rattle.file_requests.proofs.member_commands.add_member.Goals as goal
+
+pub apply_add-requires-clause-new : goal.apply_add-requires-clause-new
+apply_add-requires-clause-new c =
+    let same = c.reserve_member.ensures.state ∙ c.with_room.ensures.state in
+    subst (λ (s : State). IsNewMember s c.args.args.now) (sym same) c.in_ok-_file.ensures.new
 
 pub returns : goal.returns
 returns c =

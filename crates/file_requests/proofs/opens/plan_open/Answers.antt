@@ -12,7 +12,7 @@ returns-in_err-file-clause-plan c =
 
 pub returns-in_err-member-clause-plan : goal.returns-in_err-member-clause-plan
 returns-in_err-member-clause-plan c =
-    let p = err_from_is_err_and c.from_residual.result c.from_residual.ensures.1 in
+    let p = err_from_is_err_and c.from_residual-in_err-member.result c.from_residual-in_err-member.ensures.1 in
     rw (p.1, p.2)
     (plan-goes (memory_of c.args.contents.now.state) c.args.job c.args.args.now c.in_ok-file.file.now (Err c.in_err-member.field-0.0) c.in_ok-file.ensures.plan c.in_err-member.ensures.plan)
 

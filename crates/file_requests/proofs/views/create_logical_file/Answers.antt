@@ -1,6 +1,11 @@
 use Rattle.library_steps.specs.State.{memory_of}
-use Rattle.file_requests.proofs.ViewLemmas.{view-answers}
+use Rattle.file_requests.proofs.ViewLemmas.{new-kept, view-answers}
 use Rattle.file_requests.proofs.views.create_logical_file.Goals as goal
+
+pub apply_view-added-requires-clause-new : goal.apply_view-added-requires-clause-new
+apply_view-added-requires-clause-new c =
+    new-kept c.args.contents.now.state c.prepare_view.new.contents.state c.args.args.now.file c.in_ok-described.described c.in_ok-new.new.described c.prepare_view.ensures.state c.in_ok-new.ensures.file
+    c.in_ok-described.ensures.new
 
 pub returns : goal.returns
 returns c =

@@ -1,9 +1,16 @@
 use Rattle.std.proofs.Common.{true, refl}
+use Rattle.std.proofs.lemmas.Result.{err_from_is_err_and}
 use Rattle.library_model.specs.declared.replies.Reply.TheVariants as replies
 use Rattle.library_steps.specs.State.{memory_of}
 use Rattle.library_parts.specs.Given.{with_given}
-use Rattle.range_requests.proofs.AnswerLemmas.{given-answers}
+use Rattle.range_requests.proofs.AnswerLemmas.{given-answers, stopped-answers}
 use Rattle.range_requests.proofs.commands.give.Goals as goal
+
+pub returns-in_err-give_slots : goal.returns-in_err-give_slots
+returns-in_err-give_slots c = λ work is.
+    let p = err_from_is_err_and c.from_residual.result c.from_residual.ensures.1 in
+    let kept = c.in_err-give_slots.ensures in
+    rw (p.1, p.2) (stopped-answers c.args.contents.now.state c.give_slots.new.self.state work c.args.plan is c.in_err-give_slots.field-0.0 kept.refused kept.apart)
 
 pub returns : goal.returns
 returns c = λ work is.
