@@ -12,10 +12,10 @@ use Rattle.library_parts.specs.Answers.{Gives}
 use Rattle.record_changes.specs.Images.{IsWrittenIn, fields_under}
 use Rattle.record_changes.proofs.images.image_in.Goals as goal
 
-pub own_image-requires-clause-old : goal.own_image-requires-clause-old
-own_image-requires-clause-old c = λ image is.
+pub own_image-requires : goal.own_image-requires
+own_image-requires c =
     let bases = bases_of (memory_of c.args.contents.now.state) in
-    subst (λ (body : FileBody). HoldsRecord (fields_under bases (spec_in body)) image.now) c.in-Physical.is (c.requires.old image is)
+    record { old = λ image is. subst (λ (body : FileBody). HoldsRecord (fields_under bases (spec_in body)) image.now) c.in-Physical.is (c.requires.old image is) }
 
 pub view_image-requires-clause-written : goal.view_image-requires-clause-written
 view_image-requires-clause-written c =
@@ -36,13 +36,13 @@ returns-in-Physical-clause-holds c =
     let bases = bases_of (memory_of c.args.contents.now.state) in
     subst (λ (body : FileBody). IfOk c.own_image.result (λ image. HoldsRecord (fields_under bases (spec_in body)) image)) (sym c.in-Physical.is) c.own_image.ensures.holds
 
-pub returns-clause-packed : goal.returns-clause-packed
-returns-clause-packed c = λ number.
+pub returns-in-Logical-clause-packed : goal.returns-in-Logical-clause-packed
+returns-in-Logical-clause-packed c = λ number.
     let bases = bases_of (memory_of c.args.contents.now.state) in
     subst (λ (body : FileBody). Gives c.view_image.result (packed (given_in bases (spec_in body) number c.args.given.now (option_copied c.args.old)))) (sym c.in-Logical.is)
     (c.view_image.ensures.packed number)
 
-pub returns-clause-holds : goal.returns-clause-holds
-returns-clause-holds c =
+pub returns-in-Logical-clause-holds : goal.returns-in-Logical-clause-holds
+returns-in-Logical-clause-holds c =
     let bases = bases_of (memory_of c.args.contents.now.state) in
     subst (λ (body : FileBody). IfOk c.view_image.result (λ image. HoldsRecord (fields_under bases (spec_in body)) image)) (sym c.in-Logical.is) c.view_image.ensures.holds

@@ -8,9 +8,10 @@ use Rattle.library_steps.specs.WriteRecord.{packed}
 use Rattle.library_parts.specs.Answers.{Gives}
 use Rattle.record_changes.proofs.images.own_image.Goals as goal
 
-pub packed_image-requires-clause-old : goal.packed_image-requires-clause-old
-packed_image-requires-clause-old c = λ image is.
-    subst (λ (format : Format). HoldsRecord format.fields image.now) (sym c.format.ensures.format) (c.requires.old image is)
+pub packed_image-requires : goal.packed_image-requires
+packed_image-requires c = record {
+  old = λ image is. subst (λ (format : Format). HoldsRecord format.fields image.now) (sym c.format.ensures.format) (c.requires.old image is);
+}
 
 pub returns-clause-packed : goal.returns-clause-packed
 returns-clause-packed c =

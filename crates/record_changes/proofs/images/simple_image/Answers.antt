@@ -1,4 +1,4 @@
-use Rattle.std.proofs.Common.{sym, subst}
+use Rattle.std.proofs.Common.{inl, inr, sym, subst}
 use Rattle.std.specs.Prelude.{IfOk}
 use Rattle.std.specs.Option.{option_copied}
 use Rattle.dds_logical.specs.declared.views.LogicalSpec.{LogicalSpec}
@@ -20,6 +20,13 @@ pub image_over-requires-clause-old : goal.image_over-requires-clause-old
 image_over-requires-clause-old c = λ image is.
     let bases = bases_of (memory_of c.args.contents.now.state) in
     subst (λ (spec : LogicalSpec). HoldsRecord (fields_under bases (LogicalFile spec)) image.now) c.in-Simple.is (c.requires.old image is)
+
+-- nothing is written through a file of several formats, or through a join
+pub unreachable-requires : goal.unreachable-requires
+unreachable-requires c = elim c.in-Multi.is [
+  | inl several ↦ subst (λ (spec : LogicalSpec). IsWrittenIn c.args.contents.now.state.files (LogicalFile spec)) several.1 c.requires.written
+  | inr join ↦ subst (λ (spec : LogicalSpec). IsWrittenIn c.args.contents.now.state.files (LogicalFile spec)) join.1 c.requires.written
+]
 
 pub returns-clause-packed : goal.returns-clause-packed
 returns-clause-packed c = λ number.
