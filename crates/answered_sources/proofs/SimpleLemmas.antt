@@ -1,6 +1,6 @@
 -- What an answered source describes as a logical file has one format over one physical file.
 use Rattle.std.proofs.Common.{◌≡◌, ◌∙◌, refl, sym, ap, subst, arith, ℕ, Bool, true, false, not, ◌&&◌, if◌then◌else◌, nat_lt}
-use Rattle.std.specs.Prelude.{Option, Some, None, IfSome, IsTrue, Result, Ok, List, [], ◌∷◌, ◌++◌, length, map}
+use Rattle.std.specs.Prelude.{Option, Some, None, IfSome, IsTrue, Result, Ok, Err, OnOk, OnErr, List, [], ◌∷◌, ◌++◌, length, map}
 use Rattle.std.proofs.lemmas.Bool.Decides.{nat_tests}
 use Rattle.dds_source.specs.Faults.{first_after}
 use Rattle.dds_source.specs.Reading.{source_of}
@@ -26,6 +26,10 @@ none-right (x ∷ xs) ys h = absurd cc
 and-right : (a b : Bool) → (a && b) ≡ true → b ≡ true
 and-right true b h = h
 and-right false b h = absurd cc
+
+and-both : (a b : Bool) → a ≡ true → b ≡ true → (a && b) ≡ true
+and-both true b here more = more
+and-both false b here more = absurd cc
 
 and-left : (a b : Bool) → (a && b) ≡ true → a ≡ true
 and-left true b h = refl
@@ -81,3 +85,16 @@ named-answered (source ∷ others) name answered =
       | true ↦ and-left (is_answered_text source.text) (are_answered others) answered
       | false ↦ named-answered others name (and-right (is_answered_text source.text) (are_answered others) answered)
     ]
+
+-- one source more that is answered
+pub answered-more : (sources : List NamedSource) (source : NamedSource) → IsTrue (are_answered sources) → IsTrue (is_answered_text source.text) → IsTrue (are_answered (sources ++ source ∷ []))
+answered-more [] source all here = and-both (is_answered_text source.text) true here refl
+answered-more (first ∷ others) source all here =
+    and-both (is_answered_text first.text) (are_answered (others ++ source ∷ [])) (and-left (is_answered_text first.text) (are_answered others) all)
+    (answered-more others source (and-right (is_answered_text first.text) (are_answered others) all) here)
+
+-- where it was added, or memory ran out
+pub answered-pushed : {E : Type 0} (r : Result (Unit {0}) E) (old new : List NamedSource) (source : NamedSource) → OnOk r (new ≡ old ++ source ∷ []) → OnErr r (new ≡ old)
+    → IsTrue (is_answered_text source.text) → IsTrue (are_answered old) → IsTrue (are_answered new)
+answered-pushed (Ok done) old new source pushed unchanged here all = subst (λ (s : List NamedSource). IsTrue (are_answered s)) (sym pushed) (answered-more old source all here)
+answered-pushed (Err e) old new source pushed unchanged here all = subst (λ (s : List NamedSource). IsTrue (are_answered s)) (sym unchanged) all

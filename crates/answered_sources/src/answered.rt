@@ -4,13 +4,14 @@ ghost use Rattle.std.specs.Option.{option_copied};
 ghost use Rattle.dds_source.specs.Reading.{is_record};
 ghost use Rattle.dds_physical.specs.Keywords.{has_name};
 ghost use Rattle.dds_logical.specs.FormatLines.{based_on, formats_in, is_join_file, is_join_keyword, is_multi_format};
-ghost use Rattle.answered_sources.specs.Answered.{has_one_view, is_answered_text};
+ghost use Rattle.answered_sources.specs.Answered.{AreAnswered, has_one_view, is_answered_text};
 
 use dds_source::faults::SourceError;
 use dds_source::keywords::Keyword;
 use dds_source::read_source;
 use dds_source::specifications::{Specification, SpecificationKind};
 use field_types::texts::SourceText;
+use library_model::sources::{NamedSource, Sources};
 use std::alloc::{AllocError, Global};
 
 /// Whether a text is no source, or one of a single record format that is no join.
@@ -23,6 +24,21 @@ pub fn is_answered(alloc: Global, text: &SourceText) -> Result<bool, AllocError>
         Ok(source) => Ok(has_one_view(source.specifications.as_slice())),
         Err(SourceError::Fault(_)) => Ok(true),
         Err(SourceError::NoMemory) => Err(AllocError),
+    }
+}
+
+/// Adds a source where it is answered, and leaves it where it isn't.
+pub fn add_answered(
+    alloc: Global,
+    sources: &mut Sources,
+    source: NamedSource,
+) -> Result<(), AllocError>
+    ensures { AreAnswered sources.old → AreAnswered sources.new }
+{
+    if is_answered(alloc, &source.text)? {
+        sources.push(source)
+    } else {
+        Ok(())
     }
 }
 

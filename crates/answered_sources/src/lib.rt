@@ -5,4 +5,4 @@
 pub mod answered;
 pub mod laws;
 
-pub use answered::is_answered;
+pub use answered::{add_answered, is_answered};
