@@ -13,7 +13,10 @@ const COMMANDS: Rows = &[
         "commands have capital letters: WRITE",
     ),
     ("Readp OPNID(A)", "commands have capital letters: READP"),
-    ("crtlf FILE(A) SRC(A)", "commands have capital letters: CRTLF"),
+    (
+        "crtlf FILE(A) SRC(A)",
+        "commands have capital letters: CRTLF",
+    ),
     ("CHKPT", "CHKPT isn't built yet"),
     (
         "ENDJOB",

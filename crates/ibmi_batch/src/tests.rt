@@ -358,7 +358,11 @@ const FAULTS: [(usize, &str, u32); 29] = [
     (1, "//DDS CUST\r", 1),
     (1, "//END", 2),
     (1, "//JOB J1", 2),
-    (3, "     A          R CUSTV                     PFILE(CUST)", 1),
+    (
+        3,
+        "     A          R CUSTV                     PFILE(CUST)",
+        1,
+    ),
     (4, "//JOB", 4),
     (4, "//JOB J1 J2", 4),
     (5, "CRTPF FILE(CUST)", 5),

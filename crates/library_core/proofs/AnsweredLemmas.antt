@@ -28,6 +28,7 @@ described-simple m text answered = by (source_of text) refl
     made : (source : Source) (r : Result LogicalSpec DdsFault) → source_of text ≡ Ok source → logical_of (λ name. physical_spec name m) source ≡ r → IfOk r (λ spec. IsSimple (LogicalFile spec))
     made source (Ok spec) read is = simple-is spec (text-simple (λ name. physical_spec name m) text source spec answered read is)
     made source (Err fault) read is = tt
+
     by : (r : Result Source DdsFault) → source_of text ≡ r → IfOk (logical_by (λ name. physical_spec name m) r) (λ spec. IsSimple (LogicalFile spec))
     by (Ok source) read = made source (logical_of (λ name. physical_spec name m) source) read refl
     by (Err fault) read = tt
