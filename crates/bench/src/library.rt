@@ -17,13 +17,14 @@ pub(crate) struct Bench {
 
 impl Model for Bench {
     ghost use Rattle.std.specs.Prelude.{ℕ};
+    ghost use Rattle.answered_sources.specs.Answered.{AreAnswered};
     ghost use Rattle.library_core.specs.Stands.{IsReady};
 
     ghost Value = { ℕ };
 
     ghost view = { λ b. b.job };
 
-    ghost invariant = { λ b. IsReady b.job b.library };
+    ghost invariant = { λ b. IsReady b.job b.library × AreAnswered b.sources };
 }
 
 impl Bench {

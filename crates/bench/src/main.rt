@@ -1,4 +1,4 @@
-//! `bench [--times] N [WORKLOAD]`: measures the record requests over a keyed physical file of N records, by the public call of the
+//! `bench [--times] N [WORKLOAD]`: measures the record requests over a keyed file of N records, by the public call of the
 //! library. What is measured stands in `workloads.rt`, the library with its job in `library.rt`.
 #![tactic(auto)]
 

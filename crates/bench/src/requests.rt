@@ -1,14 +1,16 @@
-//! The requests that are made, on one file.
-ghost use Rattle.std.specs.Prelude.{◌≡◌, false, IsTrue};
+//! The requests that are made, on one file and a view of it.
+ghost use Rattle.std.specs.Prelude.{◌≡◌, false, IfOk, IsTrue};
+ghost use Rattle.answered_sources.specs.Answered.{AreAnswered};
 ghost use Rattle.built_requests.specs.Built.{is_built};
 ghost use Rattle.library_model.specs.Ending.{is_end_job};
 
+use answered_sources::add_answered;
 use field_types::names::Name;
 use field_types::texts::{SourceText, Text};
 use field_types::values::{Dec, Value};
 use library_model::requests::{
-    AccessPath, ChainRecord, ChainTo, CreatePhysicalFile, Limit, LockOption, OpenFile, OpenName,
-    OpenOption, ReadRecord, Request, SetPosition, UpdateRecord, WriteRecord,
+    AccessPath, ChainRecord, ChainTo, CreateLogicalFile, CreatePhysicalFile, Limit, LockOption,
+    OpenFile, OpenName, OpenOption, ReadRecord, Request, SetPosition, UpdateRecord, WriteRecord,
 };
 use library_model::sources::{NamedSource, Sources};
 use library_model::value_lists::{GivenValues, Values};
@@ -20,6 +22,11 @@ const SOURCE: &str = "     A                                      UNIQUE
      A            NUMBER         9P 0
      A            NAME          20A
      A          K NUMBER
+";
+
+/// A view of it: the last number first.
+const VIEW: &str = "     A          R BENCHVR                   PFILE(BENCH)
+     A          K NUMBER                    DESCEND
 ";
 
 /// What each record is called, in code page 037: NAME.
@@ -43,11 +50,12 @@ impl PlainRequest {
     }
 }
 
-/// Makes the requests on the file. Source, file, member, open and job have one name.
+/// Makes the requests on the file and its view. Source, file, member, open and job have one name, and the view another.
 #[derive(Clone, Copy)]
 pub(crate) struct Asker {
     alloc: Global,
     name: Name,
+    view: Name,
 }
 
 impl Asker {
@@ -56,6 +64,7 @@ impl Asker {
         Asker {
             alloc,
             name: Name::from_bytes(b"BENCH").unwrap(),
+            view: Name::from_bytes(b"BENCHV").unwrap(),
         }
     }
 
@@ -69,14 +78,21 @@ impl Asker {
         &self.name
     }
 
-    /// The file's source.
-    pub(crate) fn sources(&self) -> Result<Sources, AllocError> {
+    /// The sources of the file and of its view.
+    pub(crate) fn sources(&self) -> Result<Sources, AllocError>
+        ensures { IfOk result (λ sources. AreAnswered sources) }
+    {
         let mut sources = Sources::new(self.alloc);
-        sources.push(NamedSource {
-            name: self.name,
-            text: SourceText::from_slice(self.alloc, SOURCE.as_bytes())?,
-        })?;
+        self.add_source(&mut sources, self.name, SOURCE)?;
+        self.add_source(&mut sources, self.view, VIEW)?;
         Ok(sources)
+    }
+
+    fn add_source(&self, sources: &mut Sources, name: Name, text: &str) -> Result<(), AllocError>
+        ensures { AreAnswered sources.old → AreAnswered sources.new }
+    {
+        let text = SourceText::from_slice(self.alloc, text.as_bytes())?;
+        add_answered(self.alloc, sources, NamedSource { name, text })
     }
 
     /// CRTPF: makes the file and its member.
@@ -85,6 +101,16 @@ impl Asker {
             request: Request::CreatePhysicalFile(CreatePhysicalFile {
                 file: self.name,
                 source: self.name,
+            }),
+        }
+    }
+
+    /// CRTLF: makes the view.
+    pub(crate) fn create_view(&self) -> PlainRequest {
+        PlainRequest {
+            request: Request::CreateLogicalFile(CreateLogicalFile {
+                file: self.view,
+                source: self.view,
             }),
         }
     }

@@ -14,6 +14,8 @@ use std::time::{Duration, Instant};
 pub(crate) enum Workload {
     /// WRITE of every record.
     Write,
+    /// The same, with a second access path over the member: that of a view.
+    View,
     /// READ of every record in the order of the keys.
     Read,
     /// CHAIN by key to every record, for update.
@@ -24,8 +26,9 @@ pub(crate) enum Workload {
     Delete,
 }
 
-const WORKLOADS: [Workload; 5] = [
+const WORKLOADS: [Workload; 6] = [
     Workload::Write,
+    Workload::View,
     Workload::Read,
     Workload::Chain,
     Workload::Update,
@@ -37,10 +40,19 @@ impl Workload {
     fn name(self) -> &'static str {
         match self {
             Workload::Write => "write",
+            Workload::View => "view",
             Workload::Read => "read",
             Workload::Chain => "chain",
             Workload::Update => "update",
             Workload::Delete => "delete",
+        }
+    }
+
+    /// Whether it is of records that were written before.
+    fn reads(self) -> bool {
+        match self {
+            Workload::Write | Workload::View => false,
+            Workload::Read | Workload::Chain | Workload::Update | Workload::Delete => true,
         }
     }
 
@@ -97,7 +109,10 @@ fn measure<R: Clock>(
     workload: Workload,
 ) -> Result<Measured> {
     ask(bench, &[asker.create(), asker.open()])?;
-    if workload != Workload::Write {
+    if workload == Workload::View {
+        ask(bench, &[asker.create_view()])?;
+    }
+    if workload.reads() {
         ask(bench, writes(asker, records)?.as_slice())?;
         ask(bench, &[asker.to_start()])?;
     }
@@ -127,7 +142,7 @@ fn requests_of(
     workload: Workload,
 ) -> Result<Vec<PlainRequest>, AllocError> {
     match workload {
-        Workload::Write => writes(asker, records),
+        Workload::Write | Workload::View => writes(asker, records),
         Workload::Read => reads(asker, records),
         Workload::Chain => chains(asker, records),
         Workload::Update => updates(asker, records),

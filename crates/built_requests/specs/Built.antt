@@ -1,11 +1,11 @@
--- Which requests the library answers so far: all but CRTLF and CHKPT, and so none through a logical file.
+-- Which requests the library answers so far: all but CHKPT.
 use Rattle.std.specs.Prelude.{Bool, true, false}
 use Rattle.library_model.specs.declared.requests.Request.{Request}
 use Rattle.library_model.specs.declared.requests.Request.TheVariants.{CreatePhysicalFile, CreateLogicalFile, DeleteFile, AddMember, ClearMember, ReorganizeMember, StartJournaling, EndJournaling, ChangeJournal, DeleteReceiver, Checkpoint, DisplayJournal, ApplyChanges, RemoveChanges, StartCommitment, EndCommitment, Commit, Rollback, OpenFile, CloseFile, SetLowerLimit, SetGreaterThan, Read, ReadPrior, ReadEqual, ReadPriorEqual, Chain, Write, Update, Delete, Unlock, EndJob}
 
 abbrev pub is_built : Request → Bool
 is_built (CreatePhysicalFile args) = true
-is_built (CreateLogicalFile args) = false
+is_built (CreateLogicalFile args) = true
 is_built (DeleteFile args) = true
 is_built (AddMember args) = true
 is_built (ClearMember args) = true

@@ -4,6 +4,9 @@ use crate::job_lines::JobLines;
 use crate::lines::{InputLine, card_before, is_card, section};
 use crate::names::name_hint;
 use crate::words::{first_word, has_word, in_capitals, next_word, trimmed, unindented};
+use answered_sources::is_answered;
+use field_types::texts::SourceText;
+use std::alloc::{AllocError, Global};
 use text_lines::lines::split_line;
 
 const CARDS: &[u8] = b"//DDS //JOB //SCHED //END";
@@ -14,17 +17,34 @@ const MOST_SOURCES: usize = 1_000;
 const MOST_JOBS: usize = 64;
 
 /// What is wrong with a line that begins as cards do.
-pub(crate) fn card_hint<'a>(input: &'a [u8], card: InputLine<'a>) -> Option<Hint<'a>> {
+pub(crate) fn card_hint<'a>(
+    alloc: Global,
+    input: &'a [u8],
+    card: InputLine<'a>,
+) -> Result<Option<Hint<'a>>, AllocError> {
     if let Some(hint) = word_hint(card.text) {
-        return Some(hint);
+        return Ok(Some(hint));
     }
     if let Some(hint) = earlier_hint(input, card) {
-        return Some(hint);
+        return Ok(Some(hint));
     }
     if let Some(hint) = open_block_hint(input, card.number) {
-        return Some(hint);
+        return Ok(Some(hint));
     }
-    number_hint(card.text)
+    if is_unanswered(alloc, card)? {
+        return Ok(Some(Hint::Plain(b"a join or a file of several record formats isn't built yet")));
+    }
+    Ok(number_hint(card.text))
+}
+
+/// Whether it is the card of a source that can't be made a file yet.
+fn is_unanswered(alloc: Global, card: InputLine<'_>) -> Result<bool, AllocError> {
+    if first_word(card.text).0 != b"//DDS".as_slice() {
+        return Ok(false);
+    }
+    let source = SourceText::from_slice(alloc, section(card.after))?;
+    let answered = is_answered(alloc, &source)?;
+    Ok(!answered)
 }
 
 /// What is left to be wrong with the card of a source or a job: that there are too many.

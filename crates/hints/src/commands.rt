@@ -23,6 +23,7 @@ const COMMANDS: &[(&[u8], &[u8], &[u8])] = &[
     (b"MONMSG", b"MSGID EXEC", b"MSGID"),
     (b"RETURN", b"", b""),
     (b"CRTPF", b"FILE SRC", b"FILE SRC"),
+    (b"CRTLF", b"FILE SRC", b"FILE SRC"),
     (b"DLTF", b"FILE", b"FILE"),
     (b"ADDPFM", b"FILE MBR", b"FILE"),
     (b"CLRPFM", b"FILE MBR", b"FILE"),
@@ -53,8 +54,8 @@ const COMMANDS: &[(&[u8], &[u8], &[u8])] = &[
     (b"CHAIN", b"OPNID KEY RRN LCK TO", b"OPNID"),
 ];
 
-/// The commands that aren't built yet.
-const TO_COME: &[u8] = b"CRTLF CHKPT";
+/// The command that isn't built yet.
+const TO_COME: &[u8] = b"CHKPT";
 
 /// The command of a word that may be run.
 pub(crate) fn command_named(word: &[u8]) -> Option<CommandWords> {

@@ -13,7 +13,10 @@ const COMMANDS: Rows = &[
         "commands have capital letters: WRITE",
     ),
     ("Readp OPNID(A)", "commands have capital letters: READP"),
-    ("CRTLF FILE(A) SRC(A)", "CRTLF isn't built yet"),
+    (
+        "crtlf FILE(A) SRC(A)",
+        "commands have capital letters: CRTLF",
+    ),
     ("CHKPT", "CHKPT isn't built yet"),
     (
         "ENDJOB",

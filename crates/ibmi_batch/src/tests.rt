@@ -358,6 +358,11 @@ const FAULTS: [(usize, &str, u32); 29] = [
     (1, "//DDS CUST\r", 1),
     (1, "//END", 2),
     (1, "//JOB J1", 2),
+    (
+        3,
+        "     A          R CUSTV                     PFILE(CUST)",
+        1,
+    ),
     (4, "//JOB", 4),
     (4, "//JOB J1 J2", 4),
     (5, "CRTPF FILE(CUST)", 5),
@@ -371,7 +376,6 @@ const FAULTS: [(usize, &str, u32); 29] = [
     (8, "CHAIN OPNID(CUST) RRN() LCK(*NO)", 8),
     (8, "CHAIN OPNID(CUST) RRN(-1) LCK(*NO)", 8),
     (8, "CHAIN OPNID(CUST) RRN(4294967296) LCK(*NO)", 8),
-    (8, "CRTLF FILE(VIEW) SRC(CUST)", 8),
     (8, "CHKPT", 8),
     (9, "//END ", 9),
     (9, "//end", 9),
@@ -379,7 +383,7 @@ const FAULTS: [(usize, &str, u32); 29] = [
 ];
 
 /// A line of the first input, and what may stand there in its place without a fault.
-const VARIANTS: [(usize, &str, u32); 13] = [
+const VARIANTS: [(usize, &str, u32); 14] = [
     (1, "//DDS \t CUST \t", 0),
     (4, "//JOB\t@J_.9", 0),
     (5, "", 0),
@@ -393,6 +397,7 @@ const VARIANTS: [(usize, &str, u32); 13] = [
     (8, "CHAIN OPNID(CUST) RRN(4294967295) LCK(*NO)", 0),
     (8, "CHAIN OPNID(CUST) RRN(1) LCK(*DFT)", 0),
     (8, "UPDATE OPNID(CUST) VAL('A')", 0),
+    (8, "CRTLF FILE(VIEW) SRC(CUST)", 0),
 ];
 
 /// The text of each status.

@@ -1,3 +1,4 @@
+mod AnsweredLemmas
 mod InputLemmas
 mod JobLemmas
 mod LeastLemmas

@@ -5,3 +5,4 @@ pub mod input;
 mod jobs;
 mod schedules;
 mod sources;
+mod unanswered;

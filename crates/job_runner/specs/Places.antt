@@ -8,6 +8,7 @@ use Rattle.library_core.specs.Parts.{LibraryOver}
 use Rattle.library_steps.specs.State.{State, JobState, job_at, new_job}
 use Rattle.library_steps.specs.History.{is_running}
 use Rattle.library_model.specs.Ending.{is_end_job}
+use Rattle.answered_sources.specs.Answered.{AreAnswered}
 use Rattle.joint_state.specs.Sound.{IsSound}
 use Rattle.library_model.specs.declared.limits.TheConstants.{MOST_JOBS}
 use Rattle.input_scripts.specs.declared.Scripts.{Scripts}
@@ -53,9 +54,10 @@ pub record IsPlace (scripts : List Script) (jobs : List JobState) (calls : List 
 abbrev pub unended : List Place → ℕ
 unended kept = count_by (λ place. not place.ended) kept
 
--- a sound library, each job's place, and room in the history for the ENDJOB of each job
+-- a sound library, sources that can be made a file so far, each job's place, and room in the history for the ENDJOB of each job
 pub record IsSession (scripts : Scripts) (state : State) (calls : List Call) (room : ℕ) (kept : List Place) : Type 0 where
   pub sound : IsSound state
+  pub answered : AreAnswered scripts.sources
   pub askable : IsTrue (list_all is_askable_script scripts.scripts)
   pub jobs : length kept ≡ length scripts.scripts
   pub few : length scripts.scripts ≤ MOST_JOBS

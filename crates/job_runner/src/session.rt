@@ -5,6 +5,7 @@ ghost use Rattle.library_model.specs.declared.limits.TheConstants.{MOST_JOBS};
 ghost use Rattle.library_model.specs.declared.calls.Call.{Call};
 ghost use Rattle.library_model.specs.declared.replies.Reply.{Reply as ReplyValue};
 ghost use Rattle.library_steps.specs.State.{empty_library, new_job};
+ghost use Rattle.answered_sources.specs.Answered.{AreAnswered};
 ghost use Rattle.built_requests.specs.Built.{is_built};
 ghost use Rattle.library_model.specs.Ending.{is_end_job};
 ghost use Rattle.job_runner.specs.declared.session.Stepped.TheVariants.{Called, Ended, Stopped};
@@ -93,6 +94,7 @@ impl<S: Store, C: Clock> Session<S, C> {
         scripts: Scripts,
     ) -> Result<Session<S, C>, (Library<S>, C)>
         requires empty { library.state ≡ empty_library }
+        requires answered { AreAnswered scripts.sources }
         requires askable { IsTrue (list_all is_askable_script scripts.scripts) }
         requires named { length scripts.names ≡ length scripts.scripts }
         requires few { length scripts.scripts ≤ MOST_JOBS }

@@ -13,8 +13,9 @@ fn is_built(request: &Request) -> bool
     ensures { result ≡ is_built request.now }
 {
     match request {
-        Request::CreateLogicalFile(_) | Request::Checkpoint => false,
+        Request::Checkpoint => false,
         Request::CreatePhysicalFile(_)
+        | Request::CreateLogicalFile(_)
         | Request::DeleteFile(_)
         | Request::AddMember(_)
         | Request::ClearMember(_)

@@ -1,9 +1,10 @@
--- What the requests on files and members leave: CRTPF, DLTF, ADDPFM, CLRPFM, RGZPFM, STRJRNPF and ENDJRNPF.
+-- What the requests on files and members leave: CRTPF, CRTLF, DLTF, ADDPFM, CLRPFM, RGZPFM, STRJRNPF and ENDJRNPF.
 use Rattle.std.proofs.Common.{◌≡◌, ℕ, ◌+◌, nat_le, nat_lt, not, List, [], ◌∷◌, Option, Result, Ok, Err, length, refl}
 use Rattle.std.specs.Option.{is_some}
 use Rattle.entry_codec.specs.declared.kinds.EntryKind.{EntryKind}
 use Rattle.entry_codec.specs.declared.kinds.EntryKind.TheVariants.{MemberCleared, MemberReorganized}
 use Rattle.member_slots.specs.Member.{MemberState, cleared, reorganized}
+use Rattle.library_model.specs.declared.requests.CreateLogicalFile.{CreateLogicalFile}
 use Rattle.library_model.specs.declared.requests.CreatePhysicalFile.{CreatePhysicalFile}
 use Rattle.library_model.specs.declared.requests.DeleteFile.{DeleteFile}
 use Rattle.library_model.specs.declared.requests.FileMember.{FileMember}
@@ -11,6 +12,7 @@ use Rattle.library_model.specs.declared.requests.StartJournaling.{StartJournalin
 use Rattle.library_model.specs.declared.sources.NamedSource.{NamedSource}
 use Rattle.library_steps.specs.State.{Memory, MemberStatus}
 use Rattle.library_steps.specs.CreatePhysicalFile.{create_plan, create_change, create_physical_file}
+use Rattle.library_steps.specs.CreateLogicalFile.{create_logical_plan, create_logical_change, create_logical_file}
 use Rattle.library_steps.specs.DeleteFile.{delete_plan, delete_change, delete_file}
 use Rattle.library_steps.specs.MemberCommands.{renumbering, empty_plan, add_member, clear_member, reorganize_member}
 use Rattle.library_steps.specs.Journaling.{start_journaling, end_journaling}
@@ -23,6 +25,14 @@ pub create_physical_file-spares : (sources : List NamedSource) (m : Memory) (job
     → Holds (create_physical_file sources m job timestamp args) (SparesIn m)
 create_physical_file-spares sources m job timestamp args =
     does-holds (create_change m job timestamp args) (create_plan sources m args) (SparesIn m) (each-holds (create_plan sources m args) _ (λ new. spares-all m.jobs))
+
+-- ---- CRTLF
+
+pub create_logical_file-spares : (sources : List NamedSource) (m : Memory) (job timestamp : ℕ) (args : CreateLogicalFile)
+    → Holds (create_logical_file sources m job timestamp args) (SparesIn m)
+create_logical_file-spares sources m job timestamp args =
+    does-holds (create_logical_change m job timestamp args) (create_logical_plan sources m args) (SparesIn m)
+    (each-holds (create_logical_plan sources m args) _ (λ new. spares-all m.jobs))
 
 -- ---- DLTF
 

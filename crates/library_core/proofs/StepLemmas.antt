@@ -18,7 +18,7 @@ use Rattle.library_core.specs.Running.{runs_after}
 use Rattle.library_core.proofs.RunLemmas.{runs-ended, runs-on}
 use Rattle.library_core.proofs.SpareLemmas.{SparesIn}
 use Rattle.library_core.proofs.ResultLemmas.{Holds, wider-holds}
-use Rattle.library_core.proofs.FileSteps.{create_physical_file-spares, delete_file-spares, add_member-spares, clear_member-spares, reorganize_member-spares, start_journaling-spares, end_journaling-spares}
+use Rattle.library_core.proofs.FileSteps.{create_physical_file-spares, create_logical_file-spares, delete_file-spares, add_member-spares, clear_member-spares, reorganize_member-spares, start_journaling-spares, end_journaling-spares}
 use Rattle.library_core.proofs.RecordSteps.{open_file-spares, close_file-spares, write_record-spares, update_record-spares, delete_record-spares, unlock-spares, set_lower_limit-spares, set_greater_than-spares, read-spares, read_prior-spares, read_equal-spares, read_prior_equal-spares, chain-spares}
 use Rattle.library_core.proofs.JournalSteps.{change_journal-spares, delete_receiver-spares, display_journal-spares, apply_changes-spares, remove_changes-spares, start_commitment-spares, end_commitment-spares, commit-spares, rollback-spares, taken_back-jobs}
 
@@ -45,7 +45,7 @@ module _ (sources : List NamedSource) (entries : List Entry) (m : Memory) (job t
   pub change-leaves : (r : Request) → IsTrue (is_built r) → Holds (change sources entries m job timestamp r) (Leaves job r m)
   unfolding change
   change-leaves (request.CreatePhysicalFile args) built = spared (request.CreatePhysicalFile args) _ refl (create_physical_file-spares sources m job timestamp args)
-  change-leaves (request.CreateLogicalFile args) built = absurd cc
+  change-leaves (request.CreateLogicalFile args) built = spared (request.CreateLogicalFile args) _ refl (create_logical_file-spares sources m job timestamp args)
   change-leaves (request.DeleteFile args) built = spared (request.DeleteFile args) _ refl (delete_file-spares m job timestamp args)
   change-leaves (request.AddMember args) built = spared (request.AddMember args) _ refl (add_member-spares m job timestamp args)
   change-leaves (request.ClearMember args) built = spared (request.ClearMember args) _ refl (clear_member-spares m job timestamp args)

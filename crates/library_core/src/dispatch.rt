@@ -1,19 +1,21 @@
 //! What a request asks for: each of them of the crate that does it.
 ghost use Rattle.std.specs.Prelude.{IsTrue, IsErrOf};
+ghost use Rattle.answered_sources.specs.Answered.{AreAnswered};
 ghost use Rattle.built_requests.specs.Built.{is_built};
 ghost use Rattle.library_model.specs.NeedsMemory.{needs_memory};
 ghost use Rattle.library_steps.specs.State.{memory_of, job_at, job_of};
 ghost use Rattle.library_steps.specs.History.{is_running};
 ghost use Rattle.library_steps.specs.Step.{change};
 ghost use Rattle.library_steps.specs.Uses.{changes_in};
+ghost use Rattle.joint_state.specs.Views.{HaveDefaults};
 ghost use Rattle.library_parts.specs.Answers.{Answers};
 ghost use Rattle.library_parts.specs.Standing.{StandAsMade};
 ghost use Rattle.library_parts.specs.declared.stop.Stop.TheVariants.{NoMemory};
 
 use commitment_requests::{commit, end_commitment, end_job, rollback, start_commitment};
 use file_requests::{
-    add_member, clear_member, close_file, create_physical_file, delete_file, end_journaling,
-    open_file, reorganize_member, start_journaling,
+    add_member, clear_member, close_file, create_logical_file, create_physical_file, delete_file,
+    end_journaling, open_file, reorganize_member, start_journaling,
 };
 use journal_requests::{change_journal, delete_receiver, display_journal};
 use library_model::replies::Reply;
@@ -37,6 +39,8 @@ pub(crate) fn perform(
 ) -> Result<Reply, Stop>
     requires running { IsTrue (is_running (job_at job contents.old.state.jobs)) }
     requires built { IsTrue (is_built request.now) }
+    requires answered { AreAnswered sources.now }
+    requires defaults { HaveDefaults contents.old.state.files }
     requires stand { StandAsMade (changes_in (job_of job (memory_of contents.old.state)).cycle) contents.old.state.members }
     ensures step { Answers contents.old.state contents.new.state result (change sources.now contents.old.state.entries (memory_of contents.old.state) job timestamp request.now) }
     ensures memory { IsErrOf result NoMemory → IsTrue (needs_memory request.now) }
@@ -44,6 +48,9 @@ pub(crate) fn perform(
     match request {
         Request::CreatePhysicalFile(args) => {
             create_physical_file(contents, job, timestamp, sources, args)
+        }
+        Request::CreateLogicalFile(args) => {
+            create_logical_file(contents, job, timestamp, sources, args)
         }
         Request::DeleteFile(args) => delete_file(contents, job, timestamp, args),
         Request::AddMember(args) => add_member(contents, job, timestamp, args),
@@ -74,6 +81,6 @@ pub(crate) fn perform(
         Request::Delete(args) => delete_record(contents, job, timestamp, args),
         Request::Unlock(args) => unlock(contents, job, args),
         Request::EndJob(_) => end_job(contents, job, timestamp),
-        Request::CreateLogicalFile(_) | Request::Checkpoint => unreachable!(),
+        Request::Checkpoint => unreachable!(),
     }
 }

@@ -1,5 +1,6 @@
 //! The library over a store, and the one call on it. What each request does is asked for in `dispatch.rt`.
 ghost use Rattle.std.specs.Prelude.{◌≡◌, ℕ, false, ◌+◌, ◌<◌, ◌∷◌, [], ◌++◌, length, IsTrue, IfOk, OnOk, OnErr};
+ghost use Rattle.answered_sources.specs.Answered.{AreAnswered};
 ghost use Rattle.built_requests.specs.Built.{is_built};
 ghost use Rattle.joint_state.specs.Sound.{IsSound};
 ghost use Rattle.library_steps.specs.State.{State, empty_library, job_at, new_job};
@@ -98,6 +99,7 @@ pub fn call<S: Store>(
 ) -> Reply
     requires ready { IsReady job library.old }
     requires built { IsTrue (is_built request.now) }
+    requires answered { AreAnswered sources.now }
     ensures goes { (s : State) → Stands library.old s → Goes sources.now library.new s (record { job = job; timestamp = timestamp; request = request.now; reply = result }) }
     ensures running { (other : ℕ) → is_running (job_at other library.new.state.jobs) ≡ runs_after job request.now library.old.state.jobs other }
     ensures kept { IsSound library.new.state }

@@ -44,6 +44,8 @@ pub enum Refusal {
     InUse(u32),
     NotJournaled(u32),
     PlaceInUse(u32),
+    /// The file, and the relative record number.
+    DuplicateKey(&'static str, u32),
     HeldByGroup(u32),
     HeldToBoundary,
     StillNeeded(u64),
@@ -119,6 +121,9 @@ fn is_refusal(reply: &Reply, refusal: Refusal) -> bool {
         (Reply::InUse { job }, Refusal::InUse(wanted)) => *job == wanted,
         (Reply::NotJournaled { member }, Refusal::NotJournaled(wanted)) => *member == wanted,
         (Reply::PlaceInUse { rrn }, Refusal::PlaceInUse(wanted)) => *rrn == wanted,
+        (Reply::DuplicateKey { file, rrn }, Refusal::DuplicateKey(wanted, at)) => {
+            is_named(file, wanted) && *rrn == at
+        }
         (Reply::HeldByGroup { rrn }, Refusal::HeldByGroup(wanted)) => *rrn == wanted,
         (Reply::HeldToBoundary, Refusal::HeldToBoundary) => true,
         (Reply::StillNeeded { sequence }, Refusal::StillNeeded(wanted)) => *sequence == wanted,

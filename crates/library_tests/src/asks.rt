@@ -9,9 +9,9 @@ use field_types::names::Name;
 use field_types::texts::Text;
 use field_types::values::{Dec, Value};
 use library_model::requests::{
-    AccessPath, ChainRecord, ChainTo, CreatePhysicalFile, DeleteFile, DeleteReceiver,
-    DisplayJournal, FileMember, JournaledChanges, Limit, LockOption, OpenFile, OpenName,
-    OpenOption, RangeEnd, ReadEqual, ReadRecord, Request, SetPosition, StartCommitment,
+    AccessPath, ChainRecord, ChainTo, CreateLogicalFile, CreatePhysicalFile, DeleteFile,
+    DeleteReceiver, DisplayJournal, FileMember, JournaledChanges, Limit, LockOption, OpenFile,
+    OpenName, OpenOption, RangeEnd, ReadEqual, ReadRecord, Request, SetPosition, StartCommitment,
     StartJournaling, UpdateRecord, WriteRecord,
 };
 use library_model::value_lists::{GivenValues, Values};
@@ -37,6 +37,8 @@ pub enum Given {
 pub enum FileAsk {
     /// CRTPF FILE SRC
     Create(&'static str, &'static str),
+    /// CRTLF FILE SRC
+    CreateLogical(&'static str, &'static str),
     /// DLTF FILE
     Delete(&'static str),
     /// ADDPFM FILE MBR
@@ -199,6 +201,10 @@ fn file_request(ask: FileAsk) -> Option<Request>
 {
     Some(match ask {
         FileAsk::Create(file, source) => Request::CreatePhysicalFile(CreatePhysicalFile {
+            file: named(file)?,
+            source: named(source)?,
+        }),
+        FileAsk::CreateLogical(file, source) => Request::CreateLogicalFile(CreateLogicalFile {
             file: named(file)?,
             source: named(source)?,
         }),

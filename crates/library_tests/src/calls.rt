@@ -1,6 +1,7 @@
 //! Tables of calls: each reply against the one that the manual's rules give by hand, and that memory is left for each.
-//! The tables stand in `tables.rt`, `setups.rt`, `cycles.rt`, `ranges.rt` and `undone.rt`.
+//! The tables stand in `tables.rt`, `setups.rt`, `cycles.rt`, `ranges.rt`, `undone.rt` and `views.rt`.
 ghost use Rattle.std.specs.Prelude.{◌≡◌, false, IfSome, IsTrue};
+ghost use Rattle.answered_sources.specs.Answered.{AreAnswered};
 ghost use Rattle.built_requests.specs.Built.{is_built};
 ghost use Rattle.library_model.specs.Ending.{is_end_job};
 ghost use Rattle.library_steps.specs.State.{empty_library};
@@ -13,6 +14,7 @@ use crate::ranges::RANGES;
 use crate::setups::{CHANGES, JOURNAL_CALLS, LOCKS};
 use crate::tables::{DELETED, RECORDS, SOURCES};
 use crate::undone::{AFTER_IMAGES, UNDONE};
+use crate::views::{ONE_EACH, PICKED, SHOWN, UNIQUE, WAITING};
 use field_types::names::Name;
 use input_reader::input::read_input;
 use input_scripts::Scripts;
@@ -25,7 +27,9 @@ use std::alloc::Global;
 use std::process::Abort;
 use store_model::MemoryStore;
 
-fn sources_of(alloc: Global) -> Option<Sources> {
+fn sources_of(alloc: Global) -> Option<Sources>
+    ensures { IfSome result (λ sources. AreAnswered sources) }
+{
     let Scripts {
         sources,
         names: _,
@@ -70,6 +74,7 @@ fn ask_library(
     requires second { IsReady jobs.second library.old }
     requires built { IsTrue (is_built request.now) }
     requires goes_on { is_end_job request.now ≡ false }
+    requires answered { AreAnswered sources.now }
     ensures first { IsReady jobs.first library.new }
     ensures second { IsReady jobs.second library.new }
 {
@@ -161,4 +166,29 @@ fn calls_on_after_images_are_answered(rt: HostRuntime) {
         "images after a change alone",
         &AFTER_IMAGES,
     );
+}
+
+#[test]
+fn calls_on_picked_records_are_answered(rt: HostRuntime) {
+    check_rows(&rt, rt.alloc(), "picked records", &PICKED);
+}
+
+#[test]
+fn calls_on_a_unique_view_are_answered(rt: HostRuntime) {
+    check_rows(&rt, rt.alloc(), "a unique view", &UNIQUE);
+}
+
+#[test]
+fn calls_on_fields_of_views_are_answered(rt: HostRuntime) {
+    check_rows(&rt, rt.alloc(), "fields of views", &SHOWN);
+}
+
+#[test]
+fn calls_that_make_a_unique_view_are_answered(rt: HostRuntime) {
+    check_rows(&rt, rt.alloc(), "the making of a unique view", &ONE_EACH);
+}
+
+#[test]
+fn calls_on_a_view_that_waits_are_answered(rt: HostRuntime) {
+    check_rows(&rt, rt.alloc(), "a view that waits", &WAITING);
 }

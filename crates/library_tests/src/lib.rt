@@ -17,3 +17,5 @@ mod setups;
 mod tables;
 #[cfg(test)]
 mod undone;
+#[cfg(test)]
+mod views;

@@ -24,6 +24,42 @@ pub const SOURCES: &str = "//DDS CUST
 //DDS REFFLD
      A          R ITEMR
      A            WHO       R               REFFLD(NAME CUST)
+//DDS PAIR
+     A          R PAIRR
+     A            A              1A
+     A            B              3P 0
+//DDS PICKED
+     A          R PICKEDR                   PFILE(PAIR)
+     A          S A                         COMP(EQ 'X')
+     A          O B                         COMP(GT 10)
+//DDS STATES
+     A          R STATER
+     A            NO             3P 0
+     A            STS            1A
+//DDS LU
+     A                                      UNIQUE
+     A          R LUR                       PFILE(STATES)
+     A          K NO
+     A          O STS                       COMP(EQ 'D')
+//DDS NUMBERED
+     A          R NUMBERR
+     A            NAME           5A
+     A            NO             3P 0
+//DDS RENAMED
+     A          R RENAMEDR                  PFILE(NUMBERED)
+     A            NM                        RENAME(NAME)
+//DDS PART
+     A          R PARTR                     PFILE(NUMBERED)
+     A            N2                        SST(NAME 2 2)
+//DDS ONEEACH
+     A                                      UNIQUE
+     A          R ONER                      PFILE(CUST)
+     A          K NAME
+//DDS BACKWARD
+     A          R BACKR                     PFILE(CUST)
+     A          K NAME                      DESCEND
+//DDS NOBASE
+     A          R NOBASER                   PFILE(NONE)
 //END
 ";
 

@@ -1,4 +1,4 @@
-//! Runs of several jobs by a schedule: whose call comes when (`turns.rt`), what jobs answer each other (`replies.rt`), and what they are answered by keys (`keys.rt`).
+//! Runs of several jobs by a schedule: whose call comes when (`turns.rt`), what jobs answer each other (`replies.rt`), what they are answered by keys (`keys.rt`), and the example of logical files (`views.rt`).
 #![tactic(auto)]
 
 #[cfg(test)]
@@ -9,3 +9,5 @@ mod replies;
 mod runs;
 #[cfg(test)]
 mod turns;
+#[cfg(test)]
+mod views;

@@ -10,6 +10,11 @@ perform-done-requires-clause-stand g c =
     let ready = subst (IsReady c.args.job) (sym c.library.view_is) c.requires.ready in
     changes-stand _ c.args.job ready.sound
 
+pub perform-done-requires-clause-defaults : goal.perform-done-requires-clause-defaults
+perform-done-requires-clause-defaults g c =
+    let ready = subst (IsReady c.args.job) (sym c.library.view_is) c.requires.ready in
+    ready.sound.defaults
+
 pub returns-clause-goes : goal.returns-clause-goes
 returns-clause-goes g c s stands =
     let seen = c.library.view_is in

@@ -11,4 +11,4 @@ invariant_of-result c =
     let one : c.begin_job.new.self.state ≡ begun empty_library (name ∷ []) = c.in-Ok.ensures.begun ∙ ap (λ (s : State). record s { jobs = s.jobs ++ new_job name ∷ [] }) empty.state in
     let place : c.in-Ok.job ≡ 1 = c.in-Ok.ensures.number ∙ ap (λ (s : State). length s.jobs + 1) empty.state in
     let run : IsTrue (is_running (job_at c.in-Ok.job (begun empty_library (name ∷ [])).jobs)) = subst (λ (n : ℕ). IsTrue (is_running (job_at n (begun empty_library (name ∷ [])).jobs))) (sym place) refl in
-    IsReady-begun (name ∷ []) c.in-Ok.job c.begin_job.new.self (c.in-Ok.ensures.failed ∙ empty.alive) one (c.each_call_leaves_a_sound_library.ensures.begun (name ∷ [])) run
+    (IsReady-begun (name ∷ []) c.in-Ok.job c.begin_job.new.self (c.in-Ok.ensures.failed ∙ empty.alive) one (c.each_call_leaves_a_sound_library.ensures.begun (name ∷ [])) run, c.in_ok-sources.ensures)

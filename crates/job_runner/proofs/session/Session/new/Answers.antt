@@ -13,4 +13,5 @@ invariant_of-result g c =
     let jobs = ap (λ (s : State). s.jobs) state in
     let enough = on_no_err c.reserve.result (sym c.is_err-2.ensures.value ∙ c.if-is_err-2.false) c.reserve.ensures.room in
     rw (c.reserve.ensures.unchanged, c.new-history.ensures)
-    (IsSession-first c.args.scripts c.begin_jobs.new.library.state c.reserve.new.self.room _ sound jobs c.requires.askable c.requires.named c.requires.few enough (rw c.as_slice-2.ensures at c.in-Ok.ensures))
+    (IsSession-first c.args.scripts c.begin_jobs.new.library.state c.reserve.new.self.room _ sound c.requires.answered jobs c.requires.askable c.requires.named c.requires.few enough
+    (rw c.as_slice-2.ensures at c.in-Ok.ensures))

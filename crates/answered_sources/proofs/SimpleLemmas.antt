@@ -1,0 +1,100 @@
+-- What an answered source describes as a logical file has one format over one physical file.
+use Rattle.std.proofs.Common.{◌≡◌, ◌∙◌, refl, sym, ap, subst, arith, ℕ, Bool, true, false, not, ◌&&◌, if◌then◌else◌, nat_lt}
+use Rattle.std.specs.Prelude.{Option, Some, None, IfSome, IsTrue, Result, Ok, Err, OnOk, OnErr, List, [], ◌∷◌, ◌++◌, length, map}
+use Rattle.std.proofs.lemmas.Bool.Decides.{nat_tests}
+use Rattle.dds_source.specs.Faults.{first_after}
+use Rattle.dds_source.specs.Reading.{source_of}
+use Rattle.dds_source.specs.declared.faults.DdsFault.{DdsFault}
+use Rattle.dds_source.specs.declared.specifications.Source.{Source}
+use Rattle.dds_physical.specs.declared.physical_files.PhysicalSpec.{PhysicalSpec}
+use Rattle.dds_physical.proofs.FaultLemmas.{nothing_noted}
+use Rattle.dds_logical.specs.declared.views.LogicalSpec.{LogicalSpec}
+use Rattle.dds_logical.specs.FormatLines.{FormatLines, formats_in, is_join_file, is_multi_format}
+use Rattle.dds_logical.specs.Logical.{described_by, join_described_by, logical_faults, logical_of, logical_specification, most_parts, one_or_several, unless_fault, view_described}
+use Rattle.dds_logical.specs.WholeFile.{format_missing_faults}
+use Rattle.library_model.specs.Named.{same_name}
+use Rattle.library_model.specs.SourceList.{text_of}
+use Rattle.library_model.specs.declared.sources.NamedSource.{NamedSource}
+use Rattle.answered_sources.specs.Answered.{IsSimpleFile, are_answered, has_one_view, is_answered_source, is_answered_text}
+
+-- ---- lists and tests
+
+none-right : (xs ys : List DdsFault) → xs ++ ys ≡ [] → ys ≡ []
+none-right [] ys h = h
+none-right (x ∷ xs) ys h = absurd cc
+
+and-right : (a b : Bool) → (a && b) ≡ true → b ≡ true
+and-right true b h = h
+and-right false b h = absurd cc
+
+and-both : (a b : Bool) → a ≡ true → b ≡ true → (a && b) ≡ true
+and-both true b here more = more
+and-both false b here more = absurd cc
+
+and-left : (a b : Bool) → (a && b) ≡ true → a ≡ true
+and-left true b h = refl
+and-left false b h = absurd cc
+
+-- ---- what formats describe
+
+-- a source without formats has a fault
+simple-by : (bases : List ℕ → Option PhysicalSpec) (source : Source) (fs : List FormatLines) → has_one_view fs ≡ true → format_missing_faults source.last_line (is_join_file fs) fs ≡ []
+    → IsSimpleFile (described_by bases source fs)
+simple-by bases source [] one none = absurd cc
+simple-by bases source (f ∷ []) one none =
+    elim (is_join_file (f ∷ [])) as (λ b. not b ≡ true → IsSimpleFile (if b then join_described_by bases source.file (f ∷ [])
+    else one_or_several (map (view_described bases source.file (is_multi_format (f ∷ [])) (most_parts (f ∷ []))) (f ∷ [])))) [
+      | true ↦ λ no_join. absurd cc
+      | false ↦ λ no_join. tt
+    ] (and-right (not (is_multi_format (f ∷ []))) (not (is_join_file (f ∷ []))) one)
+simple-by bases source (f ∷ g ∷ fs) one none =
+    let many : nat_lt 1 (length (f ∷ g ∷ fs)) ≡ true = grind (arith, nat_tests) in
+    let few : not (nat_lt 1 (length (f ∷ g ∷ fs))) ≡ true = and-left (not (is_multi_format (f ∷ g ∷ fs))) (not (is_join_file (f ∷ g ∷ fs))) one in
+    absurd (let both : not true ≡ true = ap not (sym many) ∙ few in cc)
+
+specified-simple : (bases : List ℕ → Option PhysicalSpec) (source : Source) → has_one_view (formats_in source.specifications) ≡ true → logical_faults bases source ≡ []
+    → IsSimpleFile (logical_specification bases source)
+unfolding logical_faults logical_specification
+specified-simple bases source one none =
+    let fs = formats_in source.specifications in
+    simple-by bases source fs one (none-right _ (format_missing_faults source.last_line (is_join_file fs) fs) none)
+
+no-fault : (spec wanted : LogicalSpec) (fault : Option DdsFault) → unless_fault spec fault ≡ Ok wanted → (fault ≡ None) × (spec ≡ wanted)
+no-fault spec wanted None h = (refl, let e : spec ≡ wanted = cc in e)
+no-fault spec wanted (Some fault) h = absurd cc
+
+described-simple : (bases : List ℕ → Option PhysicalSpec) (source : Source) (spec : LogicalSpec) → has_one_view (formats_in source.specifications) ≡ true → logical_of bases source ≡ Ok spec
+    → IsSimpleFile spec
+unfolding logical_of
+described-simple bases source spec one h =
+    let good = no-fault (logical_specification bases source) spec (first_after None (logical_faults bases source)) h in
+    subst IsSimpleFile good.1 (specified-simple bases source one (nothing_noted None (logical_faults bases source) good.0))
+
+-- ---- texts and sources
+
+pub text-simple : (bases : List ℕ → Option PhysicalSpec) (text : List ℕ) (source : Source) (spec : LogicalSpec) → IsTrue (is_answered_text text) → source_of text ≡ Ok source
+    → logical_of bases source ≡ Ok spec → IsSimpleFile spec
+text-simple bases text source spec answered read described =
+    described-simple bases source spec (subst (λ (r : Result Source DdsFault). is_answered_source r ≡ true) read answered) described
+
+-- the text of that name is answered
+pub named-answered : (sources : List NamedSource) (name : List ℕ) → IsTrue (are_answered sources) → IfSome (text_of sources name) (λ text. IsTrue (is_answered_text text))
+named-answered [] name answered = tt
+named-answered (source ∷ others) name answered =
+    elim (same_name source.name name) as (λ b. IfSome (if b then Some source.text else text_of others name) (λ text. IsTrue (is_answered_text text))) [
+      | true ↦ and-left (is_answered_text source.text) (are_answered others) answered
+      | false ↦ named-answered others name (and-right (is_answered_text source.text) (are_answered others) answered)
+    ]
+
+-- one source more that is answered
+pub answered-more : (sources : List NamedSource) (source : NamedSource) → IsTrue (are_answered sources) → IsTrue (is_answered_text source.text) → IsTrue (are_answered (sources ++ source ∷ []))
+answered-more [] source all here = and-both (is_answered_text source.text) true here refl
+answered-more (first ∷ others) source all here =
+    and-both (is_answered_text first.text) (are_answered (others ++ source ∷ [])) (and-left (is_answered_text first.text) (are_answered others) all)
+    (answered-more others source (and-right (is_answered_text first.text) (are_answered others) all) here)
+
+-- where it was added, or memory ran out
+pub answered-pushed : {E : Type 0} (r : Result (Unit {0}) E) (old new : List NamedSource) (source : NamedSource) → OnOk r (new ≡ old ++ source ∷ []) → OnErr r (new ≡ old)
+    → IsTrue (is_answered_text source.text) → IsTrue (are_answered old) → IsTrue (are_answered new)
+answered-pushed (Ok done) old new source pushed unchanged here all = subst (λ (s : List NamedSource). IsTrue (are_answered s)) (sym pushed) (answered-more old source all here)
+answered-pushed (Err e) old new source pushed unchanged here all = subst (λ (s : List NamedSource). IsTrue (are_answered s)) (sym unchanged) all
