@@ -1,4 +1,3 @@
-use Rattle.library_steps.specs.State.{memory_of}
 use Rattle.file_requests.proofs.ViewLemmas.{new-kept, view-answers}
 use Rattle.file_requests.proofs.views.create_logical_file.Goals as goal
 
