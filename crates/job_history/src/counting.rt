@@ -1,10 +1,11 @@
 //! What a call counts for the bound on a history, by `specs/Counting.antt`.
 ghost use Rattle.std.specs.Prelude.{◌≡◌, IsTrue, min, ◌+◌};
 ghost use Rattle.std.specs.List.{sum_by, All};
-ghost use Rattle.job_history.specs.Counting.{value_bytes, given_bytes, values_bytes, limit_bytes, request_bytes, entries_bytes, reply_bytes, call_bytes, capped};
+ghost use Rattle.job_history.specs.Counting.{value_bytes, given_bytes, values_bytes, limit_bytes, chain_bytes, request_bytes, entries_bytes, reply_bytes, call_bytes, capped};
 ghost use Rattle.library_model.specs.Ending.{is_end_job};
 ghost use Rattle.entry_codec.specs.Spelling.{HasSpelling};
 
+use call_tables::{reply_table, request_table};
 use entry_codec::{Entry, entry_length};
 use field_types::values::Value;
 use library_model::calls::Call;
@@ -33,46 +34,43 @@ pub fn is_end_job(call: &Call) -> bool
     call.request.end_asked().is_some()
 }
 
+macro_rules! request_arms {
+    (($request:expr) $($group:ident { $($name:ident $word:literal ($($args:ident { $($field:ident: $codec:ident $keywords:tt $(= $default:ident)?),* })?) $asked:tt)* })*) => {
+        match $request {
+            $($(Request::$name $((bound!(args $args)))? => counted!($($([$codec args.$field])*)?),)*)*
+        }
+    };
+}
+
+macro_rules! reply_arms {
+    (($reply:expr) $($group:ident { $($name:ident $word:literal ($({ $($field:ident),* })? $(($held:ident))?) [$($codec:ident ($($keyword:ident)?; $($part:ident),*))*])* })*) => {
+        match $reply {
+            $($(Reply::$name $({ $($field),* })? $(($held))? => counted!($([$codec $($part)*])*),)*)*
+        }
+    };
+}
+
+// The arguments of a request, where it has any.
+macro_rules! bound {
+    ($args:ident $kind:ident) => { $args };
+}
+
+// The bytes of the first value that counts; no request and no reply has two.
+macro_rules! counted {
+    () => { 0 };
+    ([values $values:expr] $($others:tt)*) => { values_bytes($values.as_slice()) };
+    ([given_values $values:expr] $($others:tt)*) => { given_bytes($values.as_slice()) };
+    ([limit $to:expr] $($others:tt)*) => { limit_bytes(&$to) };
+    ([chain_to $to:expr] $($others:tt)*) => { chain_bytes(&$to) };
+    ([record $read:ident] $($others:tt)*) => { values_bytes($read.values.as_slice()) };
+    ([entries $entries:ident] $($others:tt)*) => { entries_bytes($entries.as_slice()) };
+    ($other:tt $($others:tt)*) => { counted!($($others)*) };
+}
+
 fn request_bytes(request: &Request) -> u64
     ensures { result ≡ capped (request_bytes request.now) }
 {
-    match request {
-        Request::Write(args) => given_bytes(args.values.as_slice()),
-        Request::Update(args) => given_bytes(args.values.as_slice()),
-        Request::ReadEqual(args) => values_bytes(args.key.as_slice()),
-        Request::ReadPriorEqual(args) => values_bytes(args.key.as_slice()),
-        Request::SetLowerLimit(args) => limit_bytes(&args.to),
-        Request::SetGreaterThan(args) => limit_bytes(&args.to),
-        Request::Chain(args) => match &args.to {
-            ChainTo::Key(values) => values_bytes(values.as_slice()),
-            ChainTo::RecordNumber(_) => 0,
-        },
-        Request::CreatePhysicalFile(_)
-        | Request::CreateLogicalFile(_)
-        | Request::DeleteFile(_)
-        | Request::AddMember(_)
-        | Request::ClearMember(_)
-        | Request::ReorganizeMember(_)
-        | Request::StartJournaling(_)
-        | Request::EndJournaling(_)
-        | Request::ChangeJournal
-        | Request::DeleteReceiver(_)
-        | Request::Checkpoint
-        | Request::DisplayJournal(_)
-        | Request::ApplyChanges(_)
-        | Request::RemoveChanges(_)
-        | Request::StartCommitment(_)
-        | Request::EndCommitment
-        | Request::Commit
-        | Request::Rollback
-        | Request::OpenFile(_)
-        | Request::CloseFile(_)
-        | Request::Read(_)
-        | Request::ReadPrior(_)
-        | Request::Delete(_)
-        | Request::Unlock(_)
-        | Request::EndJob(_) => 0,
-    }
+    request_table!(request_arms!(request))
 }
 
 fn limit_bytes(limit: &Limit) -> u64
@@ -84,51 +82,19 @@ fn limit_bytes(limit: &Limit) -> u64
     }
 }
 
+fn chain_bytes(to: &ChainTo) -> u64
+    ensures { result ≡ capped (chain_bytes to.now) }
+{
+    match to {
+        ChainTo::Key(values) => values_bytes(values.as_slice()),
+        ChainTo::RecordNumber(_) => 0,
+    }
+}
+
 fn reply_bytes(reply: &Reply) -> u64
     ensures { result ≡ capped (reply_bytes reply.now) }
 {
-    match reply {
-        Reply::Record(read) => values_bytes(read.values.as_slice()),
-        Reply::Entries(entries) => entries_bytes(entries.as_slice()),
-        Reply::Done
-        | Reply::Added { .. }
-        | Reply::Range { .. }
-        | Reply::Receiver { .. }
-        | Reply::Sequence { .. }
-        | Reply::RecordInUse { .. }
-        | Reply::HeldByGroup { .. }
-        | Reply::PlaceInUse { .. }
-        | Reply::HeldToBoundary
-        | Reply::NotFound
-        | Reply::EndOfFile
-        | Reply::BeginOfFile
-        | Reply::NoCurrentRecord
-        | Reply::WrongOpen
-        | Reply::NoDefinition
-        | Reply::AlreadyStarted
-        | Reply::NoSuchEntry
-        | Reply::MemberFull
-        | Reply::StoreFault
-        | Reply::NoMemory
-        | Reply::DuplicateKey { .. }
-        | Reply::NoSuchName(_)
-        | Reply::NameExists { .. }
-        | Reply::Dependents { .. }
-        | Reply::BadValue(_)
-        | Reply::DdsFault(_)
-        | Reply::InUse { .. }
-        | Reply::NotJournaled { .. }
-        | Reply::PendingChanges { .. }
-        | Reply::Straddled { .. }
-        | Reply::DoesNotFit { .. }
-        | Reply::NeedsBoth { .. }
-        | Reply::Gap { .. }
-        | Reply::NotRemovable { .. }
-        | Reply::ReceiverGone { .. }
-        | Reply::BlockChanged { .. }
-        | Reply::StillNeeded { .. }
-        | Reply::LimitReached { .. } => 0,
-    }
+    reply_table!(reply_arms!(reply))
 }
 
 fn entries_bytes(entries: &[Entry]) -> u64

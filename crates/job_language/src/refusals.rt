@@ -3,6 +3,7 @@ ghost use Rattle.std.specs.Prelude.{◌≡◌};
 ghost use Rattle.std.specs.List.{list_any};
 ghost use Rattle.job_language.specs.Refusals.{refusal_of, is_same, takes};
 
+use call_tables::reply_table;
 use library_model::replies::Reply;
 use std::marker::Model;
 
@@ -117,50 +118,20 @@ fn names_one(names: &[Refusal], refusal: Refusal) -> bool
     names.iter().any(|name| name.is(refusal))
 }
 
+macro_rules! refusal_arms {
+    (($reply:expr) done { $($done:ident $ok:literal $done_fields:tt $done_parts:tt)* } results { $($result:ident $too:literal $result_fields:tt $result_parts:tt)* }
+        $($group:ident { $($name:ident $answer:literal $fields:tt $parts:tt)* })*) => {
+        match $reply {
+            $(Reply::$done { .. } => None,)*
+            $(Reply::$result { .. } => None,)*
+            $($(Reply::$name { .. } => Some(Refusal::$name),)*)*
+        }
+    };
+}
+
 /// The name of the refusal; `None` for a reply that is none.
 pub fn refusal_of(reply: &Reply) -> Option<Refusal>
     ensures { result ≡ refusal_of reply.now }
 {
-    match reply {
-        Reply::Done
-        | Reply::Record(_)
-        | Reply::Added { .. }
-        | Reply::Range { .. }
-        | Reply::Receiver { .. }
-        | Reply::Sequence { .. }
-        | Reply::Entries(_) => None,
-        Reply::RecordInUse { .. } => Some(Refusal::RecordInUse),
-        Reply::HeldByGroup { .. } => Some(Refusal::HeldByGroup),
-        Reply::PlaceInUse { .. } => Some(Refusal::PlaceInUse),
-        Reply::HeldToBoundary => Some(Refusal::HeldToBoundary),
-        Reply::NotFound => Some(Refusal::NotFound),
-        Reply::EndOfFile => Some(Refusal::EndOfFile),
-        Reply::BeginOfFile => Some(Refusal::BeginOfFile),
-        Reply::NoCurrentRecord => Some(Refusal::NoCurrentRecord),
-        Reply::WrongOpen => Some(Refusal::WrongOpen),
-        Reply::NoDefinition => Some(Refusal::NoDefinition),
-        Reply::AlreadyStarted => Some(Refusal::AlreadyStarted),
-        Reply::NoSuchEntry => Some(Refusal::NoSuchEntry),
-        Reply::MemberFull => Some(Refusal::MemberFull),
-        Reply::StoreFault => Some(Refusal::StoreFault),
-        Reply::NoMemory => Some(Refusal::NoMemory),
-        Reply::DuplicateKey { .. } => Some(Refusal::DuplicateKey),
-        Reply::NoSuchName(_) => Some(Refusal::NoSuchName),
-        Reply::NameExists { .. } => Some(Refusal::NameExists),
-        Reply::Dependents { .. } => Some(Refusal::Dependents),
-        Reply::BadValue(_) => Some(Refusal::BadValue),
-        Reply::DdsFault(_) => Some(Refusal::DdsFault),
-        Reply::InUse { .. } => Some(Refusal::InUse),
-        Reply::NotJournaled { .. } => Some(Refusal::NotJournaled),
-        Reply::PendingChanges { .. } => Some(Refusal::PendingChanges),
-        Reply::Straddled { .. } => Some(Refusal::Straddled),
-        Reply::DoesNotFit { .. } => Some(Refusal::DoesNotFit),
-        Reply::NeedsBoth { .. } => Some(Refusal::NeedsBoth),
-        Reply::Gap { .. } => Some(Refusal::Gap),
-        Reply::NotRemovable { .. } => Some(Refusal::NotRemovable),
-        Reply::ReceiverGone { .. } => Some(Refusal::ReceiverGone),
-        Reply::BlockChanged { .. } => Some(Refusal::BlockChanged),
-        Reply::StillNeeded { .. } => Some(Refusal::StillNeeded),
-        Reply::LimitReached { .. } => Some(Refusal::LimitReached),
-    }
+    reply_table!(refusal_arms!(reply))
 }

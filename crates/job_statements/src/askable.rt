@@ -4,48 +4,30 @@ ghost use Rattle.built_requests.specs.Built.{is_built};
 ghost use Rattle.input_scripts.specs.Askable.{is_askable_form};
 ghost use Rattle.job_statements.specs.Reading.{is_runnable};
 
+use call_tables::request_table;
 use job_language::forms::RequestForm;
 use library_model::requests::Request;
 use statement_syntax::Phrase;
+
+macro_rules! built_arms {
+    (($request:expr) $($group:ident { $($name:ident $word:literal $args:tt $asked:tt)* })*) => {
+        match $request {
+            $($(Request::$name { .. } => built!($name),)*)*
+        }
+    };
+}
+
+// All but one.
+macro_rules! built {
+    (Checkpoint) => { false };
+    ($name:ident) => { true };
+}
 
 /// Whether the library answers this request of a statement so far.
 fn is_built(request: &Request) -> bool
     ensures { result ≡ is_built request.now }
 {
-    match request {
-        Request::Checkpoint => false,
-        Request::CreatePhysicalFile(_)
-        | Request::CreateLogicalFile(_)
-        | Request::DeleteFile(_)
-        | Request::AddMember(_)
-        | Request::ClearMember(_)
-        | Request::ReorganizeMember(_)
-        | Request::StartJournaling(_)
-        | Request::EndJournaling(_)
-        | Request::ChangeJournal
-        | Request::DeleteReceiver(_)
-        | Request::DisplayJournal(_)
-        | Request::ApplyChanges(_)
-        | Request::RemoveChanges(_)
-        | Request::StartCommitment(_)
-        | Request::EndCommitment
-        | Request::Commit
-        | Request::Rollback
-        | Request::OpenFile(_)
-        | Request::CloseFile(_)
-        | Request::SetLowerLimit(_)
-        | Request::SetGreaterThan(_)
-        | Request::Read(_)
-        | Request::ReadPrior(_)
-        | Request::ReadEqual(_)
-        | Request::ReadPriorEqual(_)
-        | Request::Chain(_)
-        | Request::Write(_)
-        | Request::Update(_)
-        | Request::Delete(_)
-        | Request::Unlock(_)
-        | Request::EndJob(_) => true,
-    }
+    request_table!(built_arms!(request))
 }
 
 /// Whether the library answers it whatever the variables hold, and it doesn't end the job.

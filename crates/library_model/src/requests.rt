@@ -3,6 +3,7 @@ ghost use Rattle.std.specs.Prelude.{◌≡◌, IfOk, option_copied};
 ghost use Rattle.library_model.specs.Ending.{end_asked};
 
 use crate::value_lists::{GivenValues, Values};
+use call_tables::request_table;
 use commit_level::Level;
 use entry_codec::Images;
 use field_types::names::Name;
@@ -278,31 +279,6 @@ impl Limit {
     }
 }
 
-impl SetPosition {
-    /// A copy in memory of its own.
-    pub fn copied(&self, alloc: Global) -> Result<SetPosition, AllocError>
-        ensures { IfOk result (λ r. r ≡ self.now) }
-    {
-        Ok(SetPosition {
-            open_id: self.open_id,
-            to: self.to.copied(alloc)?,
-        })
-    }
-}
-
-impl ReadEqual {
-    /// A copy in memory of its own.
-    pub fn copied(&self, alloc: Global) -> Result<ReadEqual, AllocError>
-        ensures { IfOk result (λ r. r ≡ self.now) }
-    {
-        Ok(ReadEqual {
-            open_id: self.open_id,
-            key: self.key.copied(alloc)?,
-            lock: self.lock,
-        })
-    }
-}
-
 impl ChainTo {
     /// A copy in memory of its own.
     pub fn copied(&self, alloc: Global) -> Result<ChainTo, AllocError>
@@ -315,43 +291,43 @@ impl ChainTo {
     }
 }
 
-impl ChainRecord {
-    /// A copy in memory of its own.
-    pub fn copied(&self, alloc: Global) -> Result<ChainRecord, AllocError>
-        ensures { IfOk result (λ r. r ≡ self.now) }
-    {
-        Ok(ChainRecord {
-            open_id: self.open_id,
-            to: self.to.copied(alloc)?,
-            lock: self.lock,
-        })
-    }
+// The arms of the groups but the last, and ENDJOB's.
+macro_rules! end_groups {
+    (($request:expr) files { $($files:tt)* } journaling { $($journaling:tt)* } journal { $($journal:tt)* } commitment { $($commitment:tt)* }
+        boundaries { $($boundaries:tt)* } opens { $($opens:tt)* } records { $($records:tt)* } unlock { $($unlock:tt)* } end $end:tt) => {
+        end_arms!(($request) $($files)* $($journaling)* $($journal)* $($commitment)* $($boundaries)* $($opens)* $($records)* $($unlock)*)
+    };
 }
 
-impl WriteRecord {
-    /// A copy in memory of its own.
-    pub fn copied(&self, alloc: Global) -> Result<WriteRecord, AllocError>
-        ensures { IfOk result (λ r. r ≡ self.now) }
-    {
-        Ok(WriteRecord {
-            open_id: self.open_id,
-            format: self.format,
-            record_number: self.record_number,
-            values: self.values.copied(alloc)?,
-        })
-    }
+macro_rules! end_arms {
+    (($request:expr) $($name:ident $word:literal $args:tt $asked:tt)*) => {
+        match $request {
+            Request::EndJob(args) => Some(args),
+            $(Request::$name { .. } => None,)*
+        }
+    };
 }
 
-impl UpdateRecord {
-    /// A copy in memory of its own.
-    pub fn copied(&self, alloc: Global) -> Result<UpdateRecord, AllocError>
-        ensures { IfOk result (λ r. r ≡ self.now) }
-    {
-        Ok(UpdateRecord {
-            open_id: self.open_id,
-            values: self.values.copied(alloc)?,
-        })
-    }
+macro_rules! copy_arms {
+    (($alloc:expr, $request:expr) $($group:ident { $($name:ident $word:literal ($($args:ident { $($field:ident: $codec:ident $keywords:tt $(= $default:ident)?),* })?) $asked:tt)* })*) => {
+        match $request {
+            $($(Request::$name $((bound!(args $args)))? => Ok(Request::$name $(($args { $($field: copy!($codec args.$field, $alloc)),* }))?),)*)*
+        }
+    };
+}
+
+// The arguments of a request, where it has any.
+macro_rules! bound {
+    ($args:ident $kind:ident) => { $args };
+}
+
+// A copy of a field: what has memory of its own is copied there.
+macro_rules! copy {
+    (values $field:expr, $alloc:expr) => { $field.copied($alloc)? };
+    (given_values $field:expr, $alloc:expr) => { $field.copied($alloc)? };
+    (limit $field:expr, $alloc:expr) => { $field.copied($alloc)? };
+    (chain_to $field:expr, $alloc:expr) => { $field.copied($alloc)? };
+    ($codec:ident $field:expr, $alloc:expr) => { $field };
 }
 
 impl Request {
@@ -359,79 +335,13 @@ impl Request {
     pub fn end_asked(&self) -> Option<&EndJob>
         ensures { option_copied result ≡ end_asked self.now }
     {
-        match self {
-            Request::EndJob(args) => Some(args),
-            Request::CreatePhysicalFile(_)
-            | Request::CreateLogicalFile(_)
-            | Request::DeleteFile(_)
-            | Request::AddMember(_)
-            | Request::ClearMember(_)
-            | Request::ReorganizeMember(_)
-            | Request::StartJournaling(_)
-            | Request::EndJournaling(_)
-            | Request::ChangeJournal
-            | Request::DeleteReceiver(_)
-            | Request::Checkpoint
-            | Request::DisplayJournal(_)
-            | Request::ApplyChanges(_)
-            | Request::RemoveChanges(_)
-            | Request::StartCommitment(_)
-            | Request::EndCommitment
-            | Request::Commit
-            | Request::Rollback
-            | Request::OpenFile(_)
-            | Request::CloseFile(_)
-            | Request::SetLowerLimit(_)
-            | Request::SetGreaterThan(_)
-            | Request::Read(_)
-            | Request::ReadPrior(_)
-            | Request::ReadEqual(_)
-            | Request::ReadPriorEqual(_)
-            | Request::Chain(_)
-            | Request::Write(_)
-            | Request::Update(_)
-            | Request::Delete(_)
-            | Request::Unlock(_) => None,
-        }
+        request_table!(end_groups!(self))
     }
 
     /// A copy in memory of its own.
     pub fn copied(&self, alloc: Global) -> Result<Request, AllocError>
         ensures { IfOk result (λ r. r ≡ self.now) }
     {
-        Ok(match self {
-            Request::CreatePhysicalFile(args) => Request::CreatePhysicalFile(*args),
-            Request::CreateLogicalFile(args) => Request::CreateLogicalFile(*args),
-            Request::DeleteFile(args) => Request::DeleteFile(*args),
-            Request::AddMember(args) => Request::AddMember(*args),
-            Request::ClearMember(args) => Request::ClearMember(*args),
-            Request::ReorganizeMember(args) => Request::ReorganizeMember(*args),
-            Request::StartJournaling(args) => Request::StartJournaling(*args),
-            Request::EndJournaling(args) => Request::EndJournaling(*args),
-            Request::ChangeJournal => Request::ChangeJournal,
-            Request::DeleteReceiver(args) => Request::DeleteReceiver(*args),
-            Request::Checkpoint => Request::Checkpoint,
-            Request::DisplayJournal(args) => Request::DisplayJournal(*args),
-            Request::ApplyChanges(args) => Request::ApplyChanges(*args),
-            Request::RemoveChanges(args) => Request::RemoveChanges(*args),
-            Request::StartCommitment(args) => Request::StartCommitment(*args),
-            Request::EndCommitment => Request::EndCommitment,
-            Request::Commit => Request::Commit,
-            Request::Rollback => Request::Rollback,
-            Request::OpenFile(args) => Request::OpenFile(*args),
-            Request::CloseFile(args) => Request::CloseFile(*args),
-            Request::SetLowerLimit(args) => Request::SetLowerLimit(args.copied(alloc)?),
-            Request::SetGreaterThan(args) => Request::SetGreaterThan(args.copied(alloc)?),
-            Request::Read(args) => Request::Read(*args),
-            Request::ReadPrior(args) => Request::ReadPrior(*args),
-            Request::ReadEqual(args) => Request::ReadEqual(args.copied(alloc)?),
-            Request::ReadPriorEqual(args) => Request::ReadPriorEqual(args.copied(alloc)?),
-            Request::Chain(args) => Request::Chain(args.copied(alloc)?),
-            Request::Write(args) => Request::Write(args.copied(alloc)?),
-            Request::Update(args) => Request::Update(args.copied(alloc)?),
-            Request::Delete(args) => Request::Delete(*args),
-            Request::Unlock(args) => Request::Unlock(*args),
-            Request::EndJob(args) => Request::EndJob(*args),
-        })
+        request_table!(copy_arms!(alloc, self))
     }
 }

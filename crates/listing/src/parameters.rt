@@ -1,5 +1,5 @@
 //! Parameters: a blank, a keyword, and the value in parentheses. What stands in the parentheses is in `texts.rt`.
-ghost use Rattle.std.specs.Prelude.{◌≡◌, ◌++◌, OnOk, codes};
+ghost use Rattle.std.specs.Prelude.{◌≡◌, ◌++◌, OnOk};
 ghost use Rattle.std.specs.Fmt.{decimal};
 ghost use Rattle.listing.specs.Texts.{parameter, number_parameter, values_text, given_values_text};
 
@@ -57,12 +57,18 @@ pub fn push_values_parameter(
     Ok(())
 }
 
-/// Appends the parameter VAL with values of which some may not be given.
+/// Appends a parameter whose value is a list of values of which some may not be given.
 #[tactic(auto, unfolding(crate::specs::Texts::parameter))]
-pub fn push_given_parameter(out: &mut Vec<u8>, values: &GivenValues) -> Result<(), AllocError>
-    ensures { OnOk result (out.new.items ≡ out.old.items ++ parameter (codes "VAL") (given_values_text values.now)) }
+pub fn push_given_parameter(
+    out: &mut Vec<u8>,
+    keyword: &[u8],
+    values: &GivenValues,
+) -> Result<(), AllocError>
+    ensures { OnOk result (out.new.items ≡ out.old.items ++ parameter keyword.now (given_values_text values.now)) }
 {
-    out.extend_from_slice(b" VAL(")?;
+    out.push(b' ')?;
+    out.extend_from_slice(keyword)?;
+    out.push(b'(')?;
     push_given_values(out, values.as_slice())?;
     out.push(b')')?;
     Ok(())

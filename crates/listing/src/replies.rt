@@ -6,6 +6,7 @@ ghost use Rattle.listing.specs.ReplyText.{job_name, limit_text, missing_text, va
 
 use crate::entries::{push_entries, push_range};
 use crate::parameters::{push_name, push_number_parameter, push_parameter, push_values_parameter};
+use call_tables::{keyword, reply_table};
 use dds_source::{DdsCause, DdsFault};
 use field_types::faults::{RecordFault, ValueFault};
 use field_types::names::Name;
@@ -22,141 +23,59 @@ pub fn push_reply(out: &mut Vec<u8>, names: &[Name], reply: &Reply) -> Result<()
     push_details(out, names, reply)
 }
 
+macro_rules! answer_arms {
+    (($reply:expr) $($group:ident { $($name:ident $answer:literal $fields:tt $parts:tt)* })*) => {
+        match $reply {
+            $($(Reply::$name { .. } => $answer,)*)*
+        }
+    };
+}
+
+macro_rules! detail_arms {
+    (($out:expr, $names:expr, $reply:expr) $($group:ident { $($name:ident $answer:literal ($({ $($field:ident),* })? $(($held:ident))?) [$($codec:ident ($($keyword:ident)?; $($part:ident),*))*])* })*) => {
+        match $reply {
+            $($(Reply::$name $({ $($field),* })? $(($held))? => {
+                $(push!($codec ($($keyword)?; $($part),*), $out, $names);)*
+                Ok(())
+            })*)*
+        }
+    };
+}
+
+// Appends a part of what a reply carries.
+macro_rules! push {
+    (name ($keyword:ident; $name:ident), $out:expr, $names:expr) => { push_name($out, keyword!($keyword), $name)? };
+    (number ($keyword:ident; $number:ident), $out:expr, $names:expr) => { push_number_parameter($out, keyword!($keyword), u64::from(*$number))? };
+    (sequence ($keyword:ident; $number:ident), $out:expr, $names:expr) => { push_number_parameter($out, keyword!($keyword), *$number)? };
+    (long ($keyword:ident; $number:ident), $out:expr, $names:expr) => { push_number_parameter($out, keyword!($keyword), *$number)? };
+    (job ($keyword:ident; $job:ident), $out:expr, $names:expr) => { push_parameter($out, keyword!($keyword), job_name($names, *$job))? };
+    (limit_kind ($keyword:ident; $which:ident), $out:expr, $names:expr) => { push_parameter($out, keyword!($keyword), limit_text(*$which))? };
+    (missing ($keyword:ident; $missing:ident), $out:expr, $names:expr) => { push_missing($out, keyword!($keyword), $missing)? };
+    (record (; $read:ident), $out:expr, $names:expr) => { push_record($out, $read)? };
+    (range (; $first:ident, $last:ident, $changes:ident), $out:expr, $names:expr) => { push_range($out, *$first, *$last, *$changes)? };
+    (entries (; $entries:ident), $out:expr, $names:expr) => { push_entries($out, $entries.as_slice())? };
+    (record_fault (; $fault:ident), $out:expr, $names:expr) => { push_record_fault($out, *$fault)? };
+    (dds_fault (; $fault:ident), $out:expr, $names:expr) => { push_dds_fault($out, *$fault)? };
+}
+
 fn answer(reply: &Reply) -> &'static [u8]
     ensures { result.now ≡ answer reply.now }
 {
-    match reply {
-        Reply::Done
-        | Reply::Record(_)
-        | Reply::Added { .. }
-        | Reply::Range { .. }
-        | Reply::Receiver { .. }
-        | Reply::Sequence { .. }
-        | Reply::Entries(_) => b"OK",
-        Reply::RecordInUse { .. } => b"RecordInUse",
-        Reply::HeldByGroup { .. } => b"HeldByGroup",
-        Reply::PlaceInUse { .. } => b"PlaceInUse",
-        Reply::HeldToBoundary => b"HeldToBoundary",
-        Reply::NotFound => b"NotFound",
-        Reply::EndOfFile => b"EndOfFile",
-        Reply::BeginOfFile => b"BeginOfFile",
-        Reply::NoCurrentRecord => b"NoCurrentRecord",
-        Reply::WrongOpen => b"WrongOpen",
-        Reply::NoDefinition => b"NoDefinition",
-        Reply::AlreadyStarted => b"AlreadyStarted",
-        Reply::NoSuchEntry => b"NoSuchEntry",
-        Reply::MemberFull => b"MemberFull",
-        Reply::StoreFault => b"StoreFault",
-        Reply::NoMemory => b"NoMemory",
-        Reply::DuplicateKey { .. } => b"DuplicateKey",
-        Reply::NoSuchName(_) => b"NoSuchName",
-        Reply::NameExists { .. } => b"NameExists",
-        Reply::Dependents { .. } => b"Dependents",
-        Reply::BadValue(_) => b"BadValue",
-        Reply::DdsFault(_) => b"DdsFault",
-        Reply::InUse { .. } => b"InUse",
-        Reply::NotJournaled { .. } => b"NotJournaled",
-        Reply::PendingChanges { .. } => b"PendingChanges",
-        Reply::Straddled { .. } => b"Straddled",
-        Reply::DoesNotFit { .. } => b"DoesNotFit",
-        Reply::NeedsBoth { .. } => b"NeedsBoth",
-        Reply::Gap { .. } => b"Gap",
-        Reply::NotRemovable { .. } => b"NotRemovable",
-        Reply::ReceiverGone { .. } => b"ReceiverGone",
-        Reply::BlockChanged { .. } => b"BlockChanged",
-        Reply::StillNeeded { .. } => b"StillNeeded",
-        Reply::LimitReached { .. } => b"LimitReached",
-    }
+    reply_table!(answer_arms!(reply))
 }
 
 fn push_details(out: &mut Vec<u8>, names: &[Name], reply: &Reply) -> Result<(), AllocError>
     ensures { OnOk result (out.new.items ≡ out.old.items ++ details names.now reply.now) }
 {
-    match reply {
-        Reply::Record(read) => push_record(out, read),
-        Reply::Added { rrn } | Reply::HeldByGroup { rrn } | Reply::PlaceInUse { rrn } => {
-            push_rrn(out, *rrn)
-        }
-        Reply::Range {
-            first,
-            last,
-            changes,
-        } => push_range(out, *first, *last, *changes),
-        Reply::Receiver { number } => push_number_parameter(out, b"RCV", u64::from(*number)),
-        Reply::RecordInUse { job, member, rrn } => {
-            push_job(out, names, *job)?;
-            push_number_parameter(out, b"MBR", u64::from(*member))?;
-            push_rrn(out, *rrn)
-        }
-        Reply::DuplicateKey { file, rrn } => {
-            push_name(out, b"FILE", file)?;
-            push_rrn(out, *rrn)
-        }
-        Reply::NoSuchName(missing) => push_missing(out, missing),
-        Reply::NameExists { name } | Reply::Dependents { name } => push_name(out, b"NAME", name),
-        Reply::BadValue(fault) => push_record_fault(out, *fault),
-        Reply::DdsFault(fault) => push_dds_fault(out, *fault),
-        Reply::InUse { job } => push_job(out, names, *job),
-        Reply::NotJournaled { member } => push_number_parameter(out, b"MBR", u64::from(*member)),
-        Reply::PendingChanges { group } | Reply::Straddled { group } => {
-            push_number_parameter(out, b"GRP", *group)
-        }
-        Reply::DoesNotFit { sequence, rrn } => {
-            push_sequence(out, *sequence)?;
-            push_rrn(out, *rrn)
-        }
-        Reply::Sequence { number: sequence }
-        | Reply::NeedsBoth { sequence }
-        | Reply::Gap { sequence }
-        | Reply::NotRemovable { sequence }
-        | Reply::ReceiverGone { sequence }
-        | Reply::BlockChanged { sequence }
-        | Reply::StillNeeded { sequence } => push_sequence(out, *sequence),
-        Reply::LimitReached { which, number } => {
-            push_parameter(out, b"LIMIT", limit_text(*which))?;
-            push_number_parameter(out, b"NBR", *number)
-        }
-        Reply::Entries(entries) => push_entries(out, entries.as_slice()),
-        Reply::Done
-        | Reply::HeldToBoundary
-        | Reply::NotFound
-        | Reply::EndOfFile
-        | Reply::BeginOfFile
-        | Reply::NoCurrentRecord
-        | Reply::WrongOpen
-        | Reply::NoDefinition
-        | Reply::AlreadyStarted
-        | Reply::NoSuchEntry
-        | Reply::MemberFull
-        | Reply::StoreFault
-        | Reply::NoMemory => Ok(()),
-    }
+    reply_table!(detail_arms!(out, names, reply))
 }
 
 fn push_record(out: &mut Vec<u8>, read: &RecordRead) -> Result<(), AllocError>
     ensures { OnOk result (out.new.items ≡ out.old.items ++ (parameter (codes "FMT") read.now.format ++ number_parameter (codes "RRN") read.now.rrn ++ parameter (codes "VAL") (values_text read.now.values))) }
 {
-    push_name(out, b"FMT", &read.format)?;
-    push_rrn(out, read.rrn)?;
-    push_values_parameter(out, b"VAL", &read.values)
-}
-
-fn push_rrn(out: &mut Vec<u8>, rrn: u32) -> Result<(), AllocError>
-    ensures { OnOk result (out.new.items ≡ out.old.items ++ number_parameter (codes "RRN") rrn) }
-{
-    push_number_parameter(out, b"RRN", u64::from(rrn))
-}
-
-fn push_sequence(out: &mut Vec<u8>, sequence: u64) -> Result<(), AllocError>
-    ensures { OnOk result (out.new.items ≡ out.old.items ++ number_parameter (codes "SEQ") sequence) }
-{
-    push_number_parameter(out, b"SEQ", sequence)
-}
-
-fn push_job(out: &mut Vec<u8>, names: &[Name], job: u32) -> Result<(), AllocError>
-    ensures { OnOk result (out.new.items ≡ out.old.items ++ parameter (codes "JOB") (job_name names.now job)) }
-{
-    push_parameter(out, b"JOB", job_name(names, job))
+    push_name(out, keyword!(Format), &read.format)?;
+    push_number_parameter(out, keyword!(RecordNumber), u64::from(read.rrn))?;
+    push_values_parameter(out, keyword!(Values), &read.values)
 }
 
 /// The name of the job with this number, from 1; empty where there is none.
@@ -169,12 +88,12 @@ pub fn job_name(names: &[Name], job: u32) -> &[u8]
     }
 }
 
-fn push_missing(out: &mut Vec<u8>, missing: &Missing) -> Result<(), AllocError>
-    ensures { OnOk result (out.new.items ≡ out.old.items ++ parameter (codes "NAME") (missing_text missing.now)) }
+fn push_missing(out: &mut Vec<u8>, keyword: &[u8], missing: &Missing) -> Result<(), AllocError>
+    ensures { OnOk result (out.new.items ≡ out.old.items ++ parameter keyword.now (missing_text missing.now)) }
 {
     match missing {
-        Missing::Name(name) => push_name(out, b"NAME", name),
-        Missing::Receiver(number) => push_number_parameter(out, b"NAME", u64::from(*number)),
+        Missing::Name(name) => push_name(out, keyword, name),
+        Missing::Receiver(number) => push_number_parameter(out, keyword, u64::from(*number)),
     }
 }
 
@@ -183,12 +102,12 @@ fn push_record_fault(out: &mut Vec<u8>, fault: RecordFault) -> Result<(), AllocE
 {
     match fault {
         RecordFault::Count => {
-            push_number_parameter(out, b"FLD", 0)?;
-            push_parameter(out, b"CAUSE", b"Count")
+            push_number_parameter(out, keyword!(Field), 0)?;
+            push_parameter(out, keyword!(Cause), b"Count")
         }
         RecordFault::BadField { field, cause } => {
-            push_number_parameter(out, b"FLD", u64::from(field))?;
-            push_parameter(out, b"CAUSE", value_cause(cause))
+            push_number_parameter(out, keyword!(Field), u64::from(field))?;
+            push_parameter(out, keyword!(Cause), value_cause(cause))
         }
     }
 }
@@ -196,9 +115,9 @@ fn push_record_fault(out: &mut Vec<u8>, fault: RecordFault) -> Result<(), AllocE
 fn push_dds_fault(out: &mut Vec<u8>, fault: DdsFault) -> Result<(), AllocError>
     ensures { OnOk result (out.new.items ≡ out.old.items ++ dds_fault_parameters fault) }
 {
-    push_number_parameter(out, b"LINE", u64::from(fault.line))?;
-    push_number_parameter(out, b"COL", u64::from(fault.column))?;
-    push_parameter(out, b"CAUSE", dds_cause(fault.cause))
+    push_number_parameter(out, keyword!(Line), u64::from(fault.line))?;
+    push_number_parameter(out, keyword!(Column), u64::from(fault.column))?;
+    push_parameter(out, keyword!(Cause), dds_cause(fault.cause))
 }
 
 fn limit_text(which: LimitKind) -> &'static [u8]

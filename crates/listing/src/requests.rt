@@ -1,18 +1,17 @@
 //! Requests as they are printed, by `specs/RequestText.antt`.
-ghost use Rattle.std.specs.Prelude.{◌≡◌, ◌++◌, codes, OnOk};
-ghost use Rattle.listing.specs.Texts.{parameter, number_parameter, values_text, given_values_text};
-ghost use Rattle.listing.specs.RequestText.{level_text, images_text, end_text, option_text, yes_or_no, path_text, lock_text, reason_text, limit_parameter, chain_parameter, format_text, place_text, member_parameters, range_parameters, open_parameters, position_parameters, read_parameters, equal_parameters, write_parameters, command, parameters, request_text};
+ghost use Rattle.std.specs.Prelude.{◌≡◌, ◌++◌, OnOk};
+ghost use Rattle.listing.specs.Texts.{parameter};
+ghost use Rattle.listing.specs.RequestText.{level_text, images_text, end_text, option_text, yes_or_no, path_text, lock_text, reason_text, limit_parameter, chain_parameter, format_text, place_text, command, parameters, request_text};
 
 use crate::parameters::{
     push_given_parameter, push_name, push_number_parameter, push_parameter, push_values_parameter,
 };
+use call_tables::{keyword, request_table};
 use commit_level::Level;
 use entry_codec::Images;
 use field_types::names::Name;
 use library_model::requests::{
-    AccessPath, ChainRecord, ChainTo, EndJob, EndReason, FileMember, JournaledChanges, Limit,
-    LockOption, OpenFile, OpenOption, RangeEnd, ReadEqual, ReadRecord, Request, SetPosition,
-    UpdateRecord, WriteRecord,
+    AccessPath, ChainTo, EndReason, Limit, LockOption, OpenOption, RangeEnd, Request,
 };
 use std::alloc::AllocError;
 
@@ -25,106 +24,61 @@ pub fn push_request(out: &mut Vec<u8>, request: &Request) -> Result<(), AllocErr
     push_parameters(out, request)
 }
 
+macro_rules! command_arms {
+    (($request:expr) $($group:ident { $($name:ident $word:literal $args:tt $asked:tt)* })*) => {
+        match $request {
+            $($(Request::$name { .. } => $word,)*)*
+        }
+    };
+}
+
+macro_rules! parameter_arms {
+    (($out:expr, $request:expr) $($group:ident { $($name:ident $word:literal ($($args:ident { $($field:ident: $codec:ident $keywords:tt $(= $default:ident)?),* })?) $asked:tt)* })*) => {
+        match $request {
+            $($(Request::$name $((bound!(args $args)))? => {
+                $($(push!($codec $keywords args.$field, $out);)*)?
+                Ok(())
+            })*)*
+        }
+    };
+}
+
+// The arguments of a request, where it has any.
+macro_rules! bound {
+    ($args:ident $kind:ident) => { $args };
+}
+
+// Appends the parameter of a field.
+macro_rules! push {
+    (name ($keyword:ident) $name:expr, $out:expr) => { push_name($out, keyword!($keyword), &$name)? };
+    (number ($keyword:ident) $number:expr, $out:expr) => { push_number_parameter($out, keyword!($keyword), u64::from($number))? };
+    (sequence ($keyword:ident) $number:expr, $out:expr) => { push_number_parameter($out, keyword!($keyword), $number)? };
+    (range_end ($keyword:ident) $end:expr, $out:expr) => { push_end($out, keyword!($keyword), $end)? };
+    (level ($keyword:ident) $level:expr, $out:expr) => { push_parameter($out, keyword!($keyword), level_text($level))? };
+    (images ($keyword:ident) $images:expr, $out:expr) => { push_parameter($out, keyword!($keyword), images_text($images))? };
+    (option ($keyword:ident) $option:expr, $out:expr) => { push_parameter($out, keyword!($keyword), option_text($option))? };
+    (commit ($keyword:ident) $yes:expr, $out:expr) => { push_parameter($out, keyword!($keyword), yes_or_no($yes))? };
+    (access_path ($keyword:ident) $path:expr, $out:expr) => { push_parameter($out, keyword!($keyword), path_text($path))? };
+    (lock ($keyword:ident) $lock:expr, $out:expr) => { push_parameter($out, keyword!($keyword), lock_text($lock))? };
+    (reason ($keyword:ident) $reason:expr, $out:expr) => { push_parameter($out, keyword!($keyword), reason_text($reason))? };
+    (format ($keyword:ident) $format:expr, $out:expr) => { push_format($out, keyword!($keyword), $format)? };
+    (place ($keyword:ident) $place:expr, $out:expr) => { push_place($out, keyword!($keyword), $place)? };
+    (values ($keyword:ident) $values:expr, $out:expr) => { push_values_parameter($out, keyword!($keyword), &$values)? };
+    (given_values ($keyword:ident) $values:expr, $out:expr) => { push_given_parameter($out, keyword!($keyword), &$values)? };
+    (limit (Key, RecordNumber) $to:expr, $out:expr) => { push_limit($out, &$to)? };
+    (chain_to (Key, RecordNumber) $to:expr, $out:expr) => { push_chain_to($out, &$to)? };
+}
+
 fn command(request: &Request) -> &'static [u8]
     ensures { result.now ≡ command request.now }
 {
-    match request {
-        Request::CreatePhysicalFile(_) => b"CRTPF",
-        Request::CreateLogicalFile(_) => b"CRTLF",
-        Request::DeleteFile(_) => b"DLTF",
-        Request::AddMember(_) => b"ADDPFM",
-        Request::ClearMember(_) => b"CLRPFM",
-        Request::ReorganizeMember(_) => b"RGZPFM",
-        Request::StartJournaling(_) => b"STRJRNPF",
-        Request::EndJournaling(_) => b"ENDJRNPF",
-        Request::ChangeJournal => b"CHGJRN",
-        Request::DeleteReceiver(_) => b"DLTJRNRCV",
-        Request::Checkpoint => b"CHKPT",
-        Request::DisplayJournal(_) => b"DSPJRN",
-        Request::ApplyChanges(_) => b"APYJRNCHG",
-        Request::RemoveChanges(_) => b"RMVJRNCHG",
-        Request::StartCommitment(_) => b"STRCMTCTL",
-        Request::EndCommitment => b"ENDCMTCTL",
-        Request::Commit => b"COMMIT",
-        Request::Rollback => b"ROLLBACK",
-        Request::OpenFile(_) => b"OPNDBF",
-        Request::CloseFile(_) => b"CLOF",
-        Request::SetLowerLimit(_) => b"SETLL",
-        Request::SetGreaterThan(_) => b"SETGT",
-        Request::Read(_) => b"READ",
-        Request::ReadPrior(_) => b"READP",
-        Request::ReadEqual(_) => b"READE",
-        Request::ReadPriorEqual(_) => b"READPE",
-        Request::Chain(_) => b"CHAIN",
-        Request::Write(_) => b"WRITE",
-        Request::Update(_) => b"UPDATE",
-        Request::Delete(_) => b"DELETE",
-        Request::Unlock(_) => b"UNLOCK",
-        Request::EndJob(_) => b"ENDJOB",
-    }
+    request_table!(command_arms!(request))
 }
 
 fn push_parameters(out: &mut Vec<u8>, request: &Request) -> Result<(), AllocError>
     ensures { OnOk result (out.new.items ≡ out.old.items ++ parameters request.now) }
 {
-    match request {
-        Request::CreatePhysicalFile(args) => push_file_source(out, &args.file, &args.source),
-        Request::CreateLogicalFile(args) => push_file_source(out, &args.file, &args.source),
-        Request::DeleteFile(args) => push_name(out, b"FILE", &args.file),
-        Request::AddMember(args)
-        | Request::ClearMember(args)
-        | Request::ReorganizeMember(args)
-        | Request::EndJournaling(args) => push_file_member(out, &args.file, &args.member),
-        Request::StartJournaling(args) => {
-            push_file_member(out, &args.file, &args.member)?;
-            push_parameter(out, b"IMAGES", images_text(args.images))
-        }
-        Request::ChangeJournal
-        | Request::Checkpoint
-        | Request::EndCommitment
-        | Request::Commit
-        | Request::Rollback => Ok(()),
-        Request::DeleteReceiver(args) => push_number_parameter(out, b"RCV", u64::from(args.number)),
-        Request::DisplayJournal(args) => {
-            push_number_parameter(out, b"FROMENT", args.from)?;
-            push_number_parameter(out, b"TOENT", args.to)
-        }
-        Request::ApplyChanges(args) | Request::RemoveChanges(args) => push_range(out, args),
-        Request::StartCommitment(args) => push_parameter(out, b"LCKLVL", level_text(args.level)),
-        Request::OpenFile(args) => push_open(out, args),
-        Request::CloseFile(args) | Request::Delete(args) | Request::Unlock(args) => {
-            push_name(out, b"OPNID", &args.open_id)
-        }
-        Request::SetLowerLimit(args) | Request::SetGreaterThan(args) => push_position(out, args),
-        Request::Read(args) | Request::ReadPrior(args) => push_read(out, args),
-        Request::ReadEqual(args) | Request::ReadPriorEqual(args) => push_read_equal(out, args),
-        Request::Chain(args) => push_chain(out, args),
-        Request::Write(args) => push_write(out, args),
-        Request::Update(args) => push_update(out, args),
-        Request::EndJob(args) => push_end_job(out, args),
-    }
-}
-
-fn push_file_source(out: &mut Vec<u8>, file: &Name, source: &Name) -> Result<(), AllocError>
-    ensures { OnOk result (out.new.items ≡ out.old.items ++ (parameter (codes "FILE") file.now ++ parameter (codes "SRC") source.now)) }
-{
-    push_name(out, b"FILE", file)?;
-    push_name(out, b"SRC", source)
-}
-
-fn push_file_member(out: &mut Vec<u8>, file: &Name, member: &Name) -> Result<(), AllocError>
-    ensures { OnOk result (out.new.items ≡ out.old.items ++ (parameter (codes "FILE") file.now ++ parameter (codes "MBR") member.now)) }
-{
-    push_name(out, b"FILE", file)?;
-    push_name(out, b"MBR", member)
-}
-
-fn push_range(out: &mut Vec<u8>, args: &JournaledChanges) -> Result<(), AllocError>
-    ensures { OnOk result (out.new.items ≡ out.old.items ++ range_parameters args.now) }
-{
-    push_file_member(out, &args.file, &args.member)?;
-    push_end(out, b"FROMENT", args.from)?;
-    push_end(out, b"TOENT", args.to)
+    request_table!(parameter_arms!(out, request))
 }
 
 fn push_end(out: &mut Vec<u8>, keyword: &[u8], end: RangeEnd) -> Result<(), AllocError>
@@ -137,100 +91,46 @@ fn push_end(out: &mut Vec<u8>, keyword: &[u8], end: RangeEnd) -> Result<(), Allo
     }
 }
 
-fn push_open(out: &mut Vec<u8>, args: &OpenFile) -> Result<(), AllocError>
-    ensures { OnOk result (out.new.items ≡ out.old.items ++ open_parameters args.now) }
+fn push_limit(out: &mut Vec<u8>, to: &Limit) -> Result<(), AllocError>
+    ensures { OnOk result (out.new.items ≡ out.old.items ++ limit_parameter to.now) }
 {
-    push_name(out, b"FILE", &args.file)?;
-    push_parameter(out, b"OPTION", option_text(args.option))?;
-    push_name(out, b"MBR", &args.member)?;
-    push_name(out, b"OPNID", &args.open_id)?;
-    push_parameter(out, b"COMMIT", yes_or_no(args.commit))?;
-    push_parameter(out, b"ACCPTH", path_text(args.access_path))
-}
-
-fn push_position(out: &mut Vec<u8>, args: &SetPosition) -> Result<(), AllocError>
-    ensures { OnOk result (out.new.items ≡ out.old.items ++ position_parameters args.now) }
-{
-    push_name(out, b"OPNID", &args.open_id)?;
-    match &args.to {
-        Limit::Key(values) => push_values_parameter(out, b"KEY", values),
-        Limit::LowValue => push_parameter(out, b"KEY", b"*LOVAL"),
-        Limit::HighValue => push_parameter(out, b"KEY", b"*HIVAL"),
-        Limit::RecordNumber(rrn) => push_number_parameter(out, b"RRN", u64::from(*rrn)),
+    match to {
+        Limit::Key(values) => push_values_parameter(out, keyword!(Key), values),
+        Limit::LowValue => push_parameter(out, keyword!(Key), b"*LOVAL"),
+        Limit::HighValue => push_parameter(out, keyword!(Key), b"*HIVAL"),
+        Limit::RecordNumber(rrn) => {
+            push_number_parameter(out, keyword!(RecordNumber), u64::from(*rrn))
+        }
     }
-}
-
-fn push_read(out: &mut Vec<u8>, args: &ReadRecord) -> Result<(), AllocError>
-    ensures { OnOk result (out.new.items ≡ out.old.items ++ read_parameters args.now) }
-{
-    push_name(out, b"OPNID", &args.open_id)?;
-    push_parameter(out, b"LCK", lock_text(args.lock))
-}
-
-fn push_read_equal(out: &mut Vec<u8>, args: &ReadEqual) -> Result<(), AllocError>
-    ensures { OnOk result (out.new.items ≡ out.old.items ++ equal_parameters args.now) }
-{
-    push_name(out, b"OPNID", &args.open_id)?;
-    push_values_parameter(out, b"KEY", &args.key)?;
-    push_parameter(out, b"LCK", lock_text(args.lock))
-}
-
-fn push_chain(out: &mut Vec<u8>, args: &ChainRecord) -> Result<(), AllocError>
-    ensures { OnOk result (out.new.items ≡ out.old.items ++ (parameter (codes "OPNID") args.now.open_id ++ chain_parameter args.now.to ++ parameter (codes "LCK") (lock_text args.now.lock))) }
-{
-    push_name(out, b"OPNID", &args.open_id)?;
-    push_chain_to(out, &args.to)?;
-    push_parameter(out, b"LCK", lock_text(args.lock))
 }
 
 fn push_chain_to(out: &mut Vec<u8>, to: &ChainTo) -> Result<(), AllocError>
     ensures { OnOk result (out.new.items ≡ out.old.items ++ chain_parameter to.now) }
 {
     match to {
-        ChainTo::Key(values) => push_values_parameter(out, b"KEY", values),
-        ChainTo::RecordNumber(rrn) => push_number_parameter(out, b"RRN", u64::from(*rrn)),
+        ChainTo::Key(values) => push_values_parameter(out, keyword!(Key), values),
+        ChainTo::RecordNumber(rrn) => {
+            push_number_parameter(out, keyword!(RecordNumber), u64::from(*rrn))
+        }
     }
 }
 
-fn push_write(out: &mut Vec<u8>, args: &WriteRecord) -> Result<(), AllocError>
-    ensures { OnOk result (out.new.items ≡ out.old.items ++ write_parameters args.now) }
-{
-    push_name(out, b"OPNID", &args.open_id)?;
-    push_format(out, args.format)?;
-    push_place(out, args.record_number)?;
-    push_given_parameter(out, &args.values)
-}
-
-fn push_format(out: &mut Vec<u8>, format: Option<Name>) -> Result<(), AllocError>
-    ensures { OnOk result (out.new.items ≡ out.old.items ++ parameter (codes "FMT") (format_text format)) }
+fn push_format(out: &mut Vec<u8>, keyword: &[u8], format: Option<Name>) -> Result<(), AllocError>
+    ensures { OnOk result (out.new.items ≡ out.old.items ++ parameter keyword.now (format_text format)) }
 {
     match format {
-        None => push_parameter(out, b"FMT", b"*FILE"),
-        Some(name) => push_name(out, b"FMT", &name),
+        None => push_parameter(out, keyword, b"*FILE"),
+        Some(name) => push_name(out, keyword, &name),
     }
 }
 
-fn push_place(out: &mut Vec<u8>, place: Option<u32>) -> Result<(), AllocError>
-    ensures { OnOk result (out.new.items ≡ out.old.items ++ parameter (codes "RRN") (place_text place)) }
+fn push_place(out: &mut Vec<u8>, keyword: &[u8], place: Option<u32>) -> Result<(), AllocError>
+    ensures { OnOk result (out.new.items ≡ out.old.items ++ parameter keyword.now (place_text place)) }
 {
     match place {
-        None => push_parameter(out, b"RRN", b"*END"),
-        Some(rrn) => push_number_parameter(out, b"RRN", u64::from(rrn)),
+        None => push_parameter(out, keyword, b"*END"),
+        Some(rrn) => push_number_parameter(out, keyword, u64::from(rrn)),
     }
-}
-
-fn push_update(out: &mut Vec<u8>, args: &UpdateRecord) -> Result<(), AllocError>
-    ensures { OnOk result (out.new.items ≡ out.old.items ++ (parameter (codes "OPNID") args.now.open_id ++ parameter (codes "VAL") (given_values_text args.now.values))) }
-{
-    push_name(out, b"OPNID", &args.open_id)?;
-    push_given_parameter(out, &args.values)
-}
-
-fn push_end_job(out: &mut Vec<u8>, args: &EndJob) -> Result<(), AllocError>
-    ensures { OnOk result (out.new.items ≡ out.old.items ++ (parameter (codes "REASON") (reason_text args.now.reason) ++ number_parameter (codes "LINE") args.now.line)) }
-{
-    push_parameter(out, b"REASON", reason_text(args.reason))?;
-    push_number_parameter(out, b"LINE", u64::from(args.line))
 }
 
 pub fn level_text(level: Level) -> &'static [u8]

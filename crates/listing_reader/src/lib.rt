@@ -4,11 +4,9 @@
 mod entries;
 mod entry_bodies;
 mod entry_fields;
-mod file_requests;
 pub mod laws;
 mod lines;
 pub mod listings;
-mod record_requests;
 mod refusals;
 mod replies;
 mod requests;

@@ -1,61 +1,14 @@
 //! What the refusals carry, by `specs/Replies.antt`.
-ghost use Rattle.std.specs.Prelude.{◌≡◌, ◌<◌, ◌^◌, length};
+ghost use Rattle.std.specs.Prelude.{◌≡◌};
 ghost use Rattle.statement_reader.specs.Words.{words};
-ghost use Rattle.listing_reader.specs.Replies.{record_in_use, duplicate_key, does_not_fit, missing_of, missing_in, field_fault, record_fault_of, record_fault_in, dds_fault_in, limit_reached};
+ghost use Rattle.listing_reader.specs.Replies.{missing_of, missing_in, field_fault, record_fault_of, record_fault_in, dds_fault_in};
 
 use dds_source::DdsFault;
 use field_types::faults::RecordFault;
-use field_types::names::Name;
-use library_model::replies::{Missing, Reply};
-use listing_words::choices::{cause_of, limit_of, value_fault_of};
-use listing_words::numbers::{long_in, number, number_in};
-use listing_words::words::{given, job_in, name_in, name_of};
-
-/// RecordInUse
-#[tactic(auto, unfolding(crate::specs::Replies::record_in_use))]
-pub fn record_in_use(names: &[Name], text: &[u8]) -> Option<Reply>
-    requires { length names.now < 2 ^ 32 }
-    ensures { result ≡ record_in_use names.now (words text.now) }
-{
-    let Some(job) = job_in(names, text, b"JOB") else {
-        return None;
-    };
-    let Some(member) = number_in(text, b"MBR") else {
-        return None;
-    };
-    let Some(rrn) = number_in(text, b"RRN") else {
-        return None;
-    };
-    Some(Reply::RecordInUse { job, member, rrn })
-}
-
-/// DuplicateKey
-#[tactic(auto, unfolding(crate::specs::Replies::duplicate_key))]
-pub fn duplicate_key(text: &[u8]) -> Option<Reply>
-    ensures { result ≡ duplicate_key (words text.now) }
-{
-    let Some(file) = name_in(text, b"FILE") else {
-        return None;
-    };
-    let Some(rrn) = number_in(text, b"RRN") else {
-        return None;
-    };
-    Some(Reply::DuplicateKey { file, rrn })
-}
-
-/// DoesNotFit
-#[tactic(auto, unfolding(crate::specs::Replies::does_not_fit))]
-pub fn does_not_fit(text: &[u8]) -> Option<Reply>
-    ensures { result ≡ does_not_fit (words text.now) }
-{
-    let Some(sequence) = long_in(text, b"SEQ") else {
-        return None;
-    };
-    let Some(rrn) = number_in(text, b"RRN") else {
-        return None;
-    };
-    Some(Reply::DoesNotFit { sequence, rrn })
-}
+use library_model::replies::Missing;
+use listing_words::choices::{cause_of, value_fault_of};
+use listing_words::numbers::{number, number_in};
+use listing_words::words::{given, name_of};
 
 #[tactic(auto, unfolding(crate::specs::Replies::missing_of))]
 fn missing_of(word: &[u8]) -> Option<Missing>
@@ -145,21 +98,4 @@ pub fn dds_fault_in(text: &[u8]) -> Option<DdsFault>
         column,
         cause,
     })
-}
-
-/// LimitReached
-#[tactic(auto, unfolding(crate::specs::Replies::limit_reached))]
-pub fn limit_reached(text: &[u8]) -> Option<Reply>
-    ensures { result ≡ limit_reached (words text.now) }
-{
-    let Some(word) = given(text, b"LIMIT") else {
-        return None;
-    };
-    let Some(which) = limit_of(word) else {
-        return None;
-    };
-    let Some(number) = long_in(text, b"NBR") else {
-        return None;
-    };
-    Some(Reply::LimitReached { which, number })
 }

@@ -5,13 +5,12 @@ ghost use Rattle.listing_reader.specs.Replies.{stands, begins_with_stroke, recor
 
 use crate::entries::entries_in;
 use crate::entry_fields::changes_in;
-use crate::refusals::{
-    dds_fault_in, does_not_fit, duplicate_key, limit_reached, missing_in, record_fault_in,
-    record_in_use,
-};
+use crate::refusals::{dds_fault_in, missing_in, record_fault_in};
+use call_tables::{keyword, reply_table};
 use field_types::names::Name;
 use library_model::replies::{RecordRead, Reply};
 use listing_words::answers::{ReplyKind, reply_named};
+use listing_words::choices::limit_of;
 use listing_words::numbers::{long_in, number_in};
 use listing_words::parameters::values_in;
 use listing_words::words::{given, job_in, name_in};
@@ -100,8 +99,50 @@ fn ok_reply(alloc: Global, text: &[u8]) -> Result<Option<Reply>, AllocError>
     }
 }
 
+// The rows of refusals.
+macro_rules! refusal_groups {
+    ($with:tt done $done:tt results $results:tt records { $($records:tt)* } states { $($states:tt)* } names { $($names:tt)* }
+        ranges { $($ranges:tt)* } receivers { $($receivers:tt)* } limits { $($limits:tt)* }) => {
+        refusal_arms!($with $($records)* $($states)* $($names)* $($ranges)* $($receivers)* $($limits)*)
+    };
+}
+
+macro_rules! refusal_arms {
+    (($alloc:expr, $names:expr, $kind:expr, $text:expr) $($name:ident $answer:literal ($({ $($field:ident),* })? $(($held:ident))?) [$($codec:ident ($($keyword:ident)?; $part:ident))*])*) => {
+        match $kind {
+            ReplyKind::Done => ok_reply($alloc, $text),
+            $(ReplyKind::$name => {
+                $(let Some($part) = read!($codec ($($keyword)?), $names, $text) else {
+                    return Ok(None);
+                };)*
+                Ok(Some(Reply::$name $({ $($field),* })? $(($held))?))
+            })*
+        }
+    };
+}
+
+// A part of what a reply carries.
+macro_rules! read {
+    (name ($keyword:ident), $names:expr, $text:expr) => { name_in($text, keyword!($keyword)) };
+    (number ($keyword:ident), $names:expr, $text:expr) => { number_in($text, keyword!($keyword)) };
+    (sequence ($keyword:ident), $names:expr, $text:expr) => { long_in($text, keyword!($keyword)) };
+    (long ($keyword:ident), $names:expr, $text:expr) => { long_in($text, keyword!($keyword)) };
+    (job ($keyword:ident), $names:expr, $text:expr) => { job_in($names, $text, keyword!($keyword)) };
+    (limit_kind ($keyword:ident), $names:expr, $text:expr) => {
+        ({
+            let Some(word) = given($text, keyword!($keyword)) else {
+                return Ok(None);
+            };
+            limit_of(word)
+        })
+    };
+    (missing (Name), $names:expr, $text:expr) => { missing_in($text) };
+    (record_fault (), $names:expr, $text:expr) => { record_fault_in($text) };
+    (dds_fault (), $names:expr, $text:expr) => { dds_fault_in($text) };
+}
+
 /// What is answered, with what is carried.
-#[tactic(auto, unfolding(crate::specs::Replies::reply_of))]
+#[tactic(auto, unfolding(crate::specs::Replies::reply_of, crate::specs::Replies::record_in_use, crate::specs::Replies::duplicate_key, crate::specs::Replies::does_not_fit, crate::specs::Replies::limit_reached))]
 fn reply_of(
     alloc: Global,
     names: &[Name],
@@ -111,56 +152,7 @@ fn reply_of(
     requires { length names.now < 2 ^ 32 }
     ensures { IfOk result (λ reply. reply ≡ reply_of names.now kind (words text.now)) }
 {
-    match kind {
-        ReplyKind::Done => ok_reply(alloc, text),
-        ReplyKind::RecordInUse => Ok(record_in_use(names, text)),
-        ReplyKind::HeldByGroup => Ok(number_in(text, b"RRN").map(|rrn| Reply::HeldByGroup { rrn })),
-        ReplyKind::PlaceInUse => Ok(number_in(text, b"RRN").map(|rrn| Reply::PlaceInUse { rrn })),
-        ReplyKind::HeldToBoundary => Ok(Some(Reply::HeldToBoundary)),
-        ReplyKind::NotFound => Ok(Some(Reply::NotFound)),
-        ReplyKind::EndOfFile => Ok(Some(Reply::EndOfFile)),
-        ReplyKind::BeginOfFile => Ok(Some(Reply::BeginOfFile)),
-        ReplyKind::NoCurrentRecord => Ok(Some(Reply::NoCurrentRecord)),
-        ReplyKind::WrongOpen => Ok(Some(Reply::WrongOpen)),
-        ReplyKind::NoDefinition => Ok(Some(Reply::NoDefinition)),
-        ReplyKind::AlreadyStarted => Ok(Some(Reply::AlreadyStarted)),
-        ReplyKind::NoSuchEntry => Ok(Some(Reply::NoSuchEntry)),
-        ReplyKind::MemberFull => Ok(Some(Reply::MemberFull)),
-        ReplyKind::StoreFault => Ok(Some(Reply::StoreFault)),
-        ReplyKind::NoMemory => Ok(Some(Reply::NoMemory)),
-        ReplyKind::DuplicateKey => Ok(duplicate_key(text)),
-        ReplyKind::NoSuchName => Ok(missing_in(text).map(Reply::NoSuchName)),
-        ReplyKind::NameExists => Ok(name_in(text, b"NAME").map(|name| Reply::NameExists { name })),
-        ReplyKind::Dependents => Ok(name_in(text, b"NAME").map(|name| Reply::Dependents { name })),
-        ReplyKind::BadValue => Ok(record_fault_in(text).map(Reply::BadValue)),
-        ReplyKind::DdsFault => Ok(dds_fault_in(text).map(Reply::DdsFault)),
-        ReplyKind::InUse => Ok(job_in(names, text, b"JOB").map(|job| Reply::InUse { job })),
-        ReplyKind::NotJournaled => Ok(number_in(text, b"MBR").map(|member| Reply::NotJournaled {
-            member,
-        })),
-        ReplyKind::PendingChanges => Ok(long_in(text, b"GRP").map(|group| Reply::PendingChanges {
-            group,
-        })),
-        ReplyKind::Straddled => Ok(long_in(text, b"GRP").map(|group| Reply::Straddled { group })),
-        ReplyKind::DoesNotFit => Ok(does_not_fit(text)),
-        ReplyKind::NeedsBoth => Ok(long_in(text, b"SEQ").map(|sequence| Reply::NeedsBoth {
-            sequence,
-        })),
-        ReplyKind::Gap => Ok(long_in(text, b"SEQ").map(|sequence| Reply::Gap { sequence })),
-        ReplyKind::NotRemovable => Ok(long_in(text, b"SEQ").map(|sequence| Reply::NotRemovable {
-            sequence,
-        })),
-        ReplyKind::ReceiverGone => Ok(long_in(text, b"SEQ").map(|sequence| Reply::ReceiverGone {
-            sequence,
-        })),
-        ReplyKind::BlockChanged => Ok(long_in(text, b"SEQ").map(|sequence| Reply::BlockChanged {
-            sequence,
-        })),
-        ReplyKind::StillNeeded => Ok(long_in(text, b"SEQ").map(|sequence| Reply::StillNeeded {
-            sequence,
-        })),
-        ReplyKind::LimitReached => Ok(limit_reached(text)),
-    }
+    reply_table!(refusal_groups!(alloc, names, kind, text))
 }
 
 /// The reply of its first word and of the text behind it.

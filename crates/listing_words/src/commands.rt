@@ -2,6 +2,8 @@
 ghost use Rattle.std.specs.Prelude.{◌≡◌};
 ghost use Rattle.listing_words.specs.Commands.{file_command, journal_command, open_command, record_command, request_named};
 
+use call_tables::request_table;
+
 /// What a request asks, without its parameters.
 #[derive(Clone, Copy)]
 pub enum RequestKind {
@@ -71,6 +73,39 @@ pub enum RequestKind {
     Delete,
 }
 
+// The rows of some groups, in the order of the definitions.
+macro_rules! file_rows {
+    (($word:expr) files { $($files:tt)* } journaling { $($journaling:tt)* } $($others:tt)*) => {
+        named!(($word) $($files)* $($journaling)*)
+    };
+}
+
+macro_rules! journal_rows {
+    (($word:expr) files $f:tt journaling $j:tt journal { $($journal:tt)* } commitment { $($commitment:tt)* } $($others:tt)*) => {
+        named!(($word) $($journal)* $($commitment)*)
+    };
+}
+
+macro_rules! open_rows {
+    (($word:expr) files $f:tt journaling $j:tt journal $l:tt commitment $c:tt boundaries { $($boundaries:tt)* } opens { $($opens:tt)* } records $r:tt
+        unlock { $($unlock:tt)* } end { $($end:tt)* }) => {
+        named!(($word) $($boundaries)* $($opens)* $($unlock)* $($end)*)
+    };
+}
+
+macro_rules! record_rows {
+    (($word:expr) files $f:tt journaling $j:tt journal $l:tt commitment $c:tt boundaries $b:tt opens $o:tt records { $($records:tt)* } $($others:tt)*) => {
+        named!(($word) $($records)*)
+    };
+}
+
+macro_rules! named {
+    (($word:expr)) => { None };
+    (($word:expr) $name:ident $text:literal $args:tt $asked:tt $($others:tt)*) => {
+        if $word == $text.as_slice() { Some(RequestKind::$name) } else { named!(($word) $($others)*) }
+    };
+}
+
 /// What a command asks.
 #[tactic(auto, unfolding(crate::specs::Commands::request_named))]
 pub fn request_named(word: &[u8]) -> Option<RequestKind>
@@ -86,98 +121,26 @@ pub fn request_named(word: &[u8]) -> Option<RequestKind>
 fn file_command(word: &[u8]) -> Option<RequestKind>
     ensures { result ≡ file_command word.now }
 {
-    if word == b"CRTPF".as_slice() {
-        Some(RequestKind::CreatePhysicalFile)
-    } else if word == b"CRTLF".as_slice() {
-        Some(RequestKind::CreateLogicalFile)
-    } else if word == b"DLTF".as_slice() {
-        Some(RequestKind::DeleteFile)
-    } else if word == b"ADDPFM".as_slice() {
-        Some(RequestKind::AddMember)
-    } else if word == b"CLRPFM".as_slice() {
-        Some(RequestKind::ClearMember)
-    } else if word == b"RGZPFM".as_slice() {
-        Some(RequestKind::ReorganizeMember)
-    } else if word == b"STRJRNPF".as_slice() {
-        Some(RequestKind::StartJournaling)
-    } else if word == b"ENDJRNPF".as_slice() {
-        Some(RequestKind::EndJournaling)
-    } else {
-        None
-    }
+    request_table!(file_rows!(word))
 }
 
 #[tactic(auto, unfolding(crate::specs::Commands::journal_command))]
 fn journal_command(word: &[u8]) -> Option<RequestKind>
     ensures { result ≡ journal_command word.now }
 {
-    if word == b"CHGJRN".as_slice() {
-        Some(RequestKind::ChangeJournal)
-    } else if word == b"DLTJRNRCV".as_slice() {
-        Some(RequestKind::DeleteReceiver)
-    } else if word == b"CHKPT".as_slice() {
-        Some(RequestKind::Checkpoint)
-    } else if word == b"DSPJRN".as_slice() {
-        Some(RequestKind::DisplayJournal)
-    } else if word == b"APYJRNCHG".as_slice() {
-        Some(RequestKind::ApplyChanges)
-    } else if word == b"RMVJRNCHG".as_slice() {
-        Some(RequestKind::RemoveChanges)
-    } else if word == b"STRCMTCTL".as_slice() {
-        Some(RequestKind::StartCommitment)
-    } else if word == b"ENDCMTCTL".as_slice() {
-        Some(RequestKind::EndCommitment)
-    } else {
-        None
-    }
+    request_table!(journal_rows!(word))
 }
 
 #[tactic(auto, unfolding(crate::specs::Commands::open_command))]
 fn open_command(word: &[u8]) -> Option<RequestKind>
     ensures { result ≡ open_command word.now }
 {
-    if word == b"COMMIT".as_slice() {
-        Some(RequestKind::Commit)
-    } else if word == b"ROLLBACK".as_slice() {
-        Some(RequestKind::Rollback)
-    } else if word == b"OPNDBF".as_slice() {
-        Some(RequestKind::OpenFile)
-    } else if word == b"CLOF".as_slice() {
-        Some(RequestKind::CloseFile)
-    } else if word == b"SETLL".as_slice() {
-        Some(RequestKind::SetLowerLimit)
-    } else if word == b"SETGT".as_slice() {
-        Some(RequestKind::SetGreaterThan)
-    } else if word == b"UNLOCK".as_slice() {
-        Some(RequestKind::Unlock)
-    } else if word == b"ENDJOB".as_slice() {
-        Some(RequestKind::EndJob)
-    } else {
-        None
-    }
+    request_table!(open_rows!(word))
 }
 
 #[tactic(auto, unfolding(crate::specs::Commands::record_command))]
 fn record_command(word: &[u8]) -> Option<RequestKind>
     ensures { result ≡ record_command word.now }
 {
-    if word == b"READ".as_slice() {
-        Some(RequestKind::Read)
-    } else if word == b"READP".as_slice() {
-        Some(RequestKind::ReadPrior)
-    } else if word == b"READE".as_slice() {
-        Some(RequestKind::ReadEqual)
-    } else if word == b"READPE".as_slice() {
-        Some(RequestKind::ReadPriorEqual)
-    } else if word == b"CHAIN".as_slice() {
-        Some(RequestKind::Chain)
-    } else if word == b"WRITE".as_slice() {
-        Some(RequestKind::Write)
-    } else if word == b"UPDATE".as_slice() {
-        Some(RequestKind::Update)
-    } else if word == b"DELETE".as_slice() {
-        Some(RequestKind::Delete)
-    } else {
-        None
-    }
+    request_table!(record_rows!(word))
 }

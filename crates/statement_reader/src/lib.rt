@@ -4,14 +4,13 @@
 mod arguments;
 mod commands;
 mod control;
-mod file_requests;
-mod journal_requests;
 mod literals;
 mod numbers;
 mod operands;
 mod parameters;
+mod phrases;
+mod positions;
 pub mod reading;
-mod record_requests;
 mod refusal_names;
 pub mod variables;
 pub mod words;

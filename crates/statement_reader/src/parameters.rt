@@ -4,6 +4,7 @@ ghost use Rattle.statement_reader.specs.Words.{words};
 ghost use Rattle.statement_reader.specs.Parameters.{spelled, behind, before, inside, given, has_only};
 
 use crate::words::{next_word, word_count};
+use call_tables::keyword;
 
 /// A parameter, by its name.
 #[derive(Clone, Copy)]
@@ -67,24 +68,24 @@ impl Parameter {
         ensures { result.now ≡ spelled self }
     {
         match self {
-            Parameter::File => b"FILE",
-            Parameter::Source => b"SRC",
-            Parameter::Member => b"MBR",
-            Parameter::Images => b"IMAGES",
-            Parameter::Receiver => b"RCV",
-            Parameter::FromEntry => b"FROMENT",
-            Parameter::ToEntry => b"TOENT",
-            Parameter::LockLevel => b"LCKLVL",
-            Parameter::Option => b"OPTION",
-            Parameter::OpenId => b"OPNID",
-            Parameter::Commit => b"COMMIT",
-            Parameter::AccessPath => b"ACCPTH",
-            Parameter::Key => b"KEY",
-            Parameter::RecordNumber => b"RRN",
-            Parameter::Lock => b"LCK",
-            Parameter::To => b"TO",
-            Parameter::Format => b"FMT",
-            Parameter::Values => b"VAL",
+            Parameter::File => keyword!(File),
+            Parameter::Source => keyword!(Source),
+            Parameter::Member => keyword!(Member),
+            Parameter::Images => keyword!(Images),
+            Parameter::Receiver => keyword!(Receiver),
+            Parameter::FromEntry => keyword!(FromEntry),
+            Parameter::ToEntry => keyword!(ToEntry),
+            Parameter::LockLevel => keyword!(LockLevel),
+            Parameter::Option => keyword!(Option),
+            Parameter::OpenId => keyword!(OpenId),
+            Parameter::Commit => keyword!(Commit),
+            Parameter::AccessPath => keyword!(AccessPath),
+            Parameter::Key => keyword!(Key),
+            Parameter::RecordNumber => keyword!(RecordNumber),
+            Parameter::Lock => keyword!(Lock),
+            Parameter::To => keyword!(To),
+            Parameter::Format => keyword!(Format),
+            Parameter::Values => keyword!(Values),
             Parameter::Variable => b"VAR",
             Parameter::Value => b"VALUE",
             Parameter::Condition => b"COND",

@@ -2,7 +2,38 @@
 ghost use Rattle.std.specs.Prelude.{◌≡◌};
 ghost use Rattle.statement_reader.specs.RefusalNames.{record_refusal, state_refusal, file_refusal, journal_refusal, refusal_named};
 
+use call_tables::reply_table;
 use job_language::refusals::Refusal;
+
+// The rows of some groups, in the order of the definitions.
+macro_rules! record_rows {
+    (($word:expr) done $d:tt results $r:tt records { $($records:tt)* } $($others:tt)*) => { named!(($word) $($records)*) };
+}
+
+macro_rules! state_rows {
+    (($word:expr) done $d:tt results $r:tt records $c:tt states { $($states:tt)* } names $n:tt ranges $a:tt receivers $v:tt limits { $($limits:tt)* }) => {
+        named!(($word) $($states)* $($limits)*)
+    };
+}
+
+macro_rules! file_rows {
+    (($word:expr) done $d:tt results $r:tt records $c:tt states $s:tt names { $($names:tt)* } $($others:tt)*) => {
+        named!(($word) $($names)*)
+    };
+}
+
+macro_rules! journal_rows {
+    (($word:expr) done $d:tt results $r:tt records $c:tt states $s:tt names $n:tt ranges { $($ranges:tt)* } receivers { $($receivers:tt)* } $($others:tt)*) => {
+        named!(($word) $($ranges)* $($receivers)*)
+    };
+}
+
+macro_rules! named {
+    (($word:expr)) => { None };
+    (($word:expr) $name:ident $answer:literal $fields:tt $parts:tt $($others:tt)*) => {
+        if $word == $answer.as_slice() { Some(Refusal::$name) } else { named!(($word) $($others)*) }
+    };
+}
 
 /// The refusal of this name.
 #[tactic(auto, unfolding(crate::specs::RefusalNames::refusal_named))]
@@ -19,100 +50,26 @@ pub fn refusal_named(word: &[u8]) -> Option<Refusal>
 fn record_refusal(word: &[u8]) -> Option<Refusal>
     ensures { result ≡ record_refusal word.now }
 {
-    if word == b"RecordInUse".as_slice() {
-        Some(Refusal::RecordInUse)
-    } else if word == b"HeldByGroup".as_slice() {
-        Some(Refusal::HeldByGroup)
-    } else if word == b"PlaceInUse".as_slice() {
-        Some(Refusal::PlaceInUse)
-    } else if word == b"HeldToBoundary".as_slice() {
-        Some(Refusal::HeldToBoundary)
-    } else if word == b"NotFound".as_slice() {
-        Some(Refusal::NotFound)
-    } else if word == b"EndOfFile".as_slice() {
-        Some(Refusal::EndOfFile)
-    } else if word == b"BeginOfFile".as_slice() {
-        Some(Refusal::BeginOfFile)
-    } else if word == b"NoCurrentRecord".as_slice() {
-        Some(Refusal::NoCurrentRecord)
-    } else {
-        None
-    }
+    reply_table!(record_rows!(word))
 }
 
 #[tactic(auto, unfolding(crate::specs::RefusalNames::state_refusal))]
 fn state_refusal(word: &[u8]) -> Option<Refusal>
     ensures { result ≡ state_refusal word.now }
 {
-    if word == b"WrongOpen".as_slice() {
-        Some(Refusal::WrongOpen)
-    } else if word == b"NoDefinition".as_slice() {
-        Some(Refusal::NoDefinition)
-    } else if word == b"AlreadyStarted".as_slice() {
-        Some(Refusal::AlreadyStarted)
-    } else if word == b"NoSuchEntry".as_slice() {
-        Some(Refusal::NoSuchEntry)
-    } else if word == b"MemberFull".as_slice() {
-        Some(Refusal::MemberFull)
-    } else if word == b"StoreFault".as_slice() {
-        Some(Refusal::StoreFault)
-    } else if word == b"NoMemory".as_slice() {
-        Some(Refusal::NoMemory)
-    } else if word == b"LimitReached".as_slice() {
-        Some(Refusal::LimitReached)
-    } else {
-        None
-    }
+    reply_table!(state_rows!(word))
 }
 
 #[tactic(auto, unfolding(crate::specs::RefusalNames::file_refusal))]
 fn file_refusal(word: &[u8]) -> Option<Refusal>
     ensures { result ≡ file_refusal word.now }
 {
-    if word == b"DuplicateKey".as_slice() {
-        Some(Refusal::DuplicateKey)
-    } else if word == b"NoSuchName".as_slice() {
-        Some(Refusal::NoSuchName)
-    } else if word == b"NameExists".as_slice() {
-        Some(Refusal::NameExists)
-    } else if word == b"Dependents".as_slice() {
-        Some(Refusal::Dependents)
-    } else if word == b"BadValue".as_slice() {
-        Some(Refusal::BadValue)
-    } else if word == b"DdsFault".as_slice() {
-        Some(Refusal::DdsFault)
-    } else if word == b"InUse".as_slice() {
-        Some(Refusal::InUse)
-    } else if word == b"NotJournaled".as_slice() {
-        Some(Refusal::NotJournaled)
-    } else {
-        None
-    }
+    reply_table!(file_rows!(word))
 }
 
 #[tactic(auto, unfolding(crate::specs::RefusalNames::journal_refusal))]
 fn journal_refusal(word: &[u8]) -> Option<Refusal>
     ensures { result ≡ journal_refusal word.now }
 {
-    if word == b"PendingChanges".as_slice() {
-        Some(Refusal::PendingChanges)
-    } else if word == b"Straddled".as_slice() {
-        Some(Refusal::Straddled)
-    } else if word == b"DoesNotFit".as_slice() {
-        Some(Refusal::DoesNotFit)
-    } else if word == b"NeedsBoth".as_slice() {
-        Some(Refusal::NeedsBoth)
-    } else if word == b"Gap".as_slice() {
-        Some(Refusal::Gap)
-    } else if word == b"NotRemovable".as_slice() {
-        Some(Refusal::NotRemovable)
-    } else if word == b"ReceiverGone".as_slice() {
-        Some(Refusal::ReceiverGone)
-    } else if word == b"BlockChanged".as_slice() {
-        Some(Refusal::BlockChanged)
-    } else if word == b"StillNeeded".as_slice() {
-        Some(Refusal::StillNeeded)
-    } else {
-        None
-    }
+    reply_table!(journal_rows!(word))
 }
