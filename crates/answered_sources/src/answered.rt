@@ -1,7 +1,7 @@
 //! Whether a source can be made a file so far.
-ghost use Rattle.std.specs.Prelude.{◌≡◌, IfOk, filter, length};
+ghost use Rattle.std.specs.Prelude.{◌≡◌, IfOk};
 ghost use Rattle.std.specs.Option.{option_copied};
-ghost use Rattle.dds_source.specs.Reading.{is_record};
+ghost use Rattle.dds_source.specs.Reading.{has_record, is_record};
 ghost use Rattle.dds_physical.specs.Keywords.{has_name};
 ghost use Rattle.dds_logical.specs.FormatLines.{based_on, formats_in, is_join_file, is_join_keyword, is_multi_format};
 ghost use Rattle.answered_sources.specs.Answered.{AreAnswered, has_one_view, is_answered_text};
@@ -49,20 +49,31 @@ fn has_one_view(specifications: &[Specification]) -> bool
     !is_multi_format(specifications) && !is_join_file(specifications)
 }
 
-#[tactic(auto, using(crate::proofs::FormatLemmas::formats_count))]
+/// Whether a record format begins behind the first.
 fn is_multi_format(specifications: &[Specification]) -> bool
     ensures { result ≡ is_multi_format (formats_in specifications.now) }
 {
-    count_formats(specifications) > 1
+    let mut rest = specifications;
+    while let [line, more @ ..] = rest {
+        if is_record(line.kind) {
+            return has_record(more);
+        }
+        rest = more;
+    }
+    false
 }
 
-fn count_formats(specifications: &[Specification]) -> usize
-    ensures { result ≡ length (filter (λ s. is_record s.kind) specifications.now) }
+fn has_record(specifications: &[Specification]) -> bool
+    ensures { result ≡ has_record specifications.now }
 {
-    specifications
-        .iter()
-        .filter(|specification| is_record(specification.kind))
-        .count()
+    let mut rest = specifications;
+    while let [line, more @ ..] = rest {
+        if is_record(line.kind) {
+            return true;
+        }
+        rest = more;
+    }
+    false
 }
 
 fn is_join_file(specifications: &[Specification]) -> bool
