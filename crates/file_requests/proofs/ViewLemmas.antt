@@ -50,15 +50,15 @@ use Rattle.file_requests.specs.Views.{IsSimpleSource, PlansView, allowed_by, don
 -- ---- the keys come last
 
 -- refusals one by one, or in three groups with the last behind them
-then : (left absent few : Result Bool Reply) (text : Result (List ℕ) Reply) (described : List ℕ → Result LogicalSpec Reply) (many changed undone repeated : LogicalSpec → Result Bool Reply)
+keys-last : (left absent few : Result Bool Reply) (text : Result (List ℕ) Reply) (described : List ℕ → Result LogicalSpec Reply) (many changed undone repeated : LogicalSpec → Result Bool Reply)
     → (left >>= λ _. absent >>= λ _. few >>= λ _. text >>= λ t. described t >>= λ spec. many spec >>= λ _. changed spec >>= λ _. undone spec >>= λ _. repeated spec >>= λ _. Ok (new_view t spec))
     ≡ ((left >>= λ _. (absent >>= λ _. few) >>= λ _. (text >>= λ t. described t >>= λ spec. Ok (new_view t spec)) >>= λ plan. (many plan.spec >>= λ _. changed plan.spec >>= λ _. undone plan.spec)
     >>= λ _. Ok plan) >>= λ plan. repeated plan.spec >>= λ _. Ok plan)
-then (Err reply) absent few text described many changed undone repeated = refl
-then (Ok a) (Err reply) few text described many changed undone repeated = refl
-then (Ok a) (Ok b) (Err reply) text described many changed undone repeated = refl
-then (Ok a) (Ok b) (Ok c) (Err reply) described many changed undone repeated = refl
-then (Ok a) (Ok b) (Ok c) (Ok t) described many changed undone repeated = by (described t)
+keys-last (Err reply) absent few text described many changed undone repeated = refl
+keys-last (Ok a) (Err reply) few text described many changed undone repeated = refl
+keys-last (Ok a) (Ok b) (Err reply) text described many changed undone repeated = refl
+keys-last (Ok a) (Ok b) (Ok c) (Err reply) described many changed undone repeated = refl
+keys-last (Ok a) (Ok b) (Ok c) (Ok t) described many changed undone repeated = by (described t)
   where
     last : (spec : LogicalSpec) (one two three : Result Bool Reply) → (one >>= λ _. two >>= λ _. three >>= λ _. repeated spec >>= λ _. Ok (new_view t spec))
         ≡ (((one >>= λ _. two >>= λ _. three) >>= λ _. Ok (new_view t spec)) >>= λ plan. repeated plan.spec >>= λ _. Ok plan)
@@ -75,7 +75,7 @@ then (Ok a) (Ok b) (Ok c) (Ok t) described many changed undone repeated = by (de
 pub plan-then : (sources : List NamedSource) (m : Memory) (args : CreateLogicalFile) → create_logical_plan sources m args ≡ (view_plan sources m args >>= λ plan. keys_differ args.file plan m >>= λ _. Ok plan)
 unfolding create_logical_plan view_plan view_named may_stand
 plan-then sources m args =
-    then (sequences_left m) (refuse_if (is_some (file_named args.file m)) (NameExists args.file)) (refuse_if (nat_le MOST_FILES (length m.files)) (LimitReached Files MOST_FILES))
+    keys-last (sequences_left m) (refuse_if (is_some (file_named args.file m)) (NameExists args.file)) (refuse_if (nat_le MOST_FILES (length m.files)) (LimitReached Files MOST_FILES))
     (named_or_refused args.source (text_of sources args.source)) (λ text. logical_or_refused (logical_described m text))
     (λ spec. refuse_if (list_any (has_many (logical_paths (bases_of m) spec) m) (base_members (bases_of m) spec)) (LimitReached Paths MOST_PATHS))
     (λ spec. unused (changer_of_any (base_members (bases_of m) spec) m))
