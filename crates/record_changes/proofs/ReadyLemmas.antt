@@ -1,7 +1,6 @@
 -- What is ready for a change stays so while memory is taken for the rest of it: the state stays, and of the room only what was asked for changes.
 use Rattle.std.proofs.Common.{◌≡◌, ℕ, Bool, true, false, List}
 use Rattle.member_slots.specs.declared.slot.Slot.{Slot}
-use Rattle.member_slots.specs.Members.{Numbered}
 use Rattle.path_set.specs.declared.moves.PathMove.{PathMove}
 use Rattle.library_parts.specs.Parts.{LibraryParts}
 use Rattle.library_parts.specs.Moved.{AreMovesOf, HasMovesRoom}

@@ -1,4 +1,4 @@
-use Rattle.std.proofs.Common.{Option, Some, ◌∙◌, sym, ap}
+use Rattle.std.proofs.Common.{Option, ◌∙◌, sym, ap}
 use Rattle.record_fmt.specs.declared.formats.Format.{Format}
 use Rattle.library_steps.specs.LogicalFiles.{base_in}
 use Rattle.library_steps.specs.State.{FileState}
