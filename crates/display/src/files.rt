@@ -5,6 +5,7 @@ ghost use Rattle.text_lines.specs.Lines.{lines_of};
 ghost use Rattle.display.specs.Display.{kind_text, file_line, source_line, file_text};
 
 use crate::members::push_members;
+use entry_codec::FileKind;
 use field_types::names::Name;
 use file_catalogue::{Catalogue, File};
 use member_slots::members::Members;
@@ -54,9 +55,10 @@ fn push_file_line(out: &mut Vec<u8>, name: &Name, file: &File) -> Result<(), All
 fn kind_text(file: &File) -> &'static [u8]
     ensures { result.now ≡ kind_text file.now.spec }
 {
-    // It is a physical file.
-    let _format = file.format();
-    b"*PHY"
+    match file.kind() {
+        FileKind::Physical => b"*PHY",
+        FileKind::Logical => b"*LGL",
+    }
 }
 
 /// Appends the lines of a source.
