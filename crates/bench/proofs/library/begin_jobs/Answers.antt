@@ -1,0 +1,1 @@
+use Rattle.bench.proofs.library.begin_jobs.Goals as goal
