@@ -9,7 +9,7 @@ use Rattle.library_steps.specs.History.{is_running}
 use Rattle.joint_state.specs.Sound.{IsSound}
 use Rattle.library_core.specs.Parts.{LibraryOver}
 use Rattle.library_core.specs.Running.{runs_after}
-use Rattle.library_core.specs.Stands.{Stands, IsReady}
+use Rattle.library_core.specs.Stands.{IsReady}
 use Rattle.library_core.proofs.RunLemmas.{runs-on}
 use Rattle.bench.specs.Ready.{AreReady, HasBegun}
 
@@ -30,11 +30,7 @@ AreReady-on count job r old new ready goes_on alive runs sound = record {
   sound = sound;
 }
 
--- none has begun
-pub HasBegun-none : {S : Type 0} (library : LibraryOver S) → Stands library empty_library → HasBegun 0 library
-HasBegun-none library stands = record { names = []; many = refl; alive = stands.alive; state = stands.state }
-
--- one more
+-- one more has begun
 pub HasBegun-more : {S : Type 0} (count : ℕ) (name : List ℕ) (old new : LibraryOver S) → HasBegun count old → new.state ≡ record old.state { jobs = old.state.jobs ++ new_job name ∷ [] }
     → new.failed ≡ old.failed → HasBegun (count + 1) new
 HasBegun-more count name old new before begins same =
