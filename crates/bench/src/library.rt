@@ -1,5 +1,11 @@
-//! The library that is measured, with the job that asks it.
+//! The library that is measured, with the jobs that ask it.
+ghost use Rattle.std.specs.Prelude.{◌≡◌, ◌≤◌, OnOk};
+ghost use Rattle.library_core.specs.Stands.{Stands};
+ghost use Rattle.library_steps.specs.State.{empty_library};
+ghost use Rattle.bench.specs.Ready.{HasBegun};
+
 use crate::requests::{Asker, PlainRequest};
+use field_types::names::Name;
 use library_core::library::{Library, call};
 use library_model::replies::Reply;
 use library_model::sources::Sources;
@@ -8,38 +14,38 @@ use std::alloc::AllocError;
 use std::marker::Model;
 use store_model::MemoryStore;
 
-/// A library, and a job of it that may make a call. `end` gives it up.
+/// A library, and its jobs with the numbers from 1 on, each of which may make a call. `end` gives it up.
 pub(crate) struct Bench {
     library: Library<MemoryStore>,
     sources: Sources,
-    job: u32,
+    jobs: u32,
 }
 
 impl Model for Bench {
     ghost use Rattle.std.specs.Prelude.{ℕ};
     ghost use Rattle.answered_sources.specs.Answered.{AreAnswered};
-    ghost use Rattle.library_core.specs.Stands.{IsReady};
+    ghost use Rattle.bench.specs.Ready.{AreReady};
 
     ghost Value = { ℕ };
 
-    ghost view = { λ b. b.job };
+    ghost view = { λ b. b.jobs };
 
-    ghost invariant = { λ b. IsReady b.job b.library × AreAnswered b.sources };
+    ghost invariant = { λ b. AreReady b.jobs b.library × AreAnswered b.sources };
 }
 
 impl Bench {
-    /// A library with nothing in it but the job.
-    pub(crate) fn begin(asker: &Asker) -> Result<Bench, AllocError> {
-        // A library in which a job has begun and nothing else is sound.
+    /// A library with nothing in it but so many jobs.
+    pub(crate) fn begin(asker: &Asker, jobs: u32) -> Result<Bench, AllocError> {
+        // A library in which jobs have begun and nothing else is sound.
         each_call_leaves_a_sound_library();
         let sources = asker.sources()?;
         let store = MemoryStore::new(asker.alloc());
         let mut library = Library::empty(asker.alloc(), store);
-        match library.begin_job(asker.job()) {
-            Ok(job) => Ok(Bench {
+        match begin_jobs(&mut library, asker.job(), jobs) {
+            Ok(()) => Ok(Bench {
                 library,
                 sources,
-                job,
+                jobs,
             }),
             Err(error) => {
                 let _ = library.into_store();
@@ -48,21 +54,27 @@ impl Bench {
         }
     }
 
-    /// Makes a call.
-    fn ask(&mut self, request: &PlainRequest) -> Reply {
+    /// Makes a call of a job.
+    fn ask(&mut self, job: u32, request: &PlainRequest) -> Reply
+        requires { (1 ≤ job) × (job ≤ self.old) }
+        ensures { self.new ≡ self.old }
+    {
         call(
             &mut self.library,
-            self.job,
+            job,
             0,
             &self.sources,
             request.as_request(),
         )
     }
 
-    /// Makes calls in order up to the first that is refused, and counts those before it.
-    pub(crate) fn ask_all(&mut self, requests: &[PlainRequest]) -> usize {
+    /// Makes calls of a job in order up to the first that is refused, and counts those before it. A job that hasn't begun makes none.
+    pub(crate) fn ask_all(&mut self, job: u32, requests: &[PlainRequest]) -> usize {
+        if job < 1 || job > self.jobs {
+            return 0;
+        }
         for (done, request) in requests.iter().enumerate() {
-            let reply = self.ask(request);
+            let reply = self.ask(job, request);
             if !is_done(&reply) {
                 return done;
             }
@@ -75,10 +87,21 @@ impl Bench {
         let Bench {
             library,
             sources: _,
-            job: _,
+            jobs: _,
         } = self;
         let _ = library.into_store();
     }
+}
+
+/// Begins so many jobs of one name.
+fn begin_jobs(library: &mut Library<MemoryStore>, name: &Name, jobs: u32) -> Result<(), AllocError>
+    requires { Stands library.old empty_library }
+    ensures { OnOk result (HasBegun jobs library.new) }
+{
+    for _ in 0..jobs {
+        library.begin_job(name)?;
+    }
+    Ok(())
 }
 
 /// Whether what was asked was done, as far as this program asks it.

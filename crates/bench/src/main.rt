@@ -1,5 +1,5 @@
 //! `bench [--times] N [WORKLOAD]`: measures the record requests over a keyed file of N records, by the public call of the
-//! library. What is measured stands in `workloads.rt`, the library with its job in `library.rt`.
+//! library. What is measured stands in `workloads.rt`, the library with its jobs in `library.rt`.
 #![tactic(auto)]
 
 mod arguments;

@@ -1,16 +1,19 @@
-//! The requests that are made, on one file and a view of it.
+//! The requests that are made, on one file and views of it.
 ghost use Rattle.std.specs.Prelude.{◌≡◌, false, IfOk, IsTrue};
 ghost use Rattle.answered_sources.specs.Answered.{AreAnswered};
 ghost use Rattle.built_requests.specs.Built.{is_built};
 ghost use Rattle.library_model.specs.Ending.{is_end_job};
 
 use answered_sources::add_answered;
+use commit_level::Level;
+use entry_codec::Images;
 use field_types::names::Name;
 use field_types::texts::{SourceText, Text};
 use field_types::values::{Dec, Value};
 use library_model::requests::{
     AccessPath, ChainRecord, ChainTo, CreateLogicalFile, CreatePhysicalFile, Limit, LockOption,
-    OpenFile, OpenName, OpenOption, ReadRecord, Request, SetPosition, UpdateRecord, WriteRecord,
+    OpenFile, OpenName, OpenOption, ReadRecord, Request, SetPosition, StartCommitment,
+    StartJournaling, UpdateRecord, WriteRecord,
 };
 use library_model::sources::{NamedSource, Sources};
 use library_model::value_lists::{GivenValues, Values};
@@ -28,6 +31,17 @@ const SOURCE: &str = "     A                                      UNIQUE
 const VIEW: &str = "     A          R BENCHVR                   PFILE(BENCH)
      A          K NUMBER                    DESCEND
 ";
+
+/// What a view has besides that selects: numbers below one of nine digits, whose last comes behind this. All records are, but no two
+/// views with different digits have one path.
+const SELECTED: &str = "     A          S NUMBER                    COMP(LT 99999999";
+
+/// The last digits of the views that select.
+const DIGITS: &[u8] = b"0123456789";
+
+/// What stands behind the name of the file in the names of a job's opens, but for one that is called as the file is: one fewer than
+/// a job may have.
+const LETTERS: &[u8] = b"ABCDEFGHIJKLMNOPQRSTUVWXYZ01234";
 
 /// What each record is called, in code page 037: NAME.
 const NAME: &[u8] = b"\xD5\xC1\xD4\xC5";
@@ -50,7 +64,8 @@ impl PlainRequest {
     }
 }
 
-/// Makes the requests on the file and its view. Source, file, member, open and job have one name, and the view another.
+/// Makes the requests on the file and its views. Source, file, member, first open and jobs have one name; a view or another open has
+/// a letter or digit behind it.
 #[derive(Clone, Copy)]
 pub(crate) struct Asker {
     alloc: Global,
@@ -73,26 +88,56 @@ impl Asker {
         self.alloc
     }
 
-    /// The name of the job.
+    /// The name of the jobs.
     pub(crate) fn job(&self) -> &Name {
         &self.name
     }
 
-    /// The sources of the file and of its view.
+    /// The name of the file with a letter or a digit behind it.
+    fn lettered(&self, letter: u8) -> Name {
+        Name::from_bytes(&[b'B', b'E', b'N', b'C', b'H', letter]).unwrap_or(self.name)
+    }
+
+    /// The name of the open at a place among those of a job, counted from 0. The last is called as the file is.
+    fn open_id(&self, place: usize) -> Name {
+        match LETTERS.get(place) {
+            Some(letter) => self.lettered(*letter),
+            None => self.name,
+        }
+    }
+
+    /// The sources of the file and of its views.
     pub(crate) fn sources(&self) -> Result<Sources, AllocError>
         ensures { IfOk result (λ sources. AreAnswered sources) }
     {
         let mut sources = Sources::new(self.alloc);
-        self.add_source(&mut sources, self.name, SOURCE)?;
-        self.add_source(&mut sources, self.view, VIEW)?;
+        self.add_source(&mut sources, self.name, SOURCE.as_bytes())?;
+        self.add_source(&mut sources, self.view, VIEW.as_bytes())?;
+        for digit in DIGITS {
+            self.add_source(
+                &mut sources,
+                self.lettered(*digit),
+                self.selecting_view(*digit)?.as_slice(),
+            )?;
+        }
         Ok(sources)
     }
 
-    fn add_source(&self, sources: &mut Sources, name: Name, text: &str) -> Result<(), AllocError>
+    fn add_source(&self, sources: &mut Sources, name: Name, text: &[u8]) -> Result<(), AllocError>
         ensures { AreAnswered sources.old → AreAnswered sources.new }
     {
-        let text = SourceText::from_slice(self.alloc, text.as_bytes())?;
+        let text = SourceText::from_slice(self.alloc, text)?;
         add_answered(self.alloc, sources, NamedSource { name, text })
+    }
+
+    /// The source of a view that selects.
+    fn selecting_view(&self, digit: u8) -> Result<Vec<u8>, AllocError> {
+        let mut text = Vec::new(self.alloc);
+        text.extend_from_slice(VIEW.as_bytes())?;
+        text.extend_from_slice(SELECTED.as_bytes())?;
+        text.push(digit)?;
+        text.extend_from_slice(b")\n")?;
+        Ok(text)
     }
 
     /// CRTPF: makes the file and its member.
@@ -107,23 +152,59 @@ impl Asker {
 
     /// CRTLF: makes the view.
     pub(crate) fn create_view(&self) -> PlainRequest {
+        create_logical_file(self.view)
+    }
+
+    /// CRTLF: makes the views that select.
+    pub(crate) fn create_views(&self) -> Result<Vec<PlainRequest>, AllocError> {
+        let mut requests = Vec::new(self.alloc);
+        for digit in DIGITS {
+            requests.push(create_logical_file(self.lettered(*digit)))?;
+        }
+        Ok(requests)
+    }
+
+    /// STRJRNPF IMAGES(*BOTH): begins to journal the file.
+    pub(crate) fn start_journaling(&self) -> PlainRequest {
         PlainRequest {
-            request: Request::CreateLogicalFile(CreateLogicalFile {
-                file: self.view,
-                source: self.view,
+            request: Request::StartJournaling(StartJournaling {
+                file: self.name,
+                member: self.name,
+                images: Images::Both,
             }),
+        }
+    }
+
+    /// STRCMTCTL LVL(*ALL): from then on each record that is read under commitment control stays locked.
+    pub(crate) fn start_commitment(&self) -> PlainRequest {
+        PlainRequest {
+            request: Request::StartCommitment(StartCommitment { level: Level::All }),
         }
     }
 
     /// OPNDBF OPTION(*ALL): opens it in the order of its keys.
     pub(crate) fn open(&self) -> PlainRequest {
+        self.open_as(self.name, false)
+    }
+
+    /// The same under the name at a place.
+    pub(crate) fn open_at(&self, place: usize) -> PlainRequest {
+        self.open_as(self.open_id(place), false)
+    }
+
+    /// The same under commitment control.
+    pub(crate) fn open_to_commit(&self, place: usize) -> PlainRequest {
+        self.open_as(self.open_id(place), true)
+    }
+
+    fn open_as(&self, open_id: Name, commit: bool) -> PlainRequest {
         PlainRequest {
             request: Request::OpenFile(OpenFile {
                 file: self.name,
                 option: OpenOption::All,
                 member: self.name,
-                open_id: self.name,
-                commit: false,
+                open_id,
+                commit,
                 access_path: AccessPath::File,
             }),
         }
@@ -166,11 +247,20 @@ impl Asker {
 
     /// CHAIN: reads the record with a key, for update.
     pub(crate) fn chain(&self, key: u64) -> Result<PlainRequest, AllocError> {
+        self.chain_through(self.name, key)
+    }
+
+    /// The same through the open at a place.
+    pub(crate) fn chain_at(&self, place: usize, key: u64) -> Result<PlainRequest, AllocError> {
+        self.chain_through(self.open_id(place), key)
+    }
+
+    fn chain_through(&self, open_id: Name, key: u64) -> Result<PlainRequest, AllocError> {
         let mut values = Vec::new(self.alloc);
         values.push(number(key))?;
         Ok(PlainRequest {
             request: Request::Chain(ChainRecord {
-                open_id: self.name,
+                open_id,
                 to: ChainTo::Key(Values::from_vec(values)),
                 lock: LockOption::Default,
             }),
@@ -195,6 +285,16 @@ impl Asker {
         PlainRequest {
             request: Request::Delete(OpenName { open_id: self.name }),
         }
+    }
+}
+
+/// CRTLF: makes a view of the source of its name.
+fn create_logical_file(name: Name) -> PlainRequest {
+    PlainRequest {
+        request: Request::CreateLogicalFile(CreateLogicalFile {
+            file: name,
+            source: name,
+        }),
     }
 }
 

@@ -22,6 +22,11 @@ impl RecordCount {
         }
     }
 
+    /// Twice as many; `None` where a member can't hold them.
+    pub(crate) fn twice(self) -> Option<RecordCount> {
+        RecordCount::new(self.number * 2)
+    }
+
     /// The number.
     pub(crate) fn number(self) -> u32
         ensures { result ≤ MOST_SLOTS }

@@ -3,11 +3,18 @@ use crate::arguments::Arguments;
 use crate::library::Bench;
 use crate::requests::{Asker, PlainRequest};
 use crate::shuffles::{RecordCount, SOUGHT, WRITTEN};
-use anyhow::{Result, ensure};
+use anyhow::{Result, bail, ensure};
+use library_model::limits::{MOST_JOBS, MOST_OPENS};
 use std::alloc::AllocError;
 use std::io;
 use std::rt::Clock;
 use std::time::{Duration, Instant};
+
+/// The job whose calls are measured.
+const MEASURED: u32 = 1;
+
+/// How many jobs make no call that is measured, where there are any.
+const OTHERS: u32 = MOST_JOBS as u32 - 1;
 
 /// What is measured.
 #[derive(Clone, Copy, PartialEq)]
@@ -16,6 +23,8 @@ pub(crate) enum Workload {
     Write,
     /// The same, with a second access path over the member: that of a view.
     View,
+    /// The same, with ten access paths more than the file's own.
+    Views,
     /// READ of every record in the order of the keys.
     Read,
     /// CHAIN by key to every record, for update.
@@ -24,15 +33,22 @@ pub(crate) enum Workload {
     Update,
     /// The same, and behind each a DELETE.
     Delete,
+    /// CHAIN by key to the lower half of the records of a journaled file, for update.
+    Alone,
+    /// The same, beside as many jobs as a run may have, each with as many opens as it may have, which hold locks on the upper half.
+    Crowd,
 }
 
-const WORKLOADS: [Workload; 6] = [
+const WORKLOADS: [Workload; 9] = [
     Workload::Write,
     Workload::View,
+    Workload::Views,
     Workload::Read,
     Workload::Chain,
     Workload::Update,
     Workload::Delete,
+    Workload::Alone,
+    Workload::Crowd,
 ];
 
 impl Workload {
@@ -41,18 +57,28 @@ impl Workload {
         match self {
             Workload::Write => "write",
             Workload::View => "view",
+            Workload::Views => "views",
             Workload::Read => "read",
             Workload::Chain => "chain",
             Workload::Update => "update",
             Workload::Delete => "delete",
+            Workload::Alone => "alone",
+            Workload::Crowd => "crowd",
         }
     }
 
-    /// Whether it is of records that were written before.
-    fn reads(self) -> bool {
+    /// How many jobs it has.
+    fn jobs(self) -> u32 {
         match self {
-            Workload::Write | Workload::View => false,
-            Workload::Read | Workload::Chain | Workload::Update | Workload::Delete => true,
+            Workload::Crowd => OTHERS + 1,
+            Workload::Write
+            | Workload::View
+            | Workload::Views
+            | Workload::Read
+            | Workload::Chain
+            | Workload::Update
+            | Workload::Delete
+            | Workload::Alone => 1,
         }
     }
 
@@ -93,14 +119,14 @@ fn run_one<R: AllocGlobal + Clock + Print>(
     workload: Workload,
 ) -> Result<()> {
     let asker = Asker::new(rt.alloc());
-    let mut bench = Bench::begin(&asker)?;
+    let mut bench = Bench::begin(&asker, workload.jobs())?;
     let measured = measure(rt, &asker, &mut bench, arguments.records, workload);
     bench.end();
     print(rt, arguments, workload, measured?)?;
     Ok(())
 }
 
-/// Fills the file, where the workload wants its records, and makes the calls of the workload.
+/// Makes the calls that go before a workload, and then its own, which are measured.
 fn measure<R: Clock>(
     rt: &R,
     asker: &Asker,
@@ -108,26 +134,71 @@ fn measure<R: Clock>(
     records: RecordCount,
     workload: Workload,
 ) -> Result<Measured> {
-    ask(bench, &[asker.create(), asker.open()])?;
-    if workload == Workload::View {
-        ask(bench, &[asker.create_view()])?;
-    }
-    if workload.reads() {
-        ask(bench, writes(asker, records)?.as_slice())?;
-        ask(bench, &[asker.to_start()])?;
-    }
+    prepare(asker, bench, records, workload)?;
     let requests = requests_of(asker, records, workload)?;
     let start = Instant::now(rt)?;
-    ask(bench, requests.as_slice())?;
+    ask(bench, MEASURED, requests.as_slice())?;
     Ok(Measured {
         calls: requests.len(),
         time: start.elapsed(rt)?,
     })
 }
 
-/// Makes calls, none of which may be refused.
-fn ask(bench: &mut Bench, requests: &[PlainRequest]) -> Result<()> {
-    let done = bench.ask_all(requests);
+/// Makes the file that a workload wants, with what it wants beside it.
+fn prepare(
+    asker: &Asker,
+    bench: &mut Bench,
+    records: RecordCount,
+    workload: Workload,
+) -> Result<()> {
+    ask(bench, MEASURED, &[asker.create()])?;
+    match workload {
+        Workload::Write => ask(bench, MEASURED, &[asker.open()]),
+        Workload::View => ask(bench, MEASURED, &[asker.open(), asker.create_view()]),
+        Workload::Views => {
+            ask(bench, MEASURED, &[asker.open()])?;
+            ask(bench, MEASURED, asker.create_views()?.as_slice())
+        }
+        Workload::Read | Workload::Chain | Workload::Update | Workload::Delete => {
+            fill(asker, bench, records)
+        }
+        Workload::Alone => fill_journaled(asker, bench, records),
+        Workload::Crowd => {
+            fill_journaled(asker, bench, records)?;
+            ask(bench, MEASURED, further_opens(asker)?.as_slice())?;
+            gather(asker, bench, records)
+        }
+    }
+}
+
+/// Opens the file and writes so many records.
+fn fill(asker: &Asker, bench: &mut Bench, records: RecordCount) -> Result<()> {
+    ask(bench, MEASURED, &[asker.open()])?;
+    ask(bench, MEASURED, writes(asker, records)?.as_slice())?;
+    ask(bench, MEASURED, &[asker.to_start()])
+}
+
+/// Begins to journal the file, and writes twice as many records.
+fn fill_journaled(asker: &Asker, bench: &mut Bench, records: RecordCount) -> Result<()> {
+    let Some(all) = records.twice() else {
+        bail!("a member can't hold twice as many records");
+    };
+    ask(bench, MEASURED, &[asker.start_journaling()])?;
+    fill(asker, bench, all)
+}
+
+/// Lets all jobs but the one that is measured come to hold their locks.
+fn gather(asker: &Asker, bench: &mut Bench, records: RecordCount) -> Result<()> {
+    for place in 0..OTHERS {
+        let requests = holds(asker, records, place)?;
+        ask(bench, MEASURED + 1 + place, requests.as_slice())?;
+    }
+    Ok(())
+}
+
+/// Makes calls of a job, none of which may be refused.
+fn ask(bench: &mut Bench, job: u32, requests: &[PlainRequest]) -> Result<()> {
+    let done = bench.ask_all(job, requests);
     ensure!(
         done == requests.len(),
         "a request was refused after {done} others"
@@ -142,9 +213,9 @@ fn requests_of(
     workload: Workload,
 ) -> Result<Vec<PlainRequest>, AllocError> {
     match workload {
-        Workload::Write | Workload::View => writes(asker, records),
+        Workload::Write | Workload::View | Workload::Views => writes(asker, records),
         Workload::Read => reads(asker, records),
-        Workload::Chain => chains(asker, records),
+        Workload::Chain | Workload::Alone | Workload::Crowd => chains(asker, records),
         Workload::Update => updates(asker, records),
         Workload::Delete => deletes(asker, records),
     }
@@ -189,6 +260,33 @@ fn deletes(asker: &Asker, records: RecordCount) -> Result<Vec<PlainRequest>, All
     for key in &SOUGHT.keys(asker.alloc(), records)? {
         requests.push(asker.chain(u64::from(*key))?)?;
         requests.push(asker.delete())?;
+    }
+    Ok(requests)
+}
+
+/// Opens the file as often as a job may beside its first open.
+fn further_opens(asker: &Asker) -> Result<Vec<PlainRequest>, AllocError> {
+    let mut requests = Vec::new(asker.alloc());
+    for place in 0..MOST_OPENS - 1 {
+        requests.push(asker.open_at(place))?;
+    }
+    Ok(requests)
+}
+
+/// What one of the other jobs asks, by its place among them: commitment control, as many opens as it may have, and through each in
+/// turn a CHAIN to one of the records whose locks it shall hold.
+fn holds(asker: &Asker, records: RecordCount, place: u32) -> Result<Vec<PlainRequest>, AllocError> {
+    let mut requests = Vec::new(asker.alloc());
+    requests.push(asker.start_commitment())?;
+    for open in 0..MOST_OPENS {
+        requests.push(asker.open_to_commit(open))?;
+    }
+    for number in 0..records.number() {
+        if number % OTHERS == place {
+            let open = (number / OTHERS) as usize % MOST_OPENS;
+            let key = u64::from(records.number()) + u64::from(number);
+            requests.push(asker.chain_at(open, key)?)?;
+        }
     }
     Ok(requests)
 }

@@ -1,0 +1,64 @@
+-- How jobs begin in a library with nothing in it, and that each of them may make a call then and after each call that ends no job.
+use Rattle.std.proofs.Common.{◌≡◌, ◌≤◌, ◌<◌, ℕ, zero, suc, ◌+◌, ◌-◌, true, false, IsTrue, List, [], ◌∷◌, ◌++◌, length, map, slice_get, refl, sym, ◌∙◌, ap, subst, arith, length-append}
+use Rattle.std.proofs.lemmas.List.{length-map, map-append}
+use Rattle.std.proofs.lemmas.Bool.Decides.{nat_tests}
+use Rattle.library_model.specs.declared.requests.Request.{Request}
+use Rattle.library_model.specs.Ending.{is_end_job}
+use Rattle.library_steps.specs.State.{State, JobState, job_at, new_job, begun, empty_library}
+use Rattle.library_steps.specs.History.{is_running}
+use Rattle.joint_state.specs.Sound.{IsSound}
+use Rattle.library_core.specs.Parts.{LibraryOver}
+use Rattle.library_core.specs.Running.{runs_after}
+use Rattle.library_core.specs.Stands.{IsReady}
+use Rattle.library_core.proofs.RunLemmas.{runs-on}
+use Rattle.bench.specs.Ready.{AreReady, HasBegun}
+
+-- each of them may
+pub AreReady-each : {S : Type 0} (count job : ℕ) (library : LibraryOver S) → AreReady count library → 1 ≤ job → job ≤ count → IsReady job library
+AreReady-each count job library ready first last = record {
+  alive = ready.alive;
+  running = ready.running job first last;
+  sound = ready.sound;
+}
+
+-- after a call that ends no job each of them may again
+pub AreReady-on : {S : Type 0} (count job : ℕ) (r : Request) (old new : LibraryOver S) → AreReady count old → is_end_job r ≡ false → new.failed ≡ false
+    → ((other : ℕ) → is_running (job_at other new.state.jobs) ≡ runs_after job r old.state.jobs other) → IsSound new.state → AreReady count new
+AreReady-on count job r old new ready goes_on alive runs sound = record {
+  alive = alive;
+  running = λ other first last. rw (runs other, runs-on job r old.state.jobs other goes_on) (ready.running other first last);
+  sound = sound;
+}
+
+-- one more has begun
+pub HasBegun-more : {S : Type 0} (count : ℕ) (name : List ℕ) (old new : LibraryOver S) → HasBegun count old → new.state ≡ record old.state { jobs = old.state.jobs ++ new_job name ∷ [] }
+    → new.failed ≡ old.failed → HasBegun (count + 1) new
+HasBegun-more count name old new before begins same =
+    let jobs : map new_job (before.names ++ name ∷ []) ≡ map new_job before.names ++ new_job name ∷ [] = map-append new_job before.names (name ∷ []) in
+    record {
+      names = before.names ++ name ∷ [];
+      many = length-append before.names (name ∷ []) ∙ ap (λ n. n + 1) before.many;
+      alive = same ∙ before.alive;
+      state = begins ∙ ap (λ (s : State). record s { jobs = s.jobs ++ new_job name ∷ [] }) before.state ∙ sym (ap (λ (js : List JobState). record empty_library { jobs = js }) jobs);
+    }
+
+-- how many have begun
+pub HasBegun-length : {S : Type 0} (count : ℕ) (library : LibraryOver S) → HasBegun count library → length library.state.jobs ≡ count
+HasBegun-length count library before = ap (λ (s : State). length s.jobs) before.state ∙ length-map before.names new_job ∙ before.many
+
+-- a job that has begun and done nothing runs
+begun-runs : (names : List (List ℕ)) (at : ℕ) → at < length names → is_running (slice_get (map new_job names) at) ≡ true
+begun-runs [] at within = absurd (omega arith)
+begun-runs (name ∷ names) zero within = refl
+begun-runs (name ∷ names) (suc at) within = begun-runs names at (omega arith)
+
+job-runs : (names : List (List ℕ)) (job : ℕ) → 1 ≤ job → job ≤ length names → is_running (job_at job (map new_job names)) ≡ true
+job-runs names job first last = let here = begun-runs names (job - 1) (omega (arith, first, last)) in grind (arith, nat_tests, here, first)
+
+-- each that has begun may make a call
+pub AreReady-begun : {S : Type 0} (count : ℕ) (library : LibraryOver S) → ((names : List (List ℕ)) → IsSound (begun empty_library names)) → HasBegun count library → AreReady count library
+AreReady-begun count library sound before = record {
+  alive = before.alive;
+  running = λ job first last. subst (λ (s : State). IsTrue (is_running (job_at job s.jobs))) (sym before.state) (job-runs before.names job first (omega (arith, last, before.many)));
+  sound = subst IsSound (sym before.state) (sound before.names);
+}

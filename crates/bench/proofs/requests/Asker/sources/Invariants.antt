@@ -1,0 +1,5 @@
+use Rattle.answered_sources.specs.Answered.{AreAnswered}
+use Rattle.bench.proofs.requests.Asker.sources.Given as goal
+
+abbrev pub invariant-loop-digit : goal.invariant-loop-digit
+invariant-loop-digit l = AreAnswered l.sources

@@ -1,0 +1,19 @@
+-- What jobs may make calls, and what a library is in which jobs have begun and nothing else. (Our own.)
+use Rattle.std.specs.Prelude.{◌≡◌, ◌≤◌, ℕ, false, IsTrue, List, length}
+use Rattle.library_steps.specs.State.{job_at, begun, empty_library}
+use Rattle.library_steps.specs.History.{is_running}
+use Rattle.joint_state.specs.Sound.{IsSound}
+use Rattle.library_core.specs.Parts.{LibraryOver}
+
+-- each job with one of the numbers 1 to `count` may make a call
+pub record AreReady {S : Type 0} (count : ℕ) (library : LibraryOver S) : Type 0 where
+  pub alive : library.failed ≡ false
+  pub running : (job : ℕ) → 1 ≤ job → job ≤ count → IsTrue (is_running (job_at job library.state.jobs))
+  pub sound : IsSound library.state
+
+-- so many jobs have begun in a library with nothing in it
+pub record HasBegun {S : Type 0} (count : ℕ) (library : LibraryOver S) : Type 0 where
+  pub names : List (List ℕ)
+  pub many : length names ≡ count
+  pub alive : library.failed ≡ false
+  pub state : library.state ≡ begun empty_library names
