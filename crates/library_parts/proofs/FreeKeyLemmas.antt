@@ -1,5 +1,5 @@
 -- Which record keeps a key: the least that the changes of a job took away, and the least of all jobs but one.
-use Rattle.std.proofs.Common.{◌≡◌, ℕ, zero, suc, ◌+◌, ◌-◌, ◌<◌, ◌==◌, Bool, true, false, if◌then◌else◌, List, [], ◌∷◌, length, drop, Option, Some, None, is_some, Result, Ok, Err, slice_get, refl, sym, ap, subst, ◌∙◌, arith}
+use Rattle.std.proofs.Common.{◌≡◌, ℕ, zero, suc, ◌+◌, ◌-◌, ◌<◌, ◌==◌, Bool, true, false, if◌then◌else◌, List, [], ◌∷◌, length, drop, Option, Some, None, is_some, Ok, Err, slice_get, refl, sym, ap, subst, ◌∙◌, arith}
 use Rattle.std.specs.Borrow.{Bor}
 use Rattle.std.specs.Option.{option_copied, option_map}
 use Rattle.std.proofs.lemmas.Bool.Decides.{nat_tests}
@@ -8,7 +8,6 @@ use Rattle.file_model.specs.declared.paths.PathFormat.{PathFormat}
 use Rattle.file_catalogue.proofs.NameLemmas.{some-equal}
 use Rattle.journal_model.specs.Rollback.{MemberChange}
 use Rattle.job_table.specs.Changes.{KeptUndo}
-use Rattle.library_model.specs.declared.replies.Reply.{Reply}
 use Rattle.library_model.specs.declared.replies.Reply.TheVariants.{HeldByGroup, RecordInUse}
 use Rattle.library_steps.specs.Refusals.{◌>>=◌, refuse_with}
 use Rattle.library_steps.specs.State.{JobState, job_at, or_new}

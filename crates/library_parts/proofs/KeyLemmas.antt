@@ -6,7 +6,7 @@ use Rattle.std.specs.Str.{bytes_eq}
 use Rattle.std.proofs.lemmas.Bool.Decides.{nat_tests}
 use Rattle.std.proofs.lemmas.List.Elements.{recursion_from_All}
 use Rattle.std.proofs.lemmas.Map.Text.{is_eq-slice_cmp}
-use Rattle.file_model.specs.KeyOrder.{KeyValue, compare_keys, key_of}
+use Rattle.file_model.specs.KeyOrder.{KeyValue, compare_keys}
 use Rattle.file_model.specs.Paths.{clash, path_key}
 use Rattle.file_model.specs.Selection.{selects}
 use Rattle.file_model.specs.Views.{view_of}

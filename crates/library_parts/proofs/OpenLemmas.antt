@@ -1,9 +1,8 @@
 -- How a new open reads: by its file's path, or in arrival order.
-use Rattle.std.proofs.Common.{◌≡◌, ◌≢◌, ℕ, zero, ◌&&◌, Bool, true, false, if◌then◌else◌, List, [], ◌∷◌, length, map, Option, Some, None, Result, Ok, Err, IfOk, IfSome, refl, sym, ap, subst, ◌∙◌, arith}
-use Rattle.std.specs.Prelude.{All, Any, Contains, MatchOption}
+use Rattle.std.proofs.Common.{◌≡◌, ◌≢◌, ℕ, zero, ◌&&◌, Bool, true, false, if◌then◌else◌, List, [], ◌∷◌, map, Option, Some, None, Result, Ok, Err, IfOk, IfSome, refl, sym, ap, subst, ◌∙◌, arith}
+use Rattle.std.specs.Prelude.{Any, Contains, MatchOption}
 use Rattle.dds_logical.specs.declared.views.LogicalSpec.{LogicalSpec}
 use Rattle.dds_logical.specs.declared.views.LogicalSpec.TheVariants.{Simple, Multi, Join}
-use Rattle.dds_physical.specs.declared.physical_files.PhysicalSpec.{PhysicalSpec}
 use Rattle.key_spec.specs.declared.KeyPart.{KeyPart}
 use Rattle.file_model.specs.declared.paths.PathSpec.{PathSpec}
 use Rattle.file_model.specs.FilePaths.{key_parts, physical_path}
@@ -21,14 +20,14 @@ use Rattle.library_paths.proofs.NumberLemmas.{any-at}
 use Rattle.library_paths.proofs.OwnerLemmas.{member-path, paths-contain}
 use Rattle.job_table.specs.Opens.{IsNewReads, order_by}
 use Rattle.job_table.specs.declared.reads.OpenReads.{OpenReads}
-use Rattle.library_model.specs.Named.{Named, named}
+use Rattle.library_model.specs.Named.{named}
 use Rattle.library_model.specs.declared.requests.OpenFile.{OpenFile}
 use Rattle.library_steps.specs.LogicalFiles.{bases_in}
 use Rattle.library_steps.specs.Opens.{new_open}
 use Rattle.library_steps.specs.Records.{is_file_path}
 use Rattle.library_steps.specs.State.{FileState}
 use Rattle.library_parts.specs.Finds.{OpensMember, OpensBy}
-use Rattle.library_parts.specs.Indexed.{AreViews, IsReadSo, IsSimple, IsView, IsViewBeside, ReadsBy, ReadsFile, path_by}
+use Rattle.library_parts.specs.Indexed.{AreViews, IsSimple, IsView, IsViewBeside, ReadsBy, ReadsFile, path_by}
 use Rattle.library_parts.specs.Parts.{LibraryParts}
 use Rattle.library_parts.specs.Reads.{IsNumberOf, MayReadSo, ReadsFor, ReadsNew}
 use Rattle.library_parts.proofs.IndexPaths.{any-both}

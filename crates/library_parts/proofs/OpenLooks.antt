@@ -24,7 +24,6 @@ use Rattle.file_cursor.specs.PositionBytes.{HasKeysWithin}
 use Rattle.logical_model.specs.Bases.{Bases, FileSpec, PhysicalFile, LogicalFile}
 use Rattle.logical_model.specs.Formats.{has_key, parts_in}
 use Rattle.logical_paths.proofs.KeyLemmas.{parts-length}
-use Rattle.logical_paths.specs.Steps.{own_path}
 use Rattle.open_position.specs.Reads.{IsPathOver}
 use Rattle.path_set.specs.declared.moves.PathMove.{PathMove}
 use Rattle.path_set.specs.KeptPaths.{KeptPath, KeptPaths, NumberedPaths, PathRoom, AreShared, entries_of, pages_at, pages_of, pages_with}
@@ -32,7 +31,6 @@ use Rattle.path_set.specs.RebuiltPaths.{HaveRooms}
 use Rattle.path_set.proofs.ShareLemmas.{entries-path}
 use Rattle.physical_paths.specs.KeyedFiles.{IsRecordSlot, HasRecordsOf}
 use Rattle.library_paths.specs.AllPaths.{AreKeptFor}
-use Rattle.file_catalogue.specs.Owners.{Owns}
 use Rattle.file_catalogue.proofs.NameLemmas.{some-equal}
 use Rattle.job_table.specs.Opens.{OpenOrder, SameOpen}
 use Rattle.job_table.specs.Table.{job_of_number}

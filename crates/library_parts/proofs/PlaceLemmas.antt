@@ -1,6 +1,6 @@
 -- The key that a request gives and the place where it sets a position, by the positions of the open's key.
-use Rattle.std.proofs.Common.{◌≡◌, ℕ, ◌+◌, ◌&&◌, ◌||◌, nat_lt, not, Bool, true, false, if◌then◌else◌, List, [], ◌∷◌, length, map, Option, Some, None, is_some, Result, Ok, Err, refl, sym, ap, subst, ◌∙◌}
-use Rattle.std.specs.Prelude.{All, is_ok}
+use Rattle.std.proofs.Common.{◌≡◌, ℕ, ◌+◌, ◌||◌, nat_lt, not, Bool, true, false, if◌then◌else◌, List, [], ◌∷◌, length, Option, Some, None, Result, Ok, Err, refl, sym, ap, subst, ◌∙◌}
+use Rattle.std.specs.Prelude.{is_ok}
 use Rattle.field_types.specs.declared.values.Value.{Value}
 use Rattle.field_types.specs.declared.faults.ValueFault.{ValueFault}
 use Rattle.field_types.specs.declared.faults.RecordFault.{RecordFault}
@@ -24,9 +24,9 @@ use Rattle.library_model.specs.declared.requests.Limit.TheVariants as limits
 use Rattle.open_position.specs.Reads.{side_of}
 use Rattle.open_position.specs.declared.position.Side.{Side}
 use Rattle.physical_paths.proofs.PositionLemmas.{same-given_key, same-key_fault}
-use Rattle.job_table.specs.Opens.{KeptOpen, OpenOrder, AllOfNumber}
+use Rattle.job_table.specs.Opens.{OpenOrder, AllOfNumber}
 use Rattle.library_model.specs.Named.{Named}
-use Rattle.library_steps.specs.Reads.{bound_asked, whole_end}
+use Rattle.library_steps.specs.Reads.{bound_asked}
 use Rattle.library_steps.specs.Records as steps
 use Rattle.library_steps.specs.Records.{is_file_path, is_keyed, key_asked, key_or_fault, number_asked}
 use Rattle.library_steps.specs.Refusals.{◌>>=◌, OpenedFile}
@@ -34,7 +34,7 @@ use Rattle.library_steps.specs.State.{FileState, OpenState}
 use Rattle.library_parts.specs.declared.stop.Stop.{Stop}
 use Rattle.library_parts.specs.declared.stop.Stop.TheVariants.{NoMemory, Refused}
 use Rattle.library_parts.specs.Indexed.{IsReadSo, IsSimple}
-use Rattle.library_parts.specs.Reads.{CanStandIn, GivesKey, HasKeyOf, MayHaveKey, ReadsSo, Stands, StandsFor, formats_read, parts_read, refusal, stood_at}
+use Rattle.library_parts.specs.Reads.{CanStandIn, GivesKey, HasKeyOf, MayHaveKey, ReadsSo, Stands, formats_read, parts_read, refusal, stood_at}
 use Rattle.library_parts.proofs.OpenLooks.{formats-are, merged-one, own_parts}
 
 -- ---- two definitions of what is wrong with given values are the same

@@ -1,5 +1,5 @@
 -- What an open reads is there, and what it finds is a record that stands in its member.
-use Rattle.std.proofs.Common.{◌≡◌, ℕ, zero, suc, ◌+◌, ◌-◌, ◌≤◌, ◌==◌, ◌&&◌, nat_lt, Bool, true, false, if◌then◌else◌, List, [], ◌∷◌, ◌++◌, length, map, Option, Some, None, is_some, IsSome, IfSome, slice_get, refl}
+use Rattle.std.proofs.Common.{◌≡◌, ℕ, suc, ◌+◌, ◌-◌, ◌≤◌, ◌==◌, ◌&&◌, nat_lt, Bool, true, false, List, [], ◌∷◌, ◌++◌, length, map, Option, Some, None, is_some, IsSome, IfSome, slice_get, refl}
 use Rattle.std.proofs.Common.{sym, ap, subst, ◌∙◌, arith}
 use Rattle.std.specs.Prelude.{All, filter, unwrap_or}
 use Rattle.std.specs.Option.{option_map}
@@ -33,7 +33,7 @@ use Rattle.dds_logical.specs.declared.views.View.{View}
 use Rattle.logical_model.specs.Bases.{Bases, FileSpec, PhysicalFile, LogicalFile}
 use Rattle.logical_model.specs.FilePaths.{view_format, views_path}
 use Rattle.logical_model.specs.Formats.{has_key}
-use Rattle.logical_model.specs.Readings.{physical_reading, reading_in}
+use Rattle.logical_model.specs.Readings.{reading_in}
 use Rattle.key_order.specs.KeyFields.{key_width}
 use Rattle.key_pages.specs.EntryList.{EntryList}
 use Rattle.file_cursor.specs.PositionBytes.{HasKeysWithin}

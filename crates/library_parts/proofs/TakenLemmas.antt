@@ -1,5 +1,5 @@
 -- The least record that changes took away, with one change more at the front.
-use Rattle.std.proofs.Common.{◌≡◌, ℕ, zero, suc, ◌+◌, Bool, true, false, if◌then◌else◌, List, [], ◌∷◌, drop, Some, None, slice_get, refl, ap, subst}
+use Rattle.std.proofs.Common.{◌≡◌, ℕ, zero, suc, ◌+◌, Bool, true, false, if◌then◌else◌, List, [], ◌∷◌, drop, Some, None, slice_get, ap, subst}
 use Rattle.std.specs.List.{AllByRecursion, cons_option}
 use Rattle.file_model.specs.KeyOrder.{KeyValue}
 use Rattle.file_model.specs.declared.paths.PathFormat.{PathFormat}

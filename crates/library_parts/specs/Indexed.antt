@@ -1,7 +1,7 @@
 -- What the kept access paths are of a library's files, members and jobs: each path of a file is kept, with the entries that the members give it; each
 -- open reads by the path of its file, or in arrival order; and for each change of an open commit cycle the moves that take it back are at hand, with
 -- memory for them. (Our own.)
-use Rattle.std.specs.Prelude.{◌≡◌, ℕ, ◌+◌, ◌==◌, Bool, IsTrue, Option, Some, None, IfSome, List, [], ◌∷◌, length, map, filter, All, Any, if◌then◌else◌}
+use Rattle.std.specs.Prelude.{◌≡◌, ℕ, ◌+◌, ◌==◌, Bool, IsTrue, Option, Some, None, List, [], ◌∷◌, length, map, filter, Any, if◌then◌else◌}
 use Rattle.std.specs.List.{AllByRecursion, AllZip, sum_by}
 use Rattle.member_slots.specs.declared.slot.Slot.{Slot}
 use Rattle.member_slots.specs.declared.slot.Slot.TheVariants.{Live, Deleted}

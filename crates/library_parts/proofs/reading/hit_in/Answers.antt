@@ -1,9 +1,8 @@
-use Rattle.std.proofs.Common.{◌≡◌, ◌∙◌, List, Some, IfSome, sym, subst, ap}
+use Rattle.std.proofs.Common.{◌∙◌, List, IfSome, sym, subst, ap}
 use Rattle.key_spec.specs.declared.KeyPart.{KeyPart}
 use Rattle.file_cursor.specs.CursorPosition.{entry_of}
 use Rattle.file_cursor.specs.declared.places.Order.TheVariants.{Arrival}
 use Rattle.file_model.specs.Positions.{arrival_reading}
-use Rattle.member_slots.specs.Members.{member_at}
 use Rattle.open_position.specs.OpenStand.{IsEntryIn}
 use Rattle.open_position.specs.Reads.{IsAskedOf}
 use Rattle.library_parts.proofs.HitLemmas.{found-elsewhere, looked-in, match-is, match-some}

@@ -6,7 +6,6 @@ use Rattle.library_parts.specs.Slots.{weight}
 use Rattle.library_parts.proofs.MemberLemmas.{HasRecords-cleared, weight-cleared}
 use Rattle.path_set.proofs.RebuildLemmas.{rebuilt-ties}
 use Rattle.library_parts.proofs.IndexRebuilt.{IsIndexed-rebuilt, unused-changes, bytes-cleared}
-use Rattle.library_parts.proofs.IndexRecords.{bytes-member}
 use Rattle.library_parts.proofs.LawfulLemmas.{AreOne-slots}
 use Rattle.library_parts.proofs.contents.Contents.clear.Goals as goal
 

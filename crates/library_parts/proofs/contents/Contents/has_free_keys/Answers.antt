@@ -26,14 +26,14 @@ loop-path-preserved c =
     let s = c.args.self.now.state in
     let paths = c.args.self.now.room.paths.paths in
     let new = c.args.new in
-    done-next new.member paths (IsFreeAt (memory_of s) paths new.job new.commit new.member new.rrn new.image.now) c.loop-path.path c.unique_over-path-in-loop-path.result c.in-Some.id
+    done-next new.member paths (IsFreeAt (memory_of s) paths new.job new.commit new.member new.rrn new.image.now) c.loop-path.path c.unique_over-path-in-Some.result c.in-Some.id
     c.requires.asked.shared c.loop-path.invariant c.in-Some.is (λ path at format over. c.in_ok-refused.ensures c.if-refused.false format over)
-    (rw (← c.self.view_is) c.unique_over-path-in-loop-path.ensures)
+    (rw (← c.self.view_is) c.unique_over-path-in-Some.ensures)
 
 pub loop-path-smaller : goal.loop-path-smaller
 loop-path-smaller c =
     rw c.in-Some.is
-    (left-fewer c.args.new.member c.in-Some.id c.unique_over-path-in-loop-path.result c.args.self.now.room.paths.paths (rw (← c.self.view_is) c.unique_over-path-in-loop-path.ensures))
+    (left-fewer c.args.new.member c.in-Some.id c.unique_over-path-in-Some.result c.args.self.now.room.paths.paths (rw (← c.self.view_is) c.unique_over-path-in-Some.ensures))
 
 pub returns : goal.returns
 returns c =

@@ -14,8 +14,8 @@ returns-in_default c = λ free format at.
 pub is_kept-requires-clause-path : goal.is_kept-requires-clause-path
 is_kept-requires-clause-path c = (c.requires.path.0, c.requires.path.1, c.requires.asked.before c.args.id c.requires.path.0 c.requires.path.1)
 
-pub returns-else-kept : goal.returns-else-kept
-returns-else-kept c = λ free format at.
+pub returns : goal.returns
+returns c = λ free format at.
     let new = c.args.new in
     let image = new.image.now in
     let m = memory_of c.args.self.now.state in

@@ -11,7 +11,7 @@ use Rattle.library_steps.specs.LogicalFiles.{bases_in}
 use Rattle.library_steps.specs.Reads.{entry_found, has_read}
 use Rattle.library_steps.specs.Records.{is_keyed, reading_of}
 use Rattle.library_steps.specs.Refusals.{OpenedFile}
-use Rattle.library_steps.specs.State.{OpenState, memory_of}
+use Rattle.library_steps.specs.State.{memory_of}
 use Rattle.library_parts.specs.Parts.{state_of}
 use Rattle.library_parts.specs.Reads.{IsLookedIn, ReadsAmong, formats_read, found_by, has_positions}
 use Rattle.library_parts.proofs.DueLemmas.{HasDue-kept}

@@ -4,7 +4,7 @@ use Rattle.member_slots.specs.declared.slot.Slot.TheVariants.{Deleted}
 use Rattle.member_slots.specs.Member.{slot_at}
 use Rattle.member_slots.specs.Members.{member_of}
 use Rattle.path_set.specs.declared.moves.PathMove.{PathMove}
-use Rattle.path_set.specs.MemberSteps.{image_in, slot_replaced}
+use Rattle.path_set.specs.MemberSteps.{slot_replaced}
 use Rattle.path_set.specs.RecordChanges.{TakeImage, HaveRoom, moves_in}
 use Rattle.job_table.specs.Table.{changes_held}
 use Rattle.library_parts.specs.Parts.{state_of}

@@ -1,4 +1,4 @@
-use Rattle.std.proofs.Common.{◌≡◌, ◌∙◌, ◌+◌, List, ℕ, Option, Some, sym, ap, arith}
+use Rattle.std.proofs.Common.{◌≡◌, ◌∙◌, ◌+◌, List, ℕ, Option, sym, ap, arith}
 use Rattle.std.specs.Prelude.{unwrap_or}
 use Rattle.file_catalogue.specs.Owners.{Owns}
 use Rattle.member_slots.specs.declared.slot.Slot.{Slot}
