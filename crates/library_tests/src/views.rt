@@ -546,7 +546,7 @@ pub const WAITING: [(By, Ask, Answer); 23] = [
     ),
     (
         By::Second,
-        Ask::OfRecord("BACKWARD", RecordAsk::ReadPrior),
+        Ask::OfRecord("BACKWARD", RecordAsk::Read),
         Answer::Record(2, "BACKR", A_READ),
     ),
     (
