@@ -13,3 +13,14 @@ pub mod StepLemmas
 pub mod MemberLemmas
 pub mod StatusLemmas
 pub mod FreeLemmas
+pub mod GivenEntries
+pub mod GivenMembers
+pub mod GivenHomes
+pub mod GivenChanges
+pub mod BackRequests
+pub mod BackLaws
+pub mod BeginRequests
+pub mod BeginLaws
+pub mod RangeFacts
+pub mod RangeRequests
+pub mod RangeLaws

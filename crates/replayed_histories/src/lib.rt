@@ -2,6 +2,9 @@
 //! Begin with `specs/Replayed.antt`.
 #![tactic(auto)]
 
+pub mod laws_back;
+pub mod laws_journaling;
+
 ghost use Rattle.std.specs.Prelude.{◌≡◌, ℕ, true, None, Some, List, []};
 ghost use Rattle.std.specs.Option.{is_some};
 ghost use Rattle.joint_state.specs.Sound.{after};
