@@ -193,7 +193,9 @@ module _ (start : Standing) (n : ℕ) (some : 1 ≤ n) (begun : is_one_of start.
 
     -- its own member's changes, that first
     back_own : Back n (undo.change ∷ of_member k undos) (slots_at k left.members) (of_member k left.undos)
-    back_own = subst (λ (us : List Change). Back n us (slots_at k left.members) (of_member k left.undos)) (ap (λ (b : Bool). cond b (undo.change ∷ of_member k undos) (of_member k undos)) own_first) (a.backs k)
+    back_own =
+        subst (λ (us : List Change). Back n us (slots_at k left.members) (of_member k left.undos))
+        (ap (λ (b : Bool). cond b (undo.change ∷ of_member k undos) (of_member k undos)) own_first) (a.backs k)
 
     alone : IsAlone c (of_member k left.undos)
     alone =
@@ -316,7 +318,9 @@ module _ (start : Standing) (n : ℕ) (some : 1 ≤ n) (begun : is_one_of start.
           (λ of. images-there left files members next_member a.stands undo.member a.on.0 a.places.0.there)
 
       own_record : ((undo.member == undo.member) && (undo.change.place + 1 == undo.change.place + 1)) ≡ true
-      own_record = and_from (undo.member == undo.member) (undo.change.place + 1 == undo.change.place + 1) (eq-eqb undo.member undo.member refl) (eq-eqb (undo.change.place + 1) (undo.change.place + 1) refl)
+      own_record =
+          and_from (undo.member == undo.member) (undo.change.place + 1 == undo.change.place + 1) (eq-eqb undo.member undo.member refl)
+          (eq-eqb (undo.change.place + 1) (undo.change.place + 1) refl)
 
       changed-back : Leads left (draft_by job moment undo.change.cycle undo.member rrn (UndoBeforeImage was) ∷ draft_by job moment undo.change.cycle undo.member rrn (UndoAfterImage true given) ∷ [])
           (IsAmidWhole undos (member_back undo members))
@@ -338,7 +342,8 @@ module _ (start : Standing) (n : ℕ) (some : 1 ≤ n) (begun : is_one_of start.
       by (Live given) Deleted eb ew real = added-back given eb ew
       by Deleted (Live was) eb ew real = deleted-back was eb ew
       by Deleted Deleted eb ew real =
-          absurd (let none : (is_live Deleted || is_live Deleted) ≡ true = ap (λ (slot : Slot). is_live slot || is_live Deleted) eb ∙ ap (λ (slot : Slot). is_live (before_of undo.change) || is_live slot) ew ∙ real in cc)
+          absurd (let none : (is_live Deleted || is_live Deleted) ≡ true =
+          ap (λ (slot : Slot). is_live slot || is_live Deleted) eb ∙ ap (λ (slot : Slot). is_live (before_of undo.change) || is_live slot) ew ∙ real in cc)
 
   -- ---- all of them
 

@@ -309,7 +309,8 @@ module _ (s : State) (sound : IsSound s) (r : IsReplayed s) (job timestamp : ℕ
   first-may : MayBeDeposited r.left (numbered (member_draft by number (JournalingStarted images (length slots))) r.left.next)
   first-may =
       may-deposit r.left (Some by.job) by.moment None number None (JournalingStarted images (length slots)) (started-of images (length slots)) begins refl
-      (numbered-there number r.left.members s.members r.stands.numbers there) undone tt (subst (λ (o : Option Entry). EndsPair o (numbered (member_draft by number (JournalingStarted images (length slots))) r.left.next)) (sym r.whole) refl)
+      (numbered-there number r.left.members s.members r.stands.numbers there) undone tt
+      (subst (λ (o : Option Entry). EndsPair o (numbered (member_draft by number (JournalingStarted images (length slots))) r.left.next)) (sym r.whole) refl)
       (no-records (catalogue_in r.left) (member_numbered (Some number) (catalogue_in r.left))) first-stands.within (ap (λ (b : Bool). b && true) number-present) (λ of. absurd cc)
 
   -- ---- each record that stands there
@@ -381,7 +382,8 @@ module _ (s : State) (sound : IsSound s) (r : IsReplayed s) (job timestamp : ℕ
     later-suits all suit =
         all-one (λ (slot : Slot). AllByRecursion (AtNumber number (λ m. Suits left.files m.file slot)) left.members)
         (λ (slot : Slot). AllByRecursion (AtNumber number (λ m. Suits left.files m.file slot)) later.members) all
-        (λ slot its. each-one (by_act number stood left.next) (AtNumber number (λ m. Suits left.files m.file slot)) (AtNumber number (λ m. Suits left.files m.file slot)) left.members (λ m own. own) its)
+        (λ slot its. each-one (by_act number stood left.next) (AtNumber number (λ m. Suits left.files m.file slot)) (AtNumber number (λ m. Suits left.files m.file slot)) left.members
+        (λ m own. own) its)
         suit
 
   fill-leads : (all : List Slot) (at : ℕ) (now : List Slot) (left : Standing) → at + length all ≤ length now → IsFilling now left → AllSuit all left
@@ -392,7 +394,8 @@ module _ (s : State) (sound : IsSound s) (r : IsReplayed s) (job timestamp : ℕ
       let same = length-put now at (Live image) here in
       leads-more left (draft_by (Some by.job) by.moment None number (Some (at + 1)) (InitialSlot image)) (initial_drafts by number (at + 1 + 1) all)
       (IsFilling (filled (at + 1) all (put_slot now at (Live image)))) (slot-may at image now left fills here suits.0)
-      (subst (λ (l : Standing). Leads l (initial_drafts by number (at + 1 + 1) all) (IsFilling (filled (at + 1) all (put_slot now at (Live image))))) (sym (slot-after at image now left fills here suits.0))
+      (subst (λ (l : Standing). Leads l (initial_drafts by number (at + 1 + 1) all) (IsFilling (filled (at + 1) all (put_slot now at (Live image)))))
+      (sym (slot-after at image now left fills here suits.0))
       (fill-leads all (at + 1) (put_slot now at (Live image)) (later at image now left fills here suits.0) (omega (arith, within, same))
       (later-fills at image now left fills here suits.0) (later-suits at image now left fills here suits.0 all suits.1)))
   fill-leads (Deleted ∷ all) at now left within fills suits = fill-leads all (at + 1) now left (omega (arith, within)) fills suits.1

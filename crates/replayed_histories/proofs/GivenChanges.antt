@@ -103,7 +103,8 @@ module _ (left : Standing) (files : Named FileState) (members : NumberedMembers)
       subst (λ (p : Place). IsTrue (is_placed_at p next (Some group) (Some k) (Some rrn))) (sym is)
       (and_from (nat_lt 0 group && nat_lt 0 k) (nat_lt 0 rrn) (and_from (nat_lt 0 group) (nat_lt 0 k) first second) third)
 
-  module _ (job : Option (List ℕ)) (moment : ℕ) (kind : EntryKind) (its : IsOfRecord kind) (place_is : place kind ≡ Record) (unpaired : pair_begun kind ≡ None) (c : Change) (n : ℕ) (own : c.cycle ≡ Some n)
+  module _ (job : Option (List ℕ)) (moment : ℕ) (kind : EntryKind) (its : IsOfRecord kind) (place_is : place kind ≡ Record) (unpaired : pair_begun kind ≡ None)
+      (c : Change) (n : ℕ) (own : c.cycle ≡ Some n)
       (reads : act_there kind left.begun (numbered (draft_by job moment c.cycle k (Some (c.place + 1)) kind) left.next) ≡ Changed c) (item : MemberState)
       (put : item.slots ≡ put_slot (member_of k members).slots c.place c.after) (suits : AllByRecursion (AtNumber k (λ m. Suits left.files m.file c.after)) left.members)
       (few : AllByRecursion (AtNumber k (AreFew left (length item.slots))) left.members) where

@@ -103,7 +103,8 @@ some-of None there = absurd cc
 some-of (Some a) there = (a, refl)
 
 -- a file with members is a physical one
-is-physical : (files : Named FileState) (name : List ℕ) (members : Named MemberStatus) (k : ℕ) (spec : FileSpec) → IsBased files name members spec → has_number k members ≡ true → kind_in spec ≡ Physical
+is-physical : (files : Named FileState) (name : List ℕ) (members : Named MemberStatus) (k : ℕ) (spec : FileSpec) → IsBased files name members spec
+    → has_number k members ≡ true → kind_in spec ≡ Physical
 is-physical files name members k (PhysicalFile spec) based has = refl
 is-physical files name members k (LogicalFile spec) based has =
     absurd (let clash : ◌≡◌ {A = Bool} false true = sym (ap (has_number k) based.none) ∙ has in cc)

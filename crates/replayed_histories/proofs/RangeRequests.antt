@@ -95,7 +95,8 @@ without-below n next cycles (c ∷ undos) low began owned =
 -- ---- amid the slots that are given
 
 module _ (s : State) (sound : IsSound s) (r : IsReplayed s) (job timestamp : ℕ) (k : ℕ) (there : is_some (member_at k s.members) ≡ true) (on : is_journaled k s.files ≡ true)
-    (free : user_of k (memory_of s) ≡ None) (fields : List Field) (held_fields : AllByRecursion (AtNumber k (λ m. file_fields r.left.files (find (is_named m.file) r.left.files) ≡ fields)) r.left.members)
+    (free : user_of k (memory_of s) ≡ None) (fields : List Field)
+    (held_fields : AllByRecursion (AtNumber k (λ m. file_fields r.left.files (find (is_named m.file) r.left.files) ≡ fields)) r.left.members)
     (now_fits : Fits fields (member_of k s.members).slots) where
   abbrev by : Author
   by = author_of (memory_of s) job timestamp
@@ -185,13 +186,16 @@ module _ (s : State) (sound : IsSound s) (r : IsReplayed s) (job timestamp : ℕ
     module _ (kind : EntryKind) (its : IsOfRecord kind) (place_is : place kind ≡ Record) (unpaired : pair_begun kind ≡ None)
         (reads : act_there kind left.begun (numbered (draft_by (Some by.job) by.moment (Some n) k (Some (g.place + 1)) kind) left.next) ≡ Changed c) where
       abbrev to : Standing
-      to = given_then left s.files (members_with now) s.next_member a.stands k on (there-then now) (Some by.job) by.moment kind its place_is unpaired c n refl reads (with_slots next_slots) put suits few
+      to =
+          given_then left s.files (members_with now) s.next_member a.stands k on (there-then now) (Some by.job) by.moment kind its place_is unpaired c n refl reads
+          (with_slots next_slots) put suits few
 
       given-then : IsGivingWhole next_slots to
       given-then = record {
         giving = record {
           stands = subst (λ (ms : NumberedMembers). HeldStand to s.files ms s.next_member) (with-twice k (with_slots now) (with_slots next_slots) s.members)
-              (given-stands left s.files (members_with now) s.next_member a.stands k on (there-then now) (Some by.job) by.moment kind its place_is unpaired c n refl reads (with_slots next_slots) put suits
+              (given-stands left s.files (members_with now) s.next_member a.stands k on (there-then now) (Some by.job) by.moment kind its place_is unpaired c n refl reads
+              (with_slots next_slots) put suits
               few);
           cycles = a.cycles;
           others = ap (λ (b : Bool). cond (not b) (record { member = k; change = c } ∷ without n left.undos) (without n left.undos)) (in-own n (Some n) refl) ∙ a.others;
@@ -209,12 +213,14 @@ module _ (s : State) (sound : IsSound s) (r : IsReplayed s) (job timestamp : ℕ
           → Leads left (draft_by (Some by.job) by.moment (Some n) k (Some (g.place + 1)) kind ∷ []) (IsGivingWhole next_slots)
       given-leads pairs records =
           leads-more left (draft_by (Some by.job) by.moment (Some n) k (Some (g.place + 1)) kind) [] (IsGivingWhole next_slots)
-          (given-may left s.files (members_with now) s.next_member a.stands k on (there-then now) (Some by.job) by.moment kind its place_is unpaired c n refl reads (with_slots next_slots) put suits few
+          (given-may left s.files (members_with now) s.next_member a.stands k on (there-then now) (Some by.job) by.moment kind its place_is unpaired c n refl reads
+          (with_slots next_slots) put suits few
           (opened left now a) (omega arith) (subst (λ (xs : List Slot). g.place ≤ length xs) (sym its-slots) goes.there)
           (ap (λ (xs : List Slot). slot_of xs g.place) its-slots)
           (all-one (λ (d : Change). d.cycle ≡ Some n) (λ (d : Change). d.place ≡ g.place → d.cycle ≡ Some n) (of_member k left.undos) (λ d own same. own) a.alone) pairs records)
           (subst (λ (l : Standing). Leads l [] (IsGivingWhole next_slots))
-          (sym (given-after left s.files (members_with now) s.next_member a.stands k on (there-then now) (Some by.job) by.moment kind its place_is unpaired c n refl reads (with_slots next_slots) put suits few))
+          (sym (given-after left s.files (members_with now) s.next_member a.stands k on (there-then now) (Some by.job) by.moment kind its place_is unpaired c n refl reads
+          (with_slots next_slots) put suits few))
           (leads-none to (IsGivingWhole next_slots) given-then))
 
     same_place : g.place + 1 - 1 ≡ g.place
@@ -442,9 +448,11 @@ module _ (s : State) (sound : IsSound s) (r : IsReplayed s) (job timestamp : ℕ
     behind-telling (g ∷ given) go fit =
         leads-more r.left (member_draft by k kind) (cycle_draft by n CommitCycleStarted ∷ given_drafts by n k slots (g ∷ given) ++ cycle_draft by n CommitCycleCommitted ∷ [])
         (IsDone (put_all slots (g ∷ given))) telling-may
-        (subst (λ (l : Standing). Leads l (cycle_draft by n CommitCycleStarted ∷ given_drafts by n k slots (g ∷ given) ++ cycle_draft by n CommitCycleCommitted ∷ []) (IsDone (put_all slots (g ∷ given))))
+        (subst (λ (l : Standing). Leads l (cycle_draft by n CommitCycleStarted ∷ given_drafts by n k slots (g ∷ given) ++ cycle_draft by n CommitCycleCommitted ∷ [])
+        (IsDone (put_all slots (g ∷ given))))
         (sym telling-after)
-        (leads-more told_first (cycle_draft by n CommitCycleStarted) (given_drafts by n k slots (g ∷ given) ++ cycle_draft by n CommitCycleCommitted ∷ []) (IsDone (put_all slots (g ∷ given))) starting-may
+        (leads-more told_first (cycle_draft by n CommitCycleStarted) (given_drafts by n k slots (g ∷ given) ++ cycle_draft by n CommitCycleCommitted ∷ [])
+        (IsDone (put_all slots (g ∷ given))) starting-may
         (subst (λ (l : Standing). Leads l (given_drafts by n k slots (g ∷ given) ++ cycle_draft by n CommitCycleCommitted ∷ []) (IsDone (put_all slots (g ∷ given)))) (sym starting-after)
         (leads-append second (given_drafts by n k slots (g ∷ given)) (cycle_draft by n CommitCycleCommitted ∷ []) (IsGivingWhole (put_all slots (g ∷ given))) (IsDone (put_all slots (g ∷ given)))
         (all-given (g ∷ given) slots second second-giving go fit) (λ left w. committed-leads (put_all slots (g ∷ given)) left w)))))
