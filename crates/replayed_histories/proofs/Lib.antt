@@ -24,3 +24,4 @@ pub mod BeginLaws
 pub mod RangeFacts
 pub mod RangeRequests
 pub mod RangeLaws
+pub mod HistoryLemmas

@@ -3,6 +3,7 @@
 #![tactic(auto)]
 
 pub mod laws_back;
+pub mod laws_histories;
 pub mod laws_journaling;
 
 ghost use Rattle.std.specs.Prelude.{◌≡◌, ℕ, true, None, Some, List, []};
