@@ -25,3 +25,4 @@ pub mod RangeFacts
 pub mod RangeRequests
 pub mod RangeLaws
 pub mod HistoryLemmas
+pub mod CheckpointLemmas
