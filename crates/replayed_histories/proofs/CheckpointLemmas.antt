@@ -61,41 +61,41 @@ module _ (s : State) where
 
   by_request : (sources : List NamedSource) (job timestamp : ℕ) (request : Request) (done : Change) → saves request ≡ false → change sources s.entries m job timestamp request ≡ Ok done → Stays done
   unfolding change
-  by_request sources job timestamp (CreatePhysicalFile args) done no h = stays (create_change m job timestamp args) _ done (λ x. refl) h
-  by_request sources job timestamp (CreateLogicalFile args) done no h = stays (create_logical_change m job timestamp args) _ done (λ x. refl) h
-  by_request sources job timestamp (DeleteFile args) done no h = stays (files.delete_change m job timestamp args) _ done (λ x. refl) h
-  by_request sources job timestamp (AddMember args) done no h = does-each _ (add_plan m args) done Stays h (λ x is. refl)
-  by_request sources job timestamp (ClearMember args) done no h = stays (renumbering m job timestamp MemberCleared cleared) _ done (λ x. refl) h
-  by_request sources job timestamp (ReorganizeMember args) done no h = stays (renumbering m job timestamp MemberReorganized reorganized) _ done (λ x. refl) h
-  by_request sources job timestamp (StartJournaling args) done no h = stays (journaling.start_change m job timestamp args) _ done (λ x. refl) h
-  by_request sources job timestamp (EndJournaling args) done no h = stays (journaling.end_change m job timestamp) _ done (λ x. refl) h
-  by_request sources job timestamp ChangeJournal done no h = stays (attach_change m job timestamp) _ done (λ x. refl) h
-  by_request sources job timestamp (DeleteReceiver args) done no h = does-each _ (give_up_plan s.entries m args) done Stays h (λ x is. refl)
-  by_request sources job timestamp Checkpoint done no h = absurd cc
-  by_request sources job timestamp (DisplayJournal args) done no h = does-each _ (display_plan s.entries m args) done Stays h (λ x is. refl)
-  by_request sources job timestamp (ApplyChanges args) done no h = stays (range_change m) _ done (λ x. refl) h
-  by_request sources job timestamp (RemoveChanges args) done no h = stays (range_change m) _ done (λ x. refl) h
-  by_request sources job timestamp (StartCommitment args) done no h = does-each _ (commitment.start_plan m job) done Stays h (λ x is. refl)
-  by_request sources job timestamp EndCommitment done no h = does-each _ (commitment.end_plan m job) done Stays h (λ x is. refl)
-  by_request sources job timestamp Commit done no h = does-each (λ level. commit_change m job timestamp) (found (job_of job m).level NoDefinition) done Stays h (λ x is. refl)
-  by_request sources job timestamp Rollback done no h =
+  by_request sources job timestamp (CreatePhysicalFile args) done other h = stays (create_change m job timestamp args) _ done (λ x. refl) h
+  by_request sources job timestamp (CreateLogicalFile args) done other h = stays (create_logical_change m job timestamp args) _ done (λ x. refl) h
+  by_request sources job timestamp (DeleteFile args) done other h = stays (files.delete_change m job timestamp args) _ done (λ x. refl) h
+  by_request sources job timestamp (AddMember args) done other h = does-each _ (add_plan m args) done Stays h (λ x is. refl)
+  by_request sources job timestamp (ClearMember args) done other h = stays (renumbering m job timestamp MemberCleared cleared) _ done (λ x. refl) h
+  by_request sources job timestamp (ReorganizeMember args) done other h = stays (renumbering m job timestamp MemberReorganized reorganized) _ done (λ x. refl) h
+  by_request sources job timestamp (StartJournaling args) done other h = stays (journaling.start_change m job timestamp args) _ done (λ x. refl) h
+  by_request sources job timestamp (EndJournaling args) done other h = stays (journaling.end_change m job timestamp) _ done (λ x. refl) h
+  by_request sources job timestamp ChangeJournal done other h = stays (attach_change m job timestamp) _ done (λ x. refl) h
+  by_request sources job timestamp (DeleteReceiver args) done other h = does-each _ (give_up_plan s.entries m args) done Stays h (λ x is. refl)
+  by_request sources job timestamp Checkpoint done other h = absurd cc
+  by_request sources job timestamp (DisplayJournal args) done other h = does-each _ (display_plan s.entries m args) done Stays h (λ x is. refl)
+  by_request sources job timestamp (ApplyChanges args) done other h = stays (range_change m) _ done (λ x. refl) h
+  by_request sources job timestamp (RemoveChanges args) done other h = stays (range_change m) _ done (λ x. refl) h
+  by_request sources job timestamp (StartCommitment args) done other h = does-each _ (commitment.start_plan m job) done Stays h (λ x is. refl)
+  by_request sources job timestamp EndCommitment done other h = does-each _ (commitment.end_plan m job) done Stays h (λ x is. refl)
+  by_request sources job timestamp Commit done other h = does-each (λ level. commit_change m job timestamp) (found (job_of job m).level NoDefinition) done Stays h (λ x is. refl)
+  by_request sources job timestamp Rollback done other h =
       does-each (λ level. rollback_change m job timestamp) (found (job_of job m).level NoDefinition) done Stays h (λ x is. taken-checkpoint (changes_of (job_of job m).cycle) m)
-  by_request sources job timestamp (OpenFile args) done no h = does-each _ (open_plan m job args) done Stays h (λ x is. refl)
-  by_request sources job timestamp (CloseFile args) done no h = does-each _ (named_or_refused args.open_id (open_named args.open_id job m)) done Stays h (λ x is. refl)
-  by_request sources job timestamp (SetLowerLimit args) done no h = stays (position_change m job) _ done (λ x. refl) h
-  by_request sources job timestamp (SetGreaterThan args) done no h = stays (position_change m job) _ done (λ x. refl) h
-  by_request sources job timestamp (Read args) done no h = stays (read_change m job) _ done (λ x. refl) h
-  by_request sources job timestamp (ReadPrior args) done no h = stays (read_change m job) _ done (λ x. refl) h
-  by_request sources job timestamp (ReadEqual args) done no h = stays (read_change m job) _ done (λ x. refl) h
-  by_request sources job timestamp (ReadPriorEqual args) done no h = stays (read_change m job) _ done (λ x. refl) h
-  by_request sources job timestamp (Chain args) done no h = stays (read_change m job) _ done (λ x. refl) h
-  by_request sources job timestamp (Write args) done no h = stays (write_change m job timestamp (write_call args.record_number)) _ done (λ new. slot-stays job new) h
-  by_request sources job timestamp (Update args) done no h = stays (update_change m job timestamp) _ done (λ new. slot-stays job new) h
-  by_request sources job timestamp (Delete args) done no h = stays (records.delete_change m job timestamp) _ done (λ new. slot-stays job new) h
-  by_request sources job timestamp (Unlock args) done no h = stays (unlock_change m job) _ done (λ x. refl) h
-  by_request sources job timestamp (EndJob args) done no h =
+  by_request sources job timestamp (OpenFile args) done other h = does-each _ (open_plan m job args) done Stays h (λ x is. refl)
+  by_request sources job timestamp (CloseFile args) done other h = does-each _ (named_or_refused args.open_id (open_named args.open_id job m)) done Stays h (λ x is. refl)
+  by_request sources job timestamp (SetLowerLimit args) done other h = stays (position_change m job) _ done (λ x. refl) h
+  by_request sources job timestamp (SetGreaterThan args) done other h = stays (position_change m job) _ done (λ x. refl) h
+  by_request sources job timestamp (Read args) done other h = stays (read_change m job) _ done (λ x. refl) h
+  by_request sources job timestamp (ReadPrior args) done other h = stays (read_change m job) _ done (λ x. refl) h
+  by_request sources job timestamp (ReadEqual args) done other h = stays (read_change m job) _ done (λ x. refl) h
+  by_request sources job timestamp (ReadPriorEqual args) done other h = stays (read_change m job) _ done (λ x. refl) h
+  by_request sources job timestamp (Chain args) done other h = stays (read_change m job) _ done (λ x. refl) h
+  by_request sources job timestamp (Write args) done other h = stays (write_change m job timestamp (write_call args.record_number)) _ done (λ new. slot-stays job new) h
+  by_request sources job timestamp (Update args) done other h = stays (update_change m job timestamp) _ done (λ new. slot-stays job new) h
+  by_request sources job timestamp (Delete args) done other h = stays (records.delete_change m job timestamp) _ done (λ new. slot-stays job new) h
+  by_request sources job timestamp (Unlock args) done other h = stays (unlock_change m job) _ done (λ x. refl) h
+  by_request sources job timestamp (EndJob args) done other h =
       let e : jobs.end_change m job timestamp ≡ done = cc in
       sym (ap (λ (c : Change). c.memory.checkpoint) e) ∙ taken-checkpoint (changes_of (job_of job m).cycle) m
 
 pub checkpoint-stays : StaysCheckpoint
-checkpoint-stays s done d no = by_request s d.sources d.job d.timestamp d.request done no d.does
+checkpoint-stays s done d other = by_request s d.sources d.job d.timestamp d.request done other d.does

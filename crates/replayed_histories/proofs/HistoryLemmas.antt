@@ -30,23 +30,23 @@ changed-well s t reply (Err refused) well kept is = subst IsWell (sym (ap (λ p.
 
 module _ (replays : AreReplaysKept) (sounds : IsKept IsSound) (sources : List NamedSource) where
   comes-well : (s : State) (mid : Outcome) (call : Call) → IsWell s → saves call.request ≡ false → IsTrue (is_running (job_at call.job s.jobs)) → Comes sources s call mid → IsWellAt mid
-  comes-well s (Standing t) call well no running (inl is) =
+  comes-well s (Standing t) call well other running (inl is) =
       changed-well s t call.reply (change sources s.entries (memory_of s) call.job call.timestamp call.request) well
       (λ done does.
       let d : Does s done =
       record { sound = well.sound; sources = sources; job = call.job; timestamp = call.timestamp; request = call.request; running = running; does = does }
       in
-      record { sound = sounds s done d; replayed = replays s done d (checkpoint-stays s done d no ∙ well.replayed.checkpoint) well.replayed })
+      record { sound = sounds s done d; replayed = replays s done d (checkpoint-stays s done d other ∙ well.replayed.checkpoint) well.replayed })
       is
-  comes-well s (Standing t) call well no running (inr same) = subst IsWell (sym same.0) well
-  comes-well s (Failed entries) call well no running comes = tt
+  comes-well s (Standing t) call well other running (inr same) = subst IsWell (sym same.0) well
+  comes-well s (Failed entries) call well other running comes = tt
 
   -- from wherever the calls begin
   runs-well : (from : Outcome) (t : State) (calls : List Call) → IsWellAt from → AsksNoCheckpoint calls → Runs sources from calls (Standing t) → IsWell t
-  runs-well from t [] well no runs = subst IsWellAt (sym runs) well
-  runs-well (Standing s) t (call ∷ calls) well no runs = runs-well runs.1 t calls (comes-well s runs.1 call well no.0 runs.0 runs.2) no.1 runs.3
-  runs-well (Failed entries) t (call ∷ calls) well no runs = absurd runs
+  runs-well from t [] well other runs = subst IsWellAt (sym runs) well
+  runs-well (Standing s) t (call ∷ calls) well other runs = runs-well runs.1 t calls (comes-well s runs.1 call well other.0 runs.0 runs.2) other.1 runs.3
+  runs-well (Failed entries) t (call ∷ calls) well other runs = absurd runs
 
 pub histories-replayed : AreHistoriesReplayed
-histories-replayed replays sounds sources names calls s no runs =
-    (runs-well replays sounds sources (Standing (begun empty_library names)) s calls (record { sound = begun-sound names; replayed = empty-replayed names }) no runs).replayed
+histories-replayed replays sounds sources names calls s other runs =
+    (runs-well replays sounds sources (Standing (begun empty_library names)) s calls (record { sound = begun-sound names; replayed = empty-replayed names }) other runs).replayed
