@@ -31,7 +31,6 @@ use Rattle.library_steps.specs.SlotChange.{NewSlot, change_made, cycle_for, touc
 use Rattle.library_steps.specs.State.{CycleState, Memory, State, job_of, memory_of, open_named, with_status}
 use Rattle.library_steps.specs.Step.{change}
 use Rattle.library_steps.specs.WriteRecord.{write_call, write_change}
-use Rattle.joint_state.specs.Sound.{Does}
 use Rattle.replayed_histories.specs.Unsaved.{StaysCheckpoint, saves}
 
 undo-checkpoint : (commit : Bool) (job : ℕ) (undo : MemberChange) (cycle : CycleState) (m : Memory) → (with_undo commit job undo cycle m).checkpoint ≡ m.checkpoint
@@ -53,8 +52,8 @@ module _ (s : State) where
   stays effect plan done each h = does-each effect plan done Stays h (λ x is. each x)
 
   slot-stays : (job : ℕ) (new : NewSlot)
-      → (with_undo new.opened.commit job (change_made m (job_of job m) new) (cycle_for m (job_of job m)) (with_status new.opened.member touched (with_slot new.opened.member new.rrn new.slot m))).checkpoint
-      ≡ s.checkpoint
+      → (with_undo new.opened.commit job (change_made m (job_of job m) new) (cycle_for m (job_of job m))
+      (with_status new.opened.member touched (with_slot new.opened.member new.rrn new.slot m))).checkpoint ≡ s.checkpoint
   slot-stays job new =
       undo-checkpoint new.opened.commit job (change_made m (job_of job m) new) (cycle_for m (job_of job m))
       (with_status new.opened.member touched (with_slot new.opened.member new.rrn new.slot m))
