@@ -13,3 +13,14 @@ pub mod StepLemmas
 pub mod MemberLemmas
 pub mod StatusLemmas
 pub mod FreeLemmas
+pub mod FoundLemmas
+pub mod MovedLemmas
+pub mod HomeLemmas
+pub mod OneLemmas
+pub mod ClearRequests
+pub mod NotedLemmas
+pub mod AloneLemmas
+pub mod RecordLemmas
+pub mod RecordRequests
+pub mod PutRequests
+pub mod AddRequests

@@ -1,3 +1,4 @@
 pub mod Shown
 pub mod Replayed
 pub mod Deposits
+pub mod Requests

@@ -2,6 +2,8 @@
 //! Begin with `specs/Replayed.antt`.
 #![tactic(auto)]
 
+pub mod member_laws;
+
 ghost use Rattle.std.specs.Prelude.{◌≡◌, ℕ, true, None, Some, List, []};
 ghost use Rattle.std.specs.Option.{is_some};
 ghost use Rattle.joint_state.specs.Sound.{after};
