@@ -24,3 +24,6 @@ pub mod RecordLemmas
 pub mod RecordRequests
 pub mod PutRequests
 pub mod AddRequests
+pub mod GrownLemmas
+pub mod CreateRequests
+pub mod PhysicalRequests

@@ -1,10 +1,16 @@
 //! Requests on members. The functions do nothing, and their contracts are the laws.
 
+ghost use Rattle.std.specs.Prelude.{List};
+ghost use Rattle.library_model.specs.declared.requests.CreateLogicalFile.{CreateLogicalFile};
+ghost use Rattle.library_model.specs.declared.requests.CreatePhysicalFile.{CreatePhysicalFile};
 ghost use Rattle.library_model.specs.declared.requests.FileMember.{FileMember};
 ghost use Rattle.library_model.specs.declared.requests.OpenName.{OpenName};
 ghost use Rattle.library_model.specs.declared.requests.UpdateRecord.{UpdateRecord};
 ghost use Rattle.library_model.specs.declared.requests.WriteRecord.{WriteRecord};
+ghost use Rattle.library_model.specs.declared.sources.NamedSource.{NamedSource};
 ghost use Rattle.library_steps.specs.ChangeRecord.{delete_record, update_record};
+ghost use Rattle.library_steps.specs.CreateLogicalFile.{create_logical_file};
+ghost use Rattle.library_steps.specs.CreatePhysicalFile.{create_physical_file};
 ghost use Rattle.library_steps.specs.Journaling.{end_journaling};
 ghost use Rattle.library_steps.specs.MemberCommands.{add_member, clear_member, reorganize_member};
 ghost use Rattle.library_steps.specs.WriteRecord.{write_record};
@@ -31,4 +37,10 @@ pub fn changed_records_are_replayed()
 /// So it does after ADDPFM.
 pub fn added_members_are_replayed()
     ensures { (args : FileMember) → AreReplaysKeptBy (λ m job timestamp. add_member m job timestamp args) }
+{}
+
+/// So it does after CRTPF and CRTLF.
+pub fn created_files_are_replayed()
+    ensures physical { (sources : List NamedSource) (args : CreatePhysicalFile) → AreReplaysKeptBy (λ m job timestamp. create_physical_file sources m job timestamp args) }
+    ensures logical { (sources : List NamedSource) (args : CreateLogicalFile) → AreReplaysKeptBy (λ m job timestamp. create_logical_file sources m job timestamp args) }
 {}
