@@ -2,3 +2,5 @@ pub mod Shown
 pub mod Replayed
 pub mod Deposits
 pub mod Unsaved
+pub mod Requests
+pub mod Joined
