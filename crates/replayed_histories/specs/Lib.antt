@@ -1,3 +1,6 @@
 pub mod Shown
 pub mod Replayed
 pub mod Deposits
+pub mod Unsaved
+pub mod Requests
+pub mod Joined

@@ -2,6 +2,12 @@
 //! Begin with `specs/Replayed.antt`.
 #![tactic(auto)]
 
+pub mod laws_back;
+pub mod laws_histories;
+pub mod laws_joined;
+pub mod laws_journaling;
+pub mod member_laws;
+
 ghost use Rattle.std.specs.Prelude.{◌≡◌, ℕ, true, None, Some, List, []};
 ghost use Rattle.std.specs.Option.{is_some};
 ghost use Rattle.joint_state.specs.Sound.{after};
