@@ -21,7 +21,6 @@ use Rattle.journal_replay.specs.Standing.{HeldMember, catalog_member, catalogue_
 use Rattle.library_model.specs.Named.{Named, named}
 use Rattle.library_model.specs.declared.replies.Reply.TheVariants.{Done}
 use Rattle.library_steps.specs.State.{FileState, MemberStatus, State, fields_of, memory_of, with_status}
-use Rattle.library_steps.specs.Change.{journaled}
 use Rattle.library_steps.specs.Drafts.{author_of, member_draft}
 use Rattle.library_steps.specs.Journaling.{end_change, no_longer_journaled}
 use Rattle.library_steps.specs.SlotChange.{status_among}
