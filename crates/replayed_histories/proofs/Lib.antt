@@ -27,3 +27,4 @@ pub mod AddRequests
 pub mod GrownLemmas
 pub mod CreateRequests
 pub mod PhysicalRequests
+pub mod DeleteRequests
