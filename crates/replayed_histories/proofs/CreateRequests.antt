@@ -170,7 +170,8 @@ module _ (s : State) (r : IsReplayed s) (sound : IsSound s) (job timestamp : ℕ
         (λ m home. some-before m.file s.files (name, logical_file plan) home) r.left.members r.stands.homes;
     numbers = r.stands.numbers;
     next_is = r.stands.next_is;
-    slots = each-weaker (MemberStands s.files s.members) (MemberStands (s.files ++ (name, logical_file plan) ∷ []) s.members) (λ m stands. stands-before s.files s.members (name, logical_file plan) m stands)
+    slots = each-weaker (MemberStands s.files s.members) (MemberStands (s.files ++ (name, logical_file plan) ∷ []) s.members)
+        (λ m stands. stands-before s.files s.members (name, logical_file plan) m stands)
         r.left.members r.stands.slots;
     cycles_are = cycles-later r.left.next r.left.cycles r.left.undos s.jobs r.stands.cycles_are;
   }

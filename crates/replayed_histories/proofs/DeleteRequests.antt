@@ -1,5 +1,5 @@
 -- DLTF, where the journal's other files don't depend on the one that goes, and are described without it as they were.
-use Rattle.std.proofs.Common.{◌≡◌, ◌≢◌, ℕ, ◌+◌, ◌==◌, ◌||◌, not, Bool, true, false, cond, Option, Some, None, Ok, unwrap_or, List, [], ◌∷◌, ◌++◌, map, refl, sym, ap, ◌∙◌, subst, arith}
+use Rattle.std.proofs.Common.{◌≡◌, ◌≢◌, ℕ, ◌+◌, ◌==◌, ◌||◌, not, Bool, true, false, cond, Option, Some, None, Ok, unwrap_or, List, [], ◌∷◌, map, refl, sym, ap, ◌∙◌, subst, arith}
 use Rattle.std.specs.List.{AllByRecursion, filter, find, list_any}
 use Rattle.std.specs.Option.{is_some}
 use Rattle.std.specs.Str.{bytes_eq}
@@ -7,20 +7,18 @@ use Rattle.std.proofs.lemmas.Bool.{eqb-false, eqb-true, or_parts}
 use Rattle.std.proofs.lemmas.Bool.Decides.{nat_tests}
 use Rattle.std.proofs.lemmas.List.{append-nil}
 use Rattle.entry_codec.specs.declared.entries.Entry.{Entry}
-use Rattle.entry_codec.specs.declared.kinds.EntryKind.{EntryKind}
 use Rattle.entry_codec.specs.declared.kinds.EntryKind.TheVariants.{FileDeleted}
 use Rattle.entry_codec.specs.declared.kinds.FileKind.TheVariants.{Physical}
 use Rattle.entry_codec.specs.Drafts.{numbered}
 use Rattle.dds_physical.specs.declared.physical_files.PhysicalSpec.{PhysicalSpec}
-use Rattle.lock_table.specs.declared.lock.Lock.{Lock}
 use Rattle.member_slots.specs.Member.{IsMember, MemberState, empty_member}
 use Rattle.member_slots.specs.Members.{NumberedMembers, member_at, member_of, without_member}
 use Rattle.record_fmt.specs.Layout as layout
 use Rattle.logical_model.specs.Bases.{FileSpec, LogicalFile, PhysicalFile}
-use Rattle.file_catalogue.specs.Owners.{Owns, has_number}
+use Rattle.file_catalogue.specs.Owners.{has_number}
 use Rattle.file_catalogue.proofs.NameLemmas.{named-without_other, same_name-equal, same_name-self, same_name-symm}
 use Rattle.file_catalogue.proofs.StatusLemmas.{has_number-cons}
-use Rattle.journal_model.specs.Catalogue.{Catalogue, CatalogFile, CatalogMember, MayDelete, depends_on, empty_catalogue, is_in_file, is_named, member_numbered, members_of}
+use Rattle.journal_model.specs.Catalogue.{CatalogFile, CatalogMember, MayDelete, depends_on, empty_catalogue, is_in_file, is_named, member_numbered, members_of}
 use Rattle.journal_model.specs.Journal.{length_in}
 use Rattle.journal_model.specs.Pairs.{EndsPair}
 use Rattle.journal_model.specs.Rollback.{of_member}
@@ -28,11 +26,11 @@ use Rattle.journal_replay.specs.Standing.{HeldMember, Standing, catalog_member, 
 use Rattle.library_model.specs.declared.replies.Reply.TheVariants.{Done}
 use Rattle.library_model.specs.declared.requests.DeleteFile.{DeleteFile}
 use Rattle.library_model.specs.Named.{Named, named, same_name}
-use Rattle.library_steps.specs.State.{FileState, JobState, Memory, MemberStatus, State, fields_of, memory_of}
+use Rattle.library_steps.specs.State.{FileState, JobState, MemberStatus, State, fields_of, memory_of}
 use Rattle.library_steps.specs.Change.{Change}
 use Rattle.library_steps.specs.DeleteFile.{delete_change, delete_file, delete_plan, deleted, user_by, without_file, without_members}
 use Rattle.library_steps.specs.Drafts.{Author, author_of, library_draft}
-use Rattle.library_steps.specs.Uses.{first_job, user_of, user_of_any, uses}
+use Rattle.library_steps.specs.Uses.{first_job, user_of, uses}
 use Rattle.library_parts.specs.Lawful.{IsBased}
 use Rattle.library_parts.proofs.MemberLemmas.{item_at-without_item_other}
 use Rattle.joint_state.specs.Sound.{IsSound, after}
@@ -42,7 +40,7 @@ use Rattle.cycles_kept.proofs.ImageLemmas.{among-without}
 use Rattle.restart_model.specs.Sources.{described_files, descriptions, fields_beside, spec_named}
 use Rattle.restart_laws.proofs.CatalogueLemmas.{AreNamesApart, IsCatalogue, empty-is, entries-are}
 use Rattle.restart_laws.proofs.StableLemmas.{ArePlain, IsPlain, all-free, plain-less, spec-less}
-use Rattle.replayed_histories.specs.Shown.{ShownFile, ShownMember, ShowsMembers, catalog_shown, file_shown, held_shown, is_held_in, kind_in, memberless}
+use Rattle.replayed_histories.specs.Shown.{ShownFile, ShowsMembers, catalog_shown, file_shown, held_shown, is_held_in, kind_in, memberless}
 use Rattle.replayed_histories.specs.Replayed.{IsHeldWithin, IsReplayed, MemberStands, StandsAs}
 use Rattle.replayed_histories.specs.Deposits.{MayBeDeposited}
 use Rattle.replayed_histories.specs.Requests.{MayGo}
@@ -191,7 +189,8 @@ module _ (name : List ℕ) (catalog : List CatalogFile) (apart : AreNamesApart c
           plain-fields less file two ∙ ap (λ (p : PhysicalSpec). p.format.fields) same ∙ sym (plain-fields catalog file one)
 
   -- a file of another name is found as it was
-  find-less : (other : List ℕ) (files : List CatalogFile) (its : CatalogFile) → bytes_eq other name ≡ false → find (is_named other) files ≡ Some its → find (is_named other) (filter stay files) ≡ Some its
+  find-less : (other : List ℕ) (files : List CatalogFile) (its : CatalogFile) → bytes_eq other name ≡ false → find (is_named other) files ≡ Some its
+      → find (is_named other) (filter stay files) ≡ Some its
   find-less other [] its differs found = absurd cc
   find-less other (file ∷ files) its differs found = by (is_named other file) (is_named name file) refl refl found (λ later. find-less other files its differs later) where
     clash : is_named other file ≡ true → is_named name file ≡ true → ⊥
@@ -335,7 +334,8 @@ narrower wide narrow number (job ∷ jobs) each none = by (wide number job) refl
   by true is h more = absurd cc
   by false is h more = ap (λ (b : Bool). cond b (Some number) (first_job narrow (number + 1) jobs)) (each number job is) ∙ more h
 
-one-of-them : (test : ℕ → Bool) (n : ℕ) (members : Named MemberStatus) → has_number n members ≡ true → list_any (λ (entry : List ℕ × MemberStatus). test entry.1.number) members ≡ false → test n ≡ false
+one-of-them : (test : ℕ → Bool) (n : ℕ) (members : Named MemberStatus) → has_number n members ≡ true
+    → list_any (λ (entry : List ℕ × MemberStatus). test entry.1.number) members ≡ false → test n ≡ false
 one-of-them test n [] has none = absurd cc
 one-of-them test n (entry ∷ members) has none = by (entry.1.number == n) refl (sym (has_number-cons n entry members) ∙ has) (λ later. one-of-them test n members later parts.1) where
   parts : (test entry.1.number ≡ false) × (list_any (λ (x : List ℕ × MemberStatus). test x.1.number) members ≡ false)

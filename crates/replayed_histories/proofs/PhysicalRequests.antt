@@ -116,8 +116,8 @@ module _ (author : Author) (number : ℕ) (name source : List ℕ) (left : Stand
 
   physical-after : standing_after physical_entry left ≡ physical_left
   physical-after =
-      standing-same (left.next + 1) None None (left.files ++ physical_new ∷ []) (left.files ++ physical_new ∷ []) _ (left.members ++ first_member ∷ []) (number + 1) (number + 1) left.cycles left.cycles
-      _ left.undos refl refl (ap (λ (ms : List HeldMember). ms ++ first_member ∷ []) (members-stay left.begun physical_entry left.members stays)) refl refl
+      standing-same (left.next + 1) None None (left.files ++ physical_new ∷ []) (left.files ++ physical_new ∷ []) _ (left.members ++ first_member ∷ []) (number + 1) (number + 1)
+      left.cycles left.cycles _ left.undos refl refl (ap (λ (ms : List HeldMember). ms ++ first_member ∷ []) (members-stay left.begun physical_entry left.members stays)) refl refl
       (elim (number == number) as (λ b. undos_by (cond b Nothing Nothing) number left.undos ≡ left.undos) [ true ↦ refl | false ↦ refl ])
     where
       stays : (m : HeldMember) → member_by (act m.number left.begun physical_entry) physical_entry.sequence m ≡ m

@@ -1,4 +1,4 @@
-//! Requests on members. The functions do nothing, and their contracts are the laws.
+//! Requests on files, members and records. The functions do nothing, and their contracts are the laws.
 
 ghost use Rattle.std.specs.Prelude.{◌≡◌, ℕ, List, Ok};
 ghost use Rattle.joint_state.specs.Sound.{IsSound, after};
