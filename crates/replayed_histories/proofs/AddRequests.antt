@@ -1,9 +1,9 @@
 -- ADDPFM: a file has a member more, without records.
-use Rattle.std.proofs.Common.{◌≡◌, ◌≢◌, ℕ, ◌+◌, ◌*◌, ◌<◌, ◌≤◌, ◌==◌, ◌&&◌, ◌||◌, nat_le, nat_lt, Bool, true, false, cond, IsTrue, IsFalse, Option, Some, None, unwrap_or, Ok, List, [], ◌∷◌, ◌++◌, map, length, refl, sym, ap, ◌∙◌, subst, arith}
+use Rattle.std.proofs.Common.{◌≡◌, ◌≢◌, ℕ, ◌+◌, ◌<◌, ◌≤◌, ◌==◌, ◌&&◌, ◌||◌, nat_le, nat_lt, Bool, true, false, cond, Option, Some, None, unwrap_or, Ok, List, [], ◌∷◌, ◌++◌, map, length, refl, sym, ap, ◌∙◌, subst, arith}
 use Rattle.std.specs.List.{AllByRecursion, filter, find, list_any}
 use Rattle.std.specs.Option.{is_some, option_map}
 use Rattle.std.specs.Str.{bytes_eq}
-use Rattle.std.proofs.lemmas.Bool.{eqb-true, ltb-false}
+use Rattle.std.proofs.lemmas.Bool.{ltb-false}
 use Rattle.std.proofs.lemmas.Bool.Decides.{nat_tests}
 use Rattle.std.proofs.lemmas.List.{append-nil, map-append}
 use Rattle.std.proofs.lemmas.List.Elements.{All-from_recursion}
@@ -12,28 +12,27 @@ use Rattle.entry_codec.specs.declared.kinds.EntryKind.{EntryKind}
 use Rattle.entry_codec.specs.declared.kinds.EntryKind.TheVariants.{FileCreated, FileDeleted, MemberAdded, JournalingStarted, InitialSlot, JournalingEnded, MemberCleared, MemberReorganized, ChangesApplied, ChangesRemoved, RecordAdded, RecordAddedAtNumber, BeforeImage, AfterImage, RecordDeleted, UndoBeforeImage, UndoAfterImage, UndoDelete, CommitmentStarted, CommitCycleStarted, CommitCycleCommitted, CommitCycleRolledBack, CommitmentEnded, AbnormalEnd, NextReceiver, PreviousReceiver}
 use Rattle.entry_codec.specs.declared.kinds.FileKind.TheVariants.{Logical, Physical}
 use Rattle.entry_codec.specs.Drafts.{numbered}
-use Rattle.member_slots.specs.declared.slot.Slot.{Slot}
 use Rattle.member_slots.specs.Member.{FitsSlot, MemberState, empty_member}
-use Rattle.member_slots.specs.Members.{NumberedMembers, item_at, member_at, member_of, put_member}
+use Rattle.member_slots.specs.Members.{NumberedMembers, member_at, member_of, put_member}
 use Rattle.record_fmt.specs.Layout.{record_length}
 use Rattle.logical_model.specs.Bases.{FileSpec, LogicalFile, PhysicalFile}
 use Rattle.logical_laws.proofs.ListLemmas.{each-weaker}
 use Rattle.file_catalogue.specs.Physical.{IsPhysical}
-use Rattle.file_catalogue.proofs.NameLemmas.{same_name-equal, same_name-symm}
+use Rattle.file_catalogue.proofs.NameLemmas.{same_name-symm}
 use Rattle.journal_model.specs.Acts.{Nothing, act}
 use Rattle.journal_model.specs.Catalogue.{Catalogue, CatalogFile, CatalogMember, MayAddMember, catalogue_after, catalogue_by, empty_catalogue, is_in_file, member_numbered}
 use Rattle.journal_model.specs.Pairs.{EndsPair}
 use Rattle.journal_model.specs.Replayable.{MayFollow}
-use Rattle.journal_model.specs.Rollback.{MemberChange, undos_by}
-use Rattle.journal_replay.specs.Standing.{HeldMember, Standing, catalog_member, catalogue_in, member_by, members_by, new_member, standing_after, state_in}
+use Rattle.journal_model.specs.Rollback.{undos_by}
+use Rattle.journal_replay.specs.Standing.{HeldMember, Standing, catalog_member, catalogue_in, member_by, new_member, standing_after, state_in}
 use Rattle.library_model.specs.declared.limits.TheConstants.{LAST_MEMBER}
 use Rattle.library_model.specs.declared.replies.LimitKind.TheVariants.{MemberNumbers, Members}
 use Rattle.library_model.specs.declared.replies.Reply.TheVariants.{Done, LimitReached, NameExists}
 use Rattle.library_model.specs.declared.requests.FileMember.{FileMember}
 use Rattle.library_model.specs.Named.{Named, named, same_name}
 use Rattle.library_steps.specs.declared.limits.TheConstants.{MOST_MEMBERS}
-use Rattle.library_steps.specs.State.{FileState, JobState, MemberStatus, State, fields_of, memory_of, physical_among, physical_named}
-use Rattle.library_steps.specs.Change.{Change, journaled}
+use Rattle.library_steps.specs.State.{FileState, MemberStatus, State, fields_of, memory_of, physical_named}
+use Rattle.library_steps.specs.Change.{journaled}
 use Rattle.library_steps.specs.CreatePhysicalFile.{new_status}
 use Rattle.library_steps.specs.Drafts.{Author, author_of, member_draft}
 use Rattle.library_steps.specs.MemberCommands.{add_member, add_plan, file_changed, member_added, with_member_name}
@@ -46,7 +45,7 @@ use Rattle.joint_state.specs.Sound.{IsSound, after}
 use Rattle.library_kept.proofs.ResultLemmas.{bind-ok, does-each, not-refused, ok-equal}
 use Rattle.cycles_kept.proofs.ImageLemmas.{among-map, status_in-push}
 use Rattle.restart_model.specs.Sources.{fields_beside}
-use Rattle.replayed_histories.specs.Shown.{ShownFile, ShownMember, ShowsMembers, catalog_shown, file_shown, held_shown, is_held_in, kind_in, memberless, status_shown}
+use Rattle.replayed_histories.specs.Shown.{ShownFile, ShownMember, ShowsMembers, file_shown, held_shown, is_held_in, kind_in, memberless, status_shown}
 use Rattle.replayed_histories.specs.Replayed.{IsHeldWithin, IsReplayed, MemberStands, StandsAs}
 use Rattle.replayed_histories.specs.Deposits.{MayBeDeposited}
 use Rattle.replayed_histories.specs.Requests.{AreReplaysKeptBy}

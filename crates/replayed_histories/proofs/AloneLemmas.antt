@@ -10,7 +10,7 @@ use Rattle.journal_model.specs.Replay.{is_in}
 use Rattle.journal_model.specs.Replayable.{is_one_of}
 use Rattle.journal_model.specs.Rollback.{MemberChange, of_member}
 use Rattle.library_steps.specs.State.{CycleState, JobState, State, job_of, memory_of}
-use Rattle.library_steps.specs.SlotChange.{NewSlot, cycle_for, cycle_number}
+use Rattle.library_steps.specs.SlotChange.{NewSlot, cycle_number}
 use Rattle.library_steps.specs.Uses as jobs_uses
 use Rattle.joint_state.specs.Sound.{IsSound}
 use Rattle.cycles_kept.proofs.JobLemmas.{IsAsking}

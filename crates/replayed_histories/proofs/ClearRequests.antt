@@ -1,8 +1,7 @@
 -- CLRPFM and RGZPFM: the records of a member go or move.
-use Rattle.std.proofs.Common.{◌≡◌, ℕ, ◌+◌, ◌≤◌, ◌==◌, ◌&&◌, nat_lt, Bool, true, false, cond, IsTrue, Option, Some, None, List, [], ◌∷◌, map, Ok, refl, sym, ap, ◌∙◌, subst, arith}
+use Rattle.std.proofs.Common.{◌≡◌, ℕ, ◌+◌, ◌≤◌, ◌==◌, ◌&&◌, nat_lt, Bool, true, false, cond, Option, Some, None, List, [], ◌∷◌, map, refl, sym, ap, ◌∙◌, subst, arith}
 use Rattle.std.specs.List.{AllByRecursion}
 use Rattle.std.specs.Option.{is_some}
-use Rattle.std.proofs.lemmas.Bool.{eqb-true}
 use Rattle.std.proofs.lemmas.Bool.Decides.{nat_tests}
 use Rattle.entry_codec.specs.declared.entries.Entry.{Entry}
 use Rattle.entry_codec.specs.declared.kinds.EntryKind.{EntryKind}
@@ -19,12 +18,11 @@ use Rattle.journal_model.specs.Replay.{moved}
 use Rattle.journal_model.specs.Replay as replay
 use Rattle.journal_model.specs.Replayable.{MayFollow}
 use Rattle.journal_model.specs.Rollback.{MemberChange, undos_by}
-use Rattle.journal_replay.specs.Standing.{HeldMember, Standing, catalog_member, catalogue_in, images_by, member_by, only_begun, state_in}
-use Rattle.library_model.specs.Named.{Named}
+use Rattle.journal_replay.specs.Standing.{HeldMember, Standing, catalogue_in, images_by, member_by, only_begun, state_in}
 use Rattle.library_model.specs.declared.requests.FileMember.{FileMember}
 use Rattle.library_model.specs.declared.replies.Reply.TheVariants.{Done}
-use Rattle.library_steps.specs.State.{FileState, Memory, MemberStatus, State, memory_of, with_status}
-use Rattle.library_steps.specs.Change.{Change, journaled}
+use Rattle.library_steps.specs.State.{Memory, MemberStatus, State, memory_of, with_status}
+use Rattle.library_steps.specs.Change.{journaled}
 use Rattle.library_steps.specs.Drafts.{Author, author_of, member_draft}
 use Rattle.library_steps.specs.Journaling.{end_change, end_journaling, end_plan}
 use Rattle.library_steps.specs.MemberCommands.{clear_member, empty_plan, if_journaled, renumbered, renumbering, reorganize_member, with_slots}

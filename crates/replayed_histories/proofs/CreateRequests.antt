@@ -1,66 +1,46 @@
 -- CRTLF and CRTPF: the library has a file more, a physical one with a member of its name.
-use Rattle.std.proofs.Common.{◌≡◌, ℕ, ◌+◌, ◌<◌, ◌≤◌, ◌==◌, nat_le, nat_lt, Bool, true, false, cond, if◌then◌else◌, IsTrue, Option, Some, None, unwrap_or, Result, Ok, Err, List, [], ◌∷◌, ◌++◌, map, length, refl, sym, ap, ◌∙◌, subst, arith}
-use Rattle.std.specs.List.{AllByRecursion, filter, find, list_any}
-use Rattle.std.specs.Option.{is_some, option_and_then, option_map}
-use Rattle.std.specs.Str.{bytes_eq}
-use Rattle.std.proofs.lemmas.Bool.{ltb-false}
-use Rattle.std.proofs.lemmas.Bool.Decides.{nat_tests}
-use Rattle.std.proofs.lemmas.List.{append-nil, map-append}
-use Rattle.std.proofs.lemmas.List.Elements.{All-from_recursion}
+use Rattle.std.proofs.Common.{◌≡◌, ℕ, ◌+◌, nat_le, Bool, true, false, cond, if◌then◌else◌, Option, Some, None, Result, Ok, Err, List, [], ◌∷◌, ◌++◌, map, length, refl, sym, ap, ◌∙◌, subst}
+use Rattle.std.specs.List.{AllByRecursion, find, list_any}
+use Rattle.std.specs.Option.{is_some, option_and_then}
+use Rattle.std.proofs.lemmas.List.{append-nil}
 use Rattle.entry_codec.specs.declared.entries.Entry.{Entry}
 use Rattle.entry_codec.specs.declared.kinds.EntryKind.TheVariants.{FileCreated}
 use Rattle.entry_codec.specs.declared.kinds.FileKind.TheVariants.{Logical, Physical}
 use Rattle.entry_codec.specs.Drafts.{numbered}
 use Rattle.dds_source.specs.declared.faults.DdsFault.{DdsFault}
 use Rattle.dds_source.specs.Reading.{source_of}
-use Rattle.dds_physical.specs.declared.physical_files.PhysicalSpec.{PhysicalSpec}
 use Rattle.dds_logical.specs.declared.views.LogicalSpec.{LogicalSpec}
-use Rattle.member_slots.specs.Member.{FitsSlot, MemberState, empty_member}
-use Rattle.member_slots.specs.Members.{NumberedMembers, member_of, put_member}
-use Rattle.record_fmt.specs.Layout.{record_length}
-use Rattle.logical_model.specs.Bases.{FileSpec, LogicalFile, PhysicalFile, base_members}
+use Rattle.logical_model.specs.Bases.{LogicalFile, base_members}
 use Rattle.logical_model.specs.FilePaths.{logical_paths}
 use Rattle.logical_laws.proofs.ListLemmas.{each-append, each-weaker}
-use Rattle.file_catalogue.proofs.NameLemmas.{same_name-self, same_name-symm}
-use Rattle.journal_model.specs.Acts.{Nothing}
+use Rattle.file_catalogue.proofs.NameLemmas.{same_name-symm}
 use Rattle.journal_model.specs.Catalogue.{CatalogFile, MayCreate, is_named, member_numbered}
 use Rattle.journal_model.specs.Pairs.{EndsPair}
-use Rattle.journal_model.specs.Replayable.{MayFollow}
-use Rattle.journal_model.specs.Rollback.{undos_by}
-use Rattle.journal_replay.specs.Standing.{HeldMember, Standing, catalogue_in, member_by, members_by, new_member, standing_after, state_in}
+use Rattle.journal_replay.specs.Standing.{HeldMember, Standing, catalogue_in, members_by, standing_after}
 use Rattle.library_model.specs.declared.limits.TheConstants.{MOST_FILES}
 use Rattle.library_model.specs.declared.replies.LimitKind.TheVariants.{Files, Paths}
-use Rattle.library_model.specs.declared.replies.Reply.{Reply}
 use Rattle.library_model.specs.declared.replies.Reply.TheVariants.{Done, DuplicateKey, LimitReached, NameExists, NotJournaled}
 use Rattle.library_model.specs.declared.requests.CreateLogicalFile.{CreateLogicalFile}
-use Rattle.library_model.specs.declared.requests.CreatePhysicalFile.{CreatePhysicalFile}
 use Rattle.library_model.specs.declared.sources.NamedSource.{NamedSource}
 use Rattle.library_model.specs.Named.{Named, named, same_name}
 use Rattle.library_model.specs.SourceList.{text_of}
 use Rattle.library_steps.specs.declared.limits.TheConstants.{MOST_PATHS}
-use Rattle.library_steps.specs.State.{FileState, JobState, Memory, MemberStatus, State, fields_of, file_named, memory_of, physical_in}
-use Rattle.library_steps.specs.Change.{Change, journaled}
+use Rattle.library_steps.specs.State.{FileState, Memory, State, fields_of, file_named, memory_of, physical_in}
 use Rattle.library_steps.specs.CreateLogicalFile.{NewLogical, create_logical_change, create_logical_file, create_logical_plan, first_repeated, first_undone, has_many, is_unique, logical_by, logical_described, logical_file, logical_or_refused, over_members}
-use Rattle.library_steps.specs.CreatePhysicalFile.{NewFile, create_change, create_physical_file, create_plan, described, formats_of, new_file, new_status, spec_or_refused}
-use Rattle.library_steps.specs.Drafts.{Author, author_of, library_draft, member_draft}
+use Rattle.library_steps.specs.Drafts.{Author, author_of, library_draft}
 use Rattle.library_steps.specs.LogicalFiles.{bases_of}
 use Rattle.library_steps.specs.Uses.{changer_of_any, unused}
 use Rattle.library_steps.specs.Refusals.{named_or_refused, refuse_if, refuse_with, sequences_left}
-use Rattle.library_steps.specs.SlotChange.{status_among, status_in}
-use Rattle.library_parts.proofs.FileLemmas.{next-unowned}
 use Rattle.joint_state.specs.Sound.{IsSound, after}
 use Rattle.library_kept.proofs.ResultLemmas.{bind-ok, does-each, not-refused, ok-equal}
-use Rattle.restart_model.specs.Sources.{described_files, descriptions, fields_beside, format_named, if_logical, if_physical, spec_beside, spec_named}
-use Rattle.restart_laws.proofs.StableLemmas.{IsPlain, plain-more}
-use Rattle.replayed_histories.specs.Shown.{ShownFile, ShownMember, ShowsMembers, catalog_shown, file_shown, held_shown, is_held_in, kind_in, memberless, status_shown}
+use Rattle.restart_model.specs.Sources.{described_files, descriptions, fields_beside, if_logical, spec_beside, spec_named}
+use Rattle.replayed_histories.specs.Shown.{ShownFile, ShowsMembers, catalog_shown, file_shown, held_shown, kind_in, memberless}
 use Rattle.replayed_histories.specs.Replayed.{IsHeldWithin, IsReplayed, MemberStands, StandsAs}
 use Rattle.replayed_histories.specs.Deposits.{MayBeDeposited}
 use Rattle.replayed_histories.specs.Requests.{AreReplaysKeptBy}
-use Rattle.replayed_histories.proofs.AddRequests.{first-number, last-new, last-other, put-last, shown-append}
 use Rattle.replayed_histories.proofs.DepositLemmas.{replays-kept}
-use Rattle.replayed_histories.proofs.GrownLemmas.{described-then, fields-then, left-plain, none-held, plain-fields, shown-then, some-before, stands-before, within-then}
-use Rattle.replayed_histories.proofs.HomeLemmas.{all-homed, both-each}
-use Rattle.replayed_histories.proofs.ListLemmas.{all-append}
+use Rattle.replayed_histories.proofs.GrownLemmas.{described-then, fields-then, left-plain, none-held, shown-then, some-before, stands-before, within-then}
+use Rattle.replayed_histories.proofs.HomeLemmas.{all-homed}
 use Rattle.replayed_histories.proofs.QuietLemmas.{members-stay, no-records, standing-same}
 use Rattle.replayed_histories.proofs.StandsLemmas.{cycles-later}
 
@@ -190,7 +170,8 @@ module _ (s : State) (r : IsReplayed s) (sound : IsSound s) (job timestamp : ℕ
         (λ m home. some-before m.file s.files (name, logical_file plan) home) r.left.members r.stands.homes;
     numbers = r.stands.numbers;
     next_is = r.stands.next_is;
-    slots = each-weaker (MemberStands s.files s.members) (MemberStands (s.files ++ (name, logical_file plan) ∷ []) s.members) (λ m stands. stands-before s.files s.members (name, logical_file plan) m stands)
+    slots = each-weaker (MemberStands s.files s.members) (MemberStands (s.files ++ (name, logical_file plan) ∷ []) s.members)
+        (λ m stands. stands-before s.files s.members (name, logical_file plan) m stands)
         r.left.members r.stands.slots;
     cycles_are = cycles-later r.left.next r.left.cycles r.left.undos s.jobs r.stands.cycles_are;
   }

@@ -20,7 +20,7 @@ use Rattle.logical_laws.proofs.ListLemmas.{each-weaker}
 use Rattle.file_catalogue.specs.Owners.{Owns, has_number}
 use Rattle.file_catalogue.proofs.NameLemmas.{same_name-equal, same_name-self, same_name-symm}
 use Rattle.file_catalogue.proofs.StatusLemmas.{has_number-cons}
-use Rattle.journal_model.specs.Catalogue.{CatalogFile, CatalogMember, has_number as is_numbered, is_named, member_numbered}
+use Rattle.journal_model.specs.Catalogue.{CatalogFile, has_number as is_numbered, is_named}
 use Rattle.journal_model.specs.Images.{AreRecords, AreRecordsOf}
 use Rattle.journal_model.specs.Journal.{length_in}
 use Rattle.journal_replay.specs.Standing.{HeldMember, Standing, catalog_member, catalogue_in, slots_at}

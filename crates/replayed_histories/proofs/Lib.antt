@@ -41,3 +41,4 @@ pub mod GrownLemmas
 pub mod CreateRequests
 pub mod PhysicalRequests
 pub mod JoinedLemmas
+pub mod DeleteRequests

@@ -1,5 +1,5 @@
 -- One member moves, in what the journal leaves and in the library alike: what the journal leaves still is the library.
-use Rattle.std.proofs.Common.{◌≡◌, ℕ, ◌==◌, Bool, true, false, cond, Option, Some, None, List, [], ◌∷◌, map, unwrap_or, refl, sym, ap, ◌∙◌, subst, arith}
+use Rattle.std.proofs.Common.{◌≡◌, ℕ, ◌==◌, Bool, true, false, cond, Option, Some, List, [], ◌∷◌, map, unwrap_or, refl, sym, ap, ◌∙◌, subst, arith}
 use Rattle.std.specs.List.{AllByRecursion}
 use Rattle.std.specs.Option.{is_some, option_map}
 use Rattle.std.proofs.lemmas.Bool.{eqb-true}
@@ -12,18 +12,18 @@ use Rattle.member_slots.specs.Members.{NumberedMembers, member_at, member_of, wi
 use Rattle.journal_model.specs.Acts.{Act, Nothing}
 use Rattle.journal_model.specs.Catalogue.{CatalogFile}
 use Rattle.journal_model.specs.Replay.{moved}
-use Rattle.journal_replay.specs.Standing.{HeldMember, Standing, catalog_member, images_by, member_by}
+use Rattle.journal_replay.specs.Standing.{HeldMember, Standing, images_by, member_by}
 use Rattle.library_model.specs.Named.{Named, named}
 use Rattle.library_parts.proofs.MemberLemmas.{member_of-with}
 use Rattle.library_steps.specs.State.{FileState, JobState, MemberStatus, fields_of}
 use Rattle.library_steps.specs.SlotChange.{status_among}
 use Rattle.restart_model.specs.Sources.{described_files, fields_beside}
-use Rattle.replayed_histories.specs.Shown.{ShownMember, ShowsMembers, catalog_shown, file_shown, held_shown, kind_in, memberless, status_shown}
+use Rattle.replayed_histories.specs.Shown.{ShownMember, ShowsMembers, catalog_shown, held_shown, kind_in, status_shown}
 use Rattle.replayed_histories.specs.Replayed.{CyclesStand, MemberStands, StandsAs}
 use Rattle.replayed_histories.proofs.EndedRequests.{fields-changed}
 use Rattle.replayed_histories.proofs.MemberLemmas.{files-memberless, files-named, files-shown, members-moved, statuses_changed}
 use Rattle.replayed_histories.proofs.StatusLemmas.{among-changed, among-number}
-use Rattle.replayed_histories.proofs.UntoldRequests.{at-other, numbers-same}
+use Rattle.replayed_histories.proofs.UntoldRequests.{at-other}
 
 -- ---- lists of members
 

@@ -1,8 +1,7 @@
 -- CRTPF: the library has a physical file more, with a member of its name.
-use Rattle.std.proofs.Common.{◌≡◌, ℕ, ◌+◌, ◌<◌, ◌≤◌, ◌==◌, nat_le, nat_lt, ◌&&◌, Bool, true, false, cond, IsTrue, Option, Some, None, unwrap_or, Result, Ok, Err, List, [], ◌∷◌, ◌++◌, map, length, refl, sym, ap, ◌∙◌, subst, arith}
+use Rattle.std.proofs.Common.{◌≡◌, ℕ, ◌+◌, ◌<◌, ◌≤◌, ◌==◌, nat_le, nat_lt, ◌&&◌, Bool, true, false, cond, Option, Some, None, unwrap_or, Result, Ok, Err, List, [], ◌∷◌, ◌++◌, map, length, refl, sym, ap, ◌∙◌, subst, arith}
 use Rattle.std.specs.List.{AllByRecursion, filter, find}
 use Rattle.std.specs.Option.{is_some, option_and_then, option_map}
-use Rattle.std.specs.Str.{bytes_eq}
 use Rattle.std.proofs.lemmas.Bool.{ltb-false}
 use Rattle.std.proofs.lemmas.Bool.Decides.{nat_tests}
 use Rattle.std.proofs.lemmas.List.{append-nil, map-append}
@@ -16,7 +15,7 @@ use Rattle.dds_physical.specs.declared.physical_files.PhysicalSpec.{PhysicalSpec
 use Rattle.member_slots.specs.Member.{FitsSlot, MemberState, empty_member}
 use Rattle.member_slots.specs.Members.{NumberedMembers, member_of, put_member}
 use Rattle.record_fmt.specs.Layout.{record_length}
-use Rattle.logical_model.specs.Bases.{FileSpec, PhysicalFile}
+use Rattle.logical_model.specs.Bases.{PhysicalFile}
 use Rattle.logical_laws.proofs.ListLemmas.{each-append, each-weaker}
 use Rattle.file_catalogue.proofs.NameLemmas.{same_name-self}
 use Rattle.journal_model.specs.Acts.{Nothing, act}
@@ -117,8 +116,8 @@ module _ (author : Author) (number : ℕ) (name source : List ℕ) (left : Stand
 
   physical-after : standing_after physical_entry left ≡ physical_left
   physical-after =
-      standing-same (left.next + 1) None None (left.files ++ physical_new ∷ []) (left.files ++ physical_new ∷ []) _ (left.members ++ first_member ∷ []) (number + 1) (number + 1) left.cycles left.cycles
-      _ left.undos refl refl (ap (λ (ms : List HeldMember). ms ++ first_member ∷ []) (members-stay left.begun physical_entry left.members stays)) refl refl
+      standing-same (left.next + 1) None None (left.files ++ physical_new ∷ []) (left.files ++ physical_new ∷ []) _ (left.members ++ first_member ∷ []) (number + 1) (number + 1)
+      left.cycles left.cycles _ left.undos refl refl (ap (λ (ms : List HeldMember). ms ++ first_member ∷ []) (members-stay left.begun physical_entry left.members stays)) refl refl
       (elim (number == number) as (λ b. undos_by (cond b Nothing Nothing) number left.undos ≡ left.undos) [ true ↦ refl | false ↦ refl ])
     where
       stays : (m : HeldMember) → member_by (act m.number left.begun physical_entry) physical_entry.sequence m ≡ m

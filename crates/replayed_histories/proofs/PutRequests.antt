@@ -1,6 +1,5 @@
 -- WRITE, UPDATE and DELETE as requests: what their plans refuse is what the journal must not tell.
-use Rattle.std.proofs.Common.{◌≡◌, ℕ, ◌+◌, ◌-◌, ◌==◌, ◌&&◌, ◌||◌, nat_lt, not, slice_get, Bool, true, false, cond, IsSome, Option, Some, None, unwrap_or, Ok, List, [], ◌∷◌, length, refl, sym, ap, ◌∙◌, subst, arith}
-use Rattle.std.specs.List.{AllByRecursion}
+use Rattle.std.proofs.Common.{◌≡◌, ℕ, ◌+◌, ◌-◌, ◌==◌, ◌&&◌, ◌||◌, nat_lt, not, slice_get, Bool, true, false, cond, Option, Some, None, unwrap_or, List, [], ◌∷◌, length, refl, sym, ap, ◌∙◌, subst, arith}
 use Rattle.std.specs.Option.{is_some}
 use Rattle.std.proofs.lemmas.Bool.{ne_eqb}
 use Rattle.lock_table.specs.declared.levels.Call.{Call}

@@ -14,7 +14,7 @@ use Rattle.entry_codec.specs.Drafts.{numbered}
 use Rattle.entry_codec.specs.Placing.{is_counted, is_placed, is_placed_at, place}
 use Rattle.member_slots.specs.declared.slot.Slot.{Slot}
 use Rattle.member_slots.specs.declared.slot.Slot.TheVariants.{Deleted, Live}
-use Rattle.journal_model.specs.Acts.{Act, Change, Changed, Nothing, act_there}
+use Rattle.journal_model.specs.Acts.{Change, Changed, Nothing, act_there}
 use Rattle.journal_model.specs.Catalogue.{CatalogMember, member_numbered}
 use Rattle.journal_model.specs.Images.{AreRecordsOf, images_of}
 use Rattle.journal_model.specs.Journal.{OfMember}

@@ -1,10 +1,9 @@
 -- WRITE, UPDATE and DELETE: a record is added, changed or deleted, in the job's commit cycle or outside one.
-use Rattle.std.proofs.Common.{◌≡◌, ◌⊎◌, inl, inr, ℕ, ◌+◌, ◌-◌, ◌<◌, ◌≤◌, ◌==◌, ◌||◌, nat_lt, not, zero, suc, slice_get, slice_set, Bool, true, false, cond, IsTrue, IsSome, Option, Some, None, unwrap_or, Ok, List, [], ◌∷◌, ◌++◌, map, length, refl, sym, ap, ◌∙◌, subst, arith}
+use Rattle.std.proofs.Common.{◌≡◌, ◌⊎◌, inl, inr, ℕ, ◌+◌, ◌-◌, ◌<◌, ◌≤◌, ◌==◌, ◌||◌, nat_lt, not, zero, suc, slice_get, slice_set, Bool, true, false, cond, IsSome, Option, Some, None, unwrap_or, List, [], ◌∷◌, ◌++◌, map, length, refl, sym, ap, ◌∙◌, subst, arith}
 use Rattle.std.specs.List.{AllByRecursion}
 use Rattle.std.specs.Option.{is_some, option_and_then}
 use Rattle.std.proofs.lemmas.Bool.{ne_eqb}
 use Rattle.std.proofs.lemmas.Bool.Decides.{nat_tests}
-use Rattle.entry_codec.specs.declared.entries.Draft.{Draft}
 use Rattle.entry_codec.specs.declared.kinds.Images.{Images}
 use Rattle.entry_codec.specs.Placing.{is_counted}
 use Rattle.file_catalogue.specs.Owners.{Owns}
@@ -12,31 +11,29 @@ use Rattle.file_catalogue.specs.declared.changes.StatusChange.TheVariants.{Touch
 use Rattle.file_catalogue.proofs.OwnerLemmas.{owner-status}
 use Rattle.member_slots.specs.declared.slot.Slot.{Slot}
 use Rattle.member_slots.specs.declared.slot.Slot.TheVariants.{Deleted, Live}
-use Rattle.member_slots.specs.Member.{MemberState, changed, is_live}
-use Rattle.member_slots.specs.Members.{NumberedMembers, member_at, member_of, with_member}
+use Rattle.member_slots.specs.Member.{MemberState}
+use Rattle.member_slots.specs.Members.{NumberedMembers, member_of, with_member}
 use Rattle.journal_model.specs.Acts.{Change as SlotChanged, Changed, Nothing}
-use Rattle.journal_model.specs.Catalogue.{member_numbered}
 use Rattle.journal_model.specs.Images.{AreRecordsOf}
 use Rattle.journal_model.specs.Places.{put_slot, slot_of}
 use Rattle.journal_model.specs.Replayable.{IsOpen, is_one_of}
 use Rattle.journal_model.specs.Rollback.{MemberChange, noted_of}
 use Rattle.journal_replay.specs.Standing.{HeldMember, Standing, catalog_member, catalogue_in, member_by, slots_at}
-use Rattle.library_model.specs.Named.{Named, named}
+use Rattle.library_model.specs.Named.{Named}
 use Rattle.library_model.specs.declared.replies.Reply.{Reply}
 use Rattle.library_steps.specs.State.{CycleState, FileState, JobState, Memory, MemberStatus, OpenState, State, fields_of, job_changed, job_of, memory_of, status_changed, with_status}
-use Rattle.library_steps.specs.Change.{Change, journaled}
+use Rattle.library_steps.specs.Change.{journaled}
 use Rattle.library_steps.specs.Drafts.{Author, author_of, slot_drafts}
 use Rattle.library_steps.specs.Records.{slot_there}
 use Rattle.library_steps.specs.SlotChange.{NewSlot, are_both, begins_cycle, change_made, cycle_for, cycle_number, drafts_of, images_of, is_behind_last, noted, slot_put, status_among, status_in, touched, with_cycle, with_slot}
 use Rattle.library_parts.specs.Lawful.{HoldsValues}
-use Rattle.library_parts.specs.Slots.{MayStand}
 use Rattle.library_parts.proofs.MemberLemmas.{slot_put-appended, slot_put-changed}
 use Rattle.joint_state.specs.Sound.{IsSound, after}
 use Rattle.joint_state.proofs.OpenLemmas.{each-among}
 use Rattle.library_kept.proofs.ChangeLemmas.{MayChange}
 use Rattle.library_kept.proofs.PlanLemmas.{named-each, same-number}
 use Rattle.library_kept.proofs.SlotLemmas.{Stands-slot, there-stands}
-use Rattle.library_kept.proofs.StandLemmas.{Stands, Stands-memory_of, Stands-status, bare}
+use Rattle.library_kept.proofs.StandLemmas.{Stands, Stands-memory_of, Stands-status}
 use Rattle.cycles_kept.proofs.JobLemmas.{IsAsking, job_changed-none, job_changed-twice}
 use Rattle.cycles_kept.proofs.PlaceLemmas.{IsPlaceFor, slot_of-get}
 use Rattle.cycles_kept.proofs.PutLemmas.{MayPut, put_cycle}
