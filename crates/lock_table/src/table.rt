@@ -175,11 +175,32 @@ impl LockTable {
         if let Some(job) = self.clash(holder.job, at, kind) {
             return Err(InUse { job });
         }
+        self.hold_to_boundary(holder, at, kind);
+        Ok(())
+    }
+
+    /// Locks the record as `ask` and `ask_to_boundary` do, where no other job has a lock that clashes: none is looked for.
+    pub fn hold(&mut self, holder: Holder, at: RecordId, kind: LockKind, reach: Reach)
+        requires room { HasRoom holder at kind reach self.old }
+        requires unlocked { blocker holder.job at kind self.old.held ≡ None }
+        ensures { self.new ≡ holding (with_lock_by holder at kind reach self.old.held) self.old }
+    {
+        match reach {
+            Reach::Open => self.add(holder.lock(at, kind, Reach::Open)),
+            Reach::Boundary => self.hold_to_boundary(holder, at, kind),
+        }
+    }
+
+    // The same lock to the next read goes first, where it is held.
+    fn hold_to_boundary(&mut self, holder: Holder, at: RecordId, kind: LockKind)
+        requires room { HasRoom holder at kind Boundary self.old }
+        requires unlocked { blocker holder.job at kind self.old.held ≡ None }
+        ensures { self.new ≡ holding (with_lock_by holder at kind Boundary self.old.held) self.old }
+    {
         let to_next_read = holder.lock(at, kind, Reach::Open);
         let to_boundary = holder.lock(at, kind, Reach::Boundary);
         self.free(to_next_read);
         self.add(to_boundary);
-        Ok(())
     }
 
     /// Keeps the open's locks on the record to the job's next boundary.
