@@ -1,12 +1,12 @@
 -- Locks on shelves: what a shelf has of all locks, and what becomes of all where one shelf gains or loses a lock.
-use Rattle.std.proofs.Common.{◌≡◌, ℕ, ◌+◌, ◌-◌, ◌<◌, ◌≤◌, ◌%◌, ◌==◌, Bool, true, false, not, cond, Option, Some, None, List, [], ◌∷◌, ◌++◌, length, get_or, set, replicate, drop, refl, sym, ap, ◌∙◌, zero, suc, arith, subst, append-nil}
+use Rattle.std.proofs.Common.{◌≡◌, ℕ, ◌+◌, ◌<◌, ◌≤◌, ◌%◌, ◌==◌, Bool, true, false, not, cond, Option, Some, None, List, [], ◌∷◌, ◌++◌, length, get_or, set, replicate, refl, sym, ap, ◌∙◌, zero, suc, arith, subst, append-nil}
 use Rattle.std.specs.List.{filter, AllByRecursion}
 use Rattle.std.specs.List.Sorted.{IsStrictlySortedBy}
 use Rattle.std.specs.Ordering.{is_eq, nat_cmp}
 use Rattle.std.specs.declared.cmp.Ordering.{Ordering}
 use Rattle.std.specs.declared.cmp.Ordering.TheVariants.{Less, Equal, Greater}
 use Rattle.std.proofs.lemmas.Bool.Decides.{nat_tests}
-use Rattle.std.proofs.lemmas.List.{drop_more, get_or_read, length-replicate, length-set}
+use Rattle.std.proofs.lemmas.List.{length-set}
 use Rattle.std.proofs.lemmas.List.Elements.{filter-append}
 use Rattle.std.proofs.lemmas.List.Kept.{IsStrictlySortedBy-filter}
 use Rattle.std.proofs.lemmas.Nat.{mod_below}
@@ -16,24 +16,13 @@ use Rattle.lock_table.specs.declared.part.Part.TheVariants.{OfJob, Reaching, InM
 use Rattle.lock_table.specs.Lock.{is_boundary_in, lock_cmp}
 use Rattle.lock_table.specs.Table.{in_order, least_job, with_lock, without_lock}
 use Rattle.lock_table.specs.Index.{is_part, lesser}
-use Rattle.lock_table.specs.Shelves.{all_on, belongs, part_job, shelf_at, AreShelved, AreShelvedFrom, IsShelfOf, IsShelved}
+use Rattle.lock_table.specs.Shelves.{all_on, belongs, least_on, part_job, shelf_at, AreShelved, AreShelvedFrom, IsShelfOf, IsShelved}
 use Rattle.lock_table.proofs.ByRecord.{eq_is, least-ordered, least-two_lists}
 use Rattle.lock_table.proofs.Counts.{length-filter-not}
 use Rattle.lock_table.proofs.InOrder.{IsStrictlySortedBy-in_order, IsStrictlySortedBy-with_item, each-filter, each-with_item, filter-all, filter-in_order, filter-with_item, fold-with_item, in_order-sorted, with_item-swap, with_item-twice}
 use Rattle.lock_table.proofs.Kept.{filter-swap, filter-wider, length-filter-≤}
 use Rattle.lock_table.proofs.Locks.{lock_cmp-same, lock_cmp-total, nat_cmp_equal, then_equal}
 use Rattle.lock_table.proofs.Sides.{each_map, filter-out}
-
--- ---- a row of a first shelf and more
-pub behind : (first : List Lock) (more : List (List Lock)) (place : ℕ) (shelf : List Lock) → 1 ≤ place → place < length (first ∷ more) → shelf ≡ get_or more (place - 1) shelf → shelf ≡ shelf_at (first ∷ more) place
-behind first more zero shelf some within read = absurd (omega arith)
-behind first more (suc k) shelf some within read =
-    let same : suc k - 1 ≡ k = omega arith in
-    get_or_read more k shelf (omega arith) (subst (λ n. shelf ≡ get_or more n shelf) same read) []
-
-pub behind-set : (first : List Lock) (more : List (List Lock)) (place : ℕ) (shelf : List Lock) → 1 ≤ place → first ∷ set more (place - 1) shelf ≡ set (first ∷ more) place shelf
-behind-set first more zero shelf some = absurd (omega arith)
-behind-set first more (suc k) shelf some = let same : suc k - 1 ≡ k = omega arith in ap (λ n. first ∷ set more n shelf) same
 
 -- ---- a lock belongs on one shelf
 same_place : (n p : ℕ) → n ≡ p → (n == p) ≡ true
@@ -167,7 +156,6 @@ module _ (shelves : List (List Lock)) (h : AreShelved shelves) where
 
   pub shelf-of : (job : ℕ) → IsShelfOf job (shelf_at shelves (job % length shelves)) (in_order lock_cmp (all_on shelves))
   shelf-of job =
-      let place : ℕ = job % length shelves in
       let same : 0 + job % length shelves ≡ job % length shelves = omega arith in
       let all : filter (belongs (length shelves) (job % length shelves)) (all_on shelves) ≡ shelf_at shelves (job % length shelves) = subst (λ p. filter (belongs (length shelves) p) (all_on shelves) ≡ shelf_at shelves (job % length shelves)) same (shelf-is (length shelves) shelves 0 (job % length shelves) h.each (place-within job)) in
       record {
@@ -253,9 +241,6 @@ module _ {job : ℕ} {shelf held : List Lock} (h : IsShelfOf job shelf held) whe
       ∙ filter-wider (is_part part) (belongs h.count (job % h.count)) (λ l e. own h.count job l (job_is part l e ∙ same)) held
 
   module _ (lock : Lock) (same : lock.job ≡ job) where
-    abbrev far : Lock → Bool
-    far l = not (belongs h.count (job % h.count) l)
-
     it_is_near : belongs h.count (job % h.count) lock ≡ true
     it_is_near = own h.count job lock same
 
@@ -306,14 +291,11 @@ module _ {job : ℕ} {shelf held : List Lock} (h : IsShelfOf job shelf held) whe
 pub least-in_all : (t : Lock → Bool) (locks : List Lock) → least_job (filter t locks) ≡ least_job (filter t (in_order lock_cmp locks))
 least-in_all t locks = sym (ap least_job (filter-in_order lock_cmp-total lock_cmp-same t locks) ∙ least-ordered (filter t locks))
 
-pub least-shelf : (t : Lock → Bool) (shelf rest : List Lock) → lesser (least_job (filter t shelf)) (least_job (filter t rest)) ≡ least_job (filter t (shelf ++ rest))
-least-shelf t shelf rest = sym (ap least_job (filter-append t shelf rest) ∙ least-two_lists (filter t shelf) (filter t rest))
-
-pub least-step : (t : Lock → Bool) (shelves : List (List Lock)) (left : ℕ) (shelf : List Lock) → left < length shelves → shelf ≡ get_or shelves left shelf → lesser (least_job (filter t shelf)) (least_job (filter t (all_on (drop (left + 1) shelves)))) ≡ least_job (filter t (all_on (drop left shelves)))
-least-step t shelves left shelf within read =
-    least-shelf t shelf (all_on (drop (left + 1) shelves))
-    ∙ ap (λ (xs : List Lock). least_job (filter t (xs ++ all_on (drop (left + 1) shelves)))) (get_or_read shelves left shelf within read [])
-    ∙ sym (ap (λ (xss : List (List Lock)). least_job (filter t (all_on xss))) (drop_more shelves left [] within))
+pub least-on_all : (t : Lock → Bool) (shelves : List (List Lock)) → least_on t shelves ≡ least_job (filter t (all_on shelves))
+least-on_all t [] = refl
+least-on_all t (shelf ∷ shelves) =
+    ap (lesser (least_job (filter t shelf))) (least-on_all t shelves)
+    ∙ sym (ap least_job (filter-append t shelf (all_on shelves)) ∙ least-two_lists (filter t shelf) (filter t (all_on shelves)))
 
 pub rest-sorted : (first : List Lock) (more : List (List Lock)) → AreShelved (first ∷ more) → (place : ℕ) → place < length more → IsStrictlySortedBy lock_cmp (shelf_at more place)
 rest-sorted first more h place within = shelf-sorted (length (first ∷ more)) more (0 + 1) place h.each.1 within

@@ -2,11 +2,13 @@
 -- For the body alone.
 use Rattle.std.specs.List.{AllByRecursion}
 use Rattle.std.specs.List.Sorted.{IsStrictlySortedBy}
-use Rattle.std.specs.Prelude.{◌≡◌, ℕ, ◌≤◌, ◌+◌, ◌%◌, ◌==◌, ⊤, Bool, true, List, [], ◌∷◌, ◌++◌, length, filter, slice_index_or}
+use Rattle.std.specs.Prelude.{◌≡◌, ℕ, ◌≤◌, ◌+◌, ◌%◌, ◌==◌, ⊤, Bool, true, Option, None, List, [], ◌∷◌, ◌++◌, length, filter, slice_index_or}
 use Rattle.lock_table.specs.declared.lock.Lock.{Lock}
 use Rattle.lock_table.specs.declared.part.Part.{Part}
 use Rattle.lock_table.specs.declared.part.Part.TheVariants.{OfJob, Reaching, InMember, OnRecord}
 use Rattle.lock_table.specs.Lock.{lock_cmp}
+use Rattle.lock_table.specs.Table.{least_job}
+use Rattle.lock_table.specs.Index.{lesser}
 
 -- the shelf with this number, counted from 0
 abbrev pub shelf_at : List (List Lock) → ℕ → List Lock
@@ -16,6 +18,11 @@ shelf_at shelves place = slice_index_or shelves place []
 abbrev pub all_on : List (List Lock) → List Lock
 all_on [] = []
 all_on (shelf ∷ shelves) = shelf ++ all_on shelves
+
+-- the least job of those on the shelves that have a lock that passes
+abbrev pub least_on : (Lock → Bool) → List (List Lock) → Option ℕ
+least_on t [] = None
+least_on t (shelf ∷ shelves) = lesser (least_job (filter t shelf)) (least_on t shelves)
 
 -- of so many shelves this one is the lock's
 abbrev pub belongs : ℕ → ℕ → Lock → Bool

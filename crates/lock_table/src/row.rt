@@ -1,9 +1,9 @@
 //! A row of shelves, each a tree of locks. On which shelf a lock belongs is in shelves.rt.
-ghost use Rattle.std.specs.Prelude.{◌≡◌, ◌≤◌, ◌<◌, ◌+◌, ℕ, [], ◌∷◌, IfOk, IsTrue, length, filter, replicate, set, vec_len, vec_capacity};
+ghost use Rattle.std.specs.Prelude.{◌≡◌, ◌≤◌, ◌<◌, ◌+◌, ℕ, [], ◌∷◌, IfOk, IsTrue, length, replicate, set, vec_len, vec_capacity};
 ghost use Rattle.std.specs.List.Sorted.{IsStrictlySortedBy};
 ghost use Rattle.lock_table.specs.Lock.{is_boundary_in, lock_cmp};
-ghost use Rattle.lock_table.specs.Table.{least_job, with_lock, without_lock};
-ghost use Rattle.lock_table.specs.Shelves.{all_on, shelf_at, AreShelved};
+ghost use Rattle.lock_table.specs.Table.{with_lock, without_lock};
+ghost use Rattle.lock_table.specs.Shelves.{all_on, least_on, shelf_at, AreShelved};
 
 use crate::chosen::{least_keeper, lesser};
 use crate::lock::Lock;
@@ -114,14 +114,15 @@ impl Row {
         ensures shelved { AreShelved self.old → AreShelved self.new }
     {
         let alloc = *self.more.allocator();
-        self.more = empty_shelves(alloc, count)?;
+        let more = empty_shelves(alloc, count)?;
+        self.more = more;
         Ok(())
     }
 
     /// The least job that keeps a lock on a record of the member to its boundary.
     pub fn least_keeper(&self, member: u32) -> Option<u32>
         requires { AreShelved self.now }
-        ensures { result ≡ least_job (filter (is_boundary_in member) (all_on self.now)) }
+        ensures { result ≡ least_on (is_boundary_in member) self.now }
     {
         let first = least_keeper(&self.first, member);
         lesser(first, least_among(self.more.as_slice(), member))
@@ -130,7 +131,7 @@ impl Row {
 
 fn least_among(shelves: &[LockTree], member: u32) -> Option<u32>
     requires { (place : ℕ) → place < length shelves.now → IsStrictlySortedBy lock_cmp (shelf_at shelves.now place) }
-    ensures { result ≡ least_job (filter (is_boundary_in member) (all_on shelves.now)) }
+    ensures { result ≡ least_on (is_boundary_in member) shelves.now }
 {
     let mut left = shelves.len();
     let mut least = None;
