@@ -14,8 +14,8 @@ use crate::tree::{Node, add_free};
 use std::alloc::{AllocError, Global};
 use std::marker::Model;
 
-/// On how many shelves the locks are by record number, at first one for each of some thousand records.
-const RECORD_SHELVES: usize = 16_384;
+/// On how many shelves the locks are by record number, beside the first.
+const RECORD_SHELVES: usize = 16_383;
 
 /// Locks with their record number in the place of their job.
 #[derive(Drop)]

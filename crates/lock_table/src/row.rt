@@ -90,7 +90,7 @@ impl Row {
         }
     }
 
-    /// Makes so many shelves, where there is one alone and it is empty.
+    /// Makes so many shelves more, where there is one alone and it is empty.
     pub fn spread(&mut self, count: usize) -> Result<(), AllocError>
         ensures locks { all_on self.new ≡ all_on self.old }
         ensures shelved { AreShelved self.old → AreShelved self.new }

@@ -46,7 +46,7 @@ impl Shelves {
         }
     }
 
-    /// Makes so many shelves before the first lock comes. What is held stays, and more shelves change the time alone.
+    /// Makes so many shelves more, unless a lock is there or it has been done. Shelves bear on time alone.
     pub fn spread(&mut self, count: usize) -> Result<(), AllocError>
         ensures { self.new ≡ self.old }
     {

@@ -24,8 +24,8 @@ use std::marker::Model;
 /// How many locks may be held at a time.
 pub const MOST_LOCKS: u32 = 500_000;
 
-/// On how many shelves the locks are by job: as many as a run may have jobs, and one more, so that each has its own.
-const JOB_SHELVES: usize = 65;
+/// On how many shelves the locks are by job, beside the first: as many as a run may have jobs, so that each has its own.
+const JOB_SHELVES: usize = 64;
 
 /// The record locks of all jobs.
 #[derive(Drop)]
