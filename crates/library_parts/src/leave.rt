@@ -4,9 +4,7 @@ ghost use Rattle.lock_table.specs.Levels.{asked, gained, locks_after, with_wante
 ghost use Rattle.lock_table.specs.Table.{blocker, holding};
 ghost use Rattle.library_parts.specs.Locks.{AreOfOpen, IsOfOpen};
 
-use lock_table::{
-    Call, Holder, Level, LockTable, OpenLocks, Reach, RecordId, Wanted, asked, released,
-};
+use lock_table::{Call, Holder, Level, LockTable, OpenLocks, RecordId, Wanted, asked, released};
 
 /// The lock that the call leaves on its record: a WRITE at a deleted place gives up its own at its end, where it isn't
 /// under commitment.
@@ -41,11 +39,7 @@ pub(crate) fn keep(locks: &mut LockTable, wanted: Option<Wanted>, holder: Holder
     let Some(wanted) = wanted else {
         return;
     };
-    if wanted.reach == Reach::Open {
-        locks.ask(holder, at, wanted.kind).unwrap();
-    } else {
-        locks.ask_to_boundary(holder, at, wanted.kind).unwrap();
-    }
+    locks.hold(holder, at, wanted.kind, wanted.reach);
 }
 
 /// What the call leaves of the locks.

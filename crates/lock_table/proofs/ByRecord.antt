@@ -1,5 +1,5 @@
 -- The locks by record: what becomes of them where a lock comes or goes, and what a search in them says of all locks.
-use Rattle.std.proofs.Common.{◌≡◌, ℕ, ◌≤◌, Bool, true, false, not, ◌&&◌, ◌==◌, cond, min, Option, None, Some, List, [], ◌∷◌, length, map, refl, sym, ap, ◌∙◌, arith, subst}
+use Rattle.std.proofs.Common.{◌≡◌, ℕ, ◌≤◌, Bool, true, false, not, ◌&&◌, ◌==◌, cond, min, Option, None, Some, List, [], ◌∷◌, ◌++◌, length, map, refl, sym, ap, ◌∙◌, arith, subst}
 use Rattle.std.specs.List.{filter, find, AllByRecursion}
 use Rattle.std.specs.List.Sorted.{IsStrictlySortedBy}
 use Rattle.std.specs.Option.{option_map}
@@ -42,17 +42,23 @@ marks-with lock held =
     lock held
 
 -- the same fields are compared, in another order
-same_five : (m r n j k : Bool) → (m && (r && ((n && j) && k))) ≡ (j && (r && ((m && n) && k)))
+same_five : (m r n j k : Bool) → (n && (r && ((m && j) && k))) ≡ (j && (r && ((m && n) && k)))
 same_five true true true true k = refl
 same_five true true true false k = refl
 same_five true true false true k = refl
 same_five true true false false k = refl
-same_five true false n true k = refl
-same_five true false n false k = refl
-same_five false true n true k = refl
-same_five false true n false k = refl
-same_five false false n true k = refl
-same_five false false n false k = refl
+same_five true false true true k = refl
+same_five true false true false k = refl
+same_five true false false true k = refl
+same_five true false false false k = refl
+same_five false true true true k = refl
+same_five false true true false k = refl
+same_five false true false true k = refl
+same_five false true false false k = refl
+same_five false false true true k = refl
+same_five false false true false k = refl
+same_five false false false true k = refl
+same_five false false false false k = refl
 
 alike : (a b : Lock) → is_eq (lock_cmp (record_first a) (record_first b)) ≡ is_eq (lock_cmp a b)
 alike a b =
@@ -64,9 +70,9 @@ alike a b =
     let member_is : is_eq (nat_cmp a.at.member b.at.member) ≡ m = is_eq-nat a.at.member b.at.member in
     let rrn_is : is_eq (nat_cmp a.at.rrn b.at.rrn) ≡ n = is_eq-nat a.at.rrn b.at.rrn in
     let job_is : is_eq (nat_cmp a.job b.job) ≡ j = is_eq-nat a.job b.job in
-    both (nat_cmp a.at.member b.at.member) (ordering_then reach (ordering_then (ordering_then (nat_cmp a.at.rrn b.at.rrn) (nat_cmp a.job b.job)) rest)) m (is_eq reach && ((n && j) && is_eq rest)) member_is
-    (both reach (ordering_then (ordering_then (nat_cmp a.at.rrn b.at.rrn) (nat_cmp a.job b.job)) rest) (is_eq reach) ((n && j) && is_eq rest) refl
-    (both (ordering_then (nat_cmp a.at.rrn b.at.rrn) (nat_cmp a.job b.job)) rest (n && j) (is_eq rest) (both (nat_cmp a.at.rrn b.at.rrn) (nat_cmp a.job b.job) n j rrn_is job_is) refl))
+    both (nat_cmp a.at.rrn b.at.rrn) (ordering_then reach (ordering_then (ordering_then (nat_cmp a.at.member b.at.member) (nat_cmp a.job b.job)) rest)) n (is_eq reach && ((m && j) && is_eq rest)) rrn_is
+    (both reach (ordering_then (ordering_then (nat_cmp a.at.member b.at.member) (nat_cmp a.job b.job)) rest) (is_eq reach) ((m && j) && is_eq rest) refl
+    (both (ordering_then (nat_cmp a.at.member b.at.member) (nat_cmp a.job b.job)) rest (m && j) (is_eq rest) (both (nat_cmp a.at.member b.at.member) (nat_cmp a.job b.job) m j member_is job_is) refl))
     ∙ same_five m (is_eq reach) n j (is_eq rest)
     ∙ sym
     (both (nat_cmp a.job b.job) (ordering_then reach (ordering_then (ordering_then (nat_cmp a.at.member b.at.member) (nat_cmp a.at.rrn b.at.rrn)) rest)) j (is_eq reach && ((m && n) && is_eq rest)) job_is
@@ -152,12 +158,27 @@ module _ (f : Lock → ℕ) where
         | false ↦ least-two s q xs
       ]
 
+-- the least job in whatever order the locks are, and of two lists
+pub least-ordered : (locks : List Lock) → least_job (in_order lock_cmp locks) ≡ least_job locks
+least-ordered locks = least-job (in_order lock_cmp locks) ∙ least-in_order job_of locks ∙ sym (least-job locks)
+
+least-append : (xs ys : List Lock) → least_of job_of (xs ++ ys) ≡ lesser (least_of job_of xs) (least_of job_of ys)
+least-append [] ys = refl
+least-append (x ∷ xs) ys = ap (lesser (Some x.job)) (least-append xs ys) ∙ sym (lesser-join x.job (least_of job_of xs) (least_of job_of ys))
+
+pub least-two_lists : (xs ys : List Lock) → least_job (xs ++ ys) ≡ lesser (least_job xs) (least_job ys)
+least-two_lists xs ys =
+    least-job (xs ++ ys)
+    ∙ least-append xs ys
+    ∙ ap (λ o. lesser o (least_of job_of ys)) (sym (least-job xs))
+    ∙ ap (lesser (least_job xs)) (sym (least-job ys))
+
 least-map : (f : Lock → ℕ) (g : Lock → Lock) (xs : List Lock) → least_of f (map g xs) ≡ least_of (λ x. f (g x)) xs
 least-map f g [] = refl
 least-map f g (x ∷ xs) = ap (lesser (Some (f (g x)))) (least-map f g xs)
 
 -- ---- on one record with one reach, the jobs rise
-eq_is : (o : Ordering) → is_eq o ≡ true → o ≡ Equal
+pub eq_is : (o : Ordering) → is_eq o ≡ true → o ≡ Equal
 eq_is Less h = absurd (cc)
 eq_is Equal h = refl
 eq_is Greater h = absurd (cc)
@@ -221,28 +242,37 @@ module _ (job : ℕ) (reach : Reach) (member : ℕ) (t : Lock → Bool) where
 
 -- ---- whom a lock is against
 module _ (job : ℕ) (at : RecordId) (kind : LockKind) where
-  moved : (m p n a : Bool) → ((m && (p && n)) && a) ≡ (((m && n) && a) && p)
+  moved : (m p n a : Bool) → ((n && (p && m)) && a) ≡ (((m && n) && a) && p)
   moved true true true true = refl
   moved true true true false = refl
-  moved true true false a = refl
+  moved true true false true = refl
+  moved true true false false = refl
   moved true false true true = refl
   moved true false true false = refl
-  moved true false false a = refl
-  moved false p n a = refl
+  moved true false false true = refl
+  moved true false false false = refl
+  moved false true true true = refl
+  moved false true true false = refl
+  moved false true false true = refl
+  moved false true false false = refl
+  moved false false true true = refl
+  moved false false true false = refl
+  moved false false false true = refl
+  moved false false false false = refl
 
-  is_blocking : (reach : Reach) (q : Lock → Bool) → ((l : Lock) → is_eq (nat_cmp (reach_number l.reach) (reach_number reach)) ≡ q l) → (l : Lock) → (is_part (InMember at.member reach at.rrn) (record_first l) && is_sought (Against job kind) (record_first l)) ≡ (blocks job at kind l && q l)
+  is_blocking : (reach : Reach) (q : Lock → Bool) → ((l : Lock) → is_eq (nat_cmp (reach_number l.reach) (reach_number reach)) ≡ q l) → (l : Lock) → (is_part (InMember at.rrn reach at.member) (record_first l) && is_sought (Against job kind) (record_first l)) ≡ (blocks job at kind l && q l)
   is_blocking reach q reach_is l =
       let apart : Bool = not (l.job == job) && are_apart l.kind kind in
       ap (λ b. b && apart)
-      (both (nat_cmp l.at.member at.member) (ordering_then (nat_cmp (reach_number l.reach) (reach_number reach)) (nat_cmp l.at.rrn at.rrn)) (l.at.member == at.member) (q l && (l.at.rrn == at.rrn)) (is_eq-nat l.at.member at.member)
-      (both (nat_cmp (reach_number l.reach) (reach_number reach)) (nat_cmp l.at.rrn at.rrn) (q l) (l.at.rrn == at.rrn) (reach_is l) (is_eq-nat l.at.rrn at.rrn)))
+      (both (nat_cmp l.at.rrn at.rrn) (ordering_then (nat_cmp (reach_number l.reach) (reach_number reach)) (nat_cmp l.at.member at.member)) (l.at.rrn == at.rrn) (q l && (l.at.member == at.member)) (is_eq-nat l.at.rrn at.rrn)
+      (both (nat_cmp (reach_number l.reach) (reach_number reach)) (nat_cmp l.at.member at.member) (q l) (l.at.member == at.member) (reach_is l) (is_eq-nat l.at.member at.member)))
       ∙ moved (l.at.member == at.member) (q l) (l.at.rrn == at.rrn) apart
 
   first_against-is : (reach : Reach) (q : Lock → Bool) → ((l : Lock) → is_eq (nat_cmp (reach_number l.reach) (reach_number reach)) ≡ q l) → (held : List Lock) → first_against reach job at kind (marks_of held) ≡ least_of job_of (filter (λ l. blocks job at kind l && q l) held)
   first_against-is reach q reach_is held =
-      let p : Lock → Bool = λ m. is_part (InMember at.member reach at.rrn) m && is_sought (Against job kind) m in
-      ap (option_map marked_job) (find-filter (is_part (InMember at.member reach at.rrn)) (is_sought (Against job kind)) (marks_of held))
-      ∙ first-least at.member reach at.rrn (is_sought (Against job kind)) (marks_of held) (IsStrictlySortedBy-in_order lock_cmp-total (map record_first held))
+      let p : Lock → Bool = λ m. is_part (InMember at.rrn reach at.member) m && is_sought (Against job kind) m in
+      ap (option_map marked_job) (find-filter (is_part (InMember at.rrn reach at.member)) (is_sought (Against job kind)) (marks_of held))
+      ∙ first-least at.rrn reach at.member (is_sought (Against job kind)) (marks_of held) (IsStrictlySortedBy-in_order lock_cmp-total (map record_first held))
       ∙ ap (least_of marked_job) (filter-marks p held)
       ∙ least-in_order marked_job (map record_first (filter (λ l. p (record_first l)) held))
       ∙ least-map marked_job record_first (filter (λ l. p (record_first l)) held)

@@ -22,7 +22,7 @@ use Rattle.lock_table.proofs.Kept.{filter-has, filter-swap, length-filter-≤, l
 use Rattle.lock_table.proofs.Locks.{lock_cmp-same, lock_cmp-total}
 use Rattle.lock_table.proofs.Releases.{freed-without_lock, length-without_lock}
 
-length-filter-not : {X : Type 0} (p : X → Bool) (xs : List X) → length (filter p xs) + length (filter (λ x. not (p x)) xs) ≡ length xs
+pub length-filter-not : {X : Type 0} (p : X → Bool) (xs : List X) → length (filter p xs) + length (filter (λ x. not (p x)) xs) ≡ length xs
 length-filter-not p [] = refl
 length-filter-not p (x ∷ xs) =
     let h : length (filter p xs) + length (filter (λ x. not (p x)) xs) ≡ length xs = length-filter-not p xs in

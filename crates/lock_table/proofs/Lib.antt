@@ -5,6 +5,7 @@ pub mod Locks
 pub mod Nodes
 pub mod Found
 pub mod ByRecord
+pub mod Shelved
 pub mod Releases
 pub mod Stored
 pub mod Counts

@@ -48,13 +48,13 @@ pub record IsStored (locks : List Lock) (room nodes free capacity : ℕ) : Type 
   pub stored : nodes ≤ capacity
 
 -- ---- the same locks once more, by record
--- In the order of locks a member stands where else the job does, a record number where the member does, and the job where
--- the record number does: those on a record with one reach stand side by side, the least job first.
+-- In the order of locks a record number stands where else the job does, and the job where the record number does: those on
+-- a record with one reach stand side by side, the least job first, and those with one record number on one shelf.
 abbrev pub record_first : Lock → Lock
 record_first lock = record {
-  job = lock.at.member;
+  job = lock.at.rrn;
   reach = lock.reach;
-  at = record { member = lock.at.rrn; rrn = lock.job };
+  at = record { member = lock.at.member; rrn = lock.job };
   opened = lock.opened;
   kind = lock.kind;
 }
@@ -70,7 +70,7 @@ lesser (Some number) other = Some (option_map_or (min number) other number)
 -- the first job of those that have a lock of this reach on the record against this job's lock of that kind
 abbrev pub first_against : Reach → ℕ → RecordId → LockKind → List Lock → Option ℕ
 first_against reach job at kind marks =
-    option_map (λ (mark : Lock). mark.at.rrn) (find (is_sought (Against job kind)) (filter (is_part (InMember at.member reach at.rrn)) marks))
+    option_map (λ (mark : Lock). mark.at.rrn) (find (is_sought (Against job kind)) (filter (is_part (InMember at.rrn reach at.member)) marks))
 
 -- there are so many nodes, each with a lock or free, and the list of free ones has room for them all
 pub record AreMarks (locks : List Lock) (nodes free capacity : ℕ) : Type 0 where

@@ -3,3 +3,4 @@ pub mod Table
 pub mod Index
 pub mod Levels
 pub mod Tree
+pub mod Shelves

@@ -4,9 +4,9 @@ ghost use Rattle.std.specs.List.Sorted.{IsStrictlySortedBy};
 ghost use Rattle.std.specs.Prelude.{◌≡◌, ◌≤◌, ◌+◌, ◌&&◌, ◌==◌, filter, length, nat_le, if◌then◌else◌};
 ghost use Rattle.lock_table.specs.Lock.{is_boundary_in, is_by, lock_cmp};
 ghost use Rattle.lock_table.specs.Table.{least_job, with_lock, without_lock};
-ghost use Rattle.lock_table.specs.Index.{first_against, is_part, is_sought, lesser};
+ghost use Rattle.lock_table.specs.Index.{is_part, is_sought, lesser};
 
-use crate::lock::{Lock, LockKind, Reach, RecordId};
+use crate::lock::{Lock, Reach};
 use crate::part::{Part, Sought};
 use crate::table::MOST_LOCKS;
 use crate::tree::{LockTree, Top};
@@ -101,19 +101,6 @@ pub fn count_in(tree: &LockTree, part: Part, opened: u32) -> usize
             }
             Ordering::Greater => count_in(&node.left, part, opened),
         },
-    }
-}
-
-/// The least job that has a lock of this reach on the record against this job's lock of that kind. The locks are by record.
-pub fn first_against(tree: &LockTree, reach: Reach, asked: (u32, RecordId, LockKind)) -> Option<u32>
-    requires { IsStrictlySortedBy lock_cmp tree.now }
-    ensures { result ≡ first_against reach asked.0 asked.1 asked.2 tree.now }
-{
-    let (job, at, kind) = asked;
-    let part = Part::InMember(at.member, reach, at.rrn);
-    match first_in(tree, part, Sought::Against(job, kind)) {
-        Some(lock) => Some(lock.at.rrn),
-        None => None,
     }
 }
 

@@ -9,6 +9,8 @@ mod levels;
 mod lock;
 mod marks;
 mod part;
+mod row;
+mod shelves;
 mod sorted;
 mod table;
 mod tree;

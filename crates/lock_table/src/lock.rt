@@ -127,16 +127,16 @@ impl Lock {
         }
     }
 
-    /// The same lock with its record in the place of its job, so that locks are by record.
+    /// The same lock with its record number in the place of its job, so that locks are by record.
     pub fn record_first(&self) -> Lock
         ensures { result ≡ record_first self.now }
     {
         let at = RecordId {
-            member: self.at.rrn,
+            member: self.at.member,
             rrn: self.job,
         };
         Lock {
-            job: self.at.member,
+            job: self.at.rrn,
             reach: self.reach,
             at,
             opened: self.opened,

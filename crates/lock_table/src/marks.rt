@@ -5,18 +5,22 @@ ghost use Rattle.lock_table.specs.declared.lock.Reach.TheVariants.{Open, Boundar
 ghost use Rattle.lock_table.specs.Table.{holding, with_lock, without_lock};
 ghost use Rattle.lock_table.specs.Index.{first_against, lesser, record_first};
 
-use crate::chosen::{first_against, lesser};
+use crate::chosen::lesser;
 use crate::lock::{Lock, LockKind, Reach, RecordId};
-use crate::sorted::{put_lock, take_lock};
+use crate::part::{Part, Sought};
+use crate::shelves::Shelves;
 use crate::table::MOST_LOCKS;
-use crate::tree::{LockTree, Node, add_free};
+use crate::tree::{Node, add_free};
 use std::alloc::{AllocError, Global};
 use std::marker::Model;
 
-/// Locks with their record in the place of their job.
+/// On how many shelves the locks are by record number, beside the first.
+const RECORD_SHELVES: usize = 16_383;
+
+/// Locks with their record number in the place of their job.
 #[derive(Drop)]
 pub struct Marks {
-    locks: LockTree,
+    locks: Shelves,
     free: Vec<Box<Node>>,
     // Those of the locks and the free ones.
     nodes: usize,
@@ -39,7 +43,7 @@ impl Marks {
         ensures { result ≡ record { held = []; room = 0 } }
     {
         Marks {
-            locks: LockTree::new(),
+            locks: Shelves::new(alloc),
             free: Vec::new(alloc),
             nodes: 0,
         }
@@ -56,6 +60,7 @@ impl Marks {
         ensures same { self.new.held ≡ self.old.held }
     {
         if wanted > self.nodes {
+            self.locks.spread(RECORD_SHELVES)?;
             let held = self.nodes - self.free.len();
             let added = add_free(&mut self.free, held, wanted - self.nodes);
             self.nodes = held + self.free.len();
@@ -78,7 +83,7 @@ impl Marks {
         requires { length (with_lock (record_first lock) self.old.held) ≤ self.old.room }
         ensures { self.new ≡ holding (with_lock (record_first lock) self.old.held) self.old }
     {
-        put_lock(&mut self.locks, &mut self.free, lock.record_first());
+        self.locks.put_lock(&mut self.free, lock.record_first());
     }
 
     /// Takes the lock out, where it is there.
@@ -86,6 +91,18 @@ impl Marks {
         ensures { self.new ≡ holding (without_lock (record_first lock) self.old.held) self.old }
     {
         let mark = lock.record_first();
-        take_lock(&mut self.locks, &mut self.free, &mark);
+        self.locks.take_lock(&mut self.free, &mark);
+    }
+}
+
+// The least job that has a lock of this reach on the record against this job's lock of that kind.
+fn first_against(locks: &Shelves, reach: Reach, asked: (u32, RecordId, LockKind)) -> Option<u32>
+    ensures { result ≡ first_against reach asked.0 asked.1 asked.2 locks.now }
+{
+    let (job, at, kind) = asked;
+    let part = Part::InMember(at.rrn, reach, at.member);
+    match locks.first_in(part, Sought::Against(job, kind)) {
+        Some(lock) => Some(lock.at.rrn),
+        None => None,
     }
 }

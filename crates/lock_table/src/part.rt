@@ -1,5 +1,5 @@
 //! The parts of a list of locks: those of a job, of its open or boundary locks, and of a member or a record among these.
-//! The locks of a part stand side by side. Where they stand is found in sorted.rt.
+//! The locks of a part stand side by side. Where they stand is found in chosen.rt.
 ghost use Rattle.std.specs.Prelude.{◌≡◌};
 
 use crate::lock::{Lock, LockKind, Reach, RecordId};
@@ -26,6 +26,19 @@ pub enum Sought {
 
 impl Part {
     ghost use Rattle.lock_table.specs.Index.{part_cmp};
+    ghost use Rattle.lock_table.specs.Shelves.{part_job};
+
+    /// The job of its locks.
+    pub fn job(&self) -> u32
+        ensures { result ≡ part_job self.now }
+    {
+        match *self {
+            Part::OfJob(job) => job,
+            Part::Reaching(job, _) => job,
+            Part::InMember(job, _, _) => job,
+            Part::OnRecord(job, _, _) => job,
+        }
+    }
 
     /// Whether the lock stands before the part, in it or after it.
     pub fn side_of(&self, lock: &Lock) -> Ordering

@@ -1,6 +1,6 @@
 //! The table of all record locks: one list in order, where those of a job stand side by side, its open locks before its
-//! boundary locks. It is kept as a tree (tree.rt), so that no lock moves for another one. The searches in it are in
-//! sorted.rt and chosen.rt. Its locks are kept by record besides (marks.rt).
+//! boundary locks. It is kept as a tree a job (shelves.rt, tree.rt), so that no lock moves for another one. The searches in
+//! it are in sorted.rt and chosen.rt. Its locks are kept by record besides (marks.rt).
 ghost use Rattle.std.specs.List.{All, Contains, list_any};
 ghost use Rattle.std.specs.Prelude.{true, false, ◌≡◌, ℕ, ◌+◌, ◌<◌, ◌≤◌, ◌==◌, ◌↔◌, Bool, Option, IsOk, IsErrOf, OnOk, OnErr, IfSome, IfNone, Some, None, Err, [], length, filter};
 ghost use Rattle.commit_level.specs.declared.Level.{Level};
@@ -12,23 +12,26 @@ ghost use Rattle.lock_table.specs.Table.{IsTable, IsOneOf, HasRoom, without_lock
 ghost use Rattle.lock_table.specs.Index.{is_part};
 ghost use Rattle.lock_table.specs.Levels.{locks_after};
 
-use crate::chosen::{count_in, first_in, is_there, least_keeper};
 use crate::fault::{InUse, LockFault};
 use crate::lock::{Holder, Lock, LockKind, Reach, RecordId};
 use crate::marks::Marks;
 use crate::part::{Part, Sought};
-use crate::sorted::{put_lock, take_lock};
-use crate::tree::{LockTree, Node, add_free};
+use crate::shelves::Shelves;
+use crate::tree::{Node, add_free};
 use std::alloc::Global;
 use std::marker::Model;
 
 /// How many locks may be held at a time.
 pub const MOST_LOCKS: u32 = 500_000;
 
+/// On how many shelves the locks are by job, beside the first: as many as a run may have jobs, so that each has its own.
+const JOB_SHELVES: usize = 64;
+
 /// The record locks of all jobs.
 #[derive(Drop)]
 pub struct LockTable {
-    locks: LockTree,
+    // By job.
+    locks: Shelves,
     free: Vec<Box<Node>>,
     // Those of the locks and the free ones.
     nodes: usize,
@@ -64,7 +67,7 @@ impl LockTable {
         ensures { result ≡ record { held = []; room = 0 } }
     {
         LockTable {
-            locks: LockTree::new(),
+            locks: Shelves::new(alloc),
             free: Vec::new(alloc),
             nodes: 0,
             marks: Marks::new(alloc),
@@ -97,6 +100,7 @@ impl LockTable {
             return Err(LockFault::Full);
         }
         if wanted > self.nodes {
+            self.locks.spread(JOB_SHELVES)?;
             let added = add_free(&mut self.free, held, wanted - self.nodes);
             self.nodes = held + self.free.len();
             added?;
@@ -171,11 +175,32 @@ impl LockTable {
         if let Some(job) = self.clash(holder.job, at, kind) {
             return Err(InUse { job });
         }
+        self.hold_to_boundary(holder, at, kind);
+        Ok(())
+    }
+
+    /// Locks the record as `ask` and `ask_to_boundary` do, where no other job has a lock that clashes: none is looked for.
+    pub fn hold(&mut self, holder: Holder, at: RecordId, kind: LockKind, reach: Reach)
+        requires room { HasRoom holder at kind reach self.old }
+        requires unlocked { blocker holder.job at kind self.old.held ≡ None }
+        ensures { self.new ≡ holding (with_lock_by holder at kind reach self.old.held) self.old }
+    {
+        match reach {
+            Reach::Open => self.add(holder.lock(at, kind, Reach::Open)),
+            Reach::Boundary => self.hold_to_boundary(holder, at, kind),
+        }
+    }
+
+    // The same lock to the next read goes first, where it is held.
+    fn hold_to_boundary(&mut self, holder: Holder, at: RecordId, kind: LockKind)
+        requires room { HasRoom holder at kind Boundary self.old }
+        requires unlocked { blocker holder.job at kind self.old.held ≡ None }
+        ensures { self.new ≡ holding (with_lock_by holder at kind Boundary self.old.held) self.old }
+    {
         let to_next_read = holder.lock(at, kind, Reach::Open);
         let to_boundary = holder.lock(at, kind, Reach::Boundary);
         self.free(to_next_read);
         self.add(to_boundary);
-        Ok(())
     }
 
     /// Keeps the open's locks on the record to the job's next boundary.
@@ -238,7 +263,7 @@ impl LockTable {
         let kept = Part::OnRecord(holder.job, Reach::Boundary, at);
         Held {
             by_open: self.open_lock_on(holder, at).is_some(),
-            to_boundary: first_in(&self.locks, kept, Sought::Any).is_some(),
+            to_boundary: self.locks.first_in(kept, Sought::Any).is_some(),
         }
     }
 
@@ -246,7 +271,7 @@ impl LockTable {
     pub fn boundary_in(&self, member: u32) -> Option<u32>
         ensures { result ≡ least_job (filter (is_boundary_in member) self.now.held) }
     {
-        least_keeper(&self.locks, member)
+        self.locks.least_keeper(member)
     }
 
     // By how many locks the list grows with this one, once the older lock of its open is gone.
@@ -255,7 +280,7 @@ impl LockTable {
         ensures to_next_read { is_open lock.reach ≡ true → result ≡ 1 }
         ensures to_boundary { is_open lock.reach ≡ false → length (with_lock lock self.now.held) ≡ length self.now.held + result }
     {
-        let is_held = !lock.reach.is_open() && is_there(&self.locks, &lock);
+        let is_held = !lock.reach.is_open() && self.locks.is_there(&lock);
         if is_held { 0 } else { 1 }
     }
 
@@ -263,7 +288,7 @@ impl LockTable {
     fn shrinkage(&self, lock: Lock) -> usize
         ensures { length (without_lock lock self.now.held) + result ≡ length self.now.held }
     {
-        let is_held = is_there(&self.locks, &lock);
+        let is_held = self.locks.is_there(&lock);
         if is_held { 1 } else { 0 }
     }
 
@@ -279,7 +304,7 @@ impl LockTable {
         ensures { result ≡ length (filter (is_of_open holder) self.now.held) }
     {
         let part = Part::Reaching(holder.job, Reach::Open);
-        count_in(&self.locks, part, holder.opened)
+        self.locks.count_in(part, holder.opened)
     }
 
     fn open_lock(&self, holder: Holder) -> Option<Lock>
@@ -287,7 +312,7 @@ impl LockTable {
         ensures none { IfNone result (filter (is_of_open holder) self.now.held ≡ []) }
     {
         let part = Part::Reaching(holder.job, Reach::Open);
-        first_in(&self.locks, part, Sought::Through(holder.opened))
+        self.locks.first_in(part, Sought::Through(holder.opened))
     }
 
     fn open_lock_on(&self, holder: Holder, at: RecordId) -> Option<Lock>
@@ -296,14 +321,14 @@ impl LockTable {
         ensures none { IfNone result (filter (is_of_open_on holder at) self.now.held ≡ []) }
     {
         let part = Part::OnRecord(holder.job, Reach::Open, at);
-        first_in(&self.locks, part, Sought::Through(holder.opened))
+        self.locks.first_in(part, Sought::Through(holder.opened))
     }
 
     fn first_of(&self, part: Part) -> Option<Lock>
         ensures some { IfSome result (λ lock. IsOneOf (is_part part) lock self.now.held) }
         ensures none { IfNone result (filter (is_part part) self.now.held ≡ []) }
     {
-        first_in(&self.locks, part, Sought::Any)
+        self.locks.first_in(part, Sought::Any)
     }
 
     // Puts a lock that clashes with none into the list.
@@ -312,7 +337,7 @@ impl LockTable {
         requires alone { All (λ other. Clashes lock other → ⊥) self.old.held }
         ensures { self.new ≡ holding (with_lock lock self.old.held) self.old }
     {
-        put_lock(&mut self.locks, &mut self.free, lock);
+        self.locks.put_lock(&mut self.free, lock);
         self.marks.put(lock);
     }
 
@@ -320,7 +345,7 @@ impl LockTable {
     fn free(&mut self, lock: Lock)
         ensures { self.new ≡ holding (without_lock lock self.old.held) self.old }
     {
-        take_lock(&mut self.locks, &mut self.free, &lock);
+        self.locks.take_lock(&mut self.free, &lock);
         self.marks.take(lock);
     }
 

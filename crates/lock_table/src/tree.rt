@@ -1,6 +1,6 @@
 //! Locks as a search tree that is balanced by height. No clause speaks of the balance, which bears on time alone. What a
 //! tree makes of an order is in sorted.rt.
-ghost use Rattle.std.specs.Prelude.{◌≡◌, ◌≤◌, ◌+◌, [], ◌∷◌, ◌++◌, MatchOption, OnOk, length, vec_len, vec_capacity};
+ghost use Rattle.std.specs.Prelude.{◌≡◌, ◌≤◌, ◌+◌, [], ◌∷◌, ◌++◌, IsTrue, MatchOption, OnOk, length, vec_len, vec_capacity};
 ghost use Rattle.lock_table.specs.Tree.{locks_of};
 
 use crate::lock::{Lock, LockKind, Reach, RecordId};
@@ -55,6 +55,16 @@ impl LockTree {
         ensures { result ≡ [] }
     {
         LockTree { top: Top::Empty }
+    }
+
+    /// Whether it has no lock.
+    pub fn is_empty(&self) -> bool
+        ensures { IsTrue result → self.now ≡ [] }
+    {
+        match &self.top {
+            Top::Empty => true,
+            Top::At(_) => false,
+        }
     }
 
     fn height(&self) -> u8 {

@@ -6,8 +6,8 @@ use Rattle.lock_table.specs.Table.{Locks, with_lock}
 use Rattle.lock_table.proofs.Stored.{IsMarked-with_lock, mark-room, put-room}
 use Rattle.lock_table.proofs.table.LockTable.add.Goals as goal
 
-pub put_lock-requires-clause-room : goal.put_lock-requires-clause-room
-put_lock-requires-clause-room c = put-room _ _ _ _ _ c.self.invariant.stored c.args.lock (subst (λ (t : Locks). length (with_lock c.args.lock t.held) ≤ t.room) (sym c.self.view_is) c.requires.room)
+pub put_lock-requires : goal.put_lock-requires
+put_lock-requires c = put-room _ _ _ _ _ c.self.invariant.stored c.args.lock (subst (λ (t : Locks). length (with_lock c.args.lock t.held) ≤ t.room) (sym c.self.view_is) c.requires.room)
 
 pub put-requires : goal.put-requires
 put-requires c = mark-room _ _ _ _ _ _ c.self.invariant c.args.lock (subst (λ (t : Locks). length (with_lock c.args.lock t.held) ≤ t.room) (sym c.self.view_is) c.requires.room)
