@@ -33,14 +33,6 @@ has-values view image read =
     each-back (HasValue image) (λ (f : LogicalField). f.field) view.mapping
     (weaker (ShowsValue image) (HasValue image) (λ f shows. record { shown = shows.shown; there = shows.value }) (shown_of view.mapping) (each-shows view image read))
 
--- ---- one value more
-
-pub value-more : {A B : Type 0} (f : A → Option B) (x : A) (rest : List A) (v : B) (vs : List B) (whole : List (Option B)) → f x ≡ Some v →
-    map Some vs ++ map f (x ∷ rest) ≡ whole → map Some (vs ++ v ∷ []) ++ map f rest ≡ whole
-value-more {B = B} f x rest v [] whole is before = ap (λ (o : Option B). o ∷ map f rest) (sym is) ∙ before
-value-more {B = B} f x rest v (w ∷ vs) whole is before =
-    ap (λ (more : List (Option B)). Some w ∷ more) (value-more f x rest v vs (map Some vs ++ map f (x ∷ rest)) is refl) ∙ before
-
 -- ---- one after another
 
 -- what stands in a field stands before what stands in the fields behind it

@@ -8,7 +8,7 @@ use Rattle.view_records.proofs.shown.values_shown.Goals as goal
 pub values_of-requires : goal.values_of-requires
 values_of-requires c = subst (AllByRecursion (HasValueIn c.args.image.now)) (sym c.as_slice.ensures) (has-values c.args.view.now c.args.image.now c.requires.read)
 
-pub returns-in_ok-values : goal.returns-in_ok-values
-returns-in_ok-values c =
-    format-values c.args.view.now c.args.image.now c.in_ok-values.items c.requires.read c.requires.format
+pub returns : goal.returns
+returns c =
+    format-values c.args.view.now c.args.image.now c.in_ok-values.values.items c.requires.read c.requires.format
     (c.in_ok-values.ensures ∙ ap (λ (mapping : List LogicalField). map (value_in c.args.image.now) mapping) c.as_slice.ensures)
