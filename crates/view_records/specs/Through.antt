@@ -1,13 +1,16 @@
 -- Through which formats of a logical file can records be read and written? (DDS for Physical and Logical Files, record format level,
 -- "CONCAT", "SST". That what is shown is said of one base file's fields is our own.)
-use Rattle.std.specs.Prelude.{◌≡◌, ℕ, ◌+◌, ◌≤◌, true, List, [], ◌∷◌, length}
+use Rattle.std.specs.Prelude.{◌≡◌, ℕ, ◌+◌, ◌≤◌, true, List, [], ◌∷◌, length, Option}
 use Rattle.std.specs.List.{AllByRecursion}
+use Rattle.field_types.specs.declared.values.Value.{Value}
 use Rattle.field_values.specs.FieldTypes.{width}
 use Rattle.record_fmt.specs.declared.formats.Field.{Field}
 use Rattle.record_fmt.specs.Layout.{lies_from}
 use Rattle.file_model.specs.declared.views.FieldSource.{FieldSource}
 use Rattle.file_model.specs.declared.views.FieldSource.TheVariants.{Copied, Converted, Concatenated, Substring}
 use Rattle.file_model.specs.declared.views.LogicalField.{LogicalField}
+use Rattle.file_model.specs.Views.{field_value}
+use Rattle.view_rules.specs.Shown.{HasValue}
 use Rattle.dds_logical.specs.declared.views.View.{View}
 use Rattle.dds_logical.specs.declared.views.LogicalSpec.{LogicalSpec}
 use Rattle.dds_logical.specs.declared.views.LogicalSpec.TheVariants.{Simple, Multi, Join}
@@ -52,6 +55,14 @@ pub record IsReadThrough (view : View) (image : List ℕ) : Type 0 where
   pub lies : lies_from 0 base ≡ true
   pub fields : AllByRecursion (IsShownOf base) (shown_of view.mapping)
   pub is : IsRecord base image
+
+-- the value that the record shows in the field
+abbrev pub value_in : List ℕ → LogicalField → Option Value
+value_in image f = field_value image f.field
+
+-- there is one
+abbrev pub HasValueIn : List ℕ → LogicalField → Type 0
+HasValueIn image f = HasValue image f.field
 
 -- records with these fields can be made of values that are given through the view
 pub record IsWrittenThrough (base : List Field) (view : View) : Type 0 where

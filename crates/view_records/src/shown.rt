@@ -1,36 +1,33 @@
 //! What a format shows of a record of its base file.
-ghost use Rattle.std.specs.Prelude.{◌≡◌, true, is_some, length, IfOk};
-ghost use Rattle.record_fmt.specs.Layout.{record_length};
-ghost use Rattle.record_fmt.specs.Records.{record_held};
-ghost use Rattle.logical_model.specs.Formats.{shown_through, values_shown};
-ghost use Rattle.view_records.specs.Through.{IsFormatOf, IsReadThrough};
+ghost use Rattle.std.specs.Prelude.{◌≡◌, Some, map, IfOk};
+ghost use Rattle.std.specs.List.{AllByRecursion};
+ghost use Rattle.logical_model.specs.Formats.{shown_through};
+ghost use Rattle.view_records.specs.Through.{HasValueIn, IsFormatOf, IsReadThrough, value_in};
 
 use dds_logical::views::View;
 use field_types::values::Value;
-use field_values::fields::ImageFault;
-use record_fmt::formats::Format;
+use file_model::views::LogicalField;
 use std::alloc::{AllocError, Global};
 use view_rules::viewing;
 
-/// The values that a format shows of a record of its base file, one for each of its fields.
+/// The values that a format shows of a record of its base file, one for each of its fields. Memory is taken for them alone.
 pub fn values_shown(alloc: Global, view: &View, image: &[u8]) -> Result<Vec<Value>, AllocError>
     requires read { IsReadThrough view.now image.now }
     requires format { IsFormatOf view.now }
     ensures { IfOk result (λ values. values.items ≡ (shown_through view.now image.now).values) }
 {
-    let shown = viewing::logical(alloc, view.mapping.as_slice(), image)?;
-    values_of(alloc, &view.format, shown.as_slice())
+    let values = values_of(alloc, view.mapping.as_slice(), image)?;
+    Ok(values)
 }
 
-/// The values of an image in which one stands in each field.
-fn values_of(alloc: Global, format: &Format, image: &[u8]) -> Result<Vec<Value>, AllocError>
-    requires long { length image.now ≡ record_length format.now.fields }
-    requires held { is_some (record_held format.now.fields image.now) ≡ true }
-    ensures { IfOk result (λ values. values.items ≡ values_shown format.now.fields image.now) }
+/// The values that a record shows in some fields, one for each.
+fn values_of(alloc: Global, fields: &[LogicalField], image: &[u8]) -> Result<Vec<Value>, AllocError>
+    requires { AllByRecursion (HasValueIn image.now) fields.now }
+    ensures { IfOk result (λ values. map Some values.items ≡ map (value_in image.now) fields.now) }
 {
-    match format.unpack(alloc, image) {
-        Ok(values) => Ok(values),
-        Err(ImageFault::NoMemory) => Err(AllocError),
-        Err(ImageFault::BadImage(_)) => unreachable!(),
+    let mut values = Vec::with_capacity(alloc, fields.len())?;
+    for logical in fields {
+        values.push(viewing::value(alloc, &logical.field, image)?)?;
     }
+    Ok(values)
 }

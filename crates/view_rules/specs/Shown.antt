@@ -12,7 +12,6 @@ use Rattle.file_model.specs.declared.views.Piece.{Piece}
 use Rattle.file_model.specs.declared.views.FieldSource.{FieldSource}
 use Rattle.file_model.specs.declared.views.FieldSource.TheVariants.{Copied, Converted, Concatenated, Substring}
 use Rattle.file_model.specs.declared.views.ViewField.{ViewField}
-use Rattle.file_model.specs.declared.views.LogicalField.{LogicalField}
 use Rattle.file_model.specs.declared.rules.Test.{Test}
 use Rattle.file_model.specs.declared.rules.Test.TheVariants as tests
 use Rattle.file_model.specs.declared.rules.Condition.{Condition}
@@ -56,9 +55,6 @@ HasSource t (Substring piece) image = IsPiece t piece image
 pub record HasShown (image : List ℕ) (f : ViewField) : Type 0 where
   pub allowed : IsFieldType f.ty
   pub source : HasSource f.ty f.source image
-
-abbrev pub HasLogical : List ℕ → LogicalField → Type 0
-HasLogical image f = HasShown image f.field
 
 -- and shows a value there
 pub record HasValue (image : List ℕ) (f : ViewField) : Type 0 where

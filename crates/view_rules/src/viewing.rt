@@ -5,14 +5,18 @@ ghost use Rattle.std.specs.List.{AllByRecursion, flat_map};
 ghost use Rattle.field_types.specs.declared.values.Value.{Value};
 ghost use Rattle.field_values.specs.FieldTypes.{IsFieldType, width, is_numeric};
 ghost use Rattle.field_values.specs.FieldBytes.{held, written, filled, fault_of};
-ghost use Rattle.file_model.specs.Views.{field_image, view_of, logical_image, written_as, piece_of};
-ghost use Rattle.view_rules.specs.Shown.{HasShown, HasLogical, IsWithin, IsTaken};
+ghost use Rattle.file_model.specs.Views.{field_image, field_value, view_of, written_as, piece_of};
+ghost use Rattle.view_rules.specs.Shown.{HasShown, HasValue, IsWithin, IsTaken};
+ghost use Rattle.view_rules.specs.Operands.{bytes_of, text_of, value_of, HasBytes, IsOperand, IsText};
 
+use crate::operands::{self, Operand};
 use crate::sources;
+use crate::texts::{ShownText, TextBytes};
 use field_types::kinds::FieldType;
+use field_types::texts::Text;
 use field_types::values::{Dec, Value};
 use field_values::fields::{self, BLANK};
-use file_model::views::{FieldSource, LogicalField, Piece, ViewField};
+use file_model::views::{FieldSource, Piece, ViewField};
 use std::alloc::{AllocError, Global};
 
 /// The image that some fields make of a record, one after another.
@@ -27,16 +31,36 @@ pub fn view(alloc: Global, fields: &[ViewField], image: &[u8]) -> Result<Vec<u8>
     Ok(shown)
 }
 
-/// The image of a logical format.
-pub fn logical(alloc: Global, fields: &[LogicalField], image: &[u8]) -> Result<Vec<u8>, AllocError>
-    requires { AllByRecursion (HasLogical image.now) fields.now }
-    ensures { IfOk result (λ v. v.items ≡ logical_image fields.now image.now) }
+/// The value that a record shows in a field. A number takes no memory, and a text takes it once, for its bytes.
+pub fn value(alloc: Global, field: &ViewField, image: &[u8]) -> Result<Value, AllocError>
+    requires { HasValue image.now field.now }
+    ensures { IfOk result (λ v. field_value image.now field.now ≡ Some v) }
 {
-    let mut shown = Vec::new(alloc);
-    for logical in fields {
-        show(&logical.field, image, &mut shown)?;
+    match operands::of_field(field, image) {
+        Operand::Number(number) => Ok(Value::Number(number)),
+        Operand::Text(text) => Ok(Value::Chars(owned(alloc, text)?)),
     }
-    Ok(shown)
+}
+
+/// A text with the blanks behind it, in memory of its own.
+fn owned(alloc: Global, text: ShownText) -> Result<Text, AllocError>
+    requires { IsText text }
+    ensures { IfOk result (λ owned. owned ≡ text_of text.entry) }
+{
+    let mut bytes = Vec::with_capacity(alloc, text.width)?;
+    show_whole(text, &mut bytes)?;
+    Ok(Text::from_vec(bytes))
+}
+
+/// A text, and blanks to its width.
+fn show_whole(text: ShownText, into: &mut Vec<u8>) -> Result<(), AllocError>
+    requires { IsText text }
+    ensures { OnOk result (into.new.items ≡ into.old.items ++ text_of text.entry) }
+{
+    match text.bytes {
+        TextBytes::Slice(bytes) => show_text(text.width, bytes, into),
+        TextBytes::Pieces(pieces, image) => show_pieces(text.width, pieces, image, into),
+    }
 }
 
 /// What a field shows, behind what was shown before.
@@ -54,10 +78,14 @@ fn show(field: &ViewField, image: &[u8], into: &mut Vec<u8>) -> Result<(), Alloc
             sources::bytes_at(from, *offset, image),
             into,
         ),
-        FieldSource::Concatenated(pieces) => show_pieces(&field.ty, pieces.as_slice(), image, into),
-        FieldSource::Substring(piece) => {
-            show_text(&field.ty, sources::bytes_of(piece, image), into)
+        FieldSource::Concatenated(pieces) => {
+            show_pieces(fields::width(&field.ty), pieces.as_slice(), image, into)
         }
+        FieldSource::Substring(piece) => show_text(
+            fields::width(&field.ty),
+            sources::bytes_of(piece, image),
+            into,
+        ),
     }
 }
 
@@ -77,7 +105,7 @@ fn show_converted(
     if fields::is_numeric(from.kind) {
         show_number(ty, fields::number(from, bytes), into)
     } else {
-        show_text(ty, bytes, into)
+        show_text(fields::width(ty), bytes, into)
     }
 }
 
@@ -95,7 +123,7 @@ pub(crate) fn show_value(
 {
     match value {
         Value::Number(number) => show_number(ty, *number, into),
-        Value::Chars(text) => show_text(ty, text.as_bytes(), into),
+        Value::Chars(text) => show_text(fields::width(ty), text.as_bytes(), into),
     }
 }
 
@@ -115,25 +143,25 @@ fn show_number(ty: &FieldType, number: Dec, into: &mut Vec<u8>) -> Result<(), Al
     }
 }
 
-/// A text, and blanks to the width of its field.
-fn show_text(ty: &FieldType, text: &[u8], into: &mut Vec<u8>) -> Result<(), AllocError>
-    ensures { OnOk result (into.new.items ≡ into.old.items ++ filled (width ty.now) text.now) }
+/// A text, and blanks to this width.
+fn show_text(width: usize, text: &[u8], into: &mut Vec<u8>) -> Result<(), AllocError>
+    ensures { OnOk result (into.new.items ≡ into.old.items ++ filled width text.now) }
 {
     into.extend_from_slice(text)?;
-    show_blanks(fields::width(ty).saturating_sub(text.len()), into)
+    show_blanks(width.saturating_sub(text.len()), into)
 }
 
-/// Pieces of a record, and blanks to the width of the field.
+/// Pieces of a record, and blanks to this width.
 fn show_pieces(
-    ty: &FieldType,
+    width: usize,
     pieces: &[Piece],
     image: &[u8],
     into: &mut Vec<u8>,
 ) -> Result<(), AllocError>
     requires { AllByRecursion (IsWithin image.now) pieces.now }
-    ensures { OnOk result (into.new.items ≡ into.old.items ++ filled (width ty.now) (flat_map (piece_of image.now) pieces.now)) }
+    ensures { OnOk result (into.new.items ≡ into.old.items ++ filled width (flat_map (piece_of image.now) pieces.now)) }
 {
-    let mut left = fields::width(ty);
+    let mut left = width;
     for piece in pieces {
         into.extend_from_slice(sources::bytes_of(piece, image))?;
         left = left.saturating_sub(piece.length as usize);

@@ -1,4 +1,5 @@
-use Rattle.std.proofs.Common.{◌≡◌, ◌++◌, ◌∙◌, sym, subst, OnOk}
+use Rattle.std.proofs.Common.{◌≡◌, ◌++◌, ◌∙◌, ap, sym, subst, OnOk}
+use Rattle.field_values.specs.FieldBytes.{filled}
 use Rattle.view_rules.proofs.OperandLemmas.{text-copied, number-shown}
 use Rattle.view_rules.proofs.viewing.show_converted.Goals as goal
 
@@ -8,4 +9,5 @@ show_number-requires-clause-numeric c = number-shown c.args.ty.now c.args.from.n
 pub returns-else-is_numeric : goal.returns-else-is_numeric
 returns-else-is_numeric c =
     subst (λ w. OnOk c.show_text.result (c.show_text.new.into.items ≡ c.args.into.now.items ++ w))
-    (sym (text-copied c.args.ty.now c.args.from.now c.args.bytes.now (sym c.is_numeric.ensures ∙ c.if-is_numeric.false) c.requires.taken).1) c.show_text.ensures
+    (ap (λ n. filled n c.args.bytes.now) c.width.ensures
+    ∙ sym (text-copied c.args.ty.now c.args.from.now c.args.bytes.now (sym c.is_numeric.ensures ∙ c.if-is_numeric.false) c.requires.taken).1) c.show_text.ensures
