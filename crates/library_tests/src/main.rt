@@ -19,3 +19,6 @@ mod tables;
 mod undone;
 #[cfg(test)]
 mod views;
+
+/// Does nothing: the tests are all there is. A program, since a library that nobody stands on would be built for nothing.
+fn main() {}

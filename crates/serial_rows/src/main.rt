@@ -11,3 +11,6 @@ mod runs;
 mod turns;
 #[cfg(test)]
 mod views;
+
+/// Does nothing: the tests are all there is. A program, since a library that nobody stands on would be built for nothing.
+fn main() {}
