@@ -94,7 +94,7 @@ CycleGoesBack files members (Some cycle) = AllByRecursion (GoesBack files member
 abbrev pub AllGoBack : Named FileState → NumberedMembers → List JobState → Type 0
 AllGoBack files members jobs = AllByRecursion (λ job. CycleGoesBack files members job.cycle) jobs
 
--- that no two files or members have one number is known of the files alone (file_catalogue)
+-- that no two files or members have one number is known of the files alone (AreApart)
 pub record IsLibrary (s : State) : Type 0 where
   pub members : (name : List ℕ) (file : FileState) (number : ℕ) → Owns s.files name file number → IsThere (fields_of file) (member_at number s.members)
   pub bases : AreBased s.files
