@@ -1,5 +1,5 @@
 -- What the boundaries of jobs take back fits its places, and leaves a library lawful.
-use Rattle.std.proofs.Common.{◌≡◌, ℕ, ◌+◌, ◌-◌, if◌then◌else◌, true, false, List, [], ◌∷◌, Option, Some, None, is_some, IsSome, refl, ◌∙◌, ap, arith, rules}
+use Rattle.std.proofs.Common.{◌≡◌, ℕ, ◌+◌, if◌then◌else◌, true, false, List, [], ◌∷◌, Option, Some, None, is_some, IsSome, refl, ◌∙◌, ap, arith, rules}
 use Rattle.std.specs.List.{AllByRecursion}
 use Rattle.member_slots.specs.Member.{MemberState, changed}
 use Rattle.member_slots.specs.Members.{NumberedMembers, member_of, with_member}
