@@ -2,8 +2,6 @@
 ghost use Rattle.std.specs.Prelude.{IfOk, [], ◌≡◌};
 ghost use Rattle.path_set.specs.Sharing.{CanBeKept};
 
-use crate::faults::PathFault;
-use crate::set::PathSet;
 use field_types::kinds::{FieldType, Kind};
 use field_types::lists::ListOf;
 use file_model::paths::{PathFormat, PathSpec};
@@ -11,6 +9,8 @@ use file_model::rules::Rules;
 use file_model::views::{FieldSource, ViewField};
 use key_spec::{KeyPart, KeyParts, Ties};
 use member_slots::members::Members;
+use path_set::faults::PathFault;
+use path_set::set::PathSet;
 use std::alloc::{AllocError, Global};
 use std::test::Fail;
 
