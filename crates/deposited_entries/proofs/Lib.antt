@@ -1,0 +1,10 @@
+pub mod Lists
+pub mod InsideLemmas
+pub mod RangePlans
+pub mod InsideRequests
+pub mod KindLemmas
+pub mod ShapeLemmas
+pub mod WideLemmas
+pub mod SourceLemmas
+pub mod ImageLemmas
+pub mod CountedLemmas

@@ -1,0 +1,3 @@
+pub mod Deposits
+pub mod Counted
+pub mod Groups

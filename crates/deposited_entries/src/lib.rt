@@ -1,0 +1,52 @@
+//! What each call deposits in the journal may wait in the journal's book. Laws alone: the functions do nothing, and their contracts say it.
+//! Begin with `specs/Deposits.antt`.
+#![tactic(auto)]
+
+ghost use Rattle.std.specs.Prelude.{◌≡◌, ◌+◌, ◌≤◌, ℕ, false, true, List, length};
+ghost use Rattle.std.specs.List.{AllByRecursion};
+ghost use Rattle.entry_codec.specs.Spelling.{HasSpelling};
+ghost use Rattle.journal_model.specs.Journal.{AreNumbered};
+ghost use Rattle.journal_book.specs.Entries.{IsInside, spelled};
+ghost use Rattle.library_steps.specs.declared.limits.TheConstants.{MOST_BLOCK_BYTES};
+ghost use Rattle.library_steps.specs.State.{State, begun, empty_library};
+ghost use Rattle.library_steps.specs.Change.{Change};
+ghost use Rattle.joint_state.specs.Sound.{Does, after};
+ghost use Rattle.deposited_entries.specs.Deposits.{AreShort, AreSwitch, switches};
+ghost use Rattle.deposited_entries.specs.Counted.{IsCounted};
+ghost use Rattle.deposited_entries.specs.Groups.{GroupsWithin};
+
+/// The entries of a call have the sequences behind the last one, and none is left out.
+pub fn deposits_are_numbered()
+    ensures { (s : State) (done : Change) → Does s done → AreNumbered (s.gone + length s.entries + 1) done.entries }
+{}
+
+/// None of them ties receivers but those of CHGJRN, which are the two that do.
+pub fn deposits_are_inside()
+    ensures inside { (s : State) (done : Change) (d : Does s done) → switches d.request ≡ false → AllByRecursion IsInside done.entries }
+    ensures switched { (s : State) (done : Change) (d : Does s done) → switches d.request ≡ true → AreSwitch s.receivers.attached done.entries }
+{}
+
+/// Members and commit cycles are counted from 1 and records have a byte, from the beginning on and whatever is done.
+pub fn numbers_stay_counted()
+    ensures empty { IsCounted empty_library }
+    ensures begun { (s : State) (names : List (List ℕ)) → IsCounted s → IsCounted (begun s names) }
+    ensures kept { (s : State) (done : Change) → Does s done → IsCounted s → IsCounted (after s done) }
+{}
+
+/// Each entry of a call has a spelling.
+pub fn deposits_have_spellings()
+    ensures { (s : State) (done : Change) (d : Does s done) → AreShort d.sources → IsCounted s → AllByRecursion HasSpelling done.entries }
+{}
+
+/// The open commit cycles stay within their limits, from the beginning on and whatever is done.
+pub fn groups_stay_within()
+    ensures empty { GroupsWithin empty_library }
+    ensures begun { (s : State) (names : List (List ℕ)) → GroupsWithin s → GroupsWithin (begun s names) }
+    ensures kept { (s : State) (done : Change) → Does s done → GroupsWithin s → GroupsWithin (after s done) }
+{}
+
+/// The entries of a call have at most so many bytes as a block may have.
+pub fn deposits_fit_a_block()
+    ensures { (s : State) (done : Change) (d : Does s done) → AreShort d.sources → IsCounted s → GroupsWithin s
+        → length (spelled done.entries) ≤ MOST_BLOCK_BYTES }
+{}
