@@ -45,13 +45,13 @@ use Rattle.deposited_entries.proofs.SourceLemmas.{create-wide}
 
 -- ---- the parts
 
-abbrev AreCounted : NumberedMembers → Type 0
+abbrev pub AreCounted : NumberedMembers → Type 0
 AreCounted members = AllByRecursion (λ entry. 1 ≤ entry.number) members
 
-abbrev AreCyclesCounted : List JobState → Type 0
+abbrev pub AreCyclesCounted : List JobState → Type 0
 AreCyclesCounted jobs = AllByRecursion (λ (job : JobState). IsCycleCounted job.cycle) jobs
 
-abbrev AreWide : Named FileState → Type 0
+abbrev pub AreWide : Named FileState → Type 0
 AreWide files = AllByRecursion (λ (entry : List ℕ × FileState). HasBytes entry.1.spec) files
 
 with-counted : (members : NumberedMembers) (number : ℕ) (member : MemberState) → AreCounted members → AreCounted (with_member number member members)
@@ -80,11 +80,11 @@ mapped-wide change (entry ∷ files) each all = (each entry all.0, mapped-wide c
 
 -- ---- a memory, by the parts of it that count
 
-record CountsBy (files : Named FileState) (members : NumberedMembers) (next : ℕ) (jobs : List JobState) : Type 0 where
-  next_is : 1 ≤ next
-  members_are : AreCounted members
-  cycles_are : AreCyclesCounted jobs
-  records_are : AreWide files
+pub record CountsBy (files : Named FileState) (members : NumberedMembers) (next : ℕ) (jobs : List JobState) : Type 0 where
+  pub next_is : 1 ≤ next
+  pub members_are : AreCounted members
+  pub cycles_are : AreCyclesCounted jobs
+  pub records_are : AreWide files
 
 abbrev Counts : Memory → Type 0
 Counts m = CountsBy m.files m.members m.next_member m.jobs

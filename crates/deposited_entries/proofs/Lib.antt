@@ -8,3 +8,6 @@ pub mod WideLemmas
 pub mod SourceLemmas
 pub mod ImageLemmas
 pub mod CountedLemmas
+pub mod SpelledRequests
+pub mod FewLemmas
+pub mod GroupLemmas

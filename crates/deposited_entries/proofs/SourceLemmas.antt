@@ -1,5 +1,5 @@
 -- What the plans of CRTPF and CRTLF make files of.
-use Rattle.std.proofs.Common.{◌≡◌, ℕ, ◌≤◌, nat_le, nat_lt, length, if◌then◌else◌, true, false, is_some, Option, Some, None, Result, Ok, Err, List, [], ◌∷◌, subst}
+use Rattle.std.proofs.Common.{◌≡◌, ℕ, ◌≤◌, nat_le, nat_lt, length, if◌then◌else◌, true, false, is_some, Option, Some, None, Result, Ok, Err, List, [], ◌∷◌, refl, subst}
 use Rattle.std.specs.List.{list_any}
 use Rattle.record_fmt.specs.declared.formats.Format.{Format}
 use Rattle.record_fmt.specs.Layout.{record_length}

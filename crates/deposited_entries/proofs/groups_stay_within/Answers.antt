@@ -1,0 +1,8 @@
+use Rattle.deposited_entries.proofs.GroupLemmas.{begun-groups, groups-after}
+use Rattle.deposited_entries.proofs.groups_stay_within.Goals as goal
+
+pub returns-clause-begun : goal.returns-clause-begun
+returns-clause-begun c = begun-groups
+
+pub returns-clause-kept : goal.returns-clause-kept
+returns-clause-kept c = groups-after
