@@ -121,10 +121,10 @@ module _ (m : Memory) (job : ℕ) (there : slice_get m.jobs (job - 1) ≡ Some (
   mine = job_of job m
 
   -- where the plan has asked for it
-  noted-groups : (undo : MemberChange) (commit : Bool) → (commit ≡ true → sum_by its_changes m.jobs + 1 ≤ MOST_GROUP_CHANGES)
-      → (commit ≡ true → sum_by its_bytes m.jobs + change_bytes undo ≤ MOST_GROUP_BYTES) → GroupsBy (with_undo commit job undo (cycle_for m mine) m).jobs
-  noted-groups undo false few small = groups
-  noted-groups undo true few small =
+  noted-groups : (other : Memory) (undo : MemberChange) (commit : Bool) → other.jobs ≡ m.jobs → (commit ≡ true → sum_by its_changes m.jobs + 1 ≤ MOST_GROUP_CHANGES)
+      → (commit ≡ true → sum_by its_bytes m.jobs + change_bytes undo ≤ MOST_GROUP_BYTES) → GroupsBy (with_undo commit job undo (cycle_for m mine) other).jobs
+  noted-groups other undo false same few small = subst GroupsBy (sym same) groups
+  noted-groups other undo true same few small =
       let cycle = cycle_for m mine in
       let undos : length cycle.undos ≡ its_changes mine = ap (λ (us : List MemberChange). length us) (undos-for m mine) in
       let bytes : sum_by change_bytes cycle.undos ≡ its_bytes mine = ap (λ (us : List MemberChange). sum_by change_bytes us) (undos-for m mine) in
@@ -135,10 +135,12 @@ module _ (m : Memory) (job : ℕ) (there : slice_get m.jobs (job - 1) ≡ Some (
       let most_bytes = total-more its_bytes (job - 1) (with_cycle (noted undo cycle)) m.jobs mine (change_bytes undo) there more in
       let few_is = few refl in
       let small_is = small refl in
-      record { changes_are = omega (arith, most, few_is); bytes_are = omega (arith, most_bytes, small_is) }
+      subst (λ (js : List JobState). GroupsBy (job_changed (job - 1) (with_cycle (noted undo cycle)) js)) (sym same)
+      (record { changes_are = omega (arith, most, few_is); bytes_are = omega (arith, most_bytes, small_is) })
 
   changed-groups : (new : NewSlot) → HasRoomFor m new → GroupsBy (slot_changed job new m).jobs
-  changed-groups new room = noted-groups (change_made m mine new) new.opened.commit room.changes room.bytes
+  changed-groups new room =
+      noted-groups (with_status new.opened.member touched (with_slot new.opened.member new.rrn new.slot m)) (change_made m mine new) new.opened.commit refl room.changes room.bytes
 
 -- ---- each request
 

@@ -11,3 +11,5 @@ pub mod CountedLemmas
 pub mod SpelledRequests
 pub mod FewLemmas
 pub mod GroupLemmas
+pub mod SizeLemmas
+pub mod BlockRequests

@@ -47,6 +47,6 @@ pub fn groups_stay_within()
 
 /// The entries of a call have at most so many bytes as a block may have.
 pub fn deposits_fit_a_block()
-    ensures { (s : State) (done : Change) (d : Does s done) → AreShort d.sources → IsCounted s → GroupsWithin s
+    ensures { (s : State) (done : Change) (d : Does s done) → AreShort d.sources → GroupsWithin s
         → length (spelled done.entries) ≤ MOST_BLOCK_BYTES }
 {}
