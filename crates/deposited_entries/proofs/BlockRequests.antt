@@ -1,7 +1,6 @@
 -- The entries of each request fit into a block.
-use Rattle.std.proofs.Common.{◌≡◌, ℕ, ◌+◌, ◌-◌, ◌*◌, ◌≤◌, length, IsTrue, Bool, true, false, is_some, Option, Some, None, Ok, List, [], ◌∷◌, ◌++◌, slice_get, refl, sym, ◌∙◌, ap, subst, arith}
+use Rattle.std.proofs.Common.{◌≡◌, ℕ, ◌+◌, ◌-◌, ◌*◌, ◌≤◌, length, IsTrue, Bool, true, false, is_some, Some, Ok, List, [], ◌∷◌, ◌++◌, slice_get, refl, ◌∙◌, ap, subst, arith}
 use Rattle.std.proofs.Math.Nat.{mul-add}
-use Rattle.std.specs.List.{AllByRecursion, sum_by}
 use Rattle.entry_codec.specs.declared.entries.Draft.{Draft}
 use Rattle.entry_codec.specs.declared.kinds.EntryKind.TheVariants.{FileCreated, FileDeleted, MemberAdded, MemberCleared, MemberReorganized, JournalingStarted, JournalingEnded, NextReceiver, PreviousReceiver, CommitmentStarted, CommitmentEnded}
 use Rattle.entry_codec.specs.declared.kinds.FileKind.TheVariants.{Physical, Logical}
@@ -39,7 +38,7 @@ use Rattle.library_steps.specs.Receivers.{attach_plan, attach_change, give_up_pl
 use Rattle.library_steps.specs.Records.{slot_there}
 use Rattle.library_steps.specs.Refusals.{found, named_or_refused}
 use Rattle.library_steps.specs.SlotChange.{NewSlot, drafts_of, image_bytes, images_of}
-use Rattle.library_steps.specs.State.{State, Memory, FileState, JobState, memory_of, fields_of, job_at, job_of, open_named}
+use Rattle.library_steps.specs.State.{State, Memory, FileState, memory_of, fields_of, job_at, job_of, open_named}
 use Rattle.library_steps.specs.Step.{change}
 use Rattle.library_steps.specs.WriteRecord.{write_plan, write_change, write_call}
 use Rattle.lawful_states.specs.Lawful.{HoldsValues}
@@ -49,7 +48,7 @@ use Rattle.library_kept.proofs.ChangeLemmas.{MayChange, write-may, update-may, d
 use Rattle.library_kept.proofs.FieldLemmas.{length-record}
 use Rattle.library_kept.proofs.ListLemmas.{each-weaker}
 use Rattle.library_kept.proofs.PlanLemmas.{job-there}
-use Rattle.library_kept.proofs.RequestLemmas.{IsFree, changes-equal, start-free}
+use Rattle.library_kept.proofs.RequestLemmas.{changes-equal, start-free}
 use Rattle.library_kept.proofs.ResultLemmas.{does-each}
 use Rattle.library_kept.proofs.SlotLemmas.{its-records, there-stands}
 use Rattle.library_kept.proofs.StandLemmas.{Stands-memory_of, within-of}
@@ -110,7 +109,8 @@ module _ (s : State) (job timestamp : ℕ) (sound : IsSound s) (groups : GroupsW
       let within = within-of number s.members sound.within in
       let few = within.few in
       let small : length member.slots * record_length fields ≤ 268435456 = subst (λ n. length member.slots * n ≤ 268435456) records.long within.small in
-      let size = initial-size author number 1 (record_length fields) member.slots (each-weaker (HoldsValues fields) (λ slot. image_bytes slot ≤ record_length fields) member.slots (image-small fields) records.values) in
+      let images = each-weaker (HoldsValues fields) (λ slot. image_bytes slot ≤ record_length fields) member.slots (image-small fields) records.values in
+      let size = initial-size author number 1 (record_length fields) member.slots images in
       spread (length member.slots) (record_length fields) (draft_bytes (initial_drafts author number 1 member.slots)) size few small
     where
       spread : (count long size : ℕ) → size ≤ count * (50 + long) → count ≤ 1000000 → count * long ≤ 268435456 → size ≤ 50 * 1000000 + 268435456

@@ -1,13 +1,13 @@
 -- Members and commit cycles stay counted from 1, and records keep their bytes, whatever is done.
-use Rattle.std.proofs.Common.{◌≡◌, ℕ, zero, suc, ◌+◌, ◌-◌, ◌≤◌, ◌==◌, not, if◌then◌else◌, Bool, true, false, Option, Some, None, IfSome, Ok, List, [], ◌∷◌, ◌++◌, length, map, unwrap_or, refl, subst, arith}
-use Rattle.std.specs.List.{AllByRecursion, filter}
+use Rattle.std.proofs.Common.{◌≡◌, ℕ, zero, suc, ◌+◌, ◌-◌, ◌≤◌, ◌==◌, not, if◌then◌else◌, Bool, true, false, Option, Some, None, Ok, List, [], ◌∷◌, ◌++◌, map, unwrap_or, subst, arith}
+use Rattle.std.specs.List.{AllByRecursion}
 use Rattle.std.proofs.lemmas.Bool.Decides.{nat_tests}
 use Rattle.file_model.specs.Positions.{Before, Past, next_from, prior_from, next_equal, prior_equal}
 use Rattle.journal_model.specs.Replay.{before_of}
 use Rattle.journal_model.specs.Rollback.{MemberChange}
 use Rattle.member_slots.specs.declared.slot.Slot.{Slot}
 use Rattle.member_slots.specs.Member.{MemberState}
-use Rattle.member_slots.specs.Members.{NumberedMembers, member_of, put_member, with_member, without_member}
+use Rattle.member_slots.specs.Members.{NumberedMembers, put_member, with_member, without_member}
 use Rattle.library_model.specs.Named.{Named, same_name}
 use Rattle.library_model.specs.declared.replies.Reply.TheVariants.{EndOfFile, BeginOfFile}
 use Rattle.library_model.specs.declared.requests.Request.{Request}
@@ -30,7 +30,7 @@ use Rattle.library_steps.specs.Reads.{position_plan, position_change, read_plan,
 use Rattle.library_steps.specs.Receivers.{attach_plan, attach_change, give_up_plan}
 use Rattle.library_steps.specs.Refusals.{found, named_or_refused}
 use Rattle.library_steps.specs.SlotChange.{NewSlot, change_made, cycle_for, slot_changed, touched, with_slot, with_undo}
-use Rattle.library_steps.specs.State.{State, Memory, FileState, MemberStatus, CycleState, JobState, begun, job_at, job_changed, job_of, memory_of, new_job, open_named, with_status}
+use Rattle.library_steps.specs.State.{State, Memory, FileState, MemberStatus, CycleState, JobState, begun, job_changed, job_of, memory_of, new_job, open_named, with_status}
 use Rattle.library_steps.specs.Step.{change}
 use Rattle.library_steps.specs.WriteRecord.{write_plan, write_change, write_call}
 use Rattle.joint_state.specs.Sound.{Does, after}

@@ -1,5 +1,5 @@
 -- The open commit cycles stay within their limits, whatever is done.
-use Rattle.std.proofs.Common.{◌≡◌, ℕ, zero, suc, ◌+◌, ◌-◌, ◌≤◌, IsTrue, Bool, true, false, Option, Some, None, Ok, List, [], ◌∷◌, ◌++◌, length, map, slice_get, refl, sym, ap, subst, arith}
+use Rattle.std.proofs.Common.{◌≡◌, ℕ, zero, suc, ◌+◌, ◌-◌, ◌≤◌, IsTrue, Bool, true, false, Option, Some, None, Ok, List, [], ◌∷◌, length, map, slice_get, refl, sym, ap, subst, arith}
 use Rattle.std.specs.List.{sum_by}
 use Rattle.std.proofs.lemmas.List.Sums.{sum_by-append, sum_by-cons}
 use Rattle.file_model.specs.Positions.{Before, Past, next_from, prior_from, next_equal, prior_equal}
@@ -25,9 +25,8 @@ use Rattle.library_steps.specs.Opens.{open_plan}
 use Rattle.library_steps.specs.Ranges.{apply_plan, remove_plan, range_change}
 use Rattle.library_steps.specs.Reads.{position_plan, position_change, read_plan, read_equal_plan, chain_plan, read_change}
 use Rattle.library_steps.specs.Receivers.{attach_plan, attach_change, give_up_plan}
-use Rattle.library_steps.specs.Records.{slot_there}
 use Rattle.library_steps.specs.Refusals.{found, named_or_refused}
-use Rattle.library_steps.specs.SlotChange.{NewSlot, change_bytes, change_made, cycle_for, noted, slot_changed, touched, undo_bytes, with_cycle, with_slot, with_undo}
+use Rattle.library_steps.specs.SlotChange.{NewSlot, change_bytes, change_made, cycle_for, noted, slot_changed, touched, with_cycle, with_slot, with_undo}
 use Rattle.library_steps.specs.State.{State, Memory, CycleState, JobState, begun, job_at, job_changed, job_of, memory_of, new_job, open_named, with_status}
 use Rattle.library_steps.specs.Step.{change}
 use Rattle.library_steps.specs.Uses.{changes_in}
@@ -100,16 +99,20 @@ pub record GroupsBy (jobs : List JobState) : Type 0 where
 
 kept-groups : (jobs : List JobState) (place : ℕ) (f : JobState → JobState) → ((j : JobState) → (f j).cycle ≡ j.cycle) → GroupsBy jobs → GroupsBy (job_changed place f jobs)
 kept-groups jobs place f keeps groups =
-    let fewer = total-less its_changes place f jobs (λ j. let same : its_changes (f j) ≡ its_changes j = ap (λ (o : Option CycleState). length (changes_in o)) (keeps j) in omega (arith, same)) in
-    let less = total-less its_bytes place f jobs (λ j. let same : its_bytes (f j) ≡ its_bytes j = ap (λ (o : Option CycleState). sum_by change_bytes (changes_in o)) (keeps j) in omega (arith, same)) in
+    let same_changes : (j : JobState) → its_changes (f j) ≡ its_changes j = λ j. ap (λ (o : Option CycleState). length (changes_in o)) (keeps j) in
+    let same_bytes : (j : JobState) → its_bytes (f j) ≡ its_bytes j = λ j. ap (λ (o : Option CycleState). sum_by change_bytes (changes_in o)) (keeps j) in
+    let fewer = total-less its_changes place f jobs (λ j. let same = same_changes j in omega (arith, same)) in
+    let less = total-less its_bytes place f jobs (λ j. let same = same_bytes j in omega (arith, same)) in
     let few = groups.changes_are in
     let small = groups.bytes_are in
     record { changes_are = omega (arith, fewer, few); bytes_are = omega (arith, less, small) }
 
 ended-groups : (jobs : List JobState) (place : ℕ) (f : JobState → JobState) → ((j : JobState) → (f j).cycle ≡ None) → GroupsBy jobs → GroupsBy (job_changed place f jobs)
 ended-groups jobs place f ends groups =
-    let fewer = total-less its_changes place f jobs (λ j. let none : its_changes (f j) ≡ 0 = ap (λ (o : Option CycleState). length (changes_in o)) (ends j) in omega (arith, none)) in
-    let less = total-less its_bytes place f jobs (λ j. let none : its_bytes (f j) ≡ 0 = ap (λ (o : Option CycleState). sum_by change_bytes (changes_in o)) (ends j) in omega (arith, none)) in
+    let no_changes : (j : JobState) → its_changes (f j) ≡ 0 = λ j. ap (λ (o : Option CycleState). length (changes_in o)) (ends j) in
+    let no_bytes : (j : JobState) → its_bytes (f j) ≡ 0 = λ j. ap (λ (o : Option CycleState). sum_by change_bytes (changes_in o)) (ends j) in
+    let fewer = total-less its_changes place f jobs (λ j. let none = no_changes j in omega (arith, none)) in
+    let less = total-less its_bytes place f jobs (λ j. let none = no_bytes j in omega (arith, none)) in
     let few = groups.changes_are in
     let small = groups.bytes_are in
     record { changes_are = omega (arith, fewer, few); bytes_are = omega (arith, less, small) }

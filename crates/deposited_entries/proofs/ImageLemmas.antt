@@ -1,12 +1,11 @@
 -- The images of entries are records of files, which have at least one byte and at most as many as a record may have; members and commit cycles that
 -- entries name are counted from 1.
-use Rattle.std.proofs.Common.{◌≡◌, ◌⊎◌, inl, inr, ℕ, ◌-◌, ◌+◌, ◌≤◌, IsTrue, Bool, true, false, Option, Some, None, is_some, IfSome, List, [], ◌∷◌, ◌++◌, length, slice_get, refl, sym, subst, arith}
+use Rattle.std.proofs.Common.{◌≡◌, ◌⊎◌, inl, inr, ℕ, ◌-◌, ◌+◌, ◌≤◌, IsTrue, true, Option, Some, None, is_some, List, [], ◌∷◌, ◌++◌, refl, sym, subst, arith}
 use Rattle.std.specs.List.{AllByRecursion, filter}
 use Rattle.std.proofs.lemmas.Bool.Decides.{nat_tests}
 use Rattle.commit_level.specs.declared.Level.{Level}
 use Rattle.entry_codec.specs.declared.entries.Draft.{Draft}
 use Rattle.entry_codec.specs.declared.kinds.EntryKind.{EntryKind}
-use Rattle.entry_codec.specs.Drafts.{numbered}
 use Rattle.entry_codec.specs.Placing.{is_counted}
 use Rattle.entry_codec.specs.Spelling.{IsImage}
 use Rattle.member_slots.specs.Members.{NumberedMembers, member_at}

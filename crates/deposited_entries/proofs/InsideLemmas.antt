@@ -1,5 +1,5 @@
 -- Which drafts tie no receivers.
-use Rattle.std.proofs.Common.{◌≡◌, ◌⊎◌, inl, inr, ℕ, ◌+◌, ◌==◌, ◌||◌, Bool, true, false, if◌then◌else◌, Option, Some, None, List, [], ◌∷◌, ◌++◌, length, map, refl, ap}
+use Rattle.std.proofs.Common.{◌≡◌, inl, inr, ℕ, ◌+◌, ◌==◌, ◌||◌, Bool, true, false, if◌then◌else◌, Option, Some, None, List, [], ◌∷◌, length, map, refl, ap}
 use Rattle.std.specs.List.{AllByRecursion, filter}
 use Rattle.std.specs.Option.{is_some}
 use Rattle.entry_codec.specs.declared.entries.Draft.{Draft}
@@ -7,7 +7,6 @@ use Rattle.entry_codec.specs.declared.entries.Entry.{Entry}
 use Rattle.entry_codec.specs.declared.kinds.EntryKind.{EntryKind}
 use Rattle.entry_codec.specs.declared.kinds.EntryKind.TheVariants.{NextReceiver, PreviousReceiver, CommitCycleStarted, CommitCycleCommitted}
 use Rattle.entry_codec.specs.declared.kinds.Images.{Images}
-use Rattle.entry_codec.specs.Drafts.{numbered}
 use Rattle.commit_level.specs.declared.Level.{Level}
 use Rattle.member_slots.specs.declared.slot.Slot.{Slot}
 use Rattle.member_slots.specs.declared.slot.Slot.TheVariants.{Live, Deleted}
@@ -123,13 +122,15 @@ end-free author (Some cycle) = (refl, tt)
 given-free : (author : Author) (cycle member : ℕ) (slots : List Slot) (given : List Given) → AllByRecursion IsFree (given_drafts author cycle member slots given)
 given-free author cycle member slots [] = tt
 given-free author cycle member slots (g ∷ given) =
-    each-append IsFree (slot_drafts author (Some cycle) true (g.place == length slots) member (g.place + 1) (slot_of slots g.place) g.slot) (given_drafts author cycle member (put_slot slots g.place g.slot) given)
+    each-append IsFree (slot_drafts author (Some cycle) true (g.place == length slots) member (g.place + 1) (slot_of slots g.place) g.slot)
+    (given_drafts author cycle member (put_slot slots g.place g.slot) given)
     (slot_drafts-free author (Some cycle) true (g.place == length slots) member (g.place + 1) (slot_of slots g.place) g.slot) (given-free author cycle member (put_slot slots g.place g.slot) given)
 
 pub told-free : (author : Author) (cycle member : ℕ) (kind : EntryKind) (slots : List Slot) (given : List Given) → ties kind ≡ false → AllByRecursion IsFree (told author cycle member kind slots given)
 told-free author cycle member kind slots [] free = (free, tt)
 told-free author cycle member kind slots (g ∷ given) free =
-    (free, (refl, each-append IsFree (given_drafts author cycle member slots (g ∷ given)) (cycle_draft author cycle CommitCycleCommitted ∷ []) (given-free author cycle member slots (g ∷ given)) (refl, tt)))
+    let changes = given-free author cycle member slots (g ∷ given) in
+    (free, (refl, each-append IsFree (given_drafts author cycle member slots (g ∷ given)) (cycle_draft author cycle CommitCycleCommitted ∷ []) changes (refl, tt)))
 
 pub if_journaled-free : (author : Author) (number : ℕ) (kind : EntryKind) (b : Bool) → ties kind ≡ false → AllByRecursion IsFree (if_journaled b (member_draft author number kind))
 if_journaled-free author number kind true free = (free, tt)

@@ -27,11 +27,11 @@ use Rattle.library_steps.specs.JournalReads.{display_plan}
 use Rattle.library_steps.specs.Journaling.{start_plan as start_journaling_plan, start_change, end_plan as end_journaling_plan, end_change as end_journaling_change}
 use Rattle.library_steps.specs.MemberCommands.{add_plan, empty_plan, if_journaled}
 use Rattle.library_steps.specs.Opens.{open_plan}
-use Rattle.library_steps.specs.Ranges.{apply_plan, remove_plan, range_change, slots_now, told}
+use Rattle.library_steps.specs.Ranges.{apply_plan, remove_plan, range_change, slots_now}
 use Rattle.library_steps.specs.Reads.{position_plan, position_change, read_plan, read_equal_plan, chain_plan, read_change}
 use Rattle.library_steps.specs.Receivers.{attach_plan, attach_change, give_up_plan}
 use Rattle.library_steps.specs.Refusals.{found, named_or_refused, refuse_if, sequences_left}
-use Rattle.library_steps.specs.SlotChange.{NewSlot, drafts_of, images_of}
+use Rattle.library_steps.specs.SlotChange.{drafts_of, images_of}
 use Rattle.library_steps.specs.State.{State, Memory, memory_of, job_of, open_named}
 use Rattle.library_steps.specs.Step.{change}
 use Rattle.library_steps.specs.WriteRecord.{write_plan, write_change, write_call}

@@ -1,21 +1,20 @@
 -- What an entry has to be for a spelling, by its kind and by the draft that it was.
-use Rattle.std.proofs.Common.{◌≡◌, ℕ, ◌+◌, ◌*◌, ◌<◌, ◌≤◌, ◌^◌, ◌&&◌, ◌==◌, nat_lt, Bool, true, false, IsTrue, Option, Some, None, IfSome, List, [], ◌∷◌, length, refl, sym, ap, subst, arith}
+use Rattle.std.proofs.Common.{◌≡◌, ℕ, ◌+◌, ◌<◌, ◌≤◌, ◌^◌, ◌&&◌, ◌==◌, nat_lt, Bool, true, IsTrue, Option, Some, None, List, [], ◌∷◌, length, sym, ap, subst, arith}
 use Rattle.std.proofs.lemmas.Bool.{and_from}
 use Rattle.std.proofs.lemmas.Bool.Decides.{nat_tests}
 use Rattle.std.specs.Bool.{⊤}
 use Rattle.std.specs.List.{AllByRecursion}
 use Rattle.entry_codec.specs.declared.entries.Draft.{Draft}
-use Rattle.entry_codec.specs.declared.entries.Entry.{Entry}
 use Rattle.entry_codec.specs.declared.kinds.EntryKind.{EntryKind}
 use Rattle.entry_codec.specs.declared.kinds.EntryKind.TheVariants.{FileCreated, FileDeleted, MemberAdded, JournalingStarted, InitialSlot, JournalingEnded, MemberCleared, MemberReorganized, ChangesApplied, ChangesRemoved, RecordAdded, RecordAddedAtNumber, BeforeImage, AfterImage, RecordDeleted, UndoBeforeImage, UndoAfterImage, UndoDelete, CommitmentStarted, CommitCycleStarted, CommitCycleCommitted, CommitCycleRolledBack, CommitmentEnded, AbnormalEnd, NextReceiver, PreviousReceiver}
 use Rattle.entry_codec.specs.declared.places.Place.{Place}
-use Rattle.entry_codec.specs.declared.places.Place.TheVariants.{Member, Record, Slot}
+use Rattle.entry_codec.specs.declared.places.Place.TheVariants.{Member, Record}
 use Rattle.entry_codec.specs.Drafts.{group_at, numbered}
 use Rattle.entry_codec.specs.Placing.{is_placed, is_placed_at, is_counted, place}
 use Rattle.entry_codec.specs.Spelling.{HasSpelling, HoldsFields, IsImage}
 use Rattle.journal_model.specs.Images.{images_of}
 use Rattle.journal_model.specs.Rollback.{numbered_from}
-use Rattle.library_steps.specs.Drafts.{Author, cycle_draft, library_draft, member_draft, record_draft}
+use Rattle.library_steps.specs.Drafts.{Author, cycle_draft, member_draft, record_draft}
 use Rattle.deposited_entries.specs.Deposits.{IsShort}
 
 -- ---- kinds

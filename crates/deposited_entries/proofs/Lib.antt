@@ -13,3 +13,4 @@ pub mod FewLemmas
 pub mod GroupLemmas
 pub mod SizeLemmas
 pub mod BlockRequests
+pub mod AnswerLemmas

@@ -1,5 +1,5 @@
 -- What holds of each of a list holds of what is left of it, and of entries where it holds of their drafts.
-use Rattle.std.proofs.Common.{ℕ, ◌+◌, cond, Bool, true, false, List, [], ◌∷◌, ◌++◌, filter}
+use Rattle.std.proofs.Common.{ℕ, ◌+◌, cond, Bool, true, false, List, [], ◌∷◌, filter}
 use Rattle.std.specs.List.{AllByRecursion}
 use Rattle.entry_codec.specs.declared.entries.Draft.{Draft}
 use Rattle.entry_codec.specs.declared.entries.Entry.{Entry}

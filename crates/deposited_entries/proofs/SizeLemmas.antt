@@ -18,7 +18,7 @@ use Rattle.journal_book.specs.Entries.{spelled}
 use Rattle.journal_model.specs.Replay.{before_of, is_in}
 use Rattle.journal_model.specs.Rollback.{MemberChange, change_drafts, undo_drafts, undo_kinds, numbered_from}
 use Rattle.library_steps.specs.Commitment.{end_drafts, undo_entries}
-use Rattle.library_steps.specs.Drafts.{Author, added, cycle_draft, if_both, initial_drafts, member_draft, record_draft, slot_drafts, updated}
+use Rattle.library_steps.specs.Drafts.{Author, added, cycle_draft, if_both, initial_drafts, record_draft, slot_drafts, updated}
 use Rattle.library_steps.specs.EndJob.{definition_entries}
 use Rattle.library_steps.specs.EntrySizes.{body_size, entry_bytes, entry_size}
 use Rattle.library_steps.specs.Records.{slot_there}

@@ -138,9 +138,10 @@ module _ (s : State) (job timestamp : ℕ) (sound : IsSound s) (counted : IsCoun
       (λ status is. let free = start-free s args status sound is in
       let slots = (member_of status.number s.members).slots in
       let drafts = member_draft author status.number (JournalingStarted args.images (length slots)) ∷ initial_drafts author status.number 1 slots in
-      fits _ next drafts (omega arith) refl
-      (member-shaped author status.number (JournalingStarted args.images (length slots)) (free-first status free) refl (λ k. refl) tt,
-      initial-all-shaped author status.number 1 slots (free-first status free) (omega arith))
+      fits _ next drafts (omega arith) refl (
+        member-shaped author status.number (JournalingStarted args.images (length slots)) (free-first status free) refl (λ k. refl) tt,
+        initial-all-shaped author status.number 1 slots (free-first status free) (omega arith),
+      )
       (owned-show s free.name free.file status.number drafts sound counted free.has.owns (start-told s author args.images free.name free.file status.number sound free.has.owns)))
   request-fits sources done (requests.EndJournaling args) short h =
       does-each (end_journaling_change m job timestamp) (end_journaling_plan m args) done Fits h
@@ -158,7 +159,8 @@ module _ (s : State) (job timestamp : ℕ) (sound : IsSound s) (counted : IsCoun
       (λ work is. let may = apply-may s job timestamp args work sound is in
       let tells = apply-telling s.entries m job timestamp args work is in
       fits _ next work.drafts (omega arith) refl
-      (subst (AllByRecursion IsShaped) (sym tells.drafts) (told-shaped author (m.last_entry + 2) work.range.status.number (applied work.done) (slots_now work.range m) (forward work.done) (omega arith)
+      (subst (AllByRecursion IsShaped) (sym tells.drafts)
+      (told-shaped author (m.last_entry + 2) work.range.status.number (applied work.done) (slots_now work.range m) (forward work.done) (omega arith)
       (owned-counted s may.name may.file work.range.status.number sound counted may.owns) refl (λ k. refl) tt))
       (owned-show s may.name may.file work.range.status.number work.drafts sound counted may.owns may.drafts))
   request-fits sources done (requests.RemoveChanges args) short h =
@@ -166,7 +168,8 @@ module _ (s : State) (job timestamp : ℕ) (sound : IsSound s) (counted : IsCoun
       (λ work is. let may = remove-may s job timestamp args work sound is in
       let tells = remove-telling s.entries m job timestamp args work is in
       fits _ next work.drafts (omega arith) refl
-      (subst (AllByRecursion IsShaped) (sym tells.drafts) (told-shaped author (m.last_entry + 2) work.range.status.number (removed work.done) (slots_now work.range m) (given_back work.done) (omega arith)
+      (subst (AllByRecursion IsShaped) (sym tells.drafts)
+      (told-shaped author (m.last_entry + 2) work.range.status.number (removed work.done) (slots_now work.range m) (given_back work.done) (omega arith)
       (owned-counted s may.name may.file work.range.status.number sound counted may.owns) refl (λ k. refl) tt))
       (owned-show s may.name may.file work.range.status.number work.drafts sound counted may.owns may.drafts))
   request-fits sources done (requests.StartCommitment args) short h =

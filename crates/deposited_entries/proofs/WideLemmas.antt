@@ -1,7 +1,6 @@
 -- A physical file that a source describes has a field, and each field a byte.
-use Rattle.std.proofs.Common.{◌≡◌, ℕ, ◌+◌, ◌≤◌, ◌||◌, not, nat_lt, cond, if◌then◌else◌, Bool, true, false, Option, Some, None, is_some, length, Result, Ok, Err, List, [], ◌∷◌, ◌++◌, refl, sym, ap, subst, arith}
+use Rattle.std.proofs.Common.{◌≡◌, ℕ, ◌+◌, ◌≤◌, ◌||◌, not, nat_lt, if◌then◌else◌, Bool, true, false, Option, Some, None, length, Result, Ok, Err, List, [], ◌∷◌, ◌++◌, refl, sym, subst, arith}
 use Rattle.std.proofs.lemmas.Bool.{or_parts}
-use Rattle.std.specs.List.{list_any}
 use Rattle.std.specs.Option.{is_none}
 use Rattle.field_types.specs.declared.kinds.Kind.{Kind}
 use Rattle.field_types.specs.declared.kinds.Kind.TheVariants.{Char, Zoned, Packed, Binary, Date, Time, Stamp}
@@ -17,7 +16,6 @@ use Rattle.dds_source.specs.declared.specifications.Source.{Source}
 use Rattle.dds_source.specs.declared.specifications.Specification.{Specification}
 use Rattle.dds_source.specs.declared.specifications.SpecificationKind.{SpecificationKind}
 use Rattle.dds_source.specs.declared.specifications.SpecificationKind.TheVariants as kinds
-use Rattle.dds_source.specs.Entries.{when}
 use Rattle.dds_source.specs.Faults.{first_after}
 use Rattle.dds_physical.specs.declared.physical_files.PhysicalSpec.{PhysicalSpec}
 use Rattle.dds_physical.specs.Draft.{nothing}
@@ -25,7 +23,7 @@ use Rattle.dds_physical.specs.Names.{name_of}
 use Rattle.dds_physical.specs.Lines.{described, described_of, line_faults, line_faults_of, lines_described, lines_faults, or_those, place_faults, type_faults, unless_faulty, with_field, with_named_field, with_key}
 use Rattle.dds_physical.specs.Physical.{draft_of, faults_of, finished, physical_of, specification}
 use Rattle.dds_physical.specs.References.{reference_file, typed}
-use Rattle.dds_physical.specs.WholeFile.{file_faults, has_field, is_field_kind, whole_faults}
+use Rattle.dds_physical.specs.WholeFile.{has_field, is_field_kind, whole_faults}
 use Rattle.dds_physical.proofs.FaultLemmas.{nothing_noted}
 use Rattle.library_kept.proofs.DefaultLemmas.{none-left, none-right, not-said}
 use Rattle.library_kept.proofs.FieldLemmas.{typed-allowed, unless-ok}

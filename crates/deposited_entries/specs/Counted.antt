@@ -1,6 +1,6 @@
 -- What the entries of a library's calls rest on besides its soundness: members and commit cycles are counted from 1, and no record is without a byte.
 -- (DDS for Physical and Logical Files, record format. The numbers are our own.)
-use Rattle.std.specs.Prelude.{ℕ, ◌≤◌, IfSome}
+use Rattle.std.specs.Prelude.{◌≤◌, IfSome}
 use Rattle.std.specs.List.{AllByRecursion}
 use Rattle.record_fmt.specs.Layout.{record_length}
 use Rattle.logical_model.specs.Bases.{FileSpec, PhysicalFile, LogicalFile}

@@ -2,15 +2,20 @@
 //! Begin with `specs/Deposits.antt`.
 #![tactic(auto)]
 
-ghost use Rattle.std.specs.Prelude.{◌≡◌, ◌+◌, ◌≤◌, ℕ, false, true, List, length};
+ghost use Rattle.std.specs.Prelude.{◌≡◌, ◌+◌, ◌≤◌, ℕ, IsTrue, false, true, List, length};
 ghost use Rattle.std.specs.List.{AllByRecursion};
 ghost use Rattle.entry_codec.specs.Spelling.{HasSpelling};
 ghost use Rattle.journal_model.specs.Journal.{AreNumbered};
 ghost use Rattle.journal_book.specs.Entries.{IsInside, spelled};
 ghost use Rattle.library_steps.specs.declared.limits.TheConstants.{MOST_BLOCK_BYTES};
-ghost use Rattle.library_steps.specs.State.{State, begun, empty_library};
+ghost use Rattle.library_model.specs.declared.replies.Reply.{Reply};
+ghost use Rattle.library_model.specs.declared.requests.Request.{Request};
+ghost use Rattle.library_model.specs.declared.sources.NamedSource.{NamedSource};
+ghost use Rattle.library_steps.specs.State.{State, begun, empty_library, job_at};
 ghost use Rattle.library_steps.specs.Change.{Change};
-ghost use Rattle.joint_state.specs.Sound.{Does, after};
+ghost use Rattle.library_steps.specs.History.{is_running};
+ghost use Rattle.library_steps.specs.Step.{MayAnswer};
+ghost use Rattle.joint_state.specs.Sound.{Does, IsSound, after};
 ghost use Rattle.deposited_entries.specs.Deposits.{AreShort, AreSwitch, switches};
 ghost use Rattle.deposited_entries.specs.Counted.{IsCounted};
 ghost use Rattle.deposited_entries.specs.Groups.{GroupsWithin};
@@ -31,6 +36,8 @@ pub fn numbers_stay_counted()
     ensures empty { IsCounted empty_library }
     ensures begun { (s : State) (names : List (List ℕ)) → IsCounted s → IsCounted (begun s names) }
     ensures kept { (s : State) (done : Change) → Does s done → IsCounted s → IsCounted (after s done) }
+    ensures called { (sources : List NamedSource) (old new : State) (job timestamp : ℕ) (request : Request) (reply : Reply) → IsSound old
+        → IsTrue (is_running (job_at job old.jobs)) → MayAnswer sources old job timestamp request reply new → IsCounted old → IsCounted new }
 {}
 
 /// Each entry of a call has a spelling.
@@ -43,6 +50,8 @@ pub fn groups_stay_within()
     ensures empty { GroupsWithin empty_library }
     ensures begun { (s : State) (names : List (List ℕ)) → GroupsWithin s → GroupsWithin (begun s names) }
     ensures kept { (s : State) (done : Change) → Does s done → GroupsWithin s → GroupsWithin (after s done) }
+    ensures called { (sources : List NamedSource) (old new : State) (job timestamp : ℕ) (request : Request) (reply : Reply) → IsSound old
+        → IsTrue (is_running (job_at job old.jobs)) → MayAnswer sources old job timestamp request reply new → GroupsWithin old → GroupsWithin new }
 {}
 
 /// The entries of a call have at most so many bytes as a block may have.

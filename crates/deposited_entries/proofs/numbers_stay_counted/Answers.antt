@@ -1,3 +1,5 @@
+use Rattle.deposited_entries.specs.Counted.{IsCounted}
+use Rattle.deposited_entries.proofs.AnswerLemmas.{answer-keeps}
 use Rattle.deposited_entries.proofs.CountedLemmas.{begun-counted, counted-after}
 use Rattle.deposited_entries.proofs.numbers_stay_counted.Goals as goal
 
@@ -6,3 +8,6 @@ returns-clause-begun c = begun-counted
 
 pub returns-clause-kept : goal.returns-clause-kept
 returns-clause-kept c = counted-after
+
+pub returns-clause-called : goal.returns-clause-called
+returns-clause-called c = answer-keeps IsCounted counted-after
