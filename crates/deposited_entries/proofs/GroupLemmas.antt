@@ -43,7 +43,7 @@ use Rattle.deposited_entries.proofs.FewLemmas.{HasRoomFor, write-room, update-ro
 
 -- ---- sums over jobs of which one is changed
 
-total-less : (w : JobState → ℕ) (place : ℕ) (f : JobState → JobState) (jobs : List JobState) → ((j : JobState) → w (f j) ≤ w j) → sum_by w (job_changed place f jobs) ≤ sum_by w jobs
+pub total-less : (w : JobState → ℕ) (place : ℕ) (f : JobState → JobState) (jobs : List JobState) → ((j : JobState) → w (f j) ≤ w j) → sum_by w (job_changed place f jobs) ≤ sum_by w jobs
 total-less w place f [] less = omega arith
 total-less w zero f (job ∷ jobs) less =
     let new = sum_by-cons w (f job) jobs in
@@ -218,7 +218,7 @@ groups-after s done d within =
 
 -- ---- jobs that begin
 
-none-begun : (w : JobState → ℕ) (names : List (List ℕ)) → ((name : List ℕ) → w (new_job name) ≡ 0) → sum_by w (map new_job names) ≡ 0
+pub none-begun : (w : JobState → ℕ) (names : List (List ℕ)) → ((name : List ℕ) → w (new_job name) ≡ 0) → sum_by w (map new_job names) ≡ 0
 none-begun w [] none = refl
 none-begun w (name ∷ names) none =
     let front = sum_by-cons w (new_job name) (map new_job names) in

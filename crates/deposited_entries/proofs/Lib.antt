@@ -14,3 +14,6 @@ pub mod GroupLemmas
 pub mod SizeLemmas
 pub mod BlockRequests
 pub mod AnswerLemmas
+pub mod LeftLemmas
+pub mod SequenceRequests
+pub mod SequenceLemmas

@@ -1,3 +1,4 @@
 pub mod Deposits
 pub mod Counted
 pub mod Groups
+pub mod Sequences

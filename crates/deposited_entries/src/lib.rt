@@ -2,7 +2,7 @@
 //! Begin with `specs/Deposits.antt`.
 #![tactic(auto)]
 
-ghost use Rattle.std.specs.Prelude.{◌≡◌, ◌+◌, ◌≤◌, ℕ, IsTrue, false, true, List, length};
+ghost use Rattle.std.specs.Prelude.{◌≡◌, ◌+◌, ◌≤◌, ◌^◌, ℕ, IsTrue, false, true, List, length};
 ghost use Rattle.std.specs.List.{AllByRecursion};
 ghost use Rattle.entry_codec.specs.Spelling.{HasSpelling};
 ghost use Rattle.journal_model.specs.Journal.{AreNumbered};
@@ -19,6 +19,7 @@ ghost use Rattle.joint_state.specs.Sound.{Does, IsSound, after};
 ghost use Rattle.deposited_entries.specs.Deposits.{AreShort, AreSwitch, switches};
 ghost use Rattle.deposited_entries.specs.Counted.{IsCounted};
 ghost use Rattle.deposited_entries.specs.Groups.{GroupsWithin};
+ghost use Rattle.deposited_entries.specs.Sequences.{SequencesSuffice};
 
 /// The entries of a call have the sequences behind the last one, and none is left out.
 pub fn deposits_are_numbered()
@@ -58,4 +59,18 @@ pub fn groups_stay_within()
 pub fn deposits_fit_a_block()
     ensures { (s : State) (done : Change) (d : Does s done) → AreShort d.sources → GroupsWithin s
         → length (spelled done.entries) ≤ MOST_BLOCK_BYTES }
+{}
+
+/// The journal has sequences for the entries of each call, also of those that don't ask: they are counted for as long as a commit cycle is open or
+/// commitment control is started.
+pub fn sequences_suffice()
+    ensures empty { SequencesSuffice empty_library }
+    ensures begun { (s : State) (names : List (List ℕ)) → SequencesSuffice s → SequencesSuffice (begun s names) }
+    ensures kept { (s : State) (done : Change) (d : Does s done) → AreShort d.sources → GroupsWithin s → SequencesSuffice s
+        → SequencesSuffice (after s done) }
+    ensures called { (sources : List NamedSource) (old new : State) (job timestamp : ℕ) (request : Request) (reply : Reply) → AreShort sources
+        → IsSound old → IsTrue (is_running (job_at job old.jobs)) → MayAnswer sources old job timestamp request reply new → GroupsWithin old
+        → SequencesSuffice old → SequencesSuffice new }
+    ensures few { (s : State) (done : Change) (d : Does s done) → AreShort d.sources → GroupsWithin s → SequencesSuffice s → length s.jobs ≤ 2 ^ 60
+        → s.gone + length s.entries + length done.entries ≤ 2 ^ 63 }
 {}

@@ -10,4 +10,5 @@ pub returns-clause-kept : goal.returns-clause-kept
 returns-clause-kept c = groups-after
 
 pub returns-clause-called : goal.returns-clause-called
-returns-clause-called c = answer-keeps GroupsWithin groups-after
+returns-clause-called c = λ sources old new job timestamp request reply.
+    answer-keeps GroupsWithin (λ given. Unit {0}) (λ s done d any. groups-after s done d) sources old new job timestamp request reply tt

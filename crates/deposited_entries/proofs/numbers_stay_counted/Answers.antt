@@ -10,4 +10,5 @@ pub returns-clause-kept : goal.returns-clause-kept
 returns-clause-kept c = counted-after
 
 pub returns-clause-called : goal.returns-clause-called
-returns-clause-called c = answer-keeps IsCounted counted-after
+returns-clause-called c = λ sources old new job timestamp request reply.
+    answer-keeps IsCounted (λ given. Unit {0}) (λ s done d any. counted-after s done d) sources old new job timestamp request reply tt
