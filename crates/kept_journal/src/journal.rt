@@ -84,8 +84,7 @@ impl KeptJournal {
         ensures enough { places ≤ self.old.chain.room → IsOk result }
         ensures same { HasMoreRoom self.old self.new }
     {
-        self.book.reserve(0, 0, places)?;
-        Ok(())
+        self.book.reserve(0, 0, places)
     }
 
     /// Takes the entries of a call, behind those that are there. They are on the disk once they are forced. It takes no memory.
@@ -113,8 +112,7 @@ impl KeptJournal {
         ensures faults { (S.disk store.old).faults ≤ (S.disk store.new).faults }
         ensures cause { IsErr result → Rose (S.disk store.old).faults (S.disk store.new).faults }
     {
-        self.book.force(store)?;
-        Ok(())
+        self.book.force(store)
     }
 
     /// Forces what waits, ends the attached receiver by `nr` and begins the next one by `pr`. Gives the next one's number. After a
