@@ -25,3 +25,11 @@ pub record MayWait (book : BookState) (entries : List Entry) : Type 0 where
   pub inside : AllByRecursion IsInside entries
   pub few : next_of book + length entries ≤ 2 ^ 63 + 1
   pub small : length book.buffered + length (spelled entries) ≤ MAX_BLOCK
+
+-- the same behind a last sequence and so many bytes
+pub record MayFollow (last waiting : ℕ) (entries : List Entry) : Type 0 where
+  pub numbered : AreNumbered (last + 1) entries
+  pub each : AllByRecursion HasSpelling entries
+  pub inside : AllByRecursion IsInside entries
+  pub few : last + length entries ≤ 2 ^ 63
+  pub small : waiting + length (spelled entries) ≤ MAX_BLOCK

@@ -71,6 +71,13 @@ impl KeptJournal {
         self.book.attached()
     }
 
+    /// How many bytes of entries wait.
+    pub fn waiting_bytes(&self) -> usize
+        ensures { result ≡ length self.now.buffered }
+    {
+        self.book.waiting_bytes()
+    }
+
     /// Whether so much waits that it is to be forced.
     pub fn waits_much(&self) -> bool
         ensures { IsTrue result ↔ (MUCH ≤ length self.now.buffered) }

@@ -3,5 +3,7 @@
 #![tactic(auto)]
 
 mod journal;
+mod spelled;
+mod waiting;
 
 pub use journal::{KeptJournal, MUCH};
