@@ -20,7 +20,7 @@ follow-wait book entries last waiting is least waits may = record {
 }
 
 -- those before may follow where the rest may
-pub IsJudged : (last waiting : ℕ) (entries : List Entry) (reached bytes : ℕ) (rest : List Entry) → Type 0
+abbrev pub IsJudged : (last waiting : ℕ) (entries : List Entry) (reached bytes : ℕ) (rest : List Entry) → Type 0
 IsJudged last waiting entries reached bytes rest = (reached ≤ 2 ^ 63) × (bytes ≤ MAX_BLOCK) × (MayFollow reached bytes rest → MayFollow last waiting entries)
 
 pub one-judged : (last waiting : ℕ) (entries : List Entry) (reached bytes more : ℕ) (e : Entry) (rest : List Entry) → IsJudged last waiting entries reached bytes (e ∷ rest) → reached < 2 ^ 63 → e.sequence ≡ reached + 1 → IsInside e
