@@ -1,3 +1,4 @@
+pub mod Calls
 pub mod Following
 pub mod Putting
 pub mod Rooms

@@ -1,5 +1,5 @@
 //! A book with room for the largest block, which takes the entries of whole calls.
-ghost use Rattle.std.specs.Prelude.{◌≡◌, ◌+◌, ◌<◌, ◌≤◌, ◌^◌, ℕ, true, List, [], ◌++◌, length, IfOk, OnOk, OnErr, IsErr, IsErrOf, IsOk, IsTrue, ◌↔◌};
+ghost use Rattle.std.specs.Prelude.{◌≡◌, ◌+◌, ◌<◌, ◌≤◌, ◌^◌, ℕ, true, List, [], ◌++◌, length, IfOk, OnOk, OnErr, IsErr, IsErrOf, IsOk, false};
 ghost use Rattle.store_model.specs.Disk.{Leaves};
 ghost use Rattle.store_model.specs.Faults.{Rose};
 ghost use Rattle.entry_codec.specs.declared.entries.Entry.{Entry};
@@ -80,7 +80,8 @@ impl KeptJournal {
 
     /// Whether so much waits that it is to be forced.
     pub fn waits_much(&self) -> bool
-        ensures { IsTrue result ↔ (MUCH ≤ length self.now.buffered) }
+        ensures much { result ≡ true → MUCH ≤ length self.now.buffered }
+        ensures little { result ≡ false → length self.now.buffered < MUCH }
     {
         self.book.waiting_bytes() >= MUCH
     }

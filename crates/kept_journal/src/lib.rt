@@ -2,6 +2,7 @@
 //! ends. Begin with `journal.rt`.
 #![tactic(auto)]
 
+mod calls;
 mod journal;
 mod spelled;
 mod waiting;
