@@ -1,5 +1,5 @@
 -- Entries that are judged one after another, whether they may wait.
-use Rattle.std.proofs.Common.{◌≡◌, ℕ, ◌+◌, ◌≤◌, ◌<◌, ◌^◌, List, [], ◌∷◌, ◌++◌, length, get_or, drop, sym, ◌∙◌, ap, subst, arith, length-append}
+use Rattle.std.proofs.Common.{◌≡◌, ℕ, ◌+◌, ◌≤◌, ◌<◌, ◌^◌, List, [], ◌∷◌, length, get_or, drop, sym, ◌∙◌, ap, subst, arith}
 use Rattle.std.specs.List.{AllByRecursion}
 use Rattle.std.proofs.lemmas.List.{drop_all, drop_more}
 use Rattle.entry_codec.specs.declared.entries.Entry.{Entry}
@@ -9,6 +9,7 @@ use Rattle.journal_model.specs.Journal.{AreNumbered}
 use Rattle.journal_book.specs.Entries.{IsInside, spelled}
 use Rattle.journal_book.specs.Book.{BookState, last_of, next_of}
 use Rattle.kept_journal.specs.Journals.{MayFollow, MayWait}
+use Rattle.kept_journal.proofs.Putting.{spelled-length}
 
 pub follow-wait : (book : BookState) (entries : List Entry) (last waiting : ℕ) → last ≡ last_of book → 1 ≤ book.first → waiting ≡ length book.buffered → MayFollow last waiting entries → MayWait book entries
 follow-wait book entries last waiting is least waits may = record {
@@ -33,7 +34,7 @@ one-judged last waiting entries reached bytes more e rest judged before sequence
     each = (has, may.each);
     inside = (inside, may.inside);
     few = omega (arith, may.few);
-    small = omega (arith, may.small, is, length-append (spelling e) (spelled rest));
+    small = omega (arith, may.small, is, spelled-length e rest);
   }),
 )
 

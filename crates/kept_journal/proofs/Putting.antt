@@ -1,5 +1,5 @@
 -- How entries are put behind those that wait, one after another.
-use Rattle.std.proofs.Common.{◌≡◌, ℕ, ◌+◌, ◌≤◌, ◌<◌, ◌×◌, true, List, [], ◌∷◌, ◌++◌, length, get_or, drop, refl, sym, ◌∙◌, ap, subst, arith, append_assoc, length-append}
+use Rattle.std.proofs.Common.{◌≡◌, ℕ, ◌+◌, ◌≤◌, ◌<◌, true, List, [], ◌∷◌, ◌++◌, length, get_or, drop, refl, sym, ◌∙◌, ap, subst, arith, append_assoc, length-append}
 use Rattle.std.specs.List.{AllByRecursion}
 use Rattle.std.proofs.lemmas.List.{append-nil, drop_all, drop_more}
 use Rattle.entry_codec.specs.declared.entries.Entry.{Entry}
@@ -31,6 +31,9 @@ none-put old entries begun may room = record {
 
 -- ---- one more
 
+pub spelled-length : (e : Entry) (rest : List Entry) → length (spelled (e ∷ rest)) ≡ length (spelling e) + length (spelled rest)
+spelled-length e rest = length-append (spelling e) (spelled rest)
+
 module _ (now new : BookState) (e : Entry) (rest : List Entry) (put : new ≡ with_entry e new.bytes now) where
   next_is : next_of new ≡ next_of now + 1
   next_is = omega (arith, ap (λ (b : BookState). b.first) put, ap (λ (b : BookState). b.forced) put, ap (λ (b : BookState). b.waiting) put)
@@ -44,13 +47,14 @@ module _ (now new : BookState) (e : Entry) (rest : List Entry) (put : new ≡ wi
     each = may.each.1;
     inside = may.inside.1;
     few = omega (arith, next_is, may.few);
-    small = omega (arith, longer, may.small, length-append (spelling e) (spelled rest));
+    small = omega (arith, longer, may.small, spelled-length e rest);
   }
 
   same_whole : with_entries rest 0 new ≡ with_entries (e ∷ rest) 0 now
   same_whole =
+      let count : now.waiting + 1 + length rest ≡ now.waiting + length (e ∷ rest) = omega arith in
       ap (λ (b : BookState). with_entries rest 0 b) put
-      ∙ (ap (λ (n : ℕ). record now { waiting = n; buffered = (now.buffered ++ spelling e) ++ spelled rest; bytes = 0 }) (omega arith)
+      ∙ (ap (λ (n : ℕ). record now { waiting = n; buffered = (now.buffered ++ spelling e) ++ spelled rest; bytes = 0 }) count
       ∙ ap (λ (l : List ℕ). record now { waiting = now.waiting + length (e ∷ rest); buffered = l; bytes = 0 }) (append_assoc now.buffered (spelling e) (spelled rest)))
 
 pub one-put : (old now new : BookState) (entries rest : List Entry) (e : Entry) → IsPutting old now entries (e ∷ rest) → new ≡ with_entry e new.bytes now → now.bytes ≤ new.bytes + length (spelling e)
@@ -58,14 +62,14 @@ pub one-put : (old now new : BookState) (entries rest : List Entry) (e : Entry) 
 one-put old now new entries rest e is put room keeps = record {
   begun = ap (λ (b : BookState). b.begun) put ∙ is.begun;
   may = still_may now new e rest put is.may;
-  room = omega (arith, is.room, room, length-append (spelling e) (spelled rest));
+  room = omega (arith, is.room, room, spelled-length e rest);
   whole = same_whole now new e rest put ∙ is.whole;
-  less = omega (arith, is.less, room, length-append (spelling e) (spelled rest));
+  less = omega (arith, is.less, room, spelled-length e rest);
   holds = λ kept all held. let was = is.holds kept all held in (was.0 ++ e ∷ [], keeps kept was.0 was.1, append_assoc was.0 (e ∷ []) rest ∙ was.2);
 }
 
 pub one-room : (old now : BookState) (entries : List Entry) (e : Entry) (rest : List Entry) → IsPutting old now entries (e ∷ rest) → length (spelling e) ≤ now.bytes
-one-room old now entries e rest is = omega (arith, is.room, length-append (spelling e) (spelled rest))
+one-room old now entries e rest is = omega (arith, is.room, spelled-length e rest)
 
 -- ---- by the place in the list
 
@@ -80,7 +84,8 @@ all-put old now entries i past putting = subst (λ (rest : List Entry). IsPuttin
 
 pub put-whole : (old now : BookState) (entries : List Entry) → IsPutting old now entries [] → now ≡ with_entries entries now.bytes old
 put-whole old now entries is =
-    sym (ap (λ (n : ℕ). record now { waiting = n; buffered = now.buffered ++ [] }) (omega arith) ∙ ap (λ (l : List ℕ). record now { buffered = l }) (append-nil now.buffered))
+    let none : now.waiting + 0 ≡ now.waiting = omega arith in
+    sym (ap (λ (n : ℕ). record now { waiting = n; buffered = now.buffered ++ [] }) none ∙ ap (λ (l : List ℕ). record now { buffered = l }) (append-nil now.buffered))
     ∙ ap (λ (b : BookState). record b { bytes = now.bytes }) is.whole
 
 pub put-holds : (old now : BookState) (entries : List Entry) → IsPutting old now entries [] → (kept : Kept) (all : List Entry) → Keeps old kept all → Keeps now kept (all ++ entries)
