@@ -1,5 +1,5 @@
 -- What a change asks for, request by request.
-use Rattle.std.proofs.Common.{◌≡◌, ℕ, ◌+◌, Bool, true, false, not, ◌&&◌, if◌then◌else◌, Option, Some, None, Result, Ok, Err, List, [], ◌∷◌, ◌++◌, refl, sym, ◌∙◌, ap, subst}
+use Rattle.std.proofs.Common.{◌≡◌, ℕ, ◌+◌, Bool, true, false, not, ◌&&◌, ◌||◌, if◌then◌else◌, Option, Some, None, Result, Ok, Err, List, [], ◌∷◌, ◌++◌, refl, sym, ◌∙◌, ap, subst}
 use Rattle.std.specs.Option.{is_some}
 use Rattle.entry_codec.specs.declared.entries.Entry.{Entry}
 use Rattle.entry_codec.specs.declared.entries.Draft.{Draft}
@@ -44,7 +44,7 @@ slot-forced author job new (Some images) m =
     by new.opened.commit
   where
     by : (commit : Bool) → (not commit && true) ≡ true
-        → are_free (numbered_from (m.last_entry + 1) ((if commit then begins_cycle author m job else []) ++ slot_drafts author (cycle_number commit m job) (if commit then true else are_both images)
+        → are_free (numbered_from (m.last_entry + 1) ((if commit then begins_cycle author m job else []) ++ slot_drafts author (cycle_number commit m job) (commit || are_both images)
         (is_behind_last new.opened.member new.rrn m) new.opened.member new.rrn (slot_there new.opened.member new.rrn m) new.slot)) ≡ true
     by true asked = absurd cc
     by false asked = free-slot (m.last_entry + 1) author (are_both images) (is_behind_last new.opened.member new.rrn m) new.opened.member new.rrn (slot_there new.opened.member new.rrn m) new.slot
