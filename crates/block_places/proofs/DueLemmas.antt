@@ -1,6 +1,6 @@
 -- What a change of one job makes of the places that are due.
-use Rattle.std.proofs.Common.{◌≡◌, ◌≤◌, ℕ, zero, suc, ◌+◌, ◌-◌, ◌*◌, Bool, true, false, not, if◌then◌else◌, ◌==◌, IsTrue, Option, Some, None, List, [], ◌∷◌, length, slice_get, refl, sym, ap, arith}
-use Rattle.library_steps.specs.State.{CycleState, JobState, job_at, job_changed, or_new}
+use Rattle.std.proofs.Common.{◌≡◌, ◌≤◌, ℕ, zero, suc, ◌+◌, ◌-◌, ◌*◌, Bool, true, false, not, if◌then◌else◌, ◌==◌, IsTrue, Option, Some, None, List, [], ◌∷◌, length, slice_get, refl, ap, arith}
+use Rattle.library_steps.specs.State.{CycleState, JobState, job_at, job_changed}
 use Rattle.library_steps.specs.History.{is_running}
 use Rattle.block_places.specs.Dues.{cycle_due, place_due, places_due}
 

@@ -1,16 +1,13 @@
 -- The requests that want no memory, one by one.
-use Rattle.std.proofs.Common.{◌≡◌, ◌≤◌, ℕ, ◌+◌, ◌-◌, Bool, true, false, ◌||◌, if◌then◌else◌, IsTrue, Option, Some, None, Result, Ok, Err, List, [], ◌∷◌, ◌++◌, refl, sym, ◌∙◌, ap, subst, arith}
+use Rattle.std.proofs.Common.{◌≡◌, ◌≤◌, ℕ, ◌+◌, ◌-◌, Bool, true, false, ◌||◌, if◌then◌else◌, IsTrue, Option, Some, None, Result, Ok, Err, List, [], ◌∷◌, refl, sym, ◌∙◌, ap, subst, arith}
 use Rattle.std.specs.Option.{is_some}
-use Rattle.commit_level.specs.declared.Level.{Level}
-use Rattle.entry_codec.specs.declared.entries.Entry.{Entry}
-use Rattle.entry_codec.specs.declared.entries.Draft.{Draft}
 use Rattle.journal_model.specs.Rollback.{MemberChange, numbered_from}
 use Rattle.library_model.specs.declared.replies.Reply.{Reply}
 use Rattle.library_model.specs.declared.requests.Request.{Request}
 use Rattle.library_model.specs.declared.requests.Request.TheVariants.{CreatePhysicalFile, CreateLogicalFile, DeleteFile, AddMember, ClearMember, ReorganizeMember, StartJournaling, EndJournaling, ChangeJournal, DeleteReceiver, Checkpoint, DisplayJournal, ApplyChanges, RemoveChanges, StartCommitment, EndCommitment, Commit, Rollback, OpenFile, CloseFile, SetLowerLimit, SetGreaterThan, Read, ReadPrior, ReadEqual, ReadPriorEqual, Chain, Write, Update, Delete, Unlock, EndJob}
 use Rattle.library_model.specs.declared.sources.NamedSource.{NamedSource}
 use Rattle.library_model.specs.NeedsMemory.{needs_memory}
-use Rattle.library_steps.specs.State.{CycleState, JobState, Memory, State, job_at, job_changed, job_of, memory_of, or_new, with_job, with_opens}
+use Rattle.library_steps.specs.State.{CycleState, JobState, Memory, State, job_at, job_changed, job_of, memory_of, or_new, with_opens}
 use Rattle.library_steps.specs.Change.{Change, does}
 use Rattle.library_steps.specs.History.{is_running}
 use Rattle.library_steps.specs.Step.{change}

@@ -1,5 +1,5 @@
 -- The entries of a call, from taking them to forcing them.
-use Rattle.std.proofs.Common.{◌≡◌, ℕ, ◌+◌, ◌<◌, ◌≤◌, List, ◌++◌, length, Result, Ok, Err, OnOk, sym, ap, subst, arith}
+use Rattle.std.proofs.Common.{◌≡◌, ◌+◌, ◌<◌, List, ◌++◌, length, Result, Ok, Err, OnOk, sym, ap, subst, arith}
 use Rattle.std.proofs.Math.Logic.{∥∥₁_map}
 use Rattle.store_model.specs.Disk.{Disk, Leaves}
 use Rattle.entry_codec.specs.declared.entries.Entry.{Entry}

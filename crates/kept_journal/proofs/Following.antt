@@ -1,13 +1,12 @@
 -- Entries that are judged one after another, whether they may wait.
-use Rattle.std.proofs.Common.{◌≡◌, ℕ, ◌+◌, ◌≤◌, ◌<◌, ◌^◌, List, [], ◌∷◌, length, get_or, drop, sym, ◌∙◌, ap, subst, arith}
-use Rattle.std.specs.List.{AllByRecursion}
+use Rattle.std.proofs.Common.{◌≡◌, ℕ, ◌+◌, ◌≤◌, ◌<◌, ◌^◌, List, ◌∷◌, length, get_or, drop, sym, ◌∙◌, ap, subst, arith}
 use Rattle.std.proofs.lemmas.List.{drop_all, drop_more}
 use Rattle.entry_codec.specs.declared.entries.Entry.{Entry}
 use Rattle.entry_codec.specs.Spelling.{HasSpelling, spelling}
 use Rattle.gated_log.specs.declared.layout.TheConstants.{MAX_BLOCK}
 use Rattle.journal_model.specs.Journal.{AreNumbered}
-use Rattle.journal_book.specs.Entries.{IsInside, spelled}
-use Rattle.journal_book.specs.Book.{BookState, last_of, next_of}
+use Rattle.journal_book.specs.Entries.{IsInside}
+use Rattle.journal_book.specs.Book.{BookState, last_of}
 use Rattle.kept_journal.specs.Journals.{MayFollow, MayWait}
 use Rattle.kept_journal.proofs.Putting.{spelled-length}
 

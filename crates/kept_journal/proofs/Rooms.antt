@@ -1,5 +1,5 @@
 -- The room for the largest block stays: for the journal's own calls.
-use Rattle.std.proofs.Common.{◌≡◌, ℕ, ◌+◌, ◌≤◌, true, List, [], ◌++◌, length, ◌∙◌, ap, arith, length-append}
+use Rattle.std.proofs.Common.{◌≡◌, ◌+◌, ◌≤◌, true, List, [], length, ◌∙◌, ap, arith, length-append}
 use Rattle.entry_codec.specs.declared.entries.Entry.{Entry}
 use Rattle.gated_log.specs.declared.layout.TheConstants.{MAX_BLOCK}
 use Rattle.journal_book.specs.Entries.{spelled}

@@ -1,10 +1,8 @@
 -- Drafts that are put one behind the other: of commit cycle after commit cycle, and of change after change from the last one on.
 use Rattle.std.proofs.Common.{◌≡◌, ℕ, ◌+◌, ◌<◌, ◌≤◌, List, [], ◌∷◌, ◌++◌, length, get_or, take, drop, Option, Some, None, refl, sym, ◌∙◌, ap, subst, arith, append_assoc}
-use Rattle.std.specs.List.{filter}
 use Rattle.std.proofs.lemmas.List.{append-nil, drop_all, drop_more, take_all, take_more}
 use Rattle.std.proofs.lemmas.List.Elements.{filter-append}
 use Rattle.entry_codec.specs.declared.entries.Draft.{Draft}
-use Rattle.entry_codec.specs.declared.kinds.EntryKind.{EntryKind}
 use Rattle.entry_codec.specs.declared.kinds.EntryKind.TheVariants.{AbnormalEnd}
 use Rattle.journal_model.specs.Replay.{before_of, is_in}
 use Rattle.journal_model.specs.Rollback.{MemberChange, all_rollback_drafts, change_drafts, library_draft, restart_drafts, rollback_drafts, undo_drafts, undo_kinds}

@@ -1,4 +1,4 @@
-use Rattle.std.proofs.Common.{◌+◌, arith}
+use Rattle.std.proofs.Common.{arith}
 use Rattle.kept_journal.proofs.Putting.{all-put, at-place, none-put, one-put, one-room, put-holds, put-whole}
 use Rattle.kept_journal.proofs.journal.put_all.Goals as goal
 

@@ -1,4 +1,4 @@
-use Rattle.std.proofs.Common.{◌+◌, arith}
+use Rattle.std.proofs.Common.{arith}
 use Rattle.kept_journal.proofs.Following.{none-left}
 use Rattle.kept_journal.proofs.waiting.may_follow.Goals as goal
 

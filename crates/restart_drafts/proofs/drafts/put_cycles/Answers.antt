@@ -1,4 +1,4 @@
-use Rattle.std.proofs.Common.{◌++◌, refl, arith}
+use Rattle.std.proofs.Common.{refl, arith}
 use Rattle.restart_drafts.proofs.Drafting.{cycle-next, cycles-done}
 use Rattle.restart_drafts.proofs.drafts.put_cycles.Goals as goal
 

@@ -1,6 +1,5 @@
-use Rattle.std.proofs.Common.{◌≡◌, [], ◌∷◌, ◌++◌, ◌∙◌, List, ap, append_assoc}
+use Rattle.std.proofs.Common.{[], ◌∷◌, ◌++◌, ◌∙◌, List, ap, append_assoc}
 use Rattle.entry_codec.specs.declared.entries.Draft.{Draft}
-use Rattle.entry_codec.specs.declared.kinds.EntryKind.TheVariants.{CommitCycleRolledBack}
 use Rattle.journal_model.specs.Rollback.{cycle_draft, undo_drafts}
 use Rattle.open_cycles.specs.Kept.{live}
 use Rattle.restart_drafts.specs.Undos.{of_cycle}

@@ -1,4 +1,4 @@
-use Rattle.std.proofs.Common.{◌≡◌, ◌+◌, ◌-◌, ◌<◌, ◌≤◌, length, arith, rules}
+use Rattle.std.proofs.Common.{◌≡◌, ◌+◌, ◌-◌, ◌<◌, length, arith, rules}
 use Rattle.restart_drafts.proofs.Drafting.{undo-all, undo-next, undo-none}
 use Rattle.restart_drafts.proofs.drafts.put_undos.Goals as goal
 

@@ -1,6 +1,5 @@
-use Rattle.std.proofs.Common.{◌≡◌, List, [], ◌∷◌, ◌++◌, sym, subst}
-use Rattle.entry_codec.specs.declared.entries.Entry.{Entry}
-use Rattle.journal_book.specs.Book.{BookState, Keeps, with_entry}
+use Rattle.std.proofs.Common.{[], ◌∷◌, ◌++◌, sym, subst}
+use Rattle.journal_book.specs.Book.{BookState, Keeps}
 use Rattle.journal_book.proofs.Deposits.{deposit_keeps, inside_no_end}
 use Rattle.journal_book.proofs.book.Book.deposit_entry.Goals as goal
 

@@ -1,4 +1,4 @@
-use Rattle.std.proofs.Common.{◌≡◌, ◌-◌, ℕ, length, drop, arith, length-drop, subst, rules}
+use Rattle.std.proofs.Common.{◌≡◌, ◌-◌, length, arith, length-drop, subst, rules}
 use Rattle.journal_book.specs.Book.{BookState}
 use Rattle.journal_book.proofs.book.Book.waiting_bytes.Goals as goal
 

@@ -1,4 +1,4 @@
-use Rattle.std.proofs.Common.{◌≡◌, ◌+◌, ◌<◌, ◌≤◌, ◌++◌, ℕ, List, length, OnOk, sym, subst}
+use Rattle.std.proofs.Common.{◌<◌, List, length, OnOk, sym, subst}
 use Rattle.store_model.specs.Disk.{Leaves}
 use Rattle.entry_codec.specs.declared.entries.Entry.{Entry}
 use Rattle.journal_book.specs.Book.{BookState, Holds, IsHeld}

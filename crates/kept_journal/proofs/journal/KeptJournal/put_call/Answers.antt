@@ -1,4 +1,4 @@
-use Rattle.std.proofs.Common.{◌≡◌, ◌∙◌, ◌+◌, ◌++◌, ◌≤◌, List, length, ap, sym, subst}
+use Rattle.std.proofs.Common.{◌∙◌, ◌+◌, ◌≤◌, length, ap, subst}
 use Rattle.receiver_chain.specs.Chain.{ChainState}
 use Rattle.journal_book.specs.Book.{BookState}
 use Rattle.kept_journal.proofs.Calls.{ok-map, taken-held, taken-holds, taken-moments, taken-next, taken-place}

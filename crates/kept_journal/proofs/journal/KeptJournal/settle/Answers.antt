@@ -1,4 +1,3 @@
-use Rattle.std.proofs.Common.{◌≡◌, ◌+◌, ◌<◌, [], length, ap, arith}
 use Rattle.journal_book.proofs.Forcing.{none_exactly}
 use Rattle.kept_journal.proofs.journal.KeptJournal.settle.Goals as goal
 

@@ -1,4 +1,4 @@
-use Rattle.std.proofs.Common.{◌≡◌, ◌+◌, ◌^◌, ◌<◌, ◌≤◌, ◌++◌, ℕ, List, length, OnOk, IsErrOf, sym, subst}
+use Rattle.std.proofs.Common.{◌≡◌, ◌+◌, ◌^◌, ◌<◌, ◌≤◌, ◌++◌, List, length, OnOk, IsErrOf, sym, subst}
 use Rattle.store_model.specs.Disk.{Leaves}
 use Rattle.entry_codec.specs.declared.entries.Entry.{Entry}
 use Rattle.entry_codec.specs.declared.kinds.EntryKind.TheVariants.{NextReceiver, PreviousReceiver}

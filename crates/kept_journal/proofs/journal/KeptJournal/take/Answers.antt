@@ -1,4 +1,4 @@
-use Rattle.std.proofs.Common.{◌≡◌, ◌++◌, List, sym, subst}
+use Rattle.std.proofs.Common.{sym, subst}
 use Rattle.journal_book.specs.Book.{BookState, Keeps}
 use Rattle.kept_journal.specs.Journals.{MayWait}
 use Rattle.kept_journal.proofs.Rooms.{room-for, taken-room}
