@@ -47,6 +47,8 @@ pub fn open_journal<S: Store, D: Describe>(
     requires keeps { KeepsLengths (D.rules by.now) }
     ensures opened { IfOk result (λ journal. S.tells → IsOpened (D.rules by.now) journal.roots journal.book journal.replay journal.entries.items (S.disk store.new) × SpellJournal (D.rules by.now) journal.entries.items (S.disk store.old).seen) }
     ensures left { IfOk result (λ journal. IsLeftBy (D.rules by.now) journal.entries.items journal.replay × EndsWhole (journal_with journal.entries.items)) }
+    ensures all_forced { IfOk result (λ journal. journal.book.waiting ≡ 0) }
+    ensures receiver { IfOk result (λ journal. journal.book.chain.first ≡ FIRST_RECEIVER) }
     ensures not_a_library { IsErrOf result OpenFault.NotALibrary → S.tells → (S.disk store.old).seen ROOT_AREA ≡ [] }
     ensures damaged { (area at : ℕ) → IsErrOf result (OpenFault.Damaged area at) → S.tells → (entries : List Entry) → SpellJournal (D.rules by.now) entries (S.disk store.old).seen → ⊥ }
     ensures something { (area at : ℕ) → IsErrOf result (OpenFault.Damaged area at) → S.tells → (S.disk store.old).seen ROOT_AREA ≢ [] }
@@ -70,6 +72,8 @@ fn open_written<S: Store, D: Describe>(
     requires keeps { KeepsLengths (D.rules by.now) }
     ensures opened { IfOk result (λ journal. S.tells → IsOpened (D.rules by.now) journal.roots journal.book journal.replay journal.entries.items (S.disk store.new) × SpellJournal (D.rules by.now) journal.entries.items (S.disk store.old).seen) }
     ensures left { IfOk result (λ journal. IsLeftBy (D.rules by.now) journal.entries.items journal.replay × EndsWhole (journal_with journal.entries.items)) }
+    ensures all_forced { IfOk result (λ journal. journal.book.waiting ≡ 0) }
+    ensures receiver { IfOk result (λ journal. journal.book.chain.first ≡ FIRST_RECEIVER) }
     ensures never_empty { IsErrOf result OpenFault.NotALibrary → ⊥ }
     ensures damaged { (area at : ℕ) → IsErrOf result (OpenFault.Damaged area at) → S.tells → (entries : List Entry) → SpellJournal (D.rules by.now) entries (S.disk store.old).seen → ⊥ }
     ensures stays { Stays (S.disk store.old) (S.disk store.new) }
@@ -92,6 +96,8 @@ fn open_parts<S: Store, D: Describe>(
     requires keeps { KeepsLengths (D.rules by.now) }
     ensures opened { IfOk result (λ journal. S.tells → IsOpened (D.rules by.now) journal.roots journal.book journal.replay journal.entries.items (S.disk store.new) × SpellJournal (D.rules by.now) journal.entries.items (S.disk store.old).seen) }
     ensures left { IfOk result (λ journal. IsLeftBy (D.rules by.now) journal.entries.items journal.replay × EndsWhole (journal_with journal.entries.items)) }
+    ensures all_forced { IfOk result (λ journal. journal.book.waiting ≡ 0) }
+    ensures receiver { IfOk result (λ journal. journal.book.chain.first ≡ FIRST_RECEIVER) }
     ensures damaged { (area at : ℕ) → IsErrOf result (LogFault.Damaged area at) → S.tells → (entries : List Entry) → SpellJournal (D.rules by.now) entries (S.disk store.old).seen → ⊥ }
     ensures stays { Stays (S.disk store.old) (S.disk store.new) }
     ensures cause { IsErrOf result LogFault.StoreFault → Rose (S.disk store.old).faults (S.disk store.new).faults }
