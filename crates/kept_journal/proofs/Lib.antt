@@ -1,4 +1,4 @@
-pub mod Calls
+pub mod CallLemmas
 pub mod Following
 pub mod Putting
 pub mod Rooms

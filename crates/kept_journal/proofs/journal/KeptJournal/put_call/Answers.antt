@@ -1,7 +1,7 @@
 use Rattle.std.proofs.Common.{◌∙◌, ◌+◌, ◌≤◌, length, ap, subst}
 use Rattle.receiver_chain.specs.Chain.{ChainState}
 use Rattle.journal_book.specs.Book.{BookState}
-use Rattle.kept_journal.proofs.Calls.{ok-map, taken-held, taken-holds, taken-moments, taken-next, taken-place}
+use Rattle.kept_journal.proofs.CallLemmas.{ok-map, taken-held, taken-holds, taken-moments, taken-next, taken-place}
 use Rattle.kept_journal.proofs.journal.KeptJournal.put_call.Goals as goal
 
 pub settle-requires-clause-held : goal.settle-requires-clause-held
