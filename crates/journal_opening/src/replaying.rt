@@ -143,7 +143,7 @@ fn read_range<S: Store>(
 }
 
 /// Takes the entries one after another: how many come before the first that can't follow, `None` where each one may.
-fn take_all<D: Describe>(
+pub fn take_all<D: Describe>(
     by: &D,
     replay: &mut Replay,
     entries: &[Entry],
@@ -163,7 +163,7 @@ fn take_all<D: Describe>(
 }
 
 /// Takes one entry more, where it can follow and leaves the member that it names within its limits. Where it can't follow, the rest is not to be used again.
-pub fn take_one<D: Describe>(by: &D, replay: &mut Replay, entry: &Entry) -> Result<bool, AllocError>
+fn take_one<D: Describe>(by: &D, replay: &mut Replay, entry: &Entry) -> Result<bool, AllocError>
     requires keeps { KeepsLengths (D.rules by.now) }
     ensures taken { IfOk result (λ b. b ≡ true → (before : List Entry) → IsLeftBy (D.rules by.now) before replay.old → IsLeftBy (D.rules by.now) (before ++ entry.now ∷ []) replay.new) }
     ensures refused { IfOk result (λ b. b ≡ false → (before : List Entry) → IsLeftBy (D.rules by.now) before replay.old → CannotFollow (D.rules by.now) (before ++ entry.now ∷ [])) }
