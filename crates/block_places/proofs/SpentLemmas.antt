@@ -42,11 +42,11 @@ module _ (job : ℕ) (f : JobState → JobState) (jobs : List JobState) (runs : 
   cycle-ends its alive used none some =
       let before : place_due its ≡ 1 + cycle_due its.cycle = ap (λ (b : Bool). if b then 0 else 1 + cycle_due its.cycle) alive in
       let after : place_due (f its) ≡ 1 = ends its ∙ ap (λ (b : Bool). if b then 0 else 1) alive in
-      let pays = by its.cycle in
+      let pays : used its.cycle ≤ cycle_due its.cycle = by its.cycle in
       omega (arith, before, after, pays)
     where
       by : (o : Option CycleState) → used o ≤ cycle_due o
-      by None = omega (arith, none)
+      by None = let fact : used None ≤ 0 = omega (arith, none) in fact
       by (Some cycle) = some cycle
 
   pub cycle-pays : (used : Option CycleState → ℕ) → used None ≡ 0 → ((cycle : CycleState) → used (Some cycle) ≤ 1) → places_due (job_changed (job - 1) f jobs) + used runs.its.cycle ≤ places_due jobs
@@ -56,8 +56,8 @@ module _ (job : ℕ) (f : JobState → JobState) (jobs : List JobState) (runs : 
       omega (arith, moved, own)
 
 one-at-most : (b : Bool) → (if b then 1 else 0) ≤ 1
-one-at-most true = omega arith
-one-at-most false = omega arith
+one-at-most true = let fact : 1 ≤ 1 = omega arith in fact
+one-at-most false = let fact : 0 ≤ 1 = omega arith in fact
 
 found-job : (job : ℕ) (m : Memory) (runs : Runs job m.jobs) → job_of job m ≡ runs.its
 found-job job m runs = ap or_new runs.found
