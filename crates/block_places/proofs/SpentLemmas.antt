@@ -70,7 +70,8 @@ commit-pays m job timestamp runs =
 
 rollback-pays : (m : Memory) (job timestamp : ℕ) → Runs job m.jobs → Pays m.jobs (rollback_change m job timestamp)
 rollback-pays m job timestamp runs =
-    let used : Option CycleState → ℕ = λ o. if has_entries (numbered_from (m.last_entry + 1) (undo_entries (author_of m job timestamp) o)) then 1 else 0 in
+    let last = (taken_back (changes_of (job_of job m).cycle) m).last_entry in
+    let used : Option CycleState → ℕ = λ o. if has_entries (numbered_from (last + 1) (undo_entries (author_of m job timestamp) o)) then 1 else 0 in
     let pays = cycle-pays job (λ (j : JobState). with_opens rolled_back_open (without_cycle j)) m.jobs runs (λ j. refl) used refl (λ cycle. one-at-most _) in
     subst (λ (jobs : List JobState). places_due (job_changed (job - 1) (λ (j : JobState). with_opens rolled_back_open (without_cycle j)) jobs) + used (job_of job m).cycle ≤ places_due m.jobs)
     (sym (back-jobs (changes_of (job_of job m).cycle) m))
@@ -91,37 +92,37 @@ end-pays m job timestamp runs =
 pub none-wants : (sources : List NamedSource) (s : State) (job timestamp : ℕ) (request : Request) (c : Change) → IsTrue (is_running (job_at job s.jobs)) → needs_memory request ≡ false
     → change sources s.entries (memory_of s) job timestamp request ≡ Ok c → Pays s.jobs c
 unfolding change
-none-wants sources s job timestamp (CloseFile args) c running no is = does-pays _ _ s.jobs c is (λ a. same-due job _ s.jobs (running-job job s.jobs running) (λ j. refl))
-none-wants sources s job timestamp (Unlock args) c running no is = does-pays _ _ s.jobs c is (λ a. same-due job _ s.jobs (running-job job s.jobs running) (λ j. refl))
-none-wants sources s job timestamp (SetLowerLimit args) c running no is = does-pays _ _ s.jobs c is (λ a. same-due job _ s.jobs (running-job job s.jobs running) (λ j. refl))
-none-wants sources s job timestamp (SetGreaterThan args) c running no is = does-pays _ _ s.jobs c is (λ a. same-due job _ s.jobs (running-job job s.jobs running) (λ j. refl))
-none-wants sources s job timestamp Commit c running no is = does-pays _ _ s.jobs c is (λ a. commit-pays (memory_of s) job timestamp (running-job job s.jobs running))
-none-wants sources s job timestamp Rollback c running no is = does-pays _ _ s.jobs c is (λ a. rollback-pays (memory_of s) job timestamp (running-job job s.jobs running))
-none-wants sources s job timestamp (EndJob args) c running no is =
+none-wants sources s job timestamp (CloseFile args) c running free is = does-pays _ _ s.jobs c is (λ a. same-due job _ s.jobs (running-job job s.jobs running) (λ j. refl))
+none-wants sources s job timestamp (Unlock args) c running free is = does-pays _ _ s.jobs c is (λ a. same-due job _ s.jobs (running-job job s.jobs running) (λ j. refl))
+none-wants sources s job timestamp (SetLowerLimit args) c running free is = does-pays _ _ s.jobs c is (λ a. same-due job _ s.jobs (running-job job s.jobs running) (λ j. refl))
+none-wants sources s job timestamp (SetGreaterThan args) c running free is = does-pays _ _ s.jobs c is (λ a. same-due job _ s.jobs (running-job job s.jobs running) (λ j. refl))
+none-wants sources s job timestamp Commit c running free is = does-pays _ _ s.jobs c is (λ a. commit-pays (memory_of s) job timestamp (running-job job s.jobs running))
+none-wants sources s job timestamp Rollback c running free is = does-pays _ _ s.jobs c is (λ a. rollback-pays (memory_of s) job timestamp (running-job job s.jobs running))
+none-wants sources s job timestamp (EndJob args) c running free is =
     let same : end_change (memory_of s) job timestamp ≡ c = cc in
     subst (λ (x : Change). Pays s.jobs x) same (end-pays (memory_of s) job timestamp (running-job job s.jobs running))
-none-wants sources s job timestamp (CreatePhysicalFile args) c running no is = absurd cc
-none-wants sources s job timestamp (CreateLogicalFile args) c running no is = absurd cc
-none-wants sources s job timestamp (DeleteFile args) c running no is = absurd cc
-none-wants sources s job timestamp (AddMember args) c running no is = absurd cc
-none-wants sources s job timestamp (ClearMember args) c running no is = absurd cc
-none-wants sources s job timestamp (ReorganizeMember args) c running no is = absurd cc
-none-wants sources s job timestamp (StartJournaling args) c running no is = absurd cc
-none-wants sources s job timestamp (EndJournaling args) c running no is = absurd cc
-none-wants sources s job timestamp ChangeJournal c running no is = absurd cc
-none-wants sources s job timestamp (DeleteReceiver args) c running no is = absurd cc
-none-wants sources s job timestamp Checkpoint c running no is = absurd cc
-none-wants sources s job timestamp (DisplayJournal args) c running no is = absurd cc
-none-wants sources s job timestamp (ApplyChanges args) c running no is = absurd cc
-none-wants sources s job timestamp (RemoveChanges args) c running no is = absurd cc
-none-wants sources s job timestamp (StartCommitment args) c running no is = absurd cc
-none-wants sources s job timestamp EndCommitment c running no is = absurd cc
-none-wants sources s job timestamp (OpenFile args) c running no is = absurd cc
-none-wants sources s job timestamp (Read args) c running no is = absurd cc
-none-wants sources s job timestamp (ReadPrior args) c running no is = absurd cc
-none-wants sources s job timestamp (ReadEqual args) c running no is = absurd cc
-none-wants sources s job timestamp (ReadPriorEqual args) c running no is = absurd cc
-none-wants sources s job timestamp (Chain args) c running no is = absurd cc
-none-wants sources s job timestamp (Write args) c running no is = absurd cc
-none-wants sources s job timestamp (Update args) c running no is = absurd cc
-none-wants sources s job timestamp (Delete args) c running no is = absurd cc
+none-wants sources s job timestamp (CreatePhysicalFile args) c running free is = absurd cc
+none-wants sources s job timestamp (CreateLogicalFile args) c running free is = absurd cc
+none-wants sources s job timestamp (DeleteFile args) c running free is = absurd cc
+none-wants sources s job timestamp (AddMember args) c running free is = absurd cc
+none-wants sources s job timestamp (ClearMember args) c running free is = absurd cc
+none-wants sources s job timestamp (ReorganizeMember args) c running free is = absurd cc
+none-wants sources s job timestamp (StartJournaling args) c running free is = absurd cc
+none-wants sources s job timestamp (EndJournaling args) c running free is = absurd cc
+none-wants sources s job timestamp ChangeJournal c running free is = absurd cc
+none-wants sources s job timestamp (DeleteReceiver args) c running free is = absurd cc
+none-wants sources s job timestamp Checkpoint c running free is = absurd cc
+none-wants sources s job timestamp (DisplayJournal args) c running free is = absurd cc
+none-wants sources s job timestamp (ApplyChanges args) c running free is = absurd cc
+none-wants sources s job timestamp (RemoveChanges args) c running free is = absurd cc
+none-wants sources s job timestamp (StartCommitment args) c running free is = absurd cc
+none-wants sources s job timestamp EndCommitment c running free is = absurd cc
+none-wants sources s job timestamp (OpenFile args) c running free is = absurd cc
+none-wants sources s job timestamp (Read args) c running free is = absurd cc
+none-wants sources s job timestamp (ReadPrior args) c running free is = absurd cc
+none-wants sources s job timestamp (ReadEqual args) c running free is = absurd cc
+none-wants sources s job timestamp (ReadPriorEqual args) c running free is = absurd cc
+none-wants sources s job timestamp (Chain args) c running free is = absurd cc
+none-wants sources s job timestamp (Write args) c running free is = absurd cc
+none-wants sources s job timestamp (Update args) c running free is = absurd cc
+none-wants sources s job timestamp (Delete args) c running free is = absurd cc
