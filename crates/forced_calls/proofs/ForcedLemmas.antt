@@ -37,16 +37,17 @@ free-slot n author false behind_last member rrn (Live before) (Live after) = ref
 free-slot n author both behind_last member rrn (Live before) Deleted = refl
 free-slot n author both behind_last member rrn Deleted Deleted = refl
 
-slot-forced : (author : Author) (job : JobState) (new : NewSlot) (images : Option Images) (m : Memory) → (not new.opened.commit && is_some images) ≡ true → are_free (numbered_from (m.last_entry + 1) (drafts_of author job new images m)) ≡ true
-slot-forced author job new None m asked = refl
-slot-forced author job new (Some images) m =
-    by new.opened.commit
-  where
-    by : (commit : Bool) → (not commit && true) ≡ true
-        → are_free (numbered_from (m.last_entry + 1) ((if commit then begins_cycle author m job else []) ++ slot_drafts author (cycle_number commit m job) (commit || are_both images)
-        (is_behind_last new.opened.member new.rrn m) new.opened.member new.rrn (slot_there new.opened.member new.rrn m) new.slot)) ≡ true
-    by true asked = absurd cc
-    by false asked = free-slot (m.last_entry + 1) author (are_both images) (is_behind_last new.opened.member new.rrn m) new.opened.member new.rrn (slot_there new.opened.member new.rrn m) new.slot
+-- what asks to be forced is outside commitment
+by-commit : (n : ℕ) (author : Author) (job : JobState) (new : NewSlot) (images : Images) (m : Memory) (commit : Bool) → (not commit && true) ≡ true
+    → are_free (numbered_from n ((if commit then begins_cycle author m job else []) ++ slot_drafts author (cycle_number commit m job) (commit || are_both images) (is_behind_last new.opened.member new.rrn m)
+    new.opened.member new.rrn (slot_there new.opened.member new.rrn m) new.slot)) ≡ true
+by-commit n author job new images m true asks = absurd cc
+by-commit n author job new images m false asks =
+    free-slot n author (are_both images) (is_behind_last new.opened.member new.rrn m) new.opened.member new.rrn (slot_there new.opened.member new.rrn m) new.slot
+
+slot-forced : (n : ℕ) (author : Author) (job : JobState) (new : NewSlot) (images : Option Images) (m : Memory) → (not new.opened.commit && is_some images) ≡ true → are_free (numbered_from n (drafts_of author job new images m)) ≡ true
+slot-forced n author job new None m asks = refl
+slot-forced n author job new (Some images) m asks = by-commit n author job new images m new.opened.commit asks
 
 pub asked : (sources : List NamedSource) (entries : List Entry) (m : Memory) (job timestamp : ℕ) (request : Request) (c : Change) → change sources entries m job timestamp request ≡ Ok c → c.forced ≡ true → is_forced request c.entries ≡ true
 unfolding change
@@ -66,7 +67,7 @@ asked sources entries m job timestamp (ApplyChanges args) c is forced = refl
 asked sources entries m job timestamp (RemoveChanges args) c is forced = refl
 asked sources entries m job timestamp (StartCommitment args) c is forced = does-forced _ _ (StartCommitment args) c is (λ a asks. absurd cc) forced
 asked sources entries m job timestamp EndCommitment c is forced = does-forced _ _ EndCommitment c is (λ a asks. absurd cc) forced
-asked sources entries m job timestamp Commit c is forced = does-forced _ _ Commit c is (λ level. commit-forced (m.last_entry + 1) (author_of m job timestamp) (job_of job m).cycle) forced
+asked sources entries m job timestamp Commit c is forced = does-forced _ _ Commit c is (λ level. commit-forced _ (author_of m job timestamp) (job_of job m).cycle) forced
 asked sources entries m job timestamp Rollback c is forced = does-forced _ _ Rollback c is (λ a asks. absurd cc) forced
 asked sources entries m job timestamp (OpenFile args) c is forced = does-forced _ _ (OpenFile args) c is (λ a asks. absurd cc) forced
 asked sources entries m job timestamp (CloseFile args) c is forced = does-forced _ _ (CloseFile args) c is (λ a asks. absurd cc) forced
@@ -77,8 +78,8 @@ asked sources entries m job timestamp (ReadPrior args) c is forced = does-forced
 asked sources entries m job timestamp (ReadEqual args) c is forced = does-forced _ _ (ReadEqual args) c is (λ a asks. absurd cc) forced
 asked sources entries m job timestamp (ReadPriorEqual args) c is forced = does-forced _ _ (ReadPriorEqual args) c is (λ a asks. absurd cc) forced
 asked sources entries m job timestamp (Chain args) c is forced = does-forced _ _ (Chain args) c is (λ a asks. absurd cc) forced
-asked sources entries m job timestamp (Write args) c is forced = does-forced _ _ (Write args) c is (λ new. slot-forced (author_of m job timestamp) (job_of job m) new (images_of new.opened.member m) m) forced
-asked sources entries m job timestamp (Update args) c is forced = does-forced _ _ (Update args) c is (λ new. slot-forced (author_of m job timestamp) (job_of job m) new (images_of new.opened.member m) m) forced
-asked sources entries m job timestamp (Delete args) c is forced = does-forced _ _ (Delete args) c is (λ new. slot-forced (author_of m job timestamp) (job_of job m) new (images_of new.opened.member m) m) forced
+asked sources entries m job timestamp (Write args) c is forced = does-forced _ _ (Write args) c is (λ new. slot-forced _ (author_of m job timestamp) (job_of job m) new (images_of new.opened.member m) m) forced
+asked sources entries m job timestamp (Update args) c is forced = does-forced _ _ (Update args) c is (λ new. slot-forced _ (author_of m job timestamp) (job_of job m) new (images_of new.opened.member m) m) forced
+asked sources entries m job timestamp (Delete args) c is forced = does-forced _ _ (Delete args) c is (λ new. slot-forced _ (author_of m job timestamp) (job_of job m) new (images_of new.opened.member m) m) forced
 asked sources entries m job timestamp (Unlock args) c is forced = does-forced _ _ (Unlock args) c is (λ a asks. absurd cc) forced
 asked sources entries m job timestamp (EndJob args) c is forced = refl

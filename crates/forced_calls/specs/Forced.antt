@@ -6,9 +6,13 @@ use Rattle.entry_codec.specs.declared.entries.Entry.{Entry}
 use Rattle.library_model.specs.declared.requests.Request.{Request}
 use Rattle.library_model.specs.declared.requests.Request.TheVariants.{CreatePhysicalFile, CreateLogicalFile, DeleteFile, AddMember, ClearMember, ReorganizeMember, StartJournaling, EndJournaling, ChangeJournal, DeleteReceiver, Checkpoint, DisplayJournal, ApplyChanges, RemoveChanges, StartCommitment, EndCommitment, Commit, Rollback, OpenFile, CloseFile, SetLowerLimit, SetGreaterThan, Read, ReadPrior, ReadEqual, ReadPriorEqual, Chain, Write, Update, Delete, Unlock, EndJob}
 
--- none belongs to a commit cycle
+-- one belongs to a commit cycle
+abbrev pub has_cycle : List Entry → Bool
+has_cycle entries = list_any (λ (e : Entry). is_some e.group) entries
+
+-- none does
 abbrev pub are_free : List Entry → Bool
-are_free entries = not (list_any (λ (e : Entry). is_some e.group) entries)
+are_free entries = not (has_cycle entries)
 
 abbrev pub is_nil : List Entry → Bool
 is_nil [] = true

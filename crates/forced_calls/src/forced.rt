@@ -1,6 +1,6 @@
 //! Whether a call is forced.
 ghost use Rattle.std.specs.Prelude.{◌≡◌, not};
-ghost use Rattle.forced_calls.specs.Forced.{are_free, is_forced, is_nil};
+ghost use Rattle.forced_calls.specs.Forced.{are_free, has_cycle, is_forced, is_nil};
 
 use entry_codec::Entry;
 use library_model::requests::Request;
@@ -56,5 +56,12 @@ fn has_some(entries: &[Entry]) -> bool
 fn are_free(entries: &[Entry]) -> bool
     ensures { result ≡ are_free entries.now }
 {
-    !entries.iter().any(|entry| entry.group.is_some())
+    !has_cycle(entries)
+}
+
+/// Whether one belongs to a commit cycle.
+fn has_cycle(entries: &[Entry]) -> bool
+    ensures { result ≡ has_cycle entries.now }
+{
+    entries.iter().any(|entry| entry.group.is_some())
 }
