@@ -19,11 +19,7 @@ pub struct By {
 }
 
 /// What a restart deposits for these open commit cycles: nothing where none is open.
-pub fn restart_drafts(
-    alloc: Global,
-    open: &OpenCycles,
-    by: By,
-) -> Result<Vec<Draft>, AllocError>
+pub fn restart_drafts(alloc: Global, open: &OpenCycles, by: By) -> Result<Vec<Draft>, AllocError>
     ensures { IfOk result (λ drafts. drafts.items ≡ restart_drafts by.job by.moment open.now.cycles open.now.undos) }
 {
     let mut drafts = Vec::new(alloc);

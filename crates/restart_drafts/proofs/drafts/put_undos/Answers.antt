@@ -14,7 +14,7 @@ loop-left-preserved c =
     let below : i < length c.args.changes.now = omega (arith, c.loop-left.invariant.0) in (
       omega (arith, c.loop-left.invariant.0),
       undo-next c.args.by.job c.args.by.moment c.args.cycle c.args.changes.now c.loop-left.left i c.index-changes-left.result c.loop-left.drafts.items c.put_undo.new.drafts.items _ next below c.index-changes-left.is
-      c.in_ok-put_undo.ensures c.loop-left.invariant.1,
+          c.in_ok-put_undo.ensures c.loop-left.invariant.1,
     )
 
 pub returns : goal.returns
