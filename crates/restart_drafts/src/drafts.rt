@@ -19,16 +19,16 @@ pub struct By {
 }
 
 /// What a restart deposits for these open commit cycles: nothing where none is open.
-pub fn restart_drafts(alloc: Global, open: &OpenCycles, by: By) -> Result<Vec<Draft>, AllocError>
-    ensures { IfOk result (λ drafts. drafts.items ≡ restart_drafts by.job by.moment open.now.cycles open.now.undos) }
+pub fn restart_drafts(alloc: Global, those: &OpenCycles, by: &By) -> Result<Vec<Draft>, AllocError>
+    ensures { IfOk result (λ drafts. drafts.items ≡ restart_drafts by.now.job by.now.moment those.now.cycles those.now.undos) }
 {
     let mut drafts = Vec::new(alloc);
-    let cycles = open.cycles();
+    let cycles = those.cycles();
     match cycles {
         [] => Ok(drafts),
         [_, ..] => {
             drafts.push(library_draft(by, EntryKind::AbnormalEnd))?;
-            put_cycles(alloc, &mut drafts, open, cycles, by)?;
+            put_cycles(alloc, &mut drafts, those, cycles, by)?;
             Ok(drafts)
         }
     }
@@ -38,14 +38,14 @@ pub fn restart_drafts(alloc: Global, open: &OpenCycles, by: By) -> Result<Vec<Dr
 fn put_cycles(
     alloc: Global,
     drafts: &mut Vec<Draft>,
-    open: &OpenCycles,
+    those: &OpenCycles,
     cycles: &[u64],
-    by: By,
+    by: &By,
 ) -> Result<(), AllocError>
-    ensures { OnOk result (drafts.new.items ≡ drafts.old.items ++ all_rollback_drafts by.job by.moment cycles.now open.now.undos) }
+    ensures { OnOk result (drafts.new.items ≡ drafts.old.items ++ all_rollback_drafts by.now.job by.now.moment cycles.now those.now.undos) }
 {
     for cycle in cycles {
-        put_rollback(alloc, drafts, open.changes(), *cycle, by)?;
+        put_rollback(alloc, drafts, those.changes(), *cycle, by)?;
     }
     Ok(())
 }
@@ -56,9 +56,9 @@ fn put_rollback(
     drafts: &mut Vec<Draft>,
     changes: &[Option<OpenChange>],
     cycle: u64,
-    by: By,
+    by: &By,
 ) -> Result<(), AllocError>
-    ensures { OnOk result (drafts.new.items ≡ drafts.old.items ++ rollback_drafts by.job by.moment cycle (live changes.now)) }
+    ensures { OnOk result (drafts.new.items ≡ drafts.old.items ++ rollback_drafts by.now.job by.now.moment cycle (live changes.now)) }
 {
     put_undos(alloc, drafts, changes, cycle, by)?;
     drafts.push(cycle_draft(by, cycle, EntryKind::CommitCycleRolledBack))?;
@@ -71,9 +71,9 @@ fn put_undos(
     drafts: &mut Vec<Draft>,
     changes: &[Option<OpenChange>],
     cycle: u64,
-    by: By,
+    by: &By,
 ) -> Result<(), AllocError>
-    ensures { OnOk result (drafts.new.items ≡ drafts.old.items ++ undo_drafts by.job by.moment (of_cycle cycle (live changes.now))) }
+    ensures { OnOk result (drafts.new.items ≡ drafts.old.items ++ undo_drafts by.now.job by.now.moment (of_cycle cycle (live changes.now))) }
 {
     let mut left = changes.len();
     while left > 0 {
@@ -84,8 +84,8 @@ fn put_undos(
 }
 
 /// A draft of the library.
-fn library_draft(by: By, kind: EntryKind) -> Draft
-    ensures { result ≡ library_draft by.job by.moment kind }
+fn library_draft(by: &By, kind: EntryKind) -> Draft
+    ensures { result ≡ library_draft by.now.job by.now.moment kind }
 {
     Draft {
         job: by.job,
@@ -98,8 +98,8 @@ fn library_draft(by: By, kind: EntryKind) -> Draft
 }
 
 /// A draft of a commit cycle.
-fn cycle_draft(by: By, cycle: u64, kind: EntryKind) -> Draft
-    ensures { result ≡ cycle_draft by.job by.moment cycle kind }
+fn cycle_draft(by: &By, cycle: u64, kind: EntryKind) -> Draft
+    ensures { result ≡ cycle_draft by.now.job by.now.moment cycle kind }
 {
     Draft {
         job: by.job,

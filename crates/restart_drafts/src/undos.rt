@@ -20,9 +20,9 @@ pub(crate) fn put_undo(
     drafts: &mut Vec<Draft>,
     change: &Option<OpenChange>,
     cycle: u64,
-    by: By,
+    by: &By,
 ) -> Result<(), AllocError>
-    ensures { OnOk result (drafts.new.items ≡ drafts.old.items ++ undo_drafts by.job by.moment (of_cycle cycle (live (change.now ∷ [])))) }
+    ensures { OnOk result (drafts.new.items ≡ drafts.old.items ++ undo_drafts by.now.job by.now.moment (of_cycle cycle (live (change.now ∷ [])))) }
 {
     match change {
         None => Ok(()),
@@ -36,9 +36,9 @@ fn put_if(
     drafts: &mut Vec<Draft>,
     change: &OpenChange,
     cycle: u64,
-    by: By,
+    by: &By,
 ) -> Result<(), AllocError>
-    ensures { OnOk result (drafts.new.items ≡ drafts.old.items ++ undo_drafts by.job by.moment (of_cycle cycle (change.now ∷ []))) }
+    ensures { OnOk result (drafts.new.items ≡ drafts.old.items ++ undo_drafts by.now.job by.now.moment (of_cycle cycle (change.now ∷ []))) }
 {
     if change.is_of(cycle) {
         put_change(alloc, drafts, change, by)
@@ -52,9 +52,9 @@ fn put_change(
     alloc: Global,
     drafts: &mut Vec<Draft>,
     change: &OpenChange,
-    by: By,
+    by: &By,
 ) -> Result<(), AllocError>
-    ensures { OnOk result (drafts.new.items ≡ drafts.old.items ++ change_drafts by.job by.moment change.now (undo_kinds (before_of change.now.change) change.now.change.after)) }
+    ensures { OnOk result (drafts.new.items ≡ drafts.old.items ++ change_drafts by.now.job by.now.moment change.now (undo_kinds (before_of change.now.change) change.now.change.after)) }
 {
     match &change.before {
         None => put_kinds(alloc, drafts, change, &Slot::Deleted, by),
@@ -68,9 +68,9 @@ fn put_kinds(
     drafts: &mut Vec<Draft>,
     change: &OpenChange,
     given: &Slot,
-    by: By,
+    by: &By,
 ) -> Result<(), AllocError>
-    ensures { OnOk result (drafts.new.items ≡ drafts.old.items ++ change_drafts by.job by.moment change.now (undo_kinds given.now change.now.change.after)) }
+    ensures { OnOk result (drafts.new.items ≡ drafts.old.items ++ change_drafts by.now.job by.now.moment change.now (undo_kinds given.now change.now.change.after)) }
 {
     match given {
         Slot::Live(before) => match &change.after {
@@ -116,9 +116,9 @@ fn put(
     drafts: &mut Vec<Draft>,
     change: &OpenChange,
     kind: EntryKind,
-    by: By,
+    by: &By,
 ) -> Result<(), AllocError>
-    ensures { OnOk result (drafts.new.items ≡ drafts.old.items ++ change_drafts by.job by.moment change.now (kind ∷ [])) }
+    ensures { OnOk result (drafts.new.items ≡ drafts.old.items ++ change_drafts by.now.job by.now.moment change.now (kind ∷ [])) }
 {
     let Some(rrn) = change.place.checked_add(1) else {
         return Err(AllocError);

@@ -29,17 +29,17 @@ pub fn roll_back<S: Store, D: Describe>(
     journal: &mut KeptJournal,
     entries: &mut Vec<Entry>,
     replay: &mut Replay,
-    who: By,
+    who: &By,
 ) -> Result<(), RestartFault>
     requires keeps { KeepsLengths (D.rules by.now) }
     requires left { IsLeftBy (D.rules by.now) entries.old.items replay.old }
     requires held { S.tells → Holds journal.old entries.old.items (S.disk store.old) }
-    ensures ended { OnOk result (entries.new.items ≡ rolled_back who.job who.moment entries.old.items) }
+    ensures ended { OnOk result (entries.new.items ≡ rolled_back who.now.job who.now.moment entries.old.items) }
     ensures left { OnOk result (IsLeftBy (D.rules by.now) entries.new.items replay.new) }
     ensures closed { OnOk result (replay.new.cycles ≡ []) }
     ensures held { OnOk result (S.tells → Holds journal.new entries.new.items (S.disk store.new)) }
     ensures nothing_waits { OnOk result (journal.new.waiting ≡ 0) }
-    ensures moments { S.tells → Leaves (S.disk store.old) (S.disk store.new) (IsForcedOrFrom journal.old.chain.first journal.old.forced (length (rolled_back who.job who.moment entries.old.items)) (rolled_back who.job who.moment entries.old.items)) }
+    ensures moments { S.tells → Leaves (S.disk store.old) (S.disk store.new) (IsForcedOrFrom journal.old.chain.first journal.old.forced (length (rolled_back who.now.job who.now.moment entries.old.items)) (rolled_back who.now.job who.now.moment entries.old.items)) }
     ensures cause { IsErrOf result RestartFault.StoreFault → Rose (S.disk store.old).faults (S.disk store.new).faults }
 {
     let more = prepare(alloc, by, entries, replay, who)?;
@@ -53,11 +53,11 @@ fn prepare<D: Describe>(
     by: &D,
     entries: &[Entry],
     replay: &mut Replay,
-    who: By,
+    who: &By,
 ) -> Result<Vec<Entry>, AllocError>
     requires keeps { KeepsLengths (D.rules by.now) }
     requires left { IsLeftBy (D.rules by.now) entries.now replay.old }
-    ensures more { IfOk result (λ more. more.items ≡ rollback_entries who.job who.moment entries.now) }
+    ensures more { IfOk result (λ more. more.items ≡ rollback_entries who.now.job who.now.moment entries.now) }
     ensures left { IfOk result (λ more. IsLeftBy (D.rules by.now) (entries.now ++ more.items) replay.new) }
     ensures closed { OnOk result (replay.new.cycles ≡ []) }
 {

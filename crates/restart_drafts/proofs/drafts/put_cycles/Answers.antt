@@ -7,8 +7,8 @@ loop-cycle-init c = refl
 
 pub loop-cycle-preserved : goal.loop-cycle-preserved
 loop-cycle-preserved c =
-    cycle-next c.args.by.job c.args.by.moment c.args.cycles.now c.loop-cycle.cycle-index c.cycle-item.result c.args.open.now.undos _ c.loop-cycle.drafts.items c.put_rollback.new.drafts.items _ c.loop-cycle-test.true c.cycle-item.is
+    cycle-next c.args.by.now.job c.args.by.now.moment c.args.cycles.now c.loop-cycle.cycle-index c.cycle-item.result c.args.those.now.undos _ c.loop-cycle.drafts.items c.put_rollback.new.drafts.items _ c.loop-cycle-test.true c.cycle-item.is
     c.changes.ensures c.in_ok-put_rollback.ensures c.loop-cycle.invariant
 
 pub returns : goal.returns
-returns c = cycles-done c.args.by.job c.args.by.moment c.args.cycles.now c.loop-cycle.cycle-index c.args.open.now.undos c.loop-cycle.drafts.items _ (omega (arith, c.loop-cycle-test.false)) c.loop-cycle.invariant
+returns c = cycles-done c.args.by.now.job c.args.by.now.moment c.args.cycles.now c.loop-cycle.cycle-index c.args.those.now.undos c.loop-cycle.drafts.items _ (omega (arith, c.loop-cycle-test.false)) c.loop-cycle.invariant

@@ -7,6 +7,6 @@ use Rattle.restart_drafts.proofs.drafts.put_rollback.Goals as goal
 
 pub returns : goal.returns
 returns c =
-    let undos = undo_drafts c.args.by.job c.args.by.moment (of_cycle c.args.cycle (live c.args.changes.now)) in
+    let undos = undo_drafts c.args.by.now.job c.args.by.now.moment (of_cycle c.args.cycle (live c.args.changes.now)) in
     c.in_ok-push.ensures.items ∙ (ap (λ (ds : List Draft). ds ++ c.cycle_draft.result ∷ []) c.in_ok-put_undos.ensures
     ∙ (append_assoc c.args.drafts.now.items undos (c.cycle_draft.result ∷ []) ∙ ap (λ (d : Draft). c.args.drafts.now.items ++ (undos ++ d ∷ [])) c.cycle_draft.ensures))

@@ -5,7 +5,7 @@ use Rattle.restart_drafts.proofs.drafts.put_undos.Goals as goal
 pub loop-left-init : goal.loop-left-init
 loop-left-init c =
     let counted : c.len-left.result ≡ length c.args.changes.now = search (rules, c.len-left.ensures) in
-    (omega (arith, counted), undo-all c.args.by.job c.args.by.moment c.args.cycle c.args.changes.now c.len-left.result c.args.drafts.now.items counted)
+    (omega (arith, counted), undo-all c.args.by.now.job c.args.by.now.moment c.args.cycle c.args.changes.now c.len-left.result c.args.drafts.now.items counted)
 
 pub loop-left-preserved : goal.loop-left-preserved
 loop-left-preserved c =
@@ -13,9 +13,9 @@ loop-left-preserved c =
     let next : c.loop-left.left ≡ i + 1 = omega arith in
     let below : i < length c.args.changes.now = omega (arith, c.loop-left.invariant.0) in (
       omega (arith, c.loop-left.invariant.0),
-      undo-next c.args.by.job c.args.by.moment c.args.cycle c.args.changes.now c.loop-left.left i c.index-changes-left.result c.loop-left.drafts.items c.put_undo.new.drafts.items _ next below c.index-changes-left.is
+      undo-next c.args.by.now.job c.args.by.now.moment c.args.cycle c.args.changes.now c.loop-left.left i c.index-changes-left.result c.loop-left.drafts.items c.put_undo.new.drafts.items _ next below c.index-changes-left.is
           c.in_ok-put_undo.ensures c.loop-left.invariant.1,
     )
 
 pub returns : goal.returns
-returns c = undo-none c.args.by.job c.args.by.moment c.args.cycle c.args.changes.now c.loop-left.left c.loop-left.drafts.items _ (omega (arith, c.loop-left-test.false)) c.loop-left.invariant.1
+returns c = undo-none c.args.by.now.job c.args.by.now.moment c.args.cycle c.args.changes.now c.loop-left.left c.loop-left.drafts.items _ (omega (arith, c.loop-left-test.false)) c.loop-left.invariant.1
