@@ -16,12 +16,12 @@ pub some-open : (job : Option (List ℕ)) (moment n : ℕ) (more cycles : List �
 some-open job moment n more cycles undos is =
     subst (λ (cs : List ℕ). library_draft job moment AbnormalEnd ∷ all_rollback_drafts job moment cs undos ≡ restart_drafts job moment cs undos) (sym is) refl
 
-pub cycle-next : (job : Option (List ℕ)) (moment : ℕ) (cycles : List ℕ) (i cycle : ℕ) (undos changes : List MemberChange) (old new whole : List Draft) → i < length cycles → cycle ≡ get_or cycles i cycle → changes ≡ undos
+pub cycle-next : (job : Option (List ℕ)) (moment : ℕ) (cycles : List ℕ) (i cycle other : ℕ) (undos changes : List MemberChange) (old new whole : List Draft) → i < length cycles → cycle ≡ get_or cycles i other → changes ≡ undos
     → new ≡ old ++ rollback_drafts job moment cycle changes → old ++ all_rollback_drafts job moment (drop i cycles) undos ≡ whole → new ++ all_rollback_drafts job moment (drop (i + 1) cycles) undos ≡ whole
-cycle-next job moment cycles i cycle undos changes old new whole below is same put so_far =
+cycle-next job moment cycles i cycle other undos changes old new whole below is same put so_far =
     ap (λ (ds : List Draft). ds ++ all_rollback_drafts job moment (drop (i + 1) cycles) undos) (put ∙ ap (λ (us : List MemberChange). old ++ rollback_drafts job moment cycle us) same)
     ∙ (append_assoc old (rollback_drafts job moment cycle undos) (all_rollback_drafts job moment (drop (i + 1) cycles) undos)
-    ∙ (ap (λ (cs : List ℕ). old ++ all_rollback_drafts job moment cs undos) (sym (drop_more cycles i cycle below ∙ ap (λ (n : ℕ). n ∷ drop (i + 1) cycles) (sym is))) ∙ so_far))
+    ∙ (ap (λ (cs : List ℕ). old ++ all_rollback_drafts job moment cs undos) (sym (drop_more cycles i other below ∙ ap (λ (n : ℕ). n ∷ drop (i + 1) cycles) (sym is))) ∙ so_far))
 
 pub cycles-done : (job : Option (List ℕ)) (moment : ℕ) (cycles : List ℕ) (i : ℕ) (undos : List MemberChange) (now whole : List Draft) → length cycles ≤ i → now ++ all_rollback_drafts job moment (drop i cycles) undos ≡ whole → now ≡ whole
 cycles-done job moment cycles i undos now whole past so_far =

@@ -7,7 +7,7 @@ loop-cycle-init c = refl
 
 pub loop-cycle-preserved : goal.loop-cycle-preserved
 loop-cycle-preserved c =
-    cycle-next c.args.by.now.job c.args.by.now.moment c.args.cycles.now c.loop-cycle.cycle-index c.cycle-item.result c.args.those.now.undos _ c.loop-cycle.drafts.items c.put_rollback.new.drafts.items _ c.loop-cycle-test.true c.cycle-item.is
+    cycle-next c.args.by.now.job c.args.by.now.moment c.args.cycles.now c.loop-cycle.cycle-index _ _ c.args.those.now.undos _ c.loop-cycle.drafts.items c.put_rollback.new.drafts.items _ c.loop-cycle-test.true refl
     c.changes.ensures c.in_ok-put_rollback.ensures c.loop-cycle.invariant
 
 pub returns : goal.returns

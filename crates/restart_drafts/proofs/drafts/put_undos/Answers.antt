@@ -1,11 +1,9 @@
-use Rattle.std.proofs.Common.{◌≡◌, ◌+◌, ◌-◌, ◌<◌, length, arith, rules}
+use Rattle.std.proofs.Common.{◌≡◌, ◌+◌, ◌-◌, ◌<◌, length, refl, arith}
 use Rattle.restart_drafts.proofs.Drafting.{undo-all, undo-next, undo-none}
 use Rattle.restart_drafts.proofs.drafts.put_undos.Goals as goal
 
 pub loop-left-init : goal.loop-left-init
-loop-left-init c =
-    let counted : c.len-left.result ≡ length c.args.changes.now = search (rules, c.len-left.ensures) in
-    (omega (arith, counted), undo-all c.args.by.now.job c.args.by.now.moment c.args.cycle c.args.changes.now c.len-left.result c.args.drafts.now.items counted)
+loop-left-init c = (omega arith, undo-all c.args.by.now.job c.args.by.now.moment c.args.cycle c.args.changes.now (length c.args.changes.now) c.args.drafts.now.items refl)
 
 pub loop-left-preserved : goal.loop-left-preserved
 loop-left-preserved c =
