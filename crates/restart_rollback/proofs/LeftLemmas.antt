@@ -1,7 +1,6 @@
 -- The drafts of what is left open are those of the journal's restart.
-use Rattle.std.proofs.Common.{◌≡◌, ℕ, ◌+◌, Option, List, [], None, sym, ◌∙◌, ap}
+use Rattle.std.proofs.Common.{◌≡◌, ℕ, Option, List, [], None, ◌∙◌, ap}
 use Rattle.entry_codec.specs.declared.entries.Entry.{Entry}
-use Rattle.entry_codec.specs.declared.entries.Draft.{Draft}
 use Rattle.journal_model.specs.Catalogue.{Descriptions}
 use Rattle.journal_model.specs.Journal.{open_cycles}
 use Rattle.journal_model.specs.Rollback.{MemberChange, restart_drafts, undos_of}
