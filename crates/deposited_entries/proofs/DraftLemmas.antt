@@ -48,7 +48,7 @@ IsPlain d = is_tie d.kind ≡ false
 abbrev pub ArePlain : List Draft → Type 0
 ArePlain drafts = AllByRecursion IsPlain drafts
 
-inside : (e : Entry) → is_tie e.kind ≡ false → IsInside e
+pub inside : (e : Entry) → is_tie e.kind ≡ false → IsInside e
 inside e plain number (inl next) = absurd (false≢true (sym plain ∙ ap is_tie next))
 inside e plain number (inr prior) = absurd (false≢true (sym plain ∙ ap is_tie prior))
 
@@ -84,7 +84,7 @@ change-plain author job new None m = tt
 change-plain author job new (Some images) m = by new.opened.commit
   where
     by : (commit : Bool) → ArePlain ((if commit then begins_cycle author m job else []) ++ slot_drafts author (cycle_number commit m job) (commit || are_both images) (is_behind_last new.opened.member new.rrn m)
-      new.opened.member new.rrn (slot_there new.opened.member new.rrn m) new.slot)
+        new.opened.member new.rrn (slot_there new.opened.member new.rrn m) new.slot)
     by true = plain-append (begins_cycle author m job) _ (begins-plain author m job (is_some job.cycle) refl) (slot-plain author (cycle_number true m job) true (is_behind_last new.opened.member new.rrn m) new.opened.member new.rrn (slot_there new.opened.member new.rrn m) new.slot)
     by false = slot-plain author None (are_both images) (is_behind_last new.opened.member new.rrn m) new.opened.member new.rrn (slot_there new.opened.member new.rrn m) new.slot
 

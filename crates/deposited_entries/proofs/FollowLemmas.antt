@@ -35,7 +35,7 @@ use Rattle.library_steps.specs.Refusals.{refuse_if, sequences_left}
 use Rattle.library_steps.specs.SlotChange.{NewSlot, change_made, cycle_for, drafts_of, images_of, slot_changed, touched, with_slot, with_undo}
 use Rattle.library_steps.specs.Step.{change}
 use Rattle.deposited_entries.specs.Deposits.{is_switch, is_tie}
-use Rattle.deposited_entries.proofs.DraftLemmas.{ArePlain, are-numbered, change-plain, commit-plain, end-plain, initial-plain, journaled-plain, numbered-length, plain-inside, taken-plain}
+use Rattle.deposited_entries.proofs.DraftLemmas.{ArePlain, are-numbered, change-plain, commit-plain, end-plain, initial-plain, inside, journaled-plain, numbered-length, plain-inside, taken-plain}
 use Rattle.deposited_entries.proofs.PlanLemmas.{Holds, HasPlain, apply-plain, remove-plain, then-holds}
 
 -- the entries come behind the last one, and are counted
@@ -68,6 +68,15 @@ none-follow last c none same =
     record {
       follow = record { numbered = subst (λ (l : List Entry). AreNumbered (last + 1) l) (sym none) tt; last = omega (arith, same, count) };
       inside = subst (λ (l : List Entry). AllByRecursion IsInside l) (sym none) tt;
+    }
+
+-- one entry
+pub one-follow : (last : ℕ) (e : Entry) (c : Change) → c.entries ≡ e ∷ [] → e.sequence ≡ last + 1 → is_tie e.kind ≡ false → c.memory.last_entry ≡ last + 1 → FollowInside last c
+one-follow last e c one sequence plain same =
+    let count : length c.entries ≡ 1 = ap length one in
+    record {
+      follow = record { numbered = subst (λ (l : List Entry). AreNumbered (last + 1) l) (sym one) (sequence, tt); last = omega (arith, same, count) };
+      inside = subst (λ (l : List Entry). AllByRecursion IsInside l) (sym one) (inside e plain, tt);
     }
 
 does-follow : {A : Type 0} (effect : A → Change) (plan : Result A Reply) (P : Change → Type 0) (c : Change) → does effect plan ≡ Ok c → ((a : A) → P (effect a)) → P c
@@ -132,22 +141,22 @@ delete-inside m job timestamp new =
 
 pub inside-each : (sources : List NamedSource) (entries : List Entry) (m : Memory) (job timestamp : ℕ) (request : Request) (c : Change) → change sources entries m job timestamp request ≡ Ok c → is_switch request ≡ false → FollowInside m.last_entry c
 unfolding change
-inside-each sources entries m job timestamp (CreatePhysicalFile args) c is other = does-follow _ _ (FollowInside m.last_entry) c is (λ a. drafts-inside _ (_ ∷ []) _ _ m.last_entry refl (refl, tt))
-inside-each sources entries m job timestamp (CreateLogicalFile args) c is other = does-follow _ _ (FollowInside m.last_entry) c is (λ a. drafts-inside _ (_ ∷ []) _ _ m.last_entry refl (refl, tt))
-inside-each sources entries m job timestamp (DeleteFile args) c is other = does-follow _ _ (FollowInside m.last_entry) c is (λ a. drafts-inside _ (_ ∷ []) _ _ m.last_entry refl (refl, tt))
-inside-each sources entries m job timestamp (AddMember args) c is other = does-follow _ _ (FollowInside m.last_entry) c is (λ a. drafts-inside _ (_ ∷ []) _ _ m.last_entry refl (refl, tt))
+inside-each sources entries m job timestamp (CreatePhysicalFile args) c is other = does-follow _ _ (FollowInside m.last_entry) c is (λ a. one-follow m.last_entry _ _ refl refl refl refl)
+inside-each sources entries m job timestamp (CreateLogicalFile args) c is other = does-follow _ _ (FollowInside m.last_entry) c is (λ a. one-follow m.last_entry _ _ refl refl refl refl)
+inside-each sources entries m job timestamp (DeleteFile args) c is other = does-follow _ _ (FollowInside m.last_entry) c is (λ a. one-follow m.last_entry _ _ refl refl refl refl)
+inside-each sources entries m job timestamp (AddMember args) c is other = does-follow _ _ (FollowInside m.last_entry) c is (λ a. one-follow m.last_entry _ _ refl refl refl refl)
 inside-each sources entries m job timestamp (ClearMember args) c is other = does-follow _ _ (FollowInside m.last_entry) c is (λ a. renumbering-inside m job timestamp MemberCleared cleared a refl)
 inside-each sources entries m job timestamp (ReorganizeMember args) c is other = does-follow _ _ (FollowInside m.last_entry) c is (λ a. renumbering-inside m job timestamp MemberReorganized reorganized a refl)
 inside-each sources entries m job timestamp (StartJournaling args) c is other = does-follow _ _ (FollowInside m.last_entry) c is (λ a. start-inside m job timestamp args a)
-inside-each sources entries m job timestamp (EndJournaling args) c is other = does-follow _ _ (FollowInside m.last_entry) c is (λ a. drafts-inside _ (_ ∷ []) _ _ m.last_entry refl (refl, tt))
+inside-each sources entries m job timestamp (EndJournaling args) c is other = does-follow _ _ (FollowInside m.last_entry) c is (λ a. one-follow m.last_entry _ _ refl refl refl refl)
 inside-each sources entries m job timestamp ChangeJournal c is other = absurd cc
 inside-each sources entries m job timestamp (DeleteReceiver args) c is other = does-follow _ _ (FollowInside m.last_entry) c is (λ a. none-follow m.last_entry _ refl refl)
 inside-each sources entries m job timestamp Checkpoint c is other = does-follow _ _ (FollowInside m.last_entry) c is (λ a. none-follow m.last_entry _ refl refl)
 inside-each sources entries m job timestamp (DisplayJournal args) c is other = does-follow _ _ (FollowInside m.last_entry) c is (λ a. none-follow m.last_entry _ refl refl)
 inside-each sources entries m job timestamp (ApplyChanges args) c is other = does-plain _ _ (FollowInside m.last_entry) c is (apply-plain entries m job timestamp args) (range-inside m)
 inside-each sources entries m job timestamp (RemoveChanges args) c is other = does-plain _ _ (FollowInside m.last_entry) c is (remove-plain entries m job timestamp args) (range-inside m)
-inside-each sources entries m job timestamp (StartCommitment args) c is other = does-follow _ _ (FollowInside m.last_entry) c is (λ a. drafts-inside _ (_ ∷ []) _ _ m.last_entry refl (refl, tt))
-inside-each sources entries m job timestamp EndCommitment c is other = does-follow _ _ (FollowInside m.last_entry) c is (λ a. drafts-inside _ (_ ∷ []) _ _ m.last_entry refl (refl, tt))
+inside-each sources entries m job timestamp (StartCommitment args) c is other = does-follow _ _ (FollowInside m.last_entry) c is (λ a. one-follow m.last_entry _ _ refl refl refl refl)
+inside-each sources entries m job timestamp EndCommitment c is other = does-follow _ _ (FollowInside m.last_entry) c is (λ a. one-follow m.last_entry _ _ refl refl refl refl)
 inside-each sources entries m job timestamp Commit c is other = does-follow _ _ (FollowInside m.last_entry) c is (λ a. commit-inside m job timestamp)
 inside-each sources entries m job timestamp Rollback c is other = does-follow _ _ (FollowInside m.last_entry) c is (λ a. rollback-inside m job timestamp)
 inside-each sources entries m job timestamp (OpenFile args) c is other = does-follow _ _ (FollowInside m.last_entry) c is (λ a. none-follow m.last_entry _ refl refl)
@@ -203,7 +212,8 @@ pub all-follow : (sources : List NamedSource) (entries : List Entry) (m : Memory
 all-follow sources entries m job timestamp request c is = by request is
   where
     other : (r : Request) → change sources entries m job timestamp r ≡ Ok c → is_switch r ≡ false → Follow m.last_entry c
-    other r same no = (inside-each sources entries m job timestamp r c same no).follow
+    other r same plain = (inside-each sources entries m job timestamp r c same plain).follow
+
     by : (r : Request) → change sources entries m job timestamp r ≡ Ok c → Follow m.last_entry c
     by (CreatePhysicalFile args) same = other (CreatePhysicalFile args) same refl
     by (CreateLogicalFile args) same = other (CreateLogicalFile args) same refl

@@ -118,7 +118,15 @@ fn end_parts<S: Store, D: Describe>(
     let mut replay = replay;
     begin_receiver(store, by, &mut book, &mut entries, &mut replay, who)?;
     let mut journal = KeptJournal::over(book)?;
-    roll_back(alloc, store, by, &mut journal, &mut entries, &mut replay, who)?;
+    roll_back(
+        alloc,
+        store,
+        by,
+        &mut journal,
+        &mut entries,
+        &mut replay,
+        who,
+    )?;
     Ok(RestartedJournal {
         journal,
         entries,

@@ -1,0 +1,20 @@
+//! Law: what the entries that a call deposits name. Nothing runs here: the function is empty, and its contract is the law.
+#![tactic(auto)]
+
+ghost use Rattle.std.specs.Prelude.{◌≡◌, ℕ, IsTrue, Ok, List};
+ghost use Rattle.library_model.specs.declared.requests.Request.{Request};
+ghost use Rattle.library_model.specs.declared.sources.NamedSource.{NamedSource};
+ghost use Rattle.library_steps.specs.State.{State, job_at, memory_of};
+ghost use Rattle.library_steps.specs.Change.{Change};
+ghost use Rattle.library_steps.specs.History.{is_running};
+ghost use Rattle.library_steps.specs.Step.{change};
+ghost use Rattle.joint_state.specs.Sound.{IsSound};
+ghost use Rattle.counted_states.specs.Counted.{IsCounted};
+ghost use Rattle.placed_entries.specs.Placed.{ArePlaced};
+
+/// Whatever a running job asks of a sound library whose numbers count from 1, each entry that it deposits names a group, a member and a record as its
+/// kind wants.
+pub fn entries_are_placed()
+    ensures { (sources : List NamedSource) (s : State) (job timestamp : ℕ) (request : Request) (c : Change) → IsSound s → IsCounted (memory_of s) → IsTrue (is_running (job_at job s.jobs))
+        → change sources s.entries (memory_of s) job timestamp request ≡ Ok c → ArePlaced c.entries }
+{}
