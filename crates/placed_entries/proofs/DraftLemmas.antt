@@ -1,8 +1,8 @@
 -- Drafts whose entries name what their kinds want, whatever their sequences are.
-use Rattle.std.proofs.Common.{◌≡◌, ◌≤◌, ℕ, zero, suc, ◌+◌, ◌==◌, nat_lt, Bool, true, false, ◌&&◌, ◌||◌, if◌then◌else◌, cond, Option, Some, None, IsTrue, List, [], ◌∷◌, ◌++◌, length, map, refl, sym, ◌∙◌, ap, subst, arith}
+use Rattle.std.proofs.Common.{◌≡◌, ◌≤◌, ℕ, ◌+◌, ◌==◌, nat_lt, Bool, true, false, ◌&&◌, ◌||◌, if◌then◌else◌, cond, Option, Some, None, IsTrue, List, [], ◌∷◌, ◌++◌, length, map, refl, sym, ◌∙◌, ap, subst, arith}
 use Rattle.std.specs.List.{AllByRecursion, filter}
 use Rattle.std.specs.Option.{is_some}
-use Rattle.std.proofs.lemmas.Bool.{eq-eqb}
+use Rattle.std.proofs.lemmas.Bool.{eq-eqb, lt-ltb}
 use Rattle.commit_level.specs.declared.Level.{Level}
 use Rattle.entry_codec.specs.declared.entries.Draft.{Draft}
 use Rattle.entry_codec.specs.declared.kinds.EntryKind.{EntryKind}
@@ -46,8 +46,7 @@ stand-append (x ∷ xs) ys left right = (left.0, stand-append xs ys left.1 right
 -- ---- numbers from 1
 
 pub present : (n : ℕ) → 1 ≤ n → nat_lt 0 n ≡ true
-present zero from = absurd (omega (arith, from))
-present (suc n) from = refl
+present n from = lt-ltb 0 n (omega (arith, from))
 
 both-true : (a b : Bool) → a ≡ true → b ≡ true → (a && b && true) ≡ true
 both-true true true one two = refl

@@ -1,5 +1,5 @@
 -- What the entries of each request name.
-use Rattle.std.proofs.Common.{◌≡◌, ◌≤◌, ℕ, ◌+◌, ◌==◌, Bool, true, false, length, IsTrue, Option, Some, None, is_some, Result, Ok, Err, IfOk, List, [], ◌∷◌, ◌++◌, refl, sym, ◌∙◌, ap, subst, arith}
+use Rattle.std.proofs.Common.{◌≡◌, ◌≤◌, ℕ, ◌+◌, ◌==◌, Bool, true, false, if◌then◌else◌, length, IsTrue, Option, Some, None, is_some, Result, Ok, Err, IfOk, List, [], ◌∷◌, ◌++◌, refl, sym, ◌∙◌, ap, subst, arith}
 use Rattle.std.specs.List.{AllByRecursion}
 use Rattle.std.proofs.lemmas.Bool.{eqb-true}
 use Rattle.entry_codec.specs.declared.entries.Entry.{Entry}
@@ -87,6 +87,9 @@ held (Err reply) work holds is = absurd cc
 
 -- ---- each request
 
+pub record Placed (done : Change) : Type 0 where
+  pub its : ArePlaced done.entries
+
 module _ (s : State) (job timestamp : ℕ) (sound : IsSound s) (counted : IsCounted (memory_of s)) (running : IsTrue (is_running (job_at job s.jobs))) where
   abbrev m : Memory
   m = memory_of s
@@ -94,14 +97,11 @@ module _ (s : State) (job timestamp : ℕ) (sound : IsSound s) (counted : IsCoun
   abbrev author : Author
   author = author_of m job timestamp
 
-  abbrev Placed : Change → Type 0
-  Placed done = ArePlaced done.entries
-
   placed : (done : Change) (k : ℕ) (drafts : List Draft) → done.entries ≡ numbered_from (k + 1) drafts → AllMayStand drafts → Placed done
-  placed done k drafts is may = subst ArePlaced (sym is) (drafts-placed (k + 1) drafts (omega arith) may)
+  placed done k drafts is may = record { its = subst ArePlaced (sym is) (drafts-placed (k + 1) drafts (omega arith) may) }
 
   silent : (done : Change) → done.entries ≡ [] → Placed done
-  silent done none = subst ArePlaced (sym none) tt
+  silent done none = record { its = subst ArePlaced (sym none) tt }
 
   free-from : (status : MemberStatus) → IsFree s status → 1 ≤ status.number
   free-from status free = owned-counted s free.name free.file status.number sound counted free.has.owns
