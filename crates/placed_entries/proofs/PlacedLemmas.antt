@@ -57,7 +57,7 @@ use Rattle.placed_entries.proofs.RangeLemmas.{Holds, StandWhereNumbered, apply-s
 -- ---- numbers that are there
 
 there-counted : (number : ℕ) (members : NumberedMembers) → AreNumbersCounted members → is_some (member_at number members) ≡ true → 1 ≤ number
-there-counted number [] are there = absurd cc
+there-counted number [] are = λ there. absurd cc
 there-counted number (entry ∷ members) are =
     elim (entry.number == number) as (λ b. (entry.number == number) ≡ b → is_some (if b then Some entry.item else member_at number members) ≡ true → 1 ≤ number) [
       | true ↦ λ same there. (let its = eqb-true entry.number number same in omega (arith, its, are.0))

@@ -1,0 +1,4 @@
+pub mod CreatedLemmas
+pub mod WorkLemmas
+pub mod FieldLemmas
+pub mod SpelledLemmas
