@@ -1,3 +1,0 @@
-pub mod DraftLemmas
-pub mod RangeLemmas
-pub mod PlacedLemmas

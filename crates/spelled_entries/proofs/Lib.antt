@@ -1,4 +1,0 @@
-pub mod CreatedLemmas
-pub mod WorkLemmas
-pub mod FieldLemmas
-pub mod SpelledLemmas
