@@ -30,7 +30,7 @@ use Rattle.library_model.specs.Named.{Named}
 use Rattle.library_steps.specs.State.{FileState, JobState}
 use Rattle.library_steps.specs.Uses.{changes_in, first_job, uses}
 use Rattle.library_parts.specs.Indexed.{HasBytes, MemberHasBytes, ArePaths, OpensRead, changes_on, IsIndexed}
-use Rattle.library_parts.proofs.BackLemmas.{neither, unused-unchanged}
+use Rattle.lawful_states.proofs.BackLemmas.{neither, unused-unchanged}
 use Rattle.library_parts.proofs.IndexPaths.{IsOfOwner, any-own, any-with, changes-none, kept-of, moves-stay, moves-with, of-file, orders-stay, over-other, room-fewer}
 use Rattle.library_parts.proofs.IndexShared.{files-stay}
 use Rattle.library_parts.proofs.IndexGone.{jobs-free}

@@ -1,17 +1,10 @@
-pub mod MemberLemmas
-pub mod BackLemmas
-pub mod BaseLemmas
 pub mod DueLemmas
 pub mod BoundaryLemmas
 pub mod TakingBackLemmas
 pub mod LawfulLemmas
-pub mod LockLemmas
 pub mod ResultLemmas
-pub mod FileLemmas
 pub mod AnswerLemmas
 pub mod FindLemmas
-pub mod DeleteLemmas
-pub mod AddLemmas
 pub mod IndexPaths
 pub mod IndexShared
 pub mod IndexOpens

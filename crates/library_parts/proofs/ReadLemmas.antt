@@ -1,6 +1,5 @@
 -- What an open reads is there, and what it finds is a record that stands in its member.
-use Rattle.std.proofs.Common.{◌≡◌, ℕ, suc, ◌+◌, ◌-◌, ◌≤◌, ◌==◌, ◌&&◌, nat_lt, Bool, true, false, List, [], ◌∷◌, ◌++◌, length, map, Option, Some, None, is_some, IsSome, IfSome, slice_get, refl}
-use Rattle.std.proofs.Common.{sym, ap, subst, ◌∙◌, arith}
+use Rattle.std.proofs.Common.{◌≡◌, ℕ, suc, ◌+◌, ◌-◌, ◌≤◌, ◌==◌, ◌&&◌, nat_lt, Bool, true, false, List, [], ◌∷◌, ◌++◌, length, map, Option, Some, None, is_some, IsSome, IfSome, slice_get, refl, sym, ap, subst, ◌∙◌, arith}
 use Rattle.std.specs.Prelude.{All, filter, unwrap_or}
 use Rattle.std.specs.Option.{option_map}
 use Rattle.std.specs.List.{AllByRecursion}
@@ -43,8 +42,8 @@ use Rattle.logical_paths.specs.KeyedViews.{HaveRecords}
 use Rattle.logical_paths.proofs.ViewLemmas.{keys-short, paths-bytes}
 use Rattle.physical_paths.specs.KeyedFiles.{IsKeyed, HasRecordsOf}
 use Rattle.physical_paths.proofs.RecordLemmas.{keys-within, path-bytes}
-use Rattle.file_catalogue.specs.Physical.{IsPhysical}
-use Rattle.file_catalogue.proofs.NameLemmas.{some-equal}
+use Rattle.lawful_states.specs.Physical.{IsPhysical}
+use Rattle.lawful_states.proofs.NameLemmas.{some-equal}
 use Rattle.file_cursor.specs.declared.places.Hit.{Hit}
 use Rattle.file_cursor.specs.CursorPosition.{entry_of}
 use Rattle.open_position.specs.declared.reads.ReadBy.{ReadBy}
@@ -64,9 +63,10 @@ use Rattle.library_steps.specs.State.{State, Memory, FileState, OpenState, field
 use Rattle.library_parts.specs.Finds.{ReadsMember}
 use Rattle.library_parts.specs.Indexed.{IsByArrival, IsReadSo, IsSimple, IsView, IsViewBeside, ReadsBy, path_by, path_read, IsIndexed}
 use Rattle.library_parts.specs.Keyed.{AllAreKeyed}
-use Rattle.library_parts.specs.Lawful.{IsBased, IsLibrary, IsThere, StandsOver}
+use Rattle.lawful_states.specs.Lawful.{IsBased, IsLibrary, IsThere, StandsOver}
 use Rattle.library_parts.specs.Reads.{ReadsAmong, formats_by, has_positions}
-use Rattle.library_parts.proofs.FindLemmas.{HasBase, IsOverOwn, has-base, physical-opened, view-of}
+use Rattle.lawful_states.proofs.FindLemmas.{HasBase, has-base, physical-opened}
+use Rattle.library_parts.proofs.FindLemmas.{IsOverOwn, view-of}
 use Rattle.library_parts.proofs.OpenLooks.{IsReadBy, member-is, reads-keyed, reads-path, records-there}
 
 -- ---- the records that stand

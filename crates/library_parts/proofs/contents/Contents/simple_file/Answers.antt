@@ -1,7 +1,8 @@
 use Rattle.std.proofs.Common.{◌≡◌, Some}
 use Rattle.library_model.specs.Named.{named}
 use Rattle.library_parts.specs.Parts.{state_of}
-use Rattle.library_parts.proofs.FindLemmas.{found-is, simple-of}
+use Rattle.lawful_states.proofs.FindLemmas.{found-is}
+use Rattle.library_parts.proofs.FindLemmas.{simple-of}
 use Rattle.library_parts.proofs.contents.Contents.simple_file.Goals as goal
 
 pub returns-clause-simple : goal.returns-clause-simple

@@ -7,15 +7,15 @@ use Rattle.member_slots.specs.Member.{MemberState, FitsSlot, empty_member}
 use Rattle.member_slots.specs.Members.{NumberedMembers, member_at, member_of, with_member}
 use Rattle.journal_model.specs.Replay.{before_of}
 use Rattle.journal_model.specs.Rollback.{MemberChange}
-use Rattle.file_catalogue.specs.Owners.{Owns}
-use Rattle.job_table.specs.Changes.{cycle_from}
+use Rattle.lawful_states.specs.Owners.{Owns}
+use Rattle.lawful_states.specs.Jobs.{cycle_from}
 use Rattle.lock_table.specs.declared.lock.Lock.{Lock}
 use Rattle.library_model.specs.Named.{Named}
 use Rattle.library_steps.specs.State.{FileState, CycleState, JobState, job_at, or_new, fields_of}
 use Rattle.library_steps.specs.SlotChange.{noted}
 use Rattle.library_steps.specs.Uses.{first_job, changes_in, has_open_over, has_changed, has_boundary_lock, uses}
-use Rattle.library_parts.specs.Lawful.{HoldsValues, FitsPlace, GoesBack, CycleGoesBack, AllGoBack}
-use Rattle.library_parts.proofs.MemberLemmas.{item_at-with_item_other, item_at-with_item_same}
+use Rattle.lawful_states.specs.Lawful.{HoldsValues, FitsPlace, GoesBack, CycleGoesBack, AllGoBack}
+use Rattle.lawful_states.proofs.MemberLemmas.{item_at-with_item_other, item_at-with_item_same}
 
 -- ---- one change
 

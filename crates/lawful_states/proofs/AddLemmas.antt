@@ -6,21 +6,21 @@ use Rattle.std.proofs.lemmas.Bool.Decides.{nat_tests}
 use Rattle.member_slots.specs.Member.{empty_member}
 use Rattle.member_slots.specs.Members.{member_at, put_member}
 use Rattle.record_fmt.specs.Layout.{record_length}
-use Rattle.file_catalogue.specs.Owners.{Owns, has_number}
-use Rattle.file_catalogue.proofs.NameLemmas.{same_name-equal, some-equal}
-use Rattle.file_catalogue.proofs.ChangeLemmas.{named-file_changed, changed-from}
-use Rattle.file_catalogue.proofs.StatusLemmas.{has_number-push}
+use Rattle.lawful_states.specs.Owners.{Owns, has_number}
+use Rattle.lawful_states.proofs.NameLemmas.{same_name-equal, some-equal}
+use Rattle.lawful_states.proofs.ChangeLemmas.{named-file_changed, changed-from}
+use Rattle.lawful_states.proofs.StatusLemmas.{has_number-push}
 use Rattle.library_model.specs.Named.{named, same_name}
 use Rattle.library_steps.specs.State.{State, FileState, fields_of, physical_among}
 use Rattle.library_steps.specs.MemberCommands.{file_changed, with_member_name}
 use Rattle.journal_model.specs.Replay.{before_of}
 use Rattle.journal_model.specs.Rollback.{MemberChange}
-use Rattle.library_parts.specs.Lawful.{HoldsValues, IsThere, GoesBack, AreOne}
-use Rattle.library_parts.proofs.MemberLemmas.{item_at-put_item_other, item_at-put_item_same}
-use Rattle.library_parts.proofs.BaseLemmas.{AreBased-wider, OpenHolds-kept, kept-wider, physical-found}
-use Rattle.library_parts.proofs.LawfulLemmas.{jobs-each}
-use Rattle.library_parts.proofs.BackLemmas.{FitsPlace-same, AllGoBack-each}
-use Rattle.library_parts.proofs.FileLemmas.{number-below, Owns-below, bytes-put_member, numbers-put_member}
+use Rattle.lawful_states.specs.Lawful.{HoldsValues, IsThere, GoesBack, AreOne}
+use Rattle.lawful_states.proofs.MemberLemmas.{item_at-put_item_other, item_at-put_item_same}
+use Rattle.lawful_states.proofs.BaseLemmas.{AreBased-wider, OpenHolds-kept, kept-wider, physical-found}
+use Rattle.lawful_states.proofs.LawfulLemmas.{jobs-each}
+use Rattle.lawful_states.proofs.BackLemmas.{FitsPlace-same, AllGoBack-each}
+use Rattle.lawful_states.proofs.FileLemmas.{number-below, Owns-below, bytes-put_member, numbers-put_member}
 
 module _ (s : State) (bytes : ℕ) (name member : List ℕ) (file : FileState) (one : AreOne s bytes) (found : physical_among name s.files ≡ Some file) where
   there : named name s.files ≡ Some file

@@ -14,8 +14,8 @@ use Rattle.record_fmt.specs.Layout.{record_length}
 use Rattle.record_fmt.specs.Records.{record_held}
 use Rattle.dds_logical.specs.declared.views.LogicalSpec.{LogicalSpec}
 use Rattle.logical_model.specs.Bases.{FileSpec, PhysicalFile, LogicalFile, base_names, base_members}
-use Rattle.file_catalogue.specs.Owners.{Owns, has_number}
-use Rattle.job_table.specs.Users.{AreOfJobs}
+use Rattle.lawful_states.specs.Owners.{Owns, has_number}
+use Rattle.lawful_states.specs.Jobs.{AreOfJobs}
 use Rattle.library_model.specs.Named.{Named, named}
 use Rattle.library_steps.specs.declared.limits.TheConstants.{MOST_LIBRARY_BYTES}
 use Rattle.library_steps.specs.State.{State, FileState, MemberStatus, OpenState, CycleState, JobState, fields_of, physical_among}
@@ -94,7 +94,7 @@ CycleGoesBack files members (Some cycle) = AllByRecursion (GoesBack files member
 abbrev pub AllGoBack : Named FileState → NumberedMembers → List JobState → Type 0
 AllGoBack files members jobs = AllByRecursion (λ job. CycleGoesBack files members job.cycle) jobs
 
--- that no two files or members have one number is known of the files alone (file_catalogue)
+-- that no two files or members have one number is known of the files alone (AreApart)
 pub record IsLibrary (s : State) : Type 0 where
   pub members : (name : List ℕ) (file : FileState) (number : ℕ) → Owns s.files name file number → IsThere (fields_of file) (member_at number s.members)
   pub bases : AreBased s.files

@@ -6,8 +6,8 @@ use Rattle.std.specs.Map.{keys_of}
 use Rattle.library_model.specs.Named.{Named, named, same_name}
 use Rattle.library_steps.specs.State.{FileState}
 use Rattle.library_steps.specs.SlotChange.{status_in, status_among}
-use Rattle.file_catalogue.specs.Owners.{has_number, owner, status_of, Owns, AreApart, IsOwned}
-use Rattle.file_catalogue.proofs.NameLemmas.{same_name-equal, same_name-self, same_name-symm, some-equal}
+use Rattle.lawful_states.specs.Owners.{has_number, owner, status_of, Owns, AreApart, IsOwned}
+use Rattle.lawful_states.proofs.NameLemmas.{same_name-equal, same_name-self, same_name-symm, some-equal}
 
 pub owned-apart : {files : Named FileState} {found : ℕ → Option (List ℕ)} → IsOwned files found → AreApart files
 owned-apart {files} {found} is = record {

@@ -2,9 +2,9 @@
 use Rattle.std.specs.Prelude.{ℕ, ◌*◌, List, [], ◌∷◌, ◌++◌, length, filter}
 use Rattle.member_slots.specs.Member.{MemberState, is_live}
 use Rattle.member_slots.specs.declared.slot.Slot.{Slot}
-use Rattle.file_catalogue.specs.Owners.{Owns}
+use Rattle.lawful_states.specs.Owners.{Owns}
 use Rattle.library_steps.specs.State.{State, FileState, fields_of}
-use Rattle.library_parts.specs.Lawful.{HoldsValues}
+use Rattle.lawful_states.specs.Lawful.{HoldsValues}
 
 -- whatever file has the member, a value stands in each of its fields in the slot
 abbrev pub MayStand : State → (member : ℕ) → Slot → Type 0

@@ -12,8 +12,8 @@ use Rattle.member_slots.specs.Members.{Numbered, NumberedMembers, item_at, put_i
 use Rattle.record_fmt.specs.declared.formats.Field.{Field}
 use Rattle.library_steps.specs.Ranges.{library_bytes}
 use Rattle.library_steps.specs.SlotChange.{slot_put}
-use Rattle.library_parts.specs.Lawful.{HoldsValues, HasRecords, IsThere}
-use Rattle.library_parts.specs.Slots.{weight}
+use Rattle.lawful_states.specs.Lawful.{HoldsValues, HasRecords, IsThere}
+use Rattle.lawful_states.specs.Slots.{weight}
 
 pub item_at-put_item_other : {A : Type 0} (n k : ℕ) (x : A) (xs : List (Numbered A)) → n ≢ k → item_at n (put_item k x xs) ≡ item_at n xs
 item_at-put_item_other n k x [] other = grind (arith, nat_tests)

@@ -6,10 +6,10 @@ use Rattle.library_model.specs.Named.{Named}
 use Rattle.library_steps.specs.State.{MemberStatus}
 use Rattle.library_steps.specs.CreatePhysicalFile.{new_status}
 use Rattle.library_steps.specs.MemberCommands.{renumbered}
-use Rattle.file_catalogue.specs.Statuses.{after}
-use Rattle.file_catalogue.specs.declared.changes.StatusChange.{StatusChange}
-use Rattle.file_catalogue.specs.declared.changes.StatusChange.TheVariants.{Touched, Renumbered, Journaled, Unjournaled}
-use Rattle.file_catalogue.specs.Owners.{has_number, numbers_of}
+use Rattle.lawful_states.specs.Statuses.{after}
+use Rattle.lawful_states.specs.declared.changes.StatusChange.{StatusChange}
+use Rattle.lawful_states.specs.declared.changes.StatusChange.TheVariants.{Touched, Renumbered, Journaled, Unjournaled}
+use Rattle.lawful_states.specs.Owners.{has_number, numbers_of}
 
 renumbered-number : (sequence : ℕ) (status : MemberStatus) → (renumbered sequence status).number ≡ status.number
 renumbered-number sequence status =

@@ -8,10 +8,10 @@ use Rattle.member_slots.specs.Members.{NumberedMembers, member_at, put_member}
 use Rattle.record_fmt.specs.Layout.{record_length}
 use Rattle.dds_physical.specs.declared.physical_files.PhysicalSpec.{PhysicalSpec}
 use Rattle.logical_model.specs.Bases.{FileSpec, PhysicalFile, LogicalFile}
-use Rattle.file_catalogue.specs.Owners.{Owns, has_number}
-use Rattle.file_catalogue.specs.Physical.{IsPhysical}
-use Rattle.file_catalogue.proofs.NameLemmas.{named-append}
-use Rattle.file_catalogue.proofs.OwnerLemmas.{unowned-status}
+use Rattle.lawful_states.specs.Owners.{Owns, has_number}
+use Rattle.lawful_states.specs.Physical.{IsPhysical}
+use Rattle.lawful_states.proofs.NameLemmas.{named-append}
+use Rattle.lawful_states.proofs.OwnerLemmas.{unowned-status}
 use Rattle.library_model.specs.Named.{Named, named, same_name}
 use Rattle.library_steps.specs.State.{State, FileState, MemberStatus, fields_of}
 use Rattle.library_steps.specs.CreatePhysicalFile.{new_status}
@@ -19,12 +19,12 @@ use Rattle.library_steps.specs.Ranges.{library_bytes}
 use Rattle.library_steps.specs.SlotChange.{status_among}
 use Rattle.journal_model.specs.Replay.{before_of}
 use Rattle.journal_model.specs.Rollback.{MemberChange}
-use Rattle.library_parts.specs.Lawful.{HoldsValues, IsThere, IsBased, GoesBack, IsLibrary, AreOne}
-use Rattle.library_parts.proofs.MemberLemmas.{item_at-put_item_other, item_at-put_item_same, IsThere-is_some, library_bytes-cons}
-use Rattle.library_parts.specs.Slots.{weight}
-use Rattle.library_parts.proofs.BaseLemmas.{AreBased-more, OpenHolds-kept, kept-more, named-only, some-is}
-use Rattle.library_parts.proofs.LawfulLemmas.{jobs-each}
-use Rattle.library_parts.proofs.BackLemmas.{FitsPlace-same, GoesBack-values, AllGoBack-each}
+use Rattle.lawful_states.specs.Lawful.{HoldsValues, IsThere, IsBased, GoesBack, IsLibrary, AreOne}
+use Rattle.lawful_states.proofs.MemberLemmas.{item_at-put_item_other, item_at-put_item_same, IsThere-is_some, library_bytes-cons}
+use Rattle.lawful_states.specs.Slots.{weight}
+use Rattle.lawful_states.proofs.BaseLemmas.{AreBased-more, OpenHolds-kept, kept-more, named-only, some-is}
+use Rattle.lawful_states.proofs.LawfulLemmas.{jobs-each}
+use Rattle.lawful_states.proofs.BackLemmas.{FitsPlace-same, GoesBack-values, AllGoBack-each}
 
 -- ---- numbers
 

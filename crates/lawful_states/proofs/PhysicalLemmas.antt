@@ -6,9 +6,9 @@ use Rattle.library_model.specs.Named.{Named, named, same_name}
 use Rattle.library_steps.specs.State.{FileState, MemberStatus, status_changed, if_physical, physical_among}
 use Rattle.library_steps.specs.DeleteFile.{without_file}
 use Rattle.library_steps.specs.MemberCommands.{file_changed, with_member_name}
-use Rattle.file_catalogue.specs.Physical.{IsPhysical, AllArePhysical}
-use Rattle.file_catalogue.proofs.NameLemmas.{some-equal}
-use Rattle.file_catalogue.proofs.ChangeLemmas.{each_changed}
+use Rattle.lawful_states.specs.Physical.{IsPhysical, AllArePhysical}
+use Rattle.lawful_states.proofs.NameLemmas.{some-equal}
+use Rattle.lawful_states.proofs.ChangeLemmas.{each_changed}
 
 pub physical-append : (files : Named FileState) (name : List ℕ) (new : FileState) → AllArePhysical files → IsPhysical new.spec → AllArePhysical (files ++ (name, new) ∷ [])
 physical-append [] name new all is = (is, tt)

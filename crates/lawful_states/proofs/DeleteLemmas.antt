@@ -11,22 +11,22 @@ use Rattle.lock_table.specs.declared.lock.Lock.{Lock}
 use Rattle.logical_model.specs.Bases.{FileSpec, PhysicalFile, LogicalFile, base_members, base_names}
 use Rattle.member_slots.specs.Member.{MemberState, empty_member}
 use Rattle.member_slots.specs.Members.{Numbered, NumberedMembers, AreMembers, member_at, member_of, without_member}
-use Rattle.file_catalogue.specs.Owners.{Owns, AreApart, has_number}
-use Rattle.file_catalogue.specs.Physical.{IsPhysical, AllArePhysical}
-use Rattle.file_catalogue.proofs.PhysicalLemmas.{physical-named}
-use Rattle.file_catalogue.proofs.NameLemmas.{same_name-equal, same_name-self, some-equal, named-without, named-without_other}
-use Rattle.file_catalogue.proofs.StatusLemmas.{has_number-cons}
+use Rattle.lawful_states.specs.Owners.{Owns, AreApart, has_number}
+use Rattle.lawful_states.specs.Physical.{IsPhysical, AllArePhysical}
+use Rattle.lawful_states.proofs.PhysicalLemmas.{physical-named}
+use Rattle.lawful_states.proofs.NameLemmas.{same_name-equal, same_name-self, some-equal, named-without, named-without_other}
+use Rattle.lawful_states.proofs.StatusLemmas.{has_number-cons}
 use Rattle.library_model.specs.Named.{Named, named, same_name}
 use Rattle.library_steps.specs.State.{State, Memory, FileState, MemberStatus, OpenState, JobState, memory_of, fields_of, if_physical, physical_among}
 use Rattle.library_steps.specs.DeleteFile.{depends_by, file_refers, first_dependent, user_by, without_file, without_members}
 use Rattle.library_steps.specs.LogicalFiles.{base_in, bases_in}
 use Rattle.library_steps.specs.Ranges.{library_bytes}
 use Rattle.library_steps.specs.Uses.{first_job, changes_in, has_open_of, has_open_over, has_changed, has_boundary_lock, uses, user_of_any}
-use Rattle.library_parts.specs.Lawful.{AreBased, IsBased, IsThere, OpenHolds, OpensBy, OpensFile, OpensHold, GoesBack, AllGoBack, StandsOver, AreOne}
-use Rattle.library_parts.specs.Slots.{weight}
-use Rattle.library_parts.proofs.MemberLemmas.{item_at-without_item_other, library_bytes-cons}
-use Rattle.library_parts.proofs.BaseLemmas.{IsOverBases-stays, StandsOver-stays, Stays}
-use Rattle.library_parts.proofs.BackLemmas.{FitsPlace-same, AllGoBack-each, AllGoBack-kept, neither, unused-unchanged}
+use Rattle.lawful_states.specs.Lawful.{AreBased, IsBased, IsThere, OpenHolds, OpensBy, OpensFile, OpensHold, GoesBack, AllGoBack, StandsOver, AreOne}
+use Rattle.lawful_states.specs.Slots.{weight}
+use Rattle.lawful_states.proofs.MemberLemmas.{item_at-without_item_other, library_bytes-cons}
+use Rattle.lawful_states.proofs.BaseLemmas.{IsOverBases-stays, StandsOver-stays, Stays}
+use Rattle.lawful_states.proofs.BackLemmas.{FitsPlace-same, AllGoBack-each, AllGoBack-kept, neither, unused-unchanged}
 
 -- ---- a member less
 

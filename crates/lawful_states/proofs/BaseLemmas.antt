@@ -10,18 +10,18 @@ use Rattle.file_model.specs.Paths.{PathEntry}
 use Rattle.file_model.specs.Positions.{Position}
 use Rattle.lock_table.specs.declared.levels.Call.{Call}
 use Rattle.logical_model.specs.Bases.{FileSpec, PhysicalFile, LogicalFile, base_names}
-use Rattle.file_catalogue.specs.Owners.{has_number}
-use Rattle.file_catalogue.specs.Physical.{IsPhysical}
-use Rattle.file_catalogue.proofs.ChangeLemmas.{changed-from, named-each_changed, named-file_changed}
-use Rattle.file_catalogue.proofs.NameLemmas.{named-append, same_name-equal, same_name-self, some-equal}
-use Rattle.file_catalogue.proofs.StatusLemmas.{changed_in, has_number-changed_in, has_number-push}
+use Rattle.lawful_states.specs.Owners.{has_number}
+use Rattle.lawful_states.specs.Physical.{IsPhysical}
+use Rattle.lawful_states.proofs.ChangeLemmas.{changed-from, named-each_changed, named-file_changed}
+use Rattle.lawful_states.proofs.NameLemmas.{named-append, same_name-equal, same_name-self, some-equal}
+use Rattle.lawful_states.proofs.StatusLemmas.{changed_in, has_number-changed_in, has_number-push}
 use Rattle.library_model.specs.Named.{Named, named, same_name}
 use Rattle.library_steps.specs.CreatePhysicalFile.{new_status}
 use Rattle.library_steps.specs.LogicalFiles.{base_in, bases_in}
 use Rattle.library_steps.specs.MemberCommands.{file_changed, with_member_name}
 use Rattle.library_steps.specs.Reads.{Found, at_format, has_read, positioned}
 use Rattle.library_steps.specs.State.{Memory, FileState, MemberStatus, OpenState, fields_of, format_in, if_physical, physical_among, physical_in, physical_spec, status_changed}
-use Rattle.library_parts.specs.Lawful.{AreBased, IsBased, IsOverBases, OpenHolds, OpensBy, OpensFile, StandsOver}
+use Rattle.lawful_states.specs.Lawful.{AreBased, IsBased, IsOverBases, OpenHolds, OpensBy, OpensFile, StandsOver}
 
 -- ---- what is there
 

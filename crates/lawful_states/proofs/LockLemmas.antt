@@ -21,10 +21,10 @@ use Rattle.lock_table.specs.declared.levels.OpenLocks.TheVariants.{Stay, OfOpen,
 use Rattle.lock_table.specs.Lock.{blocks, lock_by, lock_cmp, is_of_open, is_of_record, is_of_opens, is_of_job, is_of_group, update_kind}
 use Rattle.lock_table.specs.Table.{with_item, without_lock, with_lock_by, freed, blocker, least_job}
 use Rattle.lock_table.specs.Levels.{asked, gained, released, without_open_locks, without_boundary_locks, with_wanted, locks_after}
-use Rattle.job_table.specs.Users.{HasBegun}
+use Rattle.lawful_states.specs.Jobs.{HasBegun}
 use Rattle.library_steps.specs.State.{JobState, job_at}
 use Rattle.library_steps.specs.History.{is_running}
-use Rattle.library_parts.specs.Locks.{IsRead, IsWrite, IsOfOpen, AreOfOpen}
+use Rattle.lawful_states.specs.Calls.{IsRead, IsWrite, IsOfOpen, AreOfOpen}
 
 -- ---- how many are left
 

@@ -9,10 +9,10 @@ use Rattle.library_steps.specs.State.{FileState, MemberStatus, status_changed}
 use Rattle.library_steps.specs.DeleteFile.{without_file}
 use Rattle.library_steps.specs.MemberCommands.{with_member_name, file_changed}
 use Rattle.library_steps.specs.SlotChange.{status_among}
-use Rattle.file_catalogue.specs.Owners.{has_number, numbers_of, owner, Owns, IsOwned}
-use Rattle.file_catalogue.proofs.NameLemmas.{same_name-equal, same_name-self, some-equal, named-append, named-without}
-use Rattle.file_catalogue.proofs.StatusLemmas.{has_number-cons, changed_in-absent, changed_in-numbers, has_number-changed_in, has_number-push, distinct-push}
-use Rattle.file_catalogue.proofs.OwnerLemmas.{first_differs, owns-behind, owns-first, Unowned, status-unowned, IsOnly}
+use Rattle.lawful_states.specs.Owners.{has_number, numbers_of, owner, Owns, IsOwned}
+use Rattle.lawful_states.proofs.NameLemmas.{same_name-equal, same_name-self, some-equal, named-append, named-without}
+use Rattle.lawful_states.proofs.StatusLemmas.{has_number-cons, changed_in-absent, changed_in-numbers, has_number-changed_in, has_number-push, distinct-push}
+use Rattle.lawful_states.proofs.OwnerLemmas.{first_differs, owns-behind, owns-first, Unowned, status-unowned, IsOnly}
 
 -- ---- a file more
 

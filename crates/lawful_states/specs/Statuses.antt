@@ -3,8 +3,8 @@ use Rattle.library_steps.specs.State.{MemberStatus}
 use Rattle.library_steps.specs.SlotChange.{touched}
 use Rattle.library_steps.specs.MemberCommands.{renumbered}
 use Rattle.library_steps.specs.Journaling.{journaled_from, no_longer_journaled}
-use Rattle.file_catalogue.specs.declared.changes.StatusChange.{StatusChange}
-use Rattle.file_catalogue.specs.declared.changes.StatusChange.TheVariants.{Touched, Renumbered, Journaled, Unjournaled}
+use Rattle.lawful_states.specs.declared.changes.StatusChange.{StatusChange}
+use Rattle.lawful_states.specs.declared.changes.StatusChange.TheVariants.{Touched, Renumbered, Journaled, Unjournaled}
 
 abbrev pub after : StatusChange → MemberStatus → MemberStatus
 after Touched = touched
