@@ -1,15 +1,18 @@
 -- What each request keeps that makes no checkpoint, and each legal history in which no call asks for one.
-use Rattle.std.proofs.Common.{◌≡◌, ℕ, true, IsTrue, List, Ok, refl}
+use Rattle.std.proofs.Common.{◌≡◌, ℕ, true, inl, IsTrue, List, Ok, refl, sym, ap}
+use Rattle.library_model.specs.declared.calls.Call.{Call}
 use Rattle.library_model.specs.declared.requests.Request.{Request}
 use Rattle.library_model.specs.declared.requests.Request.TheVariants.{CreatePhysicalFile, CreateLogicalFile, DeleteFile, AddMember, ClearMember, ReorganizeMember, StartJournaling, EndJournaling, ChangeJournal, DeleteReceiver, Checkpoint, DisplayJournal, ApplyChanges, RemoveChanges, StartCommitment, EndCommitment, Commit, Rollback, OpenFile, CloseFile, SetLowerLimit, SetGreaterThan, Read, ReadPrior, ReadEqual, ReadPriorEqual, Chain, Write, Update, Delete, Unlock, EndJob}
 use Rattle.library_model.specs.declared.sources.NamedSource.{NamedSource}
-use Rattle.library_steps.specs.Change.{Change}
+use Rattle.library_steps.specs.Change.{Change, changed}
 use Rattle.library_steps.specs.History.{is_running}
 use Rattle.library_steps.specs.State.{State, job_at, memory_of}
 use Rattle.library_steps.specs.Step.{change}
-use Rattle.joint_state.specs.Sound.{Does, IsSound, after}
+use Rattle.joint_state.specs.Sound.{Does, IsKept, IsSound, after}
+use Rattle.sound_histories.specs.Reached.{IsReached}
+use Rattle.sound_histories.proofs.HistoryLemmas.{AnswersStaySound}
 use Rattle.replayed_histories.specs.Replayed.{AreReplaysKept, IsReplayed, leaves_records}
-use Rattle.replayed_histories.specs.Unsaved.{AreUnsavedHistoriesReplayed}
+use Rattle.replayed_histories.specs.Unsaved.{AsksNoCheckpoint}
 use Rattle.replayed_histories.proofs.AddRequests.{add-replayed}
 use Rattle.replayed_histories.proofs.BackRequests.{end_job-replayed, rollback-replayed}
 use Rattle.replayed_histories.proofs.BeginRequests.{start_journaling-replayed}
@@ -68,5 +71,9 @@ module _ (s : State) (sound : IsSound s) (r : IsReplayed s) (sources : List Name
 pub all-kept : AreReplaysKept
 all-kept s done d none r = by_request s d.sound r d.sources d.job d.timestamp done d.running none d.request d.does
 
-pub all-histories : AreUnsavedHistoriesReplayed
-all-histories = histories-replayed all-kept
+-- what leaves each answer sound leaves each change sound
+sounds : AnswersStaySound → IsKept IsSound
+sounds answers s done d = answers d.sources s (after s done) d.job d.timestamp d.request done.reply d.sound d.running (inl (ap (changed s) (sym d.does)))
+
+pub all-histories : AnswersStaySound → (sources : List NamedSource) (names : List (List ℕ)) (calls : List Call) (s : State) → AsksNoCheckpoint calls → IsReached sources names calls s → IsReplayed s
+all-histories answers = histories-replayed all-kept (sounds answers)

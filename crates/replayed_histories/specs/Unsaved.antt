@@ -23,12 +23,8 @@ StaysCheckpoint = (s : State) (done : Change) (d : Does s done) → saves d.requ
 abbrev pub AsksNoCheckpoint : List Call → Type 0
 AsksNoCheckpoint calls = AllByRecursion (λ (call : Call). saves call.request ≡ false) calls
 
--- what the journal leaves after each such history is the library, if each request leaves a sound library sound
-abbrev pub AreUnsavedHistoriesReplayed : Type 0
-AreUnsavedHistoriesReplayed =
-    IsKept IsSound → (sources : List NamedSource) (names : List (List ℕ)) (calls : List Call) (s : State) → AsksNoCheckpoint calls
-    → Runs sources (Standing (begun empty_library names)) calls (Standing s) → IsReplayed s
-
--- and if each request that is done keeps it so
+-- what the journal leaves after each such history is the library, if each request that is done keeps it so, and keeps the library sound
 abbrev pub AreHistoriesReplayed : Type 0
-AreHistoriesReplayed = AreReplaysKept → AreUnsavedHistoriesReplayed
+AreHistoriesReplayed =
+    AreReplaysKept → IsKept IsSound → (sources : List NamedSource) (names : List (List ℕ)) (calls : List Call) (s : State) → AsksNoCheckpoint calls
+    → Runs sources (Standing (begun empty_library names)) calls (Standing s) → IsReplayed s
