@@ -167,46 +167,58 @@ fn place(values: &[Value], operand: Option<NumberOperand>) -> Option<Option<u32>
     }
 }
 
+// The rows, one behind another.
+macro_rules! form_rows {
+    ($with:tt $($group:ident { $($rows:tt)* })*) => { form_arms!($with [] $($($rows)*)*) };
+}
+
+// An arm for each row of a form or of operands that are none's, and one for requests without.
 macro_rules! form_arms {
-    (($alloc:expr, $values:expr, $form:expr) $($group:ident { $($name:ident $word:literal $args:tt [$(first $first:ident)? $(asks $asked:tt)? $(into $into:ident)?])* })*) => {
-        match $form {
+    (($alloc:expr, $values:expr, $asked:expr) [$($arms:tt)*]) => {
+        match $asked {
             RequestForm::Fixed(request) => Ok(Some(request.copied($alloc)?)),
-            $($($(RequestForm::$name $asked => filled!($name $args, $alloc, $values),)?)*)*
+            $($arms)*
         }
     };
-}
-
-// The request of these fields.
-macro_rules! filled {
-    ($name:ident ($args:ident { $($field:ident: $codec:ident $keywords:tt $(= $default:ident)?),* }), $alloc:expr, $values:expr) => {
-        ({
-            $(fill!($codec $field, $alloc, $values);)*
-            Ok(Some(Request::$name(requests::$args { $($field),* })))
-        })
+    (($alloc:expr, $values:expr, $asked:expr) [$($arms:tt)*]
+        $name:ident $word:literal ($args:ident { $($field:ident: $codec:ident $keywords:tt $(= $default:ident)?),* })
+        [$(first $first:ident)? asks ($form:ident $fields:tt) $(into $into:ident)?] $($others:tt)*) => {
+        form_arms!(($alloc, $values, $asked) [$($arms)* RequestForm::$name(form) => {
+            Ok(Some(Request::$name(requests::$args { $($field: value!($codec form.$field, $alloc, $values)),* })))
+        }] $($others)*)
     };
-}
-
-// A field: with the variables' values, where it may have some, or as it is.
-macro_rules! fill {
-    (name $field:ident, $alloc:expr, $values:expr) => { let $field = *$field; };
-    (format $field:ident, $alloc:expr, $values:expr) => { let $field = *$field; };
-    (lock $field:ident, $alloc:expr, $values:expr) => { let $field = *$field; };
-    ($codec:ident $field:ident, $alloc:expr, $values:expr) => {
-        let Some($field) = value!($codec $field, $alloc, $values) else {
-            return Ok(None);
-        };
+    (($alloc:expr, $values:expr, $asked:expr) [$($arms:tt)*]
+        $name:ident $word:literal ($args:ident { $($field:ident: $codec:ident $keywords:tt $(= $default:ident)?),* })
+        [asks $operands:tt] $($others:tt)*) => {
+        form_arms!(($alloc, $values, $asked) [$($arms)* RequestForm::$name $operands => {
+            Ok(Some(Request::$name(requests::$args { $($field: value!($codec *$field, $alloc, $values)),* })))
+        }] $($others)*)
     };
+    ($with:tt $arms:tt $name:ident $word:literal $args:tt $how:tt $($others:tt)*) => { form_arms!($with $arms $($others)*) };
 }
 
+// What a field holds: the variables' values, where it may have some.
 macro_rules! value {
-    (number $operand:expr, $alloc:expr, $values:expr) => { $operand.value($values) };
-    (sequence $operand:expr, $alloc:expr, $values:expr) => { $operand.value($values) };
-    (range_end $end:expr, $alloc:expr, $values:expr) => { $end.end($values) };
-    (place $operand:expr, $alloc:expr, $values:expr) => { place($values, *$operand) };
-    (values $operands:expr, $alloc:expr, $values:expr) => { key($alloc, $values, $operands.as_slice())? };
-    (given_values $operands:expr, $alloc:expr, $values:expr) => { given($alloc, $values, $operands.as_slice())? };
-    (limit $to:expr, $alloc:expr, $values:expr) => { $to.limit($alloc, $values)? };
-    (chain_to $to:expr, $alloc:expr, $values:expr) => { $to.to($alloc, $values)? };
+    (name $name:expr, $alloc:expr, $values:expr) => { $name };
+    (format $format:expr, $alloc:expr, $values:expr) => { $format };
+    (lock $lock:expr, $alloc:expr, $values:expr) => { $lock };
+    (number $operand:expr, $alloc:expr, $values:expr) => { found!($operand.value($values)) };
+    (sequence $operand:expr, $alloc:expr, $values:expr) => { found!($operand.value($values)) };
+    (range_end $end:expr, $alloc:expr, $values:expr) => { found!($end.end($values)) };
+    (place $operand:expr, $alloc:expr, $values:expr) => { found!(place($values, $operand)) };
+    (values $operands:expr, $alloc:expr, $values:expr) => { found!(key($alloc, $values, $operands.as_slice())?) };
+    (given_values $operands:expr, $alloc:expr, $values:expr) => { found!(given($alloc, $values, $operands.as_slice())?) };
+    (limit $to:expr, $alloc:expr, $values:expr) => { found!($to.limit($alloc, $values)?) };
+    (chain_to $to:expr, $alloc:expr, $values:expr) => { found!($to.to($alloc, $values)?) };
+}
+
+macro_rules! found {
+    ($value:expr) => {
+        match $value {
+            None => return Ok(None),
+            Some(found) => found,
+        }
+    };
 }
 
 impl RequestForm {
@@ -218,6 +230,6 @@ impl RequestForm {
     ) -> Result<Option<Request>, AllocError>
         ensures { IfOk result (λ request. request ≡ request_of values.now self.now) }
     {
-        request_table!(form_arms!(alloc, values, self))
+        request_table!(form_rows!(alloc, values, self))
     }
 }
