@@ -172,7 +172,7 @@ macro_rules! form_rows {
     ($with:tt $($group:ident { $($rows:tt)* })*) => { form_arms!($with [] $($($rows)*)*) };
 }
 
-// An arm for each row of a form or of operands that are none's, and one for requests without.
+// An arm for each row that asks with a form, or with operands that stand in none, and one for requests without variables.
 macro_rules! form_arms {
     (($alloc:expr, $values:expr, $asked:expr) [$($arms:tt)*]) => {
         match $asked {
