@@ -74,14 +74,14 @@ macro_rules! read {
     (dds_fault (), $names:expr, $text:expr) => { dds_fault_in($text) };
 }
 
-// The rows of results, and the one with nothing carried behind them.
+// The rows of results, and behind them that of what was done.
 macro_rules! result_rows {
     (($arms:ident $with:tt) done { $($done:tt)* } results { $($results:tt)* } $($others:tt)*) => {
         $arms!($with $($results)* $($done)*)
     };
 }
 
-// The first row with one number whose keyword stands, else the last.
+// The first row with one number whose keyword stands, else what was done.
 macro_rules! numbered {
     (($text:expr) $name:ident $answer:literal ({ $field:ident }) [$codec:ident ($keyword:ident; $part:ident)] $($others:tt)*) => {
         if stands($text, keyword!($keyword)) {
@@ -94,7 +94,7 @@ macro_rules! numbered {
     (($text:expr) $name:ident $answer:literal $fields:tt $parts:tt $($others:tt)*) => { numbered!(($text) $($others)*) };
 }
 
-// The row of a record or of a range, whichever's first keyword stands, else one with a number or none.
+// The row of a record or of a range, where its first keyword stands, else one with a number or with nothing.
 macro_rules! carried {
     (($alloc:expr, $text:expr)) => { Ok(numbered_answer($text)) };
     (($alloc:expr, $text:expr) $name:ident $answer:literal $fields:tt [record (; $read:ident)] $($others:tt)*) => {
@@ -114,7 +114,7 @@ macro_rules! carried {
     (($alloc:expr, $text:expr) $name:ident $answer:literal $fields:tt $parts:tt $($others:tt)*) => { carried!(($alloc, $text) $($others)*) };
 }
 
-// The row of entries, where a stroke stands, else any other.
+// The row of entries, where a stroke stands, else another.
 macro_rules! entered {
     (($alloc:expr, $text:expr) $name:ident $answer:literal $fields:tt [entries (; $entries:ident)] $($others:tt)*) => {
         if begins_with_stroke($text) {
