@@ -255,8 +255,9 @@ fn put<S: Store>(
     ensures moments { S.tells → Leaves (S.disk store.old) (S.disk store.new) (IsForcedOrFrom book.old.chain.first book.old.forced (length (entries.old.items ++ entry ∷ [])) (entries.old.items ++ entry ∷ [])) }
     ensures cause { IsErrOf result RestartFault.StoreFault → Rose (S.disk store.old).faults (S.disk store.new).faults }
 {
+    entries.reserve(1)?;
     let _sequence = book.begin(draft);
     book.force(store)?;
-    entries.push(entry)?;
+    entries.push_reserved(entry);
     Ok(())
 }

@@ -3,6 +3,7 @@ use Rattle.entry_codec.specs.declared.entries.Entry.{Entry}
 use Rattle.entry_codec.specs.Drafts.{numbered}
 use Rattle.entry_codec.specs.Spelling.{HasSpelling, spelling}
 use Rattle.journal_book.specs.Book.{BookState, next_of}
+use Rattle.restart_rollback.proofs.PutLemmas.{still}
 use Rattle.restarted_journal.proofs.Depositing.{deposited-held, deposited-holds, deposited-moments, deposited-place, deposited-small, deposited-some}
 use Rattle.restarted_journal.proofs.beginning.put.Goals as goal
 
@@ -33,15 +34,8 @@ returns-in_err-force-clause-moments g c = λ tells.
     (deposited-holds c.args.book.now c.begin.new.self c.args.entry (numbered c.args.draft (next_of c.args.book.now)) c.requires.is c.begin.ensures.deposited c.begin.ensures.holds c.args.entries.now.items
     (g.S.Store.disk c.args.store.now) (c.requires.held tells)))
 
-pub returns-in_err-push-clause-receiver : goal.returns-in_err-push-clause-receiver
-returns-in_err-push-clause-receiver g c = c.force.ensures.receiver ∙ ap (λ (b : BookState). b.chain.first) c.begin.ensures.deposited
-
-pub returns-in_err-push-clause-moments : goal.returns-in_err-push-clause-moments
-returns-in_err-push-clause-moments g c = λ tells.
-    deposited-moments c.args.book.now c.begin.new.self c.args.entry (numbered c.args.draft (next_of c.args.book.now)) c.requires.is c.begin.ensures.deposited c.begin.ensures.holds c.args.entries.now.items
-    (g.S.Store.disk c.args.store.now) (g.S.Store.disk c.force.new.store) (c.force.ensures.exactly tells (c.args.entries.now.items ++ c.args.entry ∷ [])
-    (deposited-holds c.args.book.now c.begin.new.self c.args.entry (numbered c.args.draft (next_of c.args.book.now)) c.requires.is c.begin.ensures.deposited c.begin.ensures.holds c.args.entries.now.items
-    (g.S.Store.disk c.args.store.now) (c.requires.held tells)))
+pub returns-in_err-reserve-clause-moments : goal.returns-in_err-reserve-clause-moments
+returns-in_err-reserve-clause-moments g c = λ tells. still c.args.book.now c.args.entries.now.items (c.args.entry ∷ []) (g.S.Store.disk c.args.store.now) (c.requires.held tells)
 
 pub returns-clause-receiver : goal.returns-clause-receiver
 returns-clause-receiver g c = c.force.ensures.receiver ∙ ap (λ (b : BookState). b.chain.first) c.begin.ensures.deposited
