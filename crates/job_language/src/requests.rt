@@ -1,17 +1,15 @@
 //! The request that a statement makes with the variables' values, by `specs/Requests.antt`.
 ghost use Rattle.std.specs.Prelude.{◌≡◌, ◌≤◌, IfOk, IfSome, option_copied};
-ghost use Rattle.job_language.specs.Requests.{whole_value, record_number, sequence_of, key_of, given_of, given_of_operand, end_of, changes_of, limit_of, position_of, read_equal_of, chain_to_of, chain_of, place_of, write_of, update_of, display_of, request_of};
+ghost use Rattle.job_language.specs.Requests.{whole_value, record_number, sequence_of, key_of, given_of, given_of_operand, end_of, limit_of, chain_to_of, place_of, request_of};
 
 use crate::forms::{
     ChainForm, ChainToForm, ChangesForm, EndForm, LimitForm, PositionForm, ReadEqualForm,
     RequestForm, UpdateForm, WriteForm,
 };
 use crate::operands::{NumberOperand, Operand, SequenceOperand};
+use call_tables::request_table;
 use field_types::values::Value;
-use library_model::requests::{
-    ChainRecord, ChainTo, DeleteReceiver, DisplayJournal, JournaledChanges, Limit, RangeEnd,
-    ReadEqual, Request, SetPosition, UpdateRecord, WriteRecord,
-};
+use library_model::requests::{self, ChainTo, Limit, RangeEnd, Request};
 use library_model::value_lists::{GivenValues, Values};
 use script_numbers::zeros::whole;
 use std::alloc::{AllocError, Global};
@@ -69,23 +67,6 @@ impl EndForm {
                 None => None,
                 Some(sequence) => Some(RangeEnd::Sequence(sequence)),
             },
-        }
-    }
-}
-
-impl ChangesForm {
-    fn changes(&self, values: &[Value]) -> Option<JournaledChanges>
-        ensures { result ≡ changes_of values.now self.now }
-    {
-        let from = self.from.end(values)?;
-        match self.to.end(values) {
-            None => None,
-            Some(to) => Some(JournaledChanges {
-                file: self.file,
-                member: self.member,
-                from,
-                to,
-            }),
         }
     }
 }
@@ -157,35 +138,6 @@ impl LimitForm {
     }
 }
 
-impl PositionForm {
-    fn position(&self, alloc: Global, values: &[Value]) -> Result<Option<SetPosition>, AllocError>
-        ensures { IfOk result (λ position. position ≡ position_of values.now self.now) }
-    {
-        match self.to.limit(alloc, values)? {
-            None => Ok(None),
-            Some(to) => Ok(Some(SetPosition {
-                open_id: self.open_id,
-                to,
-            })),
-        }
-    }
-}
-
-impl ReadEqualForm {
-    fn read(&self, alloc: Global, values: &[Value]) -> Result<Option<ReadEqual>, AllocError>
-        ensures { IfOk result (λ read. read ≡ read_equal_of values.now self.now) }
-    {
-        match key(alloc, values, self.key.as_slice())? {
-            None => Ok(None),
-            Some(key) => Ok(Some(ReadEqual {
-                open_id: self.open_id,
-                key,
-                lock: self.lock,
-            })),
-        }
-    }
-}
-
 impl ChainToForm {
     fn to(&self, alloc: Global, values: &[Value]) -> Result<Option<ChainTo>, AllocError>
         ensures { IfOk result (λ to. to ≡ chain_to_of values.now self.now) }
@@ -203,21 +155,6 @@ impl ChainToForm {
     }
 }
 
-impl ChainForm {
-    fn chain(&self, alloc: Global, values: &[Value]) -> Result<Option<ChainRecord>, AllocError>
-        ensures { IfOk result (λ chain. chain ≡ chain_of values.now self.now) }
-    {
-        match self.to.to(alloc, values)? {
-            None => Ok(None),
-            Some(to) => Ok(Some(ChainRecord {
-                open_id: self.open_id,
-                to,
-                lock: self.lock,
-            })),
-        }
-    }
-}
-
 fn place(values: &[Value], operand: Option<NumberOperand>) -> Option<Option<u32>>
     ensures { result ≡ place_of values.now operand }
 {
@@ -230,47 +167,58 @@ fn place(values: &[Value], operand: Option<NumberOperand>) -> Option<Option<u32>
     }
 }
 
-impl WriteForm {
-    fn write(&self, alloc: Global, values: &[Value]) -> Result<Option<WriteRecord>, AllocError>
-        ensures { IfOk result (λ write. write ≡ write_of values.now self.now) }
-    {
-        let Some(record_number) = place(values, self.record_number) else {
-            return Ok(None);
-        };
-        match given(alloc, values, self.values.as_slice())? {
-            None => Ok(None),
-            Some(values) => Ok(Some(WriteRecord {
-                open_id: self.open_id,
-                format: self.format,
-                record_number,
-                values,
-            })),
-        }
-    }
+// The rows, one behind another.
+macro_rules! form_rows {
+    ($with:tt $($group:ident { $($rows:tt)* })*) => { form_arms!($with [] $($($rows)*)*) };
 }
 
-impl UpdateForm {
-    fn update(&self, alloc: Global, values: &[Value]) -> Result<Option<UpdateRecord>, AllocError>
-        ensures { IfOk result (λ update. update ≡ update_of values.now self.now) }
-    {
-        match given(alloc, values, self.values.as_slice())? {
-            None => Ok(None),
-            Some(values) => Ok(Some(UpdateRecord {
-                open_id: self.open_id,
-                values,
-            })),
+// An arm for each row that asks with a form, or with operands that stand in none, and one for requests without variables.
+macro_rules! form_arms {
+    (($alloc:expr, $values:expr, $asked:expr) [$($arms:tt)*]) => {
+        match $asked {
+            RequestForm::Fixed(request) => Ok(Some(request.copied($alloc)?)),
+            $($arms)*
         }
-    }
+    };
+    (($alloc:expr, $values:expr, $asked:expr) [$($arms:tt)*]
+        $name:ident $word:literal ($args:ident { $($field:ident: $codec:ident $keywords:tt $(= $default:ident)?),* })
+        [$(first $first:ident)? asks ($form:ident $fields:tt) $(into $into:ident)?] $($others:tt)*) => {
+        form_arms!(($alloc, $values, $asked) [$($arms)* RequestForm::$name(form) => {
+            Ok(Some(Request::$name(requests::$args { $($field: value!($codec form.$field, $alloc, $values)),* })))
+        }] $($others)*)
+    };
+    (($alloc:expr, $values:expr, $asked:expr) [$($arms:tt)*]
+        $name:ident $word:literal ($args:ident { $($field:ident: $codec:ident $keywords:tt $(= $default:ident)?),* })
+        [asks $operands:tt] $($others:tt)*) => {
+        form_arms!(($alloc, $values, $asked) [$($arms)* RequestForm::$name $operands => {
+            Ok(Some(Request::$name(requests::$args { $($field: value!($codec *$field, $alloc, $values)),* })))
+        }] $($others)*)
+    };
+    ($with:tt $arms:tt $name:ident $word:literal $args:tt $how:tt $($others:tt)*) => { form_arms!($with $arms $($others)*) };
 }
 
-fn display(values: &[Value], from: SequenceOperand, to: SequenceOperand) -> Option<DisplayJournal>
-    ensures { result ≡ display_of (sequence_of values.now from) (sequence_of values.now to) }
-{
-    let from = from.value(values)?;
-    match to.value(values) {
-        None => None,
-        Some(to) => Some(DisplayJournal { from, to }),
-    }
+// What a field holds: the variables' values, where it may have some.
+macro_rules! value {
+    (name $name:expr, $alloc:expr, $values:expr) => { $name };
+    (format $format:expr, $alloc:expr, $values:expr) => { $format };
+    (lock $lock:expr, $alloc:expr, $values:expr) => { $lock };
+    (number $operand:expr, $alloc:expr, $values:expr) => { found!($operand.value($values)) };
+    (sequence $operand:expr, $alloc:expr, $values:expr) => { found!($operand.value($values)) };
+    (range_end $end:expr, $alloc:expr, $values:expr) => { found!($end.end($values)) };
+    (place $operand:expr, $alloc:expr, $values:expr) => { found!(place($values, $operand)) };
+    (values $operands:expr, $alloc:expr, $values:expr) => { found!(key($alloc, $values, $operands.as_slice())?) };
+    (given_values $operands:expr, $alloc:expr, $values:expr) => { found!(given($alloc, $values, $operands.as_slice())?) };
+    (limit $to:expr, $alloc:expr, $values:expr) => { found!($to.limit($alloc, $values)?) };
+    (chain_to $to:expr, $alloc:expr, $values:expr) => { found!($to.to($alloc, $values)?) };
+}
+
+macro_rules! found {
+    ($value:expr) => {
+        match $value {
+            None => return Ok(None),
+            Some(found) => found,
+        }
+    };
 }
 
 impl RequestForm {
@@ -282,32 +230,6 @@ impl RequestForm {
     ) -> Result<Option<Request>, AllocError>
         ensures { IfOk result (λ request. request ≡ request_of values.now self.now) }
     {
-        match self {
-            RequestForm::Fixed(request) => Ok(Some(request.copied(alloc)?)),
-            RequestForm::DeleteReceiver(operand) => match operand.value(values) {
-                None => Ok(None),
-                Some(number) => Ok(Some(Request::DeleteReceiver(DeleteReceiver { number }))),
-            },
-            RequestForm::DisplayJournal { from, to } => {
-                Ok(display(values, *from, *to).map(Request::DisplayJournal))
-            }
-            RequestForm::ApplyChanges(form) => Ok(form.changes(values).map(Request::ApplyChanges)),
-            RequestForm::RemoveChanges(form) => {
-                Ok(form.changes(values).map(Request::RemoveChanges))
-            }
-            RequestForm::SetLowerLimit(form) => {
-                Ok(form.position(alloc, values)?.map(Request::SetLowerLimit))
-            }
-            RequestForm::SetGreaterThan(form) => {
-                Ok(form.position(alloc, values)?.map(Request::SetGreaterThan))
-            }
-            RequestForm::ReadEqual(form) => Ok(form.read(alloc, values)?.map(Request::ReadEqual)),
-            RequestForm::ReadPriorEqual(form) => {
-                Ok(form.read(alloc, values)?.map(Request::ReadPriorEqual))
-            }
-            RequestForm::Chain(form) => Ok(form.chain(alloc, values)?.map(Request::Chain)),
-            RequestForm::Write(form) => Ok(form.write(alloc, values)?.map(Request::Write)),
-            RequestForm::Update(form) => Ok(form.update(alloc, values)?.map(Request::Update)),
-        }
+        request_table!(form_rows!(alloc, values, self))
     }
 }

@@ -30,24 +30,25 @@ fn is_built(request: &Request) -> bool
     request_table!(built_arms!(request))
 }
 
+macro_rules! askable_arms {
+    (($form:expr) $($group:ident { $($name:ident $word:literal $args:tt [$(first $first:ident)? $(asks $asked:tt)? $(into $into:ident)?])* })*) => {
+        match $form {
+            RequestForm::Fixed(request) => is_built(request) && request.end_asked().is_none(),
+            $($($(RequestForm::$name { .. } => asked!($asked),)?)*)*
+        }
+    };
+}
+
+// Each that is asked with values which may be variables.
+macro_rules! asked {
+    ($asked:tt) => { true };
+}
+
 /// Whether the library answers it whatever the variables hold, and it doesn't end the job.
 fn is_askable_form(form: &RequestForm) -> bool
     ensures { result ≡ is_askable_form form.now }
 {
-    match form {
-        RequestForm::Fixed(request) => is_built(request) && request.end_asked().is_none(),
-        RequestForm::DeleteReceiver(_)
-        | RequestForm::DisplayJournal { .. }
-        | RequestForm::ApplyChanges(_)
-        | RequestForm::RemoveChanges(_)
-        | RequestForm::SetLowerLimit(_)
-        | RequestForm::SetGreaterThan(_)
-        | RequestForm::ReadEqual(_)
-        | RequestForm::ReadPriorEqual(_)
-        | RequestForm::Chain(_)
-        | RequestForm::Write(_)
-        | RequestForm::Update(_) => true,
-    }
+    request_table!(askable_arms!(form))
 }
 
 /// Whether a statement that says this may be run.

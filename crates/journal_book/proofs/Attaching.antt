@@ -17,7 +17,7 @@ use Rattle.receiver_chain.proofs.Chaining.{logs_length}
 use Rattle.journal_model.specs.Journal.{AreNumbered}
 use Rattle.journal_book.specs.Book.{BookState, GoesOn, Holds, Keeps, next_of}
 use Rattle.journal_book.specs.Entries.{AreBlocks, AreReceivers, HasBegun, HoldsEntries, IsAttached, IsBlock, IsEnded, all_groups, first_sequence, flat}
-use Rattle.journal_book.specs.Kept.{IsKept, SpellEntries}
+use Rattle.journal_book.specs.Kept.{IsForcedOrFrom, IsKept, SpellEntries}
 use Rattle.journal_book.specs.Switch.{AreTieBlocks, AreTies}
 use Rattle.journal_book.proofs.Deposits.{keeps_same, numbered-push}
 use Rattle.journal_book.proofs.Forcing.{begins-push, blocks-push, flat-append}
@@ -215,6 +215,28 @@ pub switch_moments : (old middle : BookState) (entries more : List Entry) (a b c
 switch_moments old middle entries more a b c first all forces attaches =
     leaves_then a b c (IsKept old.chain.first old.forced (entries ++ more)) (leaves_more old.chain.first old.forced old.forced entries more a b (omega arith) forces)
     (leaves_fewer old.chain.first old.forced middle.forced (entries ++ more) b c (omega (arith, all)) (subst (λ (n : ℕ). Leaves b c (IsKept n middle.forced (entries ++ more))) first attaches))
+
+-- exactly, where more entries follow
+exactly_more : (receiver forced whole : ℕ) (entries more : List Entry) (c : Areas) → IsForcedOrFrom receiver forced whole entries c → IsForcedOrFrom receiver forced whole (entries ++ more) c
+exactly_more receiver forced whole entries more c kept = record {
+  count = kept.count;
+  which = kept.which;
+  at_most = omega (arith, kept.at_most, length-append entries more);
+  spells = subst (λ (l : List Entry). SpellEntries receiver l c) (sym (Rattle.std.proofs.lemmas.List.take-append-le kept.count entries more kept.at_most)) kept.spells;
+}
+
+pub leaves_exactly_more : (receiver forced whole : ℕ) (entries more : List Entry) (old new : Disk) → Leaves old new (IsForcedOrFrom receiver forced whole entries) → Leaves old new (IsForcedOrFrom receiver forced whole (entries ++ more))
+leaves_exactly_more receiver forced whole entries more old new leaves =
+    leaves_less old new (IsForcedOrFrom receiver forced whole entries) (IsForcedOrFrom receiver forced whole (entries ++ more)) leaves (λ c kept. exactly_more receiver forced whole entries more c kept)
+
+-- all are forced, and then the two follow one after the other
+pub switch_exactly : (old middle : BookState) (entries more : List Entry) (a b c : Disk) → middle.chain.first ≡ old.chain.first → middle.forced ≡ length entries → Leaves a b (IsForcedOrFrom old.chain.first old.forced (length entries) entries)
+    → Leaves b c (IsKept middle.chain.first middle.forced (entries ++ more)) → Leaves a c (IsForcedOrFrom old.chain.first old.forced (length entries) (entries ++ more))
+switch_exactly old middle entries more a b c first all forces attaches =
+    leaves_then a b c (IsForcedOrFrom old.chain.first old.forced (length entries) (entries ++ more)) (leaves_exactly_more old.chain.first old.forced (length entries) entries more a b forces)
+    (leaves_less b c (IsKept old.chain.first middle.forced (entries ++ more)) (IsForcedOrFrom old.chain.first old.forced (length entries) (entries ++ more))
+    (subst (λ (n : ℕ). Leaves b c (IsKept n middle.forced (entries ++ more))) first attaches)
+    (λ areas kept. record { count = kept.count; which = inr (omega (arith, all, kept.at_least)); at_most = kept.at_most; spells = kept.spells }))
 
 -- a count that rises after it stood or rose
 pub rose_after : (a b c : ℕ) → a ≤ b → Rose b c → Rose a c

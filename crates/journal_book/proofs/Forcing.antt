@@ -15,7 +15,7 @@ use Rattle.gated_log.specs.Blocks.{between, block_bytes, frame}
 use Rattle.gated_log.proofs.Numbers.{between_is}
 use Rattle.journal_book.specs.Book.{BookState, GoesOn, Holds, Keeps}
 use Rattle.journal_book.specs.Entries.{IsBlock, IsInside, AreInside, AreBlocks, BeginsWith, AreReceivers, HasBegun, HoldsEntries, all_groups, first_sequence, flat}
-use Rattle.journal_book.specs.Kept.{IsKept}
+use Rattle.journal_book.specs.Kept.{IsForcedOrFrom, IsKept, SpellEntries}
 
 -- ---- lists
 
@@ -82,6 +82,35 @@ module _ (book : BookState) (entries : List Entry) (disk : Disk) (holds : Holds 
     spells = record { kept = holds.kept; chained = chained; holds = on_disk_front book holds.kept entries holds.keeps };
   }
 
+  front_spelled : (c : Areas) → AreChained book.chain.first holds.kept c → SpellEntries book.chain.first (take book.forced entries) c
+  front_spelled c chained = record {
+    kept = holds.kept;
+    chained = chained;
+    holds = subst (λ (n : ℕ). HoldsEntries book.chain.first holds.kept (take n entries)) (sym holds.keeps.forced) (on_disk_front book holds.kept entries holds.keeps);
+  }
+
+  front_before : (c : Areas) → AreChained book.chain.first holds.kept c → IsForcedOrFrom book.chain.first book.forced (length entries) entries c
+  front_before c chained = record {
+    count = book.forced;
+    which = inl refl;
+    at_most = omega (arith, holds.keeps.forced, ap length holds.keeps.all, length-append holds.keeps.front holds.keeps.tail);
+    spells = front_spelled c chained;
+  }
+
+  -- a stop leaves exactly those that were forced
+  pub forced_left : (c : Areas) → May disk c → SpellEntries book.chain.first (take book.forced entries) c
+  forced_left c may = front_spelled c (chained_left book.chain.first book.chain.room book.chain.earlier book.chain.attached holds.kept disk holds.chain c may)
+
+  -- also where nothing is done
+  pub none_exactly : Leaves disk disk (IsForcedOrFrom book.chain.first book.forced (length entries) entries)
+  none_exactly =
+      leaves_stays disk disk (IsForcedOrFrom book.chain.first book.forced (length entries) entries) (stays_here disk)
+      (λ c may. front_before c (chained_left book.chain.first book.chain.room book.chain.earlier book.chain.attached holds.kept disk holds.chain c may))
+
+  -- all are forced or wait
+  pub all_counted : book.forced + book.waiting ≡ length entries
+  all_counted = omega (arith, holds.keeps.forced, holds.keeps.waiting, ap length holds.keeps.all, length-append holds.keeps.front holds.keeps.tail)
+
   -- a stop leaves a front, with all that was forced
   pub book_left : (c : Areas) → May disk c → IsKept book.chain.first book.forced entries c
   book_left c may = front_kept c (chained_left book.chain.first book.chain.room book.chain.earlier book.chain.attached holds.kept disk holds.chain c may)
@@ -116,6 +145,24 @@ module _ (book : BookState) (entries : List Entry) (disk : Disk) (holds : Holds 
           | inr whole ↦ record {
             count = length entries;
             at_least = omega (arith, holds.keeps.forced, ap length holds.keeps.all, length-append holds.keeps.front holds.keeps.tail);
+            at_most = omega arith;
+            spells = record {
+              kept = deposited book.buffered holds.kept;
+              chained = whole;
+              holds = subst (λ (l : List Entry). HoldsEntries book.chain.first (deposited book.buffered holds.kept) l) (sym (take_all (length entries) entries (omega arith))) with_all;
+            };
+          }
+        ])
+
+    -- and exactly
+    pub force_exactly : (new : Disk) → Leaves disk new (IsWithOrWithout book.chain.first holds.kept book.buffered) → Leaves disk new (IsForcedOrFrom book.chain.first book.forced (length entries) entries)
+    force_exactly new leaves =
+        leaves_less disk new (IsWithOrWithout book.chain.first holds.kept book.buffered) (IsForcedOrFrom book.chain.first book.forced (length entries) entries) leaves
+        (λ c some. elim some [
+          | inl without ↦ front_before c without
+          | inr whole ↦ record {
+            count = length entries;
+            which = inr (omega arith);
             at_most = omega arith;
             spells = record {
               kept = deposited book.buffered holds.kept;

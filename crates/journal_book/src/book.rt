@@ -11,7 +11,7 @@ ghost use Rattle.receiver_chain.specs.Receivers.{Kept};
 ghost use Rattle.receiver_chain.specs.Chain.{attached_of, last_of as last_in_chain};
 ghost use Rattle.journal_book.specs.Entries.{IsInside, IsNoEnd};
 ghost use Rattle.journal_book.specs.Book.{HasMoreRoom, Holds, IsHeld, Keeps, last_of, next_of, with_entry};
-ghost use Rattle.journal_book.specs.Kept.{IsKept};
+ghost use Rattle.journal_book.specs.Kept.{IsForcedOrFrom, IsKept};
 
 use crate::starts::{BlockStart, block_start, note};
 use entry_codec::{Draft, Entry, write_entry};
@@ -87,6 +87,13 @@ impl Book {
         self.begun
     }
 
+    /// How many bytes of entries wait.
+    pub fn waiting_bytes(&self) -> usize
+        ensures { result ≡ length self.now.buffered }
+    {
+        self.framed.len() - LENGTH
+    }
+
     /// The last sequence up to a receiver's end; `None` for a receiver that was never made or is gone.
     pub fn last_in(&self, receiver: u32) -> Option<u64>
         ensures kept { self.now.chain.first ≤ receiver → receiver ≤ attached_of self.now.chain → result ≡ Some (last_in_chain self.now.chain receiver (last_of self.now)) }
@@ -127,6 +134,21 @@ impl Book {
         let entry = draft.numbered(sequence);
         self.put(&entry);
         sequence
+    }
+
+    /// The same with an entry that has its sequence already, which stays with the caller.
+    pub fn deposit_entry(&mut self, entry: &Entry)
+        requires begun { self.old.begun ≡ true }
+        requires inside { IsInside entry.now }
+        requires spelled { HasSpelling entry.now }
+        requires next { entry.now.sequence ≡ next_of self.old }
+        requires few { last_of self.old ≤ 2 ^ 63 }
+        requires room { length (spelling entry.now) ≤ self.old.bytes }
+        ensures deposited { self.new ≡ with_entry entry.now self.new.bytes self.old }
+        ensures holds { (kept : Kept) (entries : List Entry) → Keeps self.old kept entries → Keeps self.new kept (entries ++ entry.now ∷ []) }
+        ensures less_room { self.old.bytes ≤ self.new.bytes + length (spelling entry.now) }
+    {
+        self.put(entry);
     }
 
     /// The same with the entry by which the attached receiver begins, where a stop came before it. It is forced alone.
@@ -184,6 +206,7 @@ impl Book {
         requires small { length self.old.buffered ≤ MAX_BLOCK }
         ensures forced { OnOk result (S.tells → (entries : List Entry) → Holds self.old entries (S.disk store.old) → Holds self.new entries (S.disk store.new)) }
         ensures moments { S.tells → (entries : List Entry) → Holds self.old entries (S.disk store.old) → Leaves (S.disk store.old) (S.disk store.new) (IsKept self.old.chain.first self.old.forced entries) }
+        ensures exactly { S.tells → (entries : List Entry) → Holds self.old entries (S.disk store.old) → Leaves (S.disk store.old) (S.disk store.new) (IsForcedOrFrom self.old.chain.first self.old.forced (length entries) entries) }
         ensures all { OnOk result (self.new.forced ≡ self.old.forced + self.old.waiting) }
         ensures nothing_waits { OnOk result (self.new.waiting ≡ 0) }
         ensures empty { OnOk result (self.new.buffered ≡ []) }
@@ -193,6 +216,8 @@ impl Book {
         ensures receiver { self.new.chain.first ≡ self.old.chain.first }
         ensures number { attached_of self.new.chain ≡ attached_of self.old.chain }
         ensures room { self.old.bytes ≤ self.new.bytes }
+        ensures freed { self.old.bytes + length self.old.buffered ≤ self.new.bytes + length self.new.buffered }
+        ensures no_longer { length self.new.buffered ≤ length self.old.buffered }
         ensures less_places { OnOk result (self.old.chain.room ≤ self.new.chain.room + 1) }
         ensures faults { (S.disk store.old).faults ≤ (S.disk store.new).faults }
         ensures cause { IsErr result → Rose (S.disk store.old).faults (S.disk store.new).faults }
@@ -212,6 +237,7 @@ impl Book {
         requires small { length self.old.buffered ≤ MAX_BLOCK }
         ensures forced { OnOk result (S.tells → (entries : List Entry) → Holds self.old entries (S.disk store.old) → Holds self.new entries (S.disk store.new)) }
         ensures moments { S.tells → (entries : List Entry) → Holds self.old entries (S.disk store.old) → Leaves (S.disk store.old) (S.disk store.new) (IsKept self.old.chain.first self.old.forced entries) }
+        ensures exactly { S.tells → (entries : List Entry) → Holds self.old entries (S.disk store.old) → Leaves (S.disk store.old) (S.disk store.new) (IsForcedOrFrom self.old.chain.first self.old.forced (length entries) entries) }
         ensures all { OnOk result (self.new.forced ≡ self.old.forced + self.old.waiting) }
         ensures nothing_waits { self.new.waiting ≡ 0 }
         ensures empty { self.new.buffered ≡ [] }
@@ -221,6 +247,8 @@ impl Book {
         ensures receiver { self.new.chain.first ≡ self.old.chain.first }
         ensures number { attached_of self.new.chain ≡ attached_of self.old.chain }
         ensures room { self.old.bytes ≤ self.new.bytes }
+        ensures freed { self.old.bytes + length self.old.buffered ≤ self.new.bytes + length self.new.buffered }
+        ensures no_longer { length self.new.buffered ≤ length self.old.buffered }
         ensures less_places { OnOk result (self.new.chain.room + 1 ≡ self.old.chain.room) }
         ensures faults { (S.disk store.old).faults ≤ (S.disk store.new).faults }
         ensures cause { IsErr result → Rose (S.disk store.old).faults (S.disk store.new).faults }

@@ -10,7 +10,7 @@ ghost use Rattle.entry_codec.specs.Spelling.{HasSpelling, IsSpelled, spelling};
 ghost use Rattle.receiver_chain.specs.declared.numbers.TheConstants.{MAX_RECEIVER};
 ghost use Rattle.receiver_chain.specs.Chain.{attached_of};
 ghost use Rattle.journal_book.specs.Book.{Holds, IsHeld, last_of, next_of};
-ghost use Rattle.journal_book.specs.Kept.{IsKept};
+ghost use Rattle.journal_book.specs.Kept.{IsForcedOrFrom, IsKept};
 ghost use Rattle.journal_book.specs.Switch.{AreTieBlocks, IsTie, tied_by};
 
 use crate::book::{Book, close, empty_block};
@@ -43,6 +43,7 @@ impl Book {
         requires few { last_of self.old ≤ 2 ^ 63 }
         ensures switched { OnOk result (S.tells → (entries : List Entry) → Holds self.old entries (S.disk store.old) → Holds self.new (entries ++ tied_by nr pr (next_of self.old)) (S.disk store.new)) }
         ensures moments { S.tells → (entries : List Entry) → Holds self.old entries (S.disk store.old) → Leaves (S.disk store.old) (S.disk store.new) (IsKept self.old.chain.first self.old.forced (entries ++ tied_by nr pr (next_of self.old))) }
+        ensures exactly { S.tells → (entries : List Entry) → Holds self.old entries (S.disk store.old) → Leaves (S.disk store.old) (S.disk store.new) (IsForcedOrFrom self.old.chain.first self.old.forced (length entries) (entries ++ tied_by nr pr (next_of self.old))) }
         ensures number { IfOk result (λ receiver. receiver ≡ attached_of self.old.chain + 1) }
         ensures attached { IfOk result (λ receiver. receiver ≡ attached_of self.new.chain) }
         ensures nothing_waits { OnOk result (self.new.waiting ≡ 0) }
@@ -52,6 +53,8 @@ impl Book {
         ensures first { self.new.first ≡ self.old.first }
         ensures receiver { self.new.chain.first ≡ self.old.chain.first }
         ensures room { self.old.bytes ≤ self.new.bytes }
+        ensures freed { self.old.bytes + length self.old.buffered ≤ self.new.bytes + length self.new.buffered }
+        ensures no_longer { length self.new.buffered ≤ length self.old.buffered }
         ensures less_places { OnOk result (self.old.chain.room ≤ self.new.chain.room + 1) }
         ensures same_number { OnErr result (attached_of self.new.chain ≡ attached_of self.old.chain) }
         ensures no_memory { IsErrOf result ChainFault.NoMemory → S.tells → (entries : List Entry) → Holds self.old entries (S.disk store.old) → Holds self.new entries (S.disk store.new) }
@@ -85,6 +88,7 @@ impl Book {
         requires few { last_of self.old ≤ 2 ^ 63 }
         ensures switched { OnOk result (S.tells → (entries : List Entry) → Holds self.old entries (S.disk store.old) → Holds self.new (entries ++ nr.now ∷ pr.now ∷ []) (S.disk store.new)) }
         ensures moments { S.tells → (entries : List Entry) → Holds self.old entries (S.disk store.old) → Leaves (S.disk store.old) (S.disk store.new) (IsKept self.old.chain.first self.old.forced (entries ++ nr.now ∷ pr.now ∷ [])) }
+        ensures exactly { S.tells → (entries : List Entry) → Holds self.old entries (S.disk store.old) → Leaves (S.disk store.old) (S.disk store.new) (IsForcedOrFrom self.old.chain.first self.old.forced (length entries) (entries ++ nr.now ∷ pr.now ∷ [])) }
         ensures number { IfOk result (λ receiver. receiver ≡ attached_of self.old.chain + 1) }
         ensures attached { IfOk result (λ receiver. receiver ≡ attached_of self.new.chain) }
         ensures nothing_waits { OnOk result (self.new.waiting ≡ 0) }
@@ -94,6 +98,8 @@ impl Book {
         ensures first { self.new.first ≡ self.old.first }
         ensures receiver { self.new.chain.first ≡ self.old.chain.first }
         ensures room { self.old.bytes ≤ self.new.bytes }
+        ensures freed { self.old.bytes + length self.old.buffered ≤ self.new.bytes + length self.new.buffered }
+        ensures no_longer { length self.new.buffered ≤ length self.old.buffered }
         ensures less_places { OnOk result (self.old.chain.room ≤ self.new.chain.room + 1) }
         ensures same_number { OnErr result (attached_of self.new.chain ≡ attached_of self.old.chain) }
         ensures no_memory { IsErrOf result ChainFault.NoMemory → S.tells → (entries : List Entry) → Holds self.old entries (S.disk store.old) → Holds self.new entries (S.disk store.new) }

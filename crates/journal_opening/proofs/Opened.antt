@@ -46,15 +46,14 @@ pub no_journal : (d : Descriptions) (book : BookState) (all : List Entry) (disk 
 no_journal d book all disk holds none first old stays cannot entries spells =
     cannot (subst (λ (l : List Entry). CanReplayJournal d (journal_with l)) (one_journal d book all disk holds none first old stays entries spells) spells.replays)
 
-module _ (d : Descriptions) (tells : Type 0) (roots : RootsState) (book : BookState) (s : Standing) (d0 d1 d2 d3 : Disk) (before : Stays d0 d1) (between : Stays d1 d2) (behind : Stays d2 d3) where
-  pub opened_journal : HasRoots roots d1 → roots.last ≡ first_root → HasEntries book d2 → book.waiting ≡ 0 → book.chain.first ≡ FIRST_RECEIVER → tells → HasTakenAll d tells book s d2
-      → ((entries : List Entry) → IsLeftBy d entries s → EndsWhole (journal_with entries))
-      → (entries : List Entry) × IsOpened d roots book s entries d3 × SpellJournal d entries d0.seen
+module _ (d : Descriptions) (tells : Type 0) (roots : RootsState) (book : BookState) (entries : List Entry) (s : Standing) (d0 d1 d2 d3 : Disk) (before : Stays d0 d1) (between : Stays d1 d2) (behind : Stays d2 d3) where
+  pub opened_journal : HasRoots roots d1 → roots.last ≡ first_root → HasEntries book d2 → book.waiting ≡ 0 → book.chain.first ≡ FIRST_RECEIVER → tells → HasTakenAll d tells book entries s d2
+      → ((those : List Entry) → IsLeftBy d those s → EndsWhole (journal_with those)) → IsOpened d roots book s entries d3 × SpellJournal d entries d0.seen
   opened_journal has first holds none receiver told taken whole =
       let all = holds.0 in
       let left = subst (λ (l : List Entry). IsLeftBy d l s) (taken.same told all holds.1) taken.left in
-      let replays : CanReplayJournal d (journal_with all) = journal-whole d (journal_with all) left.left.so_far (whole all left) left.stays in (
-        all,
+      let replays : CanReplayJournal d (journal_with all) = journal-whole d (journal_with all) left.left.so_far (whole all left) left.stays in
+      subst (λ (l : List Entry). IsOpened d roots book s l d3 × SpellJournal d l d0.seen) (sym (taken.same told all holds.1)) (
         record {
           roots_held = (has.0, holds_stays roots has.0 d1 d3 (stays_trans d1 d2 d3 between behind) has.1);
           first = first;

@@ -85,34 +85,31 @@ module _ (d : Descriptions) (before entries : List Entry) (i : ℕ) (e : Entry) 
 -- ---- ranges of a book
 
 -- so many of the book's entries were taken, and leave this
-pub record IsTakenTo (d : Descriptions) (tells : Type 0) (book : BookState) (read : ℕ) (s : Standing) (disk : Disk) : Type 0 where
-  pub entries : List Entry
+pub record IsTakenTo (d : Descriptions) (tells : Type 0) (book : BookState) (read : ℕ) (entries : List Entry) (s : Standing) (disk : Disk) : Type 0 where
   pub left : IsLeftBy d entries s
   pub same : tells → (all : List Entry) → Holds book all disk → entries ≡ take read all
 
-module _ (d : Descriptions) (tells : Type 0) (book : BookState) (old now : Disk) (stays : Stays old now) (read : ℕ) (s : Standing) (taken : IsTakenTo d tells book read s old) (first lo hi more : ℕ)
+module _ (d : Descriptions) (tells : Type 0) (book : BookState) (old now : Disk) (stays : Stays old now) (read : ℕ) (entries : List Entry) (s : Standing) (taken : IsTakenTo d tells book read entries s old) (first lo hi more : ℕ)
     (head : first ≡ book.first) (from : lo ≡ first + read) (upto : hi + 1 ≡ lo + more) where
-  range_is : (all : List Entry) → tells → Holds book all old → (range : List Entry) → range ≡ between book.first lo hi all → taken.entries ++ range ≡ take (read + more) all
+  range_is : (all : List Entry) → tells → Holds book all old → (range : List Entry) → range ≡ between book.first lo hi all → entries ++ range ≡ take (read + more) all
   range_is all told holds range is =
       ap (λ (l : List Entry). l ++ range) (taken.same told all holds) ∙ ap (λ (l : List Entry). take read all ++ l) is ∙ range_next all book.first lo hi read more (omega (arith, head, from)) upto
 
-  pub taken_range : (next : Standing) → HasTakenRange d tells book lo hi taken.entries next now → IsTakenTo d tells book (read + more) next old
-  taken_range next has = record {
-    entries = taken.entries ++ has.more;
+  pub taken_range : (after : List Entry) (next : Standing) → HasTakenRange d tells book lo hi entries after next now → IsTakenTo d tells book (read + more) after next old
+  taken_range after next has = record {
     left = has.left;
-    same = λ told all holds. range_is all told holds has.more (has.same told all (stays_holds book all old now stays holds));
+    same = λ told all holds. has.put ∙ range_is all told holds has.more (has.same told all (stays_holds book all old now stays holds));
   }
 
-  pub range_fault : (all : List Entry) → tells → Holds book all old → CannotFollow d (taken.entries ++ between book.first lo hi all) → CannotFollow d all
+  pub range_fault : (all : List Entry) → tells → Holds book all old → CannotFollow d (entries ++ between book.first lo hi all) → CannotFollow d all
   range_fault all told holds cannot =
       subst (λ (l : List Entry). CannotFollow d l) (take-append-drop (read + more) all)
       (front_cannot d (take (read + more) all) (drop (read + more) all)
       (subst (λ (l : List Entry). CannotFollow d l) (range_is all told holds (between book.first lo hi all) refl) cannot))
 
-pub taken_whole : (d : Descriptions) (tells : Type 0) (book : BookState) (read : ℕ) (s : Standing) (disk : Disk) → IsTakenTo d tells book read s disk → (first last count : ℕ) → first ≡ book.first
-    → last ≡ last_of book → 1 ≤ first → count ≡ last - (first - 1) → count ≤ read → HasTakenAll d tells book s disk
-taken_whole d tells book read s disk taken first last count head upto least is past = record {
-  entries = taken.entries;
+pub taken_whole : (d : Descriptions) (tells : Type 0) (book : BookState) (read : ℕ) (entries : List Entry) (s : Standing) (disk : Disk) → IsTakenTo d tells book read entries s disk → (first last count : ℕ) → first ≡ book.first
+    → last ≡ last_of book → 1 ≤ first → count ≡ last - (first - 1) → count ≤ read → HasTakenAll d tells book entries s disk
+taken_whole d tells book read entries s disk taken first last count head upto least is past = record {
   left = taken.left;
   same = λ told all holds. taken.same told all holds ∙ range_all book all disk holds first last count read head upto least is past;
 }
@@ -123,9 +120,9 @@ pub left_whole : (d : Descriptions) (entries : List Entry) (s : Standing) → Is
 left_whole d entries s by none = none-whole d (λ member. 0) (journal_with entries) s by.left none
 
 -- one waits for its second entry
-pub left_open : (d : Descriptions) (tells : Type 0) (book : BookState) (s : Standing) (disk : Disk) → HasTakenAll d tells book s disk → is_none s.begun ≡ false → tells → (all : List Entry)
+pub left_open : (d : Descriptions) (tells : Type 0) (book : BookState) (entries : List Entry) (s : Standing) (disk : Disk) → HasTakenAll d tells book entries s disk → is_none s.begun ≡ false → tells → (all : List Entry)
     → Holds book all disk → CanReplayJournal d (journal_with all) → ⊥
-left_open d tells book s disk taken waits told all holds can =
+left_open d tells book entries s disk taken waits told all holds can =
     let by = subst (λ (l : List Entry). IsLeftBy d l s) (taken.same told all holds) taken.left in
     false≢true (sym waits ∙ whole-none d (λ member. 0) (journal_with all) s by.left (whole-journal-ends d (journal_with all) can))
 

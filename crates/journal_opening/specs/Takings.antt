@@ -19,14 +19,14 @@ abbrev pub AreTaken : Descriptions → List Entry → Standing → Option ℕ �
 AreTaken d entries s None = IsLeftBy d entries s
 AreTaken d entries s (Some n) = CannotFollow d entries
 
--- behind these the entries of a range of the book were taken, and all leave this
-pub record HasTakenRange (d : Descriptions) (tells : Type 0) (book : BookState) (lo hi : ℕ) (before : List Entry) (s : Standing) (disk : Disk) : Type 0 where
+-- behind these the entries of a range of the book were taken, and all of them leave this
+pub record HasTakenRange (d : Descriptions) (tells : Type 0) (book : BookState) (lo hi : ℕ) (before all_taken : List Entry) (s : Standing) (disk : Disk) : Type 0 where
   pub more : List Entry
-  pub left : IsLeftBy d (before ++ more) s
+  pub put : all_taken ≡ before ++ more
+  pub left : IsLeftBy d all_taken s
   pub same : tells → (all : List Entry) → Holds book all disk → more ≡ between book.first lo hi all
 
--- the book's entries were taken, and leave this
-pub record HasTakenAll (d : Descriptions) (tells : Type 0) (book : BookState) (s : Standing) (disk : Disk) : Type 0 where
-  pub entries : List Entry
+-- these are the book's entries, and leave this
+pub record HasTakenAll (d : Descriptions) (tells : Type 0) (book : BookState) (entries : List Entry) (s : Standing) (disk : Disk) : Type 0 where
   pub left : IsLeftBy d entries s
   pub same : tells → (all : List Entry) → Holds book all disk → entries ≡ all

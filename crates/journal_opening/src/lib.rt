@@ -13,3 +13,4 @@ mod written;
 pub use fault::{FormatFault, OpenFault};
 pub use formatting::format_library;
 pub use opening::{OpenedJournal, open_journal};
+pub use replaying::take_all;

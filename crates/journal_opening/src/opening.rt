@@ -15,6 +15,7 @@ use crate::layout::ROOT_AREA;
 use crate::replaying::replay_book;
 use crate::written::is_written;
 use checkpoint::{Root, Roots, open_roots};
+use entry_codec::Entry;
 use gated_log::LogFault;
 use journal_book::Book;
 use receiver_chain::FIRST_RECEIVER;
@@ -31,7 +32,9 @@ const FIRST_MEMBER: u32 = 1;
 pub struct OpenedJournal {
     pub roots: Roots,
     pub book: Book,
-    /// What the entries leave.
+    /// The entries that the book holds.
+    pub entries: Vec<Entry>,
+    /// What they leave.
     pub replay: Replay,
 }
 
@@ -42,8 +45,10 @@ pub fn open_journal<S: Store, D: Describe>(
     by: &D,
 ) -> Result<OpenedJournal, OpenFault>
     requires keeps { KeepsLengths (D.rules by.now) }
-    ensures opened { IfOk result (λ journal. S.tells → (entries : List Entry) × IsOpened (D.rules by.now) journal.roots journal.book journal.replay entries (S.disk store.new) × SpellJournal (D.rules by.now) entries (S.disk store.old).seen) }
-    ensures left { IfOk result (λ journal. (entries : List Entry) × IsLeftBy (D.rules by.now) entries journal.replay × EndsWhole (journal_with entries)) }
+    ensures opened { IfOk result (λ journal. S.tells → IsOpened (D.rules by.now) journal.roots journal.book journal.replay journal.entries.items (S.disk store.new) × SpellJournal (D.rules by.now) journal.entries.items (S.disk store.old).seen) }
+    ensures left { IfOk result (λ journal. IsLeftBy (D.rules by.now) journal.entries.items journal.replay × EndsWhole (journal_with journal.entries.items)) }
+    ensures all_forced { IfOk result (λ journal. journal.book.waiting ≡ 0) }
+    ensures receiver { IfOk result (λ journal. journal.book.chain.first ≡ FIRST_RECEIVER) }
     ensures not_a_library { IsErrOf result OpenFault.NotALibrary → S.tells → (S.disk store.old).seen ROOT_AREA ≡ [] }
     ensures damaged { (area at : ℕ) → IsErrOf result (OpenFault.Damaged area at) → S.tells → (entries : List Entry) → SpellJournal (D.rules by.now) entries (S.disk store.old).seen → ⊥ }
     ensures something { (area at : ℕ) → IsErrOf result (OpenFault.Damaged area at) → S.tells → (S.disk store.old).seen ROOT_AREA ≢ [] }
@@ -65,8 +70,10 @@ fn open_written<S: Store, D: Describe>(
     by: &D,
 ) -> Result<OpenedJournal, OpenFault>
     requires keeps { KeepsLengths (D.rules by.now) }
-    ensures opened { IfOk result (λ journal. S.tells → (entries : List Entry) × IsOpened (D.rules by.now) journal.roots journal.book journal.replay entries (S.disk store.new) × SpellJournal (D.rules by.now) entries (S.disk store.old).seen) }
-    ensures left { IfOk result (λ journal. (entries : List Entry) × IsLeftBy (D.rules by.now) entries journal.replay × EndsWhole (journal_with entries)) }
+    ensures opened { IfOk result (λ journal. S.tells → IsOpened (D.rules by.now) journal.roots journal.book journal.replay journal.entries.items (S.disk store.new) × SpellJournal (D.rules by.now) journal.entries.items (S.disk store.old).seen) }
+    ensures left { IfOk result (λ journal. IsLeftBy (D.rules by.now) journal.entries.items journal.replay × EndsWhole (journal_with journal.entries.items)) }
+    ensures all_forced { IfOk result (λ journal. journal.book.waiting ≡ 0) }
+    ensures receiver { IfOk result (λ journal. journal.book.chain.first ≡ FIRST_RECEIVER) }
     ensures never_empty { IsErrOf result OpenFault.NotALibrary → ⊥ }
     ensures damaged { (area at : ℕ) → IsErrOf result (OpenFault.Damaged area at) → S.tells → (entries : List Entry) → SpellJournal (D.rules by.now) entries (S.disk store.old).seen → ⊥ }
     ensures stays { Stays (S.disk store.old) (S.disk store.new) }
@@ -87,19 +94,22 @@ fn open_parts<S: Store, D: Describe>(
     by: &D,
 ) -> Result<OpenedJournal, LogFault>
     requires keeps { KeepsLengths (D.rules by.now) }
-    ensures opened { IfOk result (λ journal. S.tells → (entries : List Entry) × IsOpened (D.rules by.now) journal.roots journal.book journal.replay entries (S.disk store.new) × SpellJournal (D.rules by.now) entries (S.disk store.old).seen) }
-    ensures left { IfOk result (λ journal. (entries : List Entry) × IsLeftBy (D.rules by.now) entries journal.replay × EndsWhole (journal_with entries)) }
+    ensures opened { IfOk result (λ journal. S.tells → IsOpened (D.rules by.now) journal.roots journal.book journal.replay journal.entries.items (S.disk store.new) × SpellJournal (D.rules by.now) journal.entries.items (S.disk store.old).seen) }
+    ensures left { IfOk result (λ journal. IsLeftBy (D.rules by.now) journal.entries.items journal.replay × EndsWhole (journal_with journal.entries.items)) }
+    ensures all_forced { IfOk result (λ journal. journal.book.waiting ≡ 0) }
+    ensures receiver { IfOk result (λ journal. journal.book.chain.first ≡ FIRST_RECEIVER) }
     ensures damaged { (area at : ℕ) → IsErrOf result (LogFault.Damaged area at) → S.tells → (entries : List Entry) → SpellJournal (D.rules by.now) entries (S.disk store.old).seen → ⊥ }
     ensures stays { Stays (S.disk store.old) (S.disk store.new) }
     ensures cause { IsErrOf result LogFault.StoreFault → Rose (S.disk store.old).faults (S.disk store.new).faults }
 {
     let roots = first_roots(alloc, store)?;
     let book = journal_book::open(alloc, store, FIRST_RECEIVER)?;
-    let replay = replay_book(alloc, store, by, &book)?;
+    let taken = replay_book(alloc, store, by, &book)?;
     Ok(OpenedJournal {
         roots,
         book,
-        replay,
+        entries: taken.entries,
+        replay: taken.replay,
     })
 }
 

@@ -21,27 +21,34 @@ use replay_step::Replay;
 use std::alloc::{AllocError, Global};
 use store_model::Store;
 
-/// What the entries of a book leave that waits for none. At its end no pair of images waits for its second entry.
+/// The entries of a book, and what they leave.
+#[derive(Drop)]
+pub(crate) struct Taken {
+    pub(crate) entries: Vec<Entry>,
+    pub(crate) replay: Replay,
+}
+
+/// The entries of a book that waits for none, and what they leave. At their end no pair of images waits for its second entry.
 pub(crate) fn replay_book<S: Store, D: Describe>(
     alloc: Global,
     store: &mut S,
     by: &D,
     book: &Book,
-) -> Result<Replay, LogFault>
+) -> Result<Taken, LogFault>
     requires keeps { KeepsLengths (D.rules by.now) }
     requires held { S.tells → IsHeld book.now (S.disk store.old) }
     requires forced { book.now.waiting ≡ 0 }
-    ensures taken { IfOk result (λ replay. HasTakenAll (D.rules by.now) S.tells book.now replay (S.disk store.old)) }
-    ensures whole { IfOk result (λ replay. (entries : List Entry) → IsLeftBy (D.rules by.now) entries replay → EndsWhole (journal_with entries)) }
+    ensures taken { IfOk result (λ taken. HasTakenAll (D.rules by.now) S.tells book.now taken.entries.items taken.replay (S.disk store.old)) }
+    ensures whole { IfOk result (λ taken. (entries : List Entry) → IsLeftBy (D.rules by.now) entries taken.replay → EndsWhole (journal_with entries)) }
     ensures damaged { (area at : ℕ) → IsErrOf result (LogFault.Damaged area at) → S.tells → (all : List Entry) → Holds book.now all (S.disk store.old) → CanReplayJournal (D.rules by.now) (journal_with all) → ⊥ }
     ensures stays { Stays (S.disk store.old) (S.disk store.new) }
     ensures cause { IsErrOf result LogFault.StoreFault → Rose (S.disk store.old).faults (S.disk store.new).faults }
 {
-    let replay = replay_entries(alloc, store, by, book)?;
-    if replay.is_whole() {
-        Ok(replay)
+    let taken = replay_entries(alloc, store, by, book)?;
+    if taken.replay.is_whole() {
+        Ok(taken)
     } else {
-        Err(damage_at(alloc, store, book, replay.last()))
+        Err(damage_at(alloc, store, book, taken.replay.last()))
     }
 }
 
@@ -51,11 +58,11 @@ fn replay_entries<S: Store, D: Describe>(
     store: &mut S,
     by: &D,
     book: &Book,
-) -> Result<Replay, LogFault>
+) -> Result<Taken, LogFault>
     requires keeps { KeepsLengths (D.rules by.now) }
     requires held { S.tells → IsHeld book.now (S.disk store.old) }
     requires forced { book.now.waiting ≡ 0 }
-    ensures taken { IfOk result (λ replay. HasTakenAll (D.rules by.now) S.tells book.now replay (S.disk store.old)) }
+    ensures taken { IfOk result (λ taken. HasTakenAll (D.rules by.now) S.tells book.now taken.entries.items taken.replay (S.disk store.old)) }
     ensures damaged { (area at : ℕ) → IsErrOf result (LogFault.Damaged area at) → S.tells → (all : List Entry) → Holds book.now all (S.disk store.old) → CannotFollow (D.rules by.now) all }
     ensures stays { Stays (S.disk store.old) (S.disk store.new) }
     ensures cause { IsErrOf result LogFault.StoreFault → Rose (S.disk store.old).faults (S.disk store.new).faults }
@@ -63,24 +70,26 @@ fn replay_entries<S: Store, D: Describe>(
     let bounds = book.bounds();
     let count = bounds.1 - (bounds.0 - 1);
     let mut replay = Replay::new(alloc);
+    let mut entries = Vec::new(alloc);
     let mut read = 0;
     while read < count {
         let more = (count - read).min(PIECE);
         let lo = bounds.0 + read;
         let hi = lo + (more - 1);
-        take_range(alloc, store, by, book, &mut replay, lo, hi)?;
+        take_range(alloc, store, by, book, &mut replay, &mut entries, lo, hi)?;
         read += more;
     }
-    Ok(replay)
+    Ok(Taken { entries, replay })
 }
 
-/// Takes the entries of these sequences, which come behind those that were taken.
+/// Takes the entries of these sequences, which come behind those that were taken, and keeps them.
 fn take_range<S: Store, D: Describe>(
     alloc: Global,
     store: &mut S,
     by: &D,
     book: &Book,
     replay: &mut Replay,
+    kept: &mut Vec<Entry>,
     lo: u64,
     hi: u64,
 ) -> Result<(), LogFault>
@@ -91,13 +100,14 @@ fn take_range<S: Store, D: Describe>(
     requires kept { book.now.first ≤ lo }
     requires some { lo ≤ hi }
     requires there { hi ≤ last_of book.now }
-    ensures taken { OnOk result ((before : List Entry) → IsLeftBy (D.rules by.now) before replay.old → HasTakenRange (D.rules by.now) S.tells book.now lo hi before replay.new (S.disk store.old)) }
+    ensures taken { OnOk result (IsLeftBy (D.rules by.now) kept.old.items replay.old → HasTakenRange (D.rules by.now) S.tells book.now lo hi kept.old.items kept.new.items replay.new (S.disk store.old)) }
     ensures damaged { (area at : ℕ) → IsErrOf result (LogFault.Damaged area at) → S.tells → (before all : List Entry) → IsLeftBy (D.rules by.now) before replay.old → Holds book.now all (S.disk store.old) → CannotFollow (D.rules by.now) (before ++ between book.now.first lo hi all) }
     ensures stays { Stays (S.disk store.old) (S.disk store.new) }
     ensures cause { IsErrOf result LogFault.StoreFault → Rose (S.disk store.old).faults (S.disk store.new).faults }
 {
-    let entries = read_range(alloc, store, book, lo, hi)?;
+    let mut entries = read_range(alloc, store, book, lo, hi)?;
     let found = take_all(by, replay, &entries)?;
+    kept.append(&mut entries)?;
     match found {
         None => Ok(()),
         Some(n) => Err(damage_at(alloc, store, book, lo.saturating_add(n as u64))),
@@ -133,7 +143,7 @@ fn read_range<S: Store>(
 }
 
 /// Takes the entries one after another: how many come before the first that can't follow, `None` where each one may.
-fn take_all<D: Describe>(
+pub fn take_all<D: Describe>(
     by: &D,
     replay: &mut Replay,
     entries: &[Entry],

@@ -54,73 +54,6 @@ fn record_read(alloc: Global, text: &[u8]) -> Result<Option<RecordRead>, AllocEr
     }))
 }
 
-#[tactic(auto, unfolding(crate::specs::Replies::numbered_answer))]
-fn numbered_answer(text: &[u8]) -> Option<Reply>
-    ensures { result ≡ numbered_answer (words text.now) }
-{
-    if stands(text, b"RRN") {
-        number_in(text, b"RRN").map(|rrn| Reply::Added { rrn })
-    } else if stands(text, b"RCV") {
-        number_in(text, b"RCV").map(|number| Reply::Receiver { number })
-    } else if stands(text, b"SEQ") {
-        long_in(text, b"SEQ").map(|number| Reply::Sequence { number })
-    } else {
-        Some(Reply::Done)
-    }
-}
-
-/// What was done, by what is carried.
-#[tactic(auto, unfolding(crate::specs::Replies::done_answer))]
-fn done_answer(alloc: Global, text: &[u8]) -> Result<Option<Reply>, AllocError>
-    ensures { IfOk result (λ reply. reply ≡ done_answer (words text.now)) }
-{
-    if stands(text, b"FMT") {
-        Ok(record_read(alloc, text)?.map(Reply::Record))
-    } else if stands(text, b"ENT") {
-        Ok(changes_in(text).map(|range| Reply::Range {
-            first: range.first,
-            last: range.last,
-            changes: range.changes,
-        }))
-    } else {
-        Ok(numbered_answer(text))
-    }
-}
-
-/// The entries of the journal, or what was done.
-#[tactic(auto, unfolding(crate::specs::Replies::ok_reply))]
-fn ok_reply(alloc: Global, text: &[u8]) -> Result<Option<Reply>, AllocError>
-    ensures { IfOk result (λ reply. reply ≡ ok_reply (words text.now)) }
-{
-    if begins_with_stroke(text) {
-        Ok(entries_in(alloc, text)?.map(Reply::Entries))
-    } else {
-        done_answer(alloc, text)
-    }
-}
-
-// The rows of refusals.
-macro_rules! refusal_groups {
-    ($with:tt done $done:tt results $results:tt records { $($records:tt)* } states { $($states:tt)* } names { $($names:tt)* }
-        ranges { $($ranges:tt)* } receivers { $($receivers:tt)* } limits { $($limits:tt)* }) => {
-        refusal_arms!($with $($records)* $($states)* $($names)* $($ranges)* $($receivers)* $($limits)*)
-    };
-}
-
-macro_rules! refusal_arms {
-    (($alloc:expr, $names:expr, $kind:expr, $text:expr) $($name:ident $answer:literal ($({ $($field:ident),* })? $(($held:ident))?) [$($codec:ident ($($keyword:ident)?; $part:ident))*])*) => {
-        match $kind {
-            ReplyKind::Done => ok_reply($alloc, $text),
-            $(ReplyKind::$name => {
-                $(let Some($part) = read!($codec ($($keyword)?), $names, $text) else {
-                    return Ok(None);
-                };)*
-                Ok(Some(Reply::$name $({ $($field),* })? $(($held))?))
-            })*
-        }
-    };
-}
-
 // A part of what a reply carries.
 macro_rules! read {
     (name ($keyword:ident), $names:expr, $text:expr) => { name_in($text, keyword!($keyword)) };
@@ -139,6 +72,103 @@ macro_rules! read {
     (missing (Name), $names:expr, $text:expr) => { missing_in($text) };
     (record_fault (), $names:expr, $text:expr) => { record_fault_in($text) };
     (dds_fault (), $names:expr, $text:expr) => { dds_fault_in($text) };
+}
+
+// The rows of results, and behind them that of what was done.
+macro_rules! result_rows {
+    (($arms:ident $with:tt) done { $($done:tt)* } results { $($results:tt)* } $($others:tt)*) => {
+        $arms!($with $($results)* $($done)*)
+    };
+}
+
+// The first row with one number whose keyword stands, else what was done.
+macro_rules! numbered {
+    (($text:expr) $name:ident $answer:literal ({ $field:ident }) [$codec:ident ($keyword:ident; $part:ident)] $($others:tt)*) => {
+        if stands($text, keyword!($keyword)) {
+            read!($codec ($keyword), &[], $text).map(|$part| Reply::$name { $field })
+        } else {
+            numbered!(($text) $($others)*)
+        }
+    };
+    (($text:expr) $name:ident $answer:literal () []) => { Some(Reply::$name) };
+    (($text:expr) $name:ident $answer:literal $fields:tt $parts:tt $($others:tt)*) => { numbered!(($text) $($others)*) };
+}
+
+// The row of a record or of a range, where its first keyword stands, else one with a number or with nothing.
+macro_rules! carried {
+    (($alloc:expr, $text:expr)) => { Ok(numbered_answer($text)) };
+    (($alloc:expr, $text:expr) $name:ident $answer:literal $fields:tt [record (; $read:ident)] $($others:tt)*) => {
+        if stands($text, keyword!(Format)) {
+            Ok(record_read($alloc, $text)?.map(Reply::$name))
+        } else {
+            carried!(($alloc, $text) $($others)*)
+        }
+    };
+    (($alloc:expr, $text:expr) $name:ident $answer:literal $fields:tt [range (; $($part:ident),*)] $($others:tt)*) => {
+        if stands($text, b"ENT") {
+            Ok(changes_in($text).map(|range| Reply::$name { $($part: range.$part),* }))
+        } else {
+            carried!(($alloc, $text) $($others)*)
+        }
+    };
+    (($alloc:expr, $text:expr) $name:ident $answer:literal $fields:tt $parts:tt $($others:tt)*) => { carried!(($alloc, $text) $($others)*) };
+}
+
+// The row of entries, where a stroke stands, else another.
+macro_rules! entered {
+    (($alloc:expr, $text:expr) $name:ident $answer:literal $fields:tt [entries (; $entries:ident)] $($others:tt)*) => {
+        if begins_with_stroke($text) {
+            Ok(entries_in($alloc, $text)?.map(Reply::$name))
+        } else {
+            done_answer($alloc, $text)
+        }
+    };
+    (($alloc:expr, $text:expr) $name:ident $answer:literal $fields:tt $parts:tt $($others:tt)*) => { entered!(($alloc, $text) $($others)*) };
+}
+
+#[tactic(auto, unfolding(crate::specs::Replies::numbered_answer))]
+fn numbered_answer(text: &[u8]) -> Option<Reply>
+    ensures { result ≡ numbered_answer (words text.now) }
+{
+    reply_table!(result_rows!(numbered(text)))
+}
+
+/// What was done, by what is carried.
+#[tactic(auto, unfolding(crate::specs::Replies::done_answer))]
+fn done_answer(alloc: Global, text: &[u8]) -> Result<Option<Reply>, AllocError>
+    ensures { IfOk result (λ reply. reply ≡ done_answer (words text.now)) }
+{
+    reply_table!(result_rows!(carried(alloc, text)))
+}
+
+/// The entries of the journal, or what was done.
+#[tactic(auto, unfolding(crate::specs::Replies::ok_reply))]
+fn ok_reply(alloc: Global, text: &[u8]) -> Result<Option<Reply>, AllocError>
+    ensures { IfOk result (λ reply. reply ≡ ok_reply (words text.now)) }
+{
+    reply_table!(result_rows!(entered(alloc, text)))
+}
+
+// The row of what was done, and those of refusals.
+macro_rules! refusal_groups {
+    ($with:tt done { $($done:tt)* } results $results:tt records { $($records:tt)* } states { $($states:tt)* } names { $($names:tt)* }
+        ranges { $($ranges:tt)* } receivers { $($receivers:tt)* } limits { $($limits:tt)* }) => {
+        refusal_arms!($with $($done)* : $($records)* $($states)* $($names)* $($ranges)* $($receivers)* $($limits)*)
+    };
+}
+
+macro_rules! refusal_arms {
+    (($alloc:expr, $names:expr, $kind:expr, $text:expr) $done:ident $ok:literal $nothing:tt $none:tt : $($name:ident $answer:literal ($({ $($field:ident),* })? $(($held:ident))?) [$($codec:ident ($($keyword:ident)?; $part:ident))*])*) => {
+        match $kind {
+            ReplyKind::$done => ok_reply($alloc, $text),
+            $(ReplyKind::$name => {
+                $(let Some($part) = read!($codec ($($keyword)?), $names, $text) else {
+                    return Ok(None);
+                };)*
+                Ok(Some(Reply::$name $({ $($field),* })? $(($held))?))
+            })*
+        }
+    };
 }
 
 /// What is answered, with what is carried.

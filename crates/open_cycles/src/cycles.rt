@@ -6,7 +6,7 @@ ghost use Rattle.journal_model.specs.Replay.{is_not_in, is_other, before_of};
 ghost use Rattle.journal_model.specs.Replayable.{is_one_of};
 ghost use Rattle.journal_replay.specs.Open.{none_open};
 ghost use Rattle.journal_replay.specs.Tests.{is_touched, is_apart, first_before};
-ghost use Rattle.open_cycles.specs.Kept.{is_restored_by, last_of, without_last};
+ghost use Rattle.open_cycles.specs.Kept.{is_restored_by, last_of, live, without_last};
 
 use crate::changes::OpenChange;
 use crate::kept::Changes;
@@ -47,6 +47,14 @@ impl OpenCycles {
         ensures { result.now ≡ self.now.cycles }
     {
         self.cycles.as_slice()
+    }
+
+    /// The changes of the open commit cycles at their places, the last one behind the others. Where a commit cycle has ended, its
+    /// places are empty.
+    pub fn changes(&self) -> &[Option<OpenChange>]
+        ensures { live result.now ≡ self.now.undos }
+    {
+        self.changes.kept()
     }
 
     /// Whether the commit cycle is open. It looks at each open commit cycle; a job has at most one.

@@ -4,7 +4,7 @@ ghost use Rattle.std.specs.List.{filter, list_all};
 ghost use Rattle.std.specs.Option.{is_some, option_copied, option_map};
 ghost use Rattle.journal_model.specs.Replay.{is_not_in, before_of};
 ghost use Rattle.journal_replay.specs.Tests.{is_touched, is_apart, first_before};
-ghost use Rattle.open_cycles.specs.Kept.{first_change, got, is_restored_by, last_of, without_last};
+ghost use Rattle.open_cycles.specs.Kept.{first_change, got, is_restored_by, last_of, live, without_last};
 
 use crate::changes::OpenChange;
 use crate::restored::{HasSlots, are_back};
@@ -53,6 +53,13 @@ impl Changes {
             firsts: IndexMap::new(alloc),
             counts: IndexMap::new(alloc),
         }
+    }
+
+    /// All, each at its place.
+    pub(crate) fn kept(&self) -> &[Option<OpenChange>]
+        ensures { live result.now ≡ self.now }
+    {
+        self.kept.as_slice()
     }
 
     /// Whether one is of the member.

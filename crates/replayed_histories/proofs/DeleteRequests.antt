@@ -1,5 +1,5 @@
--- DLTF, where the journal's other files don't depend on the one that goes, and are described without it as they were.
-use Rattle.std.proofs.Common.{◌≡◌, ◌≢◌, ℕ, ◌+◌, ◌==◌, ◌||◌, not, Bool, true, false, cond, Option, Some, None, Ok, unwrap_or, List, [], ◌∷◌, map, refl, sym, ap, ◌∙◌, subst, arith}
+-- DLTF: the journal's other files don't depend on the one that goes, and are described without it as they were.
+use Rattle.std.proofs.Common.{◌≡◌, ◌≢◌, ℕ, ◌+◌, ◌==◌, ◌||◌, not, Bool, true, false, cond, Option, Some, None, unwrap_or, List, [], ◌∷◌, map, refl, sym, ap, ◌∙◌, subst, arith}
 use Rattle.std.specs.List.{AllByRecursion, filter, find, list_any}
 use Rattle.std.specs.Option.{is_some}
 use Rattle.std.specs.Str.{bytes_eq}
@@ -27,7 +27,6 @@ use Rattle.library_model.specs.declared.replies.Reply.TheVariants.{Done}
 use Rattle.library_model.specs.declared.requests.DeleteFile.{DeleteFile}
 use Rattle.library_model.specs.Named.{Named, named, same_name}
 use Rattle.library_steps.specs.State.{FileState, JobState, MemberStatus, State, fields_of, memory_of}
-use Rattle.library_steps.specs.Change.{Change}
 use Rattle.library_steps.specs.DeleteFile.{delete_change, delete_file, delete_plan, deleted, user_by, without_file, without_members}
 use Rattle.library_steps.specs.Drafts.{Author, author_of, library_draft}
 use Rattle.library_steps.specs.Uses.{first_job, user_of, uses}
@@ -43,11 +42,12 @@ use Rattle.restart_laws.proofs.StableLemmas.{ArePlain, IsPlain, all-free, plain-
 use Rattle.replayed_histories.specs.Shown.{ShownFile, ShowsMembers, catalog_shown, file_shown, held_shown, is_held_in, kind_in, memberless}
 use Rattle.replayed_histories.specs.Replayed.{IsHeldWithin, IsReplayed, MemberStands, StandsAs}
 use Rattle.replayed_histories.specs.Deposits.{MayBeDeposited}
-use Rattle.replayed_histories.specs.Requests.{MayGo}
+use Rattle.replayed_histories.specs.Requests.{AreReplaysKeptBy}
 use Rattle.replayed_histories.proofs.DepositLemmas.{replays-kept}
 use Rattle.replayed_histories.proofs.FreeLemmas.{unused-free}
 use Rattle.replayed_histories.proofs.GrownLemmas.{each-both, left-plain, plain-fields}
 use Rattle.replayed_histories.proofs.HomeLemmas.{IsHomed, all-homed, catalog-named}
+use Rattle.replayed_histories.proofs.LessLemmas.{left-alone, left-described}
 use Rattle.replayed_histories.proofs.QuietLemmas.{members-stay, no-records, standing-same}
 use Rattle.replayed_histories.proofs.StandsLemmas.{cycles-later}
 
@@ -459,14 +459,15 @@ module _ (s : State) (r : IsReplayed s) (sound : IsSound s) (job timestamp : ℕ
       cycles_are = cycles-later r.left.next r.left.cycles r.left.undos s.jobs r.stands.cycles_are;
     }
 
-    pub gone-replayed : IsReplayed (after s (delete_change (memory_of s) job timestamp args file))
+    gone-replayed : IsReplayed (after s (delete_change (memory_of s) job timestamp args file))
     gone-replayed =
         let over = catalog-named name r.left.files s.files file r.stands.files_are there in
         replays-kept s r (library_draft author (FileDeleted name) ∷ []) true Done (deleted args file (memory_of s)) to refl r.checkpoint refl
         (gone-may author name r.left r.whole (record { file = over.0; named = over.1; alone = alone }) (free-members r.left.members homed) within, sym (gone-after author name r.left)) refl stands-then
 
-pub gone-where : (s : State) (r : IsReplayed s) → IsSound s → (job timestamp : ℕ) (args : DeleteFile) (done : Change) → delete_file (memory_of s) job timestamp args ≡ Ok done
-    → MayGo r.left s.files args.file → IsReplayed (after s done)
-gone-where s r sound job timestamp args done h may =
+pub delete_file-replayed : (args : DeleteFile) → AreReplaysKeptBy (λ m job timestamp. delete_file m job timestamp args)
+delete_file-replayed args s sound r job timestamp done running h =
     does-each (delete_change (memory_of s) job timestamp args) (delete_plan (memory_of s) args) done (λ c. IsReplayed (after s c)) h
-    (λ file is. let its = delete-file s args file is in gone-replayed s r sound job timestamp args file its.0 its.2 may.alone may.described)
+    (λ file is.
+    let its = delete-file s args file is in
+    gone-replayed s r sound job timestamp args file its.0 its.2 (left-alone s r args.file its.1) (left-described s r args.file its.1))

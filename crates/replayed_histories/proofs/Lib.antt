@@ -40,5 +40,6 @@ pub mod AddRequests
 pub mod GrownLemmas
 pub mod CreateRequests
 pub mod PhysicalRequests
-pub mod JoinedLemmas
+pub mod LessLemmas
 pub mod DeleteRequests
+pub mod JoinedLemmas

@@ -3,4 +3,3 @@ pub mod Replayed
 pub mod Deposits
 pub mod Unsaved
 pub mod Requests
-pub mod Joined

@@ -1,7 +1,6 @@
 //! Requests on files, members and records. The functions do nothing, and their contracts are the laws.
 
-ghost use Rattle.std.specs.Prelude.{◌≡◌, ℕ, List, Ok};
-ghost use Rattle.joint_state.specs.Sound.{IsSound, after};
+ghost use Rattle.std.specs.Prelude.{List};
 ghost use Rattle.library_model.specs.declared.requests.CreateLogicalFile.{CreateLogicalFile};
 ghost use Rattle.library_model.specs.declared.requests.CreatePhysicalFile.{CreatePhysicalFile};
 ghost use Rattle.library_model.specs.declared.requests.DeleteFile.{DeleteFile};
@@ -10,17 +9,14 @@ ghost use Rattle.library_model.specs.declared.requests.OpenName.{OpenName};
 ghost use Rattle.library_model.specs.declared.requests.UpdateRecord.{UpdateRecord};
 ghost use Rattle.library_model.specs.declared.requests.WriteRecord.{WriteRecord};
 ghost use Rattle.library_model.specs.declared.sources.NamedSource.{NamedSource};
-ghost use Rattle.library_steps.specs.Change.{Change};
 ghost use Rattle.library_steps.specs.ChangeRecord.{delete_record, update_record};
 ghost use Rattle.library_steps.specs.CreateLogicalFile.{create_logical_file};
 ghost use Rattle.library_steps.specs.CreatePhysicalFile.{create_physical_file};
 ghost use Rattle.library_steps.specs.DeleteFile.{delete_file};
-ghost use Rattle.library_steps.specs.State.{State, memory_of};
 ghost use Rattle.library_steps.specs.Journaling.{end_journaling};
 ghost use Rattle.library_steps.specs.MemberCommands.{add_member, clear_member, reorganize_member};
 ghost use Rattle.library_steps.specs.WriteRecord.{write_record};
-ghost use Rattle.replayed_histories.specs.Replayed.{IsReplayed};
-ghost use Rattle.replayed_histories.specs.Requests.{AreReplaysKeptBy, MayGo};
+ghost use Rattle.replayed_histories.specs.Requests.{AreReplaysKeptBy};
 
 /// What the journal leaves stays the library as it stands after ENDJRNPF.
 pub fn ended_journaling_is_replayed()
@@ -51,8 +47,7 @@ pub fn created_files_are_replayed()
     ensures logical { (sources : List NamedSource) (args : CreateLogicalFile) → AreReplaysKeptBy (λ m job timestamp. create_logical_file sources m job timestamp args) }
 {}
 
-/// So it does after DLTF, where no other file of the journal depends on the one that goes, and they are described without it as they were.
+/// So it does after DLTF: what is refused leaves no other file that depends on the one that goes.
 pub fn deleted_files_are_replayed()
-    ensures { (s : State) (r : IsReplayed s) → IsSound s → (job timestamp : ℕ) (args : DeleteFile) (done : Change) → delete_file (memory_of s) job timestamp args ≡ Ok done
-        → MayGo r.left s.files args.file → IsReplayed (after s done) }
+    ensures { (args : DeleteFile) → AreReplaysKeptBy (λ m job timestamp. delete_file m job timestamp args) }
 {}

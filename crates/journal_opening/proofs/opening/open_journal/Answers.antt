@@ -20,9 +20,8 @@ pub returns-in_ok-journal-clause-opened : goal.returns-in_ok-journal-clause-open
 returns-in_ok-journal-clause-opened g c = λ tells.
     let told = c.in_ok-journal.ensures.opened tells in (
       told.0,
-      told.1,
-      subst (λ (areas : Areas). SpellJournal (g.D.Describe.rules c.args.by.now) told.0 areas)
-          (sym (seen_same (g.S.Store.disk c.args.store.now) (g.S.Store.disk c.is_written.new.store) c.is_written.ensures.stays)) told.2,
+      subst (λ (areas : Areas). SpellJournal (g.D.Describe.rules c.args.by.now) c.in_ok-journal.journal.entries.items areas)
+          (sym (seen_same (g.S.Store.disk c.args.store.now) (g.S.Store.disk c.is_written.new.store) c.is_written.ensures.stays)) told.1,
     )
 
 pub returns-in_ok-journal-clause-stays : goal.returns-in_ok-journal-clause-stays

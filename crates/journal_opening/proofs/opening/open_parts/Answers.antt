@@ -27,26 +27,28 @@ returns-in_err-book-clause-damaged g c = λ area at is tells entries spells.
 pub replay_book-requires-clause-held : goal.replay_book-requires-clause-held
 replay_book-requires-clause-held g c = λ tells. ∣ c.in_ok-book.ensures.opened tells ∣₁
 
-pub returns-in_err-replay-clause-damaged : goal.returns-in_err-replay-clause-damaged
-returns-in_err-replay-clause-damaged g c = λ area at is tells entries spells.
-    let p = err_from_is_err_and c.from_residual-in_err-replay.result c.from_residual-in_err-replay.ensures.1 in
-    let same : c.in_err-replay.field-0.0 ≡ Damaged area at = cc (p.1, p.2, is) in
+pub returns-in_err-taken-clause-damaged : goal.returns-in_err-taken-clause-damaged
+returns-in_err-taken-clause-damaged g c = λ area at is tells entries spells.
+    let p = err_from_is_err_and c.from_residual-in_err-taken.result c.from_residual-in_err-taken.ensures.1 in
+    let same : c.in_err-taken.field-0.0 ≡ Damaged area at = cc (p.1, p.2, is) in
     let has = c.in_ok-book.ensures.opened tells in
     let before = stays_trans (g.S.Store.disk c.args.store.now) (g.S.Store.disk c.first_roots.new.store) (g.S.Store.disk c.«open».new.store) c.first_roots.ensures.stays c.«open».ensures.stays in
     no_journal (g.D.Describe.rules c.args.by.now) c.in_ok-book.book has.0 (g.S.Store.disk c.«open».new.store) has.1 c.in_ok-book.ensures.all_forced c.in_ok-book.ensures.first
     (g.S.Store.disk c.args.store.now) before
-    (c.in_err-replay.ensures.damaged area at (ap (λ (e : LogFault). Err e) same) tells has.0 has.1) entries spells
+    (c.in_err-taken.ensures.damaged area at (ap (λ (e : LogFault). Err e) same) tells has.0 has.1) entries spells
 
 pub returns-clause-opened : goal.returns-clause-opened
 returns-clause-opened g c = λ tells.
-    opened_journal (g.D.Describe.rules c.args.by.now) g.S.Store.tells c.in_ok-roots.roots c.in_ok-book.book c.in_ok-replay.replay (g.S.Store.disk c.args.store.now)
+    opened_journal (g.D.Describe.rules c.args.by.now) g.S.Store.tells c.in_ok-roots.roots c.in_ok-book.book c.in_ok-taken.taken.entries.items c.in_ok-taken.taken.replay (g.S.Store.disk c.args.store.now)
     (g.S.Store.disk c.first_roots.new.store) (g.S.Store.disk c.«open».new.store)
     (g.S.Store.disk c.replay_book.new.store) c.first_roots.ensures.stays c.«open».ensures.stays c.replay_book.ensures.stays (c.in_ok-roots.ensures.held tells) c.in_ok-roots.ensures.first
     (c.in_ok-book.ensures.opened tells)
-    c.in_ok-book.ensures.all_forced c.in_ok-book.ensures.first tells c.in_ok-replay.ensures.taken c.in_ok-replay.ensures.whole
+    c.in_ok-book.ensures.all_forced c.in_ok-book.ensures.first tells c.in_ok-taken.ensures.taken c.in_ok-taken.ensures.whole
 
 pub returns-clause-left : goal.returns-clause-left
-returns-clause-left g c = let taken = c.in_ok-replay.ensures.taken in (taken.entries, taken.left, c.in_ok-replay.ensures.whole taken.entries taken.left)
+returns-clause-left g c =
+    let taken = c.in_ok-taken.ensures.taken in
+    (taken.left, c.in_ok-taken.ensures.whole c.in_ok-taken.taken.entries.items taken.left)
 
 pub returns-clause-stays : goal.returns-clause-stays
 returns-clause-stays g c =

@@ -1,10 +1,12 @@
-use Rattle.std.proofs.Common.{◌≡◌, ◌+◌, ◌-◌, [], refl, ap, arith, Err}
+use Rattle.std.proofs.Common.{◌≡◌, ◌+◌, ◌-◌, List, refl, ap, sym, subst, arith, Err}
+use Rattle.entry_codec.specs.declared.entries.Entry.{Entry}
 use Rattle.std.proofs.lemmas.Result.{err_from_is_err_and}
 use Rattle.store_model.proofs.Runs.{stays_trans}
 use Rattle.checkpoint.proofs.Formats.{stays_here}
 use Rattle.gated_log.specs.declared.fault.LogFault.{LogFault}
 use Rattle.gated_log.specs.declared.fault.LogFault.TheVariants.{Damaged}
 use Rattle.journal_book.proofs.Deposits.{stays_holds}
+use Rattle.journal_opening.specs.Journals.{IsLeftBy}
 use Rattle.journal_opening.proofs.Books.{held_stays}
 use Rattle.journal_opening.proofs.Empties.{empty_stays}
 use Rattle.journal_opening.proofs.Takings.{range_fault, taken_range, taken_whole}
@@ -15,9 +17,10 @@ loop-read-init g c = record {
   stays = stays_here (g.S.Store.disk c.args.store.now);
   within = omega arith;
   taken = record {
-    entries = [];
-    left = record { left = c.new-replay.ensures.journal (g.D.Describe.rules c.args.by.now); stays = empty_stays (g.D.Describe.rules c.args.by.now) };
-    same = λ tells all holds. refl;
+    left =
+        subst (λ (l : List Entry). IsLeftBy (g.D.Describe.rules c.args.by.now) l c.new-replay.result) (sym c.new-entries.ensures.items)
+        (record { left = c.new-replay.ensures.journal (g.D.Describe.rules c.args.by.now); stays = empty_stays (g.D.Describe.rules c.args.by.now) });
+    same = λ tells all holds. c.new-entries.ensures.items;
   };
 }
 
@@ -44,8 +47,8 @@ returns-in_err-take_range-clause-damaged g c = λ area at is tells all holds.
     let upto : lo + (more - 1) + 1 ≡ lo + more = omega (arith, c.min-more.ensures, c.loop-read-test.true) in
     let there = stays_holds c.args.book.now all (g.S.Store.disk c.args.store.now) (g.S.Store.disk c.loop-read.store) so_far.stays holds in
     range_fault (g.D.Describe.rules c.args.by.now) g.S.Store.tells c.args.book.now (g.S.Store.disk c.args.store.now) (g.S.Store.disk c.loop-read.store) so_far.stays c.loop-read.read
-    c.loop-read.replay so_far.taken c.bounds-bounds.result.0 lo (lo + (more - 1)) more
-    c.bounds-bounds.ensures.first refl upto all tells holds (c.in_err-take_range.ensures.damaged area at (ap (λ (e : LogFault). Err e) same) tells so_far.taken.entries all so_far.taken.left there)
+    c.loop-read.entries.items c.loop-read.replay so_far.taken c.bounds-bounds.result.0 lo (lo + (more - 1)) more
+    c.bounds-bounds.ensures.first refl upto all tells holds (c.in_err-take_range.ensures.damaged area at (ap (λ (e : LogFault). Err e) same) tells c.loop-read.entries.items all so_far.taken.left there)
 
 pub loop-read-preserved : goal.loop-read-preserved
 loop-read-preserved g c =
@@ -58,13 +61,13 @@ loop-read-preserved g c =
       within = omega (arith, c.min-more.ensures, c.loop-read-test.true);
       taken =
           taken_range (g.D.Describe.rules c.args.by.now) g.S.Store.tells c.args.book.now (g.S.Store.disk c.args.store.now) (g.S.Store.disk c.loop-read.store) so_far.stays c.loop-read.read
-          c.loop-read.replay so_far.taken c.bounds-bounds.result.0 lo (lo + (more - 1)) more
-          c.bounds-bounds.ensures.first refl upto c.take_range.new.replay (c.in_ok-take_range.ensures.taken so_far.taken.entries so_far.taken.left);
+          c.loop-read.entries.items c.loop-read.replay so_far.taken c.bounds-bounds.result.0 lo (lo + (more - 1)) more
+          c.bounds-bounds.ensures.first refl upto c.take_range.new.kept.items c.take_range.new.replay (c.in_ok-take_range.ensures.taken so_far.taken.left);
     }
 
 pub returns-clause-taken : goal.returns-clause-taken
 returns-clause-taken g c =
-    taken_whole (g.D.Describe.rules c.args.by.now) g.S.Store.tells c.args.book.now c.loop-read.read c.loop-read.replay (g.S.Store.disk c.args.store.now) c.loop-read.invariant.taken
+    taken_whole (g.D.Describe.rules c.args.by.now) g.S.Store.tells c.args.book.now c.loop-read.read c.loop-read.entries.items c.loop-read.replay (g.S.Store.disk c.args.store.now) c.loop-read.invariant.taken
     c.bounds-bounds.result.0 c.bounds-bounds.result.1
     (c.bounds-bounds.result.1 - (c.bounds-bounds.result.0 - 1)) c.bounds-bounds.ensures.first c.bounds-bounds.ensures.last
     (omega (arith, c.bounds-bounds.ensures.first, c.bounds-bounds.ensures.least)) refl (omega (arith, c.loop-read-test.false))

@@ -7,7 +7,7 @@ abbrev pub invariant-loop-read : goal.invariant-loop-read
 invariant-loop-read g l = record {
   stays : Stays (g.S.Store.disk l.fn.store) (g.S.Store.disk l.store);
   within : l.read ≤ l.count;
-  taken : IsTakenTo (g.D.Describe.rules l.by) g.S.Store.tells l.book l.read l.replay (g.S.Store.disk l.fn.store);
+  taken : IsTakenTo (g.D.Describe.rules l.by) g.S.Store.tells l.book l.read l.entries.items l.replay (g.S.Store.disk l.fn.store);
 }
 
 abbrev pub decreases-loop-read : goal.decreases-loop-read

@@ -1,4 +1,5 @@
-use Rattle.std.proofs.Common.{◌≡◌, ◌++◌, ◌∙◌, ℕ, List, Option, ap, subst, Err}
+use Rattle.std.proofs.Common.{◌≡◌, ◌++◌, ◌∙◌, ℕ, List, Option, ap, sym, subst, Err}
+use Rattle.store_model.proofs.Runs.{stays_trans}
 use Rattle.std.proofs.lemmas.Result.{err_from_is_err_and}
 use Rattle.entry_codec.specs.declared.entries.Entry.{Entry}
 use Rattle.gated_log.specs.declared.fault.LogFault.{LogFault}
@@ -15,11 +16,16 @@ returns-in_err-entries-clause-damaged g c = λ area at is tells before all left 
     absurd (c.in_err-entries.ensures.whole area at (ap (λ (e : LogFault). Err e) same) tells)
 
 pub returns-in-None-clause-taken : goal.returns-in-None-clause-taken
-returns-in-None-clause-taken g c = λ before left.
+returns-in-None-clause-taken g c = λ left.
+    let before = c.args.kept.now.items in
+    let put = c.in_ok-append.ensures.items in
     let here = subst (λ (o : Option ℕ). AreTaken (g.D.Describe.rules c.args.by.now) (before ++ c.deref.result.now) c.take_all.new.replay o) c.in-None.is (c.in_ok-found.ensures before left) in
     record {
       more = c.in_ok-entries.entries.items;
-      left = subst (λ (l : List Entry). IsLeftBy (g.D.Describe.rules c.args.by.now) (before ++ l) c.take_all.new.replay) c.deref.ensures.value here;
+      put = put;
+      left =
+          subst (λ (l : List Entry). IsLeftBy (g.D.Describe.rules c.args.by.now) l c.take_all.new.replay) (sym put)
+          (subst (λ (l : List Entry). IsLeftBy (g.D.Describe.rules c.args.by.now) (before ++ l) c.take_all.new.replay) c.deref.ensures.value here);
       same = λ tells all holds. c.in_ok-entries.ensures.entries tells all holds;
     }
 
@@ -30,3 +36,7 @@ pub returns-clause-damaged : goal.returns-clause-damaged
 returns-clause-damaged g c = λ area at is tells before all left holds.
     let here = subst (λ (o : Option ℕ). AreTaken (g.D.Describe.rules c.args.by.now) (before ++ c.deref.result.now) c.take_all.new.replay o) c.in-Some.is (c.in_ok-found.ensures before left) in
     subst (λ (l : List Entry). CannotFollow (g.D.Describe.rules c.args.by.now) (before ++ l)) (c.deref.ensures.value ∙ c.in_ok-entries.ensures.entries tells all holds) here
+
+pub returns-clause-stays : goal.returns-clause-stays
+returns-clause-stays g c =
+    stays_trans (g.S.Store.disk c.args.store.now) (g.S.Store.disk c.read_range.new.store) (g.S.Store.disk c.damage_at.new.store) c.read_range.ensures.stays c.damage_at.ensures.stays

@@ -1,12 +1,12 @@
-use Rattle.std.proofs.Common.{◌≡◌, inl, inr, ℕ, ◌+◌, Err, IsErrOf, [], ◌∷◌, ap, ◌∙◌, arith}
+use Rattle.std.proofs.Common.{◌≡◌, inl, inr, ℕ, ◌+◌, Err, IsErrOf, [], ◌∷◌, length, ap, ◌∙◌, arith}
 use Rattle.std.proofs.Math.Logic.{∥∥₁_map}
 use Rattle.std.proofs.lemmas.Result.{err_from_is_err_and}
 use Rattle.receiver_chain.specs.declared.fault.ChainFault.{ChainFault}
 use Rattle.receiver_chain.specs.declared.fault.ChainFault.TheVariants.{NoMemory, StoreFault}
 use Rattle.receiver_chain.specs.Chain.{attached_of}
 use Rattle.journal_book.specs.Switch.{AreTieBlocks}
-use Rattle.journal_book.proofs.Attaching.{leaves_more, rose_after, switch_moments, ties_forced}
-use Rattle.journal_book.proofs.Forcing.{none_moment}
+use Rattle.journal_book.proofs.Attaching.{leaves_exactly_more, leaves_more, rose_after, switch_exactly, switch_moments, ties_forced}
+use Rattle.journal_book.proofs.Forcing.{all_counted, none_exactly, none_moment}
 use Rattle.journal_book.proofs.book.Book.switch_by.Goals as goal
 
 pub framed_entry-requires-clause-tie : goal.framed_entry-requires-clause-tie
@@ -95,3 +95,56 @@ returns-in_err-receiver-clause-cause g c = λ is.
     let p = err_from_is_err_and c.from_residual-in_err-receiver.result c.from_residual-in_err-receiver.ensures.1 in
     let same : c.in_err-receiver.field-0.0 ≡ StoreFault = cc (p.1, p.2, is) in
     rose_after _ _ _ c.force.ensures.faults (c.in_err-receiver.ensures.cause (ap (λ (e : ChainFault). Err e) same))
+
+pub returns-in_err-ending-clause-exactly : goal.returns-in_err-ending-clause-exactly
+returns-in_err-ending-clause-exactly g c = λ tells entries holds.
+    let disk = g.S.Store.disk c.args.store.now in
+    leaves_exactly_more c.args.self.now.chain.first c.args.self.now.forced (length entries) entries (c.args.nr.now ∷ c.args.pr.now ∷ []) disk disk (none_exactly c.args.self.now entries disk holds)
+
+pub returns-in_err-beginning-clause-exactly : goal.returns-in_err-beginning-clause-exactly
+returns-in_err-beginning-clause-exactly g c = λ tells entries holds.
+    let disk = g.S.Store.disk c.args.store.now in
+    leaves_exactly_more c.args.self.now.chain.first c.args.self.now.forced (length entries) entries (c.args.nr.now ∷ c.args.pr.now ∷ []) disk disk (none_exactly c.args.self.now entries disk holds)
+
+pub returns-in_err-force-clause-exactly : goal.returns-in_err-force-clause-exactly
+returns-in_err-force-clause-exactly g c = λ tells entries holds.
+    leaves_exactly_more c.args.self.now.chain.first c.args.self.now.forced (length entries) entries (c.args.nr.now ∷ c.args.pr.now ∷ []) (g.S.Store.disk c.args.store.now) (g.S.Store.disk c.force.new.store)
+    (c.force.ensures.exactly tells entries holds)
+
+pub returns-in_err-receiver-clause-exactly : goal.returns-in_err-receiver-clause-exactly
+returns-in_err-receiver-clause-exactly g c = λ tells entries holds.
+    let nr = c.args.nr.now in
+    let pr = c.args.pr.now in
+    let blocks : AreTieBlocks c.force.new.self nr pr c.deref.result.now c.deref-2.result.now = record {
+      ties = ties_forced c.args.self.now c.force.new.self nr pr c.in_ok-force.ensures.all c.in_ok-force.ensures.nothing_waits c.force.ensures.first c.force.ensures.number c.in_ok-ending.ensures.spelled c.in_ok-beginning.ensures.spelled
+          c.requires.ends c.requires.begins c.requires.nr_sequence c.requires.pr_sequence;
+      framed_ending = c.deref.ensures.value ∙ c.in_ok-ending.ensures.framed;
+      framed_beginning = c.deref-2.ensures.value ∙ c.in_ok-beginning.ensures.framed;
+    } in
+    switch_exactly c.args.self.now c.force.new.self entries (nr ∷ pr ∷ []) (g.S.Store.disk c.args.store.now) (g.S.Store.disk c.force.new.store) (g.S.Store.disk c.attach.new.store) c.force.ensures.receiver (c.in_ok-force.ensures.all ∙ all_counted c.args.self.now entries (g.S.Store.disk c.args.store.now) holds)
+    (c.force.ensures.exactly tells entries holds) (c.attach.ensures.moments tells entries nr pr blocks (c.in_ok-force.ensures.forced tells entries holds))
+
+pub returns-clause-exactly : goal.returns-clause-exactly
+returns-clause-exactly g c = λ tells entries holds.
+    let nr = c.args.nr.now in
+    let pr = c.args.pr.now in
+    let blocks : AreTieBlocks c.force.new.self nr pr c.deref.result.now c.deref-2.result.now = record {
+      ties = ties_forced c.args.self.now c.force.new.self nr pr c.in_ok-force.ensures.all c.in_ok-force.ensures.nothing_waits c.force.ensures.first c.force.ensures.number c.in_ok-ending.ensures.spelled c.in_ok-beginning.ensures.spelled
+          c.requires.ends c.requires.begins c.requires.nr_sequence c.requires.pr_sequence;
+      framed_ending = c.deref.ensures.value ∙ c.in_ok-ending.ensures.framed;
+      framed_beginning = c.deref-2.ensures.value ∙ c.in_ok-beginning.ensures.framed;
+    } in
+    switch_exactly c.args.self.now c.force.new.self entries (nr ∷ pr ∷ []) (g.S.Store.disk c.args.store.now) (g.S.Store.disk c.force.new.store) (g.S.Store.disk c.attach.new.store) c.force.ensures.receiver (c.in_ok-force.ensures.all ∙ all_counted c.args.self.now entries (g.S.Store.disk c.args.store.now) holds)
+    (c.force.ensures.exactly tells entries holds) (c.attach.ensures.moments tells entries nr pr blocks (c.in_ok-force.ensures.forced tells entries holds))
+
+pub returns-in_err-receiver-clause-freed : goal.returns-in_err-receiver-clause-freed
+returns-in_err-receiver-clause-freed g c = omega (arith, c.force.ensures.freed, c.attach.ensures.room, ap length c.attach.ensures.buffered)
+
+pub returns-in_err-receiver-clause-no_longer : goal.returns-in_err-receiver-clause-no_longer
+returns-in_err-receiver-clause-no_longer g c = omega (arith, c.force.ensures.no_longer, ap length c.attach.ensures.buffered)
+
+pub returns-clause-freed : goal.returns-clause-freed
+returns-clause-freed g c = omega (arith, c.force.ensures.freed, c.attach.ensures.room, ap length c.attach.ensures.buffered)
+
+pub returns-clause-no_longer : goal.returns-clause-no_longer
+returns-clause-no_longer g c = omega (arith, c.force.ensures.no_longer, ap length c.attach.ensures.buffered)

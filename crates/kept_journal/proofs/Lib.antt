@@ -1,0 +1,4 @@
+pub mod CallLemmas
+pub mod Following
+pub mod Putting
+pub mod Rooms

@@ -1,0 +1,5 @@
+use Rattle.journal_book.proofs.Forcing.{none_exactly}
+use Rattle.kept_journal.proofs.journal.KeptJournal.settle.Goals as goal
+
+pub returns-else-is_due-clause-moments : goal.returns-else-is_due-clause-moments
+returns-else-is_due-clause-moments g c = λ tells all holds. none_exactly c.args.self.now all (g.S.Store.disk c.args.store.now) holds

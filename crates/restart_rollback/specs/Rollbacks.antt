@@ -1,0 +1,14 @@
+-- What a restart makes of a journal whose receiver has begun: its open commit cycles are rolled back. (Commitment Control, "Commitment control during
+-- abnormal job end and restart".)
+use Rattle.std.specs.Prelude.{ℕ, ◌+◌, Option, None, List, [], ◌++◌, length}
+use Rattle.entry_codec.specs.declared.entries.Entry.{Entry}
+use Rattle.journal_model.specs.Journal.{open_cycles}
+use Rattle.journal_model.specs.Rollback.{numbered_from, restart_drafts, undos_of}
+use Rattle.journal_opening.specs.Journals.{journal_with}
+
+-- the entries that a restart deposits behind these
+abbrev pub rollback_entries : (job : Option (List ℕ)) (moment : ℕ) → List Entry → List Entry
+rollback_entries job moment entries = numbered_from (length entries + 1) (restart_drafts job moment (open_cycles (journal_with entries)) (undos_of [] None entries))
+
+abbrev pub rolled_back : (job : Option (List ℕ)) (moment : ℕ) → List Entry → List Entry
+rolled_back job moment entries = entries ++ rollback_entries job moment entries

@@ -1,0 +1,8 @@
+//! How a restart rolls back the commit cycles that a journal leaves open. Begin with `rollback.rt`.
+#![tactic(auto)]
+
+mod fault;
+mod rollback;
+
+pub use fault::RestartFault;
+pub use rollback::roll_back;
