@@ -1,0 +1,7 @@
+//! Where an open of a join file stands among its rows, with room for what it keeps of a row. Begin with `position.rt`.
+#![tactic(auto)]
+
+mod finding;
+mod given;
+mod matches;
+pub mod position;
