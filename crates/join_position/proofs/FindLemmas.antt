@@ -10,7 +10,7 @@ use Rattle.key_spec.specs.declared.KeyPart.{KeyPart}
 use Rattle.key_pages.specs.declared.entries.Entry.{Entry}
 use Rattle.key_pages.specs.EntryList.{EntryList}
 use Rattle.key_pages.specs.Order.{IsInOrder}
-use Rattle.member_slots.specs.Members.{NumberedMembers, AreMembers}
+use Rattle.member_slots.specs.Members.{NumberedMembers}
 use Rattle.file_model.specs.declared.paths.PathFormat.{PathFormat}
 use Rattle.file_model.specs.declared.joins.Secondary.{Secondary}
 use Rattle.file_model.specs.declared.joins.JoinSpec.{JoinSpec}
@@ -18,6 +18,7 @@ use Rattle.file_model.specs.KeyOrder.{KeyValue, key_of, given_key, begins_with}
 use Rattle.file_model.specs.Joins.{Match, NoRecord, RecordAt, RowPlace, JoinRow, row_with, rows_of}
 use Rattle.file_model.specs.Paths.{PathEntry}
 use Rattle.file_model.specs.Positions as model
+use Rattle.file_model.proofs.PathLemmas.{all-append}
 use Rattle.key_order.specs.KeyBytes.{key_bytes, encoded}
 use Rattle.key_order.specs.KeyFields.{Matches, key_width}
 use Rattle.key_order.proofs.KeyLemmas.{Matches-itself}
@@ -26,22 +27,20 @@ use Rattle.access_path.specs.PathBytes.{parts_of, in_bytes}
 use Rattle.file_cursor.specs.Finding.{compare_part}
 use Rattle.file_cursor.specs.PositionBytes.{IsEntryOf, AreGiven, HasKeysWithin}
 use Rattle.file_cursor.proofs.EntryLemmas.{begins-same}
+use Rattle.file_cursor.proofs.ListLemmas.{reverse-cons, map-reverse, find-map}
+use Rattle.join_rows.specs.declared.positions.MatchPlace.{MatchPlace}
+use Rattle.join_rows.specs.declared.positions.RowPosition.{RowPosition}
 use Rattle.join_rows.specs.declared.rows.Row.{Row}
 use Rattle.join_rows.specs.NextRow.{rows_reading, row_of_entry, next_row, prior_row}
 use Rattle.join_rows.specs.Numbers.{matched_number, row_by}
-use Rattle.join_rows.specs.Rows.{CanBeRead, IsRow, IsFound, parts_in}
+use Rattle.join_rows.specs.Rows.{CanBeRead, IsAt, IsRow, IsFound, found_row, parts_in}
 use Rattle.join_rows.specs.Standing.{IsMatchAt, AreMatchesOf, CanBeStoodOn}
-use Rattle.join_rows.proofs.BackLemmas.{find-good}
-use Rattle.join_rows.proofs.WalkLemmas.{all-reverse}
-use Rattle.join_rows.proofs.StandLemmas.{stood-on}
-use Rattle.join_rows.proofs.LevelLemmas.{find-map}
-use Rattle.join_rows.proofs.NextLemmas.{next-place, prior-place}
 use Rattle.open_position.specs.declared.reads.ReadBy.{ReadBy}
 use Rattle.open_position.specs.declared.reads.ReadBy.TheVariants as asked
 use Rattle.open_position.specs.OpenStand.{AreGivenBytes, entry_by}
 use Rattle.join_position.specs.declared.position.Stand.{Stand}
 use Rattle.join_position.specs.RowStand.{JoinStand}
-use Rattle.join_position.specs.Kept.{MatchKept, IsStandFor, stand_of, position_by}
+use Rattle.join_position.specs.Kept.{MatchKept, IsStandFor, IsStandIn, ArePlaced, stand_of, position_by}
 use Rattle.join_position.specs.RowReads.{asked_of, asked_row, IsAskedOf, IsJoinOf, HasSequences, IsHeld, IsNumber, AreNumbers, CanBeKept, where_row, where_bytes, first_row, matches_by, place_of}
 use Rattle.join_position.proofs.BackLemmas.{image-back, given-back}
 use Rattle.join_position.proofs.ChainLemmas.{chained}
@@ -52,6 +51,18 @@ use Rattle.join_position.proofs.RowLemmas.{AreAll, IsImage, IsWithin, rows-withi
 pub if-ok : {T E : Type 0} (r : Result T E) (P Q : T → Type 0) → ((x : T) → P x → Q x) → IfOk r P → IfOk r Q
 if-ok (Ok x) P Q so h = so x h
 if-ok (Err e) P Q so h = tt
+
+-- ---- what is found among all
+
+all-reverse : {A : Type 0} (P : A → Type 0) (xs : List A) → AllByRecursion P xs → AllByRecursion P (reverse xs)
+all-reverse P [] all = tt
+all-reverse P (x ∷ xs) all = subst (AllByRecursion P) (sym (reverse-cons x xs)) (all-append P (reverse xs) (x ∷ []) (all-reverse P xs all.1) (all.0, tt))
+
+find-holds : {A : Type 0} (P : A → Type 0) (q : A → Bool) (xs : List A) → AllByRecursion P xs → IfSome (find q xs) P
+find-holds P q [] all = tt
+find-holds {A = A} P q (x ∷ xs) all =
+    let rest = find-holds P q xs all.1 in
+    cond_both (q x) (Some x) (find q xs) (λ (o : Option A). IfSome o P) (λ _. all.0) (λ _. rest)
 
 -- ---- the places of rows
 
@@ -67,14 +78,22 @@ module _ (spec : JoinSpec) (members : NumberedMembers) where
       by true = refl
       by false = refl
 
+  next-place : (position : model.Position RowPlace) → option_map place (next_row spec members position) ≡ model.next_from (rows_reading spec members) position
+  next-place position = sym (find-map place (λ item. is_gt (model.side_of (rows_reading spec members) position item)) (rows_of spec members))
+
+  prior-place : (position : model.Position RowPlace) → option_map place (prior_row spec members position) ≡ model.prior_from (rows_reading spec members) position
+  prior-place position =
+      sym (ap (find (λ item. is_lt (model.side_of (rows_reading spec members) position item))) (map-reverse place (rows_of spec members))
+      ∙ find-map place (λ item. is_lt (model.side_of (rows_reading spec members) position item)) (reverse (rows_of spec members)))
+
   pub asked-place : (by : ReadBy) (parts : List KeyPart) (position : model.Position RowPlace)
       → option_map place (asked_row by parts spec members position) ≡ asked_of by parts (rows_reading spec members) position
-  asked-place asked.Next parts position = next-place spec members position
-  asked-place asked.Prior parts position = prior-place spec members position
+  asked-place asked.Next parts position = next-place position
+  asked-place asked.Prior parts position = prior-place position
   asked-place (asked.NextEqual key) parts position =
-      where-place (values_in parts key.now) (next_row spec members position) ∙ ap (model.where_equal (rows_reading spec members) (values_in parts key.now)) (next-place spec members position)
+      where-place (values_in parts key.now) (next_row spec members position) ∙ ap (model.where_equal (rows_reading spec members) (values_in parts key.now)) (next-place position)
   asked-place (asked.PriorEqual key) parts position =
-      where-place (values_in parts key.now) (prior_row spec members position) ∙ ap (model.where_equal (rows_reading spec members) (values_in parts key.now)) (prior-place spec members position)
+      where-place (values_in parts key.now) (prior_row spec members position) ∙ ap (model.where_equal (rows_reading spec members) (values_in parts key.now)) (prior-place position)
   asked-place (asked.FirstEqual key) parts position = sym (find-map place (λ item. begins_with (values_in parts key.now) item.primary.key) (rows_of spec members))
   asked-place (asked.Number rrn) parts position = sym (find-map place (λ item. item.primary.rrn == rrn) (rows_of spec members))
 
@@ -122,7 +141,8 @@ own-parts format formats one n low =
     first zero low = (refl, refl)
     first (suc k) low = absurd (omega (arith, low))
 
-module _ (spec : JoinSpec) (members : NumberedMembers) (primary : EntryList) (secondaries : List EntryList) (can : CanBeRead spec members primary secondaries) (are : AreMembers members) where
+module _ (spec : JoinSpec) (members : NumberedMembers) (primary : EntryList) (secondaries : List EntryList) (can : CanBeRead spec members primary secondaries)
+    (stood-on : (back : Bool) (position : model.Position RowPlace) (row : JoinRow) → found_row back spec members position ≡ Some row → CanBeStoodOn spec row.place) where
   abbrev formats : List PathFormat
   formats = spec.primary.formats
 
@@ -139,11 +159,11 @@ module _ (spec : JoinSpec) (members : NumberedMembers) (primary : EntryList) (se
 
   pub next-stood : (position : model.Position RowPlace) (o : Option JoinRow) → next_row spec members position ≡ o → IfSome o IsStood
   next-stood position None is = tt
-  next-stood position (Some row) is = stood-on members are spec primary secondaries can false position row is
+  next-stood position (Some row) is = stood-on false position row is
 
   pub prior-stood : (position : model.Position RowPlace) (o : Option JoinRow) → prior_row spec members position ≡ o → IfSome o IsStood
   prior-stood position None is = tt
-  prior-stood position (Some row) is = stood-on members are spec primary secondaries can true position row is
+  prior-stood position (Some row) is = stood-on true position row is
 
   pub given-bytes : (key : List ℕ) → (given : AreGivenBytes parts key) → (key ≡ key_bytes parts (values_in parts key)) × AreGiven parts (values_in parts key)
   given-bytes key given =
@@ -188,21 +208,20 @@ module _ (spec : JoinSpec) (members : NumberedMembers) (primary : EntryList) (se
     within : AllByRecursion (IsWithin members spec) (rows_of spec members)
     within = rows-within members spec primary secondaries can most has sequenced
 
-    good-next : (position : model.Position RowPlace) (o : Option JoinRow) → next_row spec members position ≡ o → IfSome o IsGood
-    good-next position None is = tt
-    good-next position (Some row) is = record {
-      stood = stood-on members are spec primary secondaries can false position row is;
-      within = (find-good (IsWithin members spec) (λ r. is_gt (model.side_of (rows_reading spec members) position r.place)) (rows_of spec members) row within is).0;
-    }
+    both-good : (o : Option JoinRow) → IfSome o IsStood → IfSome o (IsWithin members spec) → IfSome o IsGood
+    both-good None stood near = tt
+    both-good (Some row) stood near = record { stood = stood; within = near }
 
-    good-prior : (position : model.Position RowPlace) (o : Option JoinRow) → prior_row spec members position ≡ o → IfSome o IsGood
-    good-prior position None is = tt
-    good-prior position (Some row) is = record {
-      stood = stood-on members are spec primary secondaries can true position row is;
-      within =
-          (find-good (IsWithin members spec) (λ r. is_lt (model.side_of (rows_reading spec members) position r.place)) (reverse (rows_of spec members)) row
-          (all-reverse (IsWithin members spec) (rows_of spec members) within) is).0;
-    }
+    good-next : (position : model.Position RowPlace) → IfSome (next_row spec members position) IsGood
+    good-next position =
+        both-good (next_row spec members position) (next-stood position (next_row spec members position) refl)
+        (find-holds (IsWithin members spec) (λ r. is_gt (model.side_of (rows_reading spec members) position r.place)) (rows_of spec members) within)
+
+    good-prior : (position : model.Position RowPlace) → IfSome (prior_row spec members position) IsGood
+    good-prior position =
+        both-good (prior_row spec members position) (prior-stood position (prior_row spec members position) refl)
+        (find-holds (IsWithin members spec) (λ r. is_lt (model.side_of (rows_reading spec members) position r.place)) (reverse (rows_of spec members))
+        (all-reverse (IsWithin members spec) (rows_of spec members) within))
 
     good-where : (values : List KeyValue) (o : Option JoinRow) → IfSome o IsGood → IfSome (where_row values o) IsGood
     good-where values None good = tt
@@ -210,16 +229,16 @@ module _ (spec : JoinSpec) (members : NumberedMembers) (primary : EntryList) (se
         cond_both (begins_with values row.place.primary.key) (Some row) None (λ (o : Option JoinRow). IfSome o IsGood) (λ _. good) (λ _. tt)
 
     good-asked : IsInOrder primary.falling primary.entries → (by : ReadBy) (position : model.Position RowPlace) → IsAskedOf parts by → IfSome (asked_row by parts spec members position) IsGood
-    good-asked sorted asked.Next position can-ask = good-next position (next_row spec members position) refl
-    good-asked sorted asked.Prior position can-ask = good-prior position (prior_row spec members position) refl
-    good-asked sorted (asked.NextEqual key) position can-ask = good-where (values_in parts key.now) (next_row spec members position) (good-next position (next_row spec members position) refl)
-    good-asked sorted (asked.PriorEqual key) position can-ask = good-where (values_in parts key.now) (prior_row spec members position) (good-prior position (prior_row spec members position) refl)
+    good-asked sorted asked.Next position can-ask = good-next position
+    good-asked sorted asked.Prior position can-ask = good-prior position
+    good-asked sorted (asked.NextEqual key) position can-ask = good-where (values_in parts key.now) (next_row spec members position) (good-next position)
+    good-asked sorted (asked.PriorEqual key) position can-ask = good-where (values_in parts key.now) (prior_row spec members position) (good-prior position)
     good-asked sorted (asked.FirstEqual key) position can-ask =
         let values : List KeyValue = values_in parts key.now in
         let before : model.Position RowPlace = model.Before (model.KeyBound values) in
         let given = given-bytes key.now can-ask in
         subst (λ (o : Option JoinRow). IfSome o IsGood) (chained spec members values primary secondaries can key given.0 given.1 sorted)
-        (good-where values (next_row spec members before) (good-next before (next_row spec members before) refl))
+        (good-where values (next_row spec members before) (good-next before))
     good-asked sorted (asked.Number rrn) position can-ask = absurd can-ask
 
     -- ---- its place
@@ -297,12 +316,27 @@ module _ (parts : List KeyPart) (stand : Stand) (key : List ℕ) (matches : List
   pub can-ask : (by : ReadBy) → IsAskedOf now.parts by → IsAskedOf (parts_in spec.primary.formats) by
   can-ask by asked = subst (λ (p : List KeyPart). IsAskedOf p by) (sym join.parts) asked
 
-  pub finds : {E : Type 0} → AreMembers members → IsInOrder primary.falling primary.entries → (by : ReadBy) → IsAskedOf now.parts by → (r : Result (Option Row) E)
+  pub finds : {E : Type 0} → ((back : Bool) (position : model.Position RowPlace) (row : JoinRow) → found_row back spec members position ≡ Some row → CanBeStoodOn spec row.place) → IsInOrder primary.falling primary.entries → (by : ReadBy) → IsAskedOf now.parts by → (r : Result (Option Row) E)
       → IfOk r (λ o. IsFound spec members o (asked_row by (parts_in spec.primary.formats) spec members (position_by parts stand key matches)))
       → IfOk r (λ o. Finds now.parts spec members by now.position o)
-  finds are sorted by asked r found =
+  finds stood-on sorted by asked r found =
       if-ok r (λ o. IsFound spec members o (asked_row by (parts_in spec.primary.formats) spec members (position_by parts stand key matches))) (λ o. Finds now.parts spec members by now.position o)
       (λ o h. subst (λ (p : List KeyPart). Finds p spec members by now.position o) join.parts
       (subst (λ (position : model.Position RowPlace). Finds (parts_in spec.primary.formats) spec members by position o) (ap (λ (s : JoinStand). s.position) is)
-      (finds-here spec members primary secondaries join.read are join.held.0 join.held.1 join.sequenced sorted by (position_by parts stand key matches) (can-ask by asked) o h)))
+      (finds-here spec members primary secondaries join.read stood-on join.held.0 join.held.1 join.sequenced sorted by (position_by parts stand key matches) (can-ask by asked) o h)))
       found
+
+  -- the same from the places that a read is given
+  pub finds-placed : {E : Type 0} → ((back : Bool) (position : model.Position RowPlace) (row : JoinRow) → found_row back spec members position ≡ Some row → CanBeStoodOn spec row.place)
+      → IsInOrder primary.falling primary.entries → (by : ReadBy) → IsAskedOf now.parts by → IsStandIn parts stand key
+      → (bytes : List ℕ) → bytes ≡ key → (places : List MatchPlace) → ArePlaced matches places → (from : RowPosition)
+      → ((spec : JoinSpec) (parts : List KeyPart) (matches : List MatchKept) → IsStandFor spec parts matches → ArePlaced matches places → IsStandIn parts stand bytes
+      → IsAt spec from (position_by parts stand bytes matches))
+      → (r : Result (Option Row) E)
+      → ((position : model.Position RowPlace) → IsAt spec from position → IfOk r (λ o. IsFound spec members o (asked_row by (parts_in spec.primary.formats) spec members position)))
+      → IfOk r (λ o. Finds now.parts spec members by now.position o)
+  finds-placed stood-on sorted by asked stands bytes same places placed from at r found =
+      finds stood-on sorted by asked r
+      (found (position_by parts stand key matches)
+      (subst (λ (k : List ℕ). IsAt spec from (position_by parts stand k matches)) same
+      (at spec parts matches stands-for placed (subst (IsStandIn parts stand) (sym same) stands))))

@@ -1,12 +1,14 @@
 -- What holds of each entry of the primary's path, and of each record of a secondary file, holds of each row.
-use Rattle.std.proofs.Common.{◌≡◌, ℕ, ◌≤◌, Bool, true, false, List, [], ◌∷◌, ◌++◌, length, map, refl, sym, ◌∙◌, ap, subst, arith, append_assoc, append-nil}
+use Rattle.std.proofs.Common.{◌≡◌, ℕ, suc, ◌+◌, ◌-◌, ◌≤◌, ◌==◌, Bool, true, false, Some, None, List, [], ◌∷◌, ◌++◌, length, map, refl, sym, ◌∙◌, ap, subst, arith, append_assoc, append-nil}
 use Rattle.std.specs.Prelude.{filter, flat_map, All}
-use Rattle.std.specs.List.{AllByRecursion, list_all}
+use Rattle.std.specs.List.{AllByRecursion, list_all, slice_get}
+use Rattle.std.proofs.lemmas.Bool.{cond-false, ne_eqb}
 use Rattle.std.proofs.lemmas.List.Elements.{recursion_from_All, All-from_recursion}
 use Rattle.key_pages.specs.declared.entries.Entry.{Entry}
 use Rattle.key_pages.specs.EntryList.{EntryList}
-use Rattle.member_slots.specs.declared.slot.Slot.TheVariants.{Live}
-use Rattle.member_slots.specs.Member.{records, slot_at}
+use Rattle.member_slots.specs.declared.slot.Slot.{Slot}
+use Rattle.member_slots.specs.declared.slot.Slot.TheVariants.{Live, Deleted}
+use Rattle.member_slots.specs.Member.{MemberState, records, records_from, slot_at}
 use Rattle.member_slots.specs.Members.{NumberedMembers, member_of}
 use Rattle.file_model.specs.declared.paths.PathFormat.{PathFormat}
 use Rattle.file_model.specs.declared.joins.Secondary.{Secondary}
@@ -24,8 +26,6 @@ use Rattle.join_rows.specs.NextRow.{row_of_entry}
 use Rattle.join_rows.specs.Numbers.{image_of}
 use Rattle.join_rows.specs.Reading.{AreReadable}
 use Rattle.join_rows.specs.Rows.{CanBeRead, parts_in}
-use Rattle.join_rows.proofs.SoughtLemmas.{all-records}
-use Rattle.join_rows.proofs.JoinedLemmas.{both-all}
 use Rattle.join_position.specs.RowReads.{HasSequences, IsHeld}
 
 all-flat : {A B : Type 0} (P : A → Type 0) (Q : B → Type 0) (f : A → List B) → ((x : A) → P x → AllByRecursion Q (f x)) → (xs : List A) → AllByRecursion P xs → AllByRecursion Q (flat_map f xs)
@@ -39,6 +39,33 @@ all-each Q f each (x ∷ xs) = all-append Q (f x) (flat_map f xs) (each x) (all-
 all-unmap : {A B : Type 0} (Q : B → Type 0) (f : A → B) (xs : List A) → AllByRecursion Q (map f xs) → AllByRecursion (λ x. Q (f x)) xs
 all-unmap Q f [] all = tt
 all-unmap Q f (x ∷ xs) all = (all.0, all-unmap Q f xs all.1)
+
+both-all : {A : Type 0} (P Q R : A → Type 0) → ((x : A) → P x → Q x → R x) → (xs : List A) → AllByRecursion P xs → AllByRecursion Q xs → AllByRecursion R xs
+both-all P Q R so [] all also = tt
+both-all P Q R so (x ∷ xs) all also = (so x all.0 also.0, both-all P Q R so xs all.1 also.1)
+
+-- ---- the records of a member
+
+abbrev IsAt : MemberState → ℕ × List ℕ → Type 0
+IsAt member pair = slot_at member pair.0 ≡ Some (Live pair.1)
+
+records-at : (n : ℕ) (member : MemberState) (slots : List Slot) → ((i : ℕ) → slice_get slots i ≡ slice_get member.slots (n + i)) → AllByRecursion (IsAt member) (records_from (n + 1) slots)
+records-at n member [] given = tt
+records-at n member (Deleted ∷ slots) given =
+    records-at (n + 1) member slots (λ i. given (suc i) ∙ ap (slice_get member.slots) (let e : n + suc i ≡ n + 1 + i = omega arith in e))
+records-at n member (Live image ∷ slots) given = (
+  here,
+  records-at (n + 1) member slots (λ i. given (suc i) ∙ ap (slice_get member.slots) (let e : n + suc i ≡ n + 1 + i = omega arith in e)),
+)
+  where
+    here : slot_at member (n + 1) ≡ Some (Live image)
+    here =
+        cond-false (n + 1 == 0) None (slice_get member.slots (n + 1 - 1)) (ne_eqb (n + 1) 0 (λ e. absurd (omega arith)))
+        ∙ ap (slice_get member.slots) (let e : n + 1 - 1 ≡ n + 0 = omega arith in e)
+        ∙ sym (given 0)
+
+all-records : (member : MemberState) → AllByRecursion (IsAt member) (records member)
+all-records member = records-at 0 member member.slots (λ i. ap (slice_get member.slots) (let e : i ≡ 0 + i = omega arith in e))
 
 -- ---- one of each file
 
@@ -119,11 +146,11 @@ module _ (members : NumberedMembers) where
       → AllByRecursion (λ pair. IsImage members file (RecordAt (key_value file.sequence pair.1) pair.0)) (records (member_of file.member members))
   held-records file bytes has =
       both-all (λ pair. AreBytes pair.1 × HasPosition file.sequence pair.1)
-      (λ pair. (1 ≤ pair.0) × (slot_at (member_of file.member members) pair.0 ≡ Some (Live pair.1)))
+      (IsAt (member_of file.member members))
       (λ pair. IsHeld members file pair.0)
       (λ pair good there. record {
-        bytes = subst AreBytes (sym (ap image_of there.1)) good.0;
-        there = subst (HasPosition file.sequence) (sym (ap image_of there.1)) good.1;
+        bytes = subst AreBytes (sym (ap image_of there)) good.0;
+        there = subst (HasPosition file.sequence) (sym (ap image_of there)) good.1;
       })
       (records (member_of file.member members))
       (both-all (λ pair. AreBytes pair.1) (λ pair. HasPosition file.sequence pair.1) (λ pair. AreBytes pair.1 × HasPosition file.sequence pair.1) (λ pair one two. (one, two))

@@ -1,5 +1,5 @@
 -- What settling keeps stands for the row that was found.
-use Rattle.std.proofs.Common.{◌≡◌, ℕ, Option, Some, None, List, [], ◌∷◌, map, refl, sym, ◌∙◌, ap}
+use Rattle.std.proofs.Common.{◌≡◌, ℕ, suc, Option, Some, None, List, [], ◌∷◌, length, map, refl, sym, ◌∙◌, ap}
 use Rattle.key_spec.specs.declared.KeyPart.{KeyPart}
 use Rattle.member_slots.specs.Members.{NumberedMembers, member_of}
 use Rattle.file_model.specs.declared.joins.Secondary.{Secondary}
@@ -47,6 +47,12 @@ module _ (members : NumberedMembers) where
   parts-kept (file ∷ files) (n ∷ numbers) [] = refl
   parts-kept (file ∷ files) (n ∷ numbers) (m ∷ matches) =
       ap (λ (p : KeyPart). p ∷ map (λ m. m.part) (numbers_kept members files numbers matches)) (one-part file n m) ∙ ap (λ (ps : List KeyPart). m.part ∷ ps) (parts-kept files numbers matches)
+
+  pub length-kept : (files : List Secondary) (numbers : List (Option ℕ)) (matches : List MatchKept) → length (numbers_kept members files numbers matches) ≡ length matches
+  length-kept [] numbers matches = refl
+  length-kept (file ∷ files) [] matches = refl
+  length-kept (file ∷ files) (n ∷ numbers) [] = refl
+  length-kept (file ∷ files) (n ∷ numbers) (m ∷ matches) = ap (λ k. suc k) (length-kept files numbers matches)
 
 -- ---- the position
 

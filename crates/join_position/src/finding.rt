@@ -10,6 +10,7 @@ ghost use Rattle.key_values.specs.KeyValues.{values_in};
 ghost use Rattle.open_position.specs.OpenStand.{AreGivenBytes};
 ghost use Rattle.join_position.specs.RowReads.{IsAskedOf, asked_row, first_row, where_bytes};
 
+use join_rows::laws::found_rows_are_stood_on;
 use join_rows::positions::RowPosition;
 use join_rows::rows::{JoinFile, Row, next_row, prior_row};
 use member_slots::members::Members;
@@ -30,6 +31,7 @@ pub(crate) fn found<'a>(
         (asked_row by.entry (parts_in join.entry.spec.now.primary.formats) join.entry.spec.now join.entry.members.now.members position)) }
 {
     are_members(join.members);
+    found_rows_are_stood_on();
     match by {
         ReadBy::Next => next_row(alloc, join, from),
         ReadBy::Prior => prior_row(alloc, join, from),
@@ -58,6 +60,7 @@ fn first_equal<'a>(
         (first_row (values_in (parts_in join.entry.spec.now.primary.formats) key.now) (rows_of join.entry.spec.now join.entry.members.now.members))) }
 {
     are_members(join.members);
+    found_rows_are_stood_on();
     join.primary.pages().in_order();
     let row = next_row(alloc, join, RowPosition::Before(key))?;
     Ok(where_equal(row, key))

@@ -16,6 +16,7 @@ use crate::finding::{are_members, found};
 use crate::given::{copy_key, write_given};
 use crate::matches::{KeptMatch, keep_all, none_of, places};
 use file_model::joins::Secondary;
+use join_rows::laws::found_rows_are_stood_on;
 use join_rows::positions::{MatchPlace, RowPosition};
 use join_rows::rows::{JoinFile, Row};
 use key_order::widths::bound;
@@ -123,6 +124,7 @@ impl JoinPosition {
         ensures kept { IfOk result (λ found. IfSome found (λ row. CanBeKept self.now.parts join.entry.spec.now join.entry.members.now.members row)) }
     {
         are_members(join.members);
+        found_rows_are_stood_on();
         join.primary.pages().in_order();
         let places = places(alloc, self.matches.as_slice())?;
         let from = place_from(self.stand, self.key.as_slice(), places.as_slice());

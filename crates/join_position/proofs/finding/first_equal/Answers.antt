@@ -19,13 +19,14 @@ returns c =
     let primary : EntryList = c.args.join.primary.now in
     let secondaries : List EntryList = map (λ (path : Bor EntryList). path.now) c.args.join.secondaries.now in
     let parts = parts_in spec.primary.formats in
+    let stood-on = c.found_rows_are_stood_on.ensures.found spec members c.args.join.primary.now secondaries c.requires.read c.are_members.ensures in
     let values = values_in parts c.args.key.now in
     let before : model.Position _ = model.Before (model.KeyBound values) in
     let sorted : IsInOrder primary.falling primary.entries = subst (λ (l : EntryList). IsInOrder l.falling l.entries) c.pages.ensures c.in_order.ensures.order in
-    let given = given-bytes spec members primary secondaries c.requires.read c.are_members.ensures c.args.key.now c.requires.given in
+    let given = given-bytes spec members primary secondaries c.requires.read stood-on c.args.key.now c.requires.given in
     subst (λ (o : Option Row). IsFound spec members o (first_row values (rows_of spec members))) (sym c.where_equal.ensures)
     (subst (λ (j : Option JoinRow). IsFound spec members (where_bytes c.args.key.now c.in_ok-row.row) j)
     (chained spec members values primary secondaries c.requires.read c.args.key given.0 given.1 sorted)
-    (where-found spec members primary secondaries c.requires.read c.are_members.ensures c.args.key.now c.requires.given c.in_ok-row.row (next_row spec members before)
-    (next-stood spec members primary secondaries c.requires.read c.are_members.ensures before (next_row spec members before) refl)
+    (where-found spec members primary secondaries c.requires.read stood-on c.args.key.now c.requires.given c.in_ok-row.row (next_row spec members before)
+    (next-stood spec members primary secondaries c.requires.read stood-on before (next_row spec members before) refl)
     (c.in_ok-row.ensures before given)))
