@@ -15,11 +15,11 @@ use Rattle.file_model.specs.declared.paths.PathFormat.{PathFormat}
 use Rattle.file_model.specs.declared.joins.Secondary.{Secondary}
 use Rattle.file_model.specs.declared.joins.JoinSpec.{JoinSpec}
 use Rattle.file_model.specs.KeyOrder.{KeyValue, key_of, given_key, begins_with}
-use Rattle.file_model.specs.Joins.{Match, NoRecord, RecordAt, RowPlace, JoinRow, row_with, rows_of}
+use Rattle.file_model.specs.Joins.{Match, RowPlace, JoinRow, row_with, rows_of}
 use Rattle.file_model.specs.Paths.{PathEntry}
 use Rattle.file_model.specs.Positions as model
 use Rattle.file_model.proofs.PathLemmas.{all-append}
-use Rattle.key_order.specs.KeyBytes.{key_bytes, encoded}
+use Rattle.key_order.specs.KeyBytes.{key_bytes}
 use Rattle.key_order.specs.KeyFields.{Matches, key_width}
 use Rattle.key_order.proofs.KeyLemmas.{Matches-itself}
 use Rattle.key_values.specs.KeyValues.{values_in}
@@ -41,7 +41,7 @@ use Rattle.open_position.specs.OpenStand.{AreGivenBytes, entry_by}
 use Rattle.join_position.specs.declared.position.Stand.{Stand}
 use Rattle.join_position.specs.RowStand.{JoinStand}
 use Rattle.join_position.specs.Kept.{MatchKept, IsStandFor, IsStandIn, ArePlaced, stand_of, position_by}
-use Rattle.join_position.specs.RowReads.{asked_of, asked_row, IsAskedOf, IsJoinOf, HasSequences, IsHeld, IsNumber, AreNumbers, CanBeKept, where_row, where_bytes, first_row, matches_by, place_of}
+use Rattle.join_position.specs.RowReads.{asked_of, asked_row, IsAskedOf, IsJoinOf, HasSequences, IsNumber, AreNumbers, CanBeKept, where_row, where_bytes, matches_by, place_of}
 use Rattle.join_position.proofs.BackLemmas.{image-back, given-back}
 use Rattle.join_position.proofs.ChainLemmas.{chained}
 use Rattle.join_position.proofs.RowLemmas.{AreAll, IsImage, IsWithin, rows-within}
@@ -267,8 +267,7 @@ module _ (spec : JoinSpec) (members : NumberedMembers) (primary : EntryList) (se
         ap (λ (r : JoinRow). r.place.matches) is.is ∙ by-matches members spec.secondaries (row_of_entry spec members is.entry) found.numbers.items in
         let entry : entry_by parts found.primary.now ≡ row.place.primary =
         ap (entry_by parts) (sym is.primary) ∙ entry-back is.entry entry-good ∙ sym same in
-        let number : row.place.primary.rrn ≡ found.primary.now.rrn = ap (λ (e : PathEntry). e.rrn) same ∙ ap (λ (e : Entry). e.rrn) is.primary in
-        (
+        let number : row.place.primary.rrn ≡ found.primary.now.rrn = ap (λ (e : PathEntry). e.rrn) same ∙ ap (λ (e : Entry). e.rrn) is.primary in (
           ap Some (ap (λ (e : PathEntry). with-matches e (matches_by members spec.secondaries found.numbers.items)) entry ∙ ap (with-matches row.place.primary) (sym matches)),
           record {
             first = ap (λ (e : Entry). e.format) (sym is.primary) ∙ own.0;

@@ -1,6 +1,5 @@
 -- What is kept in bytes is a place from which the rows of a join file can be read.
-use Rattle.std.proofs.Common.{◌≡◌, ℕ, ◌≤◌, ◌<◌, Option, Some, None, List, [], ◌∷◌, length, map, refl, sym, ◌∙◌, ap, subst, arith}
-use Rattle.std.specs.Prelude.{All}
+use Rattle.std.proofs.Common.{◌≡◌, ℕ, ◌≤◌, ◌<◌, Option, Some, None, List, [], ◌∷◌, length, map, sym, ◌∙◌, ap, subst, arith}
 use Rattle.std.specs.List.{AllByRecursion}
 use Rattle.std.proofs.lemmas.List.Elements.{recursion_from_All}
 use Rattle.key_spec.specs.declared.KeyPart.{KeyPart}
@@ -56,8 +55,7 @@ place-of file part bytes None (places.Record sequence number) same value there =
 place-of file part bytes (Some rrn) (places.Record sequence number) same value there =
     let both : (sequence.now, number) ≡ (bytes, rrn) = some-same (sequence.now, number) (bytes, rrn) value in
     let image : List ℕ = there.held.0 in
-    let back : sequence_in part bytes ≡ key_value part image = ap (sequence_in part) there.held.2 ∙ sequence-back part image there.held.1 in
-    (
+    let back : sequence_in part bytes ≡ key_value part image = ap (sequence_in part) there.held.2 ∙ sequence-back part image there.held.1 in (
       ap (λ (w : List ℕ × ℕ). w.0) both ∙ there.held.2 ∙ ap (λ v. sequence_bytes part v) (sym back) ∙ ap (λ p. sequence_bytes p (sequence_in part bytes)) (sym same),
       ap (λ (w : List ℕ × ℕ). w.1) both,
       there.most,

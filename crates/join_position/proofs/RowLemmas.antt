@@ -170,8 +170,7 @@ module _ (members : NumberedMembers) where
       → All (HasKeysWithin (key_width (parts_in formats)) members) formats
   fit-own most format formats one has =
       subst (λ (fs : List PathFormat). All (HasKeysWithin (key_width (parts_in fs)) members) fs) (sym one)
-      (All-from_recursion (HasKeysWithin (key_width format.key) members) (format ∷ [])
-      (
+      (All-from_recursion (HasKeysWithin (key_width format.key) members) (format ∷ []) (
         record {
           width = omega arith;
           keys = (recursion_from_All (HasKeysWithin most members) (format ∷ []) (subst (All (HasKeysWithin most members)) one has)).0.keys;

@@ -95,7 +95,10 @@ pub(crate) fn none_of(alloc: Global, files: &[Secondary]) -> Result<Vec<KeptMatc
 }
 
 /// What a read is given of all.
-pub(crate) fn places(alloc: Global, matches: &[KeptMatch]) -> Result<Vec<MatchPlace<'_>>, AllocError>
+pub(crate) fn places(
+    alloc: Global,
+    matches: &[KeptMatch],
+) -> Result<Vec<MatchPlace<'_>>, AllocError>
     ensures values { IfOk result (λ places. map value_placed places.items ≡ map value_kept matches.now) }
     ensures there { IfOk result (λ places. All (λ m. IsThere m.part m.bytes m.number) matches.now) }
 {

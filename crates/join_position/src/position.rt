@@ -159,11 +159,7 @@ fn at_side(side: Side) -> Stand
 }
 
 /// Where a read begins.
-fn place_from<'a>(
-    stand: Stand,
-    key: &'a [u8],
-    places: &'a [MatchPlace<'a>],
-) -> RowPosition<'a>
+fn place_from<'a>(stand: Stand, key: &'a [u8], places: &'a [MatchPlace<'a>]) -> RowPosition<'a>
     ensures { (spec : JoinSpec) (parts : List KeyPart) (matches : List MatchKept) → IsStandFor spec parts matches → ArePlaced matches places.now → IsStandIn parts stand key.now
         → IsAt spec result (position_by parts stand key.now matches) }
 {

@@ -1,4 +1,4 @@
-use Rattle.std.proofs.Common.{◌≡◌, Option, List, map, Bor, sym, ◌∙◌, ap, subst}
+use Rattle.std.proofs.Common.{◌≡◌, Option, List, map, Bor, ◌∙◌, ap, subst}
 use Rattle.std.specs.Prelude.{All, IfOk, IfSome}
 use Rattle.std.specs.Option.{option_map}
 use Rattle.key_pages.specs.EntryList.{EntryList}

@@ -1,4 +1,4 @@
-use Rattle.std.proofs.Common.{◌≡◌, Option, List, length, sym, ◌∙◌, ap}
+use Rattle.std.proofs.Common.{◌≡◌, List, length, sym, ◌∙◌, ap}
 use Rattle.std.specs.Vec.{with_items}
 use Rattle.std.proofs.lemmas.List.{with_items_is}
 use Rattle.file_model.specs.declared.joins.Secondary.{Secondary}
