@@ -14,7 +14,7 @@ use Rattle.member_slots.specs.Members.{NumberedMembers}
 use Rattle.file_model.specs.declared.paths.PathFormat.{PathFormat}
 use Rattle.file_model.specs.declared.joins.Secondary.{Secondary}
 use Rattle.file_model.specs.declared.joins.JoinSpec.{JoinSpec}
-use Rattle.file_model.specs.KeyOrder.{KeyValue, key_of, given_key, begins_with}
+use Rattle.file_model.specs.KeyOrder.{KeyValue, key_of, begins_with}
 use Rattle.file_model.specs.Joins.{Match, RowPlace, JoinRow, row_with, rows_of}
 use Rattle.file_model.specs.Paths.{PathEntry}
 use Rattle.file_model.specs.Positions as model
@@ -25,7 +25,7 @@ use Rattle.key_order.proofs.KeyLemmas.{Matches-itself}
 use Rattle.key_values.specs.KeyValues.{values_in}
 use Rattle.access_path.specs.PathBytes.{parts_of, in_bytes}
 use Rattle.file_cursor.specs.Finding.{compare_part}
-use Rattle.file_cursor.specs.PositionBytes.{IsEntryOf, AreGiven, HasKeysWithin}
+use Rattle.file_cursor.specs.PositionBytes.{IsEntryOf, HasKeysWithin}
 use Rattle.file_cursor.proofs.EntryLemmas.{begins-same}
 use Rattle.file_cursor.proofs.ListLemmas.{reverse-cons, map-reverse, find-map}
 use Rattle.join_rows.specs.declared.positions.MatchPlace.{MatchPlace}
@@ -42,7 +42,7 @@ use Rattle.join_position.specs.declared.position.Stand.{Stand}
 use Rattle.join_position.specs.RowStand.{JoinStand}
 use Rattle.join_position.specs.Kept.{MatchKept, IsStandFor, IsStandIn, ArePlaced, stand_of, position_by}
 use Rattle.join_position.specs.RowReads.{asked_of, asked_row, IsAskedOf, IsJoinOf, HasSequences, IsNumber, AreNumbers, CanBeKept, where_row, where_bytes, matches_by, place_of}
-use Rattle.join_position.proofs.BackLemmas.{image-back, given-back}
+use Rattle.join_position.proofs.BackLemmas.{image-back, given-known}
 use Rattle.join_position.proofs.ChainLemmas.{chained}
 use Rattle.join_position.proofs.RowLemmas.{AreAll, IsImage, IsWithin, rows-within}
 
@@ -126,6 +126,10 @@ module _ (members : NumberedMembers) where
 
 -- ---- what contracts see
 
+-- an open can stand on each row that is found from a position
+abbrev pub AreStoodOn : JoinSpec → NumberedMembers → Type 0
+AreStoodOn spec members = (back : Bool) (position : model.Position RowPlace) (row : JoinRow) → found_row back spec members position ≡ Some row → CanBeStoodOn spec row.place
+
 pub record Finds (parts : List KeyPart) (spec : JoinSpec) (members : NumberedMembers) (by : ReadBy) (position : model.Position RowPlace) (o : Option Row) : Type 0 where
   pub place : option_map (place_of parts spec members) o ≡ asked_of by parts (rows_reading spec members) position
   pub row : IsFound spec members o (asked_row by parts spec members position)
@@ -142,7 +146,7 @@ own-parts format formats one n low =
     first (suc k) low = absurd (omega (arith, low))
 
 module _ (spec : JoinSpec) (members : NumberedMembers) (primary : EntryList) (secondaries : List EntryList) (can : CanBeRead spec members primary secondaries)
-    (stood-on : (back : Bool) (position : model.Position RowPlace) (row : JoinRow) → found_row back spec members position ≡ Some row → CanBeStoodOn spec row.place) where
+    (stood-on : AreStoodOn spec members) where
   abbrev formats : List PathFormat
   formats = spec.primary.formats
 
@@ -165,19 +169,13 @@ module _ (spec : JoinSpec) (members : NumberedMembers) (primary : EntryList) (se
   prior-stood position None is = tt
   prior-stood position (Some row) is = stood-on true position row is
 
-  pub given-bytes : (key : List ℕ) → (given : AreGivenBytes parts key) → (key ≡ key_bytes parts (values_in parts key)) × AreGiven parts (values_in parts key)
-  given-bytes key given =
-      let values : values_in parts key ≡ given_key parts given.given.0 =
-      ap (values_in parts) given.given.3 ∙ given-back parts given.given.0 given.given.1 given.given.2 in
-      (given.given.3 ∙ ap (key_bytes parts) (sym values), record { given = (given.given.0, given.given.1, given.given.2, values) })
-
   row-entry : (found : Row) (row : JoinRow) (is : IsRow spec members found row) → row.place.primary ≡ is.entry
   row-entry found row is = ap (λ (r : JoinRow). r.place.primary) is.is ∙ by-entry members spec.secondaries (row_of_entry spec members is.entry) found.numbers.items
 
   begins-row : (key : List ℕ) → AreGivenBytes parts key → (found : Row) (row : JoinRow) → IsRow spec members found row → IsStood row
       → is_eq (compare_part key found.primary.now.key) ≡ begins_with (values_in parts key) row.place.primary.key
   begins-row key given found row is stood =
-      let good = given-bytes key given in
+      let good = given-known parts key given in
       let entry-good : IsEntryOf formats is.entry = subst (IsEntryOf formats) (row-entry found row is) stood.is_entry in
       ap (λ (e : Entry). is_eq (compare_part key e.key)) (sym is.primary)
       ∙ ap (λ (k : List ℕ). is_eq (compare_part k (in_bytes formats is.entry).key)) good.0
@@ -236,7 +234,7 @@ module _ (spec : JoinSpec) (members : NumberedMembers) (primary : EntryList) (se
     good-asked sorted (asked.FirstEqual key) position can-ask =
         let values : List KeyValue = values_in parts key.now in
         let before : model.Position RowPlace = model.Before (model.KeyBound values) in
-        let given = given-bytes key.now can-ask in
+        let given = given-known parts key.now can-ask in
         subst (λ (o : Option JoinRow). IfSome o IsGood) (chained spec members values primary secondaries can key given.0 given.1 sorted)
         (good-where values (next_row spec members before) (good-next before))
     good-asked sorted (asked.Number rrn) position can-ask = absurd can-ask
@@ -315,7 +313,7 @@ module _ (parts : List KeyPart) (stand : Stand) (key : List ℕ) (matches : List
   pub can-ask : (by : ReadBy) → IsAskedOf now.parts by → IsAskedOf (parts_in spec.primary.formats) by
   can-ask by asked = subst (λ (p : List KeyPart). IsAskedOf p by) (sym join.parts) asked
 
-  pub finds : {E : Type 0} → ((back : Bool) (position : model.Position RowPlace) (row : JoinRow) → found_row back spec members position ≡ Some row → CanBeStoodOn spec row.place) → IsInOrder primary.falling primary.entries → (by : ReadBy) → IsAskedOf now.parts by → (r : Result (Option Row) E)
+  pub finds : {E : Type 0} → AreStoodOn spec members → IsInOrder primary.falling primary.entries → (by : ReadBy) → IsAskedOf now.parts by → (r : Result (Option Row) E)
       → IfOk r (λ o. IsFound spec members o (asked_row by (parts_in spec.primary.formats) spec members (position_by parts stand key matches)))
       → IfOk r (λ o. Finds now.parts spec members by now.position o)
   finds stood-on sorted by asked r found =
@@ -326,7 +324,7 @@ module _ (parts : List KeyPart) (stand : Stand) (key : List ℕ) (matches : List
       found
 
   -- the same from the places that a read is given
-  pub finds-placed : {E : Type 0} → ((back : Bool) (position : model.Position RowPlace) (row : JoinRow) → found_row back spec members position ≡ Some row → CanBeStoodOn spec row.place)
+  pub finds-placed : {E : Type 0} → AreStoodOn spec members
       → IsInOrder primary.falling primary.entries → (by : ReadBy) → IsAskedOf now.parts by → IsStandIn parts stand key
       → (bytes : List ℕ) → bytes ≡ key → (places : List MatchPlace) → ArePlaced matches places → (from : RowPosition)
       → ((spec : JoinSpec) (parts : List KeyPart) (matches : List MatchKept) → IsStandFor spec parts matches → ArePlaced matches places → IsStandIn parts stand bytes

@@ -6,7 +6,7 @@ use Rattle.key_spec.specs.declared.KeyPart.{KeyPart}
 use Rattle.file_model.specs.declared.joins.Secondary.{Secondary}
 use Rattle.file_model.specs.declared.joins.JoinSpec.{JoinSpec}
 use Rattle.file_model.specs.declared.paths.PathFormat.{PathFormat}
-use Rattle.file_model.specs.KeyOrder.{key_of, key_value, given_key}
+use Rattle.file_model.specs.KeyOrder.{key_of, key_value}
 use Rattle.file_model.specs.Positions.{KeyBound}
 use Rattle.access_path.specs.KeptEntries.{entry_with}
 use Rattle.access_path.specs.PathBytes.{parts_of}
@@ -20,7 +20,7 @@ use Rattle.join_rows.specs.Reading.{IsPlaceOf, ArePlacesOf}
 use Rattle.join_rows.specs.Rows.{IsPlace, IsBound, parts_in}
 use Rattle.open_position.specs.OpenStand.{AreGivenBytes}
 use Rattle.join_position.specs.Kept.{MatchKept, IsThere, IsKeyOf, IsStandFor, ArePlaced, value_with, value_kept, value_placed, match_by, match_in, sequence_in, place_by}
-use Rattle.join_position.proofs.BackLemmas.{image-back, given-back, sequence-back}
+use Rattle.join_position.proofs.BackLemmas.{image-back, given-known, sequence-back}
 
 -- ---- lists
 
@@ -100,7 +100,4 @@ module _ (spec : JoinSpec) (parts : List KeyPart) (matches : List MatchKept) (is
 
   pub at-bound : (key : List ℕ) → AreGivenBytes parts key → IsBound spec key (KeyBound (values_in parts key))
   at-bound key given =
-      let values : values_in parts key ≡ given_key parts given.given.0 =
-      ap (values_in parts) given.given.3 ∙ given-back parts given.given.0 given.given.1 given.given.2 in
-      subst (λ (p : List KeyPart). (key ≡ key_bytes p (values_in parts key)) × AreGiven p (values_in parts key)) (sym is.parts_are)
-      (given.given.3 ∙ ap (key_bytes parts) (sym values), record { given = (given.given.0, given.given.1, given.given.2, values) })
+      subst (λ (p : List KeyPart). (key ≡ key_bytes p (values_in parts key)) × AreGiven p (values_in parts key)) (sym is.parts_are) (given-known parts key given)

@@ -1,5 +1,5 @@
 //! The position of an open of a join file. What sets it takes no memory.
-ghost use Rattle.std.specs.Prelude.{◌≡◌, ◌≤◌, List, map, length, All, IfOk, IfSome};
+ghost use Rattle.std.specs.Prelude.{◌≡◌, ◌≤◌, List, map, length, IfOk, IfSome};
 ghost use Rattle.std.specs.Option.{option_map};
 ghost use Rattle.key_spec.specs.declared.KeyPart.{KeyPart};
 ghost use Rattle.file_model.specs.declared.joins.JoinSpec.{JoinSpec};

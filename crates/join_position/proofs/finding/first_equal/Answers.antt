@@ -8,8 +8,9 @@ use Rattle.join_rows.specs.NextRow.{next_row}
 use Rattle.join_rows.specs.Rows.{IsFound, parts_in}
 use Rattle.key_values.specs.KeyValues.{values_in}
 use Rattle.join_position.specs.RowReads.{first_row, where_bytes}
+use Rattle.join_position.proofs.BackLemmas.{given-known}
 use Rattle.join_position.proofs.ChainLemmas.{chained}
-use Rattle.join_position.proofs.FindLemmas.{next-stood, where-found, given-bytes}
+use Rattle.join_position.proofs.FindLemmas.{next-stood, where-found}
 use Rattle.join_position.proofs.finding.first_equal.Goals as goal
 
 pub returns : goal.returns
@@ -23,7 +24,7 @@ returns c =
     let values = values_in parts c.args.key.now in
     let before : model.Position _ = model.Before (model.KeyBound values) in
     let sorted : IsInOrder primary.falling primary.entries = subst (λ (l : EntryList). IsInOrder l.falling l.entries) c.pages.ensures c.in_order.ensures.order in
-    let given = given-bytes spec members primary secondaries c.requires.read stood-on c.args.key.now c.requires.given in
+    let given = given-known parts c.args.key.now c.requires.given in
     subst (λ (o : Option Row). IsFound spec members o (first_row values (rows_of spec members))) (sym c.where_equal.ensures)
     (subst (λ (j : Option JoinRow). IsFound spec members (where_bytes c.args.key.now c.in_ok-row.row) j)
     (chained spec members values primary secondaries c.requires.read c.args.key given.0 given.1 sorted)
