@@ -3,5 +3,6 @@ pub mod PlaceLemmas
 pub mod RowLemmas
 pub mod ChainLemmas
 pub mod FindLemmas
+pub mod AloneLemmas
 pub mod SettleLemmas
 pub mod GivenLemmas

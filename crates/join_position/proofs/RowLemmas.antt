@@ -36,11 +36,11 @@ all-each : {A B : Type 0} (Q : B → Type 0) (f : A → List B) → ((x : A) →
 all-each Q f each [] = tt
 all-each Q f each (x ∷ xs) = all-append Q (f x) (flat_map f xs) (each x) (all-each Q f each xs)
 
-all-unmap : {A B : Type 0} (Q : B → Type 0) (f : A → B) (xs : List A) → AllByRecursion Q (map f xs) → AllByRecursion (λ x. Q (f x)) xs
+pub all-unmap : {A B : Type 0} (Q : B → Type 0) (f : A → B) (xs : List A) → AllByRecursion Q (map f xs) → AllByRecursion (λ x. Q (f x)) xs
 all-unmap Q f [] all = tt
 all-unmap Q f (x ∷ xs) all = (all.0, all-unmap Q f xs all.1)
 
-both-all : {A : Type 0} (P Q R : A → Type 0) → ((x : A) → P x → Q x → R x) → (xs : List A) → AllByRecursion P xs → AllByRecursion Q xs → AllByRecursion R xs
+pub both-all : {A : Type 0} (P Q R : A → Type 0) → ((x : A) → P x → Q x → R x) → (xs : List A) → AllByRecursion P xs → AllByRecursion Q xs → AllByRecursion R xs
 both-all P Q R so [] all also = tt
 both-all P Q R so (x ∷ xs) all also = (so x all.0 also.0, both-all P Q R so xs all.1 also.1)
 

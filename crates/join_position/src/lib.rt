@@ -3,5 +3,6 @@
 
 mod finding;
 mod given;
+pub mod laws;
 mod matches;
 pub mod position;
