@@ -1,0 +1,7 @@
+use Rattle.std.proofs.Common.{take}
+use Rattle.std.specs.Prelude.{All}
+use Rattle.key_order.specs.GivenValues.{IsOfBytes}
+use Rattle.join_position.proofs.given.are_of_bytes.Given as goal
+
+abbrev pub invariant-loop-value : goal.invariant-loop-value
+invariant-loop-value l = All IsOfBytes (take l.value-index l.values)

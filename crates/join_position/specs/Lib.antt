@@ -1,0 +1,3 @@
+pub mod RowStand
+pub mod Kept
+pub mod RowReads
