@@ -1,87 +1,149 @@
-//! The words of the job language: the commands with their parameters, and those that the program doesn't answer yet.
-use crate::words::{has_word, in_capitals, is_in_small_letters};
+//! The words of the job language: the commands with their parameters, and which of them the program answers so far.
+use crate::words::is_in_small_letters;
+use call_tables::{keyword, request_table};
+
+/// A parameter of a command.
+#[derive(Clone, Copy)]
+pub(crate) struct Parameter {
+    pub(crate) name: &'static [u8],
+    /// Whether it can't be left out.
+    pub(crate) required: bool,
+}
 
 /// A command as it is written.
 #[derive(Clone, Copy)]
 pub(crate) struct CommandWords {
     pub(crate) name: &'static [u8],
-    /// All its parameters, with blanks between.
-    pub(crate) parameters: &'static [u8],
-    /// Those that can't be left out.
-    pub(crate) required: &'static [u8],
+    pub(crate) parameters: &'static [Parameter],
+    /// Whether it may be run so far.
+    is_built: bool,
 }
 
-/// The commands that may be run: name, parameters, and which of them are required.
-const COMMANDS: &[(&[u8], &[u8], &[u8])] = &[
-    (b"DCL", b"VAR VALUE", b"VAR VALUE"),
-    (b"CHGVAR", b"VAR VALUE", b"VAR VALUE"),
-    (b"IF", b"COND THEN", b"COND THEN"),
-    (b"ELSE", b"CMD", b"CMD"),
-    (b"DOWHILE", b"COND", b"COND"),
-    (b"ENDDO", b"", b""),
-    (b"GOTO", b"CMDLBL", b"CMDLBL"),
-    (b"MONMSG", b"MSGID EXEC", b"MSGID"),
-    (b"RETURN", b"", b""),
-    (b"CRTPF", b"FILE SRC", b"FILE SRC"),
-    (b"CRTLF", b"FILE SRC", b"FILE SRC"),
-    (b"DLTF", b"FILE", b"FILE"),
-    (b"ADDPFM", b"FILE MBR", b"FILE"),
-    (b"CLRPFM", b"FILE MBR", b"FILE"),
-    (b"RGZPFM", b"FILE MBR", b"FILE"),
-    (b"STRJRNPF", b"FILE MBR IMAGES", b"FILE"),
-    (b"ENDJRNPF", b"FILE MBR", b"FILE"),
-    (b"CHGJRN", b"", b""),
-    (b"DLTJRNRCV", b"RCV", b"RCV"),
-    (b"DSPJRN", b"FROMENT TOENT", b"FROMENT TOENT"),
-    (b"APYJRNCHG", b"FILE MBR FROMENT TOENT", b"FILE"),
-    (b"RMVJRNCHG", b"FILE MBR FROMENT TOENT", b"FILE"),
-    (b"STRCMTCTL", b"LCKLVL", b"LCKLVL"),
-    (b"ENDCMTCTL", b"", b""),
-    (b"COMMIT", b"", b""),
-    (b"ROLLBACK", b"", b""),
-    (b"CLOF", b"OPNID", b"OPNID"),
-    (b"SETLL", b"OPNID KEY RRN", b"OPNID"),
-    (b"SETGT", b"OPNID KEY RRN", b"OPNID"),
-    (b"READ", b"OPNID LCK TO", b"OPNID"),
-    (b"READP", b"OPNID LCK TO", b"OPNID"),
-    (b"READE", b"OPNID KEY LCK TO", b"OPNID KEY"),
-    (b"READPE", b"OPNID KEY LCK TO", b"OPNID KEY"),
-    (b"UPDATE", b"OPNID VAL", b"OPNID VAL"),
-    (b"DELETE", b"OPNID", b"OPNID"),
-    (b"UNLOCK", b"OPNID", b"OPNID"),
-    (b"OPNDBF", b"FILE OPTION MBR OPNID COMMIT ACCPTH", b"FILE"),
-    (b"WRITE", b"OPNID FMT RRN VAL", b"OPNID VAL"),
-    (b"CHAIN", b"OPNID KEY RRN LCK TO", b"OPNID"),
+// A statement of the language itself: its word, the parameters that are required, and those that aren't.
+macro_rules! statement {
+    ($word:literal; $($required:literal),*; $($other:literal),*) => {
+        CommandWords {
+            name: $word,
+            parameters: &[
+                $(Parameter { name: $required, required: true },)*
+                $(Parameter { name: $other, required: false },)*
+            ],
+            is_built: true,
+        }
+    };
+}
+
+// The rows of statements: all but ENDJOB's.
+macro_rules! statement_rows {
+    (() files { $($files:tt)* } journaling { $($journaling:tt)* } journal { $($journal:tt)* } commitment { $($commitment:tt)* }
+        boundaries { $($boundaries:tt)* } opens { $($opens:tt)* } records { $($records:tt)* } unlock { $($unlock:tt)* } end $end:tt) => {
+        requests!($($files)* $($journaling)* $($journal)* $($commitment)* $($boundaries)* $($opens)* $($records)* $($unlock)*)
+    };
+}
+
+macro_rules! requests {
+    ($($name:ident $word:literal ($($args:ident { $($field:ident: $codec:ident ($parameter:ident $(, $other:ident)*) $(= $default:ident)?),* })?) [$(first $first:ident)? $(asks $form:tt)? $(into $into:ident)?])*) => {
+        &[$(CommandWords {
+            name: $word,
+            parameters: &[
+                $($(
+                    Parameter { name: keyword!($parameter), required: required!([$($other)*] [$($default)?]) },
+                    $(Parameter { name: keyword!($other), required: false },)*
+                )*)?
+                $(Parameter { name: keyword!($first), required: false },)?
+                $(Parameter { name: keyword!($into), required: false },)?
+            ],
+            is_built: built!($name),
+        },)*]
+    };
+}
+
+// What has no default, and is given by one parameter alone.
+macro_rules! required {
+    ([] []) => { true };
+    ($others:tt $default:tt) => { false };
+}
+
+// All but one.
+macro_rules! built {
+    (Checkpoint) => { false };
+    ($name:ident) => { true };
+}
+
+/// The statements of the language itself.
+const STATEMENTS: &[CommandWords] = &[
+    statement!(b"DCL"; b"VAR", b"VALUE";),
+    statement!(b"CHGVAR"; b"VAR", b"VALUE";),
+    statement!(b"IF"; b"COND", b"THEN";),
+    statement!(b"ELSE"; b"CMD";),
+    statement!(b"DOWHILE"; b"COND";),
+    statement!(b"ENDDO";;),
+    statement!(b"GOTO"; b"CMDLBL";),
+    statement!(b"MONMSG"; b"MSGID"; b"EXEC"),
+    statement!(b"RETURN";;),
 ];
 
-/// The command that isn't built yet.
-const TO_COME: &[u8] = b"CHKPT";
+/// The requests, by their table.
+const REQUESTS: &[CommandWords] = request_table!(statement_rows!());
 
 /// The command of a word that may be run.
 pub(crate) fn command_named(word: &[u8]) -> Option<CommandWords> {
-    for &(name, parameters, required) in COMMANDS {
-        if name == word {
-            return Some(CommandWords {
-                name,
-                parameters,
-                required,
-            });
+    command_called(word).filter(|command| command.is_built)
+}
+
+/// Whether a word is a command that isn't built yet.
+pub(crate) fn is_to_come(word: &[u8]) -> bool {
+    match command_called(word) {
+        Some(command) => !command.is_built,
+        None => false,
+    }
+}
+
+fn command_called(word: &[u8]) -> Option<CommandWords> {
+    among(STATEMENTS, word).or(among(REQUESTS, word))
+}
+
+fn among(commands: &[CommandWords], word: &[u8]) -> Option<CommandWords> {
+    for &command in commands {
+        if command.name == word {
+            return Some(command);
         }
     }
     None
 }
 
-/// Whether a word is a command that isn't built yet.
-pub(crate) fn is_to_come(word: &[u8]) -> bool {
-    has_word(TO_COME, word)
-}
-
 /// The word of the command that a word would be in capital letters.
 pub(crate) fn command_in_capitals(word: &[u8]) -> Option<&'static [u8]> {
-    for &(name, _, _) in COMMANDS {
-        if is_in_small_letters(word, name) {
-            return Some(name);
+    capitals_among(STATEMENTS, word).or(capitals_among(REQUESTS, word))
+}
+
+fn capitals_among(commands: &[CommandWords], word: &[u8]) -> Option<&'static [u8]> {
+    for command in commands {
+        if is_in_small_letters(word, command.name) {
+            return Some(command.name);
         }
     }
-    in_capitals(TO_COME, word)
+    None
+}
+
+impl CommandWords {
+    /// Whether the command has a parameter of this name.
+    pub(crate) fn has_parameter(self, name: &[u8]) -> bool {
+        for parameter in self.parameters {
+            if parameter.name == name {
+                return true;
+            }
+        }
+        false
+    }
+
+    /// The command's parameter that a word would be in capital letters.
+    pub(crate) fn parameter_in_capitals(self, word: &[u8]) -> Option<&'static [u8]> {
+        for parameter in self.parameters {
+            if is_in_small_letters(word, parameter.name) {
+                return Some(parameter.name);
+            }
+        }
+        None
+    }
 }

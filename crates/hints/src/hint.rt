@@ -1,4 +1,5 @@
 //! What is known of a mistake, and how it is said.
+use crate::commands::Parameter;
 use crate::help_text::HelpText;
 use std::alloc::AllocError;
 
@@ -13,7 +14,7 @@ pub(crate) enum Hint<'a> {
     NoParameter {
         command: &'static [u8],
         word: &'a [u8],
-        parameters: &'static [u8],
+        parameters: &'static [Parameter],
     },
     /// Bytes that are no character of a statement, at a column from 1.
     Character {
@@ -57,7 +58,7 @@ impl HelpText {
         &mut self,
         command: &[u8],
         word: &[u8],
-        parameters: &[u8],
+        parameters: &[Parameter],
     ) -> Result<(), AllocError> {
         self.push(command)?;
         self.push(b" has no parameter ")?;
@@ -65,8 +66,12 @@ impl HelpText {
         if parameters.is_empty() {
             return self.push(b"; it has none");
         }
-        self.push(b"; it has ")?;
-        self.push(parameters)
+        self.push(b"; it has")?;
+        for parameter in parameters {
+            self.push(b" ")?;
+            self.push(parameter.name)?;
+        }
+        Ok(())
     }
 
     fn push_character(

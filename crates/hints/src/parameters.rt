@@ -2,7 +2,7 @@
 use crate::commands::CommandWords;
 use crate::hint::Hint;
 use crate::names::name_hint;
-use crate::words::{cut_at, has_word, in_capitals, next_word, trimmed};
+use crate::words::{cut_at, has_word, next_word, trimmed};
 
 /// What a statement gives for a parameter, by the first that has its name.
 pub(crate) fn given<'a>(statement: &'a [u8], parameter: &[u8]) -> Option<&'a [u8]> {
@@ -31,7 +31,7 @@ pub(crate) fn parameters_hint<'a>(command: CommandWords, statement: &'a [u8]) ->
 
 fn parameter_hint<'a>(command: CommandWords, word: &'a [u8], others: &'a [u8]) -> Option<Hint<'a>> {
     let (name, inside) = cut_at(word, b'(');
-    if !has_word(command.parameters, name) {
+    if !command.has_parameter(name) {
         return Some(unknown_hint(command, word, name));
     }
     if name == word {
@@ -52,7 +52,7 @@ fn parameter_hint<'a>(command: CommandWords, word: &'a [u8], others: &'a [u8]) -
 
 /// A word whose name is none of the command's parameters.
 fn unknown_hint<'a>(command: CommandWords, word: &'a [u8], name: &'a [u8]) -> Hint<'a> {
-    if let Some(capitals) = in_capitals(command.parameters, name) {
+    if let Some(capitals) = command.parameter_in_capitals(name) {
         return Hint::Word(b"parameters have capital letters: ", capitals, b"");
     }
     if name == word {
@@ -80,12 +80,10 @@ fn bare_hint<'a>(name: &'a [u8], others: &[u8]) -> Hint<'a> {
 }
 
 fn missing_hint<'a>(command: CommandWords, statement: &'a [u8]) -> Option<Hint<'a>> {
-    let mut rest = command.required;
-    while let Some((name, others)) = next_word(rest) {
-        if given(statement, name).is_none() {
-            return Some(Hint::Word(b"a parameter is missing: ", name, b"(..)"));
+    for parameter in command.parameters {
+        if parameter.required && given(statement, parameter.name).is_none() {
+            return Some(Hint::Word(b"a parameter is missing: ", parameter.name, b"(..)"));
         }
-        rest = others;
     }
     None
 }

@@ -56,6 +56,14 @@ const PARAMETERS: Rows = &[
         "RETURN has no parameter FILE; it has none",
     ),
     (
+        "OPNDBF FILE(A) TYPE(*ALL)",
+        "OPNDBF has no parameter TYPE; it has FILE OPTION MBR OPNID COMMIT ACCPTH",
+    ),
+    (
+        "READE OPNID(A) KEY(1) INTO(&K)",
+        "READE has no parameter INTO; it has OPNID KEY LCK TO",
+    ),
+    (
         "DLTF FILE(CUST)X",
         "nothing but a blank stands after the parenthesis of FILE",
     ),
