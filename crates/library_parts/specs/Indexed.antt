@@ -1,7 +1,7 @@
 -- What the kept access paths are of a library's files, members and jobs: each path of a file is kept, with the entries that the members give it; each
 -- open reads by the path of its file, or in arrival order; and for each change of an open commit cycle the moves that take it back are at hand, with
 -- memory for them. (Our own.)
-use Rattle.std.specs.Prelude.{◌≡◌, ℕ, ◌+◌, ◌==◌, Bool, IsTrue, Option, Some, None, List, [], ◌∷◌, length, map, filter, Any, if◌then◌else◌}
+use Rattle.std.specs.Prelude.{◌≡◌, ℕ, ◌+◌, ◌*◌, ◌≤◌, Bool, IsTrue, Option, Some, None, List, [], ◌∷◌, length, map, filter, All, Any, if◌then◌else◌}
 use Rattle.std.specs.List.{AllByRecursion, AllZip, sum_by}
 use Rattle.member_slots.specs.declared.slot.Slot.{Slot}
 use Rattle.member_slots.specs.declared.slot.Slot.TheVariants.{Live, Deleted}
@@ -22,9 +22,9 @@ use Rattle.library_paths.specs.AllPaths.{AreKeptFor, all_paths}
 use Rattle.journal_model.specs.Replay.{before_of}
 use Rattle.journal_model.specs.Rollback.{MemberChange}
 use Rattle.path_set.specs.declared.moves.PathMove.{PathMove}
-use Rattle.path_set.specs.KeptPaths.{KeptPaths, NumberedPaths}
-use Rattle.path_set.specs.RecordChanges.{RecordChange, reversed, moves_in, HaveRoom}
-use Rattle.path_set.specs.MemberSteps.{slot_replaced}
+use Rattle.path_set.specs.KeptPaths.{KeptPaths, NumberedPaths, spare_of}
+use Rattle.path_set.specs.RecordChanges.{RecordChange, reversed, moves_in}
+use Rattle.path_set.specs.MemberSteps.{is_over, slot_replaced}
 use Rattle.job_table.specs.Opens.{OpenOrder}
 use Rattle.library_model.specs.Named.{Named, named}
 use Rattle.library_steps.specs.LogicalFiles.{bases_in}
@@ -130,9 +130,13 @@ moves_back paths undo = moves_in (reversed (record_change undo)) paths
 abbrev pub moves_of_job : NumberedPaths → JobState → List (List PathMove)
 moves_of_job paths job = map (moves_back paths) (changes_in job.cycle)
 
--- how many changes of the member the open commit cycles have
-abbrev pub changes_on : (member : ℕ) → List JobState → ℕ
-changes_on member jobs = sum_by (λ job. length (filter (λ undo. undo.member == member) (changes_in job.cycle))) jobs
+-- how many changes of members that the path is over the open commit cycles have
+abbrev pub changes_over : PathSpec → List JobState → ℕ
+changes_over spec jobs = sum_by (λ job. length (filter (λ undo. is_over undo.member spec) (changes_in job.cycle))) jobs
+
+-- each kept path has memory for the moves of so many changes
+abbrev pub HaveSpares : (PathSpec → ℕ) → KeptPaths → Type 0
+HaveSpares count kept = All (λ path. count path.item.spec * length path.item.spec.formats ≤ spare_of path.number kept) kept.paths
 
 -- ---- bytes
 
@@ -154,7 +158,7 @@ pub record IsIndexedFor (specs : List PathSpec) (files : Named FileState) (membe
   pub paths : AreKeptFor specs members kept.paths
   pub orders : AllZip (OpensRead files kept.paths) jobs reads
   pub moves : backs ≡ map (moves_of_job kept.paths) jobs
-  pub room : (member : ℕ) → HaveRoom member (changes_on member jobs) kept
+  pub room : HaveSpares (λ spec. changes_over spec jobs) kept
   pub bytes : AreOfBytes members
   pub views : AreViews files
 
