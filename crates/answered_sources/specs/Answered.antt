@@ -29,7 +29,7 @@ abbrev pub AreAnswered : List NamedSource → Type 0
 AreAnswered sources = IsTrue (are_answered sources)
 
 -- one format over one physical file
-abbrev pub IsSimpleFile : LogicalSpec → Type 0
-IsSimpleFile (Simple view) = Unit {0}
-IsSimpleFile (Multi views) = ⊥
-IsSimpleFile (Join view) = ⊥
+abbrev pub IsUnjoinedFile : LogicalSpec → Type 0
+IsUnjoinedFile (Simple view) = Unit {0}
+IsUnjoinedFile (Multi views) = ⊥
+IsUnjoinedFile (Join view) = ⊥

@@ -22,7 +22,7 @@ use Rattle.library_steps.specs.Refusals.{◌>>=◌, refuse_if, named_or_refused}
 use Rattle.library_steps.specs.Opens.{logical_members, may_commit_all, members_by, open_plan, physical_members}
 use Rattle.library_parts.specs.Answers.{Allows, Shows}
 use Rattle.library_parts.specs.Finds.{OpensBy, OpensMember}
-use Rattle.library_parts.specs.Indexed.{IsReadSo, IsSimple}
+use Rattle.library_parts.specs.Indexed.{IsReadSo, IsUnjoined}
 use Rattle.library_parts.specs.Reads.{MayReadSo}
 use Rattle.library_parts.specs.declared.stop.Stop.{Stop}
 use Rattle.library_parts.specs.declared.stop.Stop.TheVariants.{NoMemory, Refused}
@@ -125,19 +125,19 @@ three-then (Ok a) (Err reply) third members = refl
 three-then (Ok a) (Ok b) (Err reply) members = refl
 three-then (Ok a) (Ok b) (Ok c) members = refl
 
-logical-opens : (m : Memory) (job : ℕ) (args : OpenFile) (spec : LogicalSpec) → IsSimple (LogicalFile spec)
+logical-opens : (m : Memory) (job : ℕ) (args : OpenFile) (spec : LogicalSpec) → IsUnjoined (LogicalFile spec)
     → logical_members m job args spec ≡ (view_opens m job args (base_members (bases_of m) spec) >>= λ _. Ok (base_members (bases_of m) spec))
-logical-opens m job args (Simple view) simple =
+logical-opens m job args (Simple view) unjoined =
     three-then (refuse_if (not (same_name args.member args.file)) (NoSuchName (Name args.member))) (refuse_if (not (is_file_path args.access_path)) WrongOpen)
     (may_commit_all args.commit (base_members (bases_of m) (Simple view)) (job_of job m) m) (base_members (bases_of m) (Simple view))
-logical-opens m job args (Multi views) simple = absurd simple
-logical-opens m job args (Join view) simple = absurd simple
+logical-opens m job args (Multi views) unjoined = absurd unjoined
+logical-opens m job args (Join view) unjoined = absurd unjoined
 
 -- the same with the one member
-module _ (m : Memory) (job : ℕ) (args : OpenFile) (spec : LogicalSpec) (member : ℕ) (simple : IsSimple (LogicalFile spec)) (under : base_members (bases_of m) spec ≡ member ∷ []) where
+module _ (m : Memory) (job : ℕ) (args : OpenFile) (spec : LogicalSpec) (member : ℕ) (unjoined : IsUnjoined (LogicalFile spec)) (under : base_members (bases_of m) spec ≡ member ∷ []) where
   view-opens : (opens : Result Bool Reply) → view_opens m job args (member ∷ []) ≡ opens → logical_members m job args spec ≡ (opens >>= λ _. Ok (member ∷ []))
   view-opens opens is =
-      logical-opens m job args spec simple
+      logical-opens m job args spec unjoined
       ∙ ap (λ (members : List ℕ). view_opens m job args members >>= λ _. Ok members) under
       ∙ ap (λ (r : Result Bool Reply). r >>= λ _. Ok (member ∷ [])) is
 

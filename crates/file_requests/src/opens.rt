@@ -14,7 +14,7 @@ ghost use Rattle.library_steps.specs.Records.{is_file_path};
 ghost use Rattle.library_steps.specs.Refusals.{named_or_refused, refuse_with};
 ghost use Rattle.library_parts.specs.Answers.{Allows, Answers, Gives, Shows};
 ghost use Rattle.library_parts.specs.Finds.{OpensBy, OpensMember};
-ghost use Rattle.library_parts.specs.Indexed.{IsReadSo, IsSimple};
+ghost use Rattle.library_parts.specs.Indexed.{IsReadSo, IsUnjoined};
 ghost use Rattle.library_parts.specs.Reads.{MayReadSo};
 ghost use Rattle.library_parts.specs.declared.stop.Stop.TheVariants.{NoMemory};
 ghost use Rattle.file_requests.specs.Opens.{GivesMember, file_plan, view_opens};
@@ -67,7 +67,7 @@ fn plan_file<'a>(contents: &'a Contents, job: u32, args: &OpenFile) -> Result<&'
     ensures plan { Shows result (file_plan (memory_of contents.now.state) job args.now) }
     ensures few { OnOk result (length (job_of job (memory_of contents.now.state)).opens < MOST_OPENS) }
     ensures there { IfOk result (λ file. named args.now.file contents.now.state.files ≡ Some file.now) }
-    ensures simple { IfOk result (λ file. IsSimple file.now.spec) }
+    ensures unjoined { IfOk result (λ file. IsUnjoined file.now.spec) }
 {
     if has_open(contents, job, &args.open_id) {
         return Err(Stop::Refused(Reply::NameExists { name: args.open_id }));
@@ -79,14 +79,14 @@ fn plan_file<'a>(contents: &'a Contents, job: u32, args: &OpenFile) -> Result<&'
             number: MOST_OPENS as u64,
         }));
     }
-    let file = contents.simple_file(&args.file)?;
+    let file = contents.unjoined_file(&args.file)?;
     Ok(file)
 }
 
 /// The member of the file, by its kind.
 fn member_to_open(contents: &Contents, job: u32, args: &OpenFile, file: &File) -> Result<u32, Stop>
     requires running { IsTrue (is_running (job_at job contents.now.state.jobs)) }
-    requires simple { IsSimple file.now.spec }
+    requires unjoined { IsUnjoined file.now.spec }
     ensures plan { GivesMember result (members_by file.now.spec (memory_of contents.now.state) job args.now file.now) }
     ensures opens { IfOk result (λ member. OpensBy contents.now.state.files member file.now file.now.spec) }
     ensures so { OnOk result (IsReadSo (is_file_path args.now.access_path) file.now.spec) }
@@ -125,7 +125,7 @@ fn view_member(
     view: &LogicalSpec,
 ) -> Result<u32, Stop>
     requires running { IsTrue (is_running (job_at job contents.now.state.jobs)) }
-    requires simple { IsSimple (LogicalFile view.now) }
+    requires unjoined { IsUnjoined (LogicalFile view.now) }
     ensures plan { GivesMember result (logical_members (memory_of contents.now.state) job args.now view.now) }
     ensures over { IfOk result (λ member. base_members (bases_of (memory_of contents.now.state)) view.now ≡ member ∷ []) }
     ensures by_path { OnOk result (IsTrue (is_file_path args.now.access_path)) }

@@ -11,10 +11,10 @@ ghost use Rattle.library_steps.specs.LogicalFiles.{bases_of};
 ghost use Rattle.library_steps.specs.Uses.{changer_of_any};
 ghost use Rattle.library_parts.specs.Answers.{Allows, Answers, Gives, MayAllow};
 ghost use Rattle.library_parts.specs.Files.{IsNewView};
-ghost use Rattle.library_parts.specs.Indexed.{IsSimple};
+ghost use Rattle.library_parts.specs.Indexed.{IsUnjoined};
 ghost use Rattle.library_parts.specs.Rooms.{HasFileRoom};
 ghost use Rattle.file_requests.specs.Effects.{Deposits};
-ghost use Rattle.file_requests.specs.Views.{IsSimpleSource, PlansView, allowed_by, done, keys_differ, may_stand, view_allowed, view_draft, view_named, view_of, view_plan};
+ghost use Rattle.file_requests.specs.Views.{IsUnjoinedSource, PlansView, allowed_by, done, keys_differ, may_stand, view_allowed, view_draft, view_named, view_of, view_plan};
 
 use crate::create::has_file;
 use dds_logical::{LogicalFault, LogicalSpec};
@@ -47,7 +47,7 @@ pub fn create_logical_file(
     args: &CreateLogicalFile,
 ) -> Result<Reply, Stop>
     requires running { IsTrue (is_running (job_at job contents.old.state.jobs)) }
-    requires simple { IsSimpleSource sources.now (memory_of contents.old.state) args.now.source }
+    requires unjoined { IsUnjoinedSource sources.now (memory_of contents.old.state) args.now.source }
     ensures answers { Answers contents.old.state contents.new.state result (create_logical_file sources.now (memory_of contents.old.state) job timestamp args.now) }
 {
     let described = plan_view(contents, sources, args)?;
@@ -74,7 +74,7 @@ fn plan_view(
     sources: &Sources,
     args: &CreateLogicalFile,
 ) -> Result<DescribedView, Stop>
-    requires { IsSimpleSource sources.now (memory_of contents.now.state) args.now.source }
+    requires { IsUnjoinedSource sources.now (memory_of contents.now.state) args.now.source }
     ensures plan { PlansView sources.now (memory_of contents.now.state) args.now result }
     ensures new { IfOk result (λ described. IsNewView contents.now.state args.now.file described) }
     ensures left { OnOk result ((memory_of contents.now.state).last_entry ≤ LAST_SEQUENCE) }
@@ -88,11 +88,11 @@ fn plan_but_keys(
     sources: &Sources,
     args: &CreateLogicalFile,
 ) -> Result<DescribedView, Stop>
-    requires { IsSimpleSource sources.now (memory_of contents.now.state) args.now.source }
+    requires { IsUnjoinedSource sources.now (memory_of contents.now.state) args.now.source }
     ensures plan { Gives result (view_plan sources.now (memory_of contents.now.state) args.now) }
     ensures absent { OnOk result (named args.now.file contents.now.state.files ≡ None) }
     ensures described { IfOk result (λ described. logical_described (memory_of contents.now.state) described.source ≡ Ok described.spec) }
-    ensures simple { IfOk result (λ described. IsSimple (LogicalFile described.spec)) }
+    ensures unjoined { IfOk result (λ described. IsUnjoined (LogicalFile described.spec)) }
     ensures unchanged { IfOk result (λ described. changer_of_any (base_members (bases_of (memory_of contents.now.state)) described.spec) (memory_of contents.now.state) ≡ None) }
     ensures left { OnOk result ((memory_of contents.now.state).last_entry ≤ LAST_SEQUENCE) }
 {
@@ -123,10 +123,10 @@ fn may_be_named(contents: &Contents, name: &Name) -> Result<(), Stop>
 
 /// What the source of that name describes, which has one format.
 fn view_named(contents: &Contents, sources: &Sources, source: &Name) -> Result<DescribedView, Stop>
-    requires { IsSimpleSource sources.now (memory_of contents.now.state) source.now }
+    requires { IsUnjoinedSource sources.now (memory_of contents.now.state) source.now }
     ensures plan { Gives result (view_named sources.now (memory_of contents.now.state) source.now) }
     ensures described { IfOk result (λ described. logical_described (memory_of contents.now.state) described.source ≡ Ok described.spec) }
-    ensures simple { IfOk result (λ described. IsSimple (LogicalFile described.spec)) }
+    ensures unjoined { IfOk result (λ described. IsUnjoined (LogicalFile described.spec)) }
 {
     view_read(contents, sources, source)
 }
@@ -154,7 +154,7 @@ fn describe_view(contents: &Contents, text: &SourceText) -> Result<DescribedView
 
 /// The same refusals of what was described.
 fn described_may_stand(contents: &Contents, described: &DescribedView) -> Result<(), Stop>
-    requires { IsSimple (LogicalFile described.now.spec) }
+    requires { IsUnjoined (LogicalFile described.now.spec) }
     ensures allowed { MayAllow result (may_stand (memory_of contents.now.state) described.now.spec) }
     ensures unchanged { OnOk result (changer_of_any (base_members (bases_of (memory_of contents.now.state)) described.now.spec) (memory_of contents.now.state) ≡ None) }
 {
@@ -164,7 +164,7 @@ fn described_may_stand(contents: &Contents, described: &DescribedView) -> Result
 /// The refusal where its base would have too many paths, an open commit cycle has changed a record of it, or a restart might bring
 /// equal keys back that may not be.
 fn may_stand(contents: &Contents, view: &LogicalSpec) -> Result<(), Stop>
-    requires { IsSimple (LogicalFile view.now) }
+    requires { IsUnjoined (LogicalFile view.now) }
     ensures allowed { MayAllow result (may_stand (memory_of contents.now.state) view.now) }
     ensures unchanged { OnOk result (changer_of_any (base_members (bases_of (memory_of contents.now.state)) view.now) (memory_of contents.now.state) ≡ None) }
 {
@@ -196,7 +196,7 @@ fn allowed_by(many: bool, changer: Option<u32>, undone: Option<u32>) -> Result<(
 
 /// The member under a UNIQUE file that isn't journaled, and was changed since it was, with two records or more then.
 fn undone_under(contents: &Contents, view: &LogicalSpec) -> Option<u32>
-    requires { IsSimple (LogicalFile view.now) }
+    requires { IsUnjoined (LogicalFile view.now) }
     ensures { result ≡ (if is_unique (logical_paths (bases_of (memory_of contents.now.state)) view.now) then first_undone (memory_of contents.now.state) (base_members (bases_of (memory_of contents.now.state)) view.now) else None) }
 {
     let member = contents.member_under(view);
@@ -212,7 +212,7 @@ fn undone_if(unique: bool, undone: Option<u32>) -> Option<u32>
 
 /// Whether its path may have no equal keys.
 fn is_unique(view: &LogicalSpec) -> bool
-    requires { IsSimple (LogicalFile view.now) }
+    requires { IsUnjoined (LogicalFile view.now) }
     ensures { (bases : Bases) → result ≡ is_unique (logical_paths bases view.now) }
 {
     match view {

@@ -354,7 +354,7 @@ impl<'a> OpenAt<'a> {
 }
 
 /// The first of some members, 0 where there is none.
-fn first_of(members: &[u32]) -> u32
+pub fn first_of(members: &[u32]) -> u32
     ensures { result ≡ first_of members.now }
 {
     match members {

@@ -27,7 +27,7 @@ use Rattle.library_steps.specs.State.{State, FileState, MemberStatus, OpenState,
 use Rattle.library_parts.specs.declared.stop.Stop.{Stop}
 use Rattle.library_parts.specs.declared.stop.Stop.TheVariants.{NoMemory, Refused}
 use Rattle.library_parts.specs.Finds.{FindsOpen, HasMember, IsBaseOf, OpensMember, ReadsMember, OpensBy as MayOpenBy}
-use Rattle.library_parts.specs.Indexed.{AreViews, IsSimple, IsViewBeside}
+use Rattle.library_parts.specs.Indexed.{AreViews, IsUnjoined, IsViewBeside}
 use Rattle.library_parts.specs.Keyed.{AllAreKeyed}
 use Rattle.library_parts.specs.Lawful.{IsBased, OpenHolds, OpensBy, OpensFile, OpensHold, StandsOver, IsLibrary}
 use Rattle.library_parts.proofs.BaseLemmas.{OpenHolds-has_read, base-is, physical-found, physical-member, some-is, some-of}
@@ -250,10 +250,10 @@ module _ (s : State) (opened : OpenState) (file : FileState) (lawful : IsLibrary
         format = first;
       }
 
-  pub reads-member : IsSimple file.spec → ReadsMember s file opened
-  reads-member simple = by file.spec refl simple (subst (OpensFile s.files opened) here holds)
+  pub reads-member : IsUnjoined file.spec → ReadsMember s file opened
+  reads-member unjoined = by file.spec refl unjoined (subst (OpensFile s.files opened) here holds)
     where
-      by : (spec : FileSpec) → file.spec ≡ spec → IsSimple spec → OpensBy s.files opened file.members spec → ReadsMember s file opened
+      by : (spec : FileSpec) → file.spec ≡ spec → IsUnjoined spec → OpensBy s.files opened file.members spec → ReadsMember s file opened
       by (PhysicalFile spec) is so own =
           reads-own (subst IsPhysical (sym is) tt) (subst (λ (f : FileSpec). IsBaseOf f opened.file opened.file) (sym is) refl)
       by (LogicalFile (Simple view)) is so own =
@@ -270,27 +270,27 @@ IsOverOwn bases (LogicalFile (Simple view)) member = member ≡ (bases view.base
 IsOverOwn bases (LogicalFile (Multi views)) member = ⊥
 IsOverOwn bases (LogicalFile (Join view)) member = ⊥
 
-pub over-own : (s : State) (opened : OpenState) (file : FileState) → ReadsMember s file opened → IsSimple file.spec → IsOverOwn (bases_in s.files) file.spec opened.member
-over-own s opened file has simple = by file.spec simple (subst (OpensFile s.files opened) has.there has.holds)
+pub over-own : (s : State) (opened : OpenState) (file : FileState) → ReadsMember s file opened → IsUnjoined file.spec → IsOverOwn (bases_in s.files) file.spec opened.member
+over-own s opened file has unjoined = by file.spec unjoined (subst (OpensFile s.files opened) has.there has.holds)
   where
-    by : (spec : FileSpec) → IsSimple spec → OpensBy s.files opened file.members spec → IsOverOwn (bases_in s.files) spec opened.member
+    by : (spec : FileSpec) → IsUnjoined spec → OpensBy s.files opened file.members spec → IsOverOwn (bases_in s.files) spec opened.member
     by (PhysicalFile spec) so own = tt
     by (LogicalFile (Simple view)) so own = ap first_of (sym has.only ∙ own.all)
     by (LogicalFile (Multi views)) so own = absurd so
     by (LogicalFile (Join view)) so own = absurd so
 
--- ---- the files of a library are simple ones
+-- ---- the files of a library are unjoined ones
 
 -- what holds of each file holds of the one that a name finds
 pub view-of : (files : Named FileState) (name : List ℕ) (file : FileState) → AreViews files → named name files ≡ Some file → IsViewBeside files file.spec
 view-of files name file views here = named-each (λ (f : FileState). IsViewBeside files f.spec) name files file views here
 
-pub simple-of : (files : Named FileState) (name : List ℕ) (file : FileState) → AreViews files → named name files ≡ Some file → IsSimple file.spec
-simple-of files name file views here = by file.spec (view-of files name file views here)
+pub unjoined-of : (files : Named FileState) (name : List ℕ) (file : FileState) → AreViews files → named name files ≡ Some file → IsUnjoined file.spec
+unjoined-of files name file views here = by file.spec (view-of files name file views here)
   where
-    by : (spec : FileSpec) → IsViewBeside files spec → IsSimple spec
+    by : (spec : FileSpec) → IsViewBeside files spec → IsUnjoined spec
     by (PhysicalFile spec) is = tt
-    by (LogicalFile spec) is = is.simple
+    by (LogicalFile spec) is = is.unjoined
 
 -- ---- a new open, and one that has read
 

@@ -159,7 +159,7 @@ module _ (s : State) (name : List ℕ) (file : FileState) (lawful : IsLibrary s)
   kind-among opened f found (LogicalFile spec) is own =
       let alike : AreAlike (bases_in others) (bases_in s.files) (LogicalFile spec) = subst (AreAlike (bases_in others) (bases_in s.files)) is (alike-of opened.file f found) in
       let view : IsViewBeside s.files (LogicalFile spec) = subst (IsViewBeside s.files) is (view-of opened.file f found) in
-      subst (λ (ps : List PathSpec). Contains ps (own_path (bases_in s.files) spec)) (sym (single-path (bases_in others) spec view.simple))
+      subst (λ (ps : List PathSpec). Contains ps (own_path (bases_in s.files) spec)) (sym (single-path (bases_in others) spec view.unjoined))
       (subst (λ (p : PathSpec). Contains (own_path (bases_in others) spec ∷ []) p) (own-same (bases_in others) (bases_in s.files) spec alike) (contained-first (own_path (bases_in others) spec) []))
 
   open-among : (entry : List ℕ × OpenState) → same_name name entry.1.file ≡ false → OpenHolds s.files entry.1 → OpenIsAmong (all_paths others) s.files entry
@@ -223,7 +223,7 @@ module _ (s : State) (name : List ℕ) (file : FileState) (lawful : IsLibrary s)
       -- or has changed its base's member
       view-unchanged : IsUnchanged (own_path (bases_in s.files) spec) s.jobs
       view-unchanged =
-          let own = own-of (bases_in s.files) spec its-view.simple in
+          let own = own-of (bases_in s.files) spec its-view.unjoined in
           unchanged-path (own_path (bases_in s.files) spec) own.0 s.jobs own.2
           (jobs-free (λ (job : JobState). has_changed own.0 job ≡ false)
           (λ number job. has_open_of name job || list_any (λ member. has_changed member job) (base_members (bases_in s.files) spec))
@@ -232,7 +232,7 @@ module _ (s : State) (name : List ℕ) (file : FileState) (lawful : IsLibrary s)
           (neither (has_changed own.0 job) false (ap (list_any (λ member. has_changed member job)) (sym own.1) ∙ changed)).0) 1 s.jobs unused)
 
       own-paths : paths_by s.files file.members file.spec ≡ own_path (bases_in s.files) spec ∷ []
-      own-paths = ap (paths_by s.files file.members) is ∙ single-path (bases_in s.files) spec its-view.simple
+      own-paths = ap (paths_by s.files file.members) is ∙ single-path (bases_in s.files) spec its-view.unjoined
 
       pub IsIndexed-without_view : (id : Option ℕ) (old new : KeptPaths) → AreShared old.paths → IsNumberOf (own_path (bases_in s.files) spec) id old.paths → new.paths ≡ detached_from id old.paths
           → ((number : ℕ) → IsSome (item_at number new.paths) → spare_of number new ≡ spare_of number old) → IsIndexed s.files s.members s.jobs orders moves old

@@ -66,7 +66,7 @@ use Rattle.library_steps.specs.LogicalFiles.{base_in, bases_in, bases_of, physic
 use Rattle.library_steps.specs.MemberCommands.{file_changed, with_member_name}
 use Rattle.library_steps.specs.State.{State, Memory, FileState, MemberStatus, JobState, fields_of, format_in, if_physical, memory_of, physical_among, physical_in, physical_spec}
 use Rattle.library_steps.specs.Uses.{changer_of_any, changes_in, has_changed}
-use Rattle.library_parts.specs.Indexed.{AreOfBytes, AreViewsBeside, IsIndexed, IsIndexedFor, IsSimple, IsView, IsViewBeside, RisesIfKeyless}
+use Rattle.library_parts.specs.Indexed.{AreOfBytes, AreViewsBeside, IsIndexed, IsIndexedFor, IsUnjoined, IsView, IsViewBeside, RisesIfKeyless}
 use Rattle.library_parts.specs.Lawful.{AreBased, GoesBack, IsBased, IsLibrary, StandsOver}
 use Rattle.library_parts.specs.PathChanges.{AttachesPath, IsAttached, member_path}
 use Rattle.library_parts.proofs.BaseLemmas.{base-is, kept-more, kept-wider, physical-described, physical-found, physical-here, physical-member, some-of}
@@ -236,21 +236,21 @@ module _ (s : State) (orders : List (Named OpenOrder)) (moves : List (List (List
 
 -- ---- a logical file
 
-pub single-path : (bases : Bases) (spec : LogicalSpec) → IsSimple (LogicalFile spec) → logical_paths bases spec ≡ own_path bases spec ∷ []
-single-path bases (Simple view) simple = refl
-single-path bases (Multi views) simple = absurd simple
-single-path bases (Join view) simple = absurd simple
+pub single-path : (bases : Bases) (spec : LogicalSpec) → IsUnjoined (LogicalFile spec) → logical_paths bases spec ≡ own_path bases spec ∷ []
+single-path bases (Simple view) unjoined = refl
+single-path bases (Multi views) unjoined = absurd unjoined
+single-path bases (Join view) unjoined = absurd unjoined
 
 -- its path is over its base's member
-pub own-of : (bases : Bases) (spec : LogicalSpec) → IsSimple (LogicalFile spec) → (number : ℕ) × (base_members bases spec ≡ number ∷ []) × IsOfMember number (own_path bases spec)
-own-of bases (Simple view) simple = ((bases view.base).member, refl, record { format = view_format bases view; formats = refl; member = refl })
-own-of bases (Multi views) simple = absurd simple
-own-of bases (Join view) simple = absurd simple
+pub own-of : (bases : Bases) (spec : LogicalSpec) → IsUnjoined (LogicalFile spec) → (number : ℕ) × (base_members bases spec ≡ number ∷ []) × IsOfMember number (own_path bases spec)
+own-of bases (Simple view) unjoined = ((bases view.base).member, refl, record { format = view_format bases view; formats = refl; member = refl })
+own-of bases (Multi views) unjoined = absurd unjoined
+own-of bases (Join view) unjoined = absurd unjoined
 
-few-pairs : (spec : LogicalSpec) → IsSimple (LogicalFile spec) → HaveFewPairs spec
-few-pairs (Simple view) simple = tt
-few-pairs (Multi views) simple = absurd simple
-few-pairs (Join view) simple = absurd simple
+few-pairs : (spec : LogicalSpec) → IsUnjoined (LogicalFile spec) → HaveFewPairs spec
+few-pairs (Simple view) unjoined = tt
+few-pairs (Multi views) unjoined = absurd unjoined
+few-pairs (Join view) unjoined = absurd unjoined
 
 none-laid : IsLaidOut []
 none-laid = record { few = (let few : 0 ≤ 1000 = omega arith in few); narrow = (let narrow : 0 ≤ 32766 = omega arith in narrow); lies = refl }
@@ -322,10 +322,10 @@ pub record IsDescribedOver (m : Memory) (spec : LogicalSpec) : Type 0 where
   pub over : StandsOver m.files [] spec
   pub view : IsView (bases_of m) spec
 
-described-by : (m : Memory) (r : Result Source DdsFault) (spec : LogicalSpec) → AllAreKeyed m.files → IsSimple (LogicalFile spec) → logical_by (λ name. physical_spec name m) r ≡ Ok spec
+described-by : (m : Memory) (r : Result Source DdsFault) (spec : LogicalSpec) → AllAreKeyed m.files → IsUnjoined (LogicalFile spec) → logical_by (λ name. physical_spec name m) r ≡ Ok spec
     → IsDescribedOver m spec
-described-by m (Err fault) spec keyed simple h = absurd cc
-described-by m (Ok source) spec keyed simple h =
+described-by m (Err fault) spec keyed unjoined h = absurd cc
+described-by m (Ok source) spec keyed unjoined h =
     let described : List ℕ → Option PhysicalSpec = λ name. physical_spec name m in record {
       over = record {
         none = refl;
@@ -333,8 +333,8 @@ described-by m (Ok source) spec keyed simple h =
             (described-there described source spec h);
       };
       view = record {
-        simple = simple;
-        keyed = described-keyed described (bases_of m) source spec (λ name its e. fields-there name (named name m.files) its e) h (laid-bases m.files keyed (base_names spec)) (few-pairs spec simple);
+        unjoined = unjoined;
+        keyed = described-keyed described (bases_of m) source spec (λ name its e. fields-there name (named name m.files) its e) h (laid-bases m.files keyed (base_names spec)) (few-pairs spec unjoined);
         mapped = described-mapped described (bases_of m) source spec (λ name its e. fields-there name (named name m.files) its e) h;
         rises = described-rises described source spec h;
         formats = described-formatted described source spec h;
@@ -342,8 +342,8 @@ described-by m (Ok source) spec keyed simple h =
       };
     }
 
-pub described-over : (m : Memory) (text : List ℕ) (spec : LogicalSpec) → AllAreKeyed m.files → IsSimple (LogicalFile spec) → logical_described m text ≡ Ok spec → IsDescribedOver m spec
-described-over m text spec keyed simple h = described-by m (source_of text) spec keyed simple h
+pub described-over : (m : Memory) (text : List ℕ) (spec : LogicalSpec) → AllAreKeyed m.files → IsUnjoined (LogicalFile spec) → logical_described m text ≡ Ok spec → IsDescribedOver m spec
+described-over m text spec keyed unjoined h = described-by m (source_of text) spec keyed unjoined h
 
 -- no open commit cycle has changed its base's member
 none-changed : (number : ℕ) (undos : List MemberChange) → list_any (λ (undo : MemberChange). undo.member == number) undos ≡ false → AllByRecursion (λ (undo : MemberChange). undo.member ≢ number) undos
@@ -374,7 +374,7 @@ module _ (s : State) (orders : List (Named OpenOrder)) (moves : List (List (List
 
   own-unchanged : IsUnchanged (own_path (bases_in s.files) plan.spec) s.jobs
   own-unchanged =
-      let base = own-of (bases_in s.files) plan.spec its.view.simple in
+      let base = own-of (bases_in s.files) plan.spec its.view.unjoined in
       unchanged-path own base.0 s.jobs base.2
       (jobs-free (λ (job : JobState). has_changed base.0 job ≡ false) (λ number job. list_any (λ member. has_changed member job) (base_members (bases_in s.files) plan.spec))
       (λ number job none. (neither (has_changed base.0 job) false (ap (list_any (λ member. has_changed member job)) (sym base.1) ∙ none)).0) 1 s.jobs unchanged)
@@ -387,7 +387,7 @@ module _ (s : State) (orders : List (Named OpenOrder)) (moves : List (List (List
       count-append path (own ∷ []) (all_paths s.files)
       ∙ turned (count_in path (own ∷ [])) (count_in path (all_paths s.files)) (count_in path (all_paths with_view))
       (ap (count_in path) (paths-more s.files name (logical_file plan) (stand-based s.files distinct lawful.bases)
-      ∙ ap (λ (ps : List PathSpec). all_paths s.files ++ ps) (paths-own s.files name (logical_file plan) its.over.bases ∙ single-path (bases_in s.files) plan.spec its.view.simple))
+      ∙ ap (λ (ps : List PathSpec). all_paths s.files ++ ps) (paths-own s.files name (logical_file plan) its.over.bases ∙ single-path (bases_in s.files) plan.spec its.view.unjoined))
       ∙ count-append path (all_paths s.files) (own ∷ []))
 
   pub IsIndexed-with_view : (old new : KeptPaths) → AreShared old.paths → IsAttached (own_path (bases_in s.files) plan.spec) s.members old new → IsIndexed s.files s.members s.jobs orders moves old
@@ -426,21 +426,21 @@ module _ (s : State) (lawful : IsLibrary s)
   pub view-can : (spec : LogicalSpec) → IsDescribedOver (memory_of s) spec → CanBeKept (own_path (bases_in s.files) spec) s.members
   view-can spec its =
       (recursion_from_All (λ (p : PathSpec). CanBeKept p s.members) (own_path (bases_in s.files) spec ∷ [])
-      (subst (λ (ps : List PathSpec). All (λ (p : PathSpec). CanBeKept p s.members) ps) (single-path (bases_in s.files) spec its.view.simple)
+      (subst (λ (ps : List PathSpec). All (λ (p : PathSpec). CanBeKept p s.members) ps) (single-path (bases_in s.files) spec its.view.unjoined)
       (paths-kept (bases_in s.files) spec s.members its.view.keyed (have-records spec its.over)))).0
 
   pub view-tells : (spec : LogicalSpec) → IsDescribedOver (memory_of s) spec → TellsRepeated (own_path (bases_in s.files) spec) s.members
   view-tells spec its = record {
     bytes = (recursion_from_All (λ (p : PathSpec). IsInBytes p s.members) (own_path (bases_in s.files) spec ∷ [])
-        (subst (λ (ps : List PathSpec). All (λ (p : PathSpec). IsInBytes p s.members) ps) (single-path (bases_in s.files) spec its.view.simple)
+        (subst (λ (ps : List PathSpec). All (λ (p : PathSpec). IsInBytes p s.members) ps) (single-path (bases_in s.files) spec its.view.unjoined)
         (paths-bytes (bases_in s.files) spec s.members its.view.keyed (have-records spec its.over)))).0;
-    one = λ unique. (let own = (own-of (bases_in s.files) spec its.view.simple).2 in let one : length (own_path (bases_in s.files) spec).formats ≡ 1 = ap (λ (fs : List PathFormat). length fs) own.formats in
+    one = λ unique. (let own = (own-of (bases_in s.files) spec its.view.unjoined).2 in let one : length (own_path (bases_in s.files) spec).formats ≡ 1 = ap (λ (fs : List PathFormat). length fs) own.formats in
         omega (arith, one));
   }
 
 -- what is refused of equal keys in its path
-pub view-repeated : (m : Memory) (spec : LogicalSpec) → IsSimple (LogicalFile spec) → first_repeated (logical_paths (bases_of m) spec) m ≡ repeated_in (own_path (bases_of m) spec) m.members
-view-repeated m spec simple = ap (λ (ps : List PathSpec). first_repeated ps m) (single-path (bases_of m) spec simple)
+pub view-repeated : (m : Memory) (spec : LogicalSpec) → IsUnjoined (LogicalFile spec) → first_repeated (logical_paths (bases_of m) spec) m ≡ repeated_in (own_path (bases_of m) spec) m.members
+view-repeated m spec unjoined = ap (λ (ps : List PathSpec). first_repeated ps m) (single-path (bases_of m) spec unjoined)
 
 -- ---- physical files
 

@@ -142,8 +142,8 @@ file-of files members (PhysicalFile spec) view =
     ]
 file-of files members (LogicalFile (Simple view)) is =
     (record { number = (bases_in files view.base).member; of = record { format = view_format (bases_in files) view; formats = refl; member = refl } }, tt)
-file-of files members (LogicalFile (Multi views)) is = absurd is.simple
-file-of files members (LogicalFile (Join view)) is = absurd is.simple
+file-of files members (LogicalFile (Multi views)) is = absurd is.unjoined
+file-of files members (LogicalFile (Join view)) is = absurd is.unjoined
 
 all-of : (all files : Named FileState) → AreViewsBeside all files → AllByRecursion (IsOfOwner all) (paths_among all files)
 all-of all [] views = tt

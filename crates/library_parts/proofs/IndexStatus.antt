@@ -47,15 +47,15 @@ files-alike files others alike kept name file here = record {
 
 view-alike : (bases other : Bases) (spec : LogicalSpec) → AreSameBases bases other spec → IsView bases spec → IsView other spec
 view-alike bases other (Simple view) same is = record {
-  simple = tt;
+  unjoined = tt;
   keyed = subst (λ (b : Base). IsKeyedView b.fields view) same.0 is.keyed;
   mapped = same-mapped bases other (Simple view) same is.mapped;
   rises = is.rises;
   formats = is.formats;
   bytes = is.bytes;
 }
-view-alike bases other (Multi views) same is = absurd is.simple
-view-alike bases other (Join view) same is = absurd is.simple
+view-alike bases other (Multi views) same is = absurd is.unjoined
+view-alike bases other (Join view) same is = absurd is.unjoined
 
 pub beside-alike : (files others : Named FileState) (spec : FileSpec) → AreAlike (bases_in others) (bases_in files) spec → IsViewBeside files spec → IsViewBeside others spec
 beside-alike files others (PhysicalFile spec) alike is = tt

@@ -160,8 +160,8 @@ module _ (parts : LibraryParts) (member rrn : ℕ) (image : List ℕ) (orders : 
           (subst (λ (f : FileSpec). Contains (paths_by s.files file.members f) whole) (sym is) (zero, omega arith, refl)) in
           let both = both-true view.keys.unique (is_over member whole) passes in
           (path-kept name whole format among both.0 refl (over-one member format (format ∷ []) refl both.1), tt)
-  logical-kept name file here (Multi views) is its = absurd its.simple
-  logical-kept name file here (Join view) is its = absurd its.simple
+  logical-kept name file here (Multi views) is its = absurd its.unjoined
+  logical-kept name file here (Join view) is its = absurd its.unjoined
 
   file-kept : (name : List ℕ) (file : FileState) → named name parts.state.files ≡ Some file
       → AllByRecursion (IsKeptOver member parts.room.paths.paths) (uniques_by file.spec (memory_of parts.state) member (name, file))

@@ -27,11 +27,11 @@ use Rattle.library_steps.specs.Opens.{new_open}
 use Rattle.library_steps.specs.Records.{is_file_path}
 use Rattle.library_steps.specs.State.{FileState}
 use Rattle.library_parts.specs.Finds.{OpensMember, OpensBy}
-use Rattle.library_parts.specs.Indexed.{AreViews, IsSimple, IsView, IsViewBeside, ReadsBy, ReadsFile, path_by}
+use Rattle.library_parts.specs.Indexed.{AreViews, IsUnjoined, IsView, IsViewBeside, ReadsBy, ReadsFile, path_by}
 use Rattle.library_parts.specs.Parts.{LibraryParts}
 use Rattle.library_parts.specs.Reads.{IsNumberOf, MayReadSo, ReadsFor, ReadsNew}
 use Rattle.library_parts.proofs.IndexPaths.{any-both}
-use Rattle.library_parts.proofs.FindLemmas.{simple-of, view-of}
+use Rattle.library_parts.proofs.FindLemmas.{unjoined-of, view-of}
 
 -- ---- the number of a kept path
 
@@ -84,9 +84,9 @@ module _ (parts : LibraryParts) (shared : AreShared parts.room.paths.paths) (are
     both-are true b h = h
     both-are false b h = absurd cc
 
-    kept-own : (spec : FileSpec) → file.spec ≡ spec → IsSimple spec → OpensBy parts.state.files member file spec
+    kept-own : (spec : FileSpec) → file.spec ≡ spec → IsUnjoined spec → OpensBy parts.state.files member file spec
         → IfSome (path_by (bases_in parts.state.files) (is_file_path args.access_path && has_key spec) member spec) (λ path. IsThere path parts.room.paths.paths)
-    kept-own (PhysicalFile spec) is simple has = by (is_file_path args.access_path && has_key (PhysicalFile spec)) refl
+    kept-own (PhysicalFile spec) is unjoined has = by (is_file_path args.access_path && has_key (PhysicalFile spec)) refl
       where
         by : (b : Bool) → (is_file_path args.access_path && has_key (PhysicalFile spec)) ≡ b
             → IfSome (if b then Some (physical_path member spec.format.fields spec.keys) else None) (λ path. IsThere path parts.room.paths.paths)
@@ -94,20 +94,20 @@ module _ (parts : LibraryParts) (shared : AreShared parts.room.paths.paths) (are
             contained (physical_path member spec.format.fields spec.keys) (PhysicalFile spec) is
             (member-path spec file.members member (both-are (is_file_path args.access_path) (has_key (PhysicalFile spec)) keyed) has)
         by false keyed = tt
-    kept-own (LogicalFile (Simple view)) is simple all =
+    kept-own (LogicalFile (Simple view)) is unjoined all =
         contained (views_path (bases_in parts.state.files) view.keys.unique (view ∷ [])) (LogicalFile (Simple view)) is (zero, omega arith, refl)
-    kept-own (LogicalFile (Multi views)) is simple all = absurd simple
-    kept-own (LogicalFile (Join view)) is simple all = absurd simple
+    kept-own (LogicalFile (Multi views)) is unjoined all = absurd unjoined
+    kept-own (LogicalFile (Join view)) is unjoined all = absurd unjoined
 
     -- so it reads by the file's path, or in arrival order
     pub new-reads : (spec : FileSpec) → file.spec ≡ spec → (reads : OpenReads)
         → ReadsNew args.commit parts.room.paths.paths (path_by (bases_in parts.state.files) (is_file_path args.access_path && has_key spec) member spec) reads → ReadsFor parts args member reads
     new-reads spec is reads new =
-        let simple : IsSimple spec = subst IsSimple is (simple-of parts.state.files args.file file views here) in
+        let unjoined : IsUnjoined spec = subst IsUnjoined is (unjoined-of parts.state.files args.file file views here) in
         let its : OpensBy parts.state.files member file spec =
         subst (OpensBy parts.state.files member file) is (subst (λ (o : Option FileState). OpensMember parts.state.files member o) here opens) in
         let read : ReadsBy parts.room.paths.paths (path_by (bases_in parts.state.files) (is_file_path args.access_path && has_key spec) member spec) (order_by 0 reads) =
-        new-by args.commit parts.room.paths.paths (path_by (bases_in parts.state.files) (is_file_path args.access_path && has_key spec) member spec) reads (kept-own spec is simple its) new in
+        new-by args.commit parts.room.paths.paths (path_by (bases_in parts.state.files) (is_file_path args.access_path && has_key spec) member spec) reads (kept-own spec is unjoined its) new in
         record {
           start = new.start;
           order =

@@ -40,7 +40,7 @@ use Rattle.library_steps.specs.LogicalFiles.{bases_in}
 use Rattle.library_steps.specs.Opens.{first_of}
 use Rattle.library_steps.specs.Records.{is_file_path, is_keyed}
 use Rattle.library_steps.specs.State.{FileState, OpenState, JobState, job_at, or_new}
-use Rattle.library_parts.specs.Indexed.{AreOfBytes, HasBytes, IsByPath, IsReadSo, IsSimple, MemberHasBytes, ReadsBy, ReadsFile, ReadsIn, OpensRead, path_by, path_read, IsIndexed}
+use Rattle.library_parts.specs.Indexed.{AreOfBytes, HasBytes, IsByPath, IsReadSo, IsUnjoined, MemberHasBytes, ReadsBy, ReadsFile, ReadsIn, OpensRead, path_by, path_read, IsIndexed}
 use Rattle.library_parts.specs.Lawful.{HoldsValues, IsThere}
 use Rattle.library_parts.specs.Reads.{formats_by, formats_read, has_positions}
 use Rattle.library_parts.proofs.BaseLemmas.{some-of}
@@ -114,9 +114,9 @@ no-parts (p ∷ ps) none = let low : suc (length ps) ≤ 0 = ltb-false 0 (suc (l
 abbrev pub own_parts : (keyed : Bool) → FileSpec → List KeyPart
 own_parts keyed spec = if keyed then parts_in spec else []
 
-pub formats-are : (bases : Bases) (file : FileState) (opened : OpenState) → IsSimple file.spec → IsReadSo (is_file_path opened.access_path) file.spec
+pub formats-are : (bases : Bases) (file : FileState) (opened : OpenState) → IsUnjoined file.spec → IsReadSo (is_file_path opened.access_path) file.spec
     → formats_read bases file opened ≡ key_parts 0 (own_parts (is_keyed file opened) file.spec) ∷ []
-formats-are bases file opened simple so = kind file.spec simple so
+formats-are bases file opened unjoined so = kind file.spec unjoined so
   where
     access : Bool
     access = is_file_path opened.access_path
@@ -130,23 +130,23 @@ formats-are bases file opened simple so = kind file.spec simple so
     logical ps true some = refl
     logical ps false none = ap (λ (qs : List KeyPart). key_parts 0 qs ∷ []) (no-parts ps none)
 
-    kind : (spec : FileSpec) → IsSimple spec → IsReadSo access spec
+    kind : (spec : FileSpec) → IsUnjoined spec → IsReadSo access spec
         → formats_by (path_by bases (access && has_key spec) (first_of opened.members) spec) ≡ key_parts 0 (own_parts (access && has_key spec) spec) ∷ []
-    kind (PhysicalFile spec) simple so = physical (access && has_key (PhysicalFile spec)) spec
-    kind (LogicalFile (Simple view)) simple so =
+    kind (PhysicalFile spec) unjoined so = physical (access && has_key (PhysicalFile spec)) spec
+    kind (LogicalFile (Simple view)) unjoined so =
         logical view.keys.parts (nat_lt 0 (length view.keys.parts)) refl
         ∙ ap (λ (a : Bool). key_parts 0 (own_parts (a && has_key (LogicalFile (Simple view))) (LogicalFile (Simple view))) ∷ []) (sym so)
-    kind (LogicalFile (Multi views)) simple so = absurd simple
-    kind (LogicalFile (Join view)) simple so = absurd simple
+    kind (LogicalFile (Multi views)) unjoined so = absurd unjoined
+    kind (LogicalFile (Join view)) unjoined so = absurd unjoined
 
 has-parts : (ps : List KeyPart) → has_positions (key_parts 0 ps ∷ []) ≡ nat_lt 0 (length ps)
 has-parts ps = ap (λ (qs : List KeyPart). nat_lt 0 (length qs)) (merged-one (key_parts 0 ps)) ∙ ap (λ (n : ℕ). nat_lt 0 n) (parts-length ps 0)
 
 -- it reads by a key where it has such positions
-pub reads-keyed : (bases : Bases) (file : FileState) (opened : OpenState) → IsSimple file.spec → IsReadSo (is_file_path opened.access_path) file.spec
+pub reads-keyed : (bases : Bases) (file : FileState) (opened : OpenState) → IsUnjoined file.spec → IsReadSo (is_file_path opened.access_path) file.spec
     → has_positions (formats_read bases file opened) ≡ is_keyed file opened
-reads-keyed bases file opened simple so =
-    ap has_positions (formats-are bases file opened simple so) ∙ has-parts (own_parts (is_keyed file opened) file.spec) ∙ by (is_keyed file opened) refl
+reads-keyed bases file opened unjoined so =
+    ap has_positions (formats-are bases file opened unjoined so) ∙ has-parts (own_parts (is_keyed file opened) file.spec) ∙ by (is_keyed file opened) refl
   where
     by : (b : Bool) → is_keyed file opened ≡ b → nat_lt 0 (length (own_parts b file.spec)) ≡ b
     by true keyed = both-are (is_file_path opened.access_path) (has_key file.spec) keyed

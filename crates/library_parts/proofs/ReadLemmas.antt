@@ -62,7 +62,7 @@ use Rattle.library_steps.specs.Opens.{first_of}
 use Rattle.library_steps.specs.Records.{is_file_path, is_keyed, live_record, reading_of, record_in}
 use Rattle.library_steps.specs.State.{State, Memory, FileState, OpenState, fields_of, format_in, memory_of}
 use Rattle.library_parts.specs.Finds.{ReadsMember}
-use Rattle.library_parts.specs.Indexed.{IsByArrival, IsReadSo, IsSimple, IsView, IsViewBeside, ReadsBy, path_by, path_read, IsIndexed}
+use Rattle.library_parts.specs.Indexed.{IsByArrival, IsReadSo, IsUnjoined, IsView, IsViewBeside, ReadsBy, path_by, path_read, IsIndexed}
 use Rattle.library_parts.specs.Keyed.{AllAreKeyed}
 use Rattle.library_parts.specs.Lawful.{IsBased, IsLibrary, IsThere, StandsOver}
 use Rattle.library_parts.specs.Reads.{ReadsAmong, formats_by, has_positions}
@@ -160,10 +160,10 @@ formats-by paths None order reads = sym reads.formats
 formats-by paths (Some spec) order reads = sym reads.formats
 
 -- it reads by a key where it has such positions
-pub order-keyed : (bases : Bases) (paths : NumberedPaths) (file : FileState) (opened : OpenState) (order : OpenOrder) → IsSimple file.spec → IsReadSo (is_file_path opened.access_path) file.spec
+pub order-keyed : (bases : Bases) (paths : NumberedPaths) (file : FileState) (opened : OpenState) (order : OpenOrder) → IsUnjoined file.spec → IsReadSo (is_file_path opened.access_path) file.spec
     → ReadsBy paths (path_read bases file opened) order → has_positions order.formats ≡ is_keyed file opened
-order-keyed bases paths file opened order simple so reads =
-    ap has_positions (sym (formats-by paths (path_read bases file opened) order reads)) ∙ reads-keyed bases file opened simple so
+order-keyed bases paths file opened order unjoined so reads =
+    ap has_positions (sym (formats-by paths (path_read bases file opened) order reads)) ∙ reads-keyed bases file opened unjoined so
 
 no-parts : (ps : List KeyPart) → HasNoKey (key_parts 0 ps ∷ []) → ps ≡ []
 no-parts [] none = refl
@@ -267,18 +267,18 @@ module _ (s : State) (orders : List (Named OpenOrder)) (moves : List (List (List
       keyless whole format s.members list refl (ap (key_parts 0) empty) (its.rises empty) member over.entries over.falling)
       (λ i. reading_in bases (is i) (is_keyed file opened) opened.member s.members)
 
-  pub reads-among : IsSimple file.spec → ReadsAmong s.members kept opened.member order.formats order.path (reading_of file opened (memory_of s))
-  reads-among simple = kind file.spec refl simple
+  pub reads-among : IsUnjoined file.spec → ReadsAmong s.members kept opened.member order.formats order.path (reading_of file opened (memory_of s))
+  reads-among unjoined = kind file.spec refl unjoined
     where
       key : (spec : PhysicalSpec) → file.spec ≡ PhysicalFile spec → (b : Bool) → is_keyed file opened ≡ b → ReadsAmong s.members kept opened.member order.formats order.path (reading_of file opened (memory_of s))
       key spec is true by_key = by-path spec is by_key
       key spec is false by_key = by-arrival spec is by_key
 
-      kind : (its : FileSpec) → file.spec ≡ its → IsSimple its → ReadsAmong s.members kept opened.member order.formats order.path (reading_of file opened (memory_of s))
-      kind (PhysicalFile spec) is simple = key spec is (is_keyed file opened) refl
-      kind (LogicalFile (Simple view)) is simple = by-view view is
-      kind (LogicalFile (Multi views)) is simple = absurd simple
-      kind (LogicalFile (Join view)) is simple = absurd simple
+      kind : (its : FileSpec) → file.spec ≡ its → IsUnjoined its → ReadsAmong s.members kept opened.member order.formats order.path (reading_of file opened (memory_of s))
+      kind (PhysicalFile spec) is unjoined = key spec is (is_keyed file opened) refl
+      kind (LogicalFile (Simple view)) is unjoined = by-view view is
+      kind (LogicalFile (Multi views)) is unjoined = absurd unjoined
+      kind (LogicalFile (Join view)) is unjoined = absurd unjoined
 
 -- ---- what is found
 

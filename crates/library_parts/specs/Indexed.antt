@@ -1,7 +1,7 @@
 -- What the kept access paths are of a library's files, members and jobs: each path of a file is kept, with the entries that the members give it; each
 -- open reads by the path of its file, or in arrival order; and for each change of an open commit cycle the moves that take it back are at hand, with
 -- memory for them. (Our own.)
-use Rattle.std.specs.Prelude.{◌≡◌, ℕ, ◌+◌, ◌*◌, ◌≤◌, Bool, IsTrue, Option, Some, None, List, [], ◌∷◌, length, map, filter, All, Any, if◌then◌else◌}
+use Rattle.std.specs.Prelude.{◌≡◌, ℕ, ◌+◌, ◌*◌, ◌≤◌, Bool, IsTrue, Option, Some, None, IsSome, List, [], ◌∷◌, length, map, filter, slice_get, All, Any, if◌then◌else◌}
 use Rattle.std.specs.List.{AllByRecursion, AllZip, sum_by}
 use Rattle.member_slots.specs.declared.slot.Slot.{Slot}
 use Rattle.member_slots.specs.declared.slot.Slot.TheVariants.{Live, Deleted}
@@ -13,7 +13,7 @@ use Rattle.file_model.specs.declared.paths.PathSpec.{PathSpec}
 use Rattle.file_model.specs.FilePaths.{physical_path}
 use Rattle.dds_logical.specs.declared.views.LogicalSpec.{LogicalSpec}
 use Rattle.dds_logical.specs.declared.views.LogicalSpec.TheVariants.{Simple, Multi, Join}
-use Rattle.logical_model.specs.Bases.{Bases, FileSpec, PhysicalFile, LogicalFile}
+use Rattle.logical_model.specs.Bases.{Bases, FileSpec, PhysicalFile, LogicalFile, base_names}
 use Rattle.logical_laws.specs.Mapped.{AreSameBases, IsSpecMapped}
 use Rattle.logical_paths.specs.KeyedViews.{IsKeyedLogical}
 use Rattle.logical_paths.specs.Steps.{own_path}
@@ -44,12 +44,12 @@ abbrev pub path_by : Bases → (keyed : Bool) → (member : ℕ) → FileSpec �
 path_by bases keyed member (PhysicalFile spec) = if keyed then Some (physical_path member spec.format.fields spec.keys) else None
 path_by bases keyed member (LogicalFile spec) = Some (own_path bases spec)
 
--- so far each logical file is over one physical file
-abbrev pub IsSimple : FileSpec → Type 0
-IsSimple (PhysicalFile spec) = Unit {0}
-IsSimple (LogicalFile (Simple view)) = Unit {0}
-IsSimple (LogicalFile (Multi views)) = ⊥
-IsSimple (LogicalFile (Join view)) = ⊥
+-- so far no logical file is a join
+abbrev pub IsUnjoined : FileSpec → Type 0
+IsUnjoined (PhysicalFile spec) = Unit {0}
+IsUnjoined (LogicalFile (Simple view)) = Unit {0}
+IsUnjoined (LogicalFile (Multi views)) = Unit {0}
+IsUnjoined (LogicalFile (Join view)) = ⊥
 
 -- where a file of one format has no key, its records stand by their rising numbers
 abbrev pub RisesIfKeyless : LogicalSpec → Type 0
@@ -57,10 +57,18 @@ RisesIfKeyless (Simple view) = view.keys.parts ≡ [] → view.keys.ties ≡ Ris
 RisesIfKeyless (Multi views) = Unit {0}
 RisesIfKeyless (Join view) = Unit {0}
 
--- its key is by fields of that file, and what is stored through it lies in whole fields of that file; the fields of its formats are those of what
--- it shows, and what they are made of has a byte
+-- a file of several formats has two at least
+abbrev pub HasSeveral : LogicalSpec → Type 0
+HasSeveral (Simple view) = Unit {0}
+HasSeveral (Multi views) = 2 ≤ length views
+HasSeveral (Join view) = Unit {0}
+
+-- it has a format; its key is by fields of its base files, and what is stored through it lies in whole fields of these; the fields of its formats are
+-- those of what it shows, and what they are made of has a byte
 pub record IsView (bases : Bases) (spec : LogicalSpec) : Type 0 where
-  pub simple : IsSimple (LogicalFile spec)
+  pub unjoined : IsUnjoined (LogicalFile spec)
+  pub some : IsSome (slice_get (base_names spec) 0)
+  pub several : HasSeveral spec
   pub keyed : IsKeyedLogical bases spec
   pub mapped : IsSpecMapped bases spec
   pub rises : RisesIfKeyless spec

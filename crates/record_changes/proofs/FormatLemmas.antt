@@ -7,7 +7,7 @@ use Rattle.library_model.specs.declared.replies.Reply.TheVariants.{NoSuchName}
 use Rattle.library_model.specs.declared.replies.Missing.TheVariants.{Name}
 use Rattle.library_steps.specs.Refusals.{named_or_refused}
 use Rattle.library_steps.specs.WriteRecord.{format_asked}
-use Rattle.library_parts.specs.Indexed.{IsSimple}
+use Rattle.library_parts.specs.Indexed.{IsUnjoined}
 use Rattle.record_changes.specs.Images.{only_name}
 use Rattle.record_changes.specs.Plans.{format_named}
 
@@ -17,9 +17,9 @@ only-position : (b : Bool) (name : List ℕ) → named_or_refused {A = ℕ} name
 only-position true name = refl
 only-position false name = refl
 
-pub format_asked-simple : (asked : Option (List ℕ)) (spec : FileSpec) → IsSimple spec → format_asked asked spec ≡ format_named asked (only_name spec)
-format_asked-simple None spec simple = refl
-format_asked-simple (Some name) (PhysicalFile spec) simple = only-position (bytes_eq name spec.format.name) name
-format_asked-simple (Some name) (LogicalFile (Simple view)) simple = only-position (bytes_eq name view.format.name) name
-format_asked-simple (Some name) (LogicalFile (Multi views)) simple = absurd simple
-format_asked-simple (Some name) (LogicalFile (Join view)) simple = absurd simple
+pub format_asked-unjoined : (asked : Option (List ℕ)) (spec : FileSpec) → IsUnjoined spec → format_asked asked spec ≡ format_named asked (only_name spec)
+format_asked-unjoined None spec unjoined = refl
+format_asked-unjoined (Some name) (PhysicalFile spec) unjoined = only-position (bytes_eq name spec.format.name) name
+format_asked-unjoined (Some name) (LogicalFile (Simple view)) unjoined = only-position (bytes_eq name view.format.name) name
+format_asked-unjoined (Some name) (LogicalFile (Multi views)) unjoined = absurd unjoined
+format_asked-unjoined (Some name) (LogicalFile (Join view)) unjoined = absurd unjoined

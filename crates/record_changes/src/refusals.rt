@@ -12,7 +12,7 @@ ghost use Rattle.library_steps.specs.SlotChange.{few_changes};
 ghost use Rattle.library_steps.specs.UniqueKeys.{keys_free};
 ghost use Rattle.library_steps.specs.WriteRecord.{format_asked, is_input};
 ghost use Rattle.library_parts.specs.Answers.{Allows, Gives, MayAllow};
-ghost use Rattle.library_parts.specs.Indexed.{IsSimple};
+ghost use Rattle.library_parts.specs.Indexed.{IsUnjoined};
 ghost use Rattle.record_changes.specs.Images.{only_name};
 ghost use Rattle.record_changes.specs.Places.{FitsMember};
 ghost use Rattle.record_changes.specs.Plans.{format_named};
@@ -29,7 +29,7 @@ use member_slots::slot::Slot;
 
 /// The number of the format that is named, counted from 0. A file has one so far.
 pub(crate) fn format_asked(file: &File, named: Option<Name>) -> Result<u32, Stop>
-    requires { IsSimple file.now.spec }
+    requires { IsUnjoined file.now.spec }
     ensures asked { Gives result (format_asked named file.now.spec) }
     ensures first { IfOk result (λ number. number ≡ 0) }
 {
@@ -38,7 +38,7 @@ pub(crate) fn format_asked(file: &File, named: Option<Name>) -> Result<u32, Stop
 
 /// The name of the one format of a file.
 fn name_in(body: &FileBody) -> &Name
-    requires { IsSimple (spec_in body.now) }
+    requires { IsUnjoined (spec_in body.now) }
     ensures { result.now ≡ only_name (spec_in body.now) }
 {
     match body {
@@ -56,7 +56,7 @@ fn own_name(described: &Described) -> &Name
 
 /// The name of the one format of a logical file.
 fn view_name(view: &DescribedView) -> &Name
-    requires { IsSimple (LogicalFile view.now.spec) }
+    requires { IsUnjoined (LogicalFile view.now.spec) }
     ensures { result.now ≡ only_name (LogicalFile view.now.spec) }
 {
     simple_name(view.spec())
@@ -64,7 +64,7 @@ fn view_name(view: &DescribedView) -> &Name
 
 /// The same by what the logical file is.
 fn simple_name(spec: &LogicalSpec) -> &Name
-    requires { IsSimple (LogicalFile spec.now) }
+    requires { IsUnjoined (LogicalFile spec.now) }
     ensures { result.now ≡ only_name (LogicalFile spec.now) }
 {
     match spec {

@@ -24,7 +24,7 @@ use Rattle.library_steps.specs.LogicalFiles.{bases_in, bases_of}
 use Rattle.library_steps.specs.Records.{record_in, live_record}
 use Rattle.library_steps.specs.Reads.{read_as}
 use Rattle.library_parts.specs.Finds.{IsBaseOf, ReadsMember}
-use Rattle.library_parts.specs.Indexed.{IsSimple, IsViewBeside}
+use Rattle.library_parts.specs.Indexed.{IsUnjoined, IsViewBeside}
 use Rattle.library_parts.specs.Lawful.{HasRecords, IsBased, IsLibrary, IsThere, StandsOver}
 use Rattle.library_parts.proofs.FindLemmas.{HasBase, has-base}
 use Rattle.library_parts.proofs.MemberLemmas.{HasRecords-member_of, HoldsValues-at}
@@ -59,9 +59,9 @@ record-there s fields member rrn image there live long bytes =
 -- ---- by what the file is
 
 -- a record of the member that an open reads is one whose values its file shows
-pub shows-image : (s : State) (file : FileState) (opened : OpenState) (image : List ℕ) (member : ReadsMember s file opened) → IsLibrary s → IsSimple file.spec
+pub shows-image : (s : State) (file : FileState) (opened : OpenState) (image : List ℕ) (member : ReadsMember s file opened) → IsLibrary s → IsUnjoined file.spec
     → IsViewBeside s.files file.spec → IsRecord (fields_of member.owner) image → ShowsImage file.spec image
-shows-image s file opened image member lawful simple beside is = by file.spec refl simple beside member.over
+shows-image s file opened image member lawful unjoined beside is = by file.spec refl unjoined beside member.over
   where
     -- the file of this name is the one that has them
     own : (name : List ℕ) (its : FileState) → member.base ≡ name → named name s.files ≡ Some its → fields_of its ≡ fields_of member.owner
@@ -74,7 +74,7 @@ shows-image s file opened image member lawful simple beside is = by file.spec re
     under : (name : List ℕ) → member.base ≡ name → HasBase s name → (bases_in s.files name).fields ≡ fields_of member.owner
     under name over base = base.fields ∙ own name base.file over base.here
 
-    by : (spec : FileSpec) → file.spec ≡ spec → IsSimple spec → IsViewBeside s.files spec → IsBaseOf spec opened.file member.base → ShowsImage spec image
+    by : (spec : FileSpec) → file.spec ≡ spec → IsUnjoined spec → IsViewBeside s.files spec → IsBaseOf spec opened.file member.base → ShowsImage spec image
     by (PhysicalFile spec) same so its over =
         let fields : fields_of member.owner ≡ spec.format.fields = sym (own opened.file file over member.there) ∙ ap (λ (f : FileSpec). (format_in f).fields) same in
         subst (λ (fs : List Field). IsRecord fs image) fields is

@@ -18,29 +18,29 @@ use Rattle.library_steps.specs.State.{Memory, FileState, OpenState}
 use Rattle.library_steps.specs.Refusals.{◌>>=◌, OpenedFile}
 use Rattle.library_steps.specs.Records.{is_file_path, is_keyed, reading_of, number_asked}
 use Rattle.library_steps.specs.Reads.{entry_found, at_format, bound_asked, find_by, find_in}
-use Rattle.library_parts.specs.Indexed.{IsReadSo, IsSimple}
+use Rattle.library_parts.specs.Indexed.{IsReadSo, IsUnjoined}
 use Rattle.library_parts.specs.Reads.{formats_read}
 use Rattle.library_parts.proofs.OpenLooks.{formats-are, own_parts}
 
 -- ---- by what the file is
 
-pub join_in-simple : (spec : FileSpec) → IsSimple spec → join_in spec ≡ None
-join_in-simple (PhysicalFile spec) simple = refl
-join_in-simple (LogicalFile (Simple view)) simple = refl
-join_in-simple (LogicalFile (Multi views)) simple = absurd simple
-join_in-simple (LogicalFile (Join view)) simple = absurd simple
+pub join_in-unjoined : (spec : FileSpec) → IsUnjoined spec → join_in spec ≡ None
+join_in-unjoined (PhysicalFile spec) unjoined = refl
+join_in-unjoined (LogicalFile (Simple view)) unjoined = refl
+join_in-unjoined (LogicalFile (Multi views)) unjoined = absurd unjoined
+join_in-unjoined (LogicalFile (Join view)) unjoined = absurd unjoined
 
-numbers-simple : (spec : FileSpec) → IsSimple spec → has_numbers spec ≡ true
-numbers-simple (PhysicalFile spec) simple = refl
-numbers-simple (LogicalFile (Simple view)) simple = refl
-numbers-simple (LogicalFile (Multi views)) simple = absurd simple
-numbers-simple (LogicalFile (Join view)) simple = absurd simple
+numbers-unjoined : (spec : FileSpec) → IsUnjoined spec → has_numbers spec ≡ true
+numbers-unjoined (PhysicalFile spec) unjoined = refl
+numbers-unjoined (LogicalFile (Simple view)) unjoined = refl
+numbers-unjoined (LogicalFile (Multi views)) unjoined = absurd unjoined
+numbers-unjoined (LogicalFile (Join view)) unjoined = absurd unjoined
 
 -- ---- a file and its open
 
-pub find_in-simple : (its : OpenedFile) (m : Memory) (find_entry : Reading PathEntry → Option PathEntry) (find_row : Reading RowPlace → Option RowPlace) → IsSimple its.file.spec
+pub find_in-unjoined : (its : OpenedFile) (m : Memory) (find_entry : Reading PathEntry → Option PathEntry) (find_row : Reading RowPlace → Option RowPlace) → IsUnjoined its.file.spec
     → find_in its m find_entry find_row ≡ option_map entry_found (find_entry (reading_of its.file its.opened m))
-find_in-simple its m find_entry find_row simple = ap (λ (join : Option JoinView). find_by join its m find_entry find_row) (join_in-simple its.file.spec simple)
+find_in-unjoined its m find_entry find_row unjoined = ap (λ (join : Option JoinView). find_by join its m find_entry find_row) (join_in-unjoined its.file.spec unjoined)
 
 -- an open that is over its one member, by its one format
 pub at_format-only : (opened : OpenState) → opened.members ≡ opened.member ∷ [] → opened.format ≡ 0 → at_format 0 opened ≡ opened
@@ -62,12 +62,12 @@ pub record TakesNumber (its : OpenedFile) (rrn : ℕ) : Type 0 where
   pub unkeyed : is_keyed its.file its.opened ≡ false
 
 -- where it can stand there
-pub takes-number : (its : OpenedFile) (rrn : ℕ) → IsSimple its.file.spec → is_ok (bound_asked its Before (limits.RecordNumber rrn)) ≡ true → TakesNumber its rrn
-takes-number its rrn simple can = record { asked = both.0; unkeyed = both.1 }
+pub takes-number : (its : OpenedFile) (rrn : ℕ) → IsUnjoined its.file.spec → is_ok (bound_asked its Before (limits.RecordNumber rrn)) ≡ true → TakesNumber its rrn
+takes-number its rrn unjoined can = record { asked = both.0; unkeyed = both.1 }
   where
     by : (b : Bool) → is_ok (placed_at (number_if b (has_numbers its.file.spec) rrn)) ≡ true → (number_if b (has_numbers its.file.spec) rrn ≡ Ok rrn) × (b ≡ false)
     by true is = absurd cc
-    by false is = (ap (λ (n : Bool). number_if false n rrn) (numbers-simple its.file.spec simple), refl)
+    by false is = (ap (λ (n : Bool). number_if false n rrn) (numbers-unjoined its.file.spec unjoined), refl)
 
     both : (number_asked its.file its.opened rrn ≡ Ok rrn) × (is_keyed its.file its.opened ≡ false)
     both = by (is_keyed its.file its.opened) can
@@ -78,7 +78,7 @@ number-refused (Ok number) reply is = absurd cc
 number-refused (Err other) reply is = let same : other ≡ reply = cc in ap (λ (r : Reply). Err r) same
 
 -- an open that doesn't read by a key has no position of one; a logical file isn't read in arrival order
-pub no-key : (bases : Bases) (file : FileState) (opened : OpenState) → IsSimple file.spec → IsReadSo (is_file_path opened.access_path) file.spec → is_keyed file opened ≡ false
+pub no-key : (bases : Bases) (file : FileState) (opened : OpenState) → IsUnjoined file.spec → IsReadSo (is_file_path opened.access_path) file.spec → is_keyed file opened ≡ false
     → HasNoKey (formats_read bases file opened)
-no-key bases file opened simple so unkeyed =
-    formats-are bases file opened simple so ∙ ap (λ (b : Bool). key_parts 0 (own_parts b file.spec) ∷ []) unkeyed
+no-key bases file opened unjoined so unkeyed =
+    formats-are bases file opened unjoined so ∙ ap (λ (b : Bool). key_parts 0 (own_parts b file.spec) ∷ []) unkeyed

@@ -13,7 +13,7 @@ ghost use Rattle.library_steps.specs.State.{memory_of};
 ghost use Rattle.library_steps.specs.Reads.{read_as};
 ghost use Rattle.library_steps.specs.Records.{live_record};
 ghost use Rattle.library_parts.specs.Finds.{ReadsMember};
-ghost use Rattle.library_parts.specs.Indexed.{IsSimple, IsViewBeside};
+ghost use Rattle.library_parts.specs.Indexed.{IsUnjoined, IsViewBeside};
 ghost use Rattle.record_reads.specs.Plans.{record_shown};
 ghost use Rattle.record_reads.specs.Shown.{ShowsImage, shown_as_held};
 
@@ -36,7 +36,7 @@ pub(crate) fn record_shown(
     rrn: u32,
 ) -> Result<RecordRead, AllocError>
     requires member { ReadsMember contents.now.state file.now opened.now.state }
-    requires simple { IsSimple file.now.spec }
+    requires unjoined { IsUnjoined file.now.spec }
     requires view { IsViewBeside contents.now.state.files file.now.spec }
     requires live { is_some (live_record opened.now.state.member rrn (memory_of contents.now.state)) ≡ true }
     ensures { IfOk result (λ shown. shown ≡ record_shown (memory_of contents.now.state) file.now opened.now.state rrn) }

@@ -21,7 +21,7 @@ shown_by-requires c =
     let long = rw c.member.ensures at c.image_there-image.ensures.long in
     let reads = c.requires.member in
     subst (λ (spec : FileSpec). ShowsImage spec image) (sym c.described.ensures.spec)
-    (shows-image s file opened image reads c.jobs_begun-jobs.ensures.lawful c.requires.simple c.requires.view
+    (shows-image s file opened image reads c.jobs_begun-jobs.ensures.lawful c.requires.unjoined c.requires.view
     (record-there s (fields_of reads.owner) opened.member c.args.rrn image reads.has.there live long c.image_there-image.ensures.bytes))
 
 pub returns : goal.returns

@@ -61,4 +61,4 @@ returns-in-Some-clause-live c =
     rw (← c.self.view_is)
     (found-live opened.state.member m c.in-Some.hit _ its
     (asked-live c.args.file.now opened.state m c.args.by (merged_parts opened.order.formats) opened.state.position
-    (over-own s opened.state c.args.file.now (rw (← c.self.view_is) at c.requires.member) c.requires.reads.simple)))
+    (over-own s opened.state c.args.file.now (rw (← c.self.view_is) at c.requires.member) c.requires.reads.unjoined)))
