@@ -250,7 +250,7 @@ module _ (s : State) (number : ℕ) (given : List SlotGiven) (orders : List (Nam
         | true ↦ (told, tt)
         | false ↦ tt
       ]
-  logical-told name file here (Multi views) is its = absurd its.unjoined
+  logical-told name file here (Multi views) is its = tt
   logical-told name file here (Join view) is its = absurd its.unjoined
 
   file-told : (name : List ℕ) (file : FileState) → named name s.files ≡ Some file

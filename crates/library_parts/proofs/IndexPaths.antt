@@ -117,12 +117,10 @@ one-member number other spec is also =
     any-own other number spec also (subst (λ (fs : List PathFormat). Any (λ (f : PathFormat). f.member ≡ number) fs) (sym is.formats) (any-first (λ
     (f : PathFormat). f.member ≡ number) is.format [] is.member))
 
--- ---- each path of a file is over one member
+-- ---- each path of a file that may have no equal keys is over one member
 
--- some member, which a physical file has
 pub record IsOfOwner (files : Named FileState) (spec : PathSpec) : Type 0 where
-  pub number : ℕ
-  pub of : IsOfMember number spec
+  pub one : spec.unique ≡ true → (number : ℕ) × IsOfMember number spec
 
 pub physical-of : (number : ℕ) (spec : PhysicalSpec) → IsOfMember number (physical_path number spec.format.fields spec.keys)
 physical-of number spec = record { format = path_format number every_record (own_fields spec.format.fields) spec.keys.parts; formats = refl; member = refl }
@@ -131,7 +129,7 @@ physical-of number spec = record { format = path_format number every_record (own
 physicals-of : (files : Named FileState) (spec : PhysicalSpec) (members : Named MemberStatus)
     → AllByRecursion (IsOfOwner files) (map (λ (entry : List ℕ × MemberStatus). physical_path entry.1.number spec.format.fields spec.keys) members)
 physicals-of files spec [] = tt
-physicals-of files spec (entry ∷ members) = (record { number = entry.1.number; of = physical-of entry.1.number spec }, physicals-of files spec members)
+physicals-of files spec (entry ∷ members) = (record { one = λ unique. (entry.1.number, physical-of entry.1.number spec) }, physicals-of files spec members)
 
 file-of : (files : Named FileState) (members : Named MemberStatus) (spec : FileSpec) → IsViewBeside files spec → AllByRecursion (IsOfOwner files) (paths_by files members spec)
 file-of files members (PhysicalFile spec) view =
@@ -141,8 +139,8 @@ file-of files members (PhysicalFile spec) view =
       | false ↦ tt
     ]
 file-of files members (LogicalFile (Simple view)) is =
-    (record { number = (bases_in files view.base).member; of = record { format = view_format (bases_in files) view; formats = refl; member = refl } }, tt)
-file-of files members (LogicalFile (Multi views)) is = absurd is.unjoined
+    (record { one = λ unique. ((bases_in files view.base).member, record { format = view_format (bases_in files) view; formats = refl; member = refl }) }, tt)
+file-of files members (LogicalFile (Multi views)) is = (record { one = λ unique. absurd cc }, tt)
 file-of files members (LogicalFile (Join view)) is = absurd is.unjoined
 
 all-of : (all files : Named FileState) → AreViewsBeside all files → AllByRecursion (IsOfOwner all) (paths_among all files)
@@ -155,9 +153,6 @@ pub kept-of : (files : Named FileState) (members : NumberedMembers) (paths : Num
     → All (λ path. IsOfOwner files path.item.spec) paths
 kept-of files members paths views shared kept = λ k d low.
     each-contained (IsOfOwner files) (all_paths files) (get_or paths k d).item.spec (all-of files files views) (kept-contained (all_paths files) members paths shared kept k d low)
-
-pub of-file : (files : Named FileState) (spec : PathSpec) → IsOfOwner files spec → (number : ℕ) × IsOfMember number spec
-of-file files spec is = (is.number, is.of)
 
 -- ---- paths with other entries
 

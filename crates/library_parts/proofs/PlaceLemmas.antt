@@ -1,5 +1,7 @@
 -- The key that a request gives and the place where it sets a position, by the positions of the open's key.
-use Rattle.std.proofs.Common.{◌≡◌, ℕ, ◌+◌, ◌||◌, nat_lt, not, Bool, true, false, if◌then◌else◌, List, [], ◌∷◌, length, Option, Some, None, Result, Ok, Err, refl, sym, ap, subst, ◌∙◌}
+use Rattle.std.proofs.Common.{◌≡◌, ℕ, ◌+◌, ◌||◌, nat_lt, not, Bool, true, false, if◌then◌else◌, List, [], ◌∷◌, length, Option, Some, None, Result, Ok, Err, refl, sym, ap, subst, ◌∙◌, map}
+use Rattle.library_parts.proofs.AlikeParts.{views-fault, views-given}
+use Rattle.dds_logical.specs.declared.views.View.{View}
 use Rattle.std.specs.Prelude.{is_ok}
 use Rattle.field_types.specs.declared.values.Value.{Value}
 use Rattle.field_types.specs.declared.faults.ValueFault.{ValueFault}
@@ -34,8 +36,8 @@ use Rattle.library_steps.specs.State.{FileState, OpenState}
 use Rattle.library_parts.specs.declared.stop.Stop.{Stop}
 use Rattle.library_parts.specs.declared.stop.Stop.TheVariants.{NoMemory, Refused}
 use Rattle.library_parts.specs.Indexed.{IsReadSo, IsUnjoined}
-use Rattle.library_parts.specs.Reads.{CanStandIn, GivesKey, HasKeyOf, MayHaveKey, ReadsSo, Stands, formats_read, parts_read, refusal, stood_at}
-use Rattle.library_parts.proofs.OpenLooks.{formats-are, merged-one, own_parts}
+use Rattle.library_parts.specs.Reads.{CanStandIn, GivesKey, HasKeyOf, MayHaveKey, ReadsSo, Stands, formats_read, parts_read, refusal, stood_at, TakesNumbers}
+use Rattle.library_parts.proofs.OpenLooks.{formats-are, merged-one, own_parts, HasOneFormat, formats-of-views}
 
 -- ---- two definitions of what is wrong with given values are the same
 
@@ -62,24 +64,45 @@ record IsByKey (bases : Bases) (file : FileState) (opened : OpenState) : Type 0 
   given_is : (values : List Value) → given_key (parts_in file.spec) values ≡ given_key (parts_read bases file opened) values
 
 by-key : (bases : Bases) (file : FileState) (opened : OpenState) → IsUnjoined file.spec → IsReadSo (is_file_path opened.access_path) file.spec → is_keyed file opened ≡ true → IsByKey bases file opened
-by-key bases file opened unjoined so keyed =
-    let ps : List KeyPart = parts_in file.spec in
-    let parts : parts_read bases file opened ≡ key_parts 0 ps =
-    ap merged_parts (formats-are bases file opened unjoined so ∙ ap (λ (b : Bool). key_parts 0 (own_parts b file.spec) ∷ []) keyed) ∙ merged-one (key_parts 0 ps) in
-    record {
-      faults = λ values. fault-same ps values ∙ sym (same-key_fault 0 ps values) ∙ ap (λ (qs : List KeyPart). given.key_fault qs values) (sym parts);
-      given_is = λ values. sym (same-given_key 0 ps values) ∙ ap (λ (qs : List KeyPart). given_key qs values) (sym parts);
-    }
+by-key bases file opened unjoined so keyed = kind file.spec refl unjoined
+  where
+    single : HasOneFormat file.spec → IsByKey bases file opened
+    single one =
+        let ps : List KeyPart = parts_in file.spec in
+        let parts : parts_read bases file opened ≡ key_parts 0 ps =
+        ap merged_parts (formats-are bases file opened one so ∙ ap (λ (b : Bool). key_parts 0 (own_parts b file.spec) ∷ []) keyed) ∙ merged-one (key_parts 0 ps) in
+        record {
+          faults = λ values. fault-same ps values ∙ sym (same-key_fault 0 ps values) ∙ ap (λ (qs : List KeyPart). given.key_fault qs values) (sym parts);
+          given_is = λ values. sym (same-given_key 0 ps values) ∙ ap (λ (qs : List KeyPart). given_key qs values) (sym parts);
+        }
 
-by-arrival : (bases : Bases) (file : FileState) (opened : OpenState) → IsUnjoined file.spec → IsReadSo (is_file_path opened.access_path) file.spec → is_keyed file opened ≡ false
+    several : (views : List View) → file.spec ≡ LogicalFile (Multi views) → IsByKey bases file opened
+    several views is =
+        let ps : List KeyPart = merged_parts (map (λ (view : View). view.keys.parts) views) in
+        let own : parts_in file.spec ≡ ps = ap parts_in is in
+        let parts : parts_read bases file opened ≡ merged_parts (map (λ (view : View). key_parts 0 view.keys.parts) views) = ap merged_parts (formats-of-views bases file opened views is) in
+        record {
+          faults = λ values. ap (λ (qs : List KeyPart). steps.key_fault qs values) own ∙ fault-same ps values ∙ views-fault views values ∙ ap (λ (qs : List KeyPart). given.key_fault qs values) (sym parts);
+          given_is = λ values. ap (λ (qs : List KeyPart). given_key qs values) own ∙ views-given views values ∙ ap (λ (qs : List KeyPart). given_key qs values) (sym parts);
+        }
+
+    kind : (spec : FileSpec) → file.spec ≡ spec → IsUnjoined spec → IsByKey bases file opened
+    kind (PhysicalFile spec) is unjoined = single (subst HasOneFormat (sym is) tt)
+    kind (LogicalFile (Simple view)) is unjoined = single (subst HasOneFormat (sym is) tt)
+    kind (LogicalFile (Multi views)) is unjoined = several views is
+    kind (LogicalFile (Join view)) is unjoined = absurd unjoined
+
+-- a file in which a number says which record is meant has one format
+numbered-one : (spec : FileSpec) → has_numbers spec ≡ true → HasOneFormat spec
+numbered-one (PhysicalFile spec) numbered = tt
+numbered-one (LogicalFile (Simple view)) numbered = tt
+numbered-one (LogicalFile (Multi views)) numbered = absurd cc
+numbered-one (LogicalFile (Join view)) numbered = absurd cc
+
+by-arrival : (bases : Bases) (file : FileState) (opened : OpenState) → has_numbers file.spec ≡ true → IsReadSo (is_file_path opened.access_path) file.spec → is_keyed file opened ≡ false
     → formats_read bases file opened ≡ [] ∷ []
-by-arrival bases file opened unjoined so not_keyed = formats-are bases file opened unjoined so ∙ ap (λ (b : Bool). key_parts 0 (own_parts b file.spec) ∷ []) not_keyed
-
-numbers : (its : FileSpec) → IsUnjoined its → has_numbers its ≡ true
-numbers (PhysicalFile spec) unjoined = refl
-numbers (LogicalFile (Simple view)) unjoined = refl
-numbers (LogicalFile (Multi views)) unjoined = absurd unjoined
-numbers (LogicalFile (Join view)) unjoined = absurd unjoined
+by-arrival bases file opened numbered so not_keyed =
+    formats-are bases file opened (numbered-one file.spec numbered) so ∙ ap (λ (b : Bool). key_parts 0 (own_parts b file.spec) ∷ []) not_keyed
 
 -- ---- the key that a request gives
 
@@ -150,12 +173,17 @@ number_with keyed numbered rrn = if keyed || not numbered then Err WrongOpen els
 abbrev number-bound : (side : Bound → Position PathEntry) → Result ℕ Reply → Result (Position PathEntry) Reply
 number-bound side r = r >>= (λ number. Ok (side (NumberBound number)))
 
-pub stands-number : (its : OpenedFile) (rrn : ℕ) (result : Result (Unit {0}) Stop) → IsUnjoined its.file.spec → ReadsSo (is_keyed its.file its.opened) false result
+number-refused : (keyed numbered : Bool) (rrn : ℕ) (reply : Reply) → (keyed || not numbered) ≡ true → reply ≡ WrongOpen → number_with keyed numbered rrn ≡ Err reply
+number-refused true numbered rrn reply refused is = ap (λ (r : Reply). Err r) (sym is)
+number-refused false false rrn reply refused is = ap (λ (r : Reply). Err r) (sym is)
+number-refused false true rrn reply refused is = absurd cc
+
+pub stands-number : (its : OpenedFile) (rrn : ℕ) (result : Result (Unit {0}) Stop) → TakesNumbers (is_keyed its.file its.opened) (has_numbers its.file.spec) result
     → Stands its (limits.RecordNumber rrn) result
-stands-number its rrn (Ok nothing) unjoined so = λ side. (λ i. is_ok (number-bound side (number_with (so i) (numbers its.file.spec unjoined i) rrn)))
-stands-number its rrn (Err NoMemory) unjoined so = absurd so
-stands-number its rrn (Err (Refused reply)) unjoined so =
-    λ side. ap (λ (b : Bool). number-bound side (number_with b (has_numbers its.file.spec) rrn)) so.0 ∙ ap (λ (r : Reply). Err r) (sym so.1)
+stands-number its rrn (Ok nothing) so = λ side. (λ i. is_ok (number-bound side (number_with (so.0 i) (so.1 i) rrn)))
+stands-number its rrn (Err NoMemory) so = absurd so
+stands-number its rrn (Err (Refused reply)) so =
+    λ side. ap (number-bound side) (number-refused (is_keyed its.file its.opened) (has_numbers its.file.spec) rrn reply so.0 so.1)
 
 -- ---- what is known of the place that a request names, and of the position there
 
@@ -171,12 +199,13 @@ end-is false end position h = absurd cc
 module _ (bases : Bases) (its : OpenedFile) (unjoined : IsUnjoined its.file.spec) (so : IsReadSo (is_file_path its.opened.access_path) its.file.spec) where
   place-number : (side : Side) (rrn : ℕ) (position : Position PathEntry) → bound_asked its (side_of side) (limits.RecordNumber rrn) ≡ Ok position
       → IsPlace bases its side (limits.RecordNumber rrn) position
-  place-number side rrn position is = by (is_keyed its.file its.opened) (has_numbers its.file.spec) refl is
+  place-number side rrn position is = by (is_keyed its.file its.opened) (has_numbers its.file.spec) refl refl is
     where
-      by : (b n : Bool) → is_keyed its.file its.opened ≡ b → number-bound (side_of side) (number_with b n rrn) ≡ Ok position → IsPlace bases its side (limits.RecordNumber rrn) position
-      by true n keyed h = absurd cc
-      by false false keyed h = absurd cc
-      by false true keyed h = record { can = by-arrival bases its.file its.opened unjoined so keyed; stood = let e : side_of side (NumberBound rrn) ≡ position = cc in e }
+      by : (b n : Bool) → is_keyed its.file its.opened ≡ b → has_numbers its.file.spec ≡ n → number-bound (side_of side) (number_with b n rrn) ≡ Ok position
+          → IsPlace bases its side (limits.RecordNumber rrn) position
+      by true n keyed numbered h = absurd cc
+      by false false keyed numbered h = absurd cc
+      by false true keyed numbered h = record { can = by-arrival bases its.file its.opened numbered so keyed; stood = let e : side_of side (NumberBound rrn) ≡ position = cc in e }
 
   place-key : (side : Side) (values : List Value) (position : Position PathEntry) → bound_asked its (side_of side) (limits.Key values) ≡ Ok position
       → IsPlace bases its side (limits.Key values) position

@@ -138,6 +138,7 @@ impl Contents {
         ensures there { IfSome result (λ found. ReadsMember self.now.state file.now (at_format found.format opened.now.state)) }
         ensures live { IfSome result (λ found. is_some (live_record (at_format found.format opened.now.state).member found.rrn (memory_of self.now.state)) ≡ true) }
     {
+        let _files = self.catalogue.len();
         self.reads_there(opened, file);
         match hit_of(&self.members, &self.paths, opened, by) {
             Some(hit) => Some(Found {
@@ -186,6 +187,8 @@ impl Contents {
         ensures entries { self.new.state.entries ≡ self.old.state.entries }
         ensures room { self.new.room ≡ self.old.room }
     {
+        // Each open stands beside how it reads.
+        let _jobs = self.jobs.len();
         let its = self.found_open(job, name);
         self.reads_there(its.opened, its.file);
         let number = its.opened.number();

@@ -1,11 +1,12 @@
 use Rattle.std.proofs.Common.{Bool, List, true, false, sym, subst}
 use Rattle.key_spec.specs.declared.KeyPart.{KeyPart}
+use Rattle.logical_model.specs.Readings.{has_numbers}
 use Rattle.file_model.specs.KeyOrder.{merged_parts}
 use Rattle.library_steps.specs.LogicalFiles.{bases_in}
 use Rattle.library_steps.specs.Records.{is_keyed}
 use Rattle.library_steps.specs.Refusals.{OpenedFile}
 use Rattle.library_parts.specs.Indexed.{path_read}
-use Rattle.library_parts.specs.Reads.{MayHaveKey, ReadsSo}
+use Rattle.library_parts.specs.Reads.{MayHaveKey, ReadsSo, TakesNumbers}
 use Rattle.library_parts.proofs.PlaceLemmas.{stands-high, stands-key, stands-low, stands-number}
 use Rattle.library_parts.proofs.ReadLemmas.{formats-by, order-keyed}
 use Rattle.library_parts.proofs.contents.Contents.may_stand.Goals as goal
@@ -54,4 +55,4 @@ returns-in-RecordNumber c =
     let bases = bases_in c.args.self.now.state.files in
     let keyed = order-keyed bases paths file opened.state opened.order c.requires.unjoined c.requires.so c.requires.by in
     rw c.in-RecordNumber.is
-    (stands-number its _ c.reads_so-in-RecordNumber.result c.requires.unjoined (subst (λ (b : Bool). ReadsSo b false c.reads_so-in-RecordNumber.result) keyed c.reads_so-in-RecordNumber.ensures))
+    (stands-number its _ c.takes_numbers.result (subst (λ (b : Bool). TakesNumbers b (has_numbers file.spec) c.takes_numbers.result) keyed c.takes_numbers.ensures))

@@ -21,8 +21,8 @@ returns-clause-there c =
     let found : open_named c.args.name.now c.args.job (memory_of s) ≡ Some opened = found-is _ _ _ (rw (← c.self.view_is) at c.in_ok-opened.ensures.shows) in
     let here : named opened.file s.files ≡ Some file = found-is _ _ _ (rw (← c.self.view_is, c.file.ensures) at c.in_ok-file.ensures) in
     rw (← c.self.view_is)
-    (reads-member s opened file lawful c.len-files.ensures.keyed (open-holds s c.args.job c.args.name.now opened lawful found) here c.only_member-only.ensures.only
-    c.only_member-only.ensures.format (unjoined-of s.files opened.file file c.self.invariant.2.views here))
+    (reads-member s opened file lawful c.len-files.ensures.keyed (open-holds s c.args.job c.args.name.now opened lawful found) here
+    (unjoined-of s.files opened.file file c.self.invariant.2.views here))
 
 pub returns-clause-unjoined : goal.returns-clause-unjoined
 returns-clause-unjoined c =

@@ -1,7 +1,7 @@
 use Rattle.library_steps.specs.LogicalFiles.{bases_in}
 use Rattle.library_parts.specs.Indexed.{path_read}
 use Rattle.library_parts.specs.Parts.{state_of}
-use Rattle.library_parts.proofs.ReadLemmas.{formats-by, order-keyed, reads-among}
+use Rattle.library_parts.proofs.ReadLemmas.{formats-by, formats-many, order-keyed, reads-among}
 use Rattle.library_parts.proofs.contents.Contents.reads_there.Goals as goal
 
 pub returns-clause-among : goal.returns-clause-among
@@ -23,3 +23,8 @@ pub returns-clause-keyed : goal.returns-clause-keyed
 returns-clause-keyed c =
     order-keyed (bases_in c.args.self.now.state.files) c.args.self.now.room.paths.paths c.args.file.now c.args.opened.now.state c.args.opened.now.order c.requires.reads.unjoined c.requires.reads.so
     c.requires.reads.by
+
+pub returns-clause-as_many : goal.returns-clause-as_many
+returns-clause-as_many c =
+    formats-many c.args.self.now.state.files c.args.self.now.room.paths.paths c.args.file.now c.args.opened.now.state c.args.opened.now.order c.requires.member.there c.requires.reads.unjoined
+    c.requires.member.holds c.requires.reads.so c.requires.reads.by
