@@ -232,7 +232,7 @@ at-one : (x y place : ℕ) → slice_get (x ∷ []) place ≡ Some y → x ≡ y
 at-one x y zero at = some-equal at
 at-one x y (suc place) at = absurd cc
 
-each-there : {X : Type 0} (P : X → Type 0) (xs : List X) (place : ℕ) (x : X) → AllByRecursion P xs → slice_get xs place ≡ Some x → P x
+pub each-there : {X : Type 0} (P : X → Type 0) (xs : List X) (place : ℕ) (x : X) → AllByRecursion P xs → slice_get xs place ≡ Some x → P x
 each-there P [] place x all at = absurd cc
 each-there P (y ∷ xs) zero x all at = subst P (some-equal at) all.0
 each-there P (y ∷ xs) (suc place) x all at = each-there P xs place x all.1 at

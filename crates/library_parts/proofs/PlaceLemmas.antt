@@ -99,7 +99,7 @@ numbered-one (LogicalFile (Simple view)) numbered = tt
 numbered-one (LogicalFile (Multi views)) numbered = absurd cc
 numbered-one (LogicalFile (Join view)) numbered = absurd cc
 
-by-arrival : (bases : Bases) (file : FileState) (opened : OpenState) → has_numbers file.spec ≡ true → IsReadSo (is_file_path opened.access_path) file.spec → is_keyed file opened ≡ false
+pub by-arrival : (bases : Bases) (file : FileState) (opened : OpenState) → has_numbers file.spec ≡ true → IsReadSo (is_file_path opened.access_path) file.spec → is_keyed file opened ≡ false
     → formats_read bases file opened ≡ [] ∷ []
 by-arrival bases file opened numbered so not_keyed =
     formats-are bases file opened (numbered-one file.spec numbered) so ∙ ap (λ (b : Bool). key_parts 0 (own_parts b file.spec) ∷ []) not_keyed

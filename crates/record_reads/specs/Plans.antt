@@ -106,7 +106,7 @@ AsksOf m its to (Ok by) = AsksChain m its to by
 AsksOf m its to (Err NoMemory) = Unit {0}
 AsksOf m its to (Err (Refused reply)) = chained its m to ≡ Err reply
 
--- what the open's format shows of a record of its member; it is no row of a join
+-- what the format at which the open is shows of a record of its member; it is no row of a join
 abbrev pub record_shown : Memory → FileState → OpenState → (rrn : ℕ) → RecordRead
 record_shown m file opened rrn = read_as rrn (shown_in (bases_of m) m.members file.spec opened.format (unwrap_or (live_record opened.member rrn m) []) None)
 

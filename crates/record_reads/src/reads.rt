@@ -22,7 +22,7 @@ use crate::shown::record_shown;
 use field_types::names::Name;
 use field_types::values::Value;
 use file_catalogue::File;
-use job_table::Open;
+use job_table::{Open, OpenAt};
 use library_model::replies::Reply;
 use library_model::requests::{
     ChainRecord, ChainTo, Limit, LockOption, OpenOption, ReadEqual, ReadRecord,
@@ -218,14 +218,15 @@ fn plan_asked(
     let Some(found) = contents.find(opened, file, by.as_read()) else {
         return Err(Stop::Refused(by.nothing_found()));
     };
-    plan_record(contents, job, opened, file, lock, found.rrn)
+    let at = opened.at(found.format);
+    plan_record(contents, job, &at, file, lock, found.rrn)
 }
 
 /// The read of a record that was found, where no lock is in its way.
 fn plan_record(
     contents: &Contents,
     job: u32,
-    opened: &Open,
+    opened: &OpenAt<'_>,
     file: &File,
     lock: LockOption,
     rrn: u32,
@@ -252,7 +253,7 @@ fn plan_record(
 }
 
 /// What a read through the open asks of the locks.
-fn read_call(lock: LockOption, opened: &Open) -> Call
+fn read_call(lock: LockOption, opened: &OpenAt<'_>) -> Call
     ensures call { result ≡ read_call lock opened.now.state }
     ensures read { IsRead result }
 {
