@@ -1,5 +1,6 @@
 -- The positions of two formats together, place by place.
-use Rattle.std.proofs.Common.{◌≡◌, ℕ, zero, suc, ◌+◌, ◌≤◌, ◌<◌, ◌⊎◌, inl, inr, ◌++◌, List, [], ◌∷◌, length, drop, slice_get, refl, sym, ◌∙◌, ap, arith}
+use Rattle.std.proofs.Common.{◌≡◌, ℕ, zero, suc, ◌+◌, ◌≤◌, ◌<◌, ◌⊎◌, ◌||◌, nat_lt, Bool, true, false, append_assoc, inl, inr, ◌++◌, List, [], ◌∷◌, length, drop, slice_get, refl, sym, ◌∙◌, ap, arith}
+use Rattle.std.proofs.lemmas.Bool.{ltb-true}
 use Rattle.key_spec.specs.declared.KeyPart.{KeyPart}
 use Rattle.file_model.specs.KeyOrder.{either_parts}
 use Rattle.open_position.specs.Kept.{either_at}
@@ -48,3 +49,21 @@ either-end (suc n) [] [] few also = refl
 either-end (suc n) [] (other ∷ others) few also = either-end n [] others (omega arith) (omega (arith, also))
 either-end (suc n) (part ∷ parts) [] few also = either-end n parts [] (omega (arith, few)) (omega arith)
 either-end (suc n) (part ∷ parts) (other ∷ others) few also = either-end n parts others (omega (arith, few)) (omega (arith, also))
+
+-- one place more
+pub either-next : (place : ℕ) (parts others made more : List KeyPart) (part : KeyPart) → (nat_lt place (length parts) || nat_lt place (length others)) ≡ true
+    → part ≡ either_at (slice_get parts place) (slice_get others place) → more ≡ made ++ part ∷ []
+    → made ++ either_parts (drop place parts) (drop place others) ≡ either_parts parts others → more ++ either_parts (drop (place + 1) parts) (drop (place + 1) others) ≡ either_parts parts others
+either-next place parts others made more part within is pushed so_far =
+    let rest : List KeyPart = either_parts (drop (suc place) parts) (drop (suc place) others) in
+    let next : place + 1 ≡ suc place = omega arith in
+    (λ i. pushed i ++ either_parts (drop (next i) parts) (drop (next i) others))
+    ∙ append_assoc made (part ∷ []) rest
+    ∙ ap (λ (p : KeyPart). made ++ p ∷ rest) is
+    ∙ ap (λ (ps : List KeyPart). made ++ ps) (sym (either-step place parts others (one-of (nat_lt place (length parts)) (nat_lt place (length others)) refl refl within)))
+    ∙ so_far
+  where
+    one-of : (a b : Bool) → nat_lt place (length parts) ≡ a → nat_lt place (length others) ≡ b → (a || b) ≡ true → (place < length parts) ⊎ (place < length others)
+    one-of true b first second either = inl (ltb-true place (length parts) first)
+    one-of false true first second either = inr (ltb-true place (length others) second)
+    one-of false false first second either = absurd cc

@@ -1,6 +1,7 @@
 -- Of which images does a format of a file show the values? (DDS for Physical and Logical Files, "PFILE". That a record has a value in each of its fields
 -- is our own.)
-use Rattle.std.specs.Prelude.{ℕ, List}
+use Rattle.std.specs.Prelude.{ℕ, List, ◌≡◌, Some, slice_get}
+use Rattle.dds_logical.specs.declared.views.View.{View}
 use Rattle.record_fmt.specs.declared.formats.Format.{Format}
 use Rattle.physical_paths.specs.KeyedFiles.{IsRecord}
 use Rattle.dds_logical.specs.declared.views.LogicalSpec.TheVariants.{Simple, Multi, Join}

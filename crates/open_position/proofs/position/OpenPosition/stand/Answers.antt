@@ -9,7 +9,7 @@ use Rattle.open_position.proofs.position.OpenPosition.stand.Goals as goal
 
 pub give-requires : goal.give-requires
 give-requires c =
-    ap (λ (parts : List KeyPart). key_fault parts c.in-Values.field-0.now) c.self.invariant.merged_are
+    ap (λ (parts : List KeyPart). key_fault parts c.in-Values.values.now) c.self.invariant.merged_are
     ∙ subst (IsStandAt c.self.inside.formats.items) c.in-Values.is (in-one _ _ c.self.view_is (λ (formats : List (List KeyPart)). IsStandAt formats c.args.at) c.requires)
 
 pub set-requires-in-Values : goal.set-requires-in-Values
