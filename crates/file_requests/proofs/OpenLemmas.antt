@@ -26,7 +26,7 @@ use Rattle.library_parts.specs.Indexed.{IsReadSo, IsUnjoined}
 use Rattle.library_parts.specs.Reads.{MayReadSo}
 use Rattle.library_parts.specs.declared.stop.Stop.{Stop}
 use Rattle.library_parts.specs.declared.stop.Stop.TheVariants.{NoMemory, Refused}
-use Rattle.file_requests.specs.Opens.{GivesMember, file_plan, view_opens}
+use Rattle.file_requests.specs.Opens.{GivesMembers, file_plan, view_opens}
 
 -- ---- first the file
 
@@ -44,15 +44,15 @@ plan-file m job args =
     (named_or_refused args.file (file_named args.file m)) (λ file. members_by file.spec m job args file)
 
 -- what stops the look for the file stops the plan
-pub plan-stopped : (m : Memory) (job : ℕ) (args : OpenFile) (stop : Stop) → Shows {A = FileState} (Err stop) (file_plan m job args) → GivesMember (Err stop) (open_plan m job args)
+pub plan-stopped : (m : Memory) (job : ℕ) (args : OpenFile) (stop : Stop) → Shows {A = FileState} (Err stop) (file_plan m job args) → GivesMembers (Err stop) (open_plan m job args)
 plan-stopped m job args NoMemory shows = tt
 plan-stopped m job args (Refused reply) shows = plan-file m job args ∙ ap (λ (found : Result FileState Reply). found >>= λ file. members_by file.spec m job args file) shows
 
-pub plan-goes : (m : Memory) (job : ℕ) (args : OpenFile) (file : FileState) (result : Result ℕ Stop) → file_plan m job args ≡ Ok file → GivesMember result (members_by file.spec m job args file)
-    → GivesMember result (open_plan m job args)
+pub plan-goes : (m : Memory) (job : ℕ) (args : OpenFile) (file : FileState) (result : Result (List ℕ) Stop) → file_plan m job args ≡ Ok file → GivesMembers result (members_by file.spec m job args file)
+    → GivesMembers result (open_plan m job args)
 plan-goes m job args file result found gives =
     let whole = plan-file m job args ∙ ap (λ (f : Result FileState Reply). f >>= λ file. members_by file.spec m job args file) found in
-    subst (λ (wanted : Result (List ℕ) Reply). GivesMember result wanted) (sym whole) gives
+    subst (λ (wanted : Result (List ℕ) Reply). GivesMembers result wanted) (sym whole) gives
 
 pub opens-there : (files : Named FileState) (number : ℕ) (file : FileState) (o : Option FileState) → o ≡ Some file → OpensBy files number file file.spec → OpensMember files number o
 opens-there files number file o there opens = subst (λ (found : Option FileState). OpensMember files number found) (sym there) opens
@@ -88,13 +88,13 @@ pub members-physical : (spec : FileSpec) (m : Memory) (job : ℕ) (args : OpenFi
 members-physical (PhysicalFile spec) m job args file is = refl
 members-physical (LogicalFile view) m job args file is = absurd cc
 
-pub opens-physical : (spec : FileSpec) (files : Named FileState) (file : FileState) (result : Result ℕ Stop) → IsNoView spec → IfOk result (λ member. has_number member file.members ≡ true)
-    → IfOk result (λ member. OpensBy files member file spec)
+pub opens-physical : (spec : FileSpec) (files : Named FileState) (file : FileState) (result : Result (List ℕ) Stop) → IsNoView spec → IfOk result (λ members. (number : ℕ) × (members ≡ number ∷ []) × (has_number number file.members ≡ true))
+    → IfOk result (λ members. OpensBy files members file spec)
 opens-physical spec files file (Err stop) is has = tt
 opens-physical (PhysicalFile spec) files file (Ok member) is has = has
 opens-physical (LogicalFile view) files file (Ok member) is has = absurd cc
 
-pub so-physical : (spec : FileSpec) (by_path : Bool) (result : Result ℕ Stop) → IsNoView spec → OnOk result (IsReadSo by_path spec)
+pub so-physical : (spec : FileSpec) (by_path : Bool) (result : Result (List ℕ) Stop) → IsNoView spec → OnOk result (IsReadSo by_path spec)
 so-physical spec by_path (Err stop) is = tt
 so-physical (PhysicalFile spec) by_path (Ok member) is = tt
 so-physical (LogicalFile view) by_path (Ok member) is = absurd cc
@@ -106,14 +106,14 @@ pub members-logical : (spec : FileSpec) (view : LogicalSpec) (m : Memory) (job :
 members-logical (PhysicalFile spec) view m job args file is = absurd cc
 members-logical (LogicalFile other) view m job args file is = let same : other ≡ view = cc in ap (λ (v : LogicalSpec). logical_members m job args v) same
 
-pub opens-logical : (spec : FileSpec) (view : LogicalSpec) (files : Named FileState) (file : FileState) (result : Result ℕ Stop) → Some view ≡ logical_in spec
-    → IfOk result (λ member. base_members (bases_in files) view ≡ member ∷ []) → IfOk result (λ member. OpensBy files member file spec)
+pub opens-logical : (spec : FileSpec) (view : LogicalSpec) (files : Named FileState) (file : FileState) (result : Result (List ℕ) Stop) → Some view ≡ logical_in spec
+    → IfOk result (λ members. base_members (bases_in files) view ≡ members) → IfOk result (λ members. OpensBy files members file spec)
 opens-logical spec view files file (Err stop) is over = tt
 opens-logical (PhysicalFile spec) view files file (Ok member) is over = absurd cc
 opens-logical (LogicalFile other) view files file (Ok member) is over =
-    let same : other ≡ view = cc in subst (λ (v : LogicalSpec). base_members (bases_in files) v ≡ member ∷ []) (sym same) over
+    let same : other ≡ view = cc in subst (λ (v : LogicalSpec). base_members (bases_in files) v ≡ member) (sym same) over
 
-pub so-logical : (spec : FileSpec) (view : LogicalSpec) (by_path : Bool) (result : Result ℕ Stop) → Some view ≡ logical_in spec → OnOk result (IsTrue by_path) → OnOk result (IsReadSo by_path spec)
+pub so-logical : (spec : FileSpec) (view : LogicalSpec) (by_path : Bool) (result : Result (List ℕ) Stop) → Some view ≡ logical_in spec → OnOk result (IsTrue by_path) → OnOk result (IsReadSo by_path spec)
 so-logical spec view by_path (Err stop) is so = tt
 so-logical (PhysicalFile spec) view by_path (Ok member) is so = absurd cc
 so-logical (LogicalFile other) view by_path (Ok member) is so = so
@@ -130,20 +130,22 @@ logical-opens : (m : Memory) (job : ℕ) (args : OpenFile) (spec : LogicalSpec) 
 logical-opens m job args (Simple view) unjoined =
     three-then (refuse_if (not (same_name args.member args.file)) (NoSuchName (Name args.member))) (refuse_if (not (is_file_path args.access_path)) WrongOpen)
     (may_commit_all args.commit (base_members (bases_of m) (Simple view)) (job_of job m) m) (base_members (bases_of m) (Simple view))
-logical-opens m job args (Multi views) unjoined = absurd unjoined
+logical-opens m job args (Multi views) unjoined =
+    three-then (refuse_if (not (same_name args.member args.file)) (NoSuchName (Name args.member))) (refuse_if (not (is_file_path args.access_path)) WrongOpen)
+    (may_commit_all args.commit (base_members (bases_of m) (Multi views)) (job_of job m) m) (base_members (bases_of m) (Multi views))
 logical-opens m job args (Join view) unjoined = absurd unjoined
 
--- the same with the one member
-module _ (m : Memory) (job : ℕ) (args : OpenFile) (spec : LogicalSpec) (member : ℕ) (unjoined : IsUnjoined (LogicalFile spec)) (under : base_members (bases_of m) spec ≡ member ∷ []) where
-  view-opens : (opens : Result Bool Reply) → view_opens m job args (member ∷ []) ≡ opens → logical_members m job args spec ≡ (opens >>= λ _. Ok (member ∷ []))
+-- the same with the members as they were found
+module _ (m : Memory) (job : ℕ) (args : OpenFile) (spec : LogicalSpec) (members : List ℕ) (unjoined : IsUnjoined (LogicalFile spec)) (under : base_members (bases_of m) spec ≡ members) where
+  view-opens : (opens : Result Bool Reply) → view_opens m job args members ≡ opens → logical_members m job args spec ≡ (opens >>= λ _. Ok members)
   view-opens opens is =
       logical-opens m job args spec unjoined
-      ∙ ap (λ (members : List ℕ). view_opens m job args members >>= λ _. Ok members) under
-      ∙ ap (λ (r : Result Bool Reply). r >>= λ _. Ok (member ∷ [])) is
+      ∙ ap (λ (ms : List ℕ). view_opens m job args ms >>= λ _. Ok ms) under
+      ∙ ap (λ (r : Result Bool Reply). r >>= λ _. Ok members) is
 
-  pub logical-goes : view_opens m job args (member ∷ []) ≡ Ok true → logical_members m job args spec ≡ Ok (member ∷ [])
+  pub logical-goes : view_opens m job args members ≡ Ok true → logical_members m job args spec ≡ Ok members
   logical-goes is = view-opens (Ok true) is
 
-  pub logical-stopped : (stop : Stop) → Allows (Err stop) (view_opens m job args (member ∷ [])) → GivesMember (Err stop) (logical_members m job args spec)
+  pub logical-stopped : (stop : Stop) → Allows (Err stop) (view_opens m job args members) → GivesMembers (Err stop) (logical_members m job args spec)
   logical-stopped NoMemory allowed = tt
   logical-stopped (Refused reply) allowed = view-opens (Err reply) allowed

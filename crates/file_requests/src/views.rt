@@ -38,7 +38,7 @@ struct NewView {
     draft: Draft,
 }
 
-/// Makes a logical file. So far its source describes one format over one physical file.
+/// Makes a logical file. So far its source describes no join.
 pub fn create_logical_file(
     contents: &mut Contents,
     job: u32,
@@ -121,7 +121,7 @@ fn may_be_named(contents: &Contents, name: &Name) -> Result<(), Stop>
     Ok(())
 }
 
-/// What the source of that name describes, which has one format.
+/// What the source of that name describes, which is no join.
 fn view_named(contents: &Contents, sources: &Sources, source: &Name) -> Result<DescribedView, Stop>
     requires { IsUnjoinedSource sources.now (memory_of contents.now.state) source.now }
     ensures plan { Gives result (view_named sources.now (memory_of contents.now.state) source.now) }
@@ -161,7 +161,7 @@ fn described_may_stand(contents: &Contents, described: &DescribedView) -> Result
     may_stand(contents, described.spec())
 }
 
-/// The refusal where its base would have too many paths, an open commit cycle has changed a record of it, or a restart might bring
+/// The refusal where one of its bases would have too many paths, an open commit cycle has changed a record of it, or a restart might bring
 /// equal keys back that may not be.
 fn may_stand(contents: &Contents, view: &LogicalSpec) -> Result<(), Stop>
     requires { IsUnjoined (LogicalFile view.now) }
@@ -170,7 +170,7 @@ fn may_stand(contents: &Contents, view: &LogicalSpec) -> Result<(), Stop>
 {
     let many = contents.has_many_paths(view)?;
     let changer = contents.changer_under(view);
-    let undone = undone_under(contents, view);
+    let undone = undone_under(contents, view)?;
     allowed_by(many, changer, undone)
 }
 
@@ -194,14 +194,25 @@ fn allowed_by(many: bool, changer: Option<u32>, undone: Option<u32>) -> Result<(
     Ok(())
 }
 
-/// The member under a UNIQUE file that isn't journaled, and was changed since it was, with two records or more then.
-fn undone_under(contents: &Contents, view: &LogicalSpec) -> Option<u32>
+/// The member under a UNIQUE file that isn't journaled, and was changed since it was, with two records or more then. A file of several
+/// formats isn't unique.
+fn undone_under(contents: &Contents, view: &LogicalSpec) -> Result<Option<u32>, AllocError>
     requires { IsUnjoined (LogicalFile view.now) }
-    ensures { result ≡ (if is_unique (logical_paths (bases_of (memory_of contents.now.state)) view.now) then first_undone (memory_of contents.now.state) (base_members (bases_of (memory_of contents.now.state)) view.now) else None) }
+    ensures { IfOk result (λ undone. undone ≡ (if is_unique (logical_paths (bases_of (memory_of contents.now.state)) view.now) then first_undone (memory_of contents.now.state) (base_members (bases_of (memory_of contents.now.state)) view.now) else None)) }
 {
-    let member = contents.member_under(view);
-    let undone = undone_number(contents, member);
-    undone_if(is_unique(view), undone)
+    let members = contents.members_under(view)?;
+    let undone = first_undone(contents, members.as_slice());
+    Ok(undone_if(is_unique(view), undone))
+}
+
+/// The first of the members, where it isn't journaled, and was changed since it was, with two records or more then.
+fn first_undone(contents: &Contents, members: &[u32]) -> Option<u32>
+    ensures { result ≡ first_undone (memory_of contents.now.state) members.now }
+{
+    match members {
+        [] => None,
+        [member, ..] => undone_number(contents, *member),
+    }
 }
 
 fn undone_if(unique: bool, undone: Option<u32>) -> Option<u32>
@@ -217,7 +228,8 @@ fn is_unique(view: &LogicalSpec) -> bool
 {
     match view {
         LogicalSpec::Simple(view) => view.keys.unique,
-        _ => unreachable!(),
+        LogicalSpec::Multi(_) => false,
+        LogicalSpec::Join(_) => unreachable!(),
     }
 }
 

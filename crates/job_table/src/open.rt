@@ -14,6 +14,7 @@ ghost use Rattle.job_table.specs.Opens.{IsNewReads, order_by};
 
 use crate::opens::OpenChange;
 use crate::reads::OpenReads;
+use field_types::lists::ListOf;
 use field_types::names::Name;
 use file_cursor::places::Hit;
 use library_model::requests::{AccessPath, OpenFile, OpenOption};
@@ -27,7 +28,7 @@ pub struct Open {
     number: u32,
     file: Name,
     /// The members that it is over, in the order of the file's formats.
-    members: Vec<u32>,
+    members: ListOf<u32>,
     /// The format of the record that was read last, and the member of that record; before any read the first.
     format: u16,
     member: u32,
@@ -50,7 +51,7 @@ impl Model for Open {
       state = record {
         number = o.number;
         file = o.file;
-        members = o.members.items;
+        members = o.members;
         format = o.format;
         member = o.member;
         option = o.option;
@@ -70,9 +71,9 @@ impl Model for Open {
 
 impl Open {
     /// An open that has read nothing.
-    pub fn new(args: &OpenFile, number: u32, members: Vec<u32>, reads: OpenReads) -> Open
+    pub fn new(args: &OpenFile, number: u32, members: ListOf<u32>, reads: OpenReads) -> Open
         requires { IsNewReads args.now.commit reads }
-        ensures state { result.state ≡ new_open args.now number members.items }
+        ensures state { result.state ≡ new_open args.now number members }
         ensures order { result.order ≡ order_by number reads }
     {
         let first = first_of(members.as_slice());

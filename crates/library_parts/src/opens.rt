@@ -20,6 +20,7 @@ ghost use Rattle.library_parts.specs.Reads.{ReadsFor};
 use crate::contents::Contents;
 use crate::cycles::level_due;
 use crate::leave::leave;
+use field_types::lists::ListOf;
 use field_types::names::Name;
 use job_table::OpenReads;
 use library_model::requests::OpenFile;
@@ -36,13 +37,13 @@ impl Contents {
     }
 
     /// Opens a file for the job over these members, which reads in that way.
-    pub fn add_open(&mut self, job: u32, args: &OpenFile, members: Vec<u32>, reads: OpenReads)
+    pub fn add_open(&mut self, job: u32, args: &OpenFile, members: ListOf<u32>, reads: OpenReads)
         requires running { IsTrue (is_running (job_at job self.old.state.jobs)) }
         requires few { length (job_of job (memory_of self.old.state)).opens < MOST_OPENS }
         requires numbered { (job_of job (memory_of self.old.state)).opened < LAST_OPEN }
-        requires there { OpensMembers self.old.state.files members.items (named args.now.file self.old.state.files) }
-        requires reads { ReadsFor self.old args.now members.items reads }
-        ensures memory { memory_of self.new.state ≡ with_job job (with_open args.now members.items) (memory_of self.old.state) }
+        requires there { OpensMembers self.old.state.files members (named args.now.file self.old.state.files) }
+        requires reads { ReadsFor self.old args.now members reads }
+        ensures memory { memory_of self.new.state ≡ with_job job (with_open args.now members) (memory_of self.old.state) }
         ensures entries { self.new.state.entries ≡ self.old.state.entries }
         ensures room { self.new.room ≡ record self.old.room { orders = self.new.room.orders } }
     {

@@ -21,6 +21,7 @@ ghost use Rattle.library_parts.specs.Indexed.{IsUnjoined};
 use crate::contents::Contents;
 use crate::stop::Stop;
 use dds_logical::{LogicalSpec, View};
+use field_types::lists::ListOf;
 use field_types::names::Name;
 use file_catalogue::{File, MemberStatus, Members};
 use file_model::paths::PathSpec;
@@ -80,11 +81,11 @@ impl Contents {
     }
 
     /// The numbers of the members that a logical file is over, in the order of its formats.
-    pub fn members_under(&self, view: &LogicalSpec) -> Result<Vec<u32>, AllocError>
+    pub fn members_under(&self, view: &LogicalSpec) -> Result<ListOf<u32>, AllocError>
         requires { IsUnjoined (LogicalFile view.now) }
-        ensures { IfOk result (λ members. members.items ≡ base_members (bases_of (memory_of self.now.state)) view.now) }
+        ensures { IfOk result (λ members. members ≡ base_members (bases_of (memory_of self.now.state)) view.now) }
     {
-        let mut members = Vec::new(self.alloc);
+        let mut members = ListOf::new(self.alloc);
         let count = base_count(view);
         for place in 0..count {
             members.push(self.base_at(view, place))?;

@@ -18,13 +18,13 @@ pub invariant_of-self : goal.invariant_of-self
 invariant_of-self c =
     let inside = c.self.inside in
     let args = c.args.args.now in
-    let holds = opens-members inside.catalogue.files args c.args.members.items c.self.invariant.2.views (rw (← c.self.view_is) at c.requires.there) in
+    let holds = opens-members inside.catalogue.files args c.args.members c.self.invariant.2.views (rw (← c.self.view_is) at c.requires.there) in
     let reads = rw (← c.self.view_is) at c.requires.reads in
     let order = order_by ((job_of_number c.args.job inside.jobs.jobs).opened + 1) c.args.reads in
     rw c.add_open.ensures (
-      AreOne-with_open _ _ _ args c.args.members.items c.self.invariant.0 holds,
+      AreOne-with_open _ _ _ args c.args.members c.self.invariant.0 holds,
       HasDue-kept _ _ _ _ _ (λ job. refl) c.self.invariant.1,
-      IsIndexed-with_open _ _ _ _ _ _ _ args c.args.members.items order
-          (reads-renumbered (bases_in inside.catalogue.files) inside.paths.paths (new_open args 0 c.args.members.items) (order_by 0 c.args.reads) order (named args.file inside.catalogue.files) refl refl reads.order)
+      IsIndexed-with_open _ _ _ _ _ _ _ args c.args.members order
+          (reads-renumbered (bases_in inside.catalogue.files) inside.paths.paths (new_open args 0 c.args.members) (order_by 0 c.args.reads) order (named args.file inside.catalogue.files) refl refl reads.order)
           c.self.invariant.2,
     )
