@@ -1,13 +1,13 @@
 -- Which sources can be made a file so far: all but those of joins. (DDS for Physical and Logical Files, "PFILE", "JFILE".
 -- That the others have to wait is our own.)
-use Rattle.std.specs.Prelude.{ℕ, Bool, true, not, ◌&&◌, List, Result, Ok, Err, IsTrue}
+use Rattle.std.specs.Prelude.{ℕ, Bool, true, not, Unit, ⊥, List, Result, Ok, Err, IsTrue}
 use Rattle.std.specs.List.{list_all}
 use Rattle.dds_source.specs.declared.faults.DdsFault.{DdsFault}
 use Rattle.dds_source.specs.declared.specifications.Source.{Source}
 use Rattle.dds_source.specs.Reading.{source_of}
 use Rattle.dds_logical.specs.declared.views.LogicalSpec.{LogicalSpec}
 use Rattle.dds_logical.specs.declared.views.LogicalSpec.TheVariants.{Simple, Multi, Join}
-use Rattle.dds_logical.specs.FormatLines.{FormatLines, formats_in, is_join_file, is_multi_format}
+use Rattle.dds_logical.specs.FormatLines.{FormatLines, formats_in, is_join_file}
 use Rattle.library_model.specs.declared.sources.NamedSource.{NamedSource}
 
 -- no join

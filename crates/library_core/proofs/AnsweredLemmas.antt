@@ -1,4 +1,4 @@
--- What the sources of an input describe as logical files, where they are answered: files of one format over one physical file.
+-- What the sources of an input describe as logical files, where they are answered: files of formats, each over one physical file.
 use Rattle.std.proofs.Common.{◌≡◌, ℕ, IsTrue, List, Option, Some, None, IfSome, Result, Ok, Err, IfOk, refl}
 use Rattle.dds_source.specs.Reading.{source_of}
 use Rattle.dds_source.specs.declared.faults.DdsFault.{DdsFault}
@@ -18,7 +18,7 @@ use Rattle.file_requests.specs.Views.{IsUnjoinedSource}
 
 unjoined-is : (spec : LogicalSpec) → IsUnjoinedFile spec → IsUnjoined (LogicalFile spec)
 unjoined-is (Simple view) unjoined = tt
-unjoined-is (Multi views) unjoined = unjoined
+unjoined-is (Multi views) unjoined = tt
 unjoined-is (Join view) unjoined = unjoined
 
 -- whatever physical files there are

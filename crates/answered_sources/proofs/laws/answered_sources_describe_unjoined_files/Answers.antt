@@ -1,5 +1,5 @@
 use Rattle.answered_sources.proofs.SimpleLemmas.{named-answered, text-unjoined}
-use Rattle.answered_sources.proofs.laws.answered_sources_describe_simple_files.Goals as goal
+use Rattle.answered_sources.proofs.laws.answered_sources_describe_unjoined_files.Goals as goal
 
 pub returns-clause-unjoined : goal.returns-clause-unjoined
 returns-clause-unjoined c = text-unjoined
