@@ -37,6 +37,7 @@ pub mod IndexKeyed
 pub mod IndexNew
 pub mod RemadeLemmas
 pub mod AttachLemmas
+pub mod UnderLemmas
 pub mod UndoingLemmas
 pub mod ReadLemmas
 pub mod PlaceLemmas

@@ -2,6 +2,7 @@
 //! file, and the members that a logical file is over.
 ghost use Rattle.std.specs.Prelude.{◌≡◌, ℕ, ◌<◌, nat_lt, true, Some, [], ◌∷◌, ◌++◌, length, slice_get, IfOk};
 ghost use Rattle.std.specs.List.{list_any};
+ghost use Rattle.dds_logical.specs.declared.views.LogicalSpec.TheVariants.{Multi};
 ghost use Rattle.logical_model.specs.Bases.{LogicalFile, base_members, base_names};
 ghost use Rattle.logical_model.specs.FilePaths.{is_over, logical_paths};
 ghost use Rattle.logical_model.specs.SamePaths.{count_paths};
@@ -13,7 +14,7 @@ ghost use Rattle.library_steps.specs.Refusals.{named_or_refused};
 ghost use Rattle.library_steps.specs.SlotChange.{status_among};
 ghost use Rattle.library_steps.specs.State.{file_named, memory_of};
 ghost use Rattle.library_steps.specs.Uses.{changer_of_any, user_of, user_of_any, user_of_logical};
-ghost use Rattle.job_table.specs.Users.{least_of_members};
+ghost use Rattle.job_table.specs.Users.{first_changer, least_of_members};
 ghost use Rattle.logical_paths.specs.Steps.{own_path};
 ghost use Rattle.library_parts.specs.Answers.{Shows};
 ghost use Rattle.library_parts.specs.Indexed.{IsUnjoined};
@@ -101,9 +102,17 @@ impl Contents {
     {
         match view {
             LogicalSpec::Simple(view) => self.base_of_view(view),
-            LogicalSpec::Multi(views) => self.base_of_view(&views.as_slice()[place]),
+            LogicalSpec::Multi(views) => self.base_among(views.as_slice(), place),
             LogicalSpec::Join(_) => unreachable!(),
         }
+    }
+
+    /// The number of the member under one of several formats.
+    fn base_among(&self, views: &[View], place: usize) -> u32
+        requires { place < length views.now }
+        ensures { slice_get (base_members (bases_of (memory_of self.now.state)) (Multi views.now)) place ≡ Some result }
+    {
+        self.base_of_view(&views[place])
     }
 
     /// The number of the member under a format.
@@ -164,9 +173,16 @@ impl Contents {
         while left > 0 {
             left -= 1;
             let member = self.base_at(view, left);
-            least = lesser(self.jobs.first_changer(member), least);
+            least = lesser(self.changer_of(member), least);
         }
         least
+    }
+
+    /// The least job whose open commit cycle has changed a record of the member.
+    fn changer_of(&self, member: u32) -> Option<u32>
+        ensures { result ≡ first_changer member (memory_of self.now.state).jobs }
+    {
+        self.jobs.first_changer(member)
     }
 
     /// The least job that uses a logical file: by an open of it, or by a change of a record that it is over.

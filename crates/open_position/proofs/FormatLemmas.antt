@@ -1,11 +1,11 @@
 -- The positions of two formats together, place by place.
-use Rattle.std.proofs.Common.{◌≡◌, ℕ, zero, suc, ◌+◌, ◌≤◌, ◌<◌, ◌⊎◌, ◌||◌, nat_lt, Bool, true, false, append_assoc, inl, inr, ◌++◌, List, [], ◌∷◌, length, drop, slice_get, refl, sym, ◌∙◌, ap, arith}
-use Rattle.std.proofs.lemmas.Bool.{ltb-true}
+use Rattle.std.proofs.Common.{◌≡◌, ℕ, zero, suc, ◌+◌, ◌≤◌, ◌<◌, ◌⊎◌, nat_lt, max, Bool, true, false, append_assoc, inl, inr, ◌++◌, List, [], ◌∷◌, None, length, drop, slice_get, refl, sym, subst, ◌∙◌, ap, arith}
+use Rattle.std.proofs.lemmas.Bool.{ltb-false, ltb-true}
 use Rattle.key_spec.specs.declared.KeyPart.{KeyPart}
 use Rattle.file_model.specs.KeyOrder.{either_parts}
 use Rattle.open_position.specs.Kept.{either_at}
 
-none-left : {A : Type 0} (n : ℕ) → drop n ([] {A = A}) ≡ []
+none-left : {A : Type 0} (n : ℕ) → drop {A = A} n [] ≡ []
 none-left zero = refl
 none-left (suc n) = refl
 
@@ -27,14 +27,18 @@ either-step (suc n) [] [] within = absurd (elim within [
   | inl low ↦ omega (arith, low)
   | inr low ↦ omega (arith, low)
 ])
-either-step (suc n) [] (other ∷ others) within = either-step n [] others (elim within [
-  | inl low ↦ absurd (omega (arith, low))
-  | inr low ↦ inr (omega (arith, low))
-])
-either-step (suc n) (part ∷ parts) [] within = either-step n parts [] (elim within [
-  | inl low ↦ inl (omega (arith, low))
-  | inr low ↦ absurd (omega (arith, low))
-])
+either-step (suc n) [] (other ∷ others) within =
+    subst (λ (ps : List KeyPart). either_parts ps (drop n others) ≡ either_at None (slice_get others n) ∷ drop (suc n) others) (none-left n)
+    (either-step n [] others (elim within [
+      | inl low ↦ absurd (omega (arith, low))
+      | inr low ↦ inr (omega (arith, low))
+    ]))
+either-step (suc n) (part ∷ parts) [] within =
+    subst (λ (ps : List KeyPart). either_parts (drop n parts) ps ≡ either_at (slice_get parts n) None ∷ either_parts (drop (suc n) parts) []) (none-left n)
+    (either-step n parts [] (elim within [
+      | inl low ↦ inl (omega (arith, low))
+      | inr low ↦ absurd (omega (arith, low))
+    ]))
 either-step (suc n) (part ∷ parts) (other ∷ others) within = either-step n parts others (elim within [
   | inl low ↦ inl (omega (arith, low))
   | inr low ↦ inr (omega (arith, low))
@@ -46,12 +50,12 @@ either-end zero [] [] few also = refl
 either-end zero [] (other ∷ others) few also = absurd (omega (arith, also))
 either-end zero (part ∷ parts) others few also = absurd (omega (arith, few))
 either-end (suc n) [] [] few also = refl
-either-end (suc n) [] (other ∷ others) few also = either-end n [] others (omega arith) (omega (arith, also))
-either-end (suc n) (part ∷ parts) [] few also = either-end n parts [] (omega (arith, few)) (omega arith)
+either-end (suc n) [] (other ∷ others) few also = subst (λ (ps : List KeyPart). either_parts ps (drop n others) ≡ []) (none-left n) (either-end n [] others (omega arith) (omega (arith, also)))
+either-end (suc n) (part ∷ parts) [] few also = subst (λ (ps : List KeyPart). either_parts (drop n parts) ps ≡ []) (none-left n) (either-end n parts [] (omega (arith, few)) (omega arith))
 either-end (suc n) (part ∷ parts) (other ∷ others) few also = either-end n parts others (omega (arith, few)) (omega (arith, also))
 
 -- one place more
-pub either-next : (place : ℕ) (parts others made more : List KeyPart) (part : KeyPart) → (nat_lt place (length parts) || nat_lt place (length others)) ≡ true
+pub either-next : (place : ℕ) (parts others made more : List KeyPart) (part : KeyPart) → place < max (length parts) (length others)
     → part ≡ either_at (slice_get parts place) (slice_get others place) → more ≡ made ++ part ∷ []
     → made ++ either_parts (drop place parts) (drop place others) ≡ either_parts parts others → more ++ either_parts (drop (place + 1) parts) (drop (place + 1) others) ≡ either_parts parts others
 either-next place parts others made more part within is pushed so_far =
@@ -60,10 +64,9 @@ either-next place parts others made more part within is pushed so_far =
     (λ i. pushed i ++ either_parts (drop (next i) parts) (drop (next i) others))
     ∙ append_assoc made (part ∷ []) rest
     ∙ ap (λ (p : KeyPart). made ++ p ∷ rest) is
-    ∙ ap (λ (ps : List KeyPart). made ++ ps) (sym (either-step place parts others (one-of (nat_lt place (length parts)) (nat_lt place (length others)) refl refl within)))
+    ∙ ap (λ (ps : List KeyPart). made ++ ps) (sym (either-step place parts others (one-of (nat_lt place (length parts)) refl)))
     ∙ so_far
   where
-    one-of : (a b : Bool) → nat_lt place (length parts) ≡ a → nat_lt place (length others) ≡ b → (a || b) ≡ true → (place < length parts) ⊎ (place < length others)
-    one-of true b first second either = inl (ltb-true place (length parts) first)
-    one-of false true first second either = inr (ltb-true place (length others) second)
-    one-of false false first second either = absurd cc
+    one-of : (b : Bool) → nat_lt place (length parts) ≡ b → (place < length parts) ⊎ (place < length others)
+    one-of true is = inl (ltb-true place (length parts) is)
+    one-of false is = inr (omega (arith, within, ltb-false place (length parts) is))

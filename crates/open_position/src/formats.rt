@@ -42,10 +42,8 @@ fn either_parts(
     ensures { IfOk result (λ made. made ≡ either_parts parts.now others.now) }
 {
     let mut made = KeyParts::new(alloc);
-    let mut place = 0;
-    while place < parts.len() || place < others.len() {
+    for place in 0..parts.len().max(others.len()) {
         made.push(either_at(parts, others, place))?;
-        place += 1;
     }
     Ok(made)
 }
