@@ -1,5 +1,5 @@
 //! The image of a record from the values that a request gives, by what its file is.
-ghost use Rattle.std.specs.Prelude.{◌≡◌, Some, IfOk, IsSome};
+ghost use Rattle.std.specs.Prelude.{◌≡◌, ◌<◌, Some, IfOk, IsSome, length};
 ghost use Rattle.std.specs.Option.{ForSome, option_copied};
 ghost use Rattle.record_fmt.specs.Records.{record_given};
 ghost use Rattle.file_model.specs.Views.{base_image};
@@ -142,28 +142,28 @@ fn format_image(
 {
     match spec {
         LogicalSpec::Simple(view) => image_over(contents, view, given, old),
-        LogicalSpec::Multi(views) => image_among(contents, views.as_slice(), number, given, old),
+        LogicalSpec::Multi(views) => {
+            image_among(contents, views.as_slice(), usize::from(number), given, old)
+        }
         LogicalSpec::Join(_) => unreachable!(),
     }
 }
 
-/// The same by the format of that number among several.
+/// The same by the format at that place among several.
 fn image_among(
     contents: &Contents,
     views: &[View],
-    number: u16,
+    place: usize,
     given: &[Option<Value>],
     old: Option<&[u8]>,
 ) -> Result<Image, Stop>
-    requires written { IsWrittenIn contents.now.state.files (LogicalFile (Multi views.now)) number }
-    requires old { ForSome old (λ image. HoldsRecord (fields_under (bases_of (memory_of contents.now.state)) (LogicalFile (Multi views.now)) number) image.now) }
-    ensures packed { Gives result (packed (given_in (bases_of (memory_of contents.now.state)) (LogicalFile (Multi views.now)) number given.now (option_copied old.entry))) }
-    ensures holds { IfOk result (λ image. HoldsRecord (fields_under (bases_of (memory_of contents.now.state)) (LogicalFile (Multi views.now)) number) image) }
+    requires within { place < length views.now }
+    requires written { IsWrittenIn contents.now.state.files (LogicalFile (Multi views.now)) place }
+    requires old { ForSome old (λ image. HoldsRecord (fields_under (bases_of (memory_of contents.now.state)) (LogicalFile (Multi views.now)) place) image.now) }
+    ensures packed { Gives result (packed (given_in (bases_of (memory_of contents.now.state)) (LogicalFile (Multi views.now)) place given.now (option_copied old.entry))) }
+    ensures holds { IfOk result (λ image. HoldsRecord (fields_under (bases_of (memory_of contents.now.state)) (LogicalFile (Multi views.now)) place) image) }
 {
-    match views.get(usize::from(number)) {
-        Some(view) => image_over(contents, view, given, old),
-        None => unreachable!(),
-    }
+    image_over(contents, &views[place], given, old)
 }
 
 /// The image of a record of the file that a format is over.

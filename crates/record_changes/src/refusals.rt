@@ -1,5 +1,5 @@
 //! What refuses a change of a record, beside what the library refuses to all requests.
-ghost use Rattle.std.specs.Prelude.{◌≡◌, [], ◌∷◌, IfOk, IsTrue};
+ghost use Rattle.std.specs.Prelude.{◌≡◌, [], ◌∷◌, Some, cond, map, IfOk, IsTrue};
 ghost use Rattle.member_slots.specs.declared.slot.Slot.TheVariants.{Live, Deleted};
 ghost use Rattle.std.specs.List.{position};
 ghost use Rattle.std.specs.Str.{bytes_eq};
@@ -18,7 +18,7 @@ ghost use Rattle.library_parts.specs.Answers.{Allows, Gives, MayAllow};
 ghost use Rattle.library_parts.specs.Finds.{IsFormatIn};
 ghost use Rattle.record_changes.specs.Places.{FitsMember};
 
-use dds_logical::LogicalSpec;
+use dds_logical::{LogicalSpec, View};
 use field_types::names::Name;
 use field_types::texts::Image;
 use file_catalogue::{File, FileBody};
@@ -70,10 +70,7 @@ fn place_of_view(spec: &LogicalSpec, name: Name) -> Option<usize>
 {
     match spec {
         LogicalSpec::Simple(view) => only_place(&view.format.name, name),
-        LogicalSpec::Multi(views) => views
-            .as_slice()
-            .iter()
-            .position(|view| name == view.format.name),
+        LogicalSpec::Multi(views) => place_among(views.as_slice(), name),
         LogicalSpec::Join(view) => only_place(&view.format.name, name),
     }
 }
@@ -82,7 +79,27 @@ fn place_of_view(spec: &LogicalSpec, name: Name) -> Option<usize>
 fn only_place(format: &Name, name: Name) -> Option<usize>
     ensures { result ≡ position (bytes_eq name) (format.now ∷ []) }
 {
-    if name == *format { Some(0) } else { None }
+    place_or(name, format, 0, None)
+}
+
+/// The place of the first of several formats that has the name.
+fn place_among(views: &[View], name: Name) -> Option<usize>
+    ensures { result ≡ position (bytes_eq name) (map (λ view. view.format.name) views.now) }
+{
+    let mut found = None;
+    let mut left = views.len();
+    while left > 0 {
+        left -= 1;
+        found = place_or(name, &views[left].format.name, left, found);
+    }
+    found
+}
+
+/// The place, where the format has the name, or that of another.
+fn place_or(name: Name, format: &Name, place: usize, other: Option<usize>) -> Option<usize>
+    ensures { result ≡ cond (bytes_eq name format.now) (Some place) other }
+{
+    if name == *format { Some(place) } else { other }
 }
 
 /// An open for input changes nothing.

@@ -1,5 +1,5 @@
 //! What a record shows through a format of a file.
-ghost use Rattle.std.specs.Prelude.{◌≡◌, true, is_some, length, None, Some, IfOk, slice_get};
+ghost use Rattle.std.specs.Prelude.{◌≡◌, ◌<◌, true, is_some, length, None, Some, IfOk, slice_get};
 ghost use Rattle.key_order.specs.KeyFields.{AreBytes};
 ghost use Rattle.member_slots.specs.Members.{NumberedMembers, member_of};
 ghost use Rattle.record_fmt.specs.Layout.{record_length};
@@ -120,26 +120,26 @@ fn shown_logical(
 {
     match spec {
         LogicalSpec::Simple(view) => shown_view(alloc, view, rrn, image),
-        LogicalSpec::Multi(views) => shown_among(alloc, views.as_slice(), number, rrn, image),
+        LogicalSpec::Multi(views) => {
+            shown_among(alloc, views.as_slice(), usize::from(number), rrn, image)
+        }
         LogicalSpec::Join(_) => unreachable!(),
     }
 }
 
-/// What the format of that number among several shows of a record of its base file.
+/// What the format at that place among several shows of a record of its base file.
 fn shown_among(
     alloc: Global,
     views: &[View],
-    number: u16,
+    place: usize,
     rrn: u32,
     image: &[u8],
 ) -> Result<RecordRead, AllocError>
-    requires { ShowsImage (LogicalFile (Multi views.now)) number image.now }
-    ensures { IfOk result (λ shown. shown ≡ read_as rrn (shown_by (slice_get views.now number) image.now)) }
+    requires within { place < length views.now }
+    requires shows { ShowsImage (LogicalFile (Multi views.now)) place image.now }
+    ensures { IfOk result (λ shown. shown ≡ read_as rrn (shown_by (slice_get views.now place) image.now)) }
 {
-    match views.get(usize::from(number)) {
-        Some(view) => shown_view(alloc, view, rrn, image),
-        None => unreachable!(),
-    }
+    shown_view(alloc, &views[place], rrn, image)
 }
 
 /// What a format shows of a record of its base file.
