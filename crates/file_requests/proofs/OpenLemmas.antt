@@ -1,6 +1,8 @@
--- The member that OPNDBF opens, by the kind of its file.
-use Rattle.std.proofs.Common.{◌≡◌, ◌∙◌, ◌==◌, ◌||◌, ℕ, Bool, true, false, not, nat_le, cond, Option, Some, None, Result, Ok, Err, IfOk, IsTrue, OnOk, List, [], ◌∷◌, length, refl, sym, ap, subst, arith}
-use Rattle.std.specs.Option.{is_some}
+-- The members that OPNDBF opens, by the kind of its file.
+use Rattle.std.proofs.Common.{◌≡◌, ◌∙◌, ◌==◌, ◌||◌, ◌+◌, ◌<◌, ◌≤◌, ℕ, suc, drop, get_or, Bool, true, false, not, nat_le, cond, Option, Some, None, Result, Ok, Err, IfOk, IsTrue, OnOk, List, [], ◌∷◌, length, refl, sym, ap, subst, arith}
+use Rattle.std.specs.Option.{is_none, is_some}
+use Rattle.std.proofs.lemmas.List.{drop_all}
+use Rattle.std.proofs.lemmas.Option.{slice_get_read}
 use Rattle.std.proofs.lemmas.Bool.Decides.{nat_tests}
 use Rattle.dds_logical.specs.declared.views.LogicalSpec.{LogicalSpec}
 use Rattle.dds_logical.specs.declared.views.LogicalSpec.TheVariants.{Simple, Multi, Join}
@@ -15,15 +17,17 @@ use Rattle.library_model.specs.declared.replies.Reply.{Reply}
 use Rattle.library_model.specs.declared.replies.Reply.TheVariants.{NameExists, LimitReached, NoSuchName, WrongOpen}
 use Rattle.library_model.specs.declared.requests.OpenFile.{OpenFile}
 use Rattle.library_model.specs.Named.{Named, named, same_name}
+use Rattle.library_steps.specs.SlotChange.{images_of}
 use Rattle.library_steps.specs.State.{Memory, FileState, MemberStatus, file_named, job_of, open_named}
 use Rattle.library_steps.specs.LogicalFiles.{bases_in, bases_of}
 use Rattle.library_steps.specs.Records.{is_file_path}
 use Rattle.library_steps.specs.Refusals.{◌>>=◌, refuse_if, named_or_refused}
-use Rattle.library_steps.specs.Opens.{logical_members, may_commit_all, members_by, open_plan, physical_members}
+use Rattle.library_steps.specs.Opens.{first_unjournaled, logical_members, may_commit_all, members_by, open_plan, physical_members}
 use Rattle.library_parts.specs.Answers.{Allows, Shows}
-use Rattle.library_parts.specs.Finds.{OpensBy, OpensMember}
+use Rattle.library_parts.specs.Finds.{OpensBy, OpensMembers}
 use Rattle.library_parts.specs.Indexed.{IsReadSo, IsUnjoined}
 use Rattle.library_parts.specs.Reads.{MayReadSo}
+use Rattle.library_parts.proofs.UnderLemmas.{drop-next}
 use Rattle.library_parts.specs.declared.stop.Stop.{Stop}
 use Rattle.library_parts.specs.declared.stop.Stop.TheVariants.{NoMemory, Refused}
 use Rattle.file_requests.specs.Opens.{GivesMembers, file_plan, view_opens}
@@ -54,8 +58,8 @@ plan-goes m job args file result found gives =
     let whole = plan-file m job args ∙ ap (λ (f : Result FileState Reply). f >>= λ file. members_by file.spec m job args file) found in
     subst (λ (wanted : Result (List ℕ) Reply). GivesMembers result wanted) (sym whole) gives
 
-pub opens-there : (files : Named FileState) (number : ℕ) (file : FileState) (o : Option FileState) → o ≡ Some file → OpensBy files number file file.spec → OpensMember files number o
-opens-there files number file o there opens = subst (λ (found : Option FileState). OpensMember files number found) (sym there) opens
+pub opens-there : (files : Named FileState) (members : List ℕ) (file : FileState) (o : Option FileState) → o ≡ Some file → OpensBy files members file file.spec → OpensMembers files members o
+opens-there files members file o there opens = subst (λ (found : Option FileState). OpensMembers files members found) (sym there) opens
 
 pub read-so : (args : OpenFile) (file : FileState) (o : Option FileState) → o ≡ Some file → IsReadSo (is_file_path args.access_path) file.spec → MayReadSo args o
 read-so args file o there so = subst (λ (found : Option FileState). MayReadSo args found) (sym there) so
@@ -99,7 +103,7 @@ so-physical spec by_path (Err stop) is = tt
 so-physical (PhysicalFile spec) by_path (Ok member) is = tt
 so-physical (LogicalFile view) by_path (Ok member) is = absurd cc
 
--- ---- the member that a logical file is over
+-- ---- the members that a logical file is over
 
 pub members-logical : (spec : FileSpec) (view : LogicalSpec) (m : Memory) (job : ℕ) (args : OpenFile) (file : FileState) → Some view ≡ logical_in spec
     → members_by spec m job args file ≡ logical_members m job args view
@@ -149,3 +153,23 @@ module _ (m : Memory) (job : ℕ) (args : OpenFile) (spec : LogicalSpec) (member
   pub logical-stopped : (stop : Stop) → Allows (Err stop) (view_opens m job args members) → GivesMembers (Err stop) (logical_members m job args spec)
   logical-stopped NoMemory allowed = tt
   logical-stopped (Refused reply) allowed = view-opens (Err reply) allowed
+
+-- ---- the first member that isn't journaled
+
+module _ (m : Memory) (members : List ℕ) (place member : ℕ) (below : place < length members) (is : member ≡ get_or members place member) where
+  abbrev at_place : drop place members ≡ member ∷ drop (place + 1) members
+  at_place =
+      let next : place + 1 ≡ suc place = omega arith in
+      drop-next members place (place + 1) member next (slice_get_read members (length members) place member refl below is)
+
+  abbrev asked : Bool → Option ℕ
+  asked b = cond b (Some member) (first_unjournaled (drop (place + 1) members) m)
+
+  pub unjournaled-next : is_none (images_of member m) ≡ false → first_unjournaled (drop place members) m ≡ first_unjournaled members m → first_unjournaled (drop (place + 1) members) m ≡ first_unjournaled members m
+  unjournaled-next here so_far = sym (ap asked here) ∙ sym (ap (λ (ms : List ℕ). first_unjournaled ms m) at_place) ∙ so_far
+
+  pub unjournaled-here : is_none (images_of member m) ≡ true → first_unjournaled (drop place members) m ≡ first_unjournaled members m → first_unjournaled members m ≡ Some member
+  unjournaled-here here so_far = sym so_far ∙ ap (λ (ms : List ℕ). first_unjournaled ms m) at_place ∙ ap asked here
+
+pub unjournaled-none : (m : Memory) (members : List ℕ) (place : ℕ) → length members ≤ place → first_unjournaled (drop place members) m ≡ first_unjournaled members m → first_unjournaled members m ≡ None
+unjournaled-none m members place past so_far = sym so_far ∙ ap (λ (ms : List ℕ). first_unjournaled ms m) (drop_all place members past)

@@ -26,7 +26,7 @@ use Rattle.library_parts.specs.Indexed.{IsUnjoined}
 use Rattle.library_parts.specs.declared.stop.Stop.{Stop}
 use Rattle.library_parts.specs.declared.stop.Stop.TheVariants.{NoMemory, Refused}
 
--- so far the source describes one format over one physical file, where it describes a file
+-- so far the source describes no join
 abbrev pub IsUnjoinedSource : List NamedSource → Memory → (source : List ℕ) → Type 0
 IsUnjoinedSource sources m source = IfSome (text_of sources source) (λ text. IfOk (logical_described m text) (λ spec. IsUnjoined (LogicalFile spec)))
 

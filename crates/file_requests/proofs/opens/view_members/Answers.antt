@@ -1,3 +1,4 @@
+use Rattle.std.proofs.Common.{sym}
 use Rattle.std.proofs.lemmas.Result.{err_from_is_err_and}
 use Rattle.library_steps.specs.State.{memory_of}
 use Rattle.file_requests.proofs.OpenLemmas.{logical-goes, logical-stopped}
@@ -14,3 +15,6 @@ pub returns-clause-plan : goal.returns-clause-plan
 returns-clause-plan c =
     logical-goes (memory_of c.args.contents.now.state) c.args.job c.args.args.now c.args.view.now c.in_ok-members.members c.requires.unjoined (sym c.in_ok-members.ensures)
     c.in_ok-view_opens.ensures.allowed
+
+pub returns-clause-over : goal.returns-clause-over
+returns-clause-over c = sym c.in_ok-members.ensures
