@@ -1,6 +1,6 @@
 -- Which sources can be made a file so far: all but those of joins. (DDS for Physical and Logical Files, "PFILE", "JFILE".
 -- That the others have to wait is our own.)
-use Rattle.std.specs.Prelude.{ℕ, Bool, true, not, Unit, ⊥, List, Result, Ok, Err, IsTrue}
+use Rattle.std.specs.Prelude.{ℕ, Bool, true, not, List, Result, Ok, Err, IsTrue}
 use Rattle.std.specs.List.{list_all}
 use Rattle.dds_source.specs.declared.faults.DdsFault.{DdsFault}
 use Rattle.dds_source.specs.declared.specifications.Source.{Source}

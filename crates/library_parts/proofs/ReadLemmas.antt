@@ -17,7 +17,7 @@ use Rattle.record_fmt.specs.declared.formats.Field.{Field}
 use Rattle.member_slots.specs.declared.slot.Slot.{Slot}
 use Rattle.member_slots.specs.declared.slot.Slot.TheVariants.{Live, Deleted}
 use Rattle.member_slots.specs.Member.{IsMember, MemberState, empty_member, records_from, slot_at}
-use Rattle.member_slots.specs.Members.{AreMembers, Numbered, member_at, member_of}
+use Rattle.member_slots.specs.Members.{AreMembers, Numbered, NumberedMembers, member_at, member_of}
 use Rattle.dds_physical.specs.declared.physical_files.PhysicalSpec.{PhysicalSpec}
 use Rattle.file_model.specs.declared.paths.PathFormat.{PathFormat}
 use Rattle.file_model.specs.declared.paths.PathSpec.{PathSpec}
@@ -62,7 +62,7 @@ use Rattle.library_paths.specs.AllPaths.{all_paths}
 use Rattle.library_steps.specs.LogicalFiles.{bases_in, bases_of}
 use Rattle.library_steps.specs.Opens.{first_of}
 use Rattle.library_steps.specs.Records.{is_file_path, is_keyed, live_record, reading_of, record_in}
-use Rattle.library_steps.specs.State.{State, Memory, FileState, OpenState, fields_of, format_in, memory_of}
+use Rattle.library_steps.specs.State.{State, Memory, FileState, OpenState, fields_of, format_in, memory_of, physical_among}
 use Rattle.library_parts.specs.Finds.{ReadsMember}
 use Rattle.library_parts.specs.Indexed.{IsByArrival, IsReadSo, IsUnjoined, IsView, IsViewBeside, ReadsBy, path_by, path_read, IsIndexed}
 use Rattle.library_parts.specs.Keyed.{AllAreKeyed}

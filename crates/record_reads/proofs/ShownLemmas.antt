@@ -1,5 +1,5 @@
 -- A record that stands in a member shows a value of each field, of its own file and of a logical file over it.
-use Rattle.std.proofs.Common.{◌≡◌, ℕ, ◌+◌, true, Option, Some, None, Result, IfOk, List, [], length, drop, is_some, unwrap_or, refl, subst, sym, ◌∙◌, ap, zero, suc, map, slice_get, IsSome, option_map}
+use Rattle.std.proofs.Common.{◌≡◌, ℕ, ◌+◌, true, Option, Some, None, Result, IfOk, List, [], ◌∷◌, length, drop, is_some, unwrap_or, refl, subst, sym, ◌∙◌, ap, zero, suc, map, slice_get, IsSome, option_map}
 use Rattle.dds_logical.specs.declared.views.View.{View}
 use Rattle.std.specs.List.{AllByRecursion}
 use Rattle.std.proofs.lemmas.List.{take-append-drop}
