@@ -158,12 +158,7 @@ fn view_members(
 }
 
 /// The refusal of an open of a logical file by another name, in arrival order, or under commitment control that it can't have.
-fn view_opens(
-    contents: &Contents,
-    job: u32,
-    args: &OpenFile,
-    members: &[u32],
-) -> Result<(), Stop>
+fn view_opens(contents: &Contents, job: u32, args: &OpenFile, members: &[u32]) -> Result<(), Stop>
     requires { IsTrue (is_running (job_at job contents.now.state.jobs)) }
     ensures allowed { Allows result (view_opens (memory_of contents.now.state) job args.now members.now) }
     ensures by_path { OnOk result (IsTrue (is_file_path args.now.access_path)) }
@@ -223,12 +218,7 @@ fn may_commit(contents: &Contents, job: u32, commit: bool, status: MemberStatus)
 }
 
 /// The same for all members that a logical file is over.
-fn may_commit_all(
-    contents: &Contents,
-    job: u32,
-    commit: bool,
-    members: &[u32],
-) -> Result<(), Stop>
+fn may_commit_all(contents: &Contents, job: u32, commit: bool, members: &[u32]) -> Result<(), Stop>
     requires { IsTrue (is_running (job_at job contents.now.state.jobs)) }
     ensures { Allows result (may_commit_all commit members.now (job_of job (memory_of contents.now.state)) (memory_of contents.now.state)) }
 {

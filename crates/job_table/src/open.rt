@@ -368,10 +368,7 @@ pub fn first_of(members: &[u32]) -> u32
 fn member_at(members: &[u32], format: u16, other: u32) -> u32
     ensures { result ≡ unwrap_or (slice_get members.now format) other }
 {
-    members
-        .get(usize::from(format))
-        .copied()
-        .unwrap_or(other)
+    members.get(usize::from(format)).copied().unwrap_or(other)
 }
 
 /// The record that is the current one after a read.

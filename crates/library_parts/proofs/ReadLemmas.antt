@@ -230,9 +230,13 @@ within-each : (members : NumberedMembers) (formats : List PathFormat) → AllByR
     → (most : ℕ) × AllByRecursion (HasKeysWithin most members) formats
 within-each members [] all = (0, tt)
 within-each members (format ∷ formats) all =
-    let rest = within-each members formats all.1 in
-    (key_width format.key + rest.0, (wider members (key_width format.key) (key_width format.key + rest.0) format (omega arith) all.0,
-    all-wider members rest.0 (key_width format.key + rest.0) formats (omega arith) rest.1))
+    let rest = within-each members formats all.1 in (
+      key_width format.key + rest.0,
+      (
+        wider members (key_width format.key) (key_width format.key + rest.0) format (omega arith) all.0,
+        all-wider members rest.0 (key_width format.key + rest.0) formats (omega arith) rest.1,
+      ),
+    )
 
 within-most : (members : NumberedMembers) (formats : List PathFormat) → AllByRecursion (λ (f : PathFormat). HasKeysWithin (key_width f.key) members f) formats
     → (most : ℕ) × All (HasKeysWithin most members) formats

@@ -49,7 +49,13 @@ impl Contents {
     }
 
     /// The refusal where another job's lock clashes with the one that the call asks for.
-    pub fn not_locked(&self, call: Call, job: u32, opened: &OpenAt<'_>, rrn: u32) -> Result<(), Stop>
+    pub fn not_locked(
+        &self,
+        call: Call,
+        job: u32,
+        opened: &OpenAt<'_>,
+        rrn: u32,
+    ) -> Result<(), Stop>
         requires { IsTrue (is_running (job_at job self.now.state.jobs)) }
         ensures { Allows result (not_locked call job opened.now.state rrn (memory_of self.now.state)) }
     {

@@ -75,7 +75,11 @@ impl Contents {
         let _paths = self.paths.kept();
         let file = self.catalogue.named(&args.file).unwrap();
         match file.described() {
-            FileBody::Physical(described) => self.reads_physical(args, described, first_of(members)),
+            FileBody::Physical(described) => self.reads_physical(
+                args,
+                described,
+                first_of(members),
+            ),
             FileBody::Logical(view) => self.reads_view(args.commit, view.spec()),
         }
     }

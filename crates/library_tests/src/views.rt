@@ -572,30 +572,86 @@ pub const WAITING: [(By, Ask, Answer); 23] = [
 
 /// Records of two files in one order, each under its format. One is added where WRITE names the format, the first where it names none, and changed where it was read.
 pub const MERGED: [(By, Ask, Answer); 22] = [
-    (By::First, Ask::OfFile(FileAsk::Create("CUST", "CUST")), Answer::Done),
-    (By::First, Ask::OfFile(FileAsk::Create("OLDCUST", "OLDCUST")), Answer::Done),
-    (By::First, Ask::OfFile(FileAsk::CreateLogical("MERGED", "MERGED")), Answer::Done),
+    (
+        By::First,
+        Ask::OfFile(FileAsk::Create("CUST", "CUST")),
+        Answer::Done,
+    ),
+    (
+        By::First,
+        Ask::OfFile(FileAsk::Create("OLDCUST", "OLDCUST")),
+        Answer::Done,
+    ),
+    (
+        By::First,
+        Ask::OfFile(FileAsk::CreateLogical("MERGED", "MERGED")),
+        Answer::Done,
+    ),
     (
         By::First,
         Ask::OfFile(FileAsk::Open("MERGED", "MERGED", "MERGED", OpenOption::All)),
         Answer::Done,
     ),
-    (By::First, Ask::OfRecord("MERGED", RecordAsk::Write(A)), Answer::Added(1)),
-    (By::First, Ask::OfRecord("MERGED", RecordAsk::WriteThrough("OLDR", B)), Answer::Added(1)),
-    (By::First, Ask::OfRecord("MERGED", RecordAsk::WriteThrough("NEWR", C)), Answer::Added(2)),
+    (
+        By::First,
+        Ask::OfRecord("MERGED", RecordAsk::Write(A)),
+        Answer::Added(1),
+    ),
+    (
+        By::First,
+        Ask::OfRecord("MERGED", RecordAsk::WriteThrough("OLDR", B)),
+        Answer::Added(1),
+    ),
+    (
+        By::First,
+        Ask::OfRecord("MERGED", RecordAsk::WriteThrough("NEWR", C)),
+        Answer::Added(2),
+    ),
     (
         By::First,
         Ask::OfRecord("MERGED", RecordAsk::WriteThrough("CUSTR", A)),
         Answer::Refused(Refusal::NoSuchName("CUSTR")),
     ),
-    (By::First, Ask::OfRecord("MERGED", RecordAsk::Read), Answer::Record(1, "NEWR", A_READ)),
-    (By::First, Ask::OfRecord("MERGED", RecordAsk::Read), Answer::Record(1, "OLDR", B_READ)),
-    (By::First, Ask::OfRecord("MERGED", RecordAsk::Update(D)), Answer::Done),
-    (By::First, Ask::OfRecord("MERGED", RecordAsk::Read), Answer::Record(2, "NEWR", C_READ)),
-    (By::First, Ask::OfRecord("MERGED", RecordAsk::Read), Answer::Record(1, "OLDR", D_READ)),
-    (By::First, Ask::OfRecord("MERGED", RecordAsk::Delete), Answer::Done),
-    (By::First, Ask::OfRecord("MERGED", RecordAsk::Read), Answer::Refused(Refusal::EndOfFile)),
-    (By::First, Ask::OfRecord("MERGED", RecordAsk::Chain(1)), Answer::Refused(Refusal::WrongOpen)),
+    (
+        By::First,
+        Ask::OfRecord("MERGED", RecordAsk::Read),
+        Answer::Record(1, "NEWR", A_READ),
+    ),
+    (
+        By::First,
+        Ask::OfRecord("MERGED", RecordAsk::Read),
+        Answer::Record(1, "OLDR", B_READ),
+    ),
+    (
+        By::First,
+        Ask::OfRecord("MERGED", RecordAsk::Update(D)),
+        Answer::Done,
+    ),
+    (
+        By::First,
+        Ask::OfRecord("MERGED", RecordAsk::Read),
+        Answer::Record(2, "NEWR", C_READ),
+    ),
+    (
+        By::First,
+        Ask::OfRecord("MERGED", RecordAsk::Read),
+        Answer::Record(1, "OLDR", D_READ),
+    ),
+    (
+        By::First,
+        Ask::OfRecord("MERGED", RecordAsk::Delete),
+        Answer::Done,
+    ),
+    (
+        By::First,
+        Ask::OfRecord("MERGED", RecordAsk::Read),
+        Answer::Refused(Refusal::EndOfFile),
+    ),
+    (
+        By::First,
+        Ask::OfRecord("MERGED", RecordAsk::Chain(1)),
+        Answer::Refused(Refusal::WrongOpen),
+    ),
     (
         By::Second,
         Ask::OfFile(FileAsk::Delete("OLDCUST")),
@@ -606,8 +662,24 @@ pub const MERGED: [(By, Ask, Answer); 22] = [
         Ask::OfFile(FileAsk::Clear("OLDCUST", "OLDCUST")),
         Answer::Refused(Refusal::InUse(1)),
     ),
-    (By::First, Ask::OfRecord("MERGED", RecordAsk::Close), Answer::Done),
-    (By::Second, Ask::OfFile(FileAsk::Clear("OLDCUST", "OLDCUST")), Answer::Done),
-    (By::Second, Ask::OfFile(FileAsk::Delete("MERGED")), Answer::Done),
-    (By::Second, Ask::OfFile(FileAsk::Delete("OLDCUST")), Answer::Done),
+    (
+        By::First,
+        Ask::OfRecord("MERGED", RecordAsk::Close),
+        Answer::Done,
+    ),
+    (
+        By::Second,
+        Ask::OfFile(FileAsk::Clear("OLDCUST", "OLDCUST")),
+        Answer::Done,
+    ),
+    (
+        By::Second,
+        Ask::OfFile(FileAsk::Delete("MERGED")),
+        Answer::Done,
+    ),
+    (
+        By::Second,
+        Ask::OfFile(FileAsk::Delete("OLDCUST")),
+        Answer::Done,
+    ),
 ];
