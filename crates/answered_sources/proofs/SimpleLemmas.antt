@@ -37,7 +37,8 @@ and-left false b h = absurd cc
 -- ---- what formats describe
 
 -- one format, or several
-several-unjoined : (bases : List ℕ → Option PhysicalSpec) (source : Source) (f : FormatLines) (fs : List FormatLines) → IsUnjoinedFile (one_or_several (map (view_described bases source.file (is_multi_format (f ∷ fs)) (most_parts (f ∷ fs))) (f ∷ fs)))
+several-unjoined : (bases : List ℕ → Option PhysicalSpec) (source : Source) (f : FormatLines) (fs : List FormatLines)
+    → IsUnjoinedFile (one_or_several (map (view_described bases source.file (is_multi_format (f ∷ fs)) (most_parts (f ∷ fs))) (f ∷ fs)))
 several-unjoined bases source f [] = tt
 several-unjoined bases source f (g ∷ fs) = tt
 

@@ -92,7 +92,8 @@ pub members-physical : (spec : FileSpec) (m : Memory) (job : ℕ) (args : OpenFi
 members-physical (PhysicalFile spec) m job args file is = refl
 members-physical (LogicalFile view) m job args file is = absurd cc
 
-pub opens-physical : (spec : FileSpec) (files : Named FileState) (file : FileState) (result : Result (List ℕ) Stop) → IsNoView spec → IfOk result (λ members. (number : ℕ) × (members ≡ number ∷ []) × (has_number number file.members ≡ true))
+pub opens-physical : (spec : FileSpec) (files : Named FileState) (file : FileState) (result : Result (List ℕ) Stop) → IsNoView spec
+    → IfOk result (λ members. (number : ℕ) × (members ≡ number ∷ []) × (has_number number file.members ≡ true))
     → IfOk result (λ members. OpensBy files members file spec)
 opens-physical spec files file (Err stop) is has = tt
 opens-physical (PhysicalFile spec) files file (Ok member) is has = has

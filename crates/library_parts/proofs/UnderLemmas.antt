@@ -1,12 +1,11 @@
 -- What is asked of each member under a logical file.
-use Rattle.std.proofs.Common.{◌≡◌, ◌∙◌, ◌≤◌, ◌||◌, ◌++◌, ℕ, zero, suc, Bool, Option, Some, List, [], ◌∷◌, length, take, drop, slice_get, slice_index_or, map, refl, ap, sym, subst, arith}
+use Rattle.std.proofs.Common.{◌≡◌, ◌∙◌, ◌≤◌, ◌||◌, ◌++◌, ℕ, zero, suc, Bool, Option, Some, List, [], ◌∷◌, length, take, drop, slice_get, map, ap, sym, arith}
 use Rattle.std.specs.List.{list_any}
 use Rattle.std.proofs.lemmas.List.{drop_all, length-map, take_all}
 use Rattle.dds_logical.specs.declared.views.View.{View}
 use Rattle.dds_logical.specs.declared.views.LogicalSpec.{LogicalSpec}
-use Rattle.dds_logical.specs.declared.views.LogicalSpec.TheVariants.{Simple, Multi, Join}
-use Rattle.logical_model.specs.Bases.{Bases, LogicalFile, base_members, base_names}
-use Rattle.library_parts.specs.Indexed.{IsUnjoined}
+use Rattle.dds_logical.specs.declared.views.LogicalSpec.TheVariants.{Simple, Multi}
+use Rattle.logical_model.specs.Bases.{Bases, base_members, base_names}
 
 take-suc : {X : Type 0} (xs : List X) (n : ℕ) (x : X) → slice_get xs n ≡ Some x → take (suc n) xs ≡ take n xs ++ x ∷ []
 take-suc [] n x at = absurd cc
@@ -54,7 +53,8 @@ pub any-more : (p : ℕ → Bool) (members : List ℕ) (n next member : ℕ) (he
 any-more p members n next member here so_far is at first rest =
     ap (λ (b : Bool). b || so_far) first ∙ ap (λ (b : Bool). p member || b) rest ∙ sym (ap (list_any p) (drop-next members n next member is at))
 
-pub least-more : (least : List ℕ → Option ℕ) (lesser : Option ℕ → Option ℕ → Option ℕ) (of : ℕ → Option ℕ) (members : List ℕ) (n next member : ℕ) (its so_far all : Option ℕ) → ((first : ℕ) (more : List ℕ) → least (first ∷ more) ≡ lesser (of first) (least more))
+pub least-more : (least : List ℕ → Option ℕ) (lesser : Option ℕ → Option ℕ → Option ℕ) (of : ℕ → Option ℕ) (members : List ℕ) (n next member : ℕ) (its so_far all : Option ℕ)
+    → ((first : ℕ) (more : List ℕ) → least (first ∷ more) ≡ lesser (of first) (least more))
     → next ≡ suc n → slice_get members n ≡ Some member → its ≡ of member → so_far ≡ least (drop next members) → all ≡ lesser its so_far → all ≡ least (drop n members)
 least-more least lesser of members n next member its so_far all joins is at here rest made =
     made
