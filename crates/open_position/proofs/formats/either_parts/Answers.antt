@@ -1,6 +1,5 @@
-use Rattle.std.proofs.Common.{◌≡◌, ◌∙◌, ◌≤◌, ◌<◌, ◌++◌, max, List, length, drop, sym, ap, append-nil, arith}
+use Rattle.std.proofs.Common.{◌∙◌, ◌≤◌, ◌<◌, ◌++◌, max, List, length, sym, ap, append-nil, arith}
 use Rattle.key_spec.specs.declared.KeyPart.{KeyPart}
-use Rattle.file_model.specs.KeyOrder.{either_parts}
 use Rattle.open_position.proofs.FormatLemmas.{either-end, either-next}
 use Rattle.open_position.proofs.formats.either_parts.Goals as goal
 
