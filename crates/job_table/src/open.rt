@@ -280,7 +280,6 @@ impl Open {
 }
 
 /// An open, where it reads or writes a record of one of its formats.
-#[derive(Clone, Copy)]
 pub struct OpenAt<'a> {
     opened: &'a Open,
     format: u16,
