@@ -10,6 +10,10 @@ pub mod ResultLemmas
 pub mod FileLemmas
 pub mod AnswerLemmas
 pub mod FindLemmas
+pub mod SomeViews
+pub mod AlikeParts
+pub mod KeepReads
+pub mod FormatKeys
 pub mod DeleteLemmas
 pub mod AddLemmas
 pub mod IndexPaths
@@ -33,6 +37,7 @@ pub mod IndexKeyed
 pub mod IndexNew
 pub mod RemadeLemmas
 pub mod AttachLemmas
+pub mod UnderLemmas
 pub mod UndoingLemmas
 pub mod ReadLemmas
 pub mod PlaceLemmas
