@@ -259,11 +259,12 @@ so_many b n = if b then n else 0
 -- a format over the member, by the test and as one of them
 pub over-any : (member : ℕ) (formats : List PathFormat) → list_any (λ (f : PathFormat). f.member == member) formats ≡ true → Any (λ (f : PathFormat). f.member ≡ member) formats
 over-any member [] over = absurd cc
-over-any member (format ∷ formats) over = by (format.member == member) refl over
+over-any member (format ∷ formats) over = by (format.member == member) refl over (λ h. over-any member formats h)
   where
-    by : (b : Bool) → (format.member == member) ≡ b → (b || list_any (λ (f : PathFormat). f.member == member) formats) ≡ true → Any (λ (f : PathFormat). f.member ≡ member) (format ∷ formats)
-    by true same h = any-first (λ (f : PathFormat). f.member ≡ member) format formats (grind (arith, nat_tests, same))
-    by false other h = any-later (λ (f : PathFormat). f.member ≡ member) format formats (over-any member formats h)
+    by : (b : Bool) → (format.member == member) ≡ b → (b || list_any (λ (f : PathFormat). f.member == member) formats) ≡ true
+        → (list_any (λ (f : PathFormat). f.member == member) formats ≡ true → Any (λ (f : PathFormat). f.member ≡ member) formats) → Any (λ (f : PathFormat). f.member ≡ member) (format ∷ formats)
+    by true same h later = any-first (λ (f : PathFormat). f.member ≡ member) format formats (grind (arith, nat_tests, same))
+    by false other h later = any-later (λ (f : PathFormat). f.member ≡ member) format formats (later h)
 
 pub any-over : (member : ℕ) (formats : List PathFormat) → Any (λ (f : PathFormat). f.member ≡ member) formats → list_any (λ (f : PathFormat). f.member == member) formats ≡ true
 any-over member [] any = absurd (any-none (λ (f : PathFormat). f.member ≡ member) any)
