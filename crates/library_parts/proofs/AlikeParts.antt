@@ -18,11 +18,13 @@ forget (Field t offset descend absval) = Field t 0 descend absval
 forget Absent = Absent
 
 forget-parts : (at : ℕ) (ps : List KeyPart) → map forget (key_parts at ps) ≡ map forget ps
+unfolding forget
 forget-parts at [] = refl
 forget-parts at (Field t offset descend absval ∷ ps) = ap (λ (rest : List KeyPart). Field t 0 descend absval ∷ rest) (forget-parts (at + width t) ps)
 forget-parts at (Absent ∷ ps) = ap (λ (rest : List KeyPart). Absent ∷ rest) (forget-parts at ps)
 
 forget-part : (p q : KeyPart) → forget (either_part p q) ≡ either_part (forget p) (forget q)
+unfolding forget
 forget-part (Field t offset descend absval) q = refl
 forget-part Absent q = refl
 
@@ -45,6 +47,7 @@ forget-views (view ∷ views) =
 -- ---- what is told of values
 
 fault-part : (p : KeyPart) (v : Value) → part_fault (forget p) v ≡ part_fault p v
+unfolding forget
 fault-part (Field t offset descend absval) v = refl
 fault-part Absent v = refl
 
@@ -60,6 +63,7 @@ fault-forgotten ps values =
     λ i. by (length-map ps forget i) (fault-values 1 ps values i)
 
 given-part : (p : KeyPart) (v : Value) → given_value (forget p) v ≡ given_value p v
+unfolding forget
 given-part (Field t offset descend absval) v = refl
 given-part Absent v = refl
 

@@ -270,10 +270,10 @@ module _ (s : State) (opened : OpenState) (file : FileState) (lawful : IsLibrary
       let at : slice_get (map (λ (name : List ℕ). (bases_in s.files name).member) names) opened.format ≡ Some opened.member =
       ap (λ (ms : List ℕ). slice_get ms opened.format) (sym own.all) ∙ own.read in
       let name = at-mapped (λ (name : List ℕ). (bases_in s.files name).member) names opened.format opened.member at in
-      let view = at-mapped (λ (view : View). view.base) views opened.format name.0 name.2.0 in
+      let view = at-mapped (λ (view : View). view.base) views opened.format name.0 name.1 in
       let stands : StandsOver s.files file.members (Multi views) = subst (IsBased s.files opened.file file.members) is (lawful.bases opened.file file here) in
-      reads-base name.0 (subst (λ (f : FileSpec). IsBaseOf f opened.file opened.format name.0) (sym is) (view.0, view.2.0, sym view.2.1)) name.2.1
-      (each-there (λ (n : List ℕ). IsSome (physical_among n s.files)) names opened.format name.0 stands.bases name.2.0)
+      reads-base name.0 (subst (λ (f : FileSpec). IsBaseOf f opened.file opened.format name.0) (sym is) (view.0, view.1, sym view.2)) name.2
+      (each-there (λ (n : List ℕ). IsSome (physical_among n s.files)) names opened.format name.0 stands.bases name.1)
 
   pub reads-member : IsUnjoined file.spec → ReadsMember s file opened
   reads-member unjoined = by file.spec refl unjoined (subst (OpensFile s.files opened) here holds)
@@ -374,9 +374,9 @@ opens-members files args members views opens = by (named args.file files) refl o
     kind : (its : Named MemberStatus) (file : FileState) (spec : FileSpec) → file.members ≡ its → IsViewBeside files spec → MayOpenBy files members file spec
         → OpensBy files (new_open args 0 members) its spec
     kind its file (PhysicalFile spec) same view has = record {
-      only = has.1.0 ∙ ap (λ (ms : List ℕ). first_of ms ∷ []) (sym has.1.0);
+      only = has.1 ∙ ap (λ (ms : List ℕ). first_of ms ∷ []) (sym has.1);
       format = refl;
-      has = subst (λ (ms : List ℕ). has_number (first_of ms) its ≡ true) (sym has.1.0) (subst (λ (ms : Named MemberStatus). has_number has.0 ms ≡ true) same has.1.1);
+      has = subst (λ (ms : List ℕ). has_number (first_of ms) its ≡ true) (sym has.1) (subst (λ (ms : Named MemberStatus). has_number has.0 ms ≡ true) same has.2);
     }
     kind its file (LogicalFile spec) same view all = record {
       all = sym all;

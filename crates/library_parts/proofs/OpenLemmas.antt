@@ -94,7 +94,7 @@ module _ (parts : LibraryParts) (shared : AreShared parts.room.paths.paths) (are
         by true keyed =
             contained (physical_path (first_of members) spec.format.fields spec.keys) (PhysicalFile spec) is
             (member-path spec file.members (first_of members) (both-are (is_file_path args.access_path) (has_key (PhysicalFile spec)) keyed)
-            (subst (λ (ms : List ℕ). has_number (first_of ms) file.members ≡ true) (sym has.1.0) has.1.1))
+            (subst (λ (ms : List ℕ). has_number (first_of ms) file.members ≡ true) (sym has.1) has.2))
         by false keyed = tt
     kept-own (LogicalFile (Simple view)) is unjoined all =
         contained (views_path (bases_in parts.state.files) view.keys.unique (view ∷ [])) (LogicalFile (Simple view)) is (zero, omega arith, refl)

@@ -144,7 +144,8 @@ entries-live whole m number (format ∷ formats) among =
 path-live : (spec : PathSpec) (m : Memory) → AllByRecursion (IsLiveIn spec.formats m) (path spec m.members)
 path-live spec m =
     all-in_order (compare_entries spec.ties) (IsLiveIn spec.formats m) (paths.entries_from 0 spec.formats m.members)
-    (entries-live spec.formats m 0 spec.formats (λ i format at. at))
+    (entries-live spec.formats m 0 spec.formats
+    (λ i format at. (let e : 0 + i ≡ i = omega arith in ap (λ (n : ℕ). slice_get spec.formats n) e ∙ at)))
 
 -- a record stands in the member of its format
 abbrev pub IsLiveAt : OpenState → Memory → PathEntry → Type 0

@@ -8,14 +8,14 @@ use Rattle.dds_logical.specs.declared.views.LogicalSpec.TheVariants.{Simple, Mul
 use Rattle.logical_model.specs.Bases.{Bases, base_members, base_names}
 
 take-suc : {X : Type 0} (xs : List X) (n : ℕ) (x : X) → slice_get xs n ≡ Some x → take (suc n) xs ≡ take n xs ++ x ∷ []
-take-suc [] n x at = absurd cc
-take-suc (y ∷ xs) zero x at = let same : y ≡ x = cc in ap (λ (z : X). z ∷ []) same
-take-suc (y ∷ xs) (suc n) x at = ap (λ (zs : List X). y ∷ zs) (take-suc xs n x at)
+take-suc {X = X} [] n x at = absurd cc
+take-suc {X = X} (y ∷ xs) zero x at = let same : y ≡ x = cc in ap (λ (z : X). z ∷ []) same
+take-suc {X = X} (y ∷ xs) (suc n) x at = ap (λ (zs : List X). y ∷ zs) (take-suc xs n x at)
 
 drop-suc : {X : Type 0} (xs : List X) (n : ℕ) (x : X) → slice_get xs n ≡ Some x → drop n xs ≡ x ∷ drop (suc n) xs
-drop-suc [] n x at = absurd cc
-drop-suc (y ∷ xs) zero x at = let same : y ≡ x = cc in ap (λ (z : X). z ∷ xs) same
-drop-suc (y ∷ xs) (suc n) x at = drop-suc xs n x at
+drop-suc {X = X} [] n x at = absurd cc
+drop-suc {X = X} (y ∷ xs) zero x at = let same : y ≡ x = cc in ap (λ (z : X). z ∷ xs) same
+drop-suc {X = X} (y ∷ xs) (suc n) x at = drop-suc xs n x at
 
 pub take-next : {X : Type 0} (xs : List X) (n next : ℕ) (x : X) → next ≡ suc n → slice_get xs n ≡ Some x → take next xs ≡ take n xs ++ x ∷ []
 take-next xs n next x is at = ap (λ (k : ℕ). take k xs) is ∙ take-suc xs n x at
@@ -35,9 +35,9 @@ all-dropped bases view n past = drop_all n (base_members bases view) (omega (ari
 
 -- the member under a format
 mapped-at : {X Y : Type 0} (f : X → Y) (xs : List X) (n : ℕ) (x : X) → slice_get xs n ≡ Some x → slice_get (map f xs) n ≡ Some (f x)
-mapped-at f [] n x at = absurd cc
-mapped-at f (y ∷ xs) zero x at = let same : y ≡ x = cc in ap (λ (z : X). Some (f z)) same
-mapped-at f (y ∷ xs) (suc n) x at = mapped-at f xs n x at
+mapped-at {X = X} f [] n x at = absurd cc
+mapped-at {X = X} f (y ∷ xs) zero x at = let same : y ≡ x = cc in ap (λ (z : X). Some (f z)) same
+mapped-at {X = X} f (y ∷ xs) (suc n) x at = mapped-at f xs n x at
 
 pub first-under : (bases : Bases) (view : View) (place member : ℕ) → place ≡ 0 → member ≡ (bases view.base).member → slice_get (base_members bases (Simple view)) place ≡ Some member
 first-under bases view place member first is = ap (slice_get (base_members bases (Simple view))) first ∙ ap Some (sym is)

@@ -1,6 +1,6 @@
 //! Which jobs use a member: by an open, by a change of an open commit cycle, or by a lock that is kept to the boundary. And which use a
 //! file, and the members that a logical file is over.
-ghost use Rattle.std.specs.Prelude.{◌≡◌, ℕ, ◌<◌, nat_lt, true, Some, [], ◌∷◌, ◌++◌, length, slice_get, IfOk};
+ghost use Rattle.std.specs.Prelude.{◌≡◌, ℕ, ◌<◌, nat_lt, true, Some, [], ◌∷◌, ◌++◌, ◌||◌, length, slice_get, IfOk};
 ghost use Rattle.std.specs.List.{list_any};
 ghost use Rattle.dds_logical.specs.declared.views.LogicalSpec.TheVariants.{Multi};
 ghost use Rattle.logical_model.specs.Bases.{LogicalFile, base_members, base_names};
@@ -143,7 +143,7 @@ impl Contents {
         while left > 0 {
             left -= 1;
             let member = self.base_at(view, left);
-            many = self.has_many_with(path, member) || many;
+            many = either(self.has_many_with(path, member), many);
         }
         many
     }
@@ -216,4 +216,11 @@ fn base_count(view: &LogicalSpec) -> usize
         LogicalSpec::Multi(views) => views.as_slice().len(),
         LogicalSpec::Join(_) => unreachable!(),
     }
+}
+
+/// Whether one of the two holds.
+fn either(one: bool, other: bool) -> bool
+    ensures { result ≡ (one || other) }
+{
+    one || other
 }

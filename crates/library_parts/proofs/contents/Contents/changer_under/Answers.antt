@@ -26,5 +26,5 @@ loop-left-preserved c =
       within = omega (arith, c.loop-left.invariant.within);
       least = least-more (λ (members : List ℕ). changer_of_any members m) lesser (λ (number : ℕ). first_changer number m.jobs) all (c.loop-left.left - 1) c.loop-left.left c.base_at-member.result
           c.changer_of.result c.loop-left.least _ (λ (first : ℕ) (more : List ℕ). c.view_users_are_joined.ensures.changer first more m) next c.base_at-member.ensures c.changer_of.ensures c.loop-left.invariant.least
-          c.lesser.ensures;
+          c.lesser-least.ensures;
     }

@@ -37,5 +37,6 @@ loop-left-preserved c =
     let its : c.has_many_with.result ≡ p c.base_at-member.result = rw c.requires.own at c.has_many_with.ensures ∙ sym (many-one m c.args.view.now c.base_at-member.result c.requires.unjoined over) in
     record {
       within = omega (arith, c.loop-left.invariant.within);
-      many = any-more p all (c.loop-left.left - 1) c.loop-left.left c.base_at-member.result c.has_many_with.result c.loop-left.many next c.base_at-member.ensures its c.loop-left.invariant.many;
+      many = c.either-many.ensures ∙ any-more p all (c.loop-left.left - 1) c.loop-left.left c.base_at-member.result c.has_many_with.result c.loop-left.many next c.base_at-member.ensures its
+          c.loop-left.invariant.many;
     }

@@ -9,7 +9,7 @@ pub loop-place-preserved : goal.loop-place-preserved
 loop-place-preserved c =
     let all = base_members (bases_of (memory_of c.args.self.now.state)) c.args.view.now in
     let next : c.loop-place.place + 1 ≡ suc c.loop-place.place = omega arith in
-    c.in_ok-push.ensures
+    c.in_ok-push.ensures.pushed
     ∙ ap (λ (members : List ℕ). members ++ c.base_at.result ∷ []) c.loop-place.invariant
     ∙ sym (take-next all c.loop-place.place (c.loop-place.place + 1) c.base_at.result next c.base_at.ensures)
 

@@ -4,8 +4,8 @@ use Rattle.open_position.specs.OpenStand.{AreFormatKeys}
 use Rattle.library_parts.proofs.OpenLemmas.{new-by-path, number-told}
 use Rattle.library_parts.proofs.contents.Contents.reads_by_path.Goals as goal
 
-pub by_path-position-requires : goal.by_path-position-requires
-by_path-position-requires c = subst (λ (formats : List PathFormat). AreFormatKeys (map (λ format. format.key) formats)) (sym c.as_slice.ensures) c.requires
+pub by_path-requires : goal.by_path-requires
+by_path-requires c = subst (λ (formats : List PathFormat). AreFormatKeys (map (λ format. format.key) formats)) (sym c.as_slice.ensures) c.requires
 
 pub returns : goal.returns
 returns c =
