@@ -61,7 +61,7 @@ module _ (s : State) (file : FileState) (opened : OpenState) (lawful : IsLibrary
           let found : Some file ≡ Some has.owner = sym has.there ∙ ap (λ (n : List ℕ). named n s.files) (sym over) ∙ owner-here in
           sym (ap (λ (f : FileSpec). (format_in f).fields) is) ∙ ap fields_of (some-equal found)
       by (LogicalFile (Simple view)) is over = base-fields view.base over
-      by (LogicalFile (Multi views)) is over = ap (fields_of_view (bases_in s.files)) over.1.0 ∙ base-fields over.0.base over.1.1
+      by (LogicalFile (Multi views)) is over = ap (fields_of_view (bases_in s.files)) over.1 ∙ base-fields over.0.base over.2
       by (LogicalFile (Join view)) is over = absurd over
 
   -- values that are given through its format make records of it
@@ -85,10 +85,10 @@ module _ (s : State) (file : FileState) (opened : OpenState) (lawful : IsLibrary
       by (LogicalFile (Simple view)) over its = writable view over its.keyed its.bytes its.formats defaults
       by (LogicalFile (Multi views)) over its =
           let view : View = over.0 in
-          let keyed : IsKeyedView (bases_in s.files view.base).fields view = each-there (IsViewOver (bases_in s.files)) views opened.format view its.keyed.each over.1.0 in
-          let bytes : HaveBytes view.mapping = each-there (λ (v : View). HaveBytes v.mapping) views opened.format view its.bytes over.1.0 in
-          let format : IsFormatOf view = each-there IsFormatOf views opened.format view its.formats over.1.0 in
-          (view, over.1.0, writable view over.1.1 keyed bytes format defaults)
+          let keyed : IsKeyedView (bases_in s.files view.base).fields view = each-there (IsViewOver (bases_in s.files)) views opened.format view its.keyed.each over.1 in
+          let bytes : HaveBytes view.mapping = each-there (λ (v : View). HaveBytes v.mapping) views opened.format view its.bytes over.1 in
+          let format : IsFormatOf view = each-there IsFormatOf views opened.format view its.formats over.1 in
+          (view, over.1, writable view over.2 keyed bytes format defaults)
       by (LogicalFile (Join view)) over its = absurd over
 
   -- what stands in the member is a record with these fields

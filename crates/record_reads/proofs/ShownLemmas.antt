@@ -99,14 +99,14 @@ shows-image s file opened image member lawful unjoined beside is = by file.spec 
         )
     by (LogicalFile (Multi views)) same so its over =
         let view : View = over.0 in
-        let keyed : IsKeyedView (bases_in s.files view.base).fields view = each-there (IsViewOver (bases_in s.files)) views opened.format view its.keyed.each over.1.0 in
-        let format : IsFormatOf view = each-there IsFormatOf views opened.format view its.formats over.1.0 in
+        let keyed : IsKeyedView (bases_in s.files view.base).fields view = each-there (IsViewOver (bases_in s.files)) views opened.format view its.keyed.each over.1 in
+        let format : IsFormatOf view = each-there IsFormatOf views opened.format view its.formats over.1 in
         let stands : StandsOver s.files file.members (Multi views) = subst (IsBased s.files opened.file file.members) same (lawful.bases opened.file file member.there) in
         let there : IsSome (physical_among view.base s.files) =
-        each-there (λ (n : List ℕ). IsSome (physical_among n s.files)) (map (λ (v : View). v.base) views) opened.format view.base stands.bases (mapped-there (λ (v : View). v.base) views opened.format view over.1.0) in
-        let fields : (bases_in s.files view.base).fields ≡ fields_of member.owner = under view.base over.1.1 (has-base s lawful view.base there) in (
+        each-there (λ (n : List ℕ). IsSome (physical_among n s.files)) (map (λ (v : View). v.base) views) opened.format view.base stands.bases (mapped-there (λ (v : View). v.base) views opened.format view over.1) in
+        let fields : (bases_in s.files view.base).fields ≡ fields_of member.owner = under view.base over.2 (has-base s lawful view.base there) in (
           view,
-          over.1.0,
+          over.1,
           record {
             base = fields_of member.owner;
             lies = member.laid.lies;

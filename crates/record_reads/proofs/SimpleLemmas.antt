@@ -52,7 +52,7 @@ pub record TakesNumber (its : OpenedFile) (rrn : ℕ) : Type 0 where
 
 -- where it can stand there
 pub takes-number : (its : OpenedFile) (rrn : ℕ) → is_ok (bound_asked its Before (limits.RecordNumber rrn)) ≡ true → TakesNumber its rrn
-takes-number its rrn can = record { asked = all.0; unkeyed = all.1.0; numbered = all.1.1 }
+takes-number its rrn can = record { asked = all.0; unkeyed = all.1; numbered = all.2 }
   where
     by : (b n : Bool) → is_ok (placed_at (number_if b n rrn)) ≡ true → (number_if b n rrn ≡ Ok rrn) × (b ≡ false) × (n ≡ true)
     by true n is = absurd cc
