@@ -10,11 +10,11 @@ use Rattle.library_steps.specs.State.{Memory, FileState, MemberStatus}
 use Rattle.library_steps.specs.CreatePhysicalFile.{NewFile, new_file}
 use Rattle.library_steps.specs.SlotChange.{status_among}
 use Rattle.library_steps.specs.UniqueKeys.{UniquePath, has_member, uniques_by}
-use Rattle.file_catalogue.specs.Owners.{has_number, numbers_of, owner, Owns, AreApart}
-use Rattle.file_catalogue.specs.Physical.{IsPhysical, AllArePhysical}
-use Rattle.file_catalogue.proofs.NameLemmas.{same_name-self, some-equal}
-use Rattle.file_catalogue.proofs.OwnerLemmas.{owns-behind, owns-first, Unowned, unowned-status, IsOnly, owner-owns}
-use Rattle.file_catalogue.proofs.ChangeLemmas.{behind-first}
+use Rattle.lawful_states.specs.Owners.{has_number, numbers_of, owner, Owns, AreApart}
+use Rattle.lawful_states.specs.Physical.{IsPhysical, AllArePhysical}
+use Rattle.lawful_states.proofs.NameLemmas.{same_name-self, some-equal}
+use Rattle.lawful_states.proofs.OwnerLemmas.{owns-behind, owns-first, Unowned, unowned-status, IsOnly, owner-owns}
+use Rattle.lawful_states.proofs.ChangeLemmas.{behind-first}
 
 -- a file that is new, whose one member has a number of nobody's
 pub new_file-fits : (member : List ℕ) (number : ℕ) (plan : NewFile) (files : Named FileState) → status_among number files ≡ None

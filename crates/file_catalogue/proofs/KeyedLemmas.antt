@@ -6,8 +6,8 @@ use Rattle.library_steps.specs.State.{FileState, MemberStatus, status_changed}
 use Rattle.library_steps.specs.DeleteFile.{without_file}
 use Rattle.library_steps.specs.MemberCommands.{file_changed, with_member_name}
 use Rattle.file_catalogue.specs.Keyed.{HasOwnKey, HaveOwnKeys, IsKeyedFile, AllAreKeyed}
-use Rattle.file_catalogue.proofs.NameLemmas.{some-equal}
-use Rattle.file_catalogue.proofs.ChangeLemmas.{each_changed}
+use Rattle.lawful_states.proofs.NameLemmas.{some-equal}
+use Rattle.lawful_states.proofs.ChangeLemmas.{each_changed}
 
 pub own_key-keyed : (file : FileSpec) → HasOwnKey file → IsKeyedFile file
 own_key-keyed file is spec same = subst HasOwnKey same is

@@ -1,9 +1,4 @@
-pub mod NameLemmas
 pub mod MapLemmas
-pub mod StatusLemmas
-pub mod OwnerLemmas
-pub mod ChangeLemmas
-pub mod PhysicalLemmas
 pub mod KeyedLemmas
 pub mod OwnMemberLemmas
 pub mod BaseLemmas

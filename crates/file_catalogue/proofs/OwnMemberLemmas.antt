@@ -6,12 +6,12 @@ use Rattle.library_model.specs.Named.{Named, named, same_name}
 use Rattle.library_steps.specs.declared.limits.TheConstants.{MOST_MEMBERS}
 use Rattle.library_steps.specs.State.{FileState, MemberStatus, status_changed}
 use Rattle.library_steps.specs.DeleteFile.{without_file}
-use Rattle.file_catalogue.specs.Owners.{has_number}
-use Rattle.file_catalogue.specs.Physical.{IsPhysical}
+use Rattle.lawful_states.specs.Owners.{has_number}
+use Rattle.lawful_states.specs.Physical.{IsPhysical}
 use Rattle.file_catalogue.specs.OwnMembers.{HaveRoom, HasOwnMembers, HaveOwnMembers, LogicalHaveNone}
-use Rattle.file_catalogue.proofs.NameLemmas.{some-equal}
-use Rattle.file_catalogue.proofs.StatusLemmas.{changed_in}
-use Rattle.file_catalogue.proofs.ChangeLemmas.{each_changed}
+use Rattle.lawful_states.proofs.NameLemmas.{some-equal}
+use Rattle.lawful_states.proofs.StatusLemmas.{changed_in}
+use Rattle.lawful_states.proofs.ChangeLemmas.{each_changed}
 
 -- ---- the members of a file
 

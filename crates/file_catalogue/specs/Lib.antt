@@ -1,8 +1,5 @@
-pub mod Statuses
 pub mod Described
 pub mod Parts
-pub mod Owners
-pub mod Physical
 pub mod Keyed
 pub mod Views
 pub mod Bodies

@@ -13,13 +13,12 @@ ghost use Rattle.library_steps.specs.Journaling.{journaled_from, no_longer_journ
 ghost use Rattle.library_steps.specs.SlotChange.{status_among, touched};
 ghost use Rattle.library_steps.specs.LogicalFiles.{bases_in};
 ghost use Rattle.record_fmt.specs.Layout.{IsLaidOut};
-ghost use Rattle.file_catalogue.specs.Statuses.{after};
-ghost use Rattle.file_catalogue.specs.Owners.{AreApart, numbers_of, owner, status_of};
-ghost use Rattle.file_catalogue.specs.Physical.{IsPhysical};
+ghost use Rattle.lawful_states.specs.Statuses.{after};
+ghost use Rattle.lawful_states.specs.Owners.{AreApart, numbers_of, owner, status_of};
+ghost use Rattle.lawful_states.specs.Physical.{IsPhysical};
 ghost use Rattle.file_catalogue.specs.Keyed.{AllAreKeyed};
 ghost use Rattle.file_catalogue.specs.OwnMembers.{LogicalHaveNone};
 
-use crate::changes::StatusChange;
 use crate::described::Described;
 use crate::files::{File, no_fields};
 use crate::owners::{add_owned, remove_owned};
@@ -30,6 +29,7 @@ use entry_codec::Images;
 use field_types::names::Name;
 use indexmap::IndexMap;
 use indexmap::map::Iter;
+use lawful_states::changes::StatusChange;
 use record_fmt::formats::{Field, Format};
 use std::alloc::{AllocError, Global};
 use std::marker::Model;
@@ -46,7 +46,7 @@ impl Model for Catalogue {
     ghost use Rattle.std.specs.Prelude.{nat_eq};
     ghost use Rattle.indexmap.specs.IndexMap.{get, spare};
     ghost use Rattle.file_catalogue.specs.Parts.{Files};
-    ghost use Rattle.file_catalogue.specs.Owners.{IsOwned};
+    ghost use Rattle.lawful_states.specs.Owners.{IsOwned};
     ghost use Rattle.file_catalogue.specs.Keyed.{HaveOwnKeys};
     ghost use Rattle.file_catalogue.specs.OwnMembers.{HaveOwnMembers};
 

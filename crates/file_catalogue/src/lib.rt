@@ -3,7 +3,6 @@
 
 pub mod bodies;
 pub mod catalogue;
-pub mod changes;
 pub mod described;
 pub mod files;
 pub mod members;

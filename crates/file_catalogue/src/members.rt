@@ -4,11 +4,11 @@ ghost use Rattle.library_model.specs.Named.{named};
 ghost use Rattle.library_steps.specs.declared.limits.TheConstants.{MOST_MEMBERS};
 ghost use Rattle.library_steps.specs.CreatePhysicalFile.{new_status};
 ghost use Rattle.library_steps.specs.SlotChange.{status_in};
-ghost use Rattle.file_catalogue.specs.Statuses.{after};
+ghost use Rattle.lawful_states.specs.Statuses.{after};
 
-use crate::changes::StatusChange;
 use crate::status::MemberStatus;
 use field_types::names::Name;
+use lawful_states::changes::StatusChange;
 use library_steps::limits::MOST_MEMBERS;
 use std::alloc::{AllocError, Global};
 use std::marker::Model;

@@ -1,7 +1,7 @@
 //! The files to which members belong, by the members' numbers.
 ghost use Rattle.std.specs.Prelude.{◌≡◌, ◌≤◌, ℕ, None, Some, nat_eq, length, if◌then◌else◌};
 ghost use Rattle.indexmap.specs.IndexMap.{get, spare};
-ghost use Rattle.file_catalogue.specs.Owners.{has_number};
+ghost use Rattle.lawful_states.specs.Owners.{has_number};
 
 use crate::members::Members;
 use field_types::names::Name;

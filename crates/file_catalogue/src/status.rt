@@ -2,10 +2,10 @@
 ghost use Rattle.std.specs.Prelude.{◌≡◌};
 ghost use Rattle.library_steps.specs.CreatePhysicalFile.{new_status};
 ghost use Rattle.library_steps.specs.MemberCommands.{renumbered};
-ghost use Rattle.file_catalogue.specs.Statuses.{after};
+ghost use Rattle.lawful_states.specs.Statuses.{after};
 
-use crate::changes::StatusChange;
 use entry_codec::Images;
+use lawful_states::changes::StatusChange;
 use std::marker::Model;
 
 /// The status of a member: whether it is journaled, and what became of its records while it wasn't.

@@ -2,7 +2,7 @@
 ghost use Rattle.std.specs.Prelude.{◌≡◌, ◌<◌, ℕ, [], ◌∷◌, Some, length, true, IfOk, IsErrOf, IsTrue, OnOk};
 ghost use Rattle.std.specs.Option.{is_some};
 ghost use Rattle.logical_model.specs.Bases.{LogicalFile, base_members};
-ghost use Rattle.file_catalogue.specs.Owners.{has_number};
+ghost use Rattle.lawful_states.specs.Owners.{has_number};
 ghost use Rattle.library_model.specs.Named.{named, same_name};
 ghost use Rattle.library_model.specs.declared.replies.Reply.TheVariants.{NotJournaled};
 ghost use Rattle.library_model.specs.declared.limits.TheConstants.{MOST_OPENS};

@@ -25,3 +25,5 @@ mod orders;
 mod pages;
 #[cfg(test)]
 mod record_paths;
+#[cfg(test)]
+mod shared_paths;

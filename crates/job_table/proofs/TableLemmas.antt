@@ -1,7 +1,5 @@
 -- One job of the table set anew: what the table then has, what is counted of its jobs, and that all stays beside one another.
-use Rattle.std.proofs.Common.{not, slice_index, slice_index_or, Result, Ok, Err, OnOk, get_or-set_same, length-append, length-set}
-use Rattle.std.proofs.Common.{◌≡◌, ℕ, zero, suc, ◌+◌, ◌-◌, ◌<◌, ◌≤◌, ◌==◌, true, false, if◌then◌else◌}
-use Rattle.std.proofs.Common.{IsTrue, Option, Some, None, List, [], ◌∷◌, ◌++◌, length, map, slice_get, slice_set, get_or, All, ne_eqb, add-zero, refl, sym, ◌∙◌, ap, subst, arith}
+use Rattle.std.proofs.Common.{not, slice_index, slice_index_or, Result, Ok, Err, OnOk, get_or-set_same, length-append, length-set, ◌≡◌, ℕ, zero, suc, ◌+◌, ◌-◌, ◌<◌, ◌≤◌, ◌==◌, true, false, if◌then◌else◌, IsTrue, Option, Some, None, List, [], ◌∷◌, ◌++◌, length, map, slice_get, slice_set, get_or, All, ne_eqb, add-zero, refl, sym, ◌∙◌, ap, subst, arith}
 use Rattle.std.specs.List.{sum_by, AllZip}
 use Rattle.std.proofs.Math.ListN.{get_or-map}
 use Rattle.std.proofs.Math.Seq.{map-set_same}
@@ -18,7 +16,8 @@ use Rattle.library_steps.specs.State.{JobState, CycleState, OpenState, job_at, j
 use Rattle.library_steps.specs.History.{is_running}
 use Rattle.library_steps.specs.Uses.{changes_in}
 use Rattle.library_steps.specs.SlotChange.{change_bytes, noted, with_cycle}
-use Rattle.job_table.specs.Changes.{cycle_from, bytes_of, HasRoom}
+use Rattle.lawful_states.specs.Jobs.{cycle_from}
+use Rattle.job_table.specs.Changes.{bytes_of, HasRoom}
 use Rattle.job_table.specs.Opens.{OpenOrder, SameOpen}
 use Rattle.job_table.specs.OpenChanges.{opens_after, job_after}
 use Rattle.job_table.specs.declared.opens.OpenChange.{OpenChange}

@@ -1,6 +1,5 @@
 -- The first job of which one of two tests holds is the lesser of the first jobs of which each holds; and who keeps a lock in a member is the least of its holders.
-use Rattle.std.proofs.Common.{◌≡◌, ℕ, suc, All, subst, ◌+◌, ◌<◌, ◌≤◌, ◌==◌, ◌||◌, ◌&&◌, min, Bool, true}
-use Rattle.std.proofs.Common.{false, if◌then◌else◌, Option, Some, None, List, [], ◌∷◌, length, filter, refl, sym, ◌∙◌, ap, arith}
+use Rattle.std.proofs.Common.{◌≡◌, ℕ, suc, All, subst, ◌+◌, ◌<◌, ◌≤◌, ◌==◌, ◌||◌, ◌&&◌, min, Bool, true, false, if◌then◌else◌, Option, Some, None, List, [], ◌∷◌, length, filter, refl, sym, ◌∙◌, ap, arith}
 use Rattle.std.specs.List.{list_any}
 use Rattle.std.specs.Option.{option_map_or}
 use Rattle.std.proofs.lemmas.Bool.Decides.{nat_tests}
@@ -12,7 +11,8 @@ use Rattle.library_model.specs.Named.{Named}
 use Rattle.library_steps.specs.State.{MemberStatus, JobState}
 use Rattle.library_steps.specs.Checkpoint.{lesser}
 use Rattle.library_steps.specs.Uses.{first_job, has_boundary_lock, has_changed, has_open_of, uses}
-use Rattle.job_table.specs.Users.{HasBegun, AreOfJobs, has_in_use, first_changer, first_opener, first_user, least_of_members}
+use Rattle.lawful_states.specs.Jobs.{HasBegun, AreOfJobs}
+use Rattle.job_table.specs.Users.{has_in_use, first_changer, first_opener, first_user, least_of_members}
 
 -- a number that is there is no less
 abbrev IsFrom : ℕ → Option ℕ → Type 0

@@ -1,6 +1,6 @@
 -- What contracts see of a job's changes: the changes of its open commit cycle, the moves in the access paths that take each back, and for how many
 -- changes it has room. (Our own.)
-use Rattle.std.specs.Prelude.{◌≡◌, ℕ, ◌+◌, ◌-◌, ◌<◌, ◌≤◌, ◌==◌, ◌&&◌, Bool, Option, Some, None, List, [], length, map, unwrap_or}
+use Rattle.std.specs.Prelude.{◌≡◌, ℕ, ◌+◌, ◌-◌, ◌<◌, ◌≤◌, ◌==◌, ◌&&◌, Bool, Option, Some, None, List, [], length, map}
 use Rattle.std.specs.List.{sum_by}
 use Rattle.std.specs.Option.{option_map}
 use Rattle.member_slots.specs.declared.slot.Slot.{Slot}
@@ -36,14 +36,6 @@ moves_of undos = map (λ undo. undo.moves) undos
 -- there is room for one change more
 abbrev pub HasRoom : List MemberChange → ℕ → Type 0
 HasRoom changes room = length changes < room
-
--- a commit cycle that begins with this entry
-abbrev pub new_cycle : (sequence : ℕ) → CycleState
-new_cycle sequence = record { sequence = sequence; undos = [] }
-
--- the cycle that a change belongs to: the open one, or one that begins with this entry
-abbrev pub cycle_from : (sequence : ℕ) → Option CycleState → CycleState
-cycle_from sequence cycle = unwrap_or cycle (new_cycle sequence)
 
 -- the cycle with its start and its changes
 abbrev pub cycle_of : Option ℕ → List MemberChange → Option CycleState

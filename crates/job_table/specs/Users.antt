@@ -1,8 +1,7 @@
 -- Which job is the first that uses a member, where the jobs tell their opens and changes and the lock table its boundary locks. (Our own.)
-use Rattle.std.specs.Prelude.{ℕ, ◌≤◌, ◌||◌, Bool, Option, None, List, [], ◌∷◌, length, All}
+use Rattle.std.specs.Prelude.{ℕ, ◌||◌, Bool, Option, None, List, [], ◌∷◌}
 use Rattle.std.specs.List.{filter_map}
 use Rattle.std.specs.Option.{option_map}
-use Rattle.lock_table.specs.declared.lock.Lock.{Lock}
 use Rattle.library_model.specs.Named.{Named}
 use Rattle.library_steps.specs.State.{MemberStatus, JobState}
 use Rattle.library_steps.specs.Checkpoint.{lesser}
@@ -23,15 +22,6 @@ first_changer member jobs = first_job (λ number job. has_changed member job) 1 
 -- the least job that has an open of the file
 abbrev pub first_opener : (file : List ℕ) → List JobState → Option ℕ
 first_opener file jobs = first_job (λ number job. has_open_of file job) 1 jobs
-
--- the job has begun, where so many have
-pub record HasBegun (count number : ℕ) : Type 0 where
-  pub first : 1 ≤ number
-  pub last : number ≤ count
-
--- each lock that is kept to a boundary is of a job that has begun
-abbrev pub AreOfJobs : List JobState → List Lock → Type 0
-AreOfJobs jobs locks = All (λ lock. HasBegun (length jobs) lock.job) locks
 
 -- the least of those who use the members, of which each is asked for its own
 abbrev pub least_of_members : (ℕ → Option ℕ) → Named MemberStatus → Option ℕ

@@ -3,7 +3,8 @@ ghost use Rattle.std.specs.Prelude.{◌≡◌, ◌+◌, ◌≤◌, Some, None, [
 ghost use Rattle.library_steps.specs.declared.limits.TheConstants.{MOST_GROUP_BYTES};
 ghost use Rattle.library_steps.specs.Uses.{changes_in};
 ghost use Rattle.library_steps.specs.SlotChange.{change_bytes, noted};
-ghost use Rattle.job_table.specs.Changes.{HasRoom, bytes_of, cycle_from};
+ghost use Rattle.job_table.specs.Changes.{HasRoom, bytes_of};
+ghost use Rattle.lawful_states.specs.Jobs.{cycle_from};
 
 use crate::changes::{Undo, Undos};
 use std::alloc::{AllocError, Global};

@@ -20,7 +20,7 @@ ghost use Rattle.library_steps.specs.EndJob.{ended_job};
 ghost use Rattle.library_steps.specs.Locking.{is_committed};
 ghost use Rattle.library_steps.specs.Uses.{changes_in};
 ghost use Rattle.library_steps.specs.SlotChange.{change_bytes, noted, with_cycle, has_changed_record};
-ghost use Rattle.job_table.specs.Changes.{cycle_from};
+ghost use Rattle.lawful_states.specs.Jobs.{cycle_from};
 ghost use Rattle.job_table.specs.OpenChanges.{CanMake, job_after};
 ghost use Rattle.job_table.specs.Opens.{IsNewReads, order_by, AllOfNumber, SameOpen, AreNumbered};
 ghost use Rattle.job_table.specs.Table.{HasRoomFor, IsWhole, job_of_number, orders_at, moves_at, changed_at, changes_held, bytes_held, closed_job};

@@ -6,7 +6,8 @@ ghost use Rattle.library_model.specs.Named.{Named};
 ghost use Rattle.library_steps.specs.State.{Memory, MemberStatus};
 ghost use Rattle.library_steps.specs.Checkpoint.{lesser};
 ghost use Rattle.library_steps.specs.Uses.{changer_of_any, user_of, user_of_any, user_of_logical};
-ghost use Rattle.job_table.specs.Users.{AreOfJobs, first_changer, first_opener, first_user, least_of_members};
+ghost use Rattle.lawful_states.specs.Jobs.{AreOfJobs};
+ghost use Rattle.job_table.specs.Users.{first_changer, first_opener, first_user, least_of_members};
 
 /// The user of a member is the lesser of its first user among the jobs and the least job that keeps a lock in it to the
 /// boundary, and the user of one of many members is the least of their users.

@@ -8,10 +8,10 @@ use Rattle.library_steps.specs.State.{State, FileState, MemberStatus, OpenState,
 use Rattle.library_steps.specs.DeleteFile.{user_by}
 use Rattle.library_steps.specs.Reads.{at_format}
 use Rattle.library_steps.specs.Uses.{first_job, user_of_any}
-use Rattle.library_parts.specs.Lawful.{IsBased, IsLibrary, OpenHolds, OpensBy, OpensFile, OpensHold}
-use Rattle.library_parts.proofs.FileLemmas.{Owns-below}
-use Rattle.library_parts.proofs.FindLemmas.{IsMember, members-of-open, open-holds}
-use Rattle.library_parts.proofs.MemberLemmas.{IsThere-is_some}
+use Rattle.lawful_states.specs.Lawful.{IsBased, IsLibrary, OpenHolds, OpensBy, OpensFile, OpensHold}
+use Rattle.lawful_states.proofs.FileLemmas.{Owns-below}
+use Rattle.lawful_states.proofs.FindLemmas.{IsMember, members-of-open, open-holds}
+use Rattle.lawful_states.proofs.MemberLemmas.{IsThere-is_some}
 
 -- ---- members that files have
 

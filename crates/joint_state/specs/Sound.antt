@@ -2,7 +2,7 @@
 use Rattle.std.specs.Prelude.{◌≡◌, ℕ, ◌+◌, ◌++◌, IsTrue, Ok, List}
 use Rattle.std.specs.List.{IsDistinct}
 use Rattle.std.specs.Map.{keys_of}
-use Rattle.file_catalogue.specs.Owners.{AreApart}
+use Rattle.lawful_states.specs.Owners.{AreApart}
 use Rattle.journal_model.specs.Journal.{AreNumbered}
 use Rattle.library_model.specs.Named.{same_name}
 use Rattle.library_model.specs.declared.requests.Request.{Request}
@@ -11,7 +11,7 @@ use Rattle.library_steps.specs.State.{State, memory_of, with_entries, job_at}
 use Rattle.library_steps.specs.Change.{Change}
 use Rattle.library_steps.specs.Step.{change}
 use Rattle.library_steps.specs.History.{is_running}
-use Rattle.library_parts.specs.Lawful.{IsLibrary}
+use Rattle.lawful_states.specs.Lawful.{IsLibrary}
 use Rattle.joint_state.specs.Limits.{AreFormats, AreWithin}
 use Rattle.joint_state.specs.Joint.{IsJoint}
 use Rattle.joint_state.specs.Agreed.{Agrees}

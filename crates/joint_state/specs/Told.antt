@@ -12,7 +12,7 @@ use Rattle.record_fmt.specs.Layout.{record_length}
 use Rattle.record_fmt.specs.Records.{record_held}
 use Rattle.journal_model.specs.Images.{images_of}
 use Rattle.library_model.specs.Named.{Named}
-use Rattle.file_catalogue.specs.Owners.{Owns}
+use Rattle.lawful_states.specs.Owners.{Owns}
 use Rattle.library_steps.specs.State.{State, FileState, fields_of}
 
 -- a record of these fields: as long as they are together, with a value in each

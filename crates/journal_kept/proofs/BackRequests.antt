@@ -27,10 +27,10 @@ use Rattle.library_steps.specs.Drafts.{Author, author_of}
 use Rattle.library_steps.specs.Locking.{with_locks}
 use Rattle.library_steps.specs.Commitment.{boundary_locks, changes_of, rollback, rollback_change, rolled_back_open, taken_back, undo_entries, without_cycle}
 use Rattle.library_steps.specs.EndJob.{definition_entries, end_change, end_drafts, end_job, ended_job}
-use Rattle.library_parts.specs.Boundaries.{member_back, members_back}
-use Rattle.library_parts.specs.Lawful.{CycleGoesBack, FitsPlace, GoesBack}
-use Rattle.library_parts.proofs.BoundaryLemmas.{cycle_back-is, cycle-places, places-back}
-use Rattle.library_parts.proofs.MemberLemmas.{item_at-with_item_other, member_of-with}
+use Rattle.lawful_states.specs.Back.{member_back, members_back}
+use Rattle.lawful_states.specs.Lawful.{CycleGoesBack, FitsPlace, GoesBack}
+use Rattle.lawful_states.proofs.BoundaryLemmas.{cycle_back-is, cycle-places, places-back}
+use Rattle.lawful_states.proofs.MemberLemmas.{item_at-with_item_other, member_of-with}
 use Rattle.joint_state.specs.Agreed.{Agrees, StaysJournaled, is_journaled}
 use Rattle.joint_state.specs.Cycles.{StandAsMade}
 use Rattle.joint_state.specs.Sound.{IsSound, after}

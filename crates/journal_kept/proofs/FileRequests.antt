@@ -21,9 +21,9 @@ use Rattle.library_model.specs.declared.requests.CreatePhysicalFile.{CreatePhysi
 use Rattle.library_model.specs.declared.requests.DeleteFile.{DeleteFile}
 use Rattle.library_model.specs.declared.requests.FileMember.{FileMember}
 use Rattle.library_model.specs.declared.sources.NamedSource.{NamedSource}
-use Rattle.file_catalogue.specs.Owners.{has_number}
-use Rattle.file_catalogue.proofs.NameLemmas.{same_name-equal}
-use Rattle.file_catalogue.proofs.StatusLemmas.{has_number-cons}
+use Rattle.lawful_states.specs.Owners.{has_number}
+use Rattle.lawful_states.proofs.NameLemmas.{same_name-equal}
+use Rattle.lawful_states.proofs.StatusLemmas.{has_number-cons}
 use Rattle.lock_table.specs.declared.lock.Lock.{Lock}
 use Rattle.library_steps.specs.State.{State, Memory, FileState, MemberStatus, OpenState, JobState, fields_of, file_named, memory_of}
 use Rattle.library_steps.specs.Change.{Change, journaled}
@@ -34,7 +34,7 @@ use Rattle.library_steps.specs.CreateLogicalFile.{create_logical_change, create_
 use Rattle.library_steps.specs.CreatePhysicalFile.{create_change, create_physical_file, create_plan, new_file}
 use Rattle.library_steps.specs.MemberCommands.{add_member, add_plan, file_changed, with_member_name}
 use Rattle.library_steps.specs.DeleteFile.{delete_change, delete_file, delete_plan, deleted, first_dependent, user_by, without_file, without_members}
-use Rattle.library_parts.proofs.MemberLemmas.{IsThere-is_some, item_at-put_item_other, item_at-without_item_other}
+use Rattle.lawful_states.proofs.MemberLemmas.{IsThere-is_some, item_at-put_item_other, item_at-without_item_other}
 use Rattle.joint_state.specs.Agreed.{Agrees, AreAllJournaled, StaysJournaled, is_journaled}
 use Rattle.joint_state.specs.Sound.{IsSound, after}
 use Rattle.joint_state.proofs.OpenLemmas.{unused-members}

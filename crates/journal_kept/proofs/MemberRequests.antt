@@ -35,7 +35,7 @@ use Rattle.library_steps.specs.Drafts.{Author, author_of, cycle_draft, initial_d
 use Rattle.library_steps.specs.MemberCommands.{clear_member, empty_plan, if_journaled, renumbered, renumbering, reorganize_member, with_slots}
 use Rattle.library_steps.specs.Journaling.{end_change, end_journaling, end_plan, journaled_from, no_longer_journaled, start_change, start_journaling, start_plan}
 use Rattle.library_steps.specs.Ranges.{Given, RangeWork, before_or_deleted, given_back, given_drafts, given_forward, range_change, slots_now, told}
-use Rattle.library_parts.proofs.MemberLemmas.{item_at-with_item_other, member_of-with}
+use Rattle.lawful_states.proofs.MemberLemmas.{item_at-with_item_other, member_of-with}
 use Rattle.joint_state.specs.Agreed.{Agrees, AreAllJournaled, StaysJournaled, is_journaled}
 use Rattle.joint_state.specs.Sound.{IsSound, after}
 use Rattle.range_histories.specs.Ranges.{IsDone}

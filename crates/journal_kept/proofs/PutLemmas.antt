@@ -10,7 +10,7 @@ use Rattle.journal_model.specs.Places.{slot_of}
 use Rattle.library_steps.specs.State.{Memory}
 use Rattle.library_steps.specs.Records.{live_record, record_in, slot_there}
 use Rattle.library_steps.specs.SlotChange.{slot_put}
-use Rattle.library_parts.proofs.MemberLemmas.{is_some-IsSome, slot_put-appended, slot_put-changed}
+use Rattle.lawful_states.proofs.MemberLemmas.{is_some-IsSome, slot_put-appended, slot_put-changed}
 
 shift : (a b : ℕ) → (suc a == suc b) ≡ (a == b)
 shift a b = grind (arith, nat_tests)

@@ -34,8 +34,8 @@ use Rattle.library_steps.specs.UniqueKeys.{keys_free}
 use Rattle.library_steps.specs.Locking.{few_locks, locks_left, not_locked, with_locks}
 use Rattle.library_steps.specs.WriteRecord.{format_asked, has_room, is_input, next_place, packed, place_asked, place_plan, write_call, write_change, write_plan, write_record}
 use Rattle.library_steps.specs.ChangeRecord.{delete_change, delete_plan, delete_record, is_current, update_change, update_plan, update_record, without_current, without_record}
-use Rattle.library_parts.proofs.FindLemmas.{IsMember}
-use Rattle.library_parts.proofs.MemberLemmas.{item_at-with_item_other, member_of-with}
+use Rattle.lawful_states.proofs.FindLemmas.{IsMember}
+use Rattle.lawful_states.proofs.MemberLemmas.{item_at-with_item_other, member_of-with}
 use Rattle.joint_state.specs.Agreed.{Agrees, AreAllJournaled, StaysJournaled, is_journaled}
 use Rattle.joint_state.specs.CurrentRecords.{CurrentStands}
 use Rattle.joint_state.specs.Sound.{IsSound, after}

@@ -6,8 +6,8 @@ use Rattle.std.specs.Map.{keys_of}
 use Rattle.std.proofs.lemmas.Bool.{eq-eqb, ne_eqb, eqb-true}
 use Rattle.std.proofs.lemmas.Bool.Decides.{nat_tests}
 use Rattle.library_model.specs.Named.{Named, named, same_name}
-use Rattle.file_catalogue.specs.Owners.{Owns, AreApart, has_number, numbers_of, owner}
-use Rattle.file_catalogue.proofs.OwnerLemmas.{owner-status, owner-owns}
+use Rattle.lawful_states.specs.Owners.{Owns, AreApart, has_number, numbers_of, owner}
+use Rattle.lawful_states.proofs.OwnerLemmas.{owner-status, owner-owns}
 use Rattle.library_steps.specs.State.{FileState, MemberStatus, status_changed}
 use Rattle.library_steps.specs.SlotChange.{status_in, status_among}
 use Rattle.library_steps.specs.CreatePhysicalFile.{new_status}

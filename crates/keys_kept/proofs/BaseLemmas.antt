@@ -13,9 +13,9 @@ use Rattle.library_steps.specs.DeleteFile.{depends_by, file_refers, first_depend
 use Rattle.library_steps.specs.LogicalFiles.{base_in, bases_in}
 use Rattle.library_steps.specs.MemberCommands.{file_changed, with_member_name}
 use Rattle.library_steps.specs.CreatePhysicalFile.{new_status}
-use Rattle.library_parts.specs.Lawful.{AreBased, IsBased}
-use Rattle.file_catalogue.proofs.ChangeLemmas.{named-each_changed, named-file_changed}
-use Rattle.file_catalogue.proofs.NameLemmas.{named-without_other, same_name-self, same_name-symm}
+use Rattle.lawful_states.specs.Lawful.{AreBased, IsBased}
+use Rattle.lawful_states.proofs.ChangeLemmas.{named-each_changed, named-file_changed}
+use Rattle.lawful_states.proofs.NameLemmas.{named-without_other, same_name-self, same_name-symm}
 use Rattle.key_state.proofs.FormatLemmas.{AreAsBefore, IsOver, has-status, over-map}
 use Rattle.key_state.proofs.ListLemmas.{IsIn, all-in, map-in}
 

@@ -40,7 +40,7 @@ use Rattle.library_steps.specs.Receivers.{change_journal, delete_receiver}
 use Rattle.library_steps.specs.Refusals.{named_or_refused, refuse_if, refuse_with, sequences_left}
 use Rattle.library_steps.specs.UniqueKeys.{has_member}
 use Rattle.library_steps.specs.Uses.{changer_of_any, unused, user_of}
-use Rattle.library_parts.proofs.MemberLemmas.{item_at-put_item_other, item_at-put_item_same, item_at-without_item_other}
+use Rattle.lawful_states.proofs.MemberLemmas.{item_at-put_item_other, item_at-put_item_same, item_at-without_item_other}
 use Rattle.joint_state.specs.Sound.{IsSound}
 use Rattle.key_state.proofs.FormatLemmas.{IsOver, IsViewFormat, has-append, over-append, over-filter, over-map}
 use Rattle.key_state.proofs.KeyLemmas.{unique-reorganized}

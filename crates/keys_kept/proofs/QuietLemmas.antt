@@ -14,7 +14,7 @@ use Rattle.library_model.specs.Named.{Named}
 use Rattle.library_steps.specs.State.{State, Memory, FileState, JobState, memory_of, job_at, job_changed, job_of, or_new}
 use Rattle.library_steps.specs.Change.{Change}
 use Rattle.library_steps.specs.Uses.{changer_of_any, changes_in, has_changed, user_of, uses}
-use Rattle.library_parts.proofs.BackLemmas.{unused-unchanged}
+use Rattle.lawful_states.proofs.BackLemmas.{unused-unchanged}
 use Rattle.key_state.specs.Keys.{KeysStand, changes_by}
 use Rattle.key_state.proofs.FormatLemmas.{IsOver}
 use Rattle.key_state.proofs.ListLemmas.{IsIn, any-in}

@@ -20,8 +20,8 @@ use Rattle.library_steps.specs.Commitment.{taken_back}
 use Rattle.library_steps.specs.SlotChange.{with_slot}
 use Rattle.library_steps.specs.UniqueKeys.{takes_key}
 use Rattle.library_steps.specs.Uses.{changes_in}
-use Rattle.library_parts.specs.Lawful.{AllGoBack, CycleGoesBack, GoesBack}
-use Rattle.library_parts.proofs.MemberLemmas.{slot_put-changed}
+use Rattle.lawful_states.specs.Lawful.{AllGoBack, CycleGoesBack, GoesBack}
+use Rattle.lawful_states.proofs.MemberLemmas.{slot_put-changed}
 use Rattle.joint_state.specs.Joint.{IsJoint}
 use Rattle.key_state.specs.Keys.{HasOwnKeys, IsReservedOnce, KeysStand, changes_by, members_back, taken_from}
 use Rattle.cycles_kept.proofs.LockLemmas.{two_holders}

@@ -5,7 +5,7 @@ use Rattle.library_model.specs.declared.requests.Request.TheVariants as request
 use Rattle.library_model.specs.declared.sources.NamedSource.{NamedSource}
 use Rattle.library_steps.specs.State.{State, memory_of}
 use Rattle.library_steps.specs.Step.{change}
-use Rattle.library_parts.specs.Lawful.{IsLibrary}
+use Rattle.lawful_states.specs.Lawful.{IsLibrary}
 use Rattle.joint_state.specs.Sound.{IsKept, IsSound, after}
 use Rattle.cycles_kept.proofs.HoldLemmas.{Holds, holds-done}
 use Rattle.cycles_kept.proofs.JobLemmas.{IsAsking, asking}

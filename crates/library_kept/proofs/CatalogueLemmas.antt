@@ -1,7 +1,7 @@
 -- Files and members made, taken away and emptied leave a library.
 use Rattle.std.proofs.Common.{◌≡◌, ℕ, ◌+◌, ◌*◌, ◌≤◌, ◌==◌, not, cond, if◌then◌else◌, nat_lt, Bool, true, false, List, [], ◌∷◌, filter, Some, None, is_some, refl, arith}
 use Rattle.std.specs.List.{AllByRecursion}
-use Rattle.file_catalogue.specs.declared.changes.StatusChange.TheVariants.{Renumbered}
+use Rattle.lawful_states.specs.declared.changes.StatusChange.TheVariants.{Renumbered}
 use Rattle.member_slots.specs.Member.{MemberState, empty_member, cleared, reorganized, is_live}
 use Rattle.member_slots.specs.Members.{Numbered, NumberedMembers, member_at, member_of, put_member, with_member, without_member}
 use Rattle.record_fmt.specs.declared.formats.Field.{Field}
@@ -16,15 +16,15 @@ use Rattle.library_steps.specs.MemberCommands.{member_added, renumbered, with_sl
 use Rattle.library_steps.specs.Ranges.{library_bytes}
 use Rattle.library_steps.specs.State.{State, Memory, FileState, MemberStatus, memory_of, with_status, fields_of, physical_among}
 use Rattle.library_steps.specs.Uses.{user_of}
-use Rattle.library_parts.specs.Lawful.{HasRecords, StandsOver}
-use Rattle.library_parts.specs.Slots.{weight}
-use Rattle.library_parts.proofs.AddLemmas.{AreOne-member_added}
-use Rattle.library_parts.proofs.BoundaryLemmas.{is_some-there}
-use Rattle.library_parts.proofs.DeleteLemmas.{AreOne-deleted, free-independent}
-use Rattle.library_parts.proofs.FileLemmas.{AreOne-with_file, AreOne-with_logical, based-first}
-use Rattle.library_parts.proofs.LawfulLemmas.{AreOne-slots}
-use Rattle.library_parts.proofs.LockLemmas.{length-filter}
-use Rattle.library_parts.proofs.MemberLemmas.{HasRecords-cleared, HasRecords-reorganized, at-member_of, library_bytes-cons, library_bytes-with, weight-cleared, weight-reorganized}
+use Rattle.lawful_states.specs.Lawful.{HasRecords, StandsOver}
+use Rattle.lawful_states.specs.Slots.{weight}
+use Rattle.lawful_states.proofs.AddLemmas.{AreOne-member_added}
+use Rattle.lawful_states.proofs.BoundaryLemmas.{is_some-there}
+use Rattle.lawful_states.proofs.DeleteLemmas.{AreOne-deleted, free-independent}
+use Rattle.lawful_states.proofs.FileLemmas.{AreOne-with_file, AreOne-with_logical, based-first}
+use Rattle.lawful_states.proofs.LawfulLemmas.{AreOne-slots}
+use Rattle.lawful_states.proofs.LockLemmas.{length-filter}
+use Rattle.lawful_states.proofs.MemberLemmas.{HasRecords-cleared, HasRecords-reorganized, at-member_of, library_bytes-cons, library_bytes-with, weight-cleared, weight-reorganized}
 use Rattle.joint_state.specs.Limits.{IsWithin, AreWithin}
 use Rattle.joint_state.specs.Sound.{IsSound}
 use Rattle.library_kept.proofs.StandLemmas.{bare, Stands, one-of, Stands-memory_of, Stands-status, within-of, within-with}

@@ -2,8 +2,8 @@
 use Rattle.std.proofs.Common.{◌≡◌, ℕ, zero, suc, ◌+◌, ◌-◌, ◌*◌, ◌≤◌, ◌==◌, ◌||◌, nat_lt, IsTrue, Bool, true, false, Option, Some, None, is_some, IsSome, IfSome, Ok, List, [], ◌∷◌, length, refl, ap, subst, arith}
 use Rattle.std.proofs.lemmas.Bool.{or_parts, ltb-false}
 use Rattle.std.proofs.lemmas.Bool.Decides.{nat_tests}
-use Rattle.file_catalogue.specs.Owners.{Owns}
-use Rattle.job_table.specs.Users.{AreOfJobs}
+use Rattle.lawful_states.specs.Owners.{Owns}
+use Rattle.lawful_states.specs.Jobs.{AreOfJobs}
 use Rattle.lock_table.specs.declared.lock.Lock.{Lock}
 use Rattle.lock_table.specs.declared.levels.Call.{Call}
 use Rattle.lock_table.specs.declared.levels.Call.TheVariants.{WriteAt, Update, Delete}
@@ -31,13 +31,13 @@ use Rattle.library_steps.specs.SlotChange.{NewSlot, change_made, cycle_for, few_
 use Rattle.library_steps.specs.State.{State, Memory, FileState, CycleState, OpenState, JobState, memory_of, job_at, job_changed, job_of, open_named, with_job, with_opens, with_status, fields_of}
 use Rattle.library_steps.specs.UniqueKeys.{keys_free}
 use Rattle.library_steps.specs.WriteRecord.{write_plan, place_plan, write_change, write_call, format_asked, is_input, packed, next_place, place_asked, has_room}
-use Rattle.library_parts.specs.Finds.{HasMember}
-use Rattle.library_parts.specs.Lawful.{HasRecords}
-use Rattle.library_parts.specs.Slots.{MayStand}
-use Rattle.library_parts.proofs.BaseLemmas.{OpenHolds-alike}
-use Rattle.library_parts.proofs.FindLemmas.{found-is}
-use Rattle.library_parts.proofs.LawfulLemmas.{AreOfJobs-more, AreOne-without_record}
-use Rattle.library_parts.proofs.MemberLemmas.{HoldsValues-at, IsThere-is_some, is_some-IsSome}
+use Rattle.lawful_states.specs.Members.{HasMember}
+use Rattle.lawful_states.specs.Lawful.{HasRecords}
+use Rattle.lawful_states.specs.Slots.{MayStand}
+use Rattle.lawful_states.proofs.BaseLemmas.{OpenHolds-alike}
+use Rattle.lawful_states.proofs.FindLemmas.{found-is}
+use Rattle.lawful_states.proofs.LawfulLemmas.{AreOfJobs-more, AreOne-without_record}
+use Rattle.lawful_states.proofs.MemberLemmas.{HoldsValues-at, IsThere-is_some, is_some-IsSome}
 use Rattle.joint_state.specs.CurrentRecords.{CurrentStands}
 use Rattle.joint_state.specs.Sound.{IsSound}
 use Rattle.library_kept.proofs.OwnerLemmas.{opened-base, written-base}

@@ -11,7 +11,7 @@ use Rattle.record_fmt.specs.declared.formats.Field.{Field}
 use Rattle.record_fmt.specs.Records.{record_held}
 use Rattle.journal_model.specs.Images.{images_of}
 use Rattle.library_steps.specs.Drafts.{Author, record_draft, slot_kinds, slot_drafts, updated, added, if_both}
-use Rattle.library_parts.specs.Lawful.{HoldsValues}
+use Rattle.lawful_states.specs.Lawful.{HoldsValues}
 use Rattle.joint_state.specs.Told.{IsRecordOf, MayHavePlace, NamesPlace, is_of_record}
 use Rattle.library_kept.proofs.FieldLemmas.{length-record}
 

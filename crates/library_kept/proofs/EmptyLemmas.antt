@@ -4,7 +4,7 @@ use Rattle.std.specs.List.{AllByRecursion, IsDistinct}
 use Rattle.library_model.specs.Named.{Named, same_name}
 use Rattle.member_slots.specs.Members.{NumberedMembers}
 use Rattle.library_steps.specs.State.{State, FileState, JobState, begun, empty_library, new_job}
-use Rattle.library_parts.specs.Lawful.{OpensHold, AllGoBack}
+use Rattle.lawful_states.specs.Lawful.{OpensHold, AllGoBack}
 use Rattle.joint_state.specs.Joint.{JobStands}
 use Rattle.joint_state.specs.Agreed.{StaysJournaled}
 use Rattle.joint_state.specs.Sound.{IsSound}

@@ -17,12 +17,12 @@ use Rattle.library_steps.specs.State.{Memory, FileState, OpenState, JobState, jo
 use Rattle.library_steps.specs.Uses.{changes_in}
 use Rattle.library_model.specs.declared.requests.OpenFile.{OpenFile}
 use Rattle.library_model.specs.Named.{Named}
-use Rattle.library_parts.specs.Boundaries.{member_back, members_back}
-use Rattle.library_parts.specs.Lawful.{OpenHolds, OpensHold, CycleGoesBack}
-use Rattle.library_parts.proofs.BackLemmas.{CycleGoesBack-of}
-use Rattle.library_parts.proofs.BaseLemmas.{OpenHolds-alike}
-use Rattle.library_parts.proofs.BoundaryLemmas.{cycle_back-is, AreOne-cycle_back}
-use Rattle.library_parts.proofs.LawfulLemmas.{AreOne-with_open, AreOne-without_open, opens-map}
+use Rattle.lawful_states.specs.Back.{member_back, members_back}
+use Rattle.lawful_states.specs.Lawful.{OpenHolds, OpensHold, CycleGoesBack}
+use Rattle.lawful_states.proofs.BackLemmas.{CycleGoesBack-of}
+use Rattle.lawful_states.proofs.BaseLemmas.{OpenHolds-alike}
+use Rattle.lawful_states.proofs.BoundaryLemmas.{cycle_back-is, AreOne-cycle_back}
+use Rattle.lawful_states.proofs.LawfulLemmas.{AreOne-with_open, AreOne-without_open, opens-map}
 use Rattle.joint_state.specs.Limits.{AreWithin}
 use Rattle.library_kept.proofs.SlotLemmas.{within-changed}
 use Rattle.library_kept.proofs.StandLemmas.{bare, Stands, one-of, Stands-job, Stands-locks, begun-left, begun-boundary, within-of, within-with}

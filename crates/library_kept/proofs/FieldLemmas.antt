@@ -28,14 +28,13 @@ use Rattle.dds_physical.specs.Attributes.{kind_of, are_decimals_wrong, sized, at
 use Rattle.dds_physical.specs.Names.{name_of}
 use Rattle.dds_physical.specs.References.{typed, typed_by, referenced, reference_file}
 use Rattle.dds_physical.specs.Described.{IsDescribed}
-use Rattle.dds_physical.specs.Lines.{with_field, with_named_field, with_key, described, described_of, lines_described, unless_faulty, line_faults}
+use Rattle.dds_physical.specs.Lines.{with_field, with_named_field, with_key, described, described_of, lines_described, unless_faulty, line_faults, lines_faults}
 use Rattle.dds_physical.specs.Physical.{physical_of, faults_of, draft_of, finished, specification, specification_unless}
 use Rattle.dds_physical.proofs.DescribedLemmas.{IsDescribed-more}
 use Rattle.dds_physical.proofs.FaultLemmas.{nothing_noted, first_after_append, clear_before}
 use Rattle.dds_physical.specs.Draft.{nothing}
 use Rattle.dds_physical.specs.WholeFile.{whole_faults, file_faults}
-use Rattle.dds_physical.specs.Lines.{lines_faults}
-use Rattle.library_parts.specs.Lawful.{HoldsValues}
+use Rattle.lawful_states.specs.Lawful.{HoldsValues}
 
 -- ---- the bytes of a record
 

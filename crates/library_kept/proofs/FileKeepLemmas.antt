@@ -13,12 +13,12 @@ use Rattle.logical_model.specs.Bases.{FileSpec, PhysicalFile, LogicalFile, base_
 use Rattle.logical_model.specs.FilePaths.{logical_paths}
 use Rattle.logical_laws.specs.Mapped.{HoldDefaults}
 use Rattle.logical_laws.proofs.MappedLemmas.{described-mapped, described-there}
-use Rattle.file_catalogue.specs.Owners.{Owns, AreApart, has_number, numbers_of}
-use Rattle.file_catalogue.specs.Statuses.{after as status_after}
-use Rattle.file_catalogue.specs.declared.changes.StatusChange.{StatusChange}
-use Rattle.file_catalogue.proofs.ChangeLemmas.{changed-from, named-each_changed, named-file_changed}
-use Rattle.file_catalogue.proofs.NameLemmas.{named-append, named-without, same_name-equal}
-use Rattle.file_catalogue.proofs.StatusLemmas.{after-number, changed_in-numbers, distinct-push, has_number-changed_in, has_number-push}
+use Rattle.lawful_states.specs.Owners.{Owns, AreApart, has_number, numbers_of}
+use Rattle.lawful_states.specs.Statuses.{after as status_after}
+use Rattle.lawful_states.specs.declared.changes.StatusChange.{StatusChange}
+use Rattle.lawful_states.proofs.ChangeLemmas.{changed-from, named-each_changed, named-file_changed}
+use Rattle.lawful_states.proofs.NameLemmas.{named-append, named-without, same_name-equal}
+use Rattle.lawful_states.proofs.StatusLemmas.{after-number, changed_in-numbers, distinct-push, has_number-changed_in, has_number-push}
 use Rattle.record_fmt.specs.Layout.{IsLaidOut}
 use Rattle.record_fmt.specs.declared.formats.Format.{Format}
 use Rattle.library_model.specs.declared.replies.Reply.TheVariants.{NameExists, LimitReached, NotJournaled, DuplicateKey}
@@ -38,10 +38,10 @@ use Rattle.library_steps.specs.MemberCommands.{file_changed, with_member_name}
 use Rattle.library_steps.specs.Refusals.{named_or_refused, refuse_if, refuse_with, sequences_left}
 use Rattle.library_steps.specs.State.{State, Memory, FileState, file_named, physical_among, physical_in, physical_spec, if_physical, format_in, status_changed, fields_of}
 use Rattle.library_steps.specs.Uses.{changer_of_any, unused}
-use Rattle.library_parts.specs.Lawful.{StandsOver}
-use Rattle.library_parts.proofs.BaseLemmas.{Keeps-status, bases-stay, kept-each, kept-more, kept-wider, physical-described, some-of}
-use Rattle.library_parts.proofs.DeleteLemmas.{free-independent}
-use Rattle.library_parts.proofs.FileLemmas.{Owns-below, distinct-one}
+use Rattle.lawful_states.specs.Lawful.{StandsOver}
+use Rattle.lawful_states.proofs.BaseLemmas.{Keeps-status, bases-stay, kept-each, kept-more, kept-wider, physical-described, some-of}
+use Rattle.lawful_states.proofs.DeleteLemmas.{free-independent}
+use Rattle.lawful_states.proofs.FileLemmas.{Owns-below, distinct-one}
 use Rattle.joint_state.specs.Limits.{AreFormats}
 use Rattle.joint_state.specs.Sound.{IsSound}
 use Rattle.joint_state.specs.Views.{AreMapped, HaveDefaults, IsMapped, IsView}

@@ -24,11 +24,11 @@ use Rattle.library_steps.specs.Reads.{at_format}
 use Rattle.library_steps.specs.State.{State, FileState, MemberStatus, OpenState, memory_of, fields_of, format_in, physical_among}
 use Rattle.library_steps.specs.WriteRecord.{format_asked}
 use Rattle.record_fmt.specs.Layout.{IsLaidOut}
-use Rattle.file_catalogue.specs.Owners.{Owns}
-use Rattle.library_parts.specs.Finds.{HasMember}
-use Rattle.library_parts.specs.Lawful.{IsBased, StandsOver, IsOfMember, IsOverBases, OpensBy, OpensFile}
-use Rattle.library_parts.proofs.BaseLemmas.{base-is, physical-found, physical-member, some-of}
-use Rattle.library_parts.proofs.FindLemmas.{found-is, member-there, open-holds}
+use Rattle.lawful_states.specs.Owners.{Owns}
+use Rattle.lawful_states.specs.Members.{HasMember}
+use Rattle.lawful_states.specs.Lawful.{IsBased, StandsOver, IsOfMember, IsOverBases, OpensBy, OpensFile}
+use Rattle.lawful_states.proofs.BaseLemmas.{base-is, physical-found, physical-member, some-of}
+use Rattle.lawful_states.proofs.FindLemmas.{found-is, member-there, open-holds}
 use Rattle.joint_state.specs.Sound.{IsSound}
 use Rattle.joint_state.specs.Views.{IsMapped, IsView}
 use Rattle.library_kept.proofs.FieldLemmas.{given-held, length-record}

@@ -6,16 +6,16 @@ use Rattle.std.proofs.lemmas.Bool.Decides.{nat_tests}
 use Rattle.field_types.specs.declared.faults.RecordFault.{RecordFault}
 use Rattle.member_slots.specs.declared.slot.Slot.{Slot}
 use Rattle.member_slots.specs.Member.{MemberState, slot_at}
-use Rattle.file_catalogue.specs.Owners.{Owns, AreApart}
+use Rattle.lawful_states.specs.Owners.{Owns, AreApart}
 use Rattle.library_model.specs.Named.{Named, named, same_name}
 use Rattle.library_steps.specs.History.{is_running}
 use Rattle.library_steps.specs.Records.{record_in}
 use Rattle.library_steps.specs.Refusals.{found, named_or_refused, FoundMember, member_of_file, OpenedFile, opened_file}
 use Rattle.library_steps.specs.State.{State, Memory, FileState, JobState, memory_of, file_named, physical_named, open_named, job_at, job_of, or_new}
 use Rattle.library_steps.specs.WriteRecord.{packed}
-use Rattle.library_parts.specs.Finds.{HasMember}
-use Rattle.library_parts.proofs.BaseLemmas.{physical-found}
-use Rattle.library_parts.proofs.FindLemmas.{found-is, member-there}
+use Rattle.lawful_states.specs.Members.{HasMember}
+use Rattle.lawful_states.proofs.BaseLemmas.{physical-found}
+use Rattle.lawful_states.proofs.FindLemmas.{found-is, member-there}
 use Rattle.joint_state.specs.Joint.{IsJoint, JobStands}
 use Rattle.joint_state.specs.Sound.{IsSound}
 use Rattle.library_kept.proofs.ResultLemmas.{ok-equal, bind-ok}

@@ -34,10 +34,10 @@ use Rattle.library_steps.specs.Reads.{Found, FoundEntry, at_format, chain_plan, 
 use Rattle.library_steps.specs.Records.{is_keyed, key_asked, number_asked, reading_of}
 use Rattle.library_steps.specs.Refusals.{OpenedFile, found, opened_file}
 use Rattle.library_steps.specs.State.{State, OpenState, JobState, memory_of, job_at, job_of}
-use Rattle.library_parts.specs.Lawful.{IsOfMember, IsOverBases, OpenHolds, OpensBy}
-use Rattle.library_parts.proofs.BaseLemmas.{OpenHolds-has_read}
-use Rattle.library_parts.proofs.FindLemmas.{found-is}
-use Rattle.library_parts.proofs.LawfulLemmas.{KeepsOpens}
+use Rattle.lawful_states.specs.Lawful.{IsOfMember, IsOverBases, OpenHolds, OpensBy}
+use Rattle.lawful_states.proofs.BaseLemmas.{OpenHolds-has_read}
+use Rattle.lawful_states.proofs.FindLemmas.{found-is}
+use Rattle.lawful_states.proofs.LawfulLemmas.{KeepsOpens}
 use Rattle.joint_state.specs.Opens.{AreToldApart, IsBefore}
 use Rattle.joint_state.specs.Sound.{IsSound}
 use Rattle.library_kept.proofs.FindLemmas.{if-some, chain_key-holds, chain_number-holds}

@@ -1,7 +1,7 @@
 -- Whatever request is done leaves a library, with members within their limits.
 use Rattle.std.proofs.Common.{◌≡◌, ℕ, ◌+◌, nat_le, nat_lt, not, length, IsTrue, true, Some, None, IsSome, Result, Ok, List, [], ◌∷◌, slice_get, refl, sym, subst}
 use Rattle.std.specs.Option.{is_some, is_none}
-use Rattle.file_catalogue.specs.declared.changes.StatusChange.TheVariants.{Journaled, Unjournaled}
+use Rattle.lawful_states.specs.declared.changes.StatusChange.TheVariants.{Journaled, Unjournaled}
 use Rattle.file_model.specs.Positions.{Before, Past, next_from, prior_from, next_equal, prior_equal}
 use Rattle.lock_table.specs.declared.levels.Call.TheVariants.{Position as PositionCall, Unlock}
 use Rattle.member_slots.specs.Member.{records}
@@ -45,11 +45,11 @@ use Rattle.library_steps.specs.WriteRecord.{write_plan, write_change, write_call
 use Rattle.dds_logical.specs.declared.views.LogicalSpec.{LogicalSpec}
 use Rattle.logical_model.specs.Bases.{FileSpec, PhysicalFile, LogicalFile, base_members, base_names}
 use Rattle.logical_model.specs.Readings.{join_in}
-use Rattle.library_parts.specs.Lawful.{IsOfMember, IsOverBases, OpensBy, OpensFile, OpenHolds}
-use Rattle.library_parts.proofs.BaseLemmas.{OpenHolds-alike, OpenHolds-positioned}
-use Rattle.library_parts.proofs.FindLemmas.{found-is, member-there}
-use Rattle.library_parts.proofs.MemberLemmas.{IsThere-is_some}
-use Rattle.library_parts.specs.Finds.{HasMember}
+use Rattle.lawful_states.specs.Lawful.{IsOfMember, IsOverBases, OpensBy, OpensFile, OpenHolds}
+use Rattle.lawful_states.proofs.BaseLemmas.{OpenHolds-alike, OpenHolds-positioned}
+use Rattle.lawful_states.proofs.FindLemmas.{found-is, member-there}
+use Rattle.lawful_states.proofs.MemberLemmas.{IsThere-is_some}
+use Rattle.lawful_states.specs.Members.{HasMember}
 use Rattle.joint_state.specs.Sound.{IsSound}
 use Rattle.joint_state.specs.Views.{IsMapped, IsView}
 use Rattle.library_kept.proofs.CatalogueLemmas.{with_file-stands, with_logical-stands, member_added-stands, deleted-stands, cleared-stands, reorganized-stands}

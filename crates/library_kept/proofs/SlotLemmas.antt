@@ -2,8 +2,8 @@
 use Rattle.std.proofs.Common.{◌≡◌, ℕ, ◌+◌, ◌-◌, ◌*◌, ◌<◌, ◌≤◌, ◌==◌, if◌then◌else◌, Bool, true, false, Option, Some, None, is_some, unwrap_or, List, [], ◌∷◌, ◌++◌, length, refl, sym, ap, subst, arith}
 use Rattle.std.proofs.lemmas.Bool.{eqb-true, eqb-false}
 use Rattle.std.proofs.lemmas.Bool.Decides.{nat_tests}
-use Rattle.file_catalogue.specs.Owners.{Owns}
-use Rattle.file_catalogue.specs.declared.changes.StatusChange.TheVariants.{Touched}
+use Rattle.lawful_states.specs.Owners.{Owns}
+use Rattle.lawful_states.specs.declared.changes.StatusChange.TheVariants.{Touched}
 use Rattle.member_slots.specs.declared.member.TheConstants.{MOST_SLOTS, MOST_BYTES}
 use Rattle.member_slots.specs.declared.slot.Slot.{Slot}
 use Rattle.member_slots.specs.declared.slot.Slot.TheVariants.{Live, Deleted}
@@ -15,12 +15,12 @@ use Rattle.library_steps.specs.Ranges.{library_bytes}
 use Rattle.library_steps.specs.Records.{slot_there}
 use Rattle.library_steps.specs.SlotChange.{NewSlot, change_made, cycle_for, noted, slot_changed, slot_put, touched, with_cycle, with_slot, with_undo}
 use Rattle.library_steps.specs.State.{Memory, FileState, job_of, with_job, with_status, fields_of}
-use Rattle.library_parts.specs.Lawful.{HoldsValues, HasRecords, FitsPlace, GoesBack}
-use Rattle.library_parts.specs.Slots.{MayStand}
-use Rattle.library_parts.proofs.BackLemmas.{CycleGoesBack-of, CycleGoesBack-noted}
-use Rattle.library_parts.proofs.BoundaryLemmas.{is_some-there}
-use Rattle.library_parts.proofs.LawfulLemmas.{AreOne-appended, AreOne-changed}
-use Rattle.library_parts.proofs.MemberLemmas.{HasRecords-member_of, HoldsValues-at, item_at-with_item_same, length-changed, length-push, record_length-changed, weight-changed}
+use Rattle.lawful_states.specs.Lawful.{HoldsValues, HasRecords, FitsPlace, GoesBack}
+use Rattle.lawful_states.specs.Slots.{MayStand}
+use Rattle.lawful_states.proofs.BackLemmas.{CycleGoesBack-of, CycleGoesBack-noted}
+use Rattle.lawful_states.proofs.BoundaryLemmas.{is_some-there}
+use Rattle.lawful_states.proofs.LawfulLemmas.{AreOne-appended, AreOne-changed}
+use Rattle.lawful_states.proofs.MemberLemmas.{HasRecords-member_of, HoldsValues-at, item_at-with_item_same, length-changed, length-push, record_length-changed, weight-changed}
 use Rattle.joint_state.specs.Limits.{IsWithin}
 use Rattle.library_kept.proofs.FieldLemmas.{FitsSlot-held}
 use Rattle.library_kept.proofs.StandLemmas.{bare, Stands, one-of, Stands-job, Stands-status, within-with, within-of}

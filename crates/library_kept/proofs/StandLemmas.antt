@@ -2,11 +2,11 @@
 use Rattle.std.proofs.Common.{◌≡◌, ℕ, ◌-◌, ◌==◌, ◌++◌, if◌then◌else◌, IsTrue, true, false, List, [], ◌∷◌, length, drop, slice_get, Some, unwrap_or, refl, arith}
 use Rattle.member_slots.specs.Member.{MemberState, empty_member}
 use Rattle.member_slots.specs.Members.{NumberedMembers, item_at, member_of, with_member}
-use Rattle.file_catalogue.specs.Statuses.{after as status_after}
-use Rattle.file_catalogue.specs.declared.changes.StatusChange.{StatusChange}
+use Rattle.lawful_states.specs.Statuses.{after as status_after}
+use Rattle.lawful_states.specs.declared.changes.StatusChange.{StatusChange}
 use Rattle.lock_table.specs.declared.lock.Lock.{Lock}
 use Rattle.lock_table.specs.declared.levels.Call.{Call}
-use Rattle.job_table.specs.Users.{AreOfJobs}
+use Rattle.lawful_states.specs.Jobs.{AreOfJobs}
 use Rattle.library_steps.specs.Change.{Change}
 use Rattle.library_steps.specs.Commitment.{boundary_locks}
 use Rattle.library_steps.specs.History.{is_running}
@@ -14,9 +14,9 @@ use Rattle.library_steps.specs.Locking.{holder_of, record_of, level_of, is_commi
 use Rattle.library_steps.specs.Ranges.{library_bytes}
 use Rattle.library_steps.specs.Reads.{with_opened}
 use Rattle.library_steps.specs.State.{State, Memory, Receivers, OpenState, JobState, memory_of, with_entries, job_at, job_of, with_job, with_status}
-use Rattle.library_parts.specs.Lawful.{OpenHolds, OpensHold, CycleGoesBack, IsLibrary, AreOne}
-use Rattle.library_parts.proofs.LawfulLemmas.{KeepsOpens, AreOne-journal, AreOne-job_changed, AreOne-locks, AreOne-open_at, AreOne-open_changed, AreOne-status}
-use Rattle.library_parts.proofs.LockLemmas.{running-HasBegun, All-locks_after}
+use Rattle.lawful_states.specs.Lawful.{OpenHolds, OpensHold, CycleGoesBack, IsLibrary, AreOne}
+use Rattle.lawful_states.proofs.LawfulLemmas.{KeepsOpens, AreOne-journal, AreOne-job_changed, AreOne-locks, AreOne-open_at, AreOne-open_changed, AreOne-status}
+use Rattle.lawful_states.proofs.LockLemmas.{running-HasBegun, All-locks_after}
 use Rattle.joint_state.specs.Limits.{IsWithin, AreWithin}
 use Rattle.joint_state.specs.Sound.{IsSound, after}
 

@@ -11,7 +11,7 @@ use Rattle.entry_codec.specs.declared.kinds.Images.{Images}
 use Rattle.entry_codec.specs.Drafts.{numbered}
 use Rattle.entry_codec.specs.Placing.{place}
 use Rattle.commit_level.specs.declared.Level.{Level}
-use Rattle.file_catalogue.specs.Owners.{Owns}
+use Rattle.lawful_states.specs.Owners.{Owns}
 use Rattle.journal_model.specs.Images.{images_of}
 use Rattle.journal_model.specs.Replay.{before_of, is_in}
 use Rattle.journal_model.specs.Rollback.{MemberChange, change_drafts, undo_drafts, undo_kinds, numbered_from}
@@ -32,10 +32,10 @@ use Rattle.library_steps.specs.Records.{slot_there}
 use Rattle.library_steps.specs.SlotChange.{NewSlot, are_both, begins_cycle, cycle_number, drafts_of, is_behind_last}
 use Rattle.library_steps.specs.State.{State, Memory, FileState, CycleState, JobState, memory_of, fields_of}
 use Rattle.library_steps.specs.Uses.{changes_in}
-use Rattle.library_parts.specs.Boundaries.{member_back}
-use Rattle.library_parts.specs.Lawful.{HoldsValues, IsThere, GoesBack, CycleGoesBack}
-use Rattle.library_parts.proofs.FileLemmas.{Owns-below, number-below}
-use Rattle.library_parts.proofs.MemberLemmas.{HasRecords-changed, HasRecords-member_of, IsThere-with_member}
+use Rattle.lawful_states.specs.Back.{member_back}
+use Rattle.lawful_states.specs.Lawful.{HoldsValues, IsThere, GoesBack, CycleGoesBack}
+use Rattle.lawful_states.proofs.FileLemmas.{Owns-below, number-below}
+use Rattle.lawful_states.proofs.MemberLemmas.{HasRecords-changed, HasRecords-member_of, IsThere-with_member}
 use Rattle.joint_state.specs.Cycles.{StandAsMade}
 use Rattle.joint_state.specs.Told.{AreTold, IsRecordOf, IsTold, MayHavePlace, TellsRecord, is_of_record}
 use Rattle.joint_state.specs.Sound.{IsSound, after}

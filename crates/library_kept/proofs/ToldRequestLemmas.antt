@@ -31,9 +31,9 @@ use Rattle.library_steps.specs.SlotChange.{NewSlot, change_made, cycle_for, draf
 use Rattle.library_steps.specs.State.{State, Memory, MemberStatus, memory_of, job_at, job_of, open_named, with_status}
 use Rattle.library_steps.specs.Step.{change}
 use Rattle.library_steps.specs.WriteRecord.{write_plan, write_change, write_call}
-use Rattle.library_parts.specs.Lawful.{CycleGoesBack}
-use Rattle.library_parts.proofs.BackLemmas.{CycleGoesBack-of}
-use Rattle.library_parts.proofs.FileLemmas.{Owns-below}
+use Rattle.lawful_states.specs.Lawful.{CycleGoesBack}
+use Rattle.lawful_states.proofs.BackLemmas.{CycleGoesBack-of}
+use Rattle.lawful_states.proofs.FileLemmas.{Owns-below}
 use Rattle.journal_model.specs.Rollback.{numbered_from}
 use Rattle.member_slots.specs.Members.{member_of}
 use Rattle.joint_state.specs.Sound.{IsSound}

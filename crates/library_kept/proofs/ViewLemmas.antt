@@ -8,9 +8,9 @@ use Rattle.library_model.specs.Named.{Named, named}
 use Rattle.library_steps.specs.DeleteFile.{without_file}
 use Rattle.library_steps.specs.LogicalFiles.{bases_in}
 use Rattle.library_steps.specs.State.{FileState, physical_among}
-use Rattle.library_parts.specs.Lawful.{AreBased, IsBased, StandsOver}
-use Rattle.library_parts.proofs.BaseLemmas.{IsKept, Stays, bases-stay}
-use Rattle.library_parts.proofs.DeleteLemmas.{AreFree, IsFree, bases-without}
+use Rattle.lawful_states.specs.Lawful.{AreBased, IsBased, StandsOver}
+use Rattle.lawful_states.proofs.BaseLemmas.{IsKept, Stays, bases-stay}
+use Rattle.lawful_states.proofs.DeleteLemmas.{AreFree, IsFree, bases-without}
 use Rattle.joint_state.specs.Views.{IsMapped, IsView}
 use Rattle.library_kept.proofs.ListLemmas.{each-weaker}
 

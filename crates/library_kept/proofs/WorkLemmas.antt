@@ -6,7 +6,7 @@ use Rattle.std.specs.List.{AllByRecursion}
 use Rattle.entry_codec.specs.declared.kinds.EntryKind.{EntryKind}
 use Rattle.entry_codec.specs.declared.kinds.EntryKind.TheVariants.{ChangesApplied, ChangesRemoved, CommitCycleStarted, CommitCycleCommitted}
 use Rattle.entry_codec.specs.Placing.{place}
-use Rattle.file_catalogue.specs.Owners.{Owns}
+use Rattle.lawful_states.specs.Owners.{Owns}
 use Rattle.journal_model.specs.Acts.{entry_before}
 use Rattle.journal_model.specs.Images.{images_of}
 use Rattle.journal_model.specs.Places.{slot_of, put_slot}
@@ -32,9 +32,9 @@ use Rattle.library_steps.specs.Refusals.{refuse_if, sequences_left, member_of_fi
 use Rattle.library_steps.specs.State.{State, Memory, FileState, memory_of, fields_of}
 use Rattle.library_steps.specs.UniqueKeys.{unique_paths, all_apart}
 use Rattle.library_steps.specs.Uses.{user_of, unused}
-use Rattle.library_parts.specs.Lawful.{HoldsValues, HasRecords}
-use Rattle.library_parts.proofs.BackLemmas.{AllGoBack-unused}
-use Rattle.library_parts.proofs.LawfulLemmas.{AreOne-with_member}
+use Rattle.lawful_states.specs.Lawful.{HoldsValues, HasRecords}
+use Rattle.lawful_states.proofs.BackLemmas.{AllGoBack-unused}
+use Rattle.lawful_states.proofs.LawfulLemmas.{AreOne-with_member}
 use Rattle.joint_state.specs.Told.{MayHavePlace, IsRecordOf, IsTold, is_of_record}
 use Rattle.joint_state.specs.Sound.{IsSound}
 use Rattle.library_kept.proofs.DraftLemmas.{DraftTold, slot_drafts-told}

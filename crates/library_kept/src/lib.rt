@@ -3,9 +3,9 @@
 #![tactic(auto)]
 
 ghost use Rattle.std.specs.Prelude.{ℕ, List};
-ghost use Rattle.file_catalogue.specs.Owners.{AreApart};
+ghost use Rattle.lawful_states.specs.Owners.{AreApart};
 ghost use Rattle.library_steps.specs.State.{empty_library, begun};
-ghost use Rattle.library_parts.specs.Lawful.{IsLibrary};
+ghost use Rattle.lawful_states.specs.Lawful.{IsLibrary};
 ghost use Rattle.joint_state.specs.Limits.{AreFormats, AreWithin};
 ghost use Rattle.joint_state.specs.Told.{AreTold};
 ghost use Rattle.joint_state.specs.Sound.{IsKept, IsSound};

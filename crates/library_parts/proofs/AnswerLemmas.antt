@@ -25,9 +25,10 @@ use Rattle.library_model.specs.declared.replies.Reply.{Reply}
 use Rattle.library_steps.specs.State.{State, Memory, memory_of, with_entries}
 use Rattle.library_steps.specs.Change.{Change, deposited, journaled, unjournaled}
 use Rattle.library_parts.specs.Answers.{Answers}
-use Rattle.library_parts.specs.Locks.{AsksNone, IsOfOpen, HasLockRoom}
+use Rattle.lawful_states.specs.Calls.{AsksNone, IsOfOpen}
+use Rattle.library_parts.specs.Locks.{HasLockRoom}
 use Rattle.library_parts.specs.Parts.{Room}
-use Rattle.library_parts.proofs.LockLemmas.{length-filter, left-Open}
+use Rattle.lawful_states.proofs.LockLemmas.{length-filter, left-Open}
 
 pub append-nil : {X : Type 0} (xs : List X) → xs ++ [] ≡ xs
 append-nil [] = refl

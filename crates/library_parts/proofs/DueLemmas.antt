@@ -8,9 +8,9 @@ use Rattle.library_steps.specs.History.{is_running}
 use Rattle.library_steps.specs.SlotChange.{noted}
 use Rattle.library_steps.specs.Uses.{changes_in}
 use Rattle.journal_model.specs.Rollback.{MemberChange}
-use Rattle.job_table.specs.Changes.{cycle_from}
+use Rattle.lawful_states.specs.Jobs.{cycle_from}
 use Rattle.library_parts.specs.Due.{cycle_due, level_due, job_due, all_due, HasDue}
-use Rattle.library_parts.proofs.LockLemmas.{running-within}
+use Rattle.lawful_states.proofs.LockLemmas.{running-within}
 
 -- ---- all jobs, and one of them
 

@@ -3,7 +3,7 @@ use Rattle.std.proofs.Common.{◌≡◌, ℕ, zero, suc, ◌<◌, ◌≤◌, Lis
 use Rattle.std.specs.Prelude.{flat_map}
 use Rattle.std.specs.List.{AllByRecursion}
 use Rattle.logical_laws.proofs.ListLemmas.{each-append}
-use Rattle.file_catalogue.proofs.NameLemmas.{some-equal}
+use Rattle.lawful_states.proofs.NameLemmas.{some-equal}
 
 pub each-flat : {A B : Type 0} (Q : B → Type 0) (f : A → List B) (xs : List A) → AllByRecursion (λ (x : A). AllByRecursion Q (f x)) xs → AllByRecursion Q (flat_map f xs)
 each-flat Q f [] all = tt

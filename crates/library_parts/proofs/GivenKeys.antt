@@ -1,6 +1,5 @@
 -- Whether two records have one key that may not, once slots were given to a member: each unique path over it tells.
-use Rattle.std.proofs.Common.{◌≡◌, ◌≢◌, ℕ, zero, suc, ◌+◌, ◌<◌, ◌≤◌, ◌&&◌, ◌==◌, nat_lt, Bool, true, false, cond, List, [], ◌∷◌, ◌++◌, drop, length, map, slice_get, Contains, Option, Some, None}
-use Rattle.std.proofs.Common.{Result, Ok, Err, is_some, if◌then◌else◌, refl, sym, ap, ◌∙◌, subst, arith}
+use Rattle.std.proofs.Common.{◌≡◌, ◌≢◌, ℕ, zero, suc, ◌+◌, ◌<◌, ◌≤◌, ◌&&◌, ◌==◌, nat_lt, Bool, true, false, cond, List, [], ◌∷◌, ◌++◌, drop, length, map, slice_get, Contains, Option, Some, None, Result, Ok, Err, is_some, if◌then◌else◌, refl, sym, ap, ◌∙◌, subst, arith}
 use Rattle.std.specs.Prelude.{All, flat_map}
 use Rattle.std.specs.List.{AllByRecursion, IsDistinct, find}
 use Rattle.std.specs.Map.{keys_of}
@@ -26,7 +25,7 @@ use Rattle.path_entrants.specs.Repeated.{TellsRepeated}
 use Rattle.path_set.specs.declared.moves.PathMove.{PathMove}
 use Rattle.path_set.specs.KeptPaths.{KeptPath, KeptPaths, NumberedPaths, AreShared, entries_of}
 use Rattle.path_set.proofs.ShareLemmas.{judged}
-use Rattle.file_catalogue.specs.Owners.{Owns, has_number}
+use Rattle.lawful_states.specs.Owners.{Owns, has_number}
 use Rattle.physical_paths.specs.KeyedFiles.{IsRecordSlot, HasRecordsOf}
 use Rattle.job_table.specs.Opens.{OpenOrder}
 use Rattle.library_model.specs.Named.{Named, named, same_name}
@@ -47,13 +46,13 @@ use Rattle.library_parts.specs.Answers.{MayAllow}
 use Rattle.library_parts.specs.Given.{given_to, members_given, with_given, AreTold, FitsMember, IsTold, MayGive}
 use Rattle.library_parts.specs.Indexed.{AreViews, HasBytes, IsIndexed, IsUnjoined, IsView, IsViewBeside}
 use Rattle.library_parts.specs.Keyed.{AllAreKeyed}
-use Rattle.library_parts.specs.Lawful.{HoldsValues, IsLibrary}
-use Rattle.library_parts.specs.Slots.{MayStand}
+use Rattle.lawful_states.specs.Lawful.{HoldsValues, IsLibrary}
+use Rattle.lawful_states.specs.Slots.{MayStand}
 use Rattle.library_parts.proofs.FlatLemmas.{each-flat, flat-at, none-behind, some-at}
 use Rattle.library_parts.proofs.GivenLemmas.{given-hold}
 use Rattle.library_parts.proofs.IndexLooks.{bases-have, fields-are, records-of, view-of}
 use Rattle.library_parts.proofs.IndexLaws.{laws}
-use Rattle.library_parts.proofs.MemberLemmas.{AllByRecursion-get, HasRecords-member_of}
+use Rattle.lawful_states.proofs.MemberLemmas.{AllByRecursion-get, HasRecords-member_of}
 use Rattle.library_parts.proofs.RemadeLemmas.{at-next, remade-records}
 
 -- ---- unique paths, file by file

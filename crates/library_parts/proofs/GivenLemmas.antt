@@ -1,7 +1,6 @@
 -- Slots that are given to a member one after the other: what they make of it, that each may be put when its turn comes, and that the library is
 -- one after them.
-use Rattle.std.proofs.Common.{◌≡◌, ℕ, zero, suc, ◌+◌, ◌-◌, ◌*◌, ◌<◌, ◌≤◌, ◌==◌, ◌||◌, nat_lt, Bool, true, false, cond, List, [], ◌∷◌, ◌++◌, length, slice_set, slice_get, Option, Some, None, is_some, IsSome}
-use Rattle.std.proofs.Common.{unwrap_or, refl, sym, ap, ◌∙◌, subst, arith}
+use Rattle.std.proofs.Common.{◌≡◌, ℕ, zero, suc, ◌+◌, ◌-◌, ◌*◌, ◌<◌, ◌≤◌, ◌==◌, ◌||◌, nat_lt, Bool, true, false, cond, List, [], ◌∷◌, ◌++◌, length, slice_set, slice_get, Option, Some, None, is_some, IsSome, unwrap_or, refl, sym, ap, ◌∙◌, subst, arith}
 use Rattle.std.specs.List.{AllByRecursion}
 use Rattle.std.proofs.lemmas.Bool.Decides.{nat_tests}
 use Rattle.member_slots.specs.declared.slot.Slot.{Slot}
@@ -22,13 +21,13 @@ use Rattle.range_images.specs.Given.{given_slots, place_given}
 use Rattle.given_changes.specs.GivenChanges.{changes_given}
 use Rattle.library_parts.specs.Given.{given_to, members_given, CanTake, MayGive}
 use Rattle.library_parts.specs.Indexed.{HasBytes, AreOfBytes}
-use Rattle.library_parts.specs.Lawful.{AreOne, HoldsValues}
-use Rattle.library_parts.specs.Slots.{MayStand, weight}
+use Rattle.lawful_states.specs.Lawful.{AreOne, HoldsValues}
+use Rattle.lawful_states.specs.Slots.{MayStand, weight}
 use Rattle.library_parts.proofs.IndexMoves.{at-place, slot-stands}
 use Rattle.library_parts.proofs.IndexRecords.{bytes-member, bytes-with}
-use Rattle.library_parts.proofs.BackLemmas.{AllGoBack-with}
-use Rattle.library_parts.proofs.LawfulLemmas.{AreOne-with_member}
-use Rattle.library_parts.proofs.MemberLemmas.{at-member_of, is_some-IsSome, item_at-with_item_same, library_bytes-with, member_of-with, HasRecords-member_of}
+use Rattle.lawful_states.proofs.BackLemmas.{AllGoBack-with}
+use Rattle.lawful_states.proofs.LawfulLemmas.{AreOne-with_member}
+use Rattle.lawful_states.proofs.MemberLemmas.{at-member_of, is_some-IsSome, item_at-with_item_same, library_bytes-with, member_of-with, HasRecords-member_of}
 
 -- ---- a place of the member, and one behind the last
 

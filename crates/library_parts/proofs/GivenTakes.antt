@@ -10,7 +10,7 @@ use Rattle.member_slots.specs.declared.slot.Slot.TheVariants.{Deleted}
 use Rattle.member_slots.specs.Member.{MemberState, FitsSlot, IsMember}
 use Rattle.member_slots.specs.Members.{Numbered, AreMembers, member_of}
 use Rattle.journal_model.specs.Places.{slot_of, put_slot}
-use Rattle.file_catalogue.specs.Owners.{Owns}
+use Rattle.lawful_states.specs.Owners.{Owns}
 use Rattle.path_set.specs.declared.moves.ImageChange.{ImageChange}
 use Rattle.path_set.specs.declared.moves.PathMove.{PathMove}
 use Rattle.path_set.specs.KeptPaths.{AreShared, KeptPaths, NumberedPaths}
@@ -26,14 +26,14 @@ use Rattle.given_changes.specs.GivenChanges.{changes_given}
 use Rattle.library_parts.specs.Given.{FitsMember, MayGive}
 use Rattle.library_parts.specs.Indexed.{HasBytes, IsIndexed}
 use Rattle.library_parts.specs.Keyed.{AllAreKeyed}
-use Rattle.library_parts.specs.Lawful.{HoldsValues, IsLibrary}
-use Rattle.library_parts.specs.Slots.{MayStand}
+use Rattle.lawful_states.specs.Lawful.{HoldsValues, IsLibrary}
+use Rattle.lawful_states.specs.Slots.{MayStand}
 use Rattle.library_parts.proofs.GivenIndex.{long-given}
 use Rattle.library_parts.proofs.GivenLemmas.{put-holds}
 use Rattle.library_parts.proofs.IndexLaws.{laws}
 use Rattle.library_parts.proofs.IndexLooks.{fits-of, takes-slot}
 use Rattle.library_parts.proofs.IndexRecords.{bytes-member}
-use Rattle.library_parts.proofs.MemberLemmas.{HasRecords-member_of}
+use Rattle.lawful_states.proofs.MemberLemmas.{HasRecords-member_of}
 
 module _ (number : ℕ) (paths : NumberedPaths) where
   abbrev pub TakesSlot : Slot → Type 0

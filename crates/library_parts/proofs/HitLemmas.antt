@@ -6,7 +6,7 @@ use Rattle.std.specs.Option.{option_copied, option_map}
 use Rattle.field_types.specs.declared.faults.RecordFault.{RecordFault}
 use Rattle.field_types.specs.declared.values.Value.{Value}
 use Rattle.key_spec.specs.declared.KeyPart.{KeyPart}
-use Rattle.file_catalogue.proofs.NameLemmas.{some-equal}
+use Rattle.lawful_states.proofs.NameLemmas.{some-equal}
 use Rattle.file_cursor.specs.declared.places.Hit.{Hit}
 use Rattle.file_cursor.specs.declared.places.Order.{Order}
 use Rattle.file_model.specs.KeyOrder.{given_key, merged_parts}

@@ -1,6 +1,5 @@
 -- While the changes of a commit cycle are taken back one after another, the last one first, the kept paths are those of the members as they are then.
-use Rattle.std.proofs.Common.{ℕ, zero, suc, ◌+◌, ◌-◌, ◌<◌, ◌≤◌, ◌≡◌, ◌==◌, if◌then◌else◌, IsTrue, Bool, true, false, cond, List, [], ◌∷◌, length, map, get_or, slice_get, Some, None, refl, sym}
-use Rattle.std.proofs.Common.{ap, arith, ◌∙◌, subst}
+use Rattle.std.proofs.Common.{ℕ, zero, suc, ◌+◌, ◌-◌, ◌<◌, ◌≤◌, ◌≡◌, ◌==◌, if◌then◌else◌, IsTrue, Bool, true, false, cond, List, [], ◌∷◌, length, map, get_or, slice_get, Some, None, refl, sym, ap, arith, ◌∙◌, subst}
 use Rattle.std.specs.Prelude.{filter}
 use Rattle.std.specs.List.{AllByRecursion}
 use Rattle.std.proofs.lemmas.Bool.{cond-false, ne_eqb}
@@ -26,13 +25,13 @@ use Rattle.library_steps.specs.EndJob.{ended_job}
 use Rattle.library_steps.specs.History.{is_running}
 use Rattle.library_steps.specs.State.{FileState, JobState, job_at, job_changed, or_new, with_opens}
 use Rattle.library_steps.specs.Uses.{changes_in}
-use Rattle.library_parts.specs.Boundaries.{member_back}
+use Rattle.lawful_states.specs.Back.{member_back}
 use Rattle.library_parts.specs.Indexed.{HasBytes, record_change, moves_back, moves_of_job, changes_over, IsIndexed}
-use Rattle.library_parts.specs.Lawful.{FitsPlace}
+use Rattle.lawful_states.specs.Lawful.{FitsPlace}
 use Rattle.library_parts.specs.Standing.{StandAsMade}
 use Rattle.library_parts.specs.TakingBack.{IsTakingBack, CanTakeBack, count_over}
-use Rattle.library_parts.proofs.BackLemmas.{FitsPlace-with}
-use Rattle.library_parts.proofs.MemberLemmas.{length-changed, record_length-changed}
+use Rattle.lawful_states.proofs.BackLemmas.{FitsPlace-with}
+use Rattle.lawful_states.proofs.MemberLemmas.{length-changed, record_length-changed}
 use Rattle.library_parts.proofs.IndexPaths.{counted_in, changes_over-cons, room-of_spares, so_many, spares-fewer}
 use Rattle.library_parts.proofs.IndexChanges.{IsIndexed-ended, IsIndexed-rolled_back}
 use Rattle.library_parts.proofs.IndexRecords.{IsIndexed-made, bytes-changed, bytes-member, bytes-with, spares-fall}

@@ -1,6 +1,5 @@
 -- The kept paths are those of a library still, when a change is noted in a commit cycle, and when a commit cycle or a job ends.
-use Rattle.std.proofs.Common.{ℕ, zero, suc, ◌+◌, ◌-◌, ◌≤◌, ◌≡◌, ◌==◌, if◌then◌else◌, IsTrue, Bool, true, false, cond, List, [], ◌∷◌, length, map, slice_get, Option, Some, None, refl, sym, ap}
-use Rattle.std.proofs.Common.{arith, ◌∙◌, subst}
+use Rattle.std.proofs.Common.{ℕ, zero, suc, ◌+◌, ◌-◌, ◌≤◌, ◌≡◌, ◌==◌, if◌then◌else◌, IsTrue, Bool, true, false, cond, List, [], ◌∷◌, length, map, slice_get, Option, Some, None, refl, sym, ap, arith, ◌∙◌, subst}
 use Rattle.std.specs.Prelude.{filter}
 use Rattle.std.specs.List.{AllZip}
 use Rattle.member_slots.specs.declared.slot.Slot.{Slot}
@@ -12,7 +11,8 @@ use Rattle.path_set.specs.KeptPaths.{KeptPaths, NumberedPaths}
 use Rattle.path_set.specs.RecordChanges.{RecordChange, reversed, moves_in, opposites, paths_after}
 use Rattle.path_set.specs.MemberSteps.{is_over, slot_replaced}
 use Rattle.path_set.proofs.RecordLemmas.{moves-opposite, moves-later}
-use Rattle.job_table.specs.Changes.{change_of, cycle_from}
+use Rattle.job_table.specs.Changes.{change_of}
+use Rattle.lawful_states.specs.Jobs.{cycle_from}
 use Rattle.job_table.specs.Opens.{OpenOrder}
 use Rattle.job_table.specs.Table.{changed_at, job_of_number}
 use Rattle.library_model.specs.Named.{Named}

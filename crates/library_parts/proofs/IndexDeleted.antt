@@ -1,6 +1,5 @@
 -- The kept paths are those of a library still, with a file less that no job uses and on which no other depends.
-use Rattle.std.proofs.Common.{ℕ, ◌+◌, ◌≡◌, ◌≢◌, inl, inr, ◌==◌, ◌&&◌, ◌||◌, nat_lt, if◌then◌else◌, Bool, true, false, cond, not, List, [], ◌∷◌, ◌++◌, length, map, get_or, Contains, Option, Some, None}
-use Rattle.std.proofs.Common.{IsSome, IfSome, refl, sym, ap, arith, ◌∙◌, subst}
+use Rattle.std.proofs.Common.{ℕ, ◌+◌, ◌≡◌, ◌≢◌, inl, inr, ◌==◌, ◌&&◌, ◌||◌, nat_lt, if◌then◌else◌, Bool, true, false, cond, not, List, [], ◌∷◌, ◌++◌, length, map, get_or, Contains, Option, Some, None, IsSome, IfSome, refl, sym, ap, arith, ◌∙◌, subst}
 use Rattle.std.specs.Prelude.{All, MatchOption}
 use Rattle.std.specs.List.{AllByRecursion, IsDistinct, list_any}
 use Rattle.std.specs.Map.{keys_of}
@@ -31,8 +30,8 @@ use Rattle.library_paths.proofs.NumberLemmas.{IsBelow, any-at, at-any, each-at}
 use Rattle.library_paths.proofs.OwnerLemmas.{each-found, member-path, paths-apart, paths-contain}
 use Rattle.library_paths.proofs.PathsLemmas.{paths-left}
 use Rattle.file_catalogue.specs.Bodies.{logical_in}
-use Rattle.file_catalogue.specs.Owners.{AreApart, Owns, has_number}
-use Rattle.file_catalogue.proofs.NameLemmas.{named-without_other, same_name-equal, same_name-self, some-equal}
+use Rattle.lawful_states.specs.Owners.{AreApart, Owns, has_number}
+use Rattle.lawful_states.proofs.NameLemmas.{named-without_other, same_name-equal, same_name-self, some-equal}
 use Rattle.job_table.specs.Opens.{OpenOrder}
 use Rattle.library_model.specs.Named.{Named, named, same_name}
 use Rattle.library_steps.specs.DeleteFile.{first_dependent, user_by, without_file, without_members}
@@ -42,11 +41,11 @@ use Rattle.library_steps.specs.Records.{is_file_path}
 use Rattle.library_steps.specs.State.{State, FileState, MemberStatus, OpenState, JobState, memory_of}
 use Rattle.library_steps.specs.Uses.{has_changed, has_open_of, user_of_any, user_of_logical, uses}
 use Rattle.library_parts.specs.Indexed.{AreViews, IsIndexed, IsIndexedFor, IsViewBeside, path_by, path_read}
-use Rattle.library_parts.specs.Lawful.{IsBased, IsLibrary, OpenHolds, OpensBy, OpensFile, OpensHold}
+use Rattle.lawful_states.specs.Lawful.{IsBased, IsLibrary, OpenHolds, OpensBy, OpensFile, OpensHold}
 use Rattle.library_parts.specs.PathChanges.{IsPathOf, IsPathOfNamed, detached_from, without_path_over, without_paths}
 use Rattle.library_parts.specs.Reads.{IsNumberOf}
-use Rattle.library_parts.proofs.BackLemmas.{neither}
-use Rattle.library_parts.proofs.BaseLemmas.{Keeps-self}
+use Rattle.lawful_states.proofs.BackLemmas.{neither}
+use Rattle.lawful_states.proofs.BaseLemmas.{Keeps-self}
 use Rattle.library_parts.proofs.IndexPaths.{FileStays, any-both, changes-each, over-other, over-own, own-same, physical-of}
 use Rattle.library_parts.proofs.IndexShared.{IsNumbered, IsUnchanged, OpenIsAmong, OpensAreAmong, OpensStay, clash, IsIndexed-detached, IsIndexed-files, IsIndexed-members, IsIndexed-same, files-stay, opens-stay}
 use Rattle.library_parts.proofs.IndexStatus.{turned-bases, views-alike}

@@ -9,7 +9,7 @@ use Rattle.member_slots.specs.Members.{Numbered, item_at, with_item, without_ite
 use Rattle.path_set.specs.KeptPaths.{KeptPath, KeptPaths, NumberedPaths, spare_of}
 use Rattle.path_set.specs.MemberSteps.{is_over}
 use Rattle.path_set.specs.Sharing.{detached, given_up, one_fewer}
-use Rattle.file_catalogue.proofs.NameLemmas.{some-equal}
+use Rattle.lawful_states.proofs.NameLemmas.{some-equal}
 use Rattle.library_model.specs.Named.{Named}
 use Rattle.library_steps.specs.State.{MemberStatus}
 use Rattle.library_parts.specs.PathChanges.{detached_from, first_over, without_path_over, without_paths}

@@ -50,10 +50,10 @@ use Rattle.path_set.specs.MemberSteps.{is_over}
 use Rattle.path_set.specs.Sharing.{CanBeKept}
 use Rattle.path_set.proofs.MemberStepLemmas.{over-new}
 use Rattle.file_catalogue.specs.Keyed.{AllAreKeyed}
-use Rattle.file_catalogue.specs.Owners.{Owns, has_number}
-use Rattle.file_catalogue.specs.Physical.{IsPhysical}
-use Rattle.file_catalogue.proofs.NameLemmas.{some-equal}
-use Rattle.file_catalogue.proofs.StatusLemmas.{has_number-cons}
+use Rattle.lawful_states.specs.Owners.{Owns, has_number}
+use Rattle.lawful_states.specs.Physical.{IsPhysical}
+use Rattle.lawful_states.proofs.NameLemmas.{some-equal}
+use Rattle.lawful_states.proofs.StatusLemmas.{has_number-cons}
 use Rattle.physical_paths.specs.KeyedFiles.{HasRecordsOf}
 use Rattle.job_table.specs.Opens.{OpenOrder}
 use Rattle.library_model.specs.Named.{Named, named, same_name}
@@ -69,10 +69,10 @@ use Rattle.library_steps.specs.MemberCommands.{file_changed, with_member_name}
 use Rattle.library_steps.specs.State.{State, Memory, FileState, MemberStatus, JobState, fields_of, format_in, if_physical, memory_of, physical_among, physical_in, physical_spec}
 use Rattle.library_steps.specs.Uses.{changer_of_any, changes_in, has_changed}
 use Rattle.library_parts.specs.Indexed.{AreOfBytes, AreViewsBeside, IsIndexed, IsIndexedFor, IsUnjoined, IsView, IsViewBeside, RisesIfKeyless, HasSeveral}
-use Rattle.library_parts.specs.Lawful.{AreBased, GoesBack, IsBased, IsLibrary, StandsOver}
+use Rattle.lawful_states.specs.Lawful.{AreBased, GoesBack, IsBased, IsLibrary, StandsOver}
 use Rattle.library_parts.specs.PathChanges.{AttachesPath, IsAttached, member_path}
-use Rattle.library_parts.proofs.BaseLemmas.{base-is, kept-more, kept-wider, physical-described, physical-found, physical-here, physical-member, some-of}
-use Rattle.library_parts.proofs.BackLemmas.{neither}
+use Rattle.lawful_states.proofs.BaseLemmas.{base-is, kept-more, kept-wider, physical-described, physical-found, physical-here, physical-member, some-of}
+use Rattle.lawful_states.proofs.BackLemmas.{neither}
 use Rattle.library_parts.proofs.IndexPaths.{IsOfMember, changes-all, over-other, physical-of}
 use Rattle.library_parts.proofs.IndexShared.{IsUnchanged, IsIndexed-attached, IsIndexed-files, IsIndexed-members, opens-stay}
 use Rattle.library_parts.proofs.IndexStatus.{beside-alike, files-alike, views-alike}

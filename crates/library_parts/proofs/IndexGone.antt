@@ -10,14 +10,14 @@ use Rattle.member_slots.specs.Members.{Numbered, NumberedMembers, without_member
 use Rattle.path_set.specs.KeptPaths.{KeptPath, NumberedPaths, AreOver}
 use Rattle.path_set.specs.MemberSteps.{is_over}
 use Rattle.path_set.proofs.MemberStepLemmas.{over-others, same-without}
-use Rattle.file_catalogue.specs.Owners.{has_number}
-use Rattle.file_catalogue.proofs.StatusLemmas.{has_number-cons}
+use Rattle.lawful_states.specs.Owners.{has_number}
+use Rattle.lawful_states.proofs.StatusLemmas.{has_number-cons}
 use Rattle.library_model.specs.Named.{Named}
 use Rattle.library_steps.specs.DeleteFile.{without_members}
 use Rattle.library_steps.specs.State.{MemberStatus, JobState}
 use Rattle.library_steps.specs.Uses.{changes_in, first_job, has_boundary_lock, has_changed, has_open_over, uses}
 use Rattle.library_parts.specs.Indexed.{AreOfBytes}
-use Rattle.library_parts.proofs.BackLemmas.{neither}
+use Rattle.lawful_states.proofs.BackLemmas.{neither}
 use Rattle.library_parts.proofs.IndexPaths.{OfChanges}
 use Rattle.library_parts.proofs.IndexShared.{clash}
 

@@ -5,10 +5,10 @@ use Rattle.std.specs.Option.{option_map}
 use Rattle.dds_physical.specs.declared.physical_files.PhysicalSpec.{PhysicalSpec}
 use Rattle.logical_model.specs.Bases.{FileSpec, PhysicalFile}
 use Rattle.physical_paths.specs.KeyedFiles.{IsKeyed}
-use Rattle.file_catalogue.specs.Statuses.{after}
-use Rattle.file_catalogue.specs.declared.changes.StatusChange.{StatusChange}
-use Rattle.file_catalogue.proofs.ChangeLemmas.{changed-from, named-each_changed, named-file_changed}
-use Rattle.file_catalogue.proofs.NameLemmas.{named-append, named-without, some-equal}
+use Rattle.lawful_states.specs.Statuses.{after}
+use Rattle.lawful_states.specs.declared.changes.StatusChange.{StatusChange}
+use Rattle.lawful_states.proofs.ChangeLemmas.{changed-from, named-each_changed, named-file_changed}
+use Rattle.lawful_states.proofs.NameLemmas.{named-append, named-without, some-equal}
 use Rattle.library_model.specs.Named.{Named, named, same_name}
 use Rattle.library_steps.specs.DeleteFile.{without_file}
 use Rattle.library_steps.specs.MemberCommands.{file_changed, with_member_name}

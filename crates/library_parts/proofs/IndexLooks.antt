@@ -1,7 +1,6 @@
 -- What holds of the paths of physical and of logical files holds of each kept path: it can be asked about an image that holds values in the fields of the
 -- physical file that has the member.
-use Rattle.std.proofs.Common.{ℕ, ◌-◌, ◌≡◌, ◌≢◌, ◌==◌, ◌||◌, inl, inr, if◌then◌else◌, true, false, cond, List, [], ◌∷◌, length, get_or, slice_get, Contains, Option, Some, None, IsSome}
-use Rattle.std.proofs.Common.{refl, sym, ap, arith, ◌∙◌, subst}
+use Rattle.std.proofs.Common.{ℕ, ◌-◌, ◌≡◌, ◌≢◌, ◌==◌, ◌||◌, inl, inr, if◌then◌else◌, true, false, cond, List, [], ◌∷◌, length, get_or, slice_get, Contains, Option, Some, None, IsSome, refl, sym, ap, arith, ◌∙◌, subst}
 use Rattle.std.specs.Prelude.{All, unwrap_or}
 use Rattle.std.specs.List.{AllByRecursion, IsDistinct}
 use Rattle.std.specs.Map.{keys_of}
@@ -33,9 +32,9 @@ use Rattle.path_set.specs.MemberSteps.{image_in}
 use Rattle.path_set.specs.RecordChanges.{TakeImage, TakesImage}
 use Rattle.path_set.specs.Sharing.{CanBeKept}
 use Rattle.physical_paths.specs.KeyedFiles.{IsKeyed, IsRecord, IsRecordSlot, HasRecordsOf}
-use Rattle.file_catalogue.specs.Owners.{Owns, has_number}
-use Rattle.file_catalogue.specs.Physical.{IsPhysical}
-use Rattle.file_catalogue.proofs.StatusLemmas.{has_number-cons}
+use Rattle.lawful_states.specs.Owners.{Owns, has_number}
+use Rattle.lawful_states.specs.Physical.{IsPhysical}
+use Rattle.lawful_states.proofs.StatusLemmas.{has_number-cons}
 use Rattle.job_table.specs.Opens.{OpenOrder}
 use Rattle.library_model.specs.Named.{Named, named, same_name}
 use Rattle.library_paths.specs.AllPaths.{AreKeptFor, all_paths, paths_by}
@@ -46,10 +45,10 @@ use Rattle.library_steps.specs.LogicalFiles.{bases_in}
 use Rattle.library_steps.specs.State.{State, FileState, MemberStatus, fields_of, format_in, physical_among}
 use Rattle.library_parts.specs.Indexed.{AreViews, HasBytes, IsIndexed, IsView, IsViewBeside}
 use Rattle.library_parts.specs.Keyed.{AllAreKeyed}
-use Rattle.library_parts.specs.Lawful.{AreBased, HoldsValues, IsBased, IsLibrary, StandsOver}
-use Rattle.library_parts.specs.Slots.{MayStand}
-use Rattle.library_parts.proofs.BaseLemmas.{base-is, each-name, physical-found, physical-member, some-of}
-use Rattle.library_parts.proofs.MemberLemmas.{AllByRecursion-get, HasRecords-member_of, HoldsValues-at}
+use Rattle.lawful_states.specs.Lawful.{AreBased, HoldsValues, IsBased, IsLibrary, StandsOver}
+use Rattle.lawful_states.specs.Slots.{MayStand}
+use Rattle.lawful_states.proofs.BaseLemmas.{base-is, each-name, physical-found, physical-member, some-of}
+use Rattle.lawful_states.proofs.MemberLemmas.{AllByRecursion-get, HasRecords-member_of, HoldsValues-at}
 use Rattle.library_parts.proofs.IndexPaths.{IsOfMember, physical-of}
 use Rattle.library_parts.proofs.IndexRecords.{bytes-member}
 

@@ -1,6 +1,5 @@
 -- What a changed slot is to the kept paths: its moves can be made, what they give back takes it back, and room for the changes of open commit cycles is left.
-use Rattle.std.proofs.Common.{ℕ, zero, suc, ◌+◌, ◌-◌, ◌<◌, ◌≤◌, ◌≡◌, ◌==◌, if◌then◌else◌, Bool, true, false, cond, List, [], ◌∷◌, length, Option, Some, None, is_some, IsSome, slice_get}
-use Rattle.std.proofs.Common.{slice_set, refl, sym, ap, arith, ◌∙◌, subst}
+use Rattle.std.proofs.Common.{ℕ, zero, suc, ◌+◌, ◌-◌, ◌<◌, ◌≤◌, ◌≡◌, ◌==◌, if◌then◌else◌, Bool, true, false, cond, List, [], ◌∷◌, length, Option, Some, None, is_some, IsSome, slice_get, slice_set, refl, sym, ap, arith, ◌∙◌, subst}
 use Rattle.std.specs.Prelude.{filter, unwrap_or}
 use Rattle.std.proofs.lemmas.Bool.{cond-false, ne_eqb}
 use Rattle.std.proofs.lemmas.List.Sums.{sum_by-cons}
@@ -28,7 +27,7 @@ use Rattle.library_steps.specs.SlotChange.{with_slot}
 use Rattle.library_steps.specs.State.{Memory, FileState, JobState}
 use Rattle.library_steps.specs.Uses.{changes_in}
 use Rattle.library_parts.specs.Indexed.{HasBytes, HaveSpares, moves_back, changes_over, IsIndexed}
-use Rattle.library_parts.proofs.MemberLemmas.{slot_put-appended, slot_put-changed}
+use Rattle.lawful_states.proofs.MemberLemmas.{slot_put-appended, slot_put-changed}
 use Rattle.library_parts.proofs.IndexChanges.{record_change-of}
 use Rattle.library_parts.proofs.IndexPaths.{counted_in, changes_over-cons, so_many, spares-with}
 use Rattle.library_parts.proofs.IndexRecords.{IsIndexed-appended, IsIndexed-replaced}

@@ -1,7 +1,5 @@
 -- What the kept paths are to files, opens and changes of commit cycles, where paths come, go, or change in their entries alone.
-use Rattle.std.proofs.Common.{ℕ, zero, suc, ◌+◌, ◌*◌, ◌≤◌, ◌≡◌, ◌≢◌, ◌==◌, ◌&&◌, ◌||◌, ◌⊎◌, inl, inr, nat_lt, Bool, true, false, if◌then◌else◌, List, [], ◌∷◌, ◌++◌, length, map, get_or, Option, Some}
-use Rattle.std.proofs.Common.{None, refl}
-use Rattle.std.proofs.Common.{sym, ap, arith, ◌∙◌, subst}
+use Rattle.std.proofs.Common.{ℕ, zero, suc, ◌+◌, ◌*◌, ◌≤◌, ◌≡◌, ◌≢◌, ◌==◌, ◌&&◌, ◌||◌, ◌⊎◌, inl, inr, nat_lt, Bool, true, false, if◌then◌else◌, List, [], ◌∷◌, ◌++◌, length, map, get_or, Option, Some, None, refl, sym, ap, arith, ◌∙◌, subst}
 use Rattle.std.specs.Prelude.{All, Any, filter}
 use Rattle.std.specs.List.{AllByRecursion, AllZip, list_any}
 use Rattle.std.proofs.lemmas.Bool.{cond-false}
@@ -31,7 +29,7 @@ use Rattle.path_set.specs.declared.moves.PathMove.{PathMove}
 use Rattle.path_set.specs.KeptPaths.{AreShared, KeptPath, KeptPaths, NumberedPaths, spare_of}
 use Rattle.path_set.specs.RecordChanges.{RecordChange, reversed, moves_of, in_path, moves_in, HaveRoom}
 use Rattle.path_set.specs.MemberSteps.{is_over}
-use Rattle.file_catalogue.proofs.NameLemmas.{some-equal}
+use Rattle.lawful_states.proofs.NameLemmas.{some-equal}
 use Rattle.job_table.specs.Opens.{OpenOrder}
 use Rattle.library_model.specs.Named.{Named, named}
 use Rattle.library_steps.specs.Opens.{first_of}
@@ -40,8 +38,8 @@ use Rattle.library_steps.specs.LogicalFiles.{bases_in}
 use Rattle.library_steps.specs.State.{FileState, MemberStatus, OpenState, CycleState, JobState, job_changed}
 use Rattle.library_steps.specs.Uses.{changes_in}
 use Rattle.library_parts.specs.Indexed.{AreViews, AreViewsBeside, IsViewBeside, AreSameBasesBy, IsIndexedFor, IsReadSo, OpensRead, ReadsBy, ReadsFile, ReadsIn, HaveSpares, changes_over, moves_back, moves_of_job, path_by, record_change}
-use Rattle.library_parts.specs.Lawful.{GoesBack, CycleGoesBack, AllGoBack}
-use Rattle.library_parts.proofs.BaseLemmas.{IsKept}
+use Rattle.lawful_states.specs.Lawful.{GoesBack, CycleGoesBack, AllGoBack}
+use Rattle.lawful_states.proofs.BaseLemmas.{IsKept}
 
 -- ---- lists
 

@@ -1,6 +1,5 @@
 -- The kept paths are those of a library still, where a file gets a path or gives one up, where a member comes, and where files change.
-use Rattle.std.proofs.Common.{ℕ, suc, ◌*◌, ◌<◌, ◌≤◌, ◌≡◌, ◌≢◌, ◌==◌, ◌||◌, ◌⊎◌, inl, inr, nat_lt, Bool, true, false, cond, not, List, [], ◌∷◌, ◌++◌, length, map, get_or, Contains}
-use Rattle.std.proofs.Common.{Option, Some, None, is_some, IsSome, IfSome, refl, sym, ap, arith, ◌∙◌, subst}
+use Rattle.std.proofs.Common.{ℕ, suc, ◌*◌, ◌<◌, ◌≤◌, ◌≡◌, ◌≢◌, ◌==◌, ◌||◌, ◌⊎◌, inl, inr, nat_lt, Bool, true, false, cond, not, List, [], ◌∷◌, ◌++◌, length, map, get_or, Contains, Option, Some, None, is_some, IsSome, IfSome, refl, sym, ap, arith, ◌∙◌, subst}
 use Rattle.std.specs.Prelude.{All, Any}
 use Rattle.std.specs.List.{AllByRecursion, AllZip, list_any}
 use Rattle.std.proofs.lemmas.Bool.{cond-true, eqb-true}
@@ -21,14 +20,14 @@ use Rattle.library_paths.proofs.CountLemmas.{contained-count, count-own}
 use Rattle.library_paths.proofs.KeptLemmas.{attached, counted-alike, detached-kept}
 use Rattle.library_paths.proofs.ListLemmas.{EachTwo, each-filter, each-of, filter-all, two-from}
 use Rattle.library_paths.proofs.NumberLemmas.{IsBelow, any-put, any-with, any-without, each-at, each-put, each-with, under}
-use Rattle.file_catalogue.proofs.NameLemmas.{some-equal}
+use Rattle.lawful_states.proofs.NameLemmas.{some-equal}
 use Rattle.job_table.specs.Opens.{OpenOrder}
 use Rattle.library_model.specs.Named.{Named, named}
 use Rattle.library_steps.specs.LogicalFiles.{bases_in}
 use Rattle.library_steps.specs.State.{FileState, OpenState, JobState}
 use Rattle.library_parts.specs.Indexed.{AreOfBytes, AreSameBasesBy, AreViews, IsIndexedFor, OpensRead, ReadsBy, ReadsFile, ReadsIn, HaveSpares, changes_over, moves_back, moves_of_job, path_read, record_change}
 use Rattle.library_parts.specs.PathChanges.{IsAttached}
-use Rattle.library_parts.proofs.BaseLemmas.{Keeps-self}
+use Rattle.lawful_states.proofs.BaseLemmas.{Keeps-self}
 use Rattle.library_parts.proofs.IndexPaths.{FileStays, FilesStay, OfChanges, PathsStay, changes-each, changes-none, moves-among, orders-stay, read-stays}
 
 pub clash : {b : Bool} → b ≡ true → b ≡ false → ⊥

@@ -15,15 +15,15 @@ use Rattle.library_paths.proofs.NameLemmas.{each-named}
 use Rattle.library_paths.proofs.PathsLemmas.{paths-status}
 use Rattle.path_set.specs.declared.moves.PathMove.{PathMove}
 use Rattle.path_set.specs.KeptPaths.{KeptPaths}
-use Rattle.file_catalogue.specs.Statuses.{after}
-use Rattle.file_catalogue.specs.declared.changes.StatusChange.{StatusChange}
-use Rattle.file_catalogue.proofs.StatusLemmas.{after-number}
+use Rattle.lawful_states.specs.Statuses.{after}
+use Rattle.lawful_states.specs.declared.changes.StatusChange.{StatusChange}
+use Rattle.lawful_states.proofs.StatusLemmas.{after-number}
 use Rattle.job_table.specs.Opens.{OpenOrder}
 use Rattle.library_model.specs.Named.{Named, named}
 use Rattle.library_steps.specs.LogicalFiles.{bases_in}
 use Rattle.library_steps.specs.State.{FileState, JobState, status_changed}
 use Rattle.library_parts.specs.Indexed.{AreSameBasesBy, AreViewsBeside, IsIndexed, IsView, IsViewBeside}
-use Rattle.library_parts.proofs.BaseLemmas.{IsKept, Keeps-status, kept-each}
+use Rattle.lawful_states.proofs.BaseLemmas.{IsKept, Keeps-status, kept-each}
 use Rattle.library_parts.proofs.IndexPaths.{FilesStay}
 use Rattle.library_parts.proofs.IndexShared.{IsIndexed-files, opens-stay}
 

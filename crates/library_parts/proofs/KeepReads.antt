@@ -5,17 +5,17 @@ use Rattle.std.specs.List.{AllZip}
 use Rattle.file_model.specs.Paths.{PathEntry}
 use Rattle.lock_table.specs.declared.levels.Call.{Call}
 use Rattle.path_set.specs.KeptPaths.{NumberedPaths}
-use Rattle.file_catalogue.proofs.NameLemmas.{some-equal}
+use Rattle.lawful_states.proofs.NameLemmas.{some-equal}
 use Rattle.job_table.specs.Opens.{AllOfNumber, OpenOrder, SameOpen}
 use Rattle.library_model.specs.Named.{Named, named}
 use Rattle.library_steps.specs.LogicalFiles.{bases_in}
 use Rattle.library_steps.specs.Reads.{entry_found, has_read}
 use Rattle.library_steps.specs.State.{FileState, JobState, OpenState}
 use Rattle.library_parts.specs.Indexed.{AreViews, OpensRead, ReadsFile, ReadsIn}
-use Rattle.library_parts.specs.Lawful.{OpenHolds}
-use Rattle.library_parts.proofs.BaseLemmas.{OpenHolds-has_read}
+use Rattle.lawful_states.specs.Lawful.{OpenHolds}
+use Rattle.lawful_states.proofs.BaseLemmas.{OpenHolds-has_read}
 use Rattle.library_parts.proofs.FindLemmas.{some-below, unjoined-of}
-use Rattle.library_parts.proofs.LawfulLemmas.{KeepsOpens}
+use Rattle.lawful_states.proofs.LawfulLemmas.{KeepsOpens}
 use Rattle.library_parts.proofs.ReadLemmas.{formats-many}
 
 module _ (files : Named FileState) (views : AreViews files) (paths : NumberedPaths) (number : ℕ) (kept : OpenOrder) (call : Call) (entry : PathEntry) (low : entry.format < length kept.formats) where

@@ -11,7 +11,7 @@ use Rattle.file_model.specs.Paths.{clash, path_key}
 use Rattle.file_model.specs.Selection.{selects}
 use Rattle.file_model.specs.Views.{view_of}
 use Rattle.file_model.specs.declared.paths.PathFormat.{PathFormat}
-use Rattle.file_catalogue.proofs.NameLemmas.{some-equal}
+use Rattle.lawful_states.proofs.NameLemmas.{some-equal}
 use Rattle.journal_model.specs.Rollback.{MemberChange}
 use Rattle.key_order.specs.KeyBytes.{encoded}
 use Rattle.key_order.specs.KeyFields.{AreBytes}

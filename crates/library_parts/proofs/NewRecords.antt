@@ -31,7 +31,7 @@ use Rattle.path_set.specs.EqualKeys.{clash_in}
 use Rattle.path_set.specs.KeptPaths.{KeptPath, NumberedPaths, AreShared, entries_of}
 use Rattle.path_set.proofs.ClashLemmas.{clash-told}
 use Rattle.physical_paths.specs.KeyedFiles.{HasRecordsOf}
-use Rattle.file_catalogue.specs.Owners.{Owns}
+use Rattle.lawful_states.specs.Owners.{Owns}
 use Rattle.job_table.specs.Opens.{OpenOrder}
 use Rattle.library_model.specs.Named.{Named, named, same_name}
 use Rattle.library_paths.specs.AllPaths.{all_paths, paths_by}
@@ -43,10 +43,10 @@ use Rattle.library_steps.specs.State.{State, FileState, fields_of, memory_of}
 use Rattle.library_steps.specs.UniqueKeys.{has_member, own_unique, unique_paths, uniques_by, view_unique}
 use Rattle.library_parts.specs.Indexed.{IsIndexed, IsView}
 use Rattle.library_parts.specs.Keyed.{AllAreKeyed}
-use Rattle.library_parts.specs.Lawful.{GoesBack, HoldsValues, IsLibrary}
+use Rattle.lawful_states.specs.Lawful.{GoesBack, HoldsValues, IsLibrary}
 use Rattle.library_parts.specs.NewKeys.{AllAreAskedBefore, IsAskedBefore, IsAskedIn, IsFormatAt, IsKeptOver, IsNewFor}
 use Rattle.library_parts.specs.Parts.{LibraryParts}
-use Rattle.library_parts.specs.Slots.{MayStand}
+use Rattle.lawful_states.specs.Slots.{MayStand}
 use Rattle.library_parts.proofs.FlatLemmas.{each-flat}
 use Rattle.library_parts.proofs.GivenKeys.{has-status}
 use Rattle.library_parts.proofs.IndexLaws.{laws}

@@ -1,6 +1,6 @@
 -- How a new open reads: by its file's path, or in arrival order.
 use Rattle.std.proofs.Common.{◌≡◌, ◌≢◌, ℕ, zero, ◌&&◌, Bool, true, false, if◌then◌else◌, List, [], ◌∷◌, map, Option, Some, None, Result, Ok, Err, IfOk, IfSome, refl, sym, ap, subst, ◌∙◌, arith}
-use Rattle.file_catalogue.specs.Owners.{has_number}
+use Rattle.lawful_states.specs.Owners.{has_number}
 use Rattle.std.specs.Prelude.{Any, Contains, MatchOption}
 use Rattle.dds_logical.specs.declared.views.LogicalSpec.{LogicalSpec}
 use Rattle.dds_logical.specs.declared.views.LogicalSpec.TheVariants.{Simple, Multi, Join}

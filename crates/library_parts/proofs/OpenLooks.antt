@@ -1,10 +1,9 @@
 -- What an open reads by: its order among those of its job, and the kept path of its file, with the entries that the members give it.
-use Rattle.std.proofs.Common.{ℕ, zero, suc, ◌-◌, ◌<◌, ◌≤◌, ◌≡◌, ◌==◌, ◌&&◌, nat_lt, if◌then◌else◌, IsTrue, Bool, true, false, cond, List, [], ◌∷◌, length, get_or, slice_get, Option, Some, map}
+use Rattle.std.proofs.Common.{ℕ, zero, suc, ◌-◌, ◌<◌, ◌≤◌, ◌≡◌, ◌==◌, ◌&&◌, nat_lt, if◌then◌else◌, IsTrue, Bool, true, false, cond, List, [], ◌∷◌, length, get_or, slice_get, Option, Some, map, None, IsSome, refl, sym, ap, arith, ◌∙◌, subst}
 use Rattle.library_parts.proofs.AlikeParts.{views-length}
 use Rattle.logical_model.specs.FilePaths.{view_format}
 use Rattle.file_model.specs.declared.paths.PathFormat.{PathFormat}
 use Rattle.dds_logical.specs.declared.views.View.{View}
-use Rattle.std.proofs.Common.{None, IsSome, refl, sym, ap, arith, ◌∙◌, subst}
 use Rattle.std.specs.Prelude.{All, AllPairs, unwrap_or}
 use Rattle.std.specs.List.{AllByRecursion, AllZip}
 use Rattle.std.proofs.lemmas.Bool.{cond-true, cond-false, ltb-false}
@@ -35,7 +34,7 @@ use Rattle.path_set.specs.RebuiltPaths.{HaveRooms}
 use Rattle.path_set.proofs.ShareLemmas.{entries-path}
 use Rattle.physical_paths.specs.KeyedFiles.{IsRecordSlot, HasRecordsOf}
 use Rattle.library_paths.specs.AllPaths.{AreKeptFor}
-use Rattle.file_catalogue.proofs.NameLemmas.{some-equal}
+use Rattle.lawful_states.proofs.NameLemmas.{some-equal}
 use Rattle.job_table.specs.Opens.{OpenOrder, SameOpen}
 use Rattle.job_table.specs.Table.{job_of_number}
 use Rattle.library_model.specs.Named.{Named, named, same_name}
@@ -45,10 +44,10 @@ use Rattle.library_steps.specs.Opens.{first_of}
 use Rattle.library_steps.specs.Records.{is_file_path, is_keyed}
 use Rattle.library_steps.specs.State.{FileState, OpenState, JobState, job_at, or_new}
 use Rattle.library_parts.specs.Indexed.{AreOfBytes, HasBytes, IsByPath, IsReadSo, IsUnjoined, MemberHasBytes, ReadsBy, ReadsFile, ReadsIn, OpensRead, path_by, path_read, IsIndexed}
-use Rattle.library_parts.specs.Lawful.{HoldsValues, IsThere}
+use Rattle.lawful_states.specs.Lawful.{HoldsValues, IsThere}
 use Rattle.library_parts.specs.Reads.{formats_by, formats_read, has_positions}
-use Rattle.library_parts.proofs.BaseLemmas.{some-of}
-use Rattle.library_parts.proofs.MemberLemmas.{HasRecords-member_of}
+use Rattle.lawful_states.proofs.BaseLemmas.{some-of}
+use Rattle.lawful_states.proofs.MemberLemmas.{HasRecords-member_of}
 use Rattle.library_parts.proofs.IndexPaths.{any-both}
 
 -- ---- how the open of a name reads

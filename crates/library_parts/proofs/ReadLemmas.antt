@@ -1,8 +1,7 @@
 -- What an open reads is there, and what it finds is a record that stands in its member.
-use Rattle.std.proofs.Common.{◌≡◌, ℕ, suc, ◌+◌, ◌-◌, ◌≤◌, ◌==◌, ◌&&◌, nat_lt, Bool, true, false, List, [], ◌∷◌, ◌++◌, length, map, Option, Some, None, is_some, IsSome, IfSome, slice_get, refl, ◌<◌, zero}
+use Rattle.std.proofs.Common.{◌≡◌, ℕ, suc, ◌+◌, ◌-◌, ◌≤◌, ◌==◌, ◌&&◌, nat_lt, Bool, true, false, List, [], ◌∷◌, ◌++◌, length, map, Option, Some, None, is_some, IsSome, IfSome, slice_get, refl, ◌<◌, zero, sym, ap, subst, ◌∙◌, arith}
 use Rattle.library_parts.proofs.IndexFiles.{own-members}
 use Rattle.library_steps.specs.Reads.{at_format}
-use Rattle.std.proofs.Common.{sym, ap, subst, ◌∙◌, arith}
 use Rattle.std.specs.Prelude.{All, filter, unwrap_or}
 use Rattle.std.specs.Option.{option_map}
 use Rattle.std.specs.List.{AllByRecursion}
@@ -45,8 +44,8 @@ use Rattle.logical_paths.specs.KeyedViews.{HaveRecords}
 use Rattle.logical_paths.proofs.ViewLemmas.{keys-short, paths-bytes}
 use Rattle.physical_paths.specs.KeyedFiles.{IsKeyed, HasRecordsOf}
 use Rattle.physical_paths.proofs.RecordLemmas.{keys-within, path-bytes}
-use Rattle.file_catalogue.specs.Physical.{IsPhysical}
-use Rattle.file_catalogue.proofs.NameLemmas.{some-equal}
+use Rattle.lawful_states.specs.Physical.{IsPhysical}
+use Rattle.lawful_states.proofs.NameLemmas.{some-equal}
 use Rattle.file_cursor.specs.declared.places.Hit.{Hit}
 use Rattle.file_cursor.specs.CursorPosition.{entry_of}
 use Rattle.open_position.specs.declared.reads.ReadBy.{ReadBy}
@@ -66,9 +65,10 @@ use Rattle.library_steps.specs.State.{State, Memory, FileState, OpenState, field
 use Rattle.library_parts.specs.Finds.{ReadsMember}
 use Rattle.library_parts.specs.Indexed.{IsByArrival, IsReadSo, IsUnjoined, IsView, IsViewBeside, ReadsBy, path_by, path_read, IsIndexed}
 use Rattle.library_parts.specs.Keyed.{AllAreKeyed}
-use Rattle.library_parts.specs.Lawful.{IsBased, IsLibrary, IsThere, StandsOver, OpensBy, OpensFile, OpenHolds}
+use Rattle.lawful_states.specs.Lawful.{IsBased, IsLibrary, IsThere, StandsOver, OpensBy, OpensFile, OpenHolds}
 use Rattle.library_parts.specs.Reads.{ReadsAmong, formats_by, has_positions, formats_read}
-use Rattle.library_parts.proofs.FindLemmas.{HasBase, has-base, physical-opened, view-of, members-many}
+use Rattle.lawful_states.proofs.FindLemmas.{HasBase, has-base, physical-opened}
+use Rattle.library_parts.proofs.FindLemmas.{view-of, members-many}
 use Rattle.library_parts.proofs.OpenLooks.{IsReadBy, member-is, reads-keyed, reads-path, records-there, HasOneFormat, formats-are, formats-of-views}
 
 -- ---- the records that stand

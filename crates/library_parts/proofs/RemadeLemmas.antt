@@ -1,6 +1,5 @@
 -- The paths of a member can be made anew over other slots of records, and a copy of a member without its deleted slots is made slot by slot.
-use Rattle.std.proofs.Common.{ℕ, zero, suc, ◌+◌, ◌-◌, ◌≤◌, ◌≡◌, inl, inr, List, [], ◌∷◌, ◌++◌, drop, length, slice_get, Option, Some, None, IsSome, refl, sym, ap, arith}
-use Rattle.std.proofs.Common.{◌∙◌, subst}
+use Rattle.std.proofs.Common.{ℕ, zero, suc, ◌+◌, ◌-◌, ◌≤◌, ◌≡◌, inl, inr, List, [], ◌∷◌, ◌++◌, drop, length, slice_get, Option, Some, None, IsSome, refl, sym, ap, arith, ◌∙◌, subst}
 use Rattle.std.specs.Prelude.{All, MatchOption, filter, unwrap_or}
 use Rattle.std.specs.List.{AllByRecursion, IsDistinct}
 use Rattle.std.specs.Map.{keys_of}
@@ -23,19 +22,19 @@ use Rattle.path_set.specs.RebuiltPaths.{CanBeRebuilt}
 use Rattle.path_set.specs.Sharing.{CanBeKept}
 use Rattle.path_set.proofs.MemberStepLemmas.{same-with}
 use Rattle.physical_paths.specs.KeyedFiles.{IsRecordSlot, HasRecordsOf}
-use Rattle.file_catalogue.specs.Owners.{Owns}
+use Rattle.lawful_states.specs.Owners.{Owns}
 use Rattle.job_table.specs.Opens.{OpenOrder}
 use Rattle.library_model.specs.Named.{Named, named, same_name}
 use Rattle.library_steps.specs.LogicalFiles.{bases_in}
 use Rattle.library_steps.specs.State.{State, FileState, fields_of}
 use Rattle.library_parts.specs.Indexed.{IsIndexed}
 use Rattle.library_parts.specs.Keyed.{AllAreKeyed}
-use Rattle.library_parts.specs.Lawful.{IsLibrary}
-use Rattle.library_parts.specs.Slots.{with_live}
+use Rattle.lawful_states.specs.Lawful.{IsLibrary}
+use Rattle.lawful_states.specs.Slots.{with_live}
 use Rattle.library_parts.proofs.IndexLooks.{bases-have, each-kept, fields-are, records-of, view-of}
 use Rattle.library_parts.proofs.IndexLaws.{laws}
 use Rattle.library_parts.proofs.IndexMoves.{at-place}
-use Rattle.library_parts.proofs.MemberLemmas.{member_of-with, is_some-IsSome}
+use Rattle.lawful_states.proofs.MemberLemmas.{member_of-with, is_some-IsSome}
 
 -- ---- the paths over a member with other records
 

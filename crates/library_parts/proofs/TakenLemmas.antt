@@ -3,7 +3,7 @@ use Rattle.std.proofs.Common.{◌≡◌, ℕ, zero, suc, ◌+◌, Bool, true, fa
 use Rattle.std.specs.List.{AllByRecursion, cons_option}
 use Rattle.file_model.specs.KeyOrder.{KeyValue}
 use Rattle.file_model.specs.declared.paths.PathFormat.{PathFormat}
-use Rattle.file_catalogue.proofs.NameLemmas.{some-equal}
+use Rattle.lawful_states.proofs.NameLemmas.{some-equal}
 use Rattle.journal_model.specs.Rollback.{MemberChange}
 use Rattle.library_steps.specs.UniqueKeys.{takes_key}
 use Rattle.library_parts.specs.NewKeys.{least_of, lesser_of, taken}

@@ -5,9 +5,10 @@ use Rattle.member_slots.specs.Members.{NumberedMembers, RoomyMembers}
 use Rattle.journal_model.specs.Replay.{before_of}
 use Rattle.journal_model.specs.Rollback.{MemberChange, change_drafts, undo_drafts, undo_kinds}
 use Rattle.memory_journal.specs.Journal.{Held, deposited}
-use Rattle.library_parts.specs.Boundaries.{member_back, members_back}
-use Rattle.library_parts.specs.Lawful.{FitsPlace}
-use Rattle.library_parts.proofs.BoundaryLemmas.{deposited-append, deposited-none, places-back}
+use Rattle.lawful_states.specs.Back.{member_back, members_back}
+use Rattle.lawful_states.specs.Lawful.{FitsPlace}
+use Rattle.library_parts.proofs.BoundaryLemmas.{deposited-append, deposited-none}
+use Rattle.lawful_states.proofs.BoundaryLemmas.{places-back}
 
 -- these changes are left, with the members and the journal as they are now
 pub record IsUnderway (job : List ℕ) (moment : ℕ) (all : List MemberChange) (first : RoomyMembers) (begun : Held) (left : List MemberChange) (now : RoomyMembers) (held : Held) : Type 0 where

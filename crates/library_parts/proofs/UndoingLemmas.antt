@@ -15,9 +15,9 @@ use Rattle.library_steps.specs.EndJob.{ended_job}
 use Rattle.library_steps.specs.History.{is_running}
 use Rattle.library_steps.specs.State.{FileState, JobState, job_at, job_changed, with_opens}
 use Rattle.library_steps.specs.Uses.{changes_in}
-use Rattle.library_parts.specs.Boundaries.{member_back}
+use Rattle.lawful_states.specs.Back.{member_back}
 use Rattle.library_parts.specs.Indexed.{HasBytes, IsIndexed}
-use Rattle.library_parts.specs.Lawful.{FitsPlace}
+use Rattle.lawful_states.specs.Lawful.{FitsPlace}
 use Rattle.library_parts.specs.Standing.{StandAsMade}
 use Rattle.library_parts.specs.TakingBack.{IsTakingBack, CanTakeBack, LeadsToIndexed}
 use Rattle.library_parts.proofs.IndexBack.{moves-at, taking-rolled_back, taking-ended, taking-next, back-can, back-next}

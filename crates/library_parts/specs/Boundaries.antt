@@ -5,9 +5,6 @@ use Rattle.commit_level.specs.declared.Level.{Level}
 use Rattle.entry_codec.specs.declared.entries.Draft.{Draft}
 use Rattle.entry_codec.specs.declared.kinds.EntryKind.{EntryKind}
 use Rattle.entry_codec.specs.declared.kinds.EntryKind.TheVariants.{CommitCycleRolledBack, CommitmentEnded}
-use Rattle.member_slots.specs.Member.{changed}
-use Rattle.member_slots.specs.Members.{NumberedMembers, member_of, with_member}
-use Rattle.journal_model.specs.Replay.{before_of}
 use Rattle.journal_model.specs.Rollback.{MemberChange, undo_drafts}
 use Rattle.library_model.specs.declared.replies.Reply.TheVariants.{Done}
 use Rattle.library_steps.specs.Change.{Change, journaled}
@@ -18,15 +15,6 @@ use Rattle.library_parts.specs.declared.boundaries.Origin.{Origin}
 
 abbrev pub author : (job : List ℕ) (moment : ℕ) → Author
 author job moment = record { job = job; moment = moment }
-
--- the members with one change taken back
-abbrev pub member_back : MemberChange → NumberedMembers → NumberedMembers
-member_back undo members = with_member undo.member (changed (member_of undo.member members) (undo.change.place + 1) (before_of undo.change)) members
-
--- with each of them, the last change first
-abbrev pub members_back : List MemberChange → NumberedMembers → NumberedMembers
-members_back [] members = members
-members_back (undo ∷ undos) members = members_back undos (member_back undo members)
 
 -- the entry that tells of what was done to the record
 abbrev pub told : Origin → EntryKind → Draft

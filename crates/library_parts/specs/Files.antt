@@ -2,7 +2,7 @@
 -- may be added to a file. (CL reference, CRTPF and ADDPFM.)
 use Rattle.std.specs.Prelude.{◌≡◌, ℕ, ◌<◌, ◌≤◌, Ok, None, IsSome, IfSome, length, List, [], ◌∷◌}
 use Rattle.logical_model.specs.Bases.{LogicalFile, base_members}
-use Rattle.file_catalogue.specs.Physical.{IsPhysical}
+use Rattle.lawful_states.specs.Physical.{IsPhysical}
 use Rattle.library_model.specs.declared.limits.TheConstants.{LAST_MEMBER}
 use Rattle.library_model.specs.Named.{named}
 use Rattle.library_model.specs.declared.requests.FileMember.{FileMember}

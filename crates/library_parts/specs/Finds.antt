@@ -10,17 +10,17 @@ use Rattle.logical_model.specs.Formats.{format_names}
 use Rattle.library_model.specs.Named.{Named, named}
 use Rattle.library_model.specs.declared.replies.Reply.{Reply}
 use Rattle.library_steps.specs.LogicalFiles.{bases_in}
-use Rattle.file_catalogue.specs.Owners.{Owns, has_number}
-use Rattle.member_slots.specs.Members.{member_at}
+use Rattle.lawful_states.specs.Owners.{has_number}
 use Rattle.entry_codec.specs.declared.entries.Entry.{Entry}
 use Rattle.library_steps.specs.JournalReads.{are_there, are_kept, entries_between}
 use Rattle.library_steps.specs.State.{State, FileState, OpenState, fields_of, memory_of}
-use Rattle.library_parts.specs.Lawful.{IsThere, OpenHolds}
-use Rattle.library_steps.specs.Refusals.{◌>>=◌, OpenedFile, FoundMember}
+use Rattle.lawful_states.specs.Lawful.{OpenHolds}
+use Rattle.library_steps.specs.Refusals.{OpenedFile, FoundMember}
 use Rattle.library_parts.specs.declared.stop.Stop.{Stop}
 use Rattle.library_parts.specs.declared.stop.Stop.TheVariants.{NoMemory, Refused}
 use Rattle.library_parts.specs.declared.finds.OpenFound.{OpenFound}
 use Rattle.library_parts.specs.declared.finds.MemberFound.{MemberFound}
+use Rattle.lawful_states.specs.Members.{HasMember}
 
 -- an open is shown in its place
 abbrev pub ShowsOpen : Result (Bor KeptOpen) Stop → Result OpenState Reply → Type 0
@@ -37,11 +37,6 @@ abbrev pub FindsMember : Result MemberFound Stop → Result FoundMember Reply �
 FindsMember (Ok it) wanted = wanted ≡ Ok (record { file = it.file.now; status = it.status })
 FindsMember (Err NoMemory) wanted = ⊥
 FindsMember (Err (Refused reply)) wanted = wanted ≡ Err reply
-
--- the file of this name has the member with this number, which is there with records of the file's fields
-pub record HasMember (s : State) (name : List ℕ) (file : FileState) (number : ℕ) : Type 0 where
-  pub owns : Owns s.files name file number
-  pub there : IsThere (fields_of file) (member_at number s.members)
 
 -- the physical file of this name has the records that a file shows through the format of this number: itself, or the one that the format is over
 abbrev pub IsBaseOf : FileSpec → (name : List ℕ) → (format : ℕ) → (base : List ℕ) → Type 0

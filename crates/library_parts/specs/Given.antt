@@ -24,7 +24,7 @@ use Rattle.given_changes.specs.GivenChanges.{changes_given}
 use Rattle.library_parts.specs.Moved.{HasMovesRoom}
 use Rattle.library_parts.specs.Parts.{LibraryParts, Room}
 use Rattle.library_parts.specs.Rooms.{spare_slots}
-use Rattle.library_parts.specs.Slots.{MayStand}
+use Rattle.lawful_states.specs.Slots.{MayStand}
 
 abbrev pub given_to : List SlotGiven → MemberState → MemberState
 given_to given member = record member { slots = given_slots given member.slots }

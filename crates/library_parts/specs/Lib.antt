@@ -2,7 +2,6 @@ pub mod Parts
 pub mod Indexed
 pub mod Reads
 pub mod Moved
-pub mod Lawful
 pub mod Due
 pub mod Boundaries
 pub mod Given
@@ -15,5 +14,4 @@ pub mod Answers
 pub mod Finds
 pub mod Locks
 pub mod Rooms
-pub mod Slots
 pub mod Files

@@ -4,7 +4,7 @@ use Rattle.std.specs.Prelude.{◌≡◌, List, [], ◌∷◌}
 use Rattle.member_slots.specs.Members.{NumberedMembers, member_of}
 use Rattle.journal_model.specs.Places.{slot_of}
 use Rattle.journal_model.specs.Rollback.{MemberChange}
-use Rattle.library_parts.specs.Boundaries.{member_back}
+use Rattle.lawful_states.specs.Back.{member_back}
 
 abbrev pub StandAsMade : List MemberChange → NumberedMembers → Type 0
 StandAsMade [] members = Unit {0}

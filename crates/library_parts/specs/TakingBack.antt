@@ -11,7 +11,7 @@ use Rattle.job_table.specs.Opens.{OpenOrder}
 use Rattle.library_model.specs.Named.{Named}
 use Rattle.library_steps.specs.State.{FileState, JobState}
 use Rattle.library_parts.specs.Indexed.{HaveSpares, moves_back, changes_over, IsIndexed}
-use Rattle.library_parts.specs.Lawful.{FitsPlace}
+use Rattle.lawful_states.specs.Lawful.{FitsPlace}
 use Rattle.library_parts.specs.Standing.{StandAsMade}
 
 -- so many of them are of members that the path is over

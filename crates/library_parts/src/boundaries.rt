@@ -16,10 +16,11 @@ ghost use Rattle.library_steps.specs.Commitment.{commit_change, rollback_change}
 ghost use Rattle.library_steps.specs.Drafts.{cycle_draft, library_draft};
 ghost use Rattle.library_steps.specs.EndJob.{end_change};
 ghost use Rattle.library_parts.specs.Answers.{Answers};
-ghost use Rattle.library_parts.specs.Boundaries.{author, cycle_end, definition_end, ended, member_back, members_back, roll_drafts, told};
+ghost use Rattle.library_parts.specs.Boundaries.{author, cycle_end, definition_end, ended, roll_drafts, told};
+ghost use Rattle.lawful_states.specs.Back.{member_back, members_back};
 ghost use Rattle.library_parts.specs.Due.{cycle_due};
 ghost use Rattle.library_parts.specs.Indexed.{HasBytes};
-ghost use Rattle.library_parts.specs.Lawful.{FitsPlace};
+ghost use Rattle.lawful_states.specs.Lawful.{FitsPlace};
 ghost use Rattle.library_parts.specs.Standing.{StandAsMade};
 ghost use Rattle.library_parts.specs.TakingBack.{CanTakeBack, LeadsToIndexed};
 

@@ -4,7 +4,7 @@ ghost use Rattle.std.specs.Prelude.{◌≡◌, ◌+◌, ◌<◌, [], ◌∷◌, 
 ghost use Rattle.library_steps.specs.History.{is_running};
 ghost use Rattle.library_steps.specs.State.{empty_library, job_at, job_of, memory_of, new_job};
 ghost use Rattle.library_parts.specs.Indexed.{ArePaths};
-ghost use Rattle.library_parts.specs.Lawful.{IsLibrary};
+ghost use Rattle.lawful_states.specs.Lawful.{IsLibrary};
 
 use field_types::names::Name;
 use file_catalogue::Catalogue;
@@ -36,7 +36,7 @@ pub struct Contents {
 
 impl Model for Contents {
     ghost use Rattle.library_parts.specs.Parts.{LibraryParts, joined, state_of};
-    ghost use Rattle.library_parts.specs.Lawful.{AreOne};
+    ghost use Rattle.lawful_states.specs.Lawful.{AreOne};
     ghost use Rattle.library_parts.specs.Due.{HasDue};
     ghost use Rattle.library_parts.specs.Indexed.{IsIndexed};
 

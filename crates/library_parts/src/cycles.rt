@@ -8,7 +8,7 @@ ghost use Rattle.library_steps.specs.Commitment.{with_level, has_committed_open}
 ghost use Rattle.library_steps.specs.SlotChange.{change_bytes, cycle_for, noted, open_bytes, open_changes, with_cycle};
 ghost use Rattle.library_parts.specs.Due.{level_due};
 ghost use Rattle.library_parts.specs.Indexed.{moves_back};
-ghost use Rattle.library_parts.specs.Lawful.{GoesBack};
+ghost use Rattle.lawful_states.specs.Lawful.{GoesBack};
 ghost use Rattle.library_parts.specs.Moved.{HasMovesRoom};
 ghost use Rattle.library_parts.specs.Rooms.{HasUndoRoom};
 

@@ -15,7 +15,7 @@ ghost use Rattle.library_steps.specs.DeleteFile.{deleted, first_dependent, user_
 ghost use Rattle.library_steps.specs.MemberCommands.{member_added};
 ghost use Rattle.library_steps.specs.Ranges.{library_bytes};
 ghost use Rattle.file_catalogue.specs.Described.{Describes};
-ghost use Rattle.file_catalogue.specs.Owners.{AreApart};
+ghost use Rattle.lawful_states.specs.Owners.{AreApart};
 ghost use Rattle.file_catalogue.specs.Views.{DescribesView};
 ghost use Rattle.path_entrants.specs.Repeated.{TellsRepeated};
 ghost use Rattle.path_set.specs.KeptPaths.{AreOver, spare_of};

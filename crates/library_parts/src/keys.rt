@@ -19,7 +19,7 @@ ghost use Rattle.library_steps.specs.History.{is_running};
 ghost use Rattle.library_steps.specs.State.{FileState, memory_of, job_at, job_of};
 ghost use Rattle.library_steps.specs.UniqueKeys.{has_key, if_new, key_in, key_of_slot, keys_free, takes_key, uniques_by};
 ghost use Rattle.library_parts.specs.Answers.{MayAllow};
-ghost use Rattle.library_parts.specs.Slots.{MayStand};
+ghost use Rattle.lawful_states.specs.Slots.{MayStand};
 
 use crate::contents::Contents;
 use crate::given::unique_path;

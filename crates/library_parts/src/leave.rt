@@ -2,7 +2,7 @@
 ghost use Rattle.std.specs.Prelude.{◌≡◌, ◌≤◌, ℕ, Bool, false, None, IfSome, length};
 ghost use Rattle.lock_table.specs.Levels.{asked, gained, locks_after, with_wanted, without_open_locks};
 ghost use Rattle.lock_table.specs.Table.{blocker, holding};
-ghost use Rattle.library_parts.specs.Locks.{AreOfOpen, IsOfOpen};
+ghost use Rattle.lawful_states.specs.Calls.{AreOfOpen, IsOfOpen};
 
 use lock_table::{Call, Holder, Level, LockTable, OpenLocks, RecordId, Wanted, asked, released};
 

@@ -14,7 +14,7 @@ ghost use Rattle.library_steps.specs.SlotChange.{image_bytes, not_held, few_chan
 ghost use Rattle.library_steps.specs.ChangeRecord.{has_open_lock, has_boundary_lock};
 ghost use Rattle.library_parts.specs.Answers.{Allows};
 ghost use Rattle.library_parts.specs.declared.stop.Stop.TheVariants.{Refused};
-ghost use Rattle.library_parts.specs.Locks.{IsRead, IsWrite};
+ghost use Rattle.lawful_states.specs.Calls.{IsRead, IsWrite};
 
 use crate::contents::Contents;
 use crate::stop::Stop;

@@ -16,7 +16,7 @@ ghost use Rattle.library_steps.specs.WriteRecord.{next_place};
 ghost use Rattle.library_parts.specs.Rooms.{HasSlotRoom, spare_slots};
 ghost use Rattle.library_parts.specs.Indexed.{HasBytes};
 ghost use Rattle.library_parts.specs.Moved.{AreMovesOf, AreRemade, HasMovesRoom};
-ghost use Rattle.library_parts.specs.Slots.{MayStand, weight, with_live};
+ghost use Rattle.lawful_states.specs.Slots.{MayStand, weight, with_live};
 ghost use Rattle.library_steps.specs.MemberCommands.{renumbered, with_slots};
 ghost use Rattle.library_steps.specs.Journaling.{journaled_from, no_longer_journaled};
 

@@ -14,7 +14,8 @@ ghost use Rattle.library_steps.specs.EndJob.{job_ended};
 ghost use Rattle.job_table.specs.Table.{HasRoomFor};
 ghost use Rattle.job_table.specs.declared.jobs.TheConstants.{LAST_OPEN};
 ghost use Rattle.library_parts.specs.Finds.{OpensMembers};
-ghost use Rattle.library_parts.specs.Locks.{AsksNone, IsOfOpen, HasLockRoom};
+ghost use Rattle.lawful_states.specs.Calls.{AsksNone, IsOfOpen};
+ghost use Rattle.library_parts.specs.Locks.{HasLockRoom};
 ghost use Rattle.library_parts.specs.Reads.{ReadsFor};
 
 use crate::contents::Contents;

@@ -4,7 +4,7 @@ ghost use Rattle.std.specs.List.{find};
 ghost use Rattle.file_model.specs.KeyOrder.{merged_parts};
 ghost use Rattle.file_model.specs.Paths.{PathEntry};
 ghost use Rattle.file_model.specs.Positions.{Position, Reading, Start};
-ghost use Rattle.file_catalogue.specs.Physical.{IsPhysical};
+ghost use Rattle.lawful_states.specs.Physical.{IsPhysical};
 ghost use Rattle.file_cursor.specs.CursorPosition.{entry_of};
 ghost use Rattle.key_order.specs.declared.widths.TheConstants.{MOST_POSITIONS};
 ghost use Rattle.key_order.specs.KeyFields.{ArePositions};

@@ -1,2 +1,1 @@
 pub mod DepositLemmas
-pub mod NumberLemmas

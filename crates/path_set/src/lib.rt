@@ -15,4 +15,3 @@ pub mod over;
 pub mod rebuilding;
 pub mod repeated;
 pub mod set;
-mod tests;

@@ -6,7 +6,7 @@ use Rattle.record_fmt.specs.declared.formats.Format.{Format}
 use Rattle.dds_physical.specs.declared.physical_files.PhysicalSpec.{PhysicalSpec}
 use Rattle.logical_model.specs.Bases.{FileSpec, PhysicalFile, LogicalFile}
 use Rattle.library_model.specs.Named.{Named, named}
-use Rattle.file_catalogue.specs.Owners.{AreApart, Owns}
+use Rattle.lawful_states.specs.Owners.{AreApart, Owns}
 use Rattle.library_steps.specs.State.{State, FileState, fields_of, format_in, physical_in}
 use Rattle.range_images.specs.declared.slot_given.SlotGiven.{SlotGiven}
 use Rattle.range_requests.specs.declared.found.Found.{Found}

@@ -23,7 +23,7 @@ use Rattle.library_model.specs.declared.requests.JournaledChanges.{JournaledChan
 use Rattle.library_model.specs.declared.replies.Reply.{Reply}
 use Rattle.library_model.specs.declared.replies.Reply.TheVariants as replies
 use Rattle.library_model.specs.declared.replies.LimitKind.TheVariants.{LibraryBytes, BlockBytes}
-use Rattle.file_catalogue.specs.Owners.{Owns}
+use Rattle.lawful_states.specs.Owners.{Owns}
 use Rattle.library_steps.specs.declared.limits.TheConstants.{MOST_LIBRARY_BYTES, MOST_BLOCK_BYTES, LAST_SEQUENCE}
 use Rattle.library_steps.specs.State.{State, Memory, FileState, MemberStatus, fields_of, memory_of}
 use Rattle.library_steps.specs.Change.{deposited}
@@ -34,8 +34,8 @@ use Rattle.library_steps.specs.Ranges.{Range, RangeWork, Given, allowed, apply_p
 use Rattle.library_parts.specs.declared.stop.Stop.{Stop}
 use Rattle.library_parts.specs.declared.stop.Stop.TheVariants.{NoMemory, Refused}
 use Rattle.library_parts.specs.Answers.{Allows}
-use Rattle.library_parts.specs.Lawful.{HoldsValues}
-use Rattle.library_parts.proofs.MemberLemmas.{HasRecords-member_of, IsThere-IsSome, library_bytes-with}
+use Rattle.lawful_states.specs.Lawful.{HoldsValues}
+use Rattle.lawful_states.proofs.MemberLemmas.{HasRecords-member_of, IsThere-IsSome, library_bytes-with}
 use Rattle.draft_list.specs.Sizes.{draft_bytes, draft_size}
 use Rattle.range_images.specs.declared.slot_given.SlotGiven.{SlotGiven}
 use Rattle.range_images.specs.Given.{given_slots}
@@ -46,7 +46,7 @@ use Rattle.range_requests.specs.declared.plans.Plan.{Plan}
 use Rattle.range_requests.specs.Kinds.{kind_of}
 use Rattle.range_requests.specs.Fits.{FitsFields, IsFit}
 use Rattle.range_requests.specs.Walks.{IsWalked, Walks, as_given}
-use Rattle.library_parts.specs.Slots.{MayStand}
+use Rattle.lawful_states.specs.Slots.{MayStand}
 use Rattle.library_parts.specs.Given.{FitsMember, MayGive, given_to, members_given}
 use Rattle.library_parts.proofs.GivenLemmas.{grows}
 use Rattle.range_requests.specs.Plans.{Finds, GivesPlan, IsKept, IsPlanOf, keys_apart}

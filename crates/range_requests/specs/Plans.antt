@@ -1,7 +1,7 @@
 -- What a plan has of the work that a request does.
 use Rattle.std.specs.Prelude.{◌≡◌, ℕ, ◌+◌, ◌≤◌, Bool, Result, Ok, Err, List, length}
 use Rattle.member_slots.specs.Members.{member_at, member_of}
-use Rattle.file_catalogue.specs.Owners.{Owns}
+use Rattle.lawful_states.specs.Owners.{Owns}
 use Rattle.library_model.specs.declared.replies.Reply.{Reply}
 use Rattle.library_steps.specs.State.{State, MemberStatus, fields_of, memory_of}
 use Rattle.library_steps.specs.Ranges.{Range, RangeWork, range_between, range_change, with_range}
@@ -10,7 +10,7 @@ use Rattle.library_steps.specs.Refusals.{◌>>=◌}
 use Rattle.library_steps.specs.UniqueKeys.{all_apart, unique_paths}
 use Rattle.library_parts.specs.declared.stop.Stop.{Stop}
 use Rattle.library_parts.specs.declared.stop.Stop.TheVariants.{NoMemory, Refused}
-use Rattle.library_parts.specs.Lawful.{IsThere}
+use Rattle.lawful_states.specs.Lawful.{IsThere}
 use Rattle.range_images.specs.Given.{given_slots}
 use Rattle.range_requests.specs.declared.found.Found.{Found}
 use Rattle.range_requests.specs.declared.plans.Plan.{Plan}

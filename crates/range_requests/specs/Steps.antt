@@ -4,7 +4,7 @@ use Rattle.std.specs.List.{AllByRecursion}
 use Rattle.std.specs.Option.{option_copied}
 use Rattle.member_slots.specs.declared.slot.Slot.{Slot}
 use Rattle.member_slots.specs.Members.{member_of}
-use Rattle.file_catalogue.specs.Owners.{Owns}
+use Rattle.lawful_states.specs.Owners.{Owns}
 use Rattle.journal_model.specs.Acts.{Act, acts}
 use Rattle.journal_model.specs.Journal.{AreNumbered}
 use Rattle.journal_model.specs.Walks.{Numbered, RangeFault}

@@ -26,7 +26,7 @@ use Rattle.library_steps.specs.Refusals.{◌>>=◌, refuse_if}
 use Rattle.library_steps.specs.Records.{slot_there}
 use Rattle.library_steps.specs.Drafts.{Author, author_of, slot_drafts}
 use Rattle.library_steps.specs.SlotChange.{NewSlot, are_both, begins_cycle, change_made, cycle_for, cycle_number, drafts_of, few_changes, images_of, is_behind_last, open_bytes, noted, open_changes, slot_change, slot_changed, touched, undo_bytes, with_cycle, with_slot, with_undo}
-use Rattle.library_parts.specs.Lawful.{HoldsValues}
+use Rattle.lawful_states.specs.Lawful.{HoldsValues}
 use Rattle.library_parts.specs.Moved.{HasMovesRoom}
 use Rattle.library_parts.specs.Parts.{LibraryParts, Room}
 use Rattle.record_changes.specs.declared.planned.PlannedSlot.{PlannedSlot}

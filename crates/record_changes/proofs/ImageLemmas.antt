@@ -10,7 +10,7 @@ use Rattle.record_fmt.specs.Records.{record_given, record_held}
 use Rattle.record_laws.specs.HeldValues.{new_values, changed_values}
 use Rattle.logical_model.specs.Bases.{FileSpec, PhysicalFile, LogicalFile}
 use Rattle.logical_laws.specs.Found.{HoldsRecord}
-use Rattle.file_catalogue.specs.Physical.{IsPhysical}
+use Rattle.lawful_states.specs.Physical.{IsPhysical}
 use Rattle.library_model.specs.declared.replies.Reply.{Reply}
 use Rattle.library_steps.specs.Refusals.{found}
 use Rattle.library_steps.specs.State.{format_in, physical_in}

@@ -14,7 +14,7 @@ use Rattle.lock_table.specs.declared.levels.Call.TheVariants.{InputRead, UpdateR
 use Rattle.lock_table.specs.Levels.{locks_after}
 use Rattle.lock_table.specs.Lock.{is_of_open, is_of_record, lock_by, lock_cmp, update_kind}
 use Rattle.lock_table.specs.Table.{with_item}
-use Rattle.library_parts.proofs.LockLemmas.{length-filter}
+use Rattle.lawful_states.proofs.LockLemmas.{length-filter}
 use Rattle.record_changes.specs.Locks.{IsOfCurrent}
 
 module _ {X : Type 0} (R : X → X → Ordering) (x : X) where

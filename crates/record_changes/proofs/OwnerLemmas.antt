@@ -12,17 +12,17 @@ use Rattle.logical_model.specs.Bases.{FileSpec, PhysicalFile, LogicalFile}
 use Rattle.logical_laws.specs.Found.{HoldsRecord}
 use Rattle.logical_laws.specs.Mapped.{HoldDefaults}
 use Rattle.logical_paths.specs.KeyedViews.{IsKeyedView, IsViewOver}
-use Rattle.file_catalogue.specs.Owners.{AreApart, has_number}
-use Rattle.file_catalogue.specs.Physical.{IsPhysical}
-use Rattle.file_catalogue.proofs.NameLemmas.{some-equal}
+use Rattle.lawful_states.specs.Owners.{AreApart, has_number}
+use Rattle.lawful_states.specs.Physical.{IsPhysical}
+use Rattle.lawful_states.proofs.NameLemmas.{some-equal}
 use Rattle.library_model.specs.Named.{Named, named}
 use Rattle.library_steps.specs.LogicalFiles.{base_in, bases_in}
 use Rattle.library_steps.specs.State.{State, FileState, MemberStatus, OpenState, fields_of, format_in, physical_among}
 use Rattle.library_parts.specs.Finds.{IsBaseOf, ReadsMember}
 use Rattle.library_parts.specs.Indexed.{IsView, IsViewBeside}
-use Rattle.library_parts.specs.Lawful.{HasRecords, IsBased, IsLibrary}
-use Rattle.library_parts.proofs.BaseLemmas.{physical-here, some-is}
-use Rattle.library_parts.proofs.MemberLemmas.{HasRecords-member_of}
+use Rattle.lawful_states.specs.Lawful.{HasRecords, IsBased, IsLibrary}
+use Rattle.lawful_states.proofs.BaseLemmas.{physical-here, some-is}
+use Rattle.lawful_states.proofs.MemberLemmas.{HasRecords-member_of}
 use Rattle.view_records.specs.Through.{IsFormatOf, HaveBytes}
 use Rattle.joint_state.specs.Views.{HaveDefaults}
 use Rattle.record_changes.specs.Images.{IsWritable, IsWrittenIn, fields_under, fields_of_view}

@@ -9,15 +9,15 @@ use Rattle.member_slots.specs.Members.{NumberedMembers, member_at, member_of, wi
 use Rattle.record_fmt.specs.declared.formats.Field.{Field}
 use Rattle.record_fmt.specs.Layout.{record_length}
 use Rattle.record_fmt.specs.Records.{record_held}
-use Rattle.file_catalogue.specs.Owners.{Owns, AreApart}
+use Rattle.lawful_states.specs.Owners.{Owns, AreApart}
 use Rattle.library_model.specs.Named.{Named, named}
 use Rattle.library_steps.specs.State.{Memory, State, FileState, fields_of, memory_of}
 use Rattle.library_steps.specs.Records.{live_record, record_in, slot_there}
 use Rattle.library_steps.specs.SlotChange.{slot_put, with_slot}
-use Rattle.library_parts.specs.Finds.{HasMember}
-use Rattle.library_parts.specs.Lawful.{HoldsValues, HasRecords}
-use Rattle.library_parts.proofs.MemberLemmas.{IsThere-IsSome, HasRecords-member_of, item_at-with_item_same, length-changed, record_length-changed, slot_put-appended, slot_put-changed}
-use Rattle.library_parts.specs.Slots.{MayStand}
+use Rattle.lawful_states.specs.Members.{HasMember}
+use Rattle.lawful_states.specs.Lawful.{HoldsValues, HasRecords}
+use Rattle.lawful_states.proofs.MemberLemmas.{IsThere-IsSome, HasRecords-member_of, item_at-with_item_same, length-changed, record_length-changed, slot_put-appended, slot_put-changed}
+use Rattle.lawful_states.specs.Slots.{MayStand}
 use Rattle.record_changes.specs.Places.{FitsMember, MayPut, MayReturn}
 use Rattle.record_changes.proofs.MoveLemmas.{changed-there, appended-there}
 

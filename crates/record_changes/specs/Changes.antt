@@ -11,7 +11,7 @@ use Rattle.library_steps.specs.Change.{deposited}
 use Rattle.library_steps.specs.Drafts.{Author, author_of, cycle_draft, slot_drafts}
 use Rattle.library_steps.specs.SlotChange.{NewSlot, images_of, drafts_of, slot_changed, cycle_for, noted, with_cycle, open_changes, open_bytes, change_bytes}
 use Rattle.library_parts.specs.Indexed.{moves_back}
-use Rattle.library_parts.specs.Lawful.{GoesBack}
+use Rattle.lawful_states.specs.Lawful.{GoesBack}
 use Rattle.library_parts.specs.Moved.{HasMovesRoom}
 use Rattle.library_parts.specs.Parts.{LibraryParts}
 use Rattle.library_parts.specs.Rooms.{HasUndoRoom}

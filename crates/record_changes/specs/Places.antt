@@ -3,7 +3,7 @@ use Rattle.std.specs.Prelude.{◌≡◌, ℕ, ◌+◌, ◌-◌, ◌<◌, ◌≤�
 use Rattle.member_slots.specs.declared.slot.Slot.{Slot}
 use Rattle.member_slots.specs.Member.{FitsSlot, is_full, is_live}
 use Rattle.member_slots.specs.Members.{NumberedMembers, member_at, member_of}
-use Rattle.file_catalogue.specs.Owners.{Owns}
+use Rattle.lawful_states.specs.Owners.{Owns}
 use Rattle.path_set.specs.declared.moves.PathMove.{PathMove}
 use Rattle.job_table.specs.Changes.{KeptUndo}
 use Rattle.library_model.specs.Named.{Named}
@@ -13,11 +13,11 @@ use Rattle.library_steps.specs.Records.{slot_there}
 use Rattle.library_steps.specs.Ranges.{library_bytes}
 use Rattle.library_steps.specs.SlotChange.{NewSlot, cycle_for, images_of, change_made, few_changes}
 use Rattle.library_steps.specs.WriteRecord.{next_place}
-use Rattle.library_parts.specs.Lawful.{HoldsValues}
+use Rattle.lawful_states.specs.Lawful.{HoldsValues}
 use Rattle.library_parts.specs.Moved.{AreMovesOf, HasMovesRoom}
 use Rattle.library_parts.specs.Parts.{LibraryParts}
 use Rattle.library_parts.specs.Rooms.{HasSlotRoom, HasUndoRoom}
-use Rattle.library_parts.specs.Slots.{MayStand}
+use Rattle.lawful_states.specs.Slots.{MayStand}
 use Rattle.record_changes.specs.declared.planned.PlannedSlot.{PlannedSlot}
 use Rattle.record_changes.specs.declared.planned.Prepared.{Prepared}
 use Rattle.record_changes.specs.declared.planned.UndoSlots.{UndoSlots}

@@ -9,7 +9,7 @@ ghost use Rattle.logical_model.specs.Bases.{LogicalFile};
 ghost use Rattle.logical_model.specs.Formats.{given_in, given_through};
 ghost use Rattle.logical_laws.specs.Found.{HoldsRecord};
 ghost use Rattle.file_catalogue.specs.Bodies.{spec_in};
-ghost use Rattle.file_catalogue.specs.Physical.{IsPhysical};
+ghost use Rattle.lawful_states.specs.Physical.{IsPhysical};
 ghost use Rattle.library_steps.specs.State.{format_in, memory_of, physical_among};
 ghost use Rattle.library_steps.specs.LogicalFiles.{bases_of};
 ghost use Rattle.library_steps.specs.WriteRecord.{packed};

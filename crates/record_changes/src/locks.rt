@@ -4,7 +4,8 @@ ghost use Rattle.lock_table.specs.declared.levels.Call.TheVariants.{Unlock, Writ
 ghost use Rattle.library_steps.specs.State.{job_at, job_of, memory_of};
 ghost use Rattle.library_steps.specs.History.{is_running};
 ghost use Rattle.library_steps.specs.Locking.{clashing, few_locks, level_of, locks_left};
-ghost use Rattle.library_parts.specs.Locks.{HasLockRoom, IsOfOpen};
+ghost use Rattle.library_parts.specs.Locks.{HasLockRoom};
+ghost use Rattle.lawful_states.specs.Calls.{IsOfOpen};
 ghost use Rattle.record_changes.specs.Locks.{IsOfCurrent, MayLock};
 
 use crate::planned::Through;

@@ -10,7 +10,8 @@ ghost use Rattle.library_steps.specs.WriteRecord.{next_place, place_asked, write
 ghost use Rattle.library_parts.specs.Answers.{Answers, Gives};
 ghost use Rattle.library_parts.specs.Finds.{ReadsMember};
 ghost use Rattle.library_parts.specs.Indexed.{IsUnjoined, IsViewBeside};
-ghost use Rattle.library_parts.specs.Locks.{HasLockRoom, IsWrite};
+ghost use Rattle.library_parts.specs.Locks.{HasLockRoom};
+ghost use Rattle.lawful_states.specs.Calls.{IsWrite};
 ghost use Rattle.joint_state.specs.Views.{HaveDefaults};
 ghost use Rattle.record_changes.specs.Locks.{MayLock};
 ghost use Rattle.record_changes.specs.Places.{AreFewChanges, IsReady, MayChange};

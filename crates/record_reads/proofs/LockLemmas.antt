@@ -1,7 +1,7 @@
 -- That a read is a call through an open.
 use Rattle.lock_table.specs.declared.levels.Call.{Call}
 use Rattle.lock_table.specs.declared.levels.Call.TheVariants.{InputRead, UpdateRead, Update, Delete, Write, WriteAt, Unlock, Position, Close, Commit, Rollback, EndCommitment, EndJob}
-use Rattle.library_parts.specs.Locks.{IsOfOpen, IsRead}
+use Rattle.lawful_states.specs.Calls.{IsOfOpen, IsRead}
 
 pub IsRead-IsOfOpen : (call : Call) → IsRead call → IsOfOpen call
 IsRead-IsOfOpen InputRead read = tt

@@ -19,16 +19,17 @@ use Rattle.logical_paths.specs.Steps.{shown_of}
 use Rattle.view_records.specs.Through.{IsFormatOf}
 use Rattle.library_model.specs.Named.{named}
 use Rattle.library_model.specs.declared.replies.RecordRead.{RecordRead}
-use Rattle.file_catalogue.proofs.NameLemmas.{some-equal}
+use Rattle.lawful_states.proofs.NameLemmas.{some-equal}
 use Rattle.library_steps.specs.State.{State, Memory, FileState, OpenState, fields_of, format_in, memory_of, physical_among}
 use Rattle.library_steps.specs.LogicalFiles.{bases_in, bases_of}
 use Rattle.library_steps.specs.Records.{record_in, live_record}
 use Rattle.library_steps.specs.Reads.{read_as}
 use Rattle.library_parts.specs.Finds.{IsBaseOf, ReadsMember}
 use Rattle.library_parts.specs.Indexed.{IsUnjoined, IsViewBeside}
-use Rattle.library_parts.specs.Lawful.{HasRecords, IsBased, IsLibrary, IsThere, StandsOver}
-use Rattle.library_parts.proofs.FindLemmas.{HasBase, has-base, each-there}
-use Rattle.library_parts.proofs.MemberLemmas.{HasRecords-member_of, HoldsValues-at}
+use Rattle.lawful_states.specs.Lawful.{HasRecords, IsBased, IsLibrary, IsThere, StandsOver}
+use Rattle.lawful_states.proofs.FindLemmas.{HasBase, has-base}
+use Rattle.library_parts.proofs.FindLemmas.{each-there}
+use Rattle.lawful_states.proofs.MemberLemmas.{HasRecords-member_of, HoldsValues-at}
 use Rattle.record_reads.specs.Plans.{record_shown}
 use Rattle.record_reads.specs.Shown.{ShowsImage}
 

@@ -31,7 +31,7 @@ use Rattle.library_steps.specs.Reads.{entry_found, open_changed, bound_asked, po
 use Rattle.library_parts.specs.declared.stop.Stop.{Stop}
 use Rattle.library_parts.specs.declared.stop.Stop.TheVariants.{NoMemory, Refused}
 use Rattle.library_parts.specs.Indexed.{IsUnjoined}
-use Rattle.library_parts.specs.Locks.{IsRead}
+use Rattle.lawful_states.specs.Calls.{IsRead}
 use Rattle.record_reads.specs.Asked.{found_through, CanBeAsked, nothing_found, any_from, equal_from, end_in}
 use Rattle.record_reads.specs.declared.asked.AskedBy.{AskedBy}
 use Rattle.record_reads.specs.declared.asked.Direction.{Direction}

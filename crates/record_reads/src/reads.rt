@@ -11,7 +11,8 @@ ghost use Rattle.library_steps.specs.Reads.{read, read_prior, read_equal, read_p
 ghost use Rattle.library_parts.specs.Answers.{Answers, Gives};
 ghost use Rattle.library_parts.specs.Finds.{ReadsMember};
 ghost use Rattle.library_parts.specs.Indexed.{IsUnjoined, IsViewBeside};
-ghost use Rattle.library_parts.specs.Locks.{HasLockRoom, IsRead};
+ghost use Rattle.library_parts.specs.Locks.{HasLockRoom};
+ghost use Rattle.lawful_states.specs.Calls.{IsRead};
 ghost use Rattle.library_parts.specs.Reads.{ReadsAs, Stands};
 ghost use Rattle.record_reads.specs.Asked.{CanBeAsked};
 ghost use Rattle.record_reads.specs.Plans.{AsksOf, CanRead, IsWanted, MayLock, Plans, PlansFound, PlansReadBy, opened_with, read_equal_from, read_found, read_from, record_planned, used_of};

@@ -17,8 +17,8 @@ use Rattle.member_slots.specs.Members.{NumberedMembers, member_at, member_of, pu
 use Rattle.record_fmt.specs.Layout.{record_length}
 use Rattle.logical_model.specs.Bases.{FileSpec, LogicalFile, PhysicalFile}
 use Rattle.logical_laws.proofs.ListLemmas.{each-weaker}
-use Rattle.file_catalogue.specs.Physical.{IsPhysical}
-use Rattle.file_catalogue.proofs.NameLemmas.{same_name-symm}
+use Rattle.lawful_states.specs.Physical.{IsPhysical}
+use Rattle.lawful_states.proofs.NameLemmas.{same_name-symm}
 use Rattle.journal_model.specs.Acts.{Nothing, act}
 use Rattle.journal_model.specs.Catalogue.{Catalogue, CatalogFile, CatalogMember, MayAddMember, catalogue_after, catalogue_by, empty_catalogue, is_in_file, member_numbered}
 use Rattle.journal_model.specs.Pairs.{EndsPair}
@@ -38,9 +38,9 @@ use Rattle.library_steps.specs.Drafts.{Author, author_of, member_draft}
 use Rattle.library_steps.specs.MemberCommands.{add_member, add_plan, file_changed, member_added, with_member_name}
 use Rattle.library_steps.specs.Refusals.{named_or_refused, refuse_if, sequences_left}
 use Rattle.library_steps.specs.SlotChange.{status_among, status_in}
-use Rattle.library_parts.proofs.BaseLemmas.{physical-found}
-use Rattle.library_parts.proofs.FileLemmas.{next-unowned}
-use Rattle.library_parts.proofs.FindLemmas.{found-is}
+use Rattle.lawful_states.proofs.BaseLemmas.{physical-found}
+use Rattle.lawful_states.proofs.FileLemmas.{next-unowned}
+use Rattle.lawful_states.proofs.FindLemmas.{found-is}
 use Rattle.joint_state.specs.Sound.{IsSound, after}
 use Rattle.library_kept.proofs.ResultLemmas.{bind-ok, does-each, not-refused, ok-equal}
 use Rattle.cycles_kept.proofs.ImageLemmas.{among-map, status_in-push}

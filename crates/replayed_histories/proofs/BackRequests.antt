@@ -35,14 +35,14 @@ use Rattle.journal_model.proofs.PlaceLemmas.{slot_of-put_other, slot_of-put_same
 use Rattle.journal_model.proofs.RollbackLemmas.{of_member-filter}
 use Rattle.journal_model.proofs.SoundLemmas.{Solo, sound-replay, sound-start}
 use Rattle.journal_replay.specs.Standing.{HeldMember, Standing, catalogue_in, members_by, slots_at, standing_after}
-use Rattle.file_catalogue.specs.Owners.{Owns}
+use Rattle.lawful_states.specs.Owners.{Owns}
 use Rattle.library_model.specs.Named.{Named}
 use Rattle.library_model.specs.declared.replies.Reply.TheVariants.{Done, NoDefinition}
 use Rattle.library_kept.proofs.ResultLemmas.{does-each}
-use Rattle.library_parts.specs.Boundaries.{member_back, members_back}
-use Rattle.library_parts.specs.Lawful.{CycleGoesBack, FitsPlace, GoesBack}
-use Rattle.library_parts.proofs.BoundaryLemmas.{cycle_back-is, cycle-places, places-back}
-use Rattle.library_parts.proofs.MemberLemmas.{AllByRecursion-get}
+use Rattle.lawful_states.specs.Back.{member_back, members_back}
+use Rattle.lawful_states.specs.Lawful.{CycleGoesBack, FitsPlace, GoesBack}
+use Rattle.lawful_states.proofs.BoundaryLemmas.{cycle_back-is, cycle-places, places-back}
+use Rattle.lawful_states.proofs.MemberLemmas.{AllByRecursion-get}
 use Rattle.library_steps.specs.State.{CycleState, FileState, JobState, Memory, State, job_changed, job_of, memory_of, with_job, with_opens}
 use Rattle.library_steps.specs.Change.{journaled}
 use Rattle.library_steps.specs.Change as steps

@@ -28,8 +28,8 @@ use Rattle.library_model.specs.declared.replies.Reply.TheVariants.{Done}
 use Rattle.library_model.specs.declared.requests.StartJournaling.{StartJournaling}
 use Rattle.library_kept.proofs.RequestLemmas.{start-free}
 use Rattle.library_kept.proofs.ResultLemmas.{does-each}
-use Rattle.library_parts.specs.Lawful.{HoldsValues}
-use Rattle.library_parts.proofs.MemberLemmas.{HasRecords-member_of, IsThere-is_some, item_at-with_item_same, member_of-with}
+use Rattle.lawful_states.specs.Lawful.{HoldsValues}
+use Rattle.lawful_states.proofs.MemberLemmas.{HasRecords-member_of, IsThere-is_some, item_at-with_item_same, member_of-with}
 use Rattle.library_steps.specs.State.{FileState, MemberStatus, State, fields_of, memory_of, with_status}
 use Rattle.library_steps.specs.Change.{Change, journaled}
 use Rattle.library_steps.specs.Drafts.{Author, author_of, initial_drafts, member_draft}

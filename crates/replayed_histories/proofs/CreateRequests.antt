@@ -13,7 +13,7 @@ use Rattle.dds_logical.specs.declared.views.LogicalSpec.{LogicalSpec}
 use Rattle.logical_model.specs.Bases.{LogicalFile, base_members}
 use Rattle.logical_model.specs.FilePaths.{logical_paths}
 use Rattle.logical_laws.proofs.ListLemmas.{each-append, each-weaker}
-use Rattle.file_catalogue.proofs.NameLemmas.{same_name-symm}
+use Rattle.lawful_states.proofs.NameLemmas.{same_name-symm}
 use Rattle.journal_model.specs.Catalogue.{CatalogFile, MayCreate, is_named, member_numbered}
 use Rattle.journal_model.specs.Pairs.{EndsPair}
 use Rattle.journal_replay.specs.Standing.{HeldMember, Standing, catalogue_in, members_by, standing_after}

@@ -15,9 +15,9 @@ use Rattle.member_slots.specs.Member.{IsMember, MemberState, empty_member}
 use Rattle.member_slots.specs.Members.{NumberedMembers, member_at, member_of, without_member}
 use Rattle.record_fmt.specs.Layout as layout
 use Rattle.logical_model.specs.Bases.{FileSpec, LogicalFile, PhysicalFile}
-use Rattle.file_catalogue.specs.Owners.{has_number}
-use Rattle.file_catalogue.proofs.NameLemmas.{named-without_other, same_name-equal, same_name-self, same_name-symm}
-use Rattle.file_catalogue.proofs.StatusLemmas.{has_number-cons}
+use Rattle.lawful_states.specs.Owners.{has_number}
+use Rattle.lawful_states.proofs.NameLemmas.{named-without_other, same_name-equal, same_name-self, same_name-symm}
+use Rattle.lawful_states.proofs.StatusLemmas.{has_number-cons}
 use Rattle.journal_model.specs.Catalogue.{CatalogFile, CatalogMember, MayDelete, depends_on, empty_catalogue, is_in_file, is_named, member_numbered, members_of}
 use Rattle.journal_model.specs.Journal.{length_in}
 use Rattle.journal_model.specs.Pairs.{EndsPair}
@@ -31,8 +31,8 @@ use Rattle.library_steps.specs.Change.{Change}
 use Rattle.library_steps.specs.DeleteFile.{delete_change, delete_file, delete_plan, deleted, user_by, without_file, without_members}
 use Rattle.library_steps.specs.Drafts.{Author, author_of, library_draft}
 use Rattle.library_steps.specs.Uses.{first_job, user_of, uses}
-use Rattle.library_parts.specs.Lawful.{IsBased}
-use Rattle.library_parts.proofs.MemberLemmas.{item_at-without_item_other}
+use Rattle.lawful_states.specs.Lawful.{IsBased}
+use Rattle.lawful_states.proofs.MemberLemmas.{item_at-without_item_other}
 use Rattle.joint_state.specs.Sound.{IsSound, after}
 use Rattle.library_kept.proofs.RequestLemmas.{delete-file}
 use Rattle.library_kept.proofs.ResultLemmas.{does-each}

@@ -7,8 +7,8 @@ use Rattle.std.proofs.lemmas.Bool.{eq-eqb}
 use Rattle.std.proofs.lemmas.Bool.Decides.{nat_tests}
 use Rattle.entry_codec.specs.declared.kinds.Images.{Images}
 use Rattle.member_slots.specs.Members.{member_at}
-use Rattle.file_catalogue.specs.Owners.{AreApart, Owns, numbers_of}
-use Rattle.file_catalogue.proofs.OwnerLemmas.{owner-status}
+use Rattle.lawful_states.specs.Owners.{AreApart, Owns, numbers_of}
+use Rattle.lawful_states.proofs.OwnerLemmas.{owner-status}
 use Rattle.library_model.specs.Named.{Named, named, same_name}
 use Rattle.library_model.specs.declared.requests.FileMember.{FileMember}
 use Rattle.library_model.specs.declared.replies.Reply.TheVariants.{NotJournaled}
@@ -18,8 +18,8 @@ use Rattle.library_steps.specs.Uses.{unused, user_of}
 use Rattle.library_steps.specs.SlotChange.{status_among, status_in}
 use Rattle.library_steps.specs.MemberCommands.{empty_plan}
 use Rattle.library_steps.specs.Journaling.{end_plan}
-use Rattle.library_parts.specs.Finds.{HasMember}
-use Rattle.library_parts.proofs.MemberLemmas.{IsThere-is_some}
+use Rattle.lawful_states.specs.Members.{HasMember}
+use Rattle.lawful_states.proofs.MemberLemmas.{IsThere-is_some}
 use Rattle.joint_state.specs.Sound.{IsSound}
 use Rattle.library_kept.proofs.PlanLemmas.{member-is, named-member}
 use Rattle.library_kept.proofs.ResultLemmas.{bind-ok, none-refused, not-refused, ok-equal}

@@ -7,7 +7,7 @@ use Rattle.lock_table.specs.declared.lock.Lock.{Lock}
 use Rattle.journal_model.specs.Replay.{is_in}
 use Rattle.journal_model.specs.Replayable.{is_one_of}
 use Rattle.journal_model.specs.Rollback.{MemberChange, of_member}
-use Rattle.library_parts.proofs.BackLemmas.{unused-unchanged}
+use Rattle.lawful_states.proofs.BackLemmas.{unused-unchanged}
 use Rattle.library_steps.specs.State.{CycleState, JobState, State, memory_of}
 use Rattle.library_steps.specs.Uses.{first_job, has_changed, user_of, uses}
 use Rattle.library_steps.specs.Uses as jobs_uses

@@ -7,15 +7,15 @@ use Rattle.entry_codec.specs.declared.kinds.FileKind.TheVariants.{Physical}
 use Rattle.member_slots.specs.declared.slot.Slot.{Slot}
 use Rattle.member_slots.specs.Members.{member_of}
 use Rattle.record_fmt.specs.declared.formats.Field.{Field}
-use Rattle.file_catalogue.proofs.NameLemmas.{same_name-equal, same_name-self, same_name-symm}
-use Rattle.file_catalogue.proofs.StatusLemmas.{has_number-cons}
-use Rattle.file_catalogue.specs.Owners.{Owns, has_number}
+use Rattle.lawful_states.proofs.NameLemmas.{same_name-equal, same_name-self, same_name-symm}
+use Rattle.lawful_states.proofs.StatusLemmas.{has_number-cons}
+use Rattle.lawful_states.specs.Owners.{Owns, has_number}
 use Rattle.journal_model.specs.Catalogue.{CatalogFile, is_named}
 use Rattle.journal_replay.specs.Standing.{HeldMember}
 use Rattle.library_model.specs.Named.{Named, named, same_name}
 use Rattle.library_kept.proofs.PlanLemmas.{named-each}
-use Rattle.library_parts.specs.Lawful.{HoldsValues, IsBased, IsLibrary}
-use Rattle.library_parts.proofs.MemberLemmas.{HasRecords-member_of}
+use Rattle.lawful_states.specs.Lawful.{HoldsValues, IsBased, IsLibrary}
+use Rattle.lawful_states.proofs.MemberLemmas.{HasRecords-member_of}
 use Rattle.library_steps.specs.State.{FileState, MemberStatus, State, fields_of}
 use Rattle.logical_model.specs.Bases.{FileSpec, PhysicalFile, LogicalFile}
 use Rattle.restart_model.specs.Sources.{fields_beside}

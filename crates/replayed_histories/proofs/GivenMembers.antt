@@ -27,8 +27,8 @@ use Rattle.journal_replay.specs.Left.{is_held}
 use Rattle.journal_replay.specs.Standing.{HeldMember, Standing, catalog_member, catalogue_in, images_by, member_by, slots_at}
 use Rattle.library_model.specs.Named.{Named, named}
 use Rattle.library_kept.proofs.FieldLemmas.{FitsSlot-held, length-record}
-use Rattle.library_parts.specs.Lawful.{HoldsValues}
-use Rattle.library_parts.proofs.MemberLemmas.{member_of-with}
+use Rattle.lawful_states.specs.Lawful.{HoldsValues}
+use Rattle.lawful_states.proofs.MemberLemmas.{member_of-with}
 use Rattle.library_steps.specs.State.{FileState, JobState, MemberStatus, fields_of}
 use Rattle.joint_state.specs.Agreed.{is_journaled}
 use Rattle.restart_model.specs.Sources.{descriptions, described_files, fields_beside}

@@ -13,7 +13,7 @@ use Rattle.member_slots.specs.Member.{IsMember}
 use Rattle.member_slots.specs.Members.{NumberedMembers}
 use Rattle.record_fmt.specs.Layout as layout
 use Rattle.logical_model.specs.Bases.{FileSpec}
-use Rattle.file_catalogue.proofs.NameLemmas.{same_name-equal}
+use Rattle.lawful_states.proofs.NameLemmas.{same_name-equal}
 use Rattle.journal_model.specs.Catalogue.{Catalogue, CatalogFile, MayEnterAll, catalogue_after, catalogue_by, empty_catalogue, is_named}
 use Rattle.journal_model.specs.Journal.{length_in}
 use Rattle.journal_replay.specs.Standing.{HeldMember, Standing, catalogue_in}

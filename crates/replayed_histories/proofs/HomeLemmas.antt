@@ -17,16 +17,16 @@ use Rattle.record_fmt.specs.Layout as layout
 use Rattle.record_fmt.specs.Records.{record_held}
 use Rattle.logical_model.specs.Bases.{FileSpec, LogicalFile, PhysicalFile}
 use Rattle.logical_laws.proofs.ListLemmas.{each-weaker}
-use Rattle.file_catalogue.specs.Owners.{Owns, has_number}
-use Rattle.file_catalogue.proofs.NameLemmas.{same_name-equal, same_name-self, same_name-symm}
-use Rattle.file_catalogue.proofs.StatusLemmas.{has_number-cons}
+use Rattle.lawful_states.specs.Owners.{Owns, has_number}
+use Rattle.lawful_states.proofs.NameLemmas.{same_name-equal, same_name-self, same_name-symm}
+use Rattle.lawful_states.proofs.StatusLemmas.{has_number-cons}
 use Rattle.journal_model.specs.Catalogue.{CatalogFile, has_number as is_numbered, is_named}
 use Rattle.journal_model.specs.Images.{AreRecords, AreRecordsOf}
 use Rattle.journal_model.specs.Journal.{length_in}
 use Rattle.journal_replay.specs.Standing.{HeldMember, Standing, catalog_member, catalogue_in, slots_at}
 use Rattle.library_model.specs.Named.{Named, named, same_name}
-use Rattle.library_parts.specs.Lawful.{AreBased, HasRecords, HoldsValues, IsBased, IsThere}
-use Rattle.library_parts.proofs.MemberLemmas.{HasRecords-member_of}
+use Rattle.lawful_states.specs.Lawful.{AreBased, HasRecords, HoldsValues, IsBased, IsThere}
+use Rattle.lawful_states.proofs.MemberLemmas.{HasRecords-member_of}
 use Rattle.library_steps.specs.State.{FileState, JobState, MemberStatus, fields_of}
 use Rattle.joint_state.specs.Limits.{AreWithin, IsWithin}
 use Rattle.library_kept.proofs.FieldLemmas.{FitsSlot-held}

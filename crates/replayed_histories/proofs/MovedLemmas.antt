@@ -14,7 +14,7 @@ use Rattle.journal_model.specs.Catalogue.{CatalogFile}
 use Rattle.journal_model.specs.Replay.{moved}
 use Rattle.journal_replay.specs.Standing.{HeldMember, Standing, images_by, member_by}
 use Rattle.library_model.specs.Named.{Named, named}
-use Rattle.library_parts.proofs.MemberLemmas.{member_of-with}
+use Rattle.lawful_states.proofs.MemberLemmas.{member_of-with}
 use Rattle.library_steps.specs.State.{FileState, JobState, MemberStatus, fields_of}
 use Rattle.library_steps.specs.SlotChange.{status_among}
 use Rattle.restart_model.specs.Sources.{described_files, fields_beside}

@@ -17,7 +17,7 @@ use Rattle.member_slots.specs.Members.{NumberedMembers, member_of, put_member}
 use Rattle.record_fmt.specs.Layout.{record_length}
 use Rattle.logical_model.specs.Bases.{PhysicalFile}
 use Rattle.logical_laws.proofs.ListLemmas.{each-append, each-weaker}
-use Rattle.file_catalogue.proofs.NameLemmas.{same_name-self}
+use Rattle.lawful_states.proofs.NameLemmas.{same_name-self}
 use Rattle.journal_model.specs.Acts.{Nothing, act}
 use Rattle.journal_model.specs.Catalogue.{CatalogFile, MayCreate, is_named, member_numbered}
 use Rattle.journal_model.specs.Pairs.{EndsPair}
@@ -36,7 +36,7 @@ use Rattle.library_steps.specs.CreatePhysicalFile.{NewFile, create_change, creat
 use Rattle.library_steps.specs.Drafts.{Author, author_of, member_draft}
 use Rattle.library_steps.specs.Refusals.{named_or_refused, refuse_if, sequences_left}
 use Rattle.library_steps.specs.SlotChange.{status_among}
-use Rattle.library_parts.proofs.FileLemmas.{next-unowned}
+use Rattle.lawful_states.proofs.FileLemmas.{next-unowned}
 use Rattle.joint_state.specs.Sound.{IsSound, after}
 use Rattle.library_kept.proofs.ResultLemmas.{bind-ok, does-each, not-refused, ok-equal}
 use Rattle.restart_model.specs.Sources.{described_files, descriptions, fields_beside, format_named, if_physical, spec_beside, spec_named}

@@ -15,8 +15,8 @@ use Rattle.member_slots.specs.declared.slot.Slot.TheVariants.{Live, Deleted}
 use Rattle.member_slots.specs.Member.{is_live}
 use Rattle.member_slots.specs.Members.{member_of}
 use Rattle.record_fmt.specs.declared.formats.Field.{Field}
-use Rattle.file_catalogue.specs.Owners.{AreApart, Owns, numbers_of}
-use Rattle.file_catalogue.proofs.OwnerLemmas.{owner-status}
+use Rattle.lawful_states.specs.Owners.{AreApart, Owns, numbers_of}
+use Rattle.lawful_states.proofs.OwnerLemmas.{owner-status}
 use Rattle.journal_model.specs.Acts.{Act, Change, act_elsewhere, act_there, acts, change_of, entry_before, is_number}
 use Rattle.journal_model.specs.Closed.{closed_prefix}
 use Rattle.journal_model.specs.Parts.{applied_part, removed_from, removed_part}
@@ -38,8 +38,8 @@ use Rattle.library_kept.proofs.RangeLemmas.{ActFits, Fits, NumberedFits, TellsOf
 use Rattle.library_kept.proofs.ResultLemmas.{bind-ok, none-refused, not-refused, ok-equal}
 use Rattle.library_kept.proofs.StandLemmas.{within-of}
 use Rattle.library_kept.proofs.WorkLemmas.{GivenFits}
-use Rattle.library_parts.specs.Lawful.{HoldsValues}
-use Rattle.library_parts.proofs.MemberLemmas.{HasRecords-member_of}
+use Rattle.lawful_states.specs.Lawful.{HoldsValues}
+use Rattle.lawful_states.proofs.MemberLemmas.{HasRecords-member_of}
 use Rattle.library_steps.specs.declared.limits.TheConstants.{MOST_BLOCK_BYTES, MOST_LIBRARY_BYTES}
 use Rattle.library_steps.specs.Change.{deposited}
 use Rattle.library_steps.specs.Drafts.{author_of}

@@ -31,8 +31,8 @@ use Rattle.library_kept.proofs.RangeLemmas.{Fits, Fits-put}
 use Rattle.library_kept.proofs.WorkLemmas.{GivenFits}
 use Rattle.library_kept.proofs.ResultLemmas.{does-each}
 use Rattle.library_kept.proofs.PlanLemmas.{same-file}
-use Rattle.library_parts.specs.Lawful.{HoldsValues}
-use Rattle.library_parts.proofs.MemberLemmas.{IsThere-is_some, item_at-with_item_same, member_of-with}
+use Rattle.lawful_states.specs.Lawful.{HoldsValues}
+use Rattle.lawful_states.proofs.MemberLemmas.{IsThere-is_some, item_at-with_item_same, member_of-with}
 use Rattle.library_model.specs.declared.replies.Reply.{Reply}
 use Rattle.library_model.specs.declared.replies.Reply.TheVariants as replies
 use Rattle.library_model.specs.declared.requests.JournaledChanges.{JournaledChanges}
@@ -44,7 +44,7 @@ use Rattle.library_steps.specs.State.{FileState, State, fields_of, memory_of}
 use Rattle.library_steps.specs.Uses.{user_of}
 use Rattle.joint_state.specs.Agreed.{is_journaled}
 use Rattle.joint_state.specs.Sound.{IsSound, after}
-use Rattle.file_catalogue.specs.Owners.{Owns}
+use Rattle.lawful_states.specs.Owners.{Owns}
 use Rattle.restart_model.specs.Sources.{descriptions}
 use Rattle.replayed_histories.specs.Replayed.{BeganBefore, CyclesStand, IsHeldWithin, IsOfOneOf, IsReplayed, StandsAs}
 use Rattle.replayed_histories.specs.Deposits.{MayBeDeposited}

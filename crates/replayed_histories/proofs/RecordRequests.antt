@@ -6,9 +6,9 @@ use Rattle.std.proofs.lemmas.Bool.{ne_eqb}
 use Rattle.std.proofs.lemmas.Bool.Decides.{nat_tests}
 use Rattle.entry_codec.specs.declared.kinds.Images.{Images}
 use Rattle.entry_codec.specs.Placing.{is_counted}
-use Rattle.file_catalogue.specs.Owners.{Owns}
-use Rattle.file_catalogue.specs.declared.changes.StatusChange.TheVariants.{Touched}
-use Rattle.file_catalogue.proofs.OwnerLemmas.{owner-status}
+use Rattle.lawful_states.specs.Owners.{Owns}
+use Rattle.lawful_states.specs.declared.changes.StatusChange.TheVariants.{Touched}
+use Rattle.lawful_states.proofs.OwnerLemmas.{owner-status}
 use Rattle.member_slots.specs.declared.slot.Slot.{Slot}
 use Rattle.member_slots.specs.declared.slot.Slot.TheVariants.{Deleted, Live}
 use Rattle.member_slots.specs.Member.{MemberState}
@@ -26,8 +26,8 @@ use Rattle.library_steps.specs.Change.{journaled}
 use Rattle.library_steps.specs.Drafts.{Author, author_of, slot_drafts}
 use Rattle.library_steps.specs.Records.{slot_there}
 use Rattle.library_steps.specs.SlotChange.{NewSlot, are_both, begins_cycle, change_made, cycle_for, cycle_number, drafts_of, images_of, is_behind_last, noted, slot_put, status_among, status_in, touched, with_cycle, with_slot}
-use Rattle.library_parts.specs.Lawful.{HoldsValues}
-use Rattle.library_parts.proofs.MemberLemmas.{slot_put-appended, slot_put-changed}
+use Rattle.lawful_states.specs.Lawful.{HoldsValues}
+use Rattle.lawful_states.proofs.MemberLemmas.{slot_put-appended, slot_put-changed}
 use Rattle.joint_state.specs.Sound.{IsSound, after}
 use Rattle.joint_state.proofs.OpenLemmas.{each-among}
 use Rattle.library_kept.proofs.ChangeLemmas.{MayChange}

@@ -11,7 +11,7 @@ use Rattle.entry_codec.specs.declared.kinds.Images.{Images}
 use Rattle.entry_codec.specs.declared.kinds.EntryKind.{EntryKind}
 use Rattle.entry_codec.specs.declared.kinds.EntryKind.TheVariants.{FileCreated, FileDeleted, MemberAdded, JournalingStarted, InitialSlot, JournalingEnded, MemberCleared, MemberReorganized, ChangesApplied, ChangesRemoved, RecordAdded, RecordAddedAtNumber, BeforeImage, AfterImage, RecordDeleted, UndoBeforeImage, UndoAfterImage, UndoDelete, CommitmentStarted, CommitCycleStarted, CommitCycleCommitted, CommitCycleRolledBack, CommitmentEnded, AbnormalEnd, NextReceiver, PreviousReceiver}
 use Rattle.journal_model.specs.Catalogue.{Catalogue, CatalogFile, CatalogMember, Descriptions, MayEnterAll, MayEnterBy, MayCreate, catalogue_after, catalogue_by, empty_catalogue, file_deleted, has_number, is_in_file, is_named}
-use Rattle.file_catalogue.proofs.NameLemmas.{same_name-equal, same_name-self, same_name-symm}
+use Rattle.lawful_states.proofs.NameLemmas.{same_name-equal, same_name-self, same_name-symm}
 use Rattle.logical_laws.proofs.ListLemmas.{each-append, each-filter, each-map, each-weaker}
 
 -- ---- lists

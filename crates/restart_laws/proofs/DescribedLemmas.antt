@@ -14,12 +14,12 @@ use Rattle.dds_logical.specs.declared.views.LogicalSpec.{LogicalSpec}
 use Rattle.dds_logical.specs.Logical.{logical_of}
 use Rattle.logical_model.specs.Bases.{FileSpec, PhysicalFile, LogicalFile}
 use Rattle.journal_model.specs.Catalogue.{CatalogFile, is_named}
-use Rattle.file_catalogue.proofs.NameLemmas.{named-append, same_name-self, same_name-symm, some-equal}
+use Rattle.lawful_states.proofs.NameLemmas.{named-append, same_name-self, same_name-symm, some-equal}
 use Rattle.library_model.specs.Named.{Named, named, same_name}
 use Rattle.library_steps.specs.CreateLogicalFile.{logical_by}
 use Rattle.library_steps.specs.CreatePhysicalFile.{described_by}
 use Rattle.library_steps.specs.State.{FileState}
-use Rattle.library_parts.proofs.BaseLemmas.{named-before}
+use Rattle.lawful_states.proofs.BaseLemmas.{named-before}
 use Rattle.restart_model.specs.Sources.{described_behind, format_named, if_logical, if_physical, spec_beside, spec_named, with_described}
 use Rattle.restart_laws.proofs.CatalogueLemmas.{AreNamesApart, Differs}
 

@@ -17,7 +17,7 @@ use Rattle.journal_model.specs.Restart.{all_rollback_acts, all_undone, restart_a
 use Rattle.journal_model.proofs.PlaceLemmas.{length-put_slot}
 use Rattle.journal_model.proofs.SoundLemmas.{told_by}
 use Rattle.logical_laws.proofs.ListLemmas.{each-append, each-filter}
-use Rattle.library_parts.specs.Lawful.{HoldsValues}
+use Rattle.lawful_states.specs.Lawful.{HoldsValues}
 use Rattle.joint_state.specs.Told.{IsRecordOf}
 
 -- what an act gives is so

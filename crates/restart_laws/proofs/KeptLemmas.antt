@@ -7,10 +7,10 @@ use Rattle.std.specs.Str.{bytes_eq}
 use Rattle.member_slots.specs.Members.{item_at}
 use Rattle.journal_model.specs.Catalogue.{CatalogMember, is_in_file}
 use Rattle.journal_model.specs.Journal.{Journal, catalogue_of}
-use Rattle.file_catalogue.specs.Owners.{Owns, has_number}
-use Rattle.file_catalogue.proofs.NameLemmas.{same_name-self, some-equal}
-use Rattle.file_catalogue.proofs.OwnerLemmas.{status-unowned}
-use Rattle.file_catalogue.proofs.StatusLemmas.{has_number-cons}
+use Rattle.lawful_states.specs.Owners.{Owns, has_number}
+use Rattle.lawful_states.proofs.NameLemmas.{same_name-self, some-equal}
+use Rattle.lawful_states.proofs.OwnerLemmas.{status-unowned}
+use Rattle.lawful_states.proofs.StatusLemmas.{has_number-cons}
 use Rattle.library_model.specs.Named.{Named}
 use Rattle.library_steps.specs.SlotChange.{status_among, status_in}
 use Rattle.library_steps.specs.State.{FileState, MemberStatus}

@@ -17,16 +17,16 @@ use Rattle.logical_laws.proofs.ListLemmas.{each-map, each-weaker}
 use Rattle.logical_laws.proofs.MappedLemmas.{described-mapped, described-there}
 use Rattle.journal_model.specs.Catalogue.{CatalogFile, CatalogMember, is_in_file, is_named}
 use Rattle.journal_model.specs.Journal.{Journal, catalogue_of}
-use Rattle.file_catalogue.specs.Owners.{AreApart, Owns, has_number, numbers_of}
-use Rattle.file_catalogue.specs.Physical.{IsPhysical}
-use Rattle.file_catalogue.proofs.ChangeLemmas.{changed-from}
-use Rattle.file_catalogue.proofs.NameLemmas.{same_name-equal, some-equal}
-use Rattle.file_catalogue.proofs.StatusLemmas.{has_number-cons}
+use Rattle.lawful_states.specs.Owners.{AreApart, Owns, has_number, numbers_of}
+use Rattle.lawful_states.specs.Physical.{IsPhysical}
+use Rattle.lawful_states.proofs.ChangeLemmas.{changed-from}
+use Rattle.lawful_states.proofs.NameLemmas.{same_name-equal, some-equal}
+use Rattle.lawful_states.proofs.StatusLemmas.{has_number-cons}
 use Rattle.library_model.specs.Named.{Named, named, same_name}
 use Rattle.library_steps.specs.LogicalFiles.{base_in, bases_in}
 use Rattle.library_steps.specs.State.{FileState, MemberStatus, format_in, physical_among, physical_in}
-use Rattle.library_parts.specs.Lawful.{AreBased, IsBased}
-use Rattle.library_parts.proofs.BaseLemmas.{physical-here, some-is, some-of}
+use Rattle.lawful_states.specs.Lawful.{AreBased, IsBased}
+use Rattle.lawful_states.proofs.BaseLemmas.{physical-here, some-is, some-of}
 use Rattle.joint_state.specs.Limits.{AreFormats}
 use Rattle.joint_state.specs.Views.{AreMapped, HaveDefaults, IsMapped}
 use Rattle.library_kept.proofs.DefaultLemmas.{physical-defaults}

@@ -36,15 +36,15 @@ use Rattle.journal_model.proofs.PlaceLemmas.{slot_of-put_other, slot_of-put_same
 use Rattle.journal_model.proofs.ReplayLemmas.{IsChained-replayed}
 use Rattle.journal_model.proofs.SequenceLemmas.{known_after-append}
 use Rattle.journal_model.proofs.SoundLemmas.{sound-replay, sound-start}
-use Rattle.file_catalogue.specs.Owners.{Owns}
-use Rattle.file_catalogue.specs.Physical.{IsPhysical}
-use Rattle.file_catalogue.proofs.NameLemmas.{some-equal}
+use Rattle.lawful_states.specs.Owners.{Owns}
+use Rattle.lawful_states.specs.Physical.{IsPhysical}
+use Rattle.lawful_states.proofs.NameLemmas.{some-equal}
 use Rattle.library_model.specs.Named.{Named, named}
 use Rattle.library_steps.specs.declared.limits.TheConstants.{MOST_LIBRARY_BYTES}
 use Rattle.library_steps.specs.Ranges.{library_bytes}
 use Rattle.library_steps.specs.SlotChange.{images_of as images_kept}
 use Rattle.library_steps.specs.State.{State, FileState, fields_of, format_in, memory_of, physical_in}
-use Rattle.library_parts.specs.Lawful.{HoldsValues, IsThere}
+use Rattle.lawful_states.specs.Lawful.{HoldsValues, IsThere}
 use Rattle.joint_state.specs.Limits.{AreWithin, IsWithin}
 use Rattle.joint_state.specs.Sound.{IsSound}
 use Rattle.joint_state.specs.Told.{IsRecordOf, IsTold, MayHavePlace, NamesPlace}

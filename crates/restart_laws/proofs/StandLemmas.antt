@@ -15,7 +15,7 @@ use Rattle.journal_model.specs.Images.{AllHaveRecords, HasRecords, images_of}
 use Rattle.journal_model.specs.Replay.{State, moved, replay, step, undos_after}
 use Rattle.journal_model.specs.Replayable.{CanReplay, MayFollow}
 use Rattle.journal_replay.proofs.KindLemmas.{quiet_slots}
-use Rattle.library_parts.specs.Lawful.{HoldsValues}
+use Rattle.lawful_states.specs.Lawful.{HoldsValues}
 use Rattle.joint_state.specs.Told.{IsRecordOf}
 use Rattle.restart_model.specs.Sources.{descriptions}
 use Rattle.restart_laws.proofs.CatalogueLemmas.{IsCatalogue, entry-is}

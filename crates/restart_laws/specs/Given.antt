@@ -7,7 +7,7 @@ use Rattle.dds_physical.specs.declared.physical_files.PhysicalSpec.{PhysicalSpec
 use Rattle.dds_physical.specs.Keywords.{first_named}
 use Rattle.dds_logical.specs.FormatLines.{FormatLines}
 use Rattle.dds_logical.specs.Origins.{keyword_names}
-use Rattle.file_catalogue.specs.Physical.{IsPhysical}
+use Rattle.lawful_states.specs.Physical.{IsPhysical}
 use Rattle.journal_model.specs.Catalogue.{Catalogue, CatalogFile, catalogue_by, empty_catalogue, member_numbered}
 use Rattle.journal_model.specs.Journal.{OfMember}
 use Rattle.joint_state.specs.Told.{is_of_record}

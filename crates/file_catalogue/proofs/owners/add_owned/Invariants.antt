@@ -1,6 +1,6 @@
 use Rattle.std.proofs.Common.{◌≡◌, ◌≤◌, ℕ, Some, nat_eq, drop, length, if◌then◌else◌}
 use Rattle.indexmap.specs.IndexMap.{get, spare}
-use Rattle.file_catalogue.specs.Owners.{has_number}
+use Rattle.lawful_states.specs.Owners.{has_number}
 use Rattle.file_catalogue.proofs.owners.add_owned.Given as goal
 
 abbrev pub invariant-loop-status : goal.invariant-loop-status

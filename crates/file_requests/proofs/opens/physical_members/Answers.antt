@@ -1,4 +1,4 @@
-use Rattle.library_parts.proofs.FindLemmas.{found-is}
+use Rattle.lawful_states.proofs.FindLemmas.{found-is}
 use Rattle.file_requests.proofs.OpenLemmas.{has-number}
 use Rattle.file_requests.proofs.opens.physical_members.Goals as goal
 

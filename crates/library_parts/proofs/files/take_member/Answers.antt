@@ -1,4 +1,4 @@
-use Rattle.library_parts.proofs.DeleteLemmas.{bytes-without}
+use Rattle.lawful_states.proofs.DeleteLemmas.{bytes-without}
 use Rattle.library_parts.proofs.files.take_member.Goals as goal
 
 pub returns-clause-bytes : goal.returns-clause-bytes

@@ -1,5 +1,5 @@
 use Rattle.std.proofs.Common.{false}
-use Rattle.library_parts.proofs.LockLemmas.{gained-unlocked}
+use Rattle.lawful_states.proofs.LockLemmas.{gained-unlocked}
 use Rattle.library_parts.proofs.leave.leave.Goals as goal
 
 pub keep-requires-clause-unlocked : goal.keep-requires-clause-unlocked

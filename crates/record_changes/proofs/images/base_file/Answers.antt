@@ -1,7 +1,7 @@
 use Rattle.library_model.specs.declared.replies.Reply.TheVariants.{NoSuchName}
 use Rattle.library_model.specs.declared.replies.Missing.TheVariants.{Name}
 use Rattle.library_steps.specs.State.{physical_among}
-use Rattle.library_parts.proofs.FindLemmas.{found-is}
+use Rattle.lawful_states.proofs.FindLemmas.{found-is}
 use Rattle.record_changes.proofs.ImageLemmas.{shows-none}
 use Rattle.record_changes.proofs.images.base_file.Goals as goal
 

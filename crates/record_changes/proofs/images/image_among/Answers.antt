@@ -10,7 +10,7 @@ use Rattle.library_steps.specs.State.{memory_of}
 use Rattle.library_steps.specs.LogicalFiles.{bases_of}
 use Rattle.library_steps.specs.WriteRecord.{packed}
 use Rattle.library_parts.specs.Answers.{Gives}
-use Rattle.file_catalogue.proofs.NameLemmas.{some-equal}
+use Rattle.lawful_states.proofs.NameLemmas.{some-equal}
 use Rattle.record_changes.specs.Images.{IsWritable, fields_of_view}
 use Rattle.record_changes.proofs.images.image_among.Goals as goal
 

@@ -1,5 +1,5 @@
 use Rattle.std.proofs.Common.{Bor, ◌≡◌, ℕ, Some, List, length, sym, subst}
-use Rattle.file_catalogue.proofs.NameLemmas.{some-equal}
+use Rattle.lawful_states.proofs.NameLemmas.{some-equal}
 use Rattle.member_slots.specs.declared.slot.Slot.TheVariants.{Live}
 use Rattle.member_slots.specs.Members.{member_of}
 use Rattle.library_steps.specs.State.{memory_of}

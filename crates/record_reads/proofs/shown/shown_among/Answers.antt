@@ -6,7 +6,7 @@ use Rattle.logical_model.specs.Formats.{shown_by}
 use Rattle.view_records.specs.Through.{IsFormatOf, IsReadThrough}
 use Rattle.library_model.specs.declared.replies.RecordRead.{RecordRead}
 use Rattle.library_steps.specs.Reads.{read_as}
-use Rattle.file_catalogue.proofs.NameLemmas.{some-equal}
+use Rattle.lawful_states.proofs.NameLemmas.{some-equal}
 use Rattle.record_reads.proofs.shown.shown_among.Goals as goal
 
 pub shown_view-requires-clause-read : goal.shown_view-requires-clause-read

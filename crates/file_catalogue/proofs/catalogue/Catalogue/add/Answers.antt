@@ -3,7 +3,7 @@ use Rattle.std.specs.Cmp.Lexicographic.{pointwise}
 use Rattle.indexmap.specs.IndexMap.{get}
 use Rattle.indexmap.proofs.CallerLemmas.{insert_entry-new}
 use Rattle.file_catalogue.proofs.MapLemmas.{on_ok}
-use Rattle.file_catalogue.proofs.ChangeLemmas.{owned-added}
+use Rattle.lawful_states.proofs.ChangeLemmas.{owned-added}
 use Rattle.file_catalogue.proofs.KeyedLemmas.{keyed-append}
 use Rattle.file_catalogue.proofs.OwnMemberLemmas.{members-append}
 use Rattle.file_catalogue.proofs.catalogue.Catalogue.add.Goals as goal

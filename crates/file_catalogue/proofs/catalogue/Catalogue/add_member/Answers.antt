@@ -8,7 +8,7 @@ use Rattle.library_steps.specs.CreatePhysicalFile.{new_status}
 use Rattle.library_steps.specs.MemberCommands.{with_member_name, file_changed}
 use Rattle.file_catalogue.specs.OwnMembers.{HasOwnMembers, HaveOwnMembers}
 use Rattle.file_catalogue.proofs.MapLemmas.{on_ok}
-use Rattle.file_catalogue.proofs.ChangeLemmas.{owned-member_added, set_value-file_changed}
+use Rattle.lawful_states.proofs.ChangeLemmas.{owned-member_added, set_value-file_changed}
 use Rattle.file_catalogue.proofs.KeyedLemmas.{keyed-member_added}
 use Rattle.file_catalogue.proofs.OwnMemberLemmas.{member-more, members-set}
 use Rattle.file_catalogue.proofs.catalogue.Catalogue.add_member.Goals as goal

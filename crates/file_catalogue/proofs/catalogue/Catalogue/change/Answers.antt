@@ -4,12 +4,12 @@ use Rattle.std.specs.Option.{option_copied_mut}
 use Rattle.indexmap.specs.IndexMap.{get}
 use Rattle.library_model.specs.Named.{same_name}
 use Rattle.library_steps.specs.State.{status_changed}
-use Rattle.file_catalogue.specs.Statuses.{after}
+use Rattle.lawful_states.specs.Statuses.{after}
 use Rattle.file_catalogue.proofs.MapLemmas.{lends_some}
-use Rattle.file_catalogue.proofs.NameLemmas.{some-equal}
-use Rattle.file_catalogue.proofs.StatusLemmas.{after-number}
-use Rattle.file_catalogue.proofs.OwnerLemmas.{owner-owns}
-use Rattle.file_catalogue.proofs.ChangeLemmas.{each_changed, each_changed-no_owner, set_value-each_changed, owned-each_changed}
+use Rattle.lawful_states.proofs.NameLemmas.{some-equal}
+use Rattle.lawful_states.proofs.StatusLemmas.{after-number}
+use Rattle.lawful_states.proofs.OwnerLemmas.{owner-owns}
+use Rattle.lawful_states.proofs.ChangeLemmas.{each_changed, each_changed-no_owner, set_value-each_changed, owned-each_changed}
 use Rattle.file_catalogue.proofs.KeyedLemmas.{keyed-each_changed}
 use Rattle.file_catalogue.proofs.OwnMemberLemmas.{members-each_changed}
 use Rattle.file_catalogue.proofs.catalogue.Catalogue.change.Goals as goal

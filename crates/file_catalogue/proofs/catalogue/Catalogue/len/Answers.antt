@@ -1,4 +1,4 @@
-use Rattle.file_catalogue.proofs.OwnerLemmas.{owned-apart}
+use Rattle.lawful_states.proofs.OwnerLemmas.{owned-apart}
 use Rattle.file_catalogue.proofs.KeyedLemmas.{own_keys-keyed}
 use Rattle.file_catalogue.proofs.OwnMemberLemmas.{logical-none}
 use Rattle.file_catalogue.proofs.catalogue.Catalogue.len.Goals as goal

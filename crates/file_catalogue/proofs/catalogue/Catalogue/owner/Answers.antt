@@ -1,6 +1,6 @@
 use Rattle.std.proofs.Common.{◌∙◌, sym, ap, None, Some}
 use Rattle.std.specs.Option.{option_copied, is_some}
-use Rattle.file_catalogue.proofs.OwnerLemmas.{IsOwner, owner-some, owner-none, owner-stale}
+use Rattle.lawful_states.proofs.OwnerLemmas.{IsOwner, owner-some, owner-none, owner-stale}
 use Rattle.file_catalogue.proofs.catalogue.Catalogue.owner.Goals as goal
 
 none : (c : goal.In_default) → IsOwner c.args.number c.args.self.now.files None

@@ -1,7 +1,7 @@
 use Rattle.std.proofs.Common.{◌∙◌, sym, nat_eq}
 use Rattle.indexmap.specs.IndexMap.{get}
-use Rattle.file_catalogue.proofs.NameLemmas.{remove_entry-distinct}
-use Rattle.file_catalogue.proofs.ChangeLemmas.{owned-removed}
+use Rattle.lawful_states.proofs.NameLemmas.{remove_entry-distinct}
+use Rattle.lawful_states.proofs.ChangeLemmas.{owned-removed}
 use Rattle.file_catalogue.proofs.KeyedLemmas.{keyed-without}
 use Rattle.file_catalogue.proofs.OwnMemberLemmas.{members-without}
 use Rattle.file_catalogue.proofs.catalogue.Catalogue.remove.Goals as goal

@@ -1,5 +1,5 @@
 use Rattle.file_catalogue.specs.Bodies.{spec_in}
-use Rattle.file_catalogue.specs.Statuses.{after}
+use Rattle.lawful_states.specs.Statuses.{after}
 use Rattle.file_catalogue.proofs.OwnMemberLemmas.{members-changed}
 use Rattle.file_catalogue.proofs.files.File.change.Goals as goal
 

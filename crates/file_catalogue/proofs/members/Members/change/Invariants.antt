@@ -1,5 +1,5 @@
 use Rattle.std.proofs.Common.{◌≡◌, ◌++◌, ◌==◌, map, take, drop, if◌then◌else◌}
-use Rattle.file_catalogue.specs.Statuses.{after}
+use Rattle.lawful_states.specs.Statuses.{after}
 use Rattle.file_catalogue.proofs.members.Members.change.Given as goal
 
 abbrev pub invariant-loop-status : goal.invariant-loop-status

@@ -2,10 +2,10 @@ use Rattle.std.proofs.Common.{◌≡◌, ◌∙◌, Some, sym, ap, subst}
 use Rattle.std.specs.Option.{option_copied, option_map}
 use Rattle.record_fmt.specs.Layout.{record_length}
 use Rattle.logical_model.specs.Bases.{FileSpec, PhysicalFile}
-use Rattle.file_catalogue.specs.Physical.{IsPhysical}
+use Rattle.lawful_states.specs.Physical.{IsPhysical}
 use Rattle.library_steps.specs.State.{fields_of, format_in, physical_in}
 use Rattle.library_parts.specs.Parts.{state_of}
-use Rattle.library_parts.proofs.FileLemmas.{AreOne-with_file, based-physical, next-unowned, distinct-one}
+use Rattle.lawful_states.proofs.FileLemmas.{AreOne-with_file, based-physical, next-unowned, distinct-one}
 use Rattle.library_parts.proofs.IndexFiles.{next-none, physical-is, IsIndexed-with_file}
 use Rattle.library_parts.proofs.ResultLemmas.{on_ok}
 use Rattle.library_parts.proofs.contents.Contents.add_file.Goals as goal

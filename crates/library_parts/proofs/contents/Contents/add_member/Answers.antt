@@ -5,8 +5,8 @@ use Rattle.logical_model.specs.Bases.{FileSpec}
 use Rattle.library_model.specs.Named.{named}
 use Rattle.library_steps.specs.State.{FileState, fields_of, format_in, physical_in}
 use Rattle.library_parts.specs.Parts.{state_of}
-use Rattle.library_parts.proofs.FileLemmas.{next-unowned}
-use Rattle.library_parts.proofs.AddLemmas.{AreOne-member_added}
+use Rattle.lawful_states.proofs.FileLemmas.{next-unowned}
+use Rattle.lawful_states.proofs.AddLemmas.{AreOne-member_added}
 use Rattle.library_parts.proofs.IndexFiles.{next-none, physical-by, IsIndexed-with_member}
 use Rattle.library_parts.proofs.ResultLemmas.{on_ok}
 use Rattle.library_parts.proofs.contents.Contents.add_member.Goals as goal

@@ -7,7 +7,7 @@ use Rattle.library_steps.specs.Opens.{new_open}
 use Rattle.library_parts.proofs.FindLemmas.{opens-members}
 use Rattle.library_parts.proofs.OpenLooks.{reads-renumbered}
 use Rattle.library_parts.proofs.IndexOpens.{IsIndexed-with_open}
-use Rattle.library_parts.proofs.LawfulLemmas.{AreOne-with_open}
+use Rattle.lawful_states.proofs.LawfulLemmas.{AreOne-with_open}
 use Rattle.library_parts.proofs.DueLemmas.{HasDue-kept}
 use Rattle.library_parts.proofs.contents.Contents.add_open.Goals as goal
 

@@ -15,7 +15,7 @@ use Rattle.library_parts.specs.declared.stop.Stop.{Stop}
 use Rattle.library_parts.specs.Answers.{MayAllow}
 use Rattle.library_parts.specs.Parts.{state_of}
 use Rattle.library_parts.specs.PathChanges.{IsAttached}
-use Rattle.library_parts.proofs.FileLemmas.{AreOne-with_logical}
+use Rattle.lawful_states.proofs.FileLemmas.{AreOne-with_logical}
 use Rattle.library_parts.proofs.IndexFiles.{described-over, distinct-none, view-can, view-repeated, view-tells, IsIndexed-with_view}
 use Rattle.library_parts.proofs.IndexLooks.{records-of}
 use Rattle.library_parts.proofs.contents.Contents.add_view.Goals as goal

@@ -1,6 +1,7 @@
 use Rattle.library_parts.proofs.DueLemmas.{HasDue-begun}
 use Rattle.library_parts.proofs.IndexOpens.{IsIndexed-begun}
-use Rattle.library_parts.proofs.LawfulLemmas.{AreOne-begun, OnErr-jobs}
+use Rattle.lawful_states.proofs.LawfulLemmas.{AreOne-begun}
+use Rattle.library_parts.proofs.LawfulLemmas.{OnErr-jobs}
 use Rattle.library_parts.proofs.contents.Contents.begin_job.Goals as goal
 
 pub invariant_of-self : goal.invariant_of-self

@@ -3,12 +3,12 @@ use Rattle.member_slots.specs.Member.{cleared}
 use Rattle.member_slots.specs.Members.{member_of, with_member}
 use Rattle.job_table.specs.Table.{changes_held}
 use Rattle.library_steps.specs.Ranges.{library_bytes}
-use Rattle.library_parts.specs.Slots.{weight}
-use Rattle.library_parts.proofs.MemberLemmas.{HasRecords-cleared, weight-cleared}
+use Rattle.lawful_states.specs.Slots.{weight}
+use Rattle.lawful_states.proofs.MemberLemmas.{HasRecords-cleared, weight-cleared}
 use Rattle.path_set.proofs.RebuildLemmas.{rebuilt-ties}
 use Rattle.library_parts.proofs.IndexMoves.{changes-held}
 use Rattle.library_parts.proofs.IndexRebuilt.{IsIndexed-rebuilt, bytes-cleared}
-use Rattle.library_parts.proofs.LawfulLemmas.{AreOne-slots}
+use Rattle.lawful_states.proofs.LawfulLemmas.{AreOne-slots}
 use Rattle.library_parts.proofs.contents.Contents.clear.Goals as goal
 
 pub rebuild-requires : goal.rebuild-requires

@@ -14,8 +14,8 @@ use Rattle.library_parts.specs.Parts.{state_of}
 use Rattle.library_parts.proofs.BoundaryLemmas.{commit-answers, length-cycle_end}
 use Rattle.library_parts.proofs.DueLemmas.{HasDue-changed, job_due-part}
 use Rattle.library_parts.proofs.IndexChanges.{IsIndexed-committed}
-use Rattle.library_parts.proofs.LawfulLemmas.{AreOne-committed, AreOne-journal, committed-memory}
-use Rattle.library_parts.proofs.LockLemmas.{All-locks_after, running-HasBegun}
+use Rattle.lawful_states.proofs.LawfulLemmas.{AreOne-committed, AreOne-journal, committed-memory}
+use Rattle.lawful_states.proofs.LockLemmas.{All-locks_after, running-HasBegun}
 use Rattle.library_parts.proofs.contents.Contents.commit.Goals as goal
 
 pub deposit_if-requires : goal.deposit_if-requires

@@ -2,7 +2,7 @@ use Rattle.std.proofs.Common.{◌≡◌, ◌≤◌, not, length, arith}
 use Rattle.lock_table.specs.declared.table.TheConstants.{MOST_LOCKS}
 use Rattle.lock_table.specs.Lock.{is_of_open}
 use Rattle.lock_table.specs.Table.{freed}
-use Rattle.library_parts.proofs.LockLemmas.{length-filter, few-alike}
+use Rattle.lawful_states.proofs.LockLemmas.{length-filter, few-alike}
 use Rattle.library_parts.proofs.contents.Contents.count_read.Goals as goal
 
 pub returns-in-None : goal.returns-in-None

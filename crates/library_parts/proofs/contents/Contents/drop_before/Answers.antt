@@ -1,5 +1,5 @@
 use Rattle.std.proofs.Common.{arith}
-use Rattle.library_parts.proofs.LawfulLemmas.{AreOne-journal}
+use Rattle.lawful_states.proofs.LawfulLemmas.{AreOne-journal}
 use Rattle.library_parts.proofs.contents.Contents.drop_before.Goals as goal
 
 pub invariant_of-self : goal.invariant_of-self

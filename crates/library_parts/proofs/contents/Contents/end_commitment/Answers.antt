@@ -5,7 +5,7 @@ use Rattle.entry_codec.specs.declared.kinds.EntryKind.TheVariants.{CommitmentEnd
 use Rattle.lock_table.specs.Lock.{is_of_group}
 use Rattle.lock_table.specs.Table.{freed}
 use Rattle.memory_journal.specs.Journal.{deposited}
-use Rattle.job_table.specs.Users.{HasBegun}
+use Rattle.lawful_states.specs.Jobs.{HasBegun}
 use Rattle.library_steps.specs.State.{job_at, job_changed, or_new}
 use Rattle.library_steps.specs.Commitment.{with_level}
 use Rattle.library_steps.specs.Drafts.{library_draft}
@@ -14,7 +14,7 @@ use Rattle.library_parts.specs.Due.{level_due}
 use Rattle.library_parts.specs.Parts.{state_of}
 use Rattle.library_parts.proofs.BoundaryLemmas.{ended-answers}
 use Rattle.library_parts.proofs.IndexOpens.{IsIndexed-with_level}
-use Rattle.library_parts.proofs.LawfulLemmas.{AreOne-commitment_ended, AreOne-journal}
+use Rattle.lawful_states.proofs.LawfulLemmas.{AreOne-commitment_ended, AreOne-journal}
 use Rattle.library_parts.proofs.DueLemmas.{HasDue-changed, job_due-part, started-due}
 use Rattle.library_parts.proofs.contents.Contents.end_commitment.Goals as goal
 

@@ -1,13 +1,12 @@
-use Rattle.std.proofs.Common.{◌≡◌, ◌∙◌, ap, arith, not}
+use Rattle.std.proofs.Common.{◌≡◌, ◌∙◌, ap, arith, not, length}
 use Rattle.std.proofs.lemmas.List.Elements.{All-filter}
 use Rattle.lock_table.specs.Lock.{is_by}
-use Rattle.job_table.specs.Users.{HasBegun}
-use Rattle.std.proofs.Common.{length}
+use Rattle.lawful_states.specs.Jobs.{HasBegun}
 use Rattle.library_steps.specs.State.{job_at, or_new}
 use Rattle.library_steps.specs.EndJob.{ended_job}
 use Rattle.library_parts.specs.Due.{cycle_due, level_due}
 use Rattle.library_parts.proofs.IndexChanges.{IsIndexed-ended}
-use Rattle.library_parts.proofs.LawfulLemmas.{AreOne-ended}
+use Rattle.lawful_states.proofs.LawfulLemmas.{AreOne-ended}
 use Rattle.library_parts.proofs.DueLemmas.{HasDue-changed, job_due-part}
 use Rattle.library_parts.proofs.contents.Contents.end_job.Goals as goal
 

@@ -1,6 +1,6 @@
-use Rattle.file_catalogue.specs.declared.changes.StatusChange.TheVariants.{Unjournaled}
+use Rattle.lawful_states.specs.declared.changes.StatusChange.TheVariants.{Unjournaled}
 use Rattle.library_parts.proofs.IndexStatus.{IsIndexed-status}
-use Rattle.library_parts.proofs.LawfulLemmas.{AreOne-status}
+use Rattle.lawful_states.proofs.LawfulLemmas.{AreOne-status}
 use Rattle.library_parts.proofs.contents.Contents.end_journaling.Goals as goal
 
 pub invariant_of-self : goal.invariant_of-self

@@ -1,7 +1,7 @@
 use Rattle.std.proofs.Common.{◌≡◌, ◌≤◌, ℕ, Bool, None, length, arith}
 use Rattle.lock_table.specs.declared.table.TheConstants.{MOST_LOCKS}
 use Rattle.lock_table.specs.Levels.{locks_after}
-use Rattle.library_parts.proofs.LockLemmas.{write-none, few-alike}
+use Rattle.lawful_states.proofs.LockLemmas.{write-none, few-alike}
 use Rattle.library_parts.proofs.contents.Contents.exceeds_to_write.Goals as goal
 
 pub returns-in-None : goal.returns-in-None

@@ -1,6 +1,6 @@
 use Rattle.std.proofs.Common.{List, Some, None, sym, subst, Option, IfSome, refl, arith}
 use Rattle.key_spec.specs.declared.KeyPart.{KeyPart}
-use Rattle.library_parts.specs.Lawful.{OpensFile}
+use Rattle.lawful_states.specs.Lawful.{OpensFile}
 use Rattle.open_position.specs.OpenStand.{IsEntryIn}
 use Rattle.file_cursor.specs.CursorPosition.{entry_of}
 use Rattle.file_cursor.specs.declared.places.Hit.{Hit}

@@ -1,7 +1,7 @@
 use Rattle.std.proofs.Common.{◌≤◌, length, false, refl, arith}
 use Rattle.library_parts.proofs.AnswerLemmas.{AsksNone-of_open, AsksNone-unlocked, length-AsksNone}
-use Rattle.library_parts.proofs.LawfulLemmas.{AreOne-locks}
-use Rattle.library_parts.proofs.LockLemmas.{All-locks_after, running-HasBegun}
+use Rattle.lawful_states.proofs.LawfulLemmas.{AreOne-locks}
+use Rattle.lawful_states.proofs.LockLemmas.{All-locks_after, running-HasBegun}
 use Rattle.library_parts.proofs.contents.Contents.free_for.Goals as goal
 
 pub leave-requires-clause-call : goal.leave-requires-clause-call

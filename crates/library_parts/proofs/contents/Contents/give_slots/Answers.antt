@@ -6,12 +6,12 @@ use Rattle.library_parts.specs.declared.stop.Stop.{Stop}
 use Rattle.library_parts.specs.Given.{given_to}
 use Rattle.library_parts.specs.Indexed.{HasBytes}
 use Rattle.library_parts.specs.Parts.{state_of}
-use Rattle.library_parts.specs.Slots.{weight}
-use Rattle.library_parts.proofs.DeleteLemmas.{bytes-without}
+use Rattle.lawful_states.specs.Slots.{weight}
+use Rattle.lawful_states.proofs.DeleteLemmas.{bytes-without}
 use Rattle.library_parts.proofs.GivenKeys.{TellsAll, given-told}
 use Rattle.library_parts.proofs.GivenLemmas.{given-one}
 use Rattle.library_parts.proofs.GivenSteps.{giving-back, giving-indexed, giving-made, giving-shared, giving-undone}
-use Rattle.library_parts.proofs.MemberLemmas.{is_some-IsSome, member_of-with}
+use Rattle.lawful_states.proofs.MemberLemmas.{is_some-IsSome, member_of-with}
 use Rattle.library_parts.proofs.contents.Contents.give_slots.Goals as goal
 
 pub change-back-requires : goal.change-back-requires

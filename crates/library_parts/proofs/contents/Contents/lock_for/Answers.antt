@@ -1,6 +1,6 @@
 use Rattle.std.proofs.Common.{length, false}
-use Rattle.library_parts.proofs.LawfulLemmas.{AreOne-locks}
-use Rattle.library_parts.proofs.LockLemmas.{All-locks_after, running-HasBegun}
+use Rattle.lawful_states.proofs.LawfulLemmas.{AreOne-locks}
+use Rattle.lawful_states.proofs.LockLemmas.{All-locks_after, running-HasBegun}
 use Rattle.library_parts.proofs.contents.Contents.lock_for.Goals as goal
 
 pub invariant_of-self : goal.invariant_of-self

@@ -1,8 +1,8 @@
 use Rattle.std.proofs.Common.{◌≡◌, Some, rules}
 use Rattle.library_model.specs.Named.{named}
 use Rattle.library_parts.proofs.LawfulLemmas.{IsLibrary-seen}
-use Rattle.library_parts.proofs.BaseLemmas.{physical-found}
-use Rattle.library_parts.proofs.FindLemmas.{found-is, member-there}
+use Rattle.lawful_states.proofs.BaseLemmas.{physical-found}
+use Rattle.lawful_states.proofs.FindLemmas.{found-is, member-there}
 use Rattle.library_parts.proofs.contents.Contents.member_of_file.Goals as goal
 
 pub returns-in-Some-clause-there : goal.returns-in-Some-clause-there

@@ -1,6 +1,6 @@
 use Rattle.std.proofs.Common.{refl, arith}
 use Rattle.library_parts.proofs.IndexKeyed.{IsIndexed-empty}
-use Rattle.library_parts.proofs.LawfulLemmas.{AreOne-empty}
+use Rattle.lawful_states.proofs.LawfulLemmas.{AreOne-empty}
 use Rattle.library_parts.proofs.contents.Contents.new.Goals as goal
 
 pub invariant_of-result : goal.invariant_of-result

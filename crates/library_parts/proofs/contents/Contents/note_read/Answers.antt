@@ -17,7 +17,7 @@ use Rattle.library_parts.specs.Reads.{IsLookedIn, ReadsAmong, formats_read, foun
 use Rattle.library_parts.proofs.DueLemmas.{HasDue-kept}
 use Rattle.library_parts.proofs.KeepReads.{keeps-read}
 use Rattle.library_parts.proofs.IndexOpens.{IsIndexed-has_read}
-use Rattle.library_parts.proofs.LawfulLemmas.{AreOne-open_at}
+use Rattle.lawful_states.proofs.LawfulLemmas.{AreOne-open_at}
 use Rattle.library_parts.proofs.NoteLemmas.{same-open}
 use Rattle.library_parts.proofs.PlaceLemmas.{found-same, of-number}
 use Rattle.library_parts.proofs.ReadLemmas.{mapped-some, noted}

@@ -1,12 +1,12 @@
 use Rattle.std.proofs.Common.{◌≡◌, ◌∙◌, ◌+◌, if◌then◌else◌, is_some, ap, sym, subst, arith}
 use Rattle.library_steps.specs.State.{job_at, or_new}
 use Rattle.library_steps.specs.SlotChange.{noted, with_cycle}
-use Rattle.job_table.specs.Changes.{cycle_from}
-use Rattle.library_parts.specs.Lawful.{GoesBack}
+use Rattle.lawful_states.specs.Jobs.{cycle_from}
+use Rattle.lawful_states.specs.Lawful.{GoesBack}
 use Rattle.library_parts.proofs.IndexChanges.{IsIndexed-noted}
 use Rattle.library_parts.proofs.IndexMoves.{spares-held}
-use Rattle.library_parts.proofs.LawfulLemmas.{AreOne-noted}
-use Rattle.library_parts.proofs.BackLemmas.{CycleGoesBack-noted, CycleGoesBack-of}
+use Rattle.lawful_states.proofs.LawfulLemmas.{AreOne-noted}
+use Rattle.lawful_states.proofs.BackLemmas.{CycleGoesBack-noted, CycleGoesBack-of}
 use Rattle.library_parts.proofs.DueLemmas.{HasDue-changed, few-noted, noted-due, some-mapped}
 use Rattle.library_parts.proofs.contents.Contents.note_undo.Goals as goal
 

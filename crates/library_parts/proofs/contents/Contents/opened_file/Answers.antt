@@ -3,7 +3,8 @@ use Rattle.library_model.specs.Named.{named}
 use Rattle.library_steps.specs.LogicalFiles.{bases_in}
 use Rattle.library_steps.specs.State.{memory_of, open_named}
 use Rattle.library_parts.specs.Parts.{state_of}
-use Rattle.library_parts.proofs.FindLemmas.{found-is, open-holds, reads-member, unjoined-of, view-of}
+use Rattle.lawful_states.proofs.FindLemmas.{found-is, open-holds}
+use Rattle.library_parts.proofs.FindLemmas.{reads-member, unjoined-of, view-of}
 use Rattle.library_parts.proofs.OpenLooks.{reads-named}
 use Rattle.library_parts.specs.Indexed.{ReadsFile}
 use Rattle.library_parts.proofs.contents.Contents.opened_file.Goals as goal

@@ -9,7 +9,7 @@ use Rattle.library_parts.specs.Parts.{state_of}
 use Rattle.library_parts.specs.PathChanges.{detached_from, without_paths}
 use Rattle.library_parts.proofs.IndexDetached.{some-from}
 use Rattle.library_parts.proofs.IndexDeleted.{IsIndexed-without_file}
-use Rattle.library_parts.proofs.DeleteLemmas.{AreOne-deleted, free-independent}
+use Rattle.lawful_states.proofs.DeleteLemmas.{AreOne-deleted, free-independent}
 use Rattle.library_parts.proofs.contents.Contents.remove_file.Goals as goal
 
 pub invariant_of-self : goal.invariant_of-self

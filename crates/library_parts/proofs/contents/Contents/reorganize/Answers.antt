@@ -3,13 +3,13 @@ use Rattle.member_slots.specs.Member.{reorganized}
 use Rattle.member_slots.specs.Members.{NumberedMembers, member_of, with_member}
 use Rattle.job_table.specs.Table.{changes_held}
 use Rattle.library_steps.specs.Ranges.{library_bytes}
-use Rattle.library_parts.specs.Slots.{weight}
-use Rattle.library_parts.proofs.MemberLemmas.{HasRecords-reorganized, weight-reorganized, member_of-with, is_some-IsSome}
+use Rattle.lawful_states.specs.Slots.{weight}
+use Rattle.lawful_states.proofs.MemberLemmas.{HasRecords-reorganized, weight-reorganized, member_of-with, is_some-IsSome}
 use Rattle.path_set.proofs.RebuildLemmas.{rebuilt-ties}
 use Rattle.library_parts.proofs.IndexMoves.{changes-held}
 use Rattle.library_parts.proofs.IndexRebuilt.{IsIndexed-rebuilt, bytes-reorganized}
 use Rattle.library_parts.proofs.IndexRecords.{bytes-member}
-use Rattle.library_parts.proofs.LawfulLemmas.{AreOne-slots}
+use Rattle.lawful_states.proofs.LawfulLemmas.{AreOne-slots}
 use Rattle.library_parts.proofs.contents.Contents.reorganize.Goals as goal
 
 pub rebuild-requires : goal.rebuild-requires

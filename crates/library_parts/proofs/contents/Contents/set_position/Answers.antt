@@ -8,10 +8,10 @@ use Rattle.library_steps.specs.LogicalFiles.{bases_in}
 use Rattle.library_steps.specs.Reads.{bound_asked, positioned}
 use Rattle.library_steps.specs.Refusals.{OpenedFile}
 use Rattle.library_parts.specs.Reads.{CanStandIn, stood_at}
-use Rattle.library_parts.proofs.BaseLemmas.{OpenHolds-positioned}
+use Rattle.lawful_states.proofs.BaseLemmas.{OpenHolds-positioned}
 use Rattle.library_parts.proofs.DueLemmas.{HasDue-kept}
 use Rattle.library_parts.proofs.IndexOpens.{IsIndexed-positioned}
-use Rattle.library_parts.proofs.LawfulLemmas.{AreOne-open_changed}
+use Rattle.lawful_states.proofs.LawfulLemmas.{AreOne-open_changed}
 use Rattle.library_parts.proofs.PlaceLemmas.{found-same, is-place, of-number, placed-there}
 use Rattle.library_parts.proofs.contents.Contents.set_position.Goals as goal
 

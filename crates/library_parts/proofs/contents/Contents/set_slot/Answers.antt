@@ -1,6 +1,6 @@
 use Rattle.std.proofs.Common.{◌≡◌, ◌∙◌, ◌+◌, List, ℕ, Option, sym, ap, arith}
 use Rattle.std.specs.Prelude.{unwrap_or}
-use Rattle.file_catalogue.specs.Owners.{Owns}
+use Rattle.lawful_states.specs.Owners.{Owns}
 use Rattle.member_slots.specs.declared.slot.Slot.{Slot}
 use Rattle.member_slots.specs.declared.slot.Slot.TheVariants.{Deleted}
 use Rattle.member_slots.specs.Member.{slot_at}
@@ -11,8 +11,8 @@ use Rattle.library_steps.specs.State.{FileState, fields_of}
 use Rattle.job_table.specs.Table.{changes_held}
 use Rattle.library_parts.proofs.IndexMoves.{IsIndexed-set, replace-back, replace-can, room-left, slot-stands}
 use Rattle.library_parts.proofs.IndexPaths.{room-fewer}
-use Rattle.library_parts.proofs.LawfulLemmas.{AreOne-changed}
-use Rattle.library_parts.proofs.MemberLemmas.{HasRecords-member_of, HoldsValues-at}
+use Rattle.lawful_states.proofs.LawfulLemmas.{AreOne-changed}
+use Rattle.lawful_states.proofs.MemberLemmas.{HasRecords-member_of, HoldsValues-at}
 use Rattle.library_parts.proofs.contents.Contents.set_slot.Goals as goal
 
 pub change-back-requires : goal.change-back-requires

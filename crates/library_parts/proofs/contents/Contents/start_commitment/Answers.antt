@@ -3,7 +3,7 @@ use Rattle.library_steps.specs.State.{job_at, or_new}
 use Rattle.library_steps.specs.Commitment.{with_level}
 use Rattle.library_parts.specs.Due.{level_due}
 use Rattle.library_parts.proofs.IndexOpens.{IsIndexed-with_level}
-use Rattle.library_parts.proofs.LawfulLemmas.{AreOne-job_changed}
+use Rattle.lawful_states.proofs.LawfulLemmas.{AreOne-job_changed}
 use Rattle.library_parts.proofs.DueLemmas.{HasDue-changed, job_due-part}
 use Rattle.library_parts.proofs.contents.Contents.start_commitment.Goals as goal
 

@@ -1,6 +1,6 @@
-use Rattle.file_catalogue.specs.declared.changes.StatusChange.TheVariants.{Touched}
+use Rattle.lawful_states.specs.declared.changes.StatusChange.TheVariants.{Touched}
 use Rattle.library_parts.proofs.IndexStatus.{IsIndexed-status}
-use Rattle.library_parts.proofs.LawfulLemmas.{AreOne-status}
+use Rattle.lawful_states.proofs.LawfulLemmas.{AreOne-status}
 use Rattle.library_parts.proofs.contents.Contents.touch.Goals as goal
 
 pub invariant_of-self : goal.invariant_of-self

@@ -1,7 +1,8 @@
 use Rattle.std.proofs.Common.{◌≡◌, Some}
 use Rattle.library_model.specs.Named.{named}
 use Rattle.library_parts.specs.Parts.{state_of}
-use Rattle.library_parts.proofs.FindLemmas.{found-is, unjoined-of}
+use Rattle.lawful_states.proofs.FindLemmas.{found-is}
+use Rattle.library_parts.proofs.FindLemmas.{unjoined-of}
 use Rattle.library_parts.proofs.contents.Contents.unjoined_file.Goals as goal
 
 pub returns-clause-unjoined : goal.returns-clause-unjoined

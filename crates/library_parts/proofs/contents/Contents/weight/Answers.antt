@@ -1,4 +1,4 @@
-use Rattle.library_parts.proofs.MemberLemmas.{weight-part, is_some-IsSome}
+use Rattle.lawful_states.proofs.MemberLemmas.{weight-part, is_some-IsSome}
 use Rattle.library_parts.proofs.contents.Contents.weight.Goals as goal
 
 pub returns-clause-few : goal.returns-clause-few

@@ -1,4 +1,4 @@
-use Rattle.memory_journal.proofs.NumberLemmas.{given-within}
+use Rattle.lawful_states.proofs.NumberLemmas.{given-within}
 use Rattle.memory_journal.proofs.journal.MemoryJournal.drop_before.Goals as goal
 
 pub give_up-requires-clause-kept : goal.give_up-requires-clause-kept

@@ -1,6 +1,6 @@
 use Rattle.std.proofs.Common.{◌+◌, ◌-◌, drop, arith, length-drop, subst}
 use Rattle.journal_model.specs.Journal.{AreNumbered}
-use Rattle.memory_journal.proofs.NumberLemmas.{numbered-fewer}
+use Rattle.lawful_states.proofs.NumberLemmas.{numbered-fewer}
 use Rattle.memory_journal.proofs.journal.MemoryJournal.give_up.Goals as goal
 
 pub invariant_of-self : goal.invariant_of-self

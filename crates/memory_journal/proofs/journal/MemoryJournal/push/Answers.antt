@@ -1,6 +1,6 @@
 use Rattle.std.proofs.Common.{◌≡◌, ◌∙◌, ◌+◌, [], ◌∷◌, length, arith, length-append, ap, rules}
 use Rattle.entry_codec.specs.declared.entries.Entry.{Entry}
-use Rattle.memory_journal.proofs.NumberLemmas.{numbered-more}
+use Rattle.lawful_states.proofs.NumberLemmas.{numbered-more}
 use Rattle.memory_journal.proofs.journal.MemoryJournal.push.Goals as goal
 
 pub invariant_of-self : goal.invariant_of-self

@@ -1,0 +1,16 @@
+pub mod NameLemmas
+pub mod StatusLemmas
+pub mod OwnerLemmas
+pub mod ChangeLemmas
+pub mod PhysicalLemmas
+pub mod NumberLemmas
+pub mod MemberLemmas
+pub mod BaseLemmas
+pub mod BackLemmas
+pub mod LawfulLemmas
+pub mod BoundaryLemmas
+pub mod FindLemmas
+pub mod FileLemmas
+pub mod AddLemmas
+pub mod DeleteLemmas
+pub mod LockLemmas

@@ -1,0 +1,9 @@
+pub mod Owners
+pub mod Physical
+pub mod Statuses
+pub mod Jobs
+pub mod Lawful
+pub mod Members
+pub mod Slots
+pub mod Back
+pub mod Calls
