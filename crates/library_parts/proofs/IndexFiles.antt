@@ -1,6 +1,6 @@
 -- The kept paths are those of a library still, with a file more, physical or logical, or a member.
 use Rattle.std.proofs.Common.{ℕ, ◌+◌, ◌-◌, ◌<◌, ◌≤◌, ◌≡◌, ◌≢◌, ◌==◌, ◌||◌, nat_eq, nat_lt, if◌then◌else◌, Bool, true, false, cond, List, [], ◌∷◌, ◌++◌, length, map, length-append, Option, Some, None, is_some, IfSome, Ok, Err, Result, refl, sym, ap, arith, ◌∙◌, subst, slice_get, IsSome}
-use Rattle.library_parts.proofs.SomeViews.{logical-some}
+use Rattle.logical_laws.proofs.SomeLemmas.{logical-some}
 use Rattle.dds_logical.specs.declared.views.View.{View}
 use Rattle.std.specs.Prelude.{All, replicate}
 use Rattle.std.specs.List.{AllByRecursion, IsDistinct, list_any}

@@ -5,7 +5,6 @@ pub mod LawfulLemmas
 pub mod ResultLemmas
 pub mod AnswerLemmas
 pub mod FindLemmas
-pub mod SomeViews
 pub mod AlikeParts
 pub mod KeepReads
 pub mod FormatKeys
