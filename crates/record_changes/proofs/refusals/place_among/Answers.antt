@@ -27,7 +27,7 @@ loop-left-preserved c =
     record {
       within = omega (arith, c.loop-left.invariant.within);
       found = place-more (bytes_eq c.args.name) views (drop c.loop-left.left views) c.index-views-left.result before c.loop-left.left _ c.loop-left.found follows
-          (drop-next views before c.loop-left.left c.index-views-left.result next at) refl c.loop-left.invariant.found c.place_or.ensures;
+          (drop-next views before c.loop-left.left c.index-views-left.result next at) refl c.loop-left.invariant.found c.place_or-found.ensures;
     }
 
 pub returns : goal.returns

@@ -31,4 +31,4 @@ returns c =
     let opened = c.args.opened.now.state in
     let live : live_record opened.member c.args.rrn m ≡ Some c.image_there-image.result.now = rw c.member.ensures at c.image_there-image.ensures.live in
     shown-as c.shown_by.result m c.args.file.now opened c.args.rrn (spec_in c.described.result.now) c.image_there-image.result.now c.described.ensures.spec live
-    (rw c.format.ensures at c.shown_by.ensures (bases_of m) m.members)
+    (let shown = c.shown_by.ensures (bases_of m) m.members in rw c.format.ensures at shown)
