@@ -280,6 +280,7 @@ impl Open {
 }
 
 /// An open, where it reads or writes a record of one of its formats.
+#[derive(Drop)]
 pub struct OpenAt<'a> {
     opened: &'a Open,
     format: u16,
