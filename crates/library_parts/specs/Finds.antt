@@ -15,7 +15,7 @@ use Rattle.entry_codec.specs.declared.entries.Entry.{Entry}
 use Rattle.library_steps.specs.JournalReads.{are_there, are_kept, entries_between}
 use Rattle.library_steps.specs.State.{State, FileState, OpenState, fields_of, memory_of}
 use Rattle.lawful_states.specs.Lawful.{OpenHolds}
-use Rattle.library_steps.specs.Refusals.{OpenedFile, FoundMember}
+use Rattle.library_steps.specs.Refusals.{◌>>=◌, OpenedFile, FoundMember}
 use Rattle.library_parts.specs.declared.stop.Stop.{Stop}
 use Rattle.library_parts.specs.declared.stop.Stop.TheVariants.{NoMemory, Refused}
 use Rattle.library_parts.specs.declared.finds.OpenFound.{OpenFound}
