@@ -27,7 +27,7 @@ image_over-requires-clause-old c = λ image is.
 pub image_among-requires-clause-within : goal.image_among-requires-clause-within
 image_among-requires-clause-within c =
     let its = subst (λ (spec : LogicalSpec). IsWrittenIn c.args.contents.now.state.files (LogicalFile spec) c.args.number) c.in-Multi.is c.requires.written in
-    rw (c.from.ensures, c.as_slice.ensures) (slice_get_within c.in-Multi.views.now c.args.number its.0 its.1)
+    rw (c.from.ensures, c.as_slice.ensures) (slice_get_within c.in-Multi.views c.args.number its.0 its.1)
 
 pub image_among-requires-clause-written : goal.image_among-requires-clause-written
 image_among-requires-clause-written c =

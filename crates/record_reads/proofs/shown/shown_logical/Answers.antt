@@ -16,7 +16,7 @@ shown_view-requires-clause-format c = let its = subst (λ (spec : LogicalSpec). 
 pub shown_among-requires-clause-within : goal.shown_among-requires-clause-within
 shown_among-requires-clause-within c =
     let its = subst (λ (spec : LogicalSpec). ShowsImage (LogicalFile spec) c.args.number c.args.image.now) c.in-Multi.is c.requires in
-    rw (c.from.ensures, c.as_slice.ensures) (slice_get_within c.in-Multi.views.now c.args.number its.0 its.1)
+    rw (c.from.ensures, c.as_slice.ensures) (slice_get_within c.in-Multi.views c.args.number its.0 its.1)
 
 pub shown_among-requires-clause-shows : goal.shown_among-requires-clause-shows
 shown_among-requires-clause-shows c =
