@@ -3,8 +3,8 @@ use Rattle.record_changes.proofs.WriteLemmas.{write-given}
 use Rattle.record_changes.proofs.FormatLemmas.{first-format}
 use Rattle.record_changes.proofs.write.plan_write.Goals as goal
 
-pub format_asked-number-requires : goal.format_asked-number-requires
-format_asked-number-requires c =
+pub format_asked-requires : goal.format_asked-requires
+format_asked-requires c =
     first-format c.args.contents.now.state.files c.in_ok-opened.field-0.file.now.spec c.in_ok-opened.ensures.unjoined c.in_ok-opened.ensures.view
 
 pub returns-clause-plan : goal.returns-clause-plan
