@@ -34,7 +34,8 @@ loop-left-preserved c =
     let p = has_many (logical_paths (bases_of m) c.args.view.now) m in
     let next : c.loop-left.left ≡ suc (c.loop-left.left - 1) = omega arith in
     let over = own-over (bases_of m) c.args.view.now (c.loop-left.left - 1) c.base_at-member.result c.requires.unjoined c.base_at-member.ensures in
-    let its : c.has_many_with.result ≡ p c.base_at-member.result = rw c.requires.own at c.has_many_with.ensures ∙ sym (many-one m c.args.view.now c.base_at-member.result c.requires.unjoined over) in
+    let counted = rw c.requires.own at c.has_many_with.ensures in
+    let its : c.has_many_with.result ≡ p c.base_at-member.result = counted ∙ sym (many-one m c.args.view.now c.base_at-member.result c.requires.unjoined over) in
     record {
       within = omega (arith, c.loop-left.invariant.within);
       many = c.either-many.ensures ∙ any-more p all (c.loop-left.left - 1) c.loop-left.left c.base_at-member.result c.has_many_with.result c.loop-left.many next c.base_at-member.ensures its
