@@ -11,6 +11,12 @@ find-requires-clause-asked c = c.as_read.ensures.formats _ c.requires.asked.form
 pub find-requires-clause-looked : goal.find-requires-clause-looked
 find-requires-clause-looked c = c.as_read.ensures.looked _ c.requires.asked.looked
 
+pub plan_record-requires-clause-member : goal.plan_record-requires-clause-member
+plan_record-requires-clause-member c = let there = rw c.in-Some.is at c.find.ensures.there in rw c.at-at.ensures.state there
+
+pub plan_record-requires-clause-live : goal.plan_record-requires-clause-live
+plan_record-requires-clause-live c = let live = rw c.in-Some.is at c.find.ensures.live in rw c.at-at.ensures.state live
+
 pub returns-in_default : goal.returns-in_default
 returns-in_default c =
     let m = memory_of c.args.contents.now.state in
