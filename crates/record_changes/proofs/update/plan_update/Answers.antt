@@ -26,4 +26,5 @@ returns-clause-may c =
     let opened = c.in_ok-opened.field-0.opened.now.state in
     let its = c.in_ok-opened.ensures.there in
     let found : live_record opened.member c.in_ok-rrn.rrn (memory_of state) ≡ Some c.in-Some.old.now = sym (rw (c.member.ensures, c.here.ensures) at c.in-Some.ensures.image) in
-    rw (c.of.ensures, c.here.ensures) (MayPut-live state its.base its.owner opened.member c.in_ok-rrn.rrn its.has c.in-Some.old.now found (Live c.in_ok-image.image) c.in_ok-image.ensures.fits)
+    let fits = rw c.here.ensures at c.in_ok-image.ensures.fits in
+    rw (c.of.ensures, c.here.ensures) (MayPut-live state its.base its.owner opened.member c.in_ok-rrn.rrn its.has c.in-Some.old.now found (Live c.in_ok-image.image) fits)
