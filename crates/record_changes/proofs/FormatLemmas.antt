@@ -40,15 +40,12 @@ pub position-cons : {X : Type 0} (p : X → Bool) (x : X) (xs : List X) → posi
 position-cons p x xs =
     let k = position_or_len p xs in
     elim (p x) as (λ b. cond (nat_lt (cond (not b) (1 + k) 0) (suc (length xs))) (Some (cond (not b) (1 + k) 0)) None ≡ cond b (Some 0) (option_map suc (position p xs))) [
-      | true ↦ refl
+      | true ↦ (let some : nat_lt 0 (suc (length xs)) ≡ true = grind (arith, nat_tests) in ap (λ (c : Bool). cond c (Some 0) None) some)
       | false ↦ position-behind p xs (nat_lt k (length xs)) refl
     ]
 
 pub position-one : {X : Type 0} (p : X → Bool) (x : X) → position p (x ∷ []) ≡ cond (p x) (Some 0) None
-position-one p x = elim (p x) as (λ b. cond (nat_lt (cond (not b) 1 0) 1) (Some (cond (not b) 1 0)) None ≡ cond b (Some 0) None) [
-  | true ↦ refl
-  | false ↦ refl
-]
+position-one p x = position-cons p x []
 
 -- counted from the front of all
 counted-one : (before next : ℕ) (place : Option ℕ) → next ≡ before + 1 → option_map (λ (n : ℕ). next + n) place ≡ option_map (λ (n : ℕ). before + n) (option_map suc place)

@@ -19,13 +19,13 @@ pub image_in-requires-clause-written : goal.image_in-requires-clause-written
 image_in-requires-clause-written c =
     let state = c.args.contents.now.state in
     subst (λ (spec : FileSpec). IsWrittenIn state.files spec c.format.result) (sym c.described.ensures.spec)
-    (written-in state c.args.file.now c.args.opened.now.state c.jobs_begun-begun.ensures.lawful c.requires.there c.requires.view c.requires.defaults)
+    (rw c.format.ensures (written-in state c.args.file.now c.args.opened.now.state c.jobs_begun-begun.ensures.lawful c.requires.there c.requires.view c.requires.defaults))
 
 pub image_in-requires-clause-old : goal.image_in-requires-clause-old
 image_in-requires-clause-old c = λ image is.
     let state = c.args.contents.now.state in
     subst (λ (spec : FileSpec). HoldsRecord (fields_under (bases_of (memory_of state)) spec c.format.result) image.now) (sym c.described.ensures.spec)
-    (record-of state c.args.file.now c.args.opened.now.state c.jobs_begun-begun.ensures.lawful c.requires.there image.now (c.requires.old image is))
+    (rw c.format.ensures (record-of state c.args.file.now c.args.opened.now.state c.jobs_begun-begun.ensures.lawful c.requires.there image.now (c.requires.old image is)))
 
 pub returns-clause-packed : goal.returns-clause-packed
 returns-clause-packed c =

@@ -1,4 +1,4 @@
-use Rattle.std.proofs.Common.{◌≡◌, ◌∙◌, ◌≤◌, ◌<◌, ◌+◌, ◌-◌, ℕ, suc, Option, List, [], length, drop, map, option_map, refl, sym, ap, arith}
+use Rattle.std.proofs.Common.{◌≡◌, ◌∙◌, ◌≤◌, ◌<◌, ◌+◌, ◌-◌, ℕ, suc, Option, Some, cond, List, [], length, drop, map, option_map, refl, sym, ap, arith}
 use Rattle.std.specs.List.{position}
 use Rattle.std.specs.Str.{bytes_eq}
 use Rattle.std.proofs.lemmas.List.{drop_all}
@@ -27,7 +27,8 @@ loop-left-preserved c =
     record {
       within = omega (arith, c.loop-left.invariant.within);
       found = place-more (bytes_eq c.args.name) views (drop c.loop-left.left views) c.index-views-left.result before c.loop-left.left _ c.loop-left.found follows
-          (drop-next views before c.loop-left.left c.index-views-left.result next at) refl c.loop-left.invariant.found c.place_or-found.ensures;
+          (drop-next views before c.loop-left.left c.index-views-left.result next at) refl c.loop-left.invariant.found
+          (c.place_or-found.ensures ∙ ap (λ (v : View). cond (bytes_eq c.args.name v.format.name) (Some before) c.loop-left.found) (sym c.index-views-left.is));
     }
 
 pub returns : goal.returns

@@ -14,4 +14,5 @@ returns-clause-plan c =
     write-given (memory_of c.args.contents.now.state) c.args.job opened c.in_ok-opened.field-0.file.now c.args.args.now _ c.in_ok-may_deposit.ensures.allowed
     c.in_ok-opened.ensures.found c.in_ok-number.ensures.asked (rw c.at_format-at.ensures.state at c.in_ok-may_change.ensures)
     in
-    rw (planned, ← c.at_format-at.ensures.state) c.plan_given.ensures.plan
+    let given = rw c.at_format-at.ensures.state at c.plan_given.ensures.plan in
+    rw planned given

@@ -7,5 +7,5 @@ returns c = record {
   opened = c.in_ok-opened.ensures.found;
   unjoined = c.in_ok-opened.ensures.unjoined;
   place = c.in_ok-may_stand.ensures;
-  same = c.used_open.ensures;
+  same = rw c.here-here.ensures at c.used_open.ensures;
 }
