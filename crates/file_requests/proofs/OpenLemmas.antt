@@ -1,9 +1,9 @@
 -- The members that OPNDBF opens, by the kind of its file.
-use Rattle.std.proofs.Common.{◌≡◌, ◌∙◌, ◌==◌, ◌||◌, ◌+◌, ◌<◌, ◌≤◌, ℕ, suc, drop, get_or, Bool, true, false, not, nat_le, cond, Option, Some, None, Result, Ok, Err, IfOk, IsTrue, OnOk, List, [], ◌∷◌, length, refl, sym, ap, subst, arith}
+use Rattle.std.proofs.Common.{◌≡◌, ◌∙◌, ◌==◌, ◌||◌, ◌+◌, ◌<◌, ◌≤◌, ℕ, drop, get_or, Bool, true, false, not, nat_le, cond, Option, Some, None, Result, Ok, Err, IfOk, IsTrue, OnOk, List, [], ◌∷◌, length, refl, sym, ap, subst, arith}
 use Rattle.std.specs.Option.{is_none, is_some}
-use Rattle.std.proofs.lemmas.List.{drop_all}
-use Rattle.std.proofs.lemmas.Option.{slice_get_read}
+use Rattle.std.proofs.lemmas.List.{drop_all, drop_more}
 use Rattle.std.proofs.lemmas.Bool.Decides.{nat_tests}
+use Rattle.entry_codec.specs.declared.kinds.Images.{Images}
 use Rattle.dds_logical.specs.declared.views.LogicalSpec.{LogicalSpec}
 use Rattle.dds_logical.specs.declared.views.LogicalSpec.TheVariants.{Simple, Multi, Join}
 use Rattle.logical_model.specs.Bases.{FileSpec, PhysicalFile, LogicalFile, base_members}
@@ -27,7 +27,6 @@ use Rattle.library_parts.specs.Answers.{Allows, Shows}
 use Rattle.library_parts.specs.Finds.{OpensBy, OpensMembers}
 use Rattle.library_parts.specs.Indexed.{IsReadSo, IsUnjoined}
 use Rattle.library_parts.specs.Reads.{MayReadSo}
-use Rattle.library_parts.proofs.UnderLemmas.{drop-next}
 use Rattle.library_parts.specs.declared.stop.Stop.{Stop}
 use Rattle.library_parts.specs.declared.stop.Stop.TheVariants.{NoMemory, Refused}
 use Rattle.file_requests.specs.Opens.{GivesMembers, file_plan, view_opens}
@@ -157,20 +156,27 @@ module _ (m : Memory) (job : ℕ) (args : OpenFile) (spec : LogicalSpec) (member
 
 -- ---- the first member that isn't journaled
 
-module _ (m : Memory) (members : List ℕ) (place member : ℕ) (below : place < length members) (is : member ≡ get_or members place member) where
-  abbrev at_place : drop place members ≡ member ∷ drop (place + 1) members
-  at_place =
-      let next : place + 1 ≡ suc place = omega arith in
-      drop-next members place (place + 1) member next (slice_get_read members (length members) place member refl below is)
+tests-some : {A : Type 0} (o : Option A) → is_some o ≡ true → is_none o ≡ false
+tests-some None some = absurd cc
+tests-some (Some a) some = refl
 
+tests-none : {A : Type 0} (o : Option A) → is_some o ≡ false → is_none o ≡ true
+tests-none None none = refl
+tests-none (Some a) none = absurd cc
+
+module _ (m : Memory) (members : List ℕ) (place : ℕ) (below : place < length members) (found : Option Images) (is : found ≡ images_of (get_or members place 0) m)
+    (so_far : first_unjournaled (drop place members) m ≡ first_unjournaled members m) where
   abbrev asked : Bool → Option ℕ
-  asked b = cond b (Some member) (first_unjournaled (drop (place + 1) members) m)
+  asked b = cond b (Some (get_or members place 0)) (first_unjournaled (drop (place + 1) members) m)
 
-  pub unjournaled-next : is_none (images_of member m) ≡ false → first_unjournaled (drop place members) m ≡ first_unjournaled members m → first_unjournaled (drop (place + 1) members) m ≡ first_unjournaled members m
-  unjournaled-next here so_far = sym (ap asked here) ∙ sym (ap (λ (ms : List ℕ). first_unjournaled ms m) at_place) ∙ so_far
+  asked-here : (b : Bool) → is_none (images_of (get_or members place 0) m) ≡ b → first_unjournaled members m ≡ asked b
+  asked-here b tested = sym so_far ∙ ap (λ (ms : List ℕ). first_unjournaled ms m) (drop_more members place 0 below) ∙ ap asked tested
 
-  pub unjournaled-here : is_none (images_of member m) ≡ true → first_unjournaled (drop place members) m ≡ first_unjournaled members m → first_unjournaled members m ≡ Some member
-  unjournaled-here here so_far = sym so_far ∙ ap (λ (ms : List ℕ). first_unjournaled ms m) at_place ∙ ap asked here
+  pub unjournaled-next : is_some found ≡ true → first_unjournaled (drop (place + 1) members) m ≡ first_unjournaled members m
+  unjournaled-next some = sym (asked-here false (sym (ap is_none is) ∙ tests-some found some))
+
+  pub unjournaled-here : is_some found ≡ false → first_unjournaled members m ≡ Some (get_or members place 0)
+  unjournaled-here none = asked-here true (sym (ap is_none is) ∙ tests-none found none)
 
 pub unjournaled-none : (m : Memory) (members : List ℕ) (place : ℕ) → length members ≤ place → first_unjournaled (drop place members) m ≡ first_unjournaled members m → first_unjournaled members m ≡ None
 unjournaled-none m members place past so_far = sym so_far ∙ ap (λ (ms : List ℕ). first_unjournaled ms m) (drop_all place members past)

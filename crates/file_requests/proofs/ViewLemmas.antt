@@ -1,5 +1,5 @@
 -- How the plan of CRTLF ends with the keys, and what it leaves.
-use Rattle.std.proofs.Common.{◌≡◌, ◌∙◌, ◌≤◌, ℕ, Bool, true, false, nat_le, slice_index_or, arith, Option, Some, None, Result, Ok, Err, IfOk, IfSome, OnOk, OnErr, List, [], ◌∷◌, length, if◌then◌else◌, refl, sym, ap, subst}
+use Rattle.std.proofs.Common.{◌≡◌, ◌∙◌, ◌≤◌, ℕ, Bool, true, false, nat_le, get_or, arith, Option, Some, None, Result, Ok, Err, IfOk, IfSome, OnOk, OnErr, List, [], ◌∷◌, length, if◌then◌else◌, refl, sym, ap, subst}
 use Rattle.std.specs.List.{list_any}
 use Rattle.std.specs.Option.{is_some, option_and_then}
 use Rattle.entry_codec.specs.declared.entries.Draft.{Draft}
@@ -159,9 +159,9 @@ unique-one bases spec view is = one view.keys.unique ∙ sym (ap (λ (s : Logica
     one true = refl
     one false = refl
 
-pub undone-first : (m : Memory) (members : List ℕ) (member : ℕ) → 1 ≤ length members → member ≡ slice_index_or members 0 member → undone_number m member ≡ first_undone m members
-undone-first m [] member some is = absurd (omega (arith, some))
-undone-first m (first ∷ members) member some is = ap (undone_number m) is
+pub undone-first : (m : Memory) (members : List ℕ) → 1 ≤ length members → undone_number m (get_or members 0 0) ≡ first_undone m members
+undone-first m [] some = absurd (omega (arith, some))
+undone-first m (first ∷ members) some = refl
 
 pub undone-one : (m : Memory) (member : ℕ) (status : MemberStatus) (has : Bool) (number : ℕ) (result : Option ℕ) → result ≡ (if has then Some number else None) → has ≡ has_undone status
     → number ≡ status.number → status_among member m.files ≡ Some status → result ≡ undone_number m member

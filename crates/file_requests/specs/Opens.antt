@@ -1,5 +1,5 @@
 -- The file that OPNDBF opens, and the members that an open of it is over. (CL reference, OPNDBF.)
-use Rattle.std.specs.Prelude.{◌≡◌, ℕ, not, nat_le, Bool, Result, Ok, Err, List, [], ◌∷◌, length}
+use Rattle.std.specs.Prelude.{◌≡◌, ℕ, not, nat_le, Bool, Result, Ok, Err, List, length}
 use Rattle.std.specs.Option.{is_some}
 use Rattle.library_model.specs.declared.limits.TheConstants.{MOST_OPENS}
 use Rattle.library_model.specs.declared.requests.OpenFile.{OpenFile}
