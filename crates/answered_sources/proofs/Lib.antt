@@ -1,2 +1,1 @@
-pub mod FormatLemmas
 pub mod SimpleLemmas

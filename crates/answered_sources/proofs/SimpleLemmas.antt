@@ -1,7 +1,6 @@
--- What an answered source describes as a logical file has one format over one physical file.
-use Rattle.std.proofs.Common.{◌≡◌, ◌∙◌, refl, sym, ap, subst, arith, ℕ, Bool, true, false, not, ◌&&◌, if◌then◌else◌, nat_lt}
-use Rattle.std.specs.Prelude.{Option, Some, None, IfSome, IsTrue, Result, Ok, Err, OnOk, OnErr, List, [], ◌∷◌, ◌++◌, length, map}
-use Rattle.std.proofs.lemmas.Bool.Decides.{nat_tests}
+-- What an answered source describes as a logical file is no join.
+use Rattle.std.proofs.Common.{◌≡◌, refl, sym, subst, ℕ, Bool, true, false, not, ◌&&◌, if◌then◌else◌}
+use Rattle.std.specs.Prelude.{Option, Some, None, IfSome, IsTrue, Result, Ok, Err, OnOk, OnErr, List, [], ◌∷◌, ◌++◌, map}
 use Rattle.dds_source.specs.Faults.{first_after}
 use Rattle.dds_source.specs.Reading.{source_of}
 use Rattle.dds_source.specs.declared.faults.DdsFault.{DdsFault}
@@ -15,7 +14,7 @@ use Rattle.dds_logical.specs.WholeFile.{format_missing_faults}
 use Rattle.library_model.specs.Named.{same_name}
 use Rattle.library_model.specs.SourceList.{text_of}
 use Rattle.library_model.specs.declared.sources.NamedSource.{NamedSource}
-use Rattle.answered_sources.specs.Answered.{IsSimpleFile, are_answered, has_one_view, is_answered_source, is_answered_text}
+use Rattle.answered_sources.specs.Answered.{IsUnjoinedFile, are_answered, is_answered_source, is_answered_text, is_unjoined}
 
 -- ---- lists and tests
 
@@ -37,45 +36,47 @@ and-left false b h = absurd cc
 
 -- ---- what formats describe
 
--- a source without formats has a fault
-simple-by : (bases : List ℕ → Option PhysicalSpec) (source : Source) (fs : List FormatLines) → has_one_view fs ≡ true → format_missing_faults source.last_line (is_join_file fs) fs ≡ []
-    → IsSimpleFile (described_by bases source fs)
-simple-by bases source [] one none = absurd cc
-simple-by bases source (f ∷ []) one none =
-    elim (is_join_file (f ∷ [])) as (λ b. not b ≡ true → IsSimpleFile (if b then join_described_by bases source.file (f ∷ [])
-    else one_or_several (map (view_described bases source.file (is_multi_format (f ∷ [])) (most_parts (f ∷ []))) (f ∷ [])))) [
-      | true ↦ λ no_join. absurd cc
-      | false ↦ λ no_join. tt
-    ] (and-right (not (is_multi_format (f ∷ []))) (not (is_join_file (f ∷ []))) one)
-simple-by bases source (f ∷ g ∷ fs) one none =
-    let many : nat_lt 1 (length (f ∷ g ∷ fs)) ≡ true = grind (arith, nat_tests) in
-    let few : not (nat_lt 1 (length (f ∷ g ∷ fs))) ≡ true = and-left (not (is_multi_format (f ∷ g ∷ fs))) (not (is_join_file (f ∷ g ∷ fs))) one in
-    absurd (let both : not true ≡ true = ap not (sym many) ∙ few in cc)
+-- one format, or several
+several-unjoined : (bases : List ℕ → Option PhysicalSpec) (source : Source) (f : FormatLines) (fs : List FormatLines)
+    → IsUnjoinedFile (one_or_several (map (view_described bases source.file (is_multi_format (f ∷ fs)) (most_parts (f ∷ fs))) (f ∷ fs)))
+several-unjoined bases source f [] = tt
+several-unjoined bases source f (g ∷ fs) = tt
 
-specified-simple : (bases : List ℕ → Option PhysicalSpec) (source : Source) → has_one_view (formats_in source.specifications) ≡ true → logical_faults bases source ≡ []
-    → IsSimpleFile (logical_specification bases source)
+-- a source without formats has a fault
+unjoined-by : (bases : List ℕ → Option PhysicalSpec) (source : Source) (fs : List FormatLines) → is_unjoined fs ≡ true → format_missing_faults source.last_line (is_join_file fs) fs ≡ []
+    → IsUnjoinedFile (described_by bases source fs)
+unjoined-by bases source [] single none = absurd cc
+unjoined-by bases source (f ∷ fs) single none =
+    elim (is_join_file (f ∷ fs)) as (λ b. not b ≡ true → IsUnjoinedFile (if b then join_described_by bases source.file (f ∷ fs)
+    else one_or_several (map (view_described bases source.file (is_multi_format (f ∷ fs)) (most_parts (f ∷ fs))) (f ∷ fs)))) [
+      | true ↦ λ no_join. absurd cc
+      | false ↦ λ no_join. several-unjoined bases source f fs
+    ] single
+
+specified-unjoined : (bases : List ℕ → Option PhysicalSpec) (source : Source) → is_unjoined (formats_in source.specifications) ≡ true → logical_faults bases source ≡ []
+    → IsUnjoinedFile (logical_specification bases source)
 unfolding logical_faults logical_specification
-specified-simple bases source one none =
+specified-unjoined bases source single none =
     let fs = formats_in source.specifications in
-    simple-by bases source fs one (none-right _ (format_missing_faults source.last_line (is_join_file fs) fs) none)
+    unjoined-by bases source fs single (none-right _ (format_missing_faults source.last_line (is_join_file fs) fs) none)
 
 no-fault : (spec wanted : LogicalSpec) (fault : Option DdsFault) → unless_fault spec fault ≡ Ok wanted → (fault ≡ None) × (spec ≡ wanted)
 no-fault spec wanted None h = (refl, let e : spec ≡ wanted = cc in e)
 no-fault spec wanted (Some fault) h = absurd cc
 
-described-simple : (bases : List ℕ → Option PhysicalSpec) (source : Source) (spec : LogicalSpec) → has_one_view (formats_in source.specifications) ≡ true → logical_of bases source ≡ Ok spec
-    → IsSimpleFile spec
+described-unjoined : (bases : List ℕ → Option PhysicalSpec) (source : Source) (spec : LogicalSpec) → is_unjoined (formats_in source.specifications) ≡ true → logical_of bases source ≡ Ok spec
+    → IsUnjoinedFile spec
 unfolding logical_of
-described-simple bases source spec one h =
+described-unjoined bases source spec single h =
     let good = no-fault (logical_specification bases source) spec (first_after None (logical_faults bases source)) h in
-    subst IsSimpleFile good.1 (specified-simple bases source one (nothing_noted None (logical_faults bases source) good.0))
+    subst IsUnjoinedFile good.1 (specified-unjoined bases source single (nothing_noted None (logical_faults bases source) good.0))
 
 -- ---- texts and sources
 
-pub text-simple : (bases : List ℕ → Option PhysicalSpec) (text : List ℕ) (source : Source) (spec : LogicalSpec) → IsTrue (is_answered_text text) → source_of text ≡ Ok source
-    → logical_of bases source ≡ Ok spec → IsSimpleFile spec
-text-simple bases text source spec answered read described =
-    described-simple bases source spec (subst (λ (r : Result Source DdsFault). is_answered_source r ≡ true) read answered) described
+pub text-unjoined : (bases : List ℕ → Option PhysicalSpec) (text : List ℕ) (source : Source) (spec : LogicalSpec) → IsTrue (is_answered_text text) → source_of text ≡ Ok source
+    → logical_of bases source ≡ Ok spec → IsUnjoinedFile spec
+text-unjoined bases text source spec answered read described =
+    described-unjoined bases source spec (subst (λ (r : Result Source DdsFault). is_answered_source r ≡ true) read answered) described
 
 -- the text of that name is answered
 pub named-answered : (sources : List NamedSource) (name : List ℕ) → IsTrue (are_answered sources) → IfSome (text_of sources name) (λ text. IsTrue (is_answered_text text))

@@ -1,22 +1,22 @@
--- Which sources can be made a file so far: those of files of one record format that are no joins. (DDS for Physical and Logical Files, "PFILE", "JFILE".
+-- Which sources can be made a file so far: all but those of joins. (DDS for Physical and Logical Files, "PFILE", "JFILE".
 -- That the others have to wait is our own.)
-use Rattle.std.specs.Prelude.{ℕ, Bool, true, not, ◌&&◌, List, Result, Ok, Err, IsTrue}
+use Rattle.std.specs.Prelude.{ℕ, Bool, true, not, List, Result, Ok, Err, IsTrue}
 use Rattle.std.specs.List.{list_all}
 use Rattle.dds_source.specs.declared.faults.DdsFault.{DdsFault}
 use Rattle.dds_source.specs.declared.specifications.Source.{Source}
 use Rattle.dds_source.specs.Reading.{source_of}
 use Rattle.dds_logical.specs.declared.views.LogicalSpec.{LogicalSpec}
 use Rattle.dds_logical.specs.declared.views.LogicalSpec.TheVariants.{Simple, Multi, Join}
-use Rattle.dds_logical.specs.FormatLines.{FormatLines, formats_in, is_join_file, is_multi_format}
+use Rattle.dds_logical.specs.FormatLines.{FormatLines, formats_in, is_join_file}
 use Rattle.library_model.specs.declared.sources.NamedSource.{NamedSource}
 
--- no two formats, and no join
-abbrev pub has_one_view : List FormatLines → Bool
-has_one_view fs = not (is_multi_format fs) && not (is_join_file fs)
+-- no join
+abbrev pub is_unjoined : List FormatLines → Bool
+is_unjoined fs = not (is_join_file fs)
 
 -- what can't be read describes nothing
 abbrev pub is_answered_source : Result Source DdsFault → Bool
-is_answered_source (Ok source) = has_one_view (formats_in source.specifications)
+is_answered_source (Ok source) = is_unjoined (formats_in source.specifications)
 is_answered_source (Err fault) = true
 
 abbrev pub is_answered_text : (text : List ℕ) → Bool
@@ -28,8 +28,8 @@ are_answered sources = list_all (λ source. is_answered_text source.text) source
 abbrev pub AreAnswered : List NamedSource → Type 0
 AreAnswered sources = IsTrue (are_answered sources)
 
--- one format over one physical file
-abbrev pub IsSimpleFile : LogicalSpec → Type 0
-IsSimpleFile (Simple view) = Unit {0}
-IsSimpleFile (Multi views) = ⊥
-IsSimpleFile (Join view) = ⊥
+-- formats over physical files, each over one
+abbrev pub IsUnjoinedFile : LogicalSpec → Type 0
+IsUnjoinedFile (Simple view) = Unit {0}
+IsUnjoinedFile (Multi views) = Unit {0}
+IsUnjoinedFile (Join view) = ⊥

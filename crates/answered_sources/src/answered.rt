@@ -1,10 +1,10 @@
 //! Whether a source can be made a file so far.
 ghost use Rattle.std.specs.Prelude.{◌≡◌, IfOk};
 ghost use Rattle.std.specs.Option.{option_copied};
-ghost use Rattle.dds_source.specs.Reading.{has_record, is_record};
+ghost use Rattle.dds_source.specs.Reading.{is_record};
 ghost use Rattle.dds_physical.specs.Keywords.{has_name};
-ghost use Rattle.dds_logical.specs.FormatLines.{based_on, formats_in, is_join_file, is_join_keyword, is_multi_format};
-ghost use Rattle.answered_sources.specs.Answered.{AreAnswered, has_one_view, is_answered_text};
+ghost use Rattle.dds_logical.specs.FormatLines.{based_on, formats_in, is_join_file, is_join_keyword};
+ghost use Rattle.answered_sources.specs.Answered.{AreAnswered, is_answered_text, is_unjoined};
 
 use dds_source::faults::SourceError;
 use dds_source::keywords::Keyword;
@@ -14,14 +14,14 @@ use field_types::texts::SourceText;
 use library_model::sources::{NamedSource, Sources};
 use std::alloc::{AllocError, Global};
 
-/// Whether a text is no source, or one of a single record format that is no join.
+/// Whether a text is no source, or one that is no join.
 ///
 /// Time and memory grow with the length of the text.
 pub fn is_answered(alloc: Global, text: &SourceText) -> Result<bool, AllocError>
     ensures { IfOk result (λ answered. answered ≡ is_answered_text text.now) }
 {
     match read_source(alloc, text.as_bytes()) {
-        Ok(source) => Ok(has_one_view(source.specifications.as_slice())),
+        Ok(source) => Ok(is_unjoined(source.specifications.as_slice())),
         Err(SourceError::Fault(_)) => Ok(true),
         Err(SourceError::NoMemory) => Err(AllocError),
     }
@@ -42,38 +42,11 @@ pub fn add_answered(
     }
 }
 
-/// Whether there are no two formats, and the first is over no JFILE.
-fn has_one_view(specifications: &[Specification]) -> bool
-    ensures { result ≡ has_one_view (formats_in specifications.now) }
+/// Whether the first format is over no JFILE.
+fn is_unjoined(specifications: &[Specification]) -> bool
+    ensures { result ≡ is_unjoined (formats_in specifications.now) }
 {
-    !is_multi_format(specifications) && !is_join_file(specifications)
-}
-
-/// Whether a record format begins behind the first.
-fn is_multi_format(specifications: &[Specification]) -> bool
-    ensures { result ≡ is_multi_format (formats_in specifications.now) }
-{
-    let mut rest = specifications;
-    while let [line, more @ ..] = rest {
-        if is_record(line.kind) {
-            return has_record(more);
-        }
-        rest = more;
-    }
-    false
-}
-
-fn has_record(specifications: &[Specification]) -> bool
-    ensures { result ≡ has_record specifications.now }
-{
-    let mut rest = specifications;
-    while let [line, more @ ..] = rest {
-        if is_record(line.kind) {
-            return true;
-        }
-        rest = more;
-    }
-    false
+    !is_join_file(specifications)
 }
 
 fn is_join_file(specifications: &[Specification]) -> bool

@@ -1,5 +1,5 @@
-//! Which sources can be made a file so far: all but those of joins and of files of several record formats. Begin with
-//! `specs/Answered.antt`; `answered.rt` has the call. It goes with the last kind of logical file that is built.
+//! Which sources can be made a file so far: all but those of joins. Begin with `specs/Answered.antt`; `answered.rt` has
+//! the call. It goes with the last kind of logical file that is built.
 #![tactic(auto)]
 
 pub mod answered;

@@ -1,5 +1,5 @@
 -- How the plan of CRTLF ends with the keys, and what it leaves.
-use Rattle.std.proofs.Common.{◌≡◌, ◌∙◌, ℕ, Bool, true, false, nat_le, Option, Some, None, Result, Ok, Err, IfOk, IfSome, OnOk, OnErr, List, [], ◌∷◌, length, if◌then◌else◌, refl, sym, ap, subst}
+use Rattle.std.proofs.Common.{◌≡◌, ◌∙◌, ◌≤◌, ℕ, Bool, true, false, nat_le, get_or, arith, Option, Some, None, Result, Ok, Err, IfOk, IfSome, OnOk, OnErr, List, [], ◌∷◌, length, if◌then◌else◌, refl, sym, ap, subst}
 use Rattle.std.specs.List.{list_any}
 use Rattle.std.specs.Option.{is_some, option_and_then}
 use Rattle.entry_codec.specs.declared.entries.Draft.{Draft}
@@ -40,12 +40,12 @@ use Rattle.library_steps.specs.SlotChange.{status_among}
 use Rattle.library_steps.specs.Uses.{changer_of_any, unused}
 use Rattle.library_parts.specs.Answers.{Allows, Answers, Gives, MayAllow}
 use Rattle.library_parts.specs.Files.{IsNewView}
-use Rattle.library_parts.specs.Indexed.{IsSimple}
+use Rattle.library_parts.specs.Indexed.{IsUnjoined}
 use Rattle.library_parts.specs.declared.stop.Stop.{Stop}
 use Rattle.library_parts.specs.declared.stop.Stop.TheVariants.{NoMemory, Refused}
 use Rattle.draft_list.proofs.DepositLemmas.{Answers-left}
 use Rattle.file_requests.specs.Effects.{Deposits}
-use Rattle.file_requests.specs.Views.{IsSimpleSource, PlansView, allowed_by, done, keys_differ, may_stand, new_view, view_draft, view_named, view_of, view_plan}
+use Rattle.file_requests.specs.Views.{IsUnjoinedSource, PlansView, allowed_by, done, keys_differ, may_stand, new_view, view_draft, view_named, view_of, view_plan}
 
 -- ---- the keys come last
 
@@ -100,15 +100,15 @@ described-by m name (Some t) plan is = by (logical_described m t) refl is
     by (Err fault) same is = absurd cc
     by (Ok spec) same is = subst (λ (p : NewLogical). logical_described m p.source ≡ Ok p.spec) (ok-equal (new_view t spec) plan is) same
 
-simple-by : (m : Memory) (name : List ℕ) (text : Option (List ℕ)) (plan : NewLogical) → IfSome text (λ t. IfOk (logical_described m t) (λ spec. IsSimple (LogicalFile spec)))
-    → (named_or_refused name text >>= λ t. view_of m t) ≡ Ok plan → IsSimple (LogicalFile plan.spec)
-simple-by m name None plan simple is = absurd cc
-simple-by m name (Some t) plan simple is = by (logical_described m t) simple is
+unjoined-by : (m : Memory) (name : List ℕ) (text : Option (List ℕ)) (plan : NewLogical) → IfSome text (λ t. IfOk (logical_described m t) (λ spec. IsUnjoined (LogicalFile spec)))
+    → (named_or_refused name text >>= λ t. view_of m t) ≡ Ok plan → IsUnjoined (LogicalFile plan.spec)
+unjoined-by m name None plan unjoined is = absurd cc
+unjoined-by m name (Some t) plan unjoined is = by (logical_described m t) unjoined is
   where
-    by : (found : Result LogicalSpec DdsFault) → IfOk found (λ spec. IsSimple (LogicalFile spec)) → (logical_or_refused found >>= λ spec. Ok (new_view t spec)) ≡ Ok plan
-        → IsSimple (LogicalFile plan.spec)
-    by (Err fault) simple is = absurd cc
-    by (Ok spec) simple is = subst (λ (p : NewLogical). IsSimple (LogicalFile p.spec)) (ok-equal (new_view t spec) plan is) simple
+    by : (found : Result LogicalSpec DdsFault) → IfOk found (λ spec. IsUnjoined (LogicalFile spec)) → (logical_or_refused found >>= λ spec. Ok (new_view t spec)) ≡ Ok plan
+        → IsUnjoined (LogicalFile plan.spec)
+    by (Err fault) unjoined is = absurd cc
+    by (Ok spec) unjoined is = subst (λ (p : NewLogical). IsUnjoined (LogicalFile p.spec)) (ok-equal (new_view t spec) plan is) unjoined
 
 pub is-described : (sources : List NamedSource) (m : Memory) (source : List ℕ) (result : Result NewLogical Stop) → Gives result (view_named sources m source)
     → IfOk result (λ plan. logical_described m plan.source ≡ Ok plan.spec)
@@ -116,17 +116,17 @@ unfolding view_named
 is-described sources m source (Ok plan) gives = described-by m source (text_of sources source) plan gives
 is-described sources m source (Err stop) gives = tt
 
-pub is-simple : (sources : List NamedSource) (m : Memory) (source : List ℕ) (result : Result NewLogical Stop) → IsSimpleSource sources m source → Gives result (view_named sources m source)
-    → IfOk result (λ plan. IsSimple (LogicalFile plan.spec))
+pub is-unjoined : (sources : List NamedSource) (m : Memory) (source : List ℕ) (result : Result NewLogical Stop) → IsUnjoinedSource sources m source → Gives result (view_named sources m source)
+    → IfOk result (λ plan. IsUnjoined (LogicalFile plan.spec))
 unfolding view_named
-is-simple sources m source (Ok plan) simple gives = simple-by m source (text_of sources source) plan simple gives
-is-simple sources m source (Err stop) simple gives = tt
+is-unjoined sources m source (Ok plan) unjoined gives = unjoined-by m source (text_of sources source) plan unjoined gives
+is-unjoined sources m source (Err stop) unjoined gives = tt
 
 pub is-new : (s : State) (name : List ℕ) (result : Result NewLogical Stop) → OnOk result (named name s.files ≡ None) → IfOk result (λ plan. logical_described (memory_of s) plan.source ≡ Ok plan.spec)
-    → IfOk result (λ plan. IsSimple (LogicalFile plan.spec)) → IfOk result (λ plan. changer_of_any (base_members (bases_of (memory_of s)) plan.spec) (memory_of s) ≡ None)
+    → IfOk result (λ plan. IsUnjoined (LogicalFile plan.spec)) → IfOk result (λ plan. changer_of_any (base_members (bases_of (memory_of s)) plan.spec) (memory_of s) ≡ None)
     → IfOk result (λ plan. IsNewView s name plan)
-is-new s name (Ok plan) absent described simple unchanged = record { absent = absent; described = described; simple = simple; unchanged = unchanged }
-is-new s name (Err stop) absent described simple unchanged = tt
+is-new s name (Ok plan) absent described unjoined unchanged = record { absent = absent; described = described; unjoined = unjoined; unchanged = unchanged }
+is-new s name (Err stop) absent described unjoined unchanged = tt
 
 pub new-kept : (old mid : State) (name : List ℕ) (plan made : NewLogical) → mid ≡ old → made ≡ plan → IsNewView old name plan → IsNewView mid name made
 new-kept old mid name plan made same is new = subst (λ (s : State). IsNewView s name made) (sym same) (subst (λ (p : NewLogical). IsNewView old name p) (sym is) new)
@@ -158,6 +158,10 @@ unique-one bases spec view is = one view.keys.unique ∙ sym (ap (λ (s : Logica
     one : (b : Bool) → b ≡ is_unique (views_path bases b (view ∷ []) ∷ [])
     one true = refl
     one false = refl
+
+pub undone-first : (m : Memory) (members : List ℕ) → 1 ≤ length members → undone_number m (get_or members 0 0) ≡ first_undone m members
+undone-first m [] some = absurd (omega (arith, some))
+undone-first m (first ∷ members) some = refl
 
 pub undone-one : (m : Memory) (member : ℕ) (status : MemberStatus) (has : Bool) (number : ℕ) (result : Option ℕ) → result ≡ (if has then Some number else None) → has ≡ has_undone status
     → number ≡ status.number → status_among member m.files ≡ Some status → result ≡ undone_number m member

@@ -1,5 +1,5 @@
--- The file that OPNDBF opens, and the one member that an open of it is over. (CL reference, OPNDBF.)
-use Rattle.std.specs.Prelude.{◌≡◌, ℕ, not, nat_le, Bool, Result, Ok, Err, List, [], ◌∷◌, length}
+-- The file that OPNDBF opens, and the members that an open of it is over. (CL reference, OPNDBF.)
+use Rattle.std.specs.Prelude.{◌≡◌, ℕ, not, nat_le, Bool, Result, Ok, Err, List, length}
 use Rattle.std.specs.Option.{is_some}
 use Rattle.library_model.specs.declared.limits.TheConstants.{MOST_OPENS}
 use Rattle.library_model.specs.declared.requests.OpenFile.{OpenFile}
@@ -23,15 +23,15 @@ file_plan m job args = do
   file ← named_or_refused args.file (file_named args.file m)
   Ok file
 
--- a logical file of one format is opened under its own name, by its path, and under commitment control where its base is journaled
+-- a logical file is opened under its own name, by its path, and under commitment control where its bases are journaled
 abbrev pub view_opens : Memory → ℕ → OpenFile → (members : List ℕ) → Result Bool Reply
 view_opens m job args members = do
   _ ← refuse_if (not (same_name args.member args.file)) (NoSuchName (Name args.member))
   _ ← refuse_if (not (is_file_path args.access_path)) WrongOpen
   may_commit_all args.commit members (job_of job m) m
 
--- the one member that the plan has
-abbrev pub GivesMember : Result ℕ Stop → Result (List ℕ) Reply → Type 0
-GivesMember (Ok number) wanted = wanted ≡ Ok (number ∷ [])
-GivesMember (Err NoMemory) wanted = Unit {0}
-GivesMember (Err (Refused reply)) wanted = wanted ≡ Err reply
+-- the members that the plan has
+abbrev pub GivesMembers : Result (List ℕ) Stop → Result (List ℕ) Reply → Type 0
+GivesMembers (Ok members) wanted = wanted ≡ Ok members
+GivesMembers (Err NoMemory) wanted = Unit {0}
+GivesMembers (Err (Refused reply)) wanted = wanted ≡ Err reply

@@ -22,13 +22,13 @@ use Rattle.library_steps.specs.Drafts.{author_of, library_draft}
 use Rattle.library_steps.specs.LogicalFiles.{bases_of}
 use Rattle.library_steps.specs.Refusals.{◌>>=◌, refuse_if, refuse_with, named_or_refused, sequences_left}
 use Rattle.library_steps.specs.Uses.{changer_of_any, unused}
-use Rattle.library_parts.specs.Indexed.{IsSimple}
+use Rattle.library_parts.specs.Indexed.{IsUnjoined}
 use Rattle.library_parts.specs.declared.stop.Stop.{Stop}
 use Rattle.library_parts.specs.declared.stop.Stop.TheVariants.{NoMemory, Refused}
 
--- so far the source describes one format over one physical file, where it describes a file
-abbrev pub IsSimpleSource : List NamedSource → Memory → (source : List ℕ) → Type 0
-IsSimpleSource sources m source = IfSome (text_of sources source) (λ text. IfOk (logical_described m text) (λ spec. IsSimple (LogicalFile spec)))
+-- so far the source describes no join
+abbrev pub IsUnjoinedSource : List NamedSource → Memory → (source : List ℕ) → Type 0
+IsUnjoinedSource sources m source = IfSome (text_of sources source) (λ text. IfOk (logical_described m text) (λ spec. IsUnjoined (LogicalFile spec)))
 
 -- ---- the refusals in their order
 

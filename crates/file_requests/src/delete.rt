@@ -44,7 +44,7 @@ fn plan_delete<'a>(contents: &'a Contents, args: &DeleteFile) -> Result<&'a File
     ensures left { OnOk result ((memory_of contents.now.state).last_entry ≤ LAST_SEQUENCE) }
 {
     may_deposit(contents)?;
-    let file = contents.simple_file(&args.file)?;
+    let file = contents.unjoined_file(&args.file)?;
     if let Some(name) = contents.first_dependent(&args.file) {
         return Err(Stop::Refused(Reply::Dependents { name }));
     }

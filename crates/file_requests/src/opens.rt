@@ -1,5 +1,5 @@
 //! OPNDBF and CLOF.
-ghost use Rattle.std.specs.Prelude.{◌≡◌, ◌<◌, [], ◌∷◌, Some, length, true, IfOk, IsErrOf, IsTrue, OnOk};
+ghost use Rattle.std.specs.Prelude.{◌≡◌, ◌<◌, ℕ, [], ◌∷◌, Some, length, true, IfOk, IsErrOf, IsTrue, OnOk};
 ghost use Rattle.std.specs.Option.{is_some};
 ghost use Rattle.logical_model.specs.Bases.{LogicalFile, base_members};
 ghost use Rattle.lawful_states.specs.Owners.{has_number};
@@ -13,13 +13,14 @@ ghost use Rattle.library_steps.specs.Opens.{close_file, first_unjournaled, logic
 ghost use Rattle.library_steps.specs.Records.{is_file_path};
 ghost use Rattle.library_steps.specs.Refusals.{named_or_refused, refuse_with};
 ghost use Rattle.library_parts.specs.Answers.{Allows, Answers, Gives, Shows};
-ghost use Rattle.library_parts.specs.Finds.{OpensBy, OpensMember};
-ghost use Rattle.library_parts.specs.Indexed.{IsReadSo, IsSimple};
+ghost use Rattle.library_parts.specs.Finds.{OpensBy, OpensMembers};
+ghost use Rattle.library_parts.specs.Indexed.{IsReadSo, IsUnjoined};
 ghost use Rattle.library_parts.specs.Reads.{MayReadSo};
 ghost use Rattle.library_parts.specs.declared.stop.Stop.TheVariants.{NoMemory};
-ghost use Rattle.file_requests.specs.Opens.{GivesMember, file_plan, view_opens};
+ghost use Rattle.file_requests.specs.Opens.{GivesMembers, file_plan, view_opens};
 
 use dds_logical::LogicalSpec;
+use field_types::lists::ListOf;
 use field_types::names::Name;
 use file_catalogue::{File, MemberStatus};
 use job_table::LAST_OPEN;
@@ -29,36 +30,37 @@ use library_model::requests::{AccessPath, OpenFile, OpenName};
 use library_parts::laws::effects_answer;
 use library_parts::{Contents, Stop, holder_of, no_such_name, record_of};
 use lock_table::Call;
+use std::alloc::{AllocError, Global};
 
 // ---- OPNDBF
 
-/// Opens a file for a job over one member. A job that has had as many opens as are counted opens no more.
+/// Opens a file for a job over its members. A job that has had as many opens as are counted opens no more.
 pub fn open_file(contents: &mut Contents, job: u32, args: &OpenFile) -> Result<Reply, Stop>
     requires running { IsTrue (is_running (job_at job contents.old.state.jobs)) }
     ensures answers { Answers contents.old.state contents.new.state result (open_file (memory_of contents.old.state) job args.now) }
 {
-    let member = plan_open(contents, job, args)?;
+    let members = plan_open(contents, job, args)?;
     let (_, opened) = contents.opens(job);
     if opened == LAST_OPEN {
         return Err(Stop::NoMemory);
     }
-    let reads = contents.reads_for(args, member)?;
+    let reads = contents.reads_for(args, members.as_slice())?;
     effects_answer();
-    contents.add_open(job, args, member, reads);
+    contents.add_open(job, args, members, reads);
     Ok(Reply::Done)
 }
 
-/// The member to open: a physical file's of that name, or the one that a logical file is over.
-fn plan_open(contents: &Contents, job: u32, args: &OpenFile) -> Result<u32, Stop>
+/// The members to open: a physical file's of that name, or those that a logical file is over.
+fn plan_open(contents: &Contents, job: u32, args: &OpenFile) -> Result<ListOf<u32>, Stop>
     requires { IsTrue (is_running (job_at job contents.now.state.jobs)) }
-    ensures plan { GivesMember result (open_plan (memory_of contents.now.state) job args.now) }
+    ensures plan { GivesMembers result (open_plan (memory_of contents.now.state) job args.now) }
     ensures few { OnOk result (length (job_of job (memory_of contents.now.state)).opens < MOST_OPENS) }
-    ensures there { IfOk result (λ member. OpensMember contents.now.state.files member (named args.now.file contents.now.state.files)) }
+    ensures there { IfOk result (λ members. OpensMembers contents.now.state.files members (named args.now.file contents.now.state.files)) }
     ensures so { OnOk result (MayReadSo args.now (named args.now.file contents.now.state.files)) }
 {
     let file = plan_file(contents, job, args)?;
-    let member = member_to_open(contents, job, args, file)?;
-    Ok(member)
+    let members = members_to_open(contents, job, args, file)?;
+    Ok(members)
 }
 
 #[tactic(auto, unfolding(crate::specs::Opens::file_plan))]
@@ -67,7 +69,7 @@ fn plan_file<'a>(contents: &'a Contents, job: u32, args: &OpenFile) -> Result<&'
     ensures plan { Shows result (file_plan (memory_of contents.now.state) job args.now) }
     ensures few { OnOk result (length (job_of job (memory_of contents.now.state)).opens < MOST_OPENS) }
     ensures there { IfOk result (λ file. named args.now.file contents.now.state.files ≡ Some file.now) }
-    ensures simple { IfOk result (λ file. IsSimple file.now.spec) }
+    ensures unjoined { IfOk result (λ file. IsUnjoined file.now.spec) }
 {
     if has_open(contents, job, &args.open_id) {
         return Err(Stop::Refused(Reply::NameExists { name: args.open_id }));
@@ -79,33 +81,53 @@ fn plan_file<'a>(contents: &'a Contents, job: u32, args: &OpenFile) -> Result<&'
             number: MOST_OPENS as u64,
         }));
     }
-    let file = contents.simple_file(&args.file)?;
+    let file = contents.unjoined_file(&args.file)?;
     Ok(file)
 }
 
-/// The member of the file, by its kind.
-fn member_to_open(contents: &Contents, job: u32, args: &OpenFile, file: &File) -> Result<u32, Stop>
+/// The members of the file, by its kind.
+fn members_to_open(
+    contents: &Contents,
+    job: u32,
+    args: &OpenFile,
+    file: &File,
+) -> Result<ListOf<u32>, Stop>
     requires running { IsTrue (is_running (job_at job contents.now.state.jobs)) }
-    requires simple { IsSimple file.now.spec }
-    ensures plan { GivesMember result (members_by file.now.spec (memory_of contents.now.state) job args.now file.now) }
-    ensures opens { IfOk result (λ member. OpensBy contents.now.state.files member file.now file.now.spec) }
+    requires unjoined { IsUnjoined file.now.spec }
+    ensures plan { GivesMembers result (members_by file.now.spec (memory_of contents.now.state) job args.now file.now) }
+    ensures opens { IfOk result (λ members. OpensBy contents.now.state.files members file.now file.now.spec) }
     ensures so { OnOk result (IsReadSo (is_file_path args.now.access_path) file.now.spec) }
 {
     match file.logical() {
-        Some(view) => view_member(contents, job, args, view),
-        None => physical_member(contents, job, args, file),
+        Some(view) => view_members(contents, job, args, view),
+        None => physical_members(contents, job, args, file),
     }
 }
 
 /// A physical file's member.
-fn physical_member(contents: &Contents, job: u32, args: &OpenFile, file: &File) -> Result<u32, Stop>
+fn physical_members(
+    contents: &Contents,
+    job: u32,
+    args: &OpenFile,
+    file: &File,
+) -> Result<ListOf<u32>, Stop>
     requires { IsTrue (is_running (job_at job contents.now.state.jobs)) }
-    ensures plan { GivesMember result (physical_members (memory_of contents.now.state) job args.now file.now) }
-    ensures has { IfOk result (λ member. has_number member file.now.members ≡ true) }
+    ensures plan { GivesMembers result (physical_members (memory_of contents.now.state) job args.now file.now) }
+    ensures has { IfOk result (λ members. (number : ℕ) × (members ≡ number ∷ []) × (has_number number file.now.members ≡ true)) }
 {
     let status = member_named(file, &args.member)?;
     may_commit(contents, job, args.commit, status)?;
-    Ok(status.number())
+    let members = one_member(contents.alloc(), status.number())?;
+    Ok(members)
+}
+
+/// One member alone.
+fn one_member(alloc: Global, number: u32) -> Result<ListOf<u32>, AllocError>
+    ensures { IfOk result (λ members. members ≡ number ∷ []) }
+{
+    let mut members = ListOf::new(alloc);
+    members.push(number)?;
+    Ok(members)
 }
 
 fn member_named(file: &File, name: &Name) -> Result<MemberStatus, Stop>
@@ -117,28 +139,28 @@ fn member_named(file: &File, name: &Name) -> Result<MemberStatus, Stop>
     }
 }
 
-/// The member that a logical file is over, which has no member but that of its own name.
-fn view_member(
+/// The members that a logical file is over. It has no member but that of its own name.
+fn view_members(
     contents: &Contents,
     job: u32,
     args: &OpenFile,
     view: &LogicalSpec,
-) -> Result<u32, Stop>
+) -> Result<ListOf<u32>, Stop>
     requires running { IsTrue (is_running (job_at job contents.now.state.jobs)) }
-    requires simple { IsSimple (LogicalFile view.now) }
-    ensures plan { GivesMember result (logical_members (memory_of contents.now.state) job args.now view.now) }
-    ensures over { IfOk result (λ member. base_members (bases_of (memory_of contents.now.state)) view.now ≡ member ∷ []) }
+    requires unjoined { IsUnjoined (LogicalFile view.now) }
+    ensures plan { GivesMembers result (logical_members (memory_of contents.now.state) job args.now view.now) }
+    ensures over { IfOk result (λ members. base_members (bases_of (memory_of contents.now.state)) view.now ≡ members) }
     ensures by_path { OnOk result (IsTrue (is_file_path args.now.access_path)) }
 {
-    let member = contents.member_under(view);
-    view_opens(contents, job, args, member)?;
-    Ok(member)
+    let members = contents.members_under(view)?;
+    view_opens(contents, job, args, members.as_slice())?;
+    Ok(members)
 }
 
 /// The refusal of an open of a logical file by another name, in arrival order, or under commitment control that it can't have.
-fn view_opens(contents: &Contents, job: u32, args: &OpenFile, member: u32) -> Result<(), Stop>
+fn view_opens(contents: &Contents, job: u32, args: &OpenFile, members: &[u32]) -> Result<(), Stop>
     requires { IsTrue (is_running (job_at job contents.now.state.jobs)) }
-    ensures allowed { Allows result (view_opens (memory_of contents.now.state) job args.now (member ∷ [])) }
+    ensures allowed { Allows result (view_opens (memory_of contents.now.state) job args.now members.now) }
     ensures by_path { OnOk result (IsTrue (is_file_path args.now.access_path)) }
 {
     if !has_own_name(args) {
@@ -147,7 +169,7 @@ fn view_opens(contents: &Contents, job: u32, args: &OpenFile, member: u32) -> Re
     if !is_by_path(args) {
         return Err(Stop::Refused(Reply::WrongOpen));
     }
-    may_commit_all(contents, job, args.commit, member)?;
+    may_commit_all(contents, job, args.commit, members)?;
     Ok(())
 }
 
@@ -195,26 +217,28 @@ fn may_commit(contents: &Contents, job: u32, commit: bool, status: MemberStatus)
     Ok(())
 }
 
-/// The same for the one member that a logical file is over.
-fn may_commit_all(contents: &Contents, job: u32, commit: bool, member: u32) -> Result<(), Stop>
+/// The same for all members that a logical file is over.
+fn may_commit_all(contents: &Contents, job: u32, commit: bool, members: &[u32]) -> Result<(), Stop>
     requires { IsTrue (is_running (job_at job contents.now.state.jobs)) }
-    ensures { Allows result (may_commit_all commit (member ∷ []) (job_of job (memory_of contents.now.state)) (memory_of contents.now.state)) }
+    ensures { Allows result (may_commit_all commit members.now (job_of job (memory_of contents.now.state)) (memory_of contents.now.state)) }
 {
     if !commit {
         return Ok(());
     }
     match contents.level(job) {
-        Some(_) => is_journaled(contents, member),
+        Some(_) => are_journaled(contents, members),
         None => Err(Stop::Refused(Reply::NoDefinition)),
     }
 }
 
-/// The refusal where the member isn't journaled.
-fn is_journaled(contents: &Contents, member: u32) -> Result<(), Stop>
-    ensures { Allows result (refuse_with NotJournaled (first_unjournaled (member ∷ []) (memory_of contents.now.state))) }
+/// The refusal of the first member that isn't journaled.
+fn are_journaled(contents: &Contents, members: &[u32]) -> Result<(), Stop>
+    ensures { Allows result (refuse_with NotJournaled (first_unjournaled members.now (memory_of contents.now.state))) }
 {
-    if contents.images_of(member).is_none() {
-        return Err(Stop::Refused(Reply::NotJournaled { member }));
+    for member in members {
+        if contents.images_of(*member).is_none() {
+            return Err(Stop::Refused(Reply::NotJournaled { member: *member }));
+        }
     }
     Ok(())
 }
@@ -228,9 +252,10 @@ pub fn close_file(contents: &mut Contents, job: u32, args: &OpenName) -> Result<
     ensures never_short { IsErrOf result NoMemory → ⊥ }
 {
     let opened = contents.opened(job, &args.open_id)?;
-    let level = contents.level_of(job, opened);
-    let holder = holder_of(job, opened);
-    let at = record_of(opened, 0);
+    let here = opened.here();
+    let level = contents.level_of(job, &here);
+    let holder = holder_of(job, &here);
+    let at = record_of(&here, 0);
     effects_answer();
     contents.free_for(Call::Close, level, holder, at);
     contents.remove_open(job, &args.open_id);

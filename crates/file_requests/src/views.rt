@@ -11,10 +11,10 @@ ghost use Rattle.library_steps.specs.LogicalFiles.{bases_of};
 ghost use Rattle.library_steps.specs.Uses.{changer_of_any};
 ghost use Rattle.library_parts.specs.Answers.{Allows, Answers, Gives, MayAllow};
 ghost use Rattle.library_parts.specs.Files.{IsNewView};
-ghost use Rattle.library_parts.specs.Indexed.{IsSimple};
+ghost use Rattle.library_parts.specs.Indexed.{IsUnjoined};
 ghost use Rattle.library_parts.specs.Rooms.{HasFileRoom};
 ghost use Rattle.file_requests.specs.Effects.{Deposits};
-ghost use Rattle.file_requests.specs.Views.{IsSimpleSource, PlansView, allowed_by, done, keys_differ, may_stand, view_allowed, view_draft, view_named, view_of, view_plan};
+ghost use Rattle.file_requests.specs.Views.{IsUnjoinedSource, PlansView, allowed_by, done, keys_differ, may_stand, view_allowed, view_draft, view_named, view_of, view_plan};
 
 use crate::create::has_file;
 use dds_logical::{LogicalFault, LogicalSpec};
@@ -38,7 +38,7 @@ struct NewView {
     draft: Draft,
 }
 
-/// Makes a logical file. So far its source describes one format over one physical file.
+/// Makes a logical file. So far its source describes no join.
 pub fn create_logical_file(
     contents: &mut Contents,
     job: u32,
@@ -47,7 +47,7 @@ pub fn create_logical_file(
     args: &CreateLogicalFile,
 ) -> Result<Reply, Stop>
     requires running { IsTrue (is_running (job_at job contents.old.state.jobs)) }
-    requires simple { IsSimpleSource sources.now (memory_of contents.old.state) args.now.source }
+    requires unjoined { IsUnjoinedSource sources.now (memory_of contents.old.state) args.now.source }
     ensures answers { Answers contents.old.state contents.new.state result (create_logical_file sources.now (memory_of contents.old.state) job timestamp args.now) }
 {
     let described = plan_view(contents, sources, args)?;
@@ -74,7 +74,7 @@ fn plan_view(
     sources: &Sources,
     args: &CreateLogicalFile,
 ) -> Result<DescribedView, Stop>
-    requires { IsSimpleSource sources.now (memory_of contents.now.state) args.now.source }
+    requires { IsUnjoinedSource sources.now (memory_of contents.now.state) args.now.source }
     ensures plan { PlansView sources.now (memory_of contents.now.state) args.now result }
     ensures new { IfOk result (λ described. IsNewView contents.now.state args.now.file described) }
     ensures left { OnOk result ((memory_of contents.now.state).last_entry ≤ LAST_SEQUENCE) }
@@ -88,11 +88,11 @@ fn plan_but_keys(
     sources: &Sources,
     args: &CreateLogicalFile,
 ) -> Result<DescribedView, Stop>
-    requires { IsSimpleSource sources.now (memory_of contents.now.state) args.now.source }
+    requires { IsUnjoinedSource sources.now (memory_of contents.now.state) args.now.source }
     ensures plan { Gives result (view_plan sources.now (memory_of contents.now.state) args.now) }
     ensures absent { OnOk result (named args.now.file contents.now.state.files ≡ None) }
     ensures described { IfOk result (λ described. logical_described (memory_of contents.now.state) described.source ≡ Ok described.spec) }
-    ensures simple { IfOk result (λ described. IsSimple (LogicalFile described.spec)) }
+    ensures unjoined { IfOk result (λ described. IsUnjoined (LogicalFile described.spec)) }
     ensures unchanged { IfOk result (λ described. changer_of_any (base_members (bases_of (memory_of contents.now.state)) described.spec) (memory_of contents.now.state) ≡ None) }
     ensures left { OnOk result ((memory_of contents.now.state).last_entry ≤ LAST_SEQUENCE) }
 {
@@ -121,12 +121,12 @@ fn may_be_named(contents: &Contents, name: &Name) -> Result<(), Stop>
     Ok(())
 }
 
-/// What the source of that name describes, which has one format.
+/// What the source of that name describes, which is no join.
 fn view_named(contents: &Contents, sources: &Sources, source: &Name) -> Result<DescribedView, Stop>
-    requires { IsSimpleSource sources.now (memory_of contents.now.state) source.now }
+    requires { IsUnjoinedSource sources.now (memory_of contents.now.state) source.now }
     ensures plan { Gives result (view_named sources.now (memory_of contents.now.state) source.now) }
     ensures described { IfOk result (λ described. logical_described (memory_of contents.now.state) described.source ≡ Ok described.spec) }
-    ensures simple { IfOk result (λ described. IsSimple (LogicalFile described.spec)) }
+    ensures unjoined { IfOk result (λ described. IsUnjoined (LogicalFile described.spec)) }
 {
     view_read(contents, sources, source)
 }
@@ -154,23 +154,23 @@ fn describe_view(contents: &Contents, text: &SourceText) -> Result<DescribedView
 
 /// The same refusals of what was described.
 fn described_may_stand(contents: &Contents, described: &DescribedView) -> Result<(), Stop>
-    requires { IsSimple (LogicalFile described.now.spec) }
+    requires { IsUnjoined (LogicalFile described.now.spec) }
     ensures allowed { MayAllow result (may_stand (memory_of contents.now.state) described.now.spec) }
     ensures unchanged { OnOk result (changer_of_any (base_members (bases_of (memory_of contents.now.state)) described.now.spec) (memory_of contents.now.state) ≡ None) }
 {
     may_stand(contents, described.spec())
 }
 
-/// The refusal where its base would have too many paths, an open commit cycle has changed a record of it, or a restart might bring
+/// The refusal where one of its bases would have too many paths, an open commit cycle has changed a record of it, or a restart might bring
 /// equal keys back that may not be.
 fn may_stand(contents: &Contents, view: &LogicalSpec) -> Result<(), Stop>
-    requires { IsSimple (LogicalFile view.now) }
+    requires { IsUnjoined (LogicalFile view.now) }
     ensures allowed { MayAllow result (may_stand (memory_of contents.now.state) view.now) }
     ensures unchanged { OnOk result (changer_of_any (base_members (bases_of (memory_of contents.now.state)) view.now) (memory_of contents.now.state) ≡ None) }
 {
     let many = contents.has_many_paths(view)?;
     let changer = contents.changer_under(view);
-    let undone = undone_under(contents, view);
+    let undone = undone_under(contents, view)?;
     allowed_by(many, changer, undone)
 }
 
@@ -194,14 +194,25 @@ fn allowed_by(many: bool, changer: Option<u32>, undone: Option<u32>) -> Result<(
     Ok(())
 }
 
-/// The member under a UNIQUE file that isn't journaled, and was changed since it was, with two records or more then.
-fn undone_under(contents: &Contents, view: &LogicalSpec) -> Option<u32>
-    requires { IsSimple (LogicalFile view.now) }
-    ensures { result ≡ (if is_unique (logical_paths (bases_of (memory_of contents.now.state)) view.now) then first_undone (memory_of contents.now.state) (base_members (bases_of (memory_of contents.now.state)) view.now) else None) }
+/// The member under a UNIQUE file that isn't journaled, and was changed since it was, with two records or more then. A file of several
+/// formats isn't unique.
+fn undone_under(contents: &Contents, view: &LogicalSpec) -> Result<Option<u32>, AllocError>
+    requires { IsUnjoined (LogicalFile view.now) }
+    ensures { IfOk result (λ undone. undone ≡ (if is_unique (logical_paths (bases_of (memory_of contents.now.state)) view.now) then first_undone (memory_of contents.now.state) (base_members (bases_of (memory_of contents.now.state)) view.now) else None)) }
 {
-    let member = contents.member_under(view);
-    let undone = undone_number(contents, member);
-    undone_if(is_unique(view), undone)
+    let members = contents.members_under(view)?;
+    let undone = first_undone(contents, members.as_slice());
+    Ok(undone_if(is_unique(view), undone))
+}
+
+/// The first of the members, where it isn't journaled, and was changed since it was, with two records or more then.
+fn first_undone(contents: &Contents, members: &[u32]) -> Option<u32>
+    ensures { result ≡ first_undone (memory_of contents.now.state) members.now }
+{
+    match members {
+        [] => None,
+        [member, ..] => undone_number(contents, *member),
+    }
 }
 
 fn undone_if(unique: bool, undone: Option<u32>) -> Option<u32>
@@ -212,12 +223,13 @@ fn undone_if(unique: bool, undone: Option<u32>) -> Option<u32>
 
 /// Whether its path may have no equal keys.
 fn is_unique(view: &LogicalSpec) -> bool
-    requires { IsSimple (LogicalFile view.now) }
+    requires { IsUnjoined (LogicalFile view.now) }
     ensures { (bases : Bases) → result ≡ is_unique (logical_paths bases view.now) }
 {
     match view {
         LogicalSpec::Simple(view) => view.keys.unique,
-        _ => unreachable!(),
+        LogicalSpec::Multi(_) => false,
+        LogicalSpec::Join(_) => unreachable!(),
     }
 }
 

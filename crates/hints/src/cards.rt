@@ -32,7 +32,7 @@ pub(crate) fn card_hint<'a>(
         return Ok(Some(hint));
     }
     if is_unanswered(alloc, card)? {
-        return Ok(Some(Hint::Plain(b"a join or a file of several record formats isn't built yet")));
+        return Ok(Some(Hint::Plain(b"a join isn't built yet")));
     }
     Ok(number_hint(card.text))
 }

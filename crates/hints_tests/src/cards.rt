@@ -8,14 +8,14 @@ type Rows = &'static [(&'static [u8], u32, &'static str)];
 
 const CARDS: Rows = &[
     (
-        b"//DDS C\n     A          R C1                        PFILE(A)\n     A          R C2                        PFILE(B)\n//END\n",
+        b"//DDS J\n     A          R JR                        JFILE(A B)\n//END\n",
         1,
-        "//DDS C\nhint: a join or a file of several record formats isn't built yet\n",
+        "//DDS J\nhint: a join isn't built yet\n",
     ),
     (
-        b"//DDS C\n     A          R CR                        PFILE(A)\n//DDS J\n     A          R JR                        JFILE(A B)\n//END\n",
-        3,
-        "//DDS J\nhint: a join or a file of several record formats isn't built yet\n",
+        b"//DDS C\n     A          R C1                        PFILE(A)\n     A          R C2                        PFILE(B)\n//DDS J\n     A          R JR                        JFILE(A B)\n//END\n",
+        4,
+        "//DDS J\nhint: a join isn't built yet\n",
     ),
     (
         b"\xEF\xBB\xBF//JOB J1\n//END\n",

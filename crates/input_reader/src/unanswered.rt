@@ -1,4 +1,4 @@
-//! Sources that can't be made a file yet: those of joins and of files of several record formats.
+//! Sources that can't be made a file yet: those of joins.
 ghost use Rattle.std.specs.Prelude.{◌≡◌, not, IfOk};
 ghost use Rattle.text_lines.specs.Lines.{lines_of, text_of_lines};
 ghost use Rattle.script_builder.specs.Least.{least};

@@ -158,23 +158,20 @@ first_user-joined member locks jobs all =
     first_job-either (has_in_use member) (λ n job. has_boundary_lock member n locks) 1 jobs
     ∙ ap (lesser (first_user member jobs)) (keeper-least member locks jobs all)
 
--- ---- a logical file over one member
+-- ---- a logical file
 
--- it is asked of one member alone
-pub changer-one : (member number : ℕ) (jobs : List JobState)
-    → first_job (λ n job. list_any (λ base. has_changed base job) (member ∷ [])) number jobs ≡ first_job (λ n job. has_changed member job) number jobs
-changer-one member number [] = refl
-changer-one member number (job ∷ jobs) =
-    by (has_changed member job) (changer-one member (number + 1) jobs)
-  where
-    by : (b : Bool) → first_job (λ n j. list_any (λ base. has_changed base j) (member ∷ [])) (number + 1) jobs ≡ first_job (λ n j. has_changed member j) (number + 1) jobs
-        → (if b || false then Some number else first_job (λ n j. list_any (λ base. has_changed base j) (member ∷ [])) (number + 1) jobs)
-        ≡ (if b then Some number else first_job (λ n j. has_changed member j) (number + 1) jobs)
-    by true rest = refl
-    by false rest = rest
+-- nobody has changed one of no members
+pub changer-none : (number : ℕ) (jobs : List JobState) → first_job (λ n job. list_any (λ base. has_changed base job) []) number jobs ≡ None
+changer-none number [] = refl
+changer-none number (job ∷ jobs) = changer-none (number + 1) jobs
 
-pub user-view : (file : List ℕ) (member : ℕ) (jobs : List JobState)
-    → first_job (λ n job. has_open_of file job || list_any (λ base. has_changed base job) (member ∷ [])) 1 jobs ≡ lesser (first_opener file jobs) (first_changer member jobs)
-user-view file member jobs =
-    first_job-either (λ n job. has_open_of file job) (λ n job. list_any (λ base. has_changed base job) (member ∷ [])) 1 jobs
-    ∙ ap (lesser (first_opener file jobs)) (changer-one member 1 jobs)
+-- who has changed one of some members
+pub changer-more : (member : ℕ) (members : List ℕ) (jobs : List JobState)
+    → first_job (λ n job. list_any (λ base. has_changed base job) (member ∷ members)) 1 jobs
+    ≡ lesser (first_changer member jobs) (first_job (λ n job. list_any (λ base. has_changed base job) members) 1 jobs)
+changer-more member members jobs = first_job-either (λ n job. has_changed member job) (λ n job. list_any (λ base. has_changed base job) members) 1 jobs
+
+pub user-view : (file : List ℕ) (members : List ℕ) (jobs : List JobState)
+    → first_job (λ n job. has_open_of file job || list_any (λ base. has_changed base job) members) 1 jobs
+    ≡ lesser (first_opener file jobs) (first_job (λ n job. list_any (λ base. has_changed base job) members) 1 jobs)
+user-view file members jobs = first_job-either (λ n job. has_open_of file job) (λ n job. list_any (λ base. has_changed base job) members) 1 jobs

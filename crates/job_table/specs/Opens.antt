@@ -29,10 +29,13 @@ IsNewReads commit reads = reads.position ≡ record { position = Start; boundary
 abbrev pub order_by : (number : ℕ) → OpenReads → OpenOrder
 order_by number reads = record { number = number; path = reads.path; formats = reads.position.formats }
 
--- the position of an open: it is kept at boundaries where the open is under commitment, and is of one format
+-- the position of an open: it is kept at boundaries where the open is under commitment
 pub record IsPositionOf (commit : Bool) (stand : OpenStand) : Type 0 where
   pub marks : stand.marks ≡ commit
-  pub one : length stand.formats ≡ 1
+
+-- the open, where it is at a format over this member
+abbrev pub placed_at : (format member : ℕ) → KeptOpen → KeptOpen
+placed_at format member kept = record { state = record kept.state { format = format; member = member }; order = kept.order }
 
 -- ---- opens and how they read, side by side
 

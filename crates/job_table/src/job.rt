@@ -21,6 +21,7 @@ use crate::open::Open;
 use crate::opens::{OpenChange, Opens};
 use crate::reads::OpenReads;
 use commit_level::Level;
+use field_types::lists::ListOf;
 use field_types::names::Name;
 use library_model::requests::OpenFile;
 use std::alloc::{AllocError, Global};
@@ -125,20 +126,20 @@ impl Job {
         self.opened
     }
 
-    /// Opens a member.
-    pub fn add_open(&mut self, args: &OpenFile, member: u32, reads: OpenReads)
+    /// Opens a file over these members.
+    pub fn add_open(&mut self, args: &OpenFile, members: ListOf<u32>, reads: OpenReads)
         requires few { length self.old.state.opens < MOST_OPENS }
         requires numbered { self.old.state.opened < LAST_OPEN }
         requires start { IsNewReads args.now.commit reads }
         ensures added { self.new ≡ record self.old {
-          state = with_open args.now (member ∷ []) self.old.state;
+          state = with_open args.now members self.old.state;
           orders = self.old.orders ++ (args.now.open_id, order_by (self.old.state.opened + 1) reads) ∷ [];
         } }
         ensures whole { IsWhole self.new }
     {
         self.opened += 1;
         self.opens
-            .add(args.open_id, Open::new(args, self.opened, member, reads));
+            .add(args.open_id, Open::new(args, self.opened, members, reads));
     }
 
     /// Closes an open.

@@ -31,6 +31,7 @@ use crate::open::Open;
 use crate::opens::{OpenChange, OpenNumbers};
 use crate::reads::OpenReads;
 use commit_level::Level;
+use field_types::lists::ListOf;
 use field_types::names::Name;
 use file_cursor::places::Hit;
 use library_model::requests::OpenFile;
@@ -221,19 +222,19 @@ impl Jobs {
 
     // ---- opens
 
-    /// Opens a member.
-    pub fn add_open(&mut self, number: u32, args: &OpenFile, member: u32, reads: OpenReads)
+    /// Opens a file over these members.
+    pub fn add_open(&mut self, number: u32, args: &OpenFile, members: ListOf<u32>, reads: OpenReads)
         requires running { IsTrue (is_running (job_at number self.old.jobs)) }
         requires few { length (job_of_number number self.old.jobs).opens < MOST_OPENS }
         requires numbered { (job_of_number number self.old.jobs).opened < LAST_OPEN }
         requires start { IsNewReads args.now.commit reads }
         ensures { self.new ≡ record self.old {
-          jobs = job_changed (number - 1) (with_open args.now (member ∷ [])) self.old.jobs;
+          jobs = job_changed (number - 1) (with_open args.now members) self.old.jobs;
           orders = changed_at (number - 1) (λ orders. orders ++ (args.now.open_id, order_by ((job_of_number number self.old.jobs).opened + 1) reads) ∷ []) self.old.orders;
         } }
     {
         let job = &mut self.jobs[number as usize - 1];
-        job.add_open(args, member, reads);
+        job.add_open(args, members, reads);
     }
 
     /// Closes its open of that name.

@@ -1,5 +1,5 @@
 //! How the first user of a member is found from what the jobs and the lock table tell apart: contracts of functions that do nothing.
-ghost use Rattle.std.specs.Prelude.{◌≡◌, ℕ, List, [], ◌∷◌, filter};
+ghost use Rattle.std.specs.Prelude.{◌≡◌, ℕ, List, None, [], ◌∷◌, filter};
 ghost use Rattle.lock_table.specs.Lock.{is_boundary_in};
 ghost use Rattle.lock_table.specs.Table.{least_job};
 ghost use Rattle.library_model.specs.Named.{Named};
@@ -16,9 +16,10 @@ pub fn users_are_joined()
     ensures any { (members : Named MemberStatus) (m : Memory) → user_of_any members m ≡ least_of_members (λ number. user_of number m) members }
 {}
 
-/// The user of a logical file over one member is the lesser of the first job that has an open of it and the first that has changed
-/// the member in its open commit cycle.
+/// The first job that has changed one of some members in its open commit cycle is the least of those that have changed each. The user
+/// of a logical file over them is the lesser of that one and of the first job that has an open of the file.
 pub fn view_users_are_joined()
-    ensures changer { (member : ℕ) (m : Memory) → changer_of_any (member ∷ []) m ≡ first_changer member m.jobs }
-    ensures user { (file : List ℕ) (member : ℕ) (m : Memory) → user_of_logical file (member ∷ []) m ≡ lesser (first_opener file m.jobs) (first_changer member m.jobs) }
+    ensures none { (m : Memory) → changer_of_any [] m ≡ None }
+    ensures changer { (member : ℕ) (members : List ℕ) (m : Memory) → changer_of_any (member ∷ members) m ≡ lesser (first_changer member m.jobs) (changer_of_any members m) }
+    ensures user { (file : List ℕ) (members : List ℕ) (m : Memory) → user_of_logical file members m ≡ lesser (first_opener file m.jobs) (changer_of_any members m) }
 {}

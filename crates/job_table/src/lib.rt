@@ -13,7 +13,7 @@ mod users;
 
 pub use changes::{Undo, UndoParts, Undos};
 pub use jobs::{Jobs, LAST_OPEN};
-pub use open::Open;
+pub use open::{Open, OpenAt, first_of};
 pub use opens::OpenNumbers;
 pub use reads::OpenReads;
 pub use users::lesser;

@@ -1,12 +1,12 @@
 //! One open of a job.
-ghost use Rattle.std.specs.Prelude.{◌≡◌, ◌==◌, [], ◌∷◌};
+ghost use Rattle.std.specs.Prelude.{◌≡◌, ◌==◌, slice_get, unwrap_or};
 ghost use Rattle.std.specs.List.{list_any};
 ghost use Rattle.file_model.specs.Positions.{Start};
 ghost use Rattle.file_cursor.specs.CursorPosition.{entry_of};
 ghost use Rattle.open_position.specs.OpenStand.{IsEntryIn};
 ghost use Rattle.open_position.specs.Reads.{IsStandAt};
-ghost use Rattle.library_steps.specs.Opens.{new_open};
-ghost use Rattle.library_steps.specs.Reads.{current_after};
+ghost use Rattle.library_steps.specs.Opens.{first_of, new_open};
+ghost use Rattle.library_steps.specs.Reads.{at_format, current_after};
 ghost use Rattle.library_steps.specs.ChangeRecord.{without_record};
 ghost use Rattle.library_steps.specs.Commitment.{committed_open, rolled_back_open};
 ghost use Rattle.job_table.specs.OpenChanges.{CanMake, open_after};
@@ -14,6 +14,7 @@ ghost use Rattle.job_table.specs.Opens.{IsNewReads, order_by};
 
 use crate::opens::OpenChange;
 use crate::reads::OpenReads;
+use field_types::lists::ListOf;
 use field_types::names::Name;
 use file_cursor::places::Hit;
 use library_model::requests::{AccessPath, OpenFile, OpenOption};
@@ -21,11 +22,15 @@ use lock_table::Call;
 use open_position::position::{OpenPosition, Side, StandAt};
 use std::marker::Model;
 
-/// An open of a member.
+/// An open of a file.
 #[derive(Drop)]
 pub struct Open {
     number: u32,
     file: Name,
+    /// The members that it is over, in the order of the file's formats.
+    members: ListOf<u32>,
+    /// The format of the record that was read last, and the member of that record; before any read the first.
+    format: u16,
     member: u32,
     option: OpenOption,
     access_path: AccessPath,
@@ -37,7 +42,6 @@ pub struct Open {
 }
 
 impl Model for Open {
-    ghost use Rattle.std.specs.Prelude.{[], ◌∷◌};
     ghost use Rattle.file_model.specs.Positions.{Start};
     ghost use Rattle.job_table.specs.Opens.{KeptOpen, IsPositionOf};
 
@@ -47,8 +51,8 @@ impl Model for Open {
       state = record {
         number = o.number;
         file = o.file;
-        members = o.member ∷ [];
-        format = 0;
+        members = o.members;
+        format = o.format;
         member = o.member;
         option = o.option;
         access_path = o.access_path;
@@ -67,16 +71,18 @@ impl Model for Open {
 
 impl Open {
     /// An open that has read nothing.
-    pub fn new(args: &OpenFile, number: u32, member: u32, reads: OpenReads) -> Open
+    pub fn new(args: &OpenFile, number: u32, members: ListOf<u32>, reads: OpenReads) -> Open
         requires { IsNewReads args.now.commit reads }
-        ensures state { result.state ≡ new_open args.now number (member ∷ []) }
+        ensures state { result.state ≡ new_open args.now number members }
         ensures order { result.order ≡ order_by number reads }
     {
-        let _parts = reads.position.parts();
+        let first = first_of(members.as_slice());
         Open {
             number,
             file: args.file,
-            member,
+            members,
+            format: 0,
+            member: first,
             option: args.option,
             access_path: args.access_path,
             commit: args.commit,
@@ -101,28 +107,49 @@ impl Open {
         self.file
     }
 
-    /// The number of the member.
+    /// The numbers of its members. It reads no rows of a join.
+    pub fn members(&self) -> &[u32]
+        ensures members { result.now ≡ self.now.state.members }
+        ensures rows { self.now.state.rows ≡ Start }
+    {
+        self.members.as_slice()
+    }
+
+    /// The number of the member of the record that was read last, before any read the first.
     pub fn member(&self) -> u32
         ensures { result ≡ self.now.state.member }
     {
         self.member
     }
 
-    /// The number of its one member. It is over no other, has read by the one format of a physical file, and reads no rows.
-    pub fn only_member(&self) -> u32
-        ensures member { result ≡ self.now.state.member }
-        ensures only { self.now.state.members ≡ self.now.state.member ∷ [] }
-        ensures format { self.now.state.format ≡ 0 }
-        ensures rows { self.now.state.rows ≡ Start }
+    /// Where it read its last record, before any read at the first format.
+    pub fn here(&self) -> OpenAt<'_>
+        ensures { result ≡ self.now }
     {
-        self.member
+        OpenAt {
+            opened: self,
+            format: self.format,
+            member: self.member,
+        }
+    }
+
+    /// Where it reads or writes a record of the format of this number.
+    pub fn at(&self, format: u16) -> OpenAt<'_>
+        ensures state { result.state ≡ at_format format self.now.state }
+        ensures order { result.order ≡ self.now.order }
+    {
+        OpenAt {
+            opened: self,
+            format,
+            member: member_at(self.members.as_slice(), format, self.member),
+        }
     }
 
     /// Whether it is over the member.
     pub fn is_over(&self, member: u32) -> bool
         ensures { result ≡ list_any (λ base. base == member) self.now.state.members }
     {
-        self.member == member
+        self.members.as_slice().iter().any(|&base| base == member)
     }
 
     /// What it may do.
@@ -207,6 +234,8 @@ impl Open {
         ensures { self.new ≡ open_after (OpenChange.HasRead number call hit.now) self.old }
     {
         if self.number == number {
+            self.member = member_at(self.members.as_slice(), hit.format, self.member);
+            self.format = hit.format;
             self.position.settle(hit);
             self.current = current_after(call, hit.rrn);
             self.last_read = Some(hit.rrn);
@@ -248,6 +277,98 @@ impl Open {
         self.current = None;
         self.last_read = None;
     }
+}
+
+/// An open, where it reads or writes a record of one of its formats.
+#[derive(Drop)]
+pub struct OpenAt<'a> {
+    opened: &'a Open,
+    format: u16,
+    member: u32,
+}
+
+impl<'a> Model for OpenAt<'a> {
+    ghost use Rattle.job_table.specs.Opens.{KeptOpen, placed_at};
+
+    ghost Value = { KeptOpen };
+
+    ghost view = { λ o. placed_at o.format o.member o.opened.now };
+}
+
+impl<'a> OpenAt<'a> {
+    /// The open itself.
+    pub fn opened(&self) -> &'a Open
+        ensures number { result.now.state.number ≡ self.now.state.number }
+        ensures order { result.now.order ≡ self.now.order }
+    {
+        self.opened
+    }
+
+    /// Its number among all opens of the job, from 1.
+    pub fn number(&self) -> u32
+        ensures { result ≡ self.now.state.number }
+    {
+        self.opened.number()
+    }
+
+    /// The number of the format, counted from 0.
+    pub fn format(&self) -> u16
+        ensures { result ≡ self.now.state.format }
+    {
+        self.format
+    }
+
+    /// The number of the format's member.
+    pub fn member(&self) -> u32
+        ensures { result ≡ self.now.state.member }
+    {
+        self.member
+    }
+
+    /// What the open may do.
+    pub fn option(&self) -> OpenOption
+        ensures { result ≡ self.now.state.option }
+    {
+        self.opened.option()
+    }
+
+    /// Whether it is under commitment control.
+    pub fn commit(&self) -> bool
+        ensures { result ≡ self.now.state.commit }
+    {
+        self.opened.commit()
+    }
+
+    /// The record that may be changed.
+    pub fn current(&self) -> Option<u32>
+        ensures { result ≡ self.now.state.current }
+    {
+        self.opened.current()
+    }
+
+    /// The record that was read last.
+    pub fn last_read(&self) -> Option<u32>
+        ensures { result ≡ self.now.state.last_read }
+    {
+        self.opened.last_read()
+    }
+}
+
+/// The first of some members, 0 where there is none.
+pub fn first_of(members: &[u32]) -> u32
+    ensures { result ≡ first_of members.now }
+{
+    match members {
+        [] => 0,
+        [first, ..] => *first,
+    }
+}
+
+/// The member of the format of this number, or another where there is none.
+fn member_at(members: &[u32], format: u16, other: u32) -> u32
+    ensures { result ≡ unwrap_or (slice_get members.now format) other }
+{
+    members.get(usize::from(format)).copied().unwrap_or(other)
 }
 
 /// The record that is the current one after a read.

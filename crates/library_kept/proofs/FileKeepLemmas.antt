@@ -49,7 +49,7 @@ use Rattle.library_kept.proofs.DefaultLemmas.{physical-defaults}
 use Rattle.library_kept.proofs.FieldLemmas.{physical-laid}
 use Rattle.library_kept.proofs.ListLemmas.{each-weaker}
 use Rattle.library_kept.proofs.ResultLemmas.{ok-equal, bind-ok}
-use Rattle.library_kept.proofs.SomeLemmas.{logical-some}
+use Rattle.logical_laws.proofs.SomeLemmas.{logical-some}
 use Rattle.library_kept.proofs.ViewLemmas.{mapped-kept, mapped-without, view-stays}
 
 -- a member that a file had before, with records of the same fields

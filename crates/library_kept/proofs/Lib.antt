@@ -3,7 +3,6 @@ pub mod ListLemmas
 pub mod StandLemmas
 pub mod FieldLemmas
 pub mod DefaultLemmas
-pub mod SomeLemmas
 pub mod ViewLemmas
 pub mod PlanLemmas
 pub mod OwnerLemmas

@@ -1,15 +1,14 @@
 -- The kept paths are those of a library still, when slots are given to a member one after the other and the moves of all are made in them; and
 -- when these are taken back.
-use Rattle.std.proofs.Common.{ℕ, suc, ◌==◌, ◌+◌, ◌*◌, ◌<◌, ◌≤◌, ◌≡◌, ◌≢◌, Bool, true, false, cond, inl, inr, List, [], ◌∷◌, length, map, get_or, refl, sym, ap, arith, ◌∙◌, subst}
-use Rattle.std.specs.Prelude.{All, Any, filter, reverse}
+use Rattle.std.proofs.Common.{ℕ, suc, ◌==◌, ◌+◌, ◌*◌, ◌<◌, ◌≤◌, ◌≡◌, Bool, true, false, cond, List, [], ◌∷◌, length, map, get_or, refl, sym, ap, arith, ◌∙◌, subst}
+use Rattle.std.specs.Prelude.{All, filter, reverse}
 use Rattle.std.specs.List.{AllByRecursion, AllZip}
-use Rattle.std.proofs.lemmas.Bool.{cases_eq}
 use Rattle.std.proofs.lemmas.List.Elements.{All-from_recursion, All-map}
 use Rattle.std.proofs.Math.Nat.{add-mul, suc-mul, mul-le-mul_left}
 use Rattle.key_pages.specs.declared.entries.Entry.{Entry}
 use Rattle.member_slots.specs.declared.slot.Slot.{Slot}
 use Rattle.member_slots.specs.Members.{Numbered, NumberedMembers}
-use Rattle.file_model.specs.declared.paths.PathFormat.{PathFormat}
+use Rattle.file_model.specs.declared.paths.PathSpec.{PathSpec}
 use Rattle.journal_model.specs.Places.{slot_of, put_slot}
 use Rattle.access_path.specs.Moves.{opposite}
 use Rattle.access_path.specs.PathBytes.{is_falling}
@@ -32,9 +31,10 @@ use Rattle.library_steps.specs.State.{FileState, JobState}
 use Rattle.range_images.specs.declared.slot_given.SlotGiven.{SlotGiven}
 use Rattle.range_images.specs.Given.{place_given}
 use Rattle.given_changes.specs.GivenChanges.{changes_given}
-use Rattle.library_parts.specs.Indexed.{AreOfBytes, ArePaths, OpensRead, moves_of_job, changes_on, IsIndexed}
+use Rattle.library_parts.specs.Indexed.{AreOfBytes, ArePaths, OpensRead, HaveSpares, moves_of_job, changes_over, IsIndexed}
 use Rattle.library_parts.proofs.IndexMoves.{changes-held}
-use Rattle.library_parts.proofs.IndexPaths.{IsOfOwner, any-own, any-with, kept-of, moves-stay, moves-with, of-file, orders-stay, over-other, room-fewer}
+use Rattle.library_parts.proofs.IndexPaths.{any-with, moves-stay, moves-with, orders-stay, room-fewer, room-of_spares, so_many, spares-fewer, spares-with}
+use Rattle.library_parts.proofs.IndexRecords.{left-over}
 use Rattle.library_parts.proofs.IndexShared.{files-stay}
 
 -- ---- how many moves they have in a path
@@ -58,17 +58,6 @@ module _ (number : ℕ) (paths : NumberedPaths) (shared : AreShared paths) (k : 
       let product = suc-mul (length given) most in
       omega (arith, one, rest, both, product)
 
--- so much is left of what was there for more changes
-left-over : (more many formats most count old new : ℕ) → (more + many) * formats ≤ old → count ≤ many * most → most ≤ formats → old ≤ new + count → more * formats ≤ new
-left-over more many formats most count old new had few fits spare =
-    let product = add-mul more many formats in
-    let fewer = mul-le-mul_left many fits in
-    omega (arith, had, few, spare, product, fewer)
-
-fits-formats : (b : Bool) (formats : ℕ) → cond b formats 0 ≤ formats
-fits-formats true formats = omega arith
-fits-formats false formats = omega arith
-
 module _ (number : ℕ) (given : List SlotGiven) (slots : List Slot) (old new : KeptPaths) (shared : AreShared old.paths)
     (is : new.paths ≡ paths_after (moves_of_all (changes_given number given slots) old.paths) old.paths)
     (spare : (id : ℕ) → spare_of id old ≤ spare_of id new + count_in id (moves_of_all (changes_given number given slots) old.paths)) where
@@ -78,46 +67,27 @@ module _ (number : ℕ) (given : List SlotGiven) (slots : List Slot) (old new : 
   abbrev entries : Numbered KeptPath → List Entry
   entries = λ path. entries_after (is_falling path.item.spec.ties) path.number made path.item.entries
 
-  -- the member's own paths
-  pub room-given : (changes : ℕ) → HaveRoom number (changes + length given) old → HaveRoom number changes new
-  room-given changes had =
-      subst (λ (paths : NumberedPaths). All (λ (path : Numbered KeptPath). Any (λ (f : PathFormat). f.member ≡ number) path.item.spec.formats
-      → changes * length path.item.spec.formats ≤ spare_of path.number new) paths) (sym is)
-      (All-map (λ (path : Numbered KeptPath). Any (λ (f : PathFormat). f.member ≡ number) path.item.spec.formats → changes * length path.item.spec.formats ≤ spare_of path.number new)
-      (with_entries entries) old.paths
-      (λ k d low any.
-      let path = get_or old.paths k d in
-      left-over changes (length given) (length path.item.spec.formats) (cond (is_over number path.item.spec) (length path.item.spec.formats) 0) (count_in path.number made)
-      (spare_of path.number old) (spare_of path.number new) (had k d low any) (given-few number old.paths shared k d low given slots)
-      (fits-formats (is_over number path.item.spec) (length path.item.spec.formats)) (spare path.number)))
-
-  -- those of other members have none of the moves
-  pub room-others : (files : Named FileState) (member changes : ℕ) → All (λ (path : Numbered KeptPath). IsOfOwner files path.item.spec) old.paths → member ≢ number
-      → HaveRoom member changes old → HaveRoom member changes new
-  room-others files member changes owned differs had =
-      subst (λ (paths : NumberedPaths). All (λ (path : Numbered KeptPath). Any (λ (f : PathFormat). f.member ≡ member) path.item.spec.formats
-      → changes * length path.item.spec.formats ≤ spare_of path.number new) paths) (sym is)
-      (All-map (λ (path : Numbered KeptPath). Any (λ (f : PathFormat). f.member ≡ member) path.item.spec.formats → changes * length path.item.spec.formats ≤ spare_of path.number new)
-      (with_entries entries) old.paths
-      (λ k d low any. one (get_or old.paths k d) (owned k d low) (had k d low) (given-few number old.paths shared k d low given slots) any))
+  -- the paths over the member have the memory for so many more still
+  pub room-given : (count : PathSpec → ℕ) → HaveSpares (λ spec. count spec + so_many (is_over number spec) (length given)) old → HaveSpares count new
+  room-given count had =
+      subst (λ (paths : NumberedPaths). All (λ (path : Numbered KeptPath). count path.item.spec * length path.item.spec.formats ≤ spare_of path.number new) paths) (sym is)
+      (All-map (λ (path : Numbered KeptPath). count path.item.spec * length path.item.spec.formats ≤ spare_of path.number new) (with_entries entries) old.paths
+      (λ k d low. one (get_or old.paths k d) (is_over number (get_or old.paths k d).item.spec) (had k d low) (given-few number old.paths shared k d low given slots)))
     where
-      one : (path : Numbered KeptPath) → IsOfOwner files path.item.spec
-          → (Any (λ (f : PathFormat). f.member ≡ member) path.item.spec.formats → changes * length path.item.spec.formats ≤ spare_of path.number old)
-          → count_in path.number made ≤ length given * cond (is_over number path.item.spec) (length path.item.spec.formats) 0
-          → Any (λ (f : PathFormat). f.member ≡ member) path.item.spec.formats → changes * length path.item.spec.formats ≤ spare_of path.number new
-      one path file h few any =
-          let its = of-file files path.item.spec file in
-          let own : member ≡ its.0 = any-own its.0 member path.item.spec its.1 any in
-          let other : number ≢ its.0 = (λ same. differs (own ∙ sym same)) in
-          let none : count_in path.number made ≤ length given * 0 =
-          subst (λ (b : Bool). count_in path.number made ≤ length given * cond b (length path.item.spec.formats) 0) (over-other its.0 number path.item.spec its.1 other) few in
-          let had_room = h any in
-          let s = spare path.number in
-          omega (arith, had_room, none, s)
+      one : (path : Numbered KeptPath) (b : Bool) → (count path.item.spec + so_many b (length given)) * length path.item.spec.formats ≤ spare_of path.number old
+          → count_in path.number (moves_of_all (changes_given number given slots) old.paths) ≤ length given * cond b (length path.item.spec.formats) 0
+          → count path.item.spec * length path.item.spec.formats ≤ spare_of path.number new
+      one path true h few =
+          left-over (count path.item.spec) (length given) (length path.item.spec.formats) (length path.item.spec.formats)
+          (count_in path.number (moves_of_all (changes_given number given slots) old.paths)) (spare_of path.number old) (spare_of path.number new) h few (omega arith) (spare path.number)
+      one path false h few =
+          left-over (count path.item.spec) 0 (length path.item.spec.formats) 0
+          (count_in path.number (moves_of_all (changes_given number given slots) old.paths)) (spare_of path.number old) (spare_of path.number new) h (omega (arith, few)) (omega arith)
+          (spare path.number)
 
   -- the paths are those of the members after the last slot
   pub IsIndexed-given : (files : Named FileState) (before after : NumberedMembers) (jobs : List JobState) (orders : List (Named OpenOrder)) (moves : List (List (List PathMove)))
-      → LeadTo (changes_given number given slots) before after → HaveRoom number (changes_on number jobs + length given) old → AreOfBytes after → IsIndexed files before jobs orders moves old
+      → LeadTo (changes_given number given slots) before after → HaveSpares (λ spec. changes_over spec jobs + so_many (is_over number spec) (length given)) old → AreOfBytes after → IsIndexed files before jobs orders moves old
       → IsIndexed files after jobs orders moves new
   IsIndexed-given files before after jobs orders moves lead room bytes indexed = record {
     paths = subst (ArePaths files after) (sym is)
@@ -125,24 +95,41 @@ module _ (number : ℕ) (given : List SlotGiven) (slots : List Slot) (old new : 
     orders = subst (λ (p : NumberedPaths). AllZip (OpensRead files p) jobs orders) (sym is)
         (orders-stay files files old.paths (map (with_entries entries) old.paths) (files-stay files) (any-with entries old.paths) jobs orders indexed.orders);
     moves = indexed.moves ∙ sym (moves-stay old.paths new.paths (λ c. ap (moves_in c) is ∙ moves-with entries c old.paths) jobs);
-    room = λ member. elim (cases_eq member number) [
-      | inl same ↦ subst (λ (n : ℕ). HaveRoom n (changes_on n jobs) new) (sym same) (room-given (changes_on number jobs) room)
-      | inr differs ↦ room-others files member (changes_on member jobs) (kept-of files before old.paths indexed.views shared indexed.paths) differs (indexed.room member)
-    ];
+    room = room-given (λ spec. changes_over spec jobs) room;
     bytes = bytes;
     views = indexed.views;
   }
 
 -- ---- room for all of them, and for taking them back
 
--- where there is room for all changes that are held, there is for those of a member
+-- where the paths over a member have room for all changes that are held, they have for those that they are over
 module _ (files : Named FileState) (members : NumberedMembers) (jobs : List JobState) (orders : List (Named OpenOrder)) (moves : List (List (List PathMove))) (number : ℕ) (kept : KeptPaths) where
   pub room-of-all : (given : List SlotGiven) → (1 ≤ length given → HaveRoom number (changes_held jobs + 2 * length given) kept) → IsIndexed files members jobs orders moves kept
-      → HaveRoom number (changes_on number jobs + length given + length given) kept
-  room-of-all [] had indexed = room-fewer number (changes_on number jobs + 0 + 0) (changes_on number jobs) kept (omega arith) (indexed.room number)
+      → HaveSpares (λ spec. changes_over spec jobs + so_many (is_over number spec) (length given + length given)) kept
+  room-of-all [] had indexed = spares-fewer (λ spec. changes_over spec jobs + so_many (is_over number spec) 0) (λ spec. changes_over spec jobs) kept (λ spec. none spec (is_over number spec)) indexed.room
+    where
+      none : (spec : PathSpec) (b : Bool) → changes_over spec jobs + so_many b 0 ≤ changes_over spec jobs
+      none spec true = omega arith
+      none spec false = omega arith
   room-of-all (g ∷ given) had indexed =
-      let fewer = changes-held number jobs in
-      room-fewer number (changes_on number jobs + length (g ∷ given) + length (g ∷ given)) (changes_held jobs + 2 * length (g ∷ given)) kept (omega (arith, fewer)) (had (omega arith))
+      spares-with number (length (g ∷ given) + length (g ∷ given)) (changes_held jobs + 2 * length (g ∷ given)) (λ spec. changes_over spec jobs) kept
+      (λ spec. let fewer = changes-held spec jobs in omega (arith, fewer)) (had (omega arith)) indexed.room
+
+-- half of that
+pub half-room : (number given : ℕ) (count : PathSpec → ℕ) (kept : KeptPaths) → HaveSpares (λ spec. count spec + so_many (is_over number spec) (given + given)) kept
+    → HaveSpares (λ spec. count spec + so_many (is_over number spec) given) kept
+half-room number given count kept =
+    spares-fewer (λ spec. count spec + so_many (is_over number spec) given) (λ spec. count spec + so_many (is_over number spec) (given + given)) kept (λ spec. fewer (count spec) (is_over number spec))
+  where
+    fewer : (n : ℕ) (b : Bool) → n + so_many b given ≤ n + so_many b (given + given)
+    fewer n true = omega arith
+    fewer n false = omega arith
+
+-- and that of the member alone
+pub own-room : (number most : ℕ) (count : PathSpec → ℕ) (kept : KeptPaths) → HaveSpares (λ spec. count spec + so_many (is_over number spec) most) kept → HaveRoom number most kept
+own-room number most count kept =
+    room-of_spares number most (λ spec. count spec + so_many (is_over number spec) most) kept
+    (λ spec over. let own : so_many (is_over number spec) most ≡ most = ap (λ (b : Bool). so_many b most) over in omega (arith, own))
 
 own-given : (number : ℕ) (given : List SlotGiven) (slots : List Slot) → AllByRecursion (λ (c : RecordChange). c.member ≡ number) (changes_given number given slots)
 own-given number [] slots = tt
@@ -194,58 +181,39 @@ count-back id (x ∷ xs) = by (x.id == id) (count-back id xs)
     by false same = same
 
 -- so much is left once the moves were made and taken back
-left-twice : (more many formats most count old new : ℕ) → (more + many + many) * formats ≤ old → count ≤ many * most → most ≤ formats → old ≤ new + count + count → more * formats ≤ new
+left-twice : (more many formats most count old new : ℕ) → (more + (many + many)) * formats ≤ old → count ≤ many * most → most ≤ formats → old ≤ new + count + count → more * formats ≤ new
 left-twice more many formats most count old new had few fits spare =
-    let first = add-mul (more + many) many formats in
-    let second = add-mul more many formats in
+    let first = add-mul more (many + many) formats in
+    let second = add-mul many many formats in
     let fewer = mul-le-mul_left many fits in
     omega (arith, had, few, spare, first, second, fewer)
 
 module _ (number : ℕ) (given : List SlotGiven) (slots : List Slot) (old new : KeptPaths) (shared : AreShared old.paths) (same : new.paths ≡ old.paths)
     (spare : (id : ℕ) → spare_of id old ≤ spare_of id new + count_in id (moves_of_all (changes_given number given slots) old.paths) + count_in id (moves_of_all (changes_given number given slots) old.paths)) where
-  twice-own : (changes : ℕ) → HaveRoom number (changes + length given + length given) old → HaveRoom number changes new
-  twice-own changes had =
-      subst (λ (paths : NumberedPaths). All (λ (path : Numbered KeptPath). Any (λ (f : PathFormat). f.member ≡ number) path.item.spec.formats
-      → changes * length path.item.spec.formats ≤ spare_of path.number new) paths) (sym same)
-      (λ k d low any.
-      let path = get_or old.paths k d in
-      left-twice changes (length given) (length path.item.spec.formats) (cond (is_over number path.item.spec) (length path.item.spec.formats) 0)
-      (count_in path.number (moves_of_all (changes_given number given slots) old.paths)) (spare_of path.number old) (spare_of path.number new) (had k d low any)
-      (given-few number old.paths shared k d low given slots) (fits-formats (is_over number path.item.spec) (length path.item.spec.formats)) (spare path.number))
-
-  twice-others : (files : Named FileState) (member changes : ℕ) → All (λ (path : Numbered KeptPath). IsOfOwner files path.item.spec) old.paths → member ≢ number
-      → HaveRoom member changes old → HaveRoom member changes new
-  twice-others files member changes owned differs had =
-      subst (λ (paths : NumberedPaths). All (λ (path : Numbered KeptPath). Any (λ (f : PathFormat). f.member ≡ member) path.item.spec.formats
-      → changes * length path.item.spec.formats ≤ spare_of path.number new) paths) (sym same)
-      (λ k d low any. one (get_or old.paths k d) (owned k d low) (had k d low) (given-few number old.paths shared k d low given slots) any)
+  twice-left : (count : PathSpec → ℕ) → HaveSpares (λ spec. count spec + so_many (is_over number spec) (length given + length given)) old → HaveSpares count new
+  twice-left count had =
+      subst (λ (paths : NumberedPaths). All (λ (path : Numbered KeptPath). count path.item.spec * length path.item.spec.formats ≤ spare_of path.number new) paths) (sym same)
+      (λ k d low. one (get_or old.paths k d) (is_over number (get_or old.paths k d).item.spec) (had k d low) (given-few number old.paths shared k d low given slots))
     where
-      one : (path : Numbered KeptPath) → IsOfOwner files path.item.spec
-          → (Any (λ (f : PathFormat). f.member ≡ member) path.item.spec.formats → changes * length path.item.spec.formats ≤ spare_of path.number old)
-          → count_in path.number (moves_of_all (changes_given number given slots) old.paths) ≤ length given * cond (is_over number path.item.spec) (length path.item.spec.formats) 0
-          → Any (λ (f : PathFormat). f.member ≡ member) path.item.spec.formats → changes * length path.item.spec.formats ≤ spare_of path.number new
-      one path file h few any =
-          let its = of-file files path.item.spec file in
-          let own : member ≡ its.0 = any-own its.0 member path.item.spec its.1 any in
-          let other : number ≢ its.0 = (λ same. differs (own ∙ sym same)) in
-          let none : count_in path.number (moves_of_all (changes_given number given slots) old.paths) ≤ length given * 0 =
-          subst (λ (b : Bool). count_in path.number (moves_of_all (changes_given number given slots) old.paths) ≤ length given * cond b (length path.item.spec.formats) 0)
-          (over-other its.0 number path.item.spec its.1 other) few in
-          let had_room = h any in
-          let s = spare path.number in
-          omega (arith, had_room, none, s)
+      one : (path : Numbered KeptPath) (b : Bool) → (count path.item.spec + so_many b (length given + length given)) * length path.item.spec.formats ≤ spare_of path.number old
+          → count_in path.number (moves_of_all (changes_given number given slots) old.paths) ≤ length given * cond b (length path.item.spec.formats) 0
+          → count path.item.spec * length path.item.spec.formats ≤ spare_of path.number new
+      one path true h few =
+          left-twice (count path.item.spec) (length given) (length path.item.spec.formats) (length path.item.spec.formats)
+          (count_in path.number (moves_of_all (changes_given number given slots) old.paths)) (spare_of path.number old) (spare_of path.number new) h few (omega arith) (spare path.number)
+      one path false h few =
+          left-twice (count path.item.spec) 0 (length path.item.spec.formats) 0
+          (count_in path.number (moves_of_all (changes_given number given slots) old.paths)) (spare_of path.number old) (spare_of path.number new) h (omega (arith, few)) (omega arith)
+          (spare path.number)
 
   -- the paths are those of the members as they were
   pub IsIndexed-undone : (files : Named FileState) (members : NumberedMembers) (jobs : List JobState) (orders : List (Named OpenOrder)) (moves : List (List (List PathMove)))
-      → HaveRoom number (changes_on number jobs + length given + length given) old → IsIndexed files members jobs orders moves old → IsIndexed files members jobs orders moves new
+      → HaveSpares (λ spec. changes_over spec jobs + so_many (is_over number spec) (length given + length given)) old → IsIndexed files members jobs orders moves old → IsIndexed files members jobs orders moves new
   IsIndexed-undone files members jobs orders moves room indexed = record {
     paths = subst (ArePaths files members) (sym same) indexed.paths;
     orders = subst (λ (p : NumberedPaths). AllZip (OpensRead files p) jobs orders) (sym same) indexed.orders;
     moves = indexed.moves ∙ ap (λ (p : NumberedPaths). map (moves_of_job p) jobs) (sym same);
-    room = λ member. elim (cases_eq member number) [
-      | inl own ↦ subst (λ (n : ℕ). HaveRoom n (changes_on n jobs) new) (sym own) (twice-own (changes_on number jobs) room)
-      | inr differs ↦ twice-others files member (changes_on member jobs) (kept-of files members old.paths indexed.views shared indexed.paths) differs (indexed.room member)
-    ];
+    room = twice-left (λ spec. changes_over spec jobs) room;
     bytes = indexed.bytes;
     views = indexed.views;
   }

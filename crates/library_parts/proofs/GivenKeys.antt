@@ -44,7 +44,7 @@ use Rattle.library_parts.specs.declared.stop.Stop.{Stop}
 use Rattle.library_parts.specs.declared.stop.Stop.TheVariants.{NoMemory, Refused}
 use Rattle.library_parts.specs.Answers.{MayAllow}
 use Rattle.library_parts.specs.Given.{given_to, members_given, with_given, AreTold, FitsMember, IsTold, MayGive}
-use Rattle.library_parts.specs.Indexed.{AreViews, HasBytes, IsIndexed, IsSimple, IsView, IsViewBeside}
+use Rattle.library_parts.specs.Indexed.{AreViews, HasBytes, IsIndexed, IsUnjoined, IsView, IsViewBeside}
 use Rattle.library_parts.specs.Keyed.{AllAreKeyed}
 use Rattle.lawful_states.specs.Lawful.{HoldsValues, IsLibrary}
 use Rattle.lawful_states.specs.Slots.{MayStand}
@@ -83,7 +83,7 @@ uniques_from member m files = flat_map (λ entry. uniques_by entry.1.spec m memb
 -- what is known of a file at a place
 abbrev pub TellsAt : (files : Named FileState) → NumberedPaths → (member place : ℕ) → Result (Unit {0}) Stop → Type 0
 TellsAt files paths member place result =
-    (m later : Memory) (entry : List ℕ × FileState) → m.files ≡ files → slice_get files place ≡ Some entry → IsSimple entry.1.spec
+    (m later : Memory) (entry : List ℕ × FileState) → m.files ≡ files → slice_get files place ≡ Some entry → IsUnjoined entry.1.spec
     → AllByRecursion (IsTold later.members paths) (uniques_by entry.1.spec m member entry) → MayAllow result (all_apart (uniques_by entry.1.spec m member entry) later)
 
 -- and of all of them
@@ -96,9 +96,9 @@ pub record AreApartTo (files : Named FileState) (paths : NumberedPaths) (member 
   pub rest : (m later : Memory) → m.files ≡ files → AreViews files → AreTold member m later.members paths
       → all_apart (unique_paths member m) later ≡ all_apart (uniques_from member m (drop place files)) later
 
-simple-of : (files : Named FileState) (spec : FileSpec) → IsViewBeside files spec → IsSimple spec
-simple-of files (PhysicalFile spec) is = tt
-simple-of files (LogicalFile spec) is = is.simple
+unjoined-of : (files : Named FileState) (spec : FileSpec) → IsViewBeside files spec → IsUnjoined spec
+unjoined-of files (PhysicalFile spec) is = tt
+unjoined-of files (LogicalFile spec) is = is.unjoined
 
 module _ (files : Named FileState) (paths : NumberedPaths) (member : ℕ) where
   pub apart-first : AreApartTo files paths member 0
@@ -115,9 +115,9 @@ module _ (files : Named FileState) (paths : NumberedPaths) (member : ℕ) where
       flat-at (IsTold later.members paths) (λ (e : List ℕ × FileState). uniques_by e.1.spec m member e) files place entry
       (subst (λ (fs : Named FileState). AllByRecursion (IsTold later.members paths) (uniques_from member m fs)) same told) at
 
-  pub simple-at : (place : ℕ) (entry : List ℕ × FileState) → AreViews files → slice_get files place ≡ Some entry → IsSimple entry.1.spec
-  simple-at place entry views at =
-      simple-of files entry.1.spec (AllByRecursion-get (λ (e : List ℕ × FileState). IsViewBeside files e.1.spec) files place entry views at)
+  pub unjoined-at : (place : ℕ) (entry : List ℕ × FileState) → AreViews files → slice_get files place ≡ Some entry → IsUnjoined entry.1.spec
+  unjoined-at place entry views at =
+      unjoined-of files entry.1.spec (AllByRecursion-get (λ (e : List ℕ × FileState). IsViewBeside files e.1.spec) files place entry views at)
 
   pub apart-next : (place : ℕ) → place < length files → TellsAt files paths member place (Ok tt) → AreApartTo files paths member place → AreApartTo files paths member (place + 1)
   apart-next place low tells is = record {
@@ -127,7 +127,7 @@ module _ (files : Named FileState) (paths : NumberedPaths) (member : ℕ) where
         is.rest m later same views told
         ∙ ap (λ (us : List UniquePath). all_apart us later) (split-at place here.0 m here.1)
         ∙ apart-append (uniques_by here.0.1.spec m member here.0) (uniques_from member m (drop (suc place) files)) later
-        (tells m later here.0 same here.1 (simple-at place here.0 views here.1) (told-at place here.0 m later same told here.1))
+        (tells m later here.0 same here.1 (unjoined-at place here.0 views here.1) (told-at place here.0 m later same told here.1))
         ∙ ap (λ (n : ℕ). all_apart (uniques_from member m (drop n files)) later) behind;
   }
 
@@ -138,7 +138,7 @@ module _ (files : Named FileState) (paths : NumberedPaths) (member : ℕ) where
       is.rest m later same views told
       ∙ ap (λ (us : List UniquePath). all_apart us later) (split-at place here.0 m here.1)
       ∙ apart-refused (uniques_by here.0.1.spec m member here.0) (uniques_from member m (drop (suc place) files)) later reply
-      (tells m later here.0 same here.1 (simple-at place here.0 views here.1) (told-at place here.0 m later same told here.1))
+      (tells m later here.0 same here.1 (unjoined-at place here.0 views here.1) (told-at place here.0 m later same told here.1))
 
   pub apart-end : (place : ℕ) → length files ≤ place → AreApartTo files paths member place → TellsAll files paths member (Ok tt)
   apart-end place all is = λ m later same views told.
@@ -249,8 +249,8 @@ module _ (s : State) (number : ℕ) (given : List SlotGiven) (orders : List (Nam
         | true ↦ (told, tt)
         | false ↦ tt
       ]
-  logical-told name file here (Multi views) is its = absurd its.simple
-  logical-told name file here (Join view) is its = absurd its.simple
+  logical-told name file here (Multi views) is its = tt
+  logical-told name file here (Join view) is its = absurd its.unjoined
 
   file-told : (name : List ℕ) (file : FileState) → named name s.files ≡ Some file
       → AllByRecursion (IsTold (members_given number given s.members) now.paths) (uniques_by file.spec (memory_of s) number (name, file))

@@ -6,6 +6,7 @@ use Rattle.member_slots.specs.Members.{member_of}
 use Rattle.path_set.specs.declared.moves.PathMove.{PathMove}
 use Rattle.path_set.specs.KeptPaths.{KeptPaths, NumberedPaths, AreShared, spare_of}
 use Rattle.path_set.specs.ManyChanges.{LeadTo, moves_of_all}
+use Rattle.path_set.specs.MemberSteps.{is_over}
 use Rattle.path_set.specs.RecordChanges.{CanBeMade, HaveRoom, count_in, opposites, paths_after}
 use Rattle.path_set.proofs.ManyLemmas.{shared-after}
 use Rattle.given_changes.specs.GivenChanges.{changes_given}
@@ -15,10 +16,10 @@ use Rattle.library_model.specs.Named.{Named}
 use Rattle.library_steps.specs.State.{State}
 use Rattle.range_images.specs.declared.slot_given.SlotGiven.{SlotGiven}
 use Rattle.library_parts.specs.Given.{MayGive, members_given}
-use Rattle.library_parts.specs.Indexed.{HasBytes, IsIndexed, changes_on}
-use Rattle.library_parts.proofs.GivenIndex.{IsIndexed-given, IsIndexed-undone, count-back, given-back, given-made, given-undone, room-of-all}
+use Rattle.library_parts.specs.Indexed.{HasBytes, HaveSpares, IsIndexed, changes_over}
+use Rattle.library_parts.proofs.GivenIndex.{IsIndexed-given, IsIndexed-undone, count-back, given-back, given-made, given-undone, half-room, own-room, room-of-all}
 use Rattle.library_parts.proofs.GivenLemmas.{given-bytes, given-leads}
-use Rattle.library_parts.proofs.IndexPaths.{room-fewer}
+use Rattle.library_parts.proofs.IndexPaths.{room-fewer, so_many}
 
 module _ (s : State) (orders : List (Named OpenOrder)) (moves : List (List (List PathMove))) (kept : KeptPaths) (number : ℕ) (given : List SlotGiven) (made : List PathMove) (shared : AreShared kept.paths)
     (indexed : IsIndexed s.files s.members s.jobs orders moves kept) (may : MayGive s number given)
@@ -26,16 +27,19 @@ module _ (s : State) (orders : List (Named OpenOrder)) (moves : List (List (List
   lead : LeadTo (changes_given number given (member_of number s.members).slots) s.members (members_given number given s.members)
   lead = given-leads number given s.members may.there may.takes
 
-  all-room : HaveRoom number (changes_on number s.jobs + length given + length given) kept
+  all-room : HaveSpares (λ spec. changes_over spec s.jobs + so_many (is_over number spec) (length given + length given)) kept
   all-room = room-of-all s.files s.members s.jobs orders moves number kept given room indexed
 
-  own-room : HaveRoom number (length given) kept
-  own-room = room-fewer number (length given) (changes_on number s.jobs + length given + length given) kept (omega arith) all-room
+  twice-room : HaveRoom number (length given + length given) kept
+  twice-room = own-room number (length given + length given) (λ spec. changes_over spec s.jobs) kept all-room
+
+  once-room : HaveRoom number (length given) kept
+  once-room = room-fewer number (length given) (length given + length given) kept (omega arith) twice-room
 
   pub giving-made : CanBeMade made kept
   giving-made =
       subst (λ (w : List PathMove). CanBeMade w kept) (sym same)
-      (given-made number given (member_of number s.members).slots s.members (members_given number given s.members) kept lead shared indexed.paths.over own-room)
+      (given-made number given (member_of number s.members).slots s.members (members_given number given s.members) kept lead shared indexed.paths.over once-room)
 
   -- the moves are made
   module _ (now : KeptPaths) (is : now.paths ≡ paths_after made kept.paths) (spare : (id : ℕ) → spare_of id kept ≤ spare_of id now + count_in id made) where
@@ -52,7 +56,7 @@ module _ (s : State) (orders : List (Named OpenOrder)) (moves : List (List (List
     pub giving-indexed : AllByRecursion (λ (g : SlotGiven). HasBytes g.slot) given → IsIndexed s.files (members_given number given s.members) s.jobs orders moves now
     giving-indexed bytes =
         IsIndexed-given number given (member_of number s.members).slots kept now shared now-is now-spare s.files s.members (members_given number given s.members) s.jobs orders moves lead
-        (room-fewer number (changes_on number s.jobs + length given) (changes_on number s.jobs + length given + length given) kept (omega arith) all-room)
+        (half-room number (length given) (λ spec. changes_over spec s.jobs) kept all-room)
         (given-bytes number given s.members indexed.bytes bytes) indexed
 
     -- or the moves are taken back
@@ -64,13 +68,13 @@ module _ (s : State) (orders : List (Named OpenOrder)) (moves : List (List (List
       giving-back =
           subst (λ (w : List PathMove). CanBeMade w now) (sym reversed-is)
           (given-back number given (member_of number s.members).slots s.members (members_given number given s.members) kept lead shared indexed.paths.over now
-          (room-fewer number (length given + length given) (changes_on number s.jobs + length given + length given) kept (omega arith) all-room) now-is now-spare)
+          twice-room now-is now-spare)
 
       pub giving-undone : (later : KeptPaths) → later.paths ≡ paths_after (reverse back) now.paths → ((id : ℕ) → spare_of id now ≤ spare_of id later + count_in id back)
           → IsIndexed s.files s.members s.jobs orders moves later
       giving-undone later undone left =
           let paths : later.paths ≡ kept.paths =
-          given-undone number given (member_of number s.members).slots s.members (members_given number given s.members) kept lead shared indexed.paths.over now later own-room now-is
+          given-undone number given (member_of number s.members).slots s.members (members_given number given s.members) kept lead shared indexed.paths.over now later once-room now-is
           (undone ∙ ap (λ (w : List PathMove). paths_after w now.paths) reversed-is) in
           IsIndexed-undone number given (member_of number s.members).slots kept later shared paths
           (λ id.

@@ -1,22 +1,22 @@
 -- While the changes of a commit cycle are taken back one after another, the last one first, the kept paths are those of the members as they are then.
-use Rattle.std.proofs.Common.{ℕ, zero, suc, ◌+◌, ◌-◌, ◌<◌, ◌≤◌, ◌≡◌, ◌≢◌, ◌==◌, if◌then◌else◌, IsTrue, true, false, inl, inr, List, [], ◌∷◌, length, map, get_or, slice_get, Some, None, refl, sym, ap, arith, ◌∙◌, subst}
+use Rattle.std.proofs.Common.{ℕ, zero, suc, ◌+◌, ◌-◌, ◌<◌, ◌≤◌, ◌≡◌, ◌==◌, if◌then◌else◌, IsTrue, Bool, true, false, cond, List, [], ◌∷◌, length, map, get_or, slice_get, Some, None, refl, sym, ap, arith, ◌∙◌, subst}
 use Rattle.std.specs.Prelude.{filter}
 use Rattle.std.specs.List.{AllByRecursion}
-use Rattle.std.proofs.lemmas.Bool.{cases_eq, cond-true, cond-false, ne_eqb}
-use Rattle.std.proofs.lemmas.Bool.Decides.{nat_tests}
+use Rattle.std.proofs.lemmas.Bool.{cond-false, ne_eqb}
 use Rattle.member_slots.specs.declared.slot.Slot.{Slot}
 use Rattle.member_slots.specs.Member.{MemberState, slot_at, changed}
 use Rattle.member_slots.specs.Members.{NumberedMembers, member_of}
+use Rattle.file_model.specs.declared.paths.PathSpec.{PathSpec}
 use Rattle.journal_model.specs.Places.{slot_of}
 use Rattle.journal_model.specs.Replay.{before_of}
 use Rattle.journal_model.specs.Rollback.{MemberChange}
 use Rattle.path_set.specs.declared.moves.PathMove.{PathMove}
 use Rattle.path_set.specs.KeptPaths.{KeptPaths, NumberedPaths, AreShared, spare_of}
-use Rattle.path_set.specs.RecordChanges.{reversed, moves_in, paths_after, HaveRoom, CanBeMade, count_in}
+use Rattle.path_set.specs.MemberSteps.{is_over}
+use Rattle.path_set.specs.RecordChanges.{reversed, moves_in, paths_after, CanBeMade, count_in}
 use Rattle.path_set.specs.MemberChanges.{IsRecordChange}
 use Rattle.path_set.proofs.MemberStepLemmas.{replaced-changes}
 use Rattle.path_set.proofs.RecordLemmas.{paths-made, moves-later}
-use Rattle.path_set.proofs.RoomLemmas.{room-falls}
 use Rattle.job_table.specs.Opens.{OpenOrder}
 use Rattle.job_table.specs.Table.{changed_at, job_of_number}
 use Rattle.library_model.specs.Named.{Named}
@@ -26,15 +26,15 @@ use Rattle.library_steps.specs.History.{is_running}
 use Rattle.library_steps.specs.State.{FileState, JobState, job_at, job_changed, or_new, with_opens}
 use Rattle.library_steps.specs.Uses.{changes_in}
 use Rattle.lawful_states.specs.Back.{member_back}
-use Rattle.library_parts.specs.Indexed.{HasBytes, record_change, moves_back, moves_of_job, changes_on, IsIndexed}
+use Rattle.library_parts.specs.Indexed.{HasBytes, record_change, moves_back, moves_of_job, changes_over, IsIndexed}
 use Rattle.lawful_states.specs.Lawful.{FitsPlace}
 use Rattle.library_parts.specs.Standing.{StandAsMade}
-use Rattle.library_parts.specs.TakingBack.{IsTakingBack, CanTakeBack, count_of}
+use Rattle.library_parts.specs.TakingBack.{IsTakingBack, CanTakeBack, count_over}
 use Rattle.lawful_states.proofs.BackLemmas.{FitsPlace-with}
 use Rattle.lawful_states.proofs.MemberLemmas.{length-changed, record_length-changed}
-use Rattle.library_parts.proofs.IndexPaths.{count_on, changes_on-cons, kept-of, room-fewer}
+use Rattle.library_parts.proofs.IndexPaths.{counted_in, changes_over-cons, room-of_spares, so_many, spares-fewer}
 use Rattle.library_parts.proofs.IndexChanges.{IsIndexed-ended, IsIndexed-rolled_back}
-use Rattle.library_parts.proofs.IndexRecords.{IsIndexed-made, bytes-changed, bytes-member, bytes-with, room-other}
+use Rattle.library_parts.proofs.IndexRecords.{IsIndexed-made, bytes-changed, bytes-member, bytes-with, spares-fall}
 
 -- ---- the beginning
 
@@ -55,29 +55,29 @@ moves-at paths jobs moves number running is =
     got (job ∷ js) (suc place) h = got js place h
 
 -- the changes of a job's commit cycle, and those of all jobs without it
-counted-over : (member place : ℕ) (change : JobState → JobState) (jobs : List JobState) → ((job : JobState) → changes_in (change job).cycle ≡ [])
-    → changes_on member jobs ≡ count_of member (changes_in (or_new (slice_get jobs place)).cycle) + changes_on member (job_changed place change jobs)
-counted-over member place change [] none = omega arith
-counted-over member zero change (job ∷ jobs) none =
-    let before = changes_on-cons member job jobs in
-    let after = changes_on-cons member (change job) jobs in
-    let gone : count_on member (change job) ≡ 0 = ap (count_of member) (none job) in
+counted-over : (spec : PathSpec) (place : ℕ) (change : JobState → JobState) (jobs : List JobState) → ((job : JobState) → changes_in (change job).cycle ≡ [])
+    → changes_over spec jobs ≡ count_over spec (changes_in (or_new (slice_get jobs place)).cycle) + changes_over spec (job_changed place change jobs)
+counted-over spec place change [] none = omega arith
+counted-over spec zero change (job ∷ jobs) none =
+    let before = changes_over-cons spec job jobs in
+    let after = changes_over-cons spec (change job) jobs in
+    let gone : counted_in spec (change job) ≡ 0 = ap (count_over spec) (none job) in
     omega (arith, before, after, gone)
-counted-over member (suc place) change (job ∷ jobs) none =
-    let before = changes_on-cons member job jobs in
-    let after = changes_on-cons member job (job_changed place change jobs) in
-    let rest = counted-over member place change jobs none in
+counted-over spec (suc place) change (job ∷ jobs) none =
+    let before = changes_over-cons spec job jobs in
+    let after = changes_over-cons spec job (job_changed place change jobs) in
+    let rest = counted-over spec place change jobs none in
     omega (arith, before, after, rest)
 
 module _ (files : Named FileState) (members : NumberedMembers) (jobs : List JobState) (orders : List (Named OpenOrder)) (moves : List (List (List PathMove))) (kept : KeptPaths)
     (number : ℕ) (running : IsTrue (is_running (job_at number jobs))) (steps : List (List PathMove)) where
-  counted : (member : ℕ) (change : JobState → JobState) → ((job : JobState) → changes_in (change job).cycle ≡ [])
-      → changes_on member jobs ≡ count_of member (changes_in (job_of_number number jobs).cycle) + changes_on member (job_changed (number - 1) change jobs)
-  counted member change none =
+  counted : (spec : PathSpec) (change : JobState → JobState) → ((job : JobState) → changes_in (change job).cycle ≡ [])
+      → changes_over spec jobs ≡ count_over spec (changes_in (job_of_number number jobs).cycle) + changes_over spec (job_changed (number - 1) change jobs)
+  counted spec change none =
       elim (number == 0) as (λ b. IsTrue (is_running (if b then None else slice_get jobs (number - 1)))
-      → changes_on member jobs ≡ count_of member (changes_in (or_new (if b then None else slice_get jobs (number - 1))).cycle) + changes_on member (job_changed (number - 1) change jobs)) [
+      → changes_over spec jobs ≡ count_over spec (changes_in (or_new (if b then None else slice_get jobs (number - 1))).cycle) + changes_over spec (job_changed (number - 1) change jobs)) [
         | true ↦ λ h. absurd cc
-        | false ↦ λ h. counted-over member (number - 1) change jobs none
+        | false ↦ λ h. counted-over spec (number - 1) change jobs none
       ] running
 
   taking-first : (change : JobState → JobState) (others : List (Named OpenOrder)) (later : List (List (List PathMove))) → ((job : JobState) → changes_in (change job).cycle ≡ [])
@@ -88,7 +88,8 @@ module _ (files : Named FileState) (members : NumberedMembers) (jobs : List JobS
   taking-first change others later none over indexed same fit stand = record {
     indexed = over;
     same = same;
-    spares = λ member. subst (λ (n : ℕ). HaveRoom member n kept) (counted member change none) (indexed.room member);
+    spares = spares-fewer (λ spec. count_over spec (changes_in (job_of_number number jobs).cycle) + changes_over spec (job_changed (number - 1) change jobs)) (λ spec. changes_over spec jobs) kept
+        (λ spec. let e = counted spec change none in omega (arith, e)) indexed.room;
     fit = fit;
     stand = stand;
   }
@@ -132,15 +133,19 @@ slot-here member place slot low is =
     got (s ∷ slots) zero within = refl
     got (s ∷ slots) (suc at) within = got slots at (omega (arith, within))
 
-count-is : (member : ℕ) (undo : MemberChange) (rest : List MemberChange) → undo.member ≡ member → count_of member (undo ∷ rest) ≡ suc (count_of member rest)
-count-is member undo rest own =
-    ap length (cond-true (undo.member == member) (undo ∷ filter (λ (u : MemberChange). u.member == member) rest) (filter (λ (u : MemberChange). u.member == member) rest)
-    (let e : (undo.member == member) ≡ true = grind (arith, nat_tests) in e))
+count-next : (spec : PathSpec) (undo : MemberChange) (rest : List MemberChange) → count_over spec (undo ∷ rest) ≡ count_over spec rest + so_many (is_over undo.member spec) 1
+count-next spec undo rest = by (is_over undo.member spec)
+  where
+    by : (b : Bool) → length (cond b (undo ∷ filter (λ (u : MemberChange). is_over u.member spec) rest) (filter (λ (u : MemberChange). is_over u.member spec) rest)) ≡ count_over spec rest + so_many b 1
+    by true = omega arith
+    by false = omega arith
 
-count-not : (member : ℕ) (undo : MemberChange) (rest : List MemberChange) → undo.member ≢ member → count_of member (undo ∷ rest) ≡ count_of member rest
-count-not member undo rest other =
-    ap length (cond-false (undo.member == member) (undo ∷ filter (λ (u : MemberChange). u.member == member) rest) (filter (λ (u : MemberChange). u.member == member) rest)
-    (let e : (undo.member == member) ≡ false = grind (arith, nat_tests) in e))
+-- where the path is over its member, it is one of them
+count-some : (spec : PathSpec) (undo : MemberChange) (rest : List MemberChange) (more : ℕ) → is_over undo.member spec ≡ true → 1 ≤ count_over spec (undo ∷ rest) + more
+count-some spec undo rest more over =
+    let next = count-next spec undo rest in
+    let one : so_many (is_over undo.member spec) 1 ≡ 1 = ap (λ (b : Bool). so_many b 1) over in
+    omega (arith, next, one)
 
 -- the places of the others stay
 fits-back : (members : NumberedMembers) (undo : MemberChange) (rest : List MemberChange) → AllByRecursion (FitsPlace members) rest → AllByRecursion (FitsPlace (member_back undo members)) rest
@@ -171,13 +176,13 @@ module _ (files : Named FileState) (jobs : List JobState) (orders : List (Named 
   taking-can taking shared =
       let its = here taking in
       let own : back ≡ moves_back kept.paths undo = head-same its.same in
-      let count = count-is undo.member undo rest refl in
       subst (λ (w : List PathMove). CanBeMade w kept) (sym own)
       (paths-made (reversed (record_change undo)) members (member_back undo members) kept (record {
         changes = back-changes members undo its.fit.0 its.stand.0;
         shared = shared;
         over = its.indexed.paths.over;
-        room = room-fewer undo.member 1 (count_of undo.member (undo ∷ rest) + changes_on undo.member jobs) kept (omega (arith, count)) (its.spares undo.member);
+        room = room-of_spares undo.member 1 (λ spec. count_over spec (undo ∷ rest) + changes_over spec jobs) kept
+            (λ spec over. count-some spec undo rest (changes_over spec jobs) over) its.spares;
       }))
 
   -- they were made, and the slot before the change is put back
@@ -190,26 +195,18 @@ module _ (files : Named FileState) (jobs : List JobState) (orders : List (Named 
       let paths : later.paths ≡ paths_after (moves_back kept.paths undo) kept.paths = is ∙ ap (λ (w : List PathMove). paths_after w kept.paths) own in
       let spares : ((id : ℕ) → spare_of id kept ≤ spare_of id later + count_in id (moves_back kept.paths undo)) =
       λ id. subst (λ (w : List PathMove). spare_of id kept ≤ spare_of id later + count_in id w) own (spare id) in
-      let count = count-is undo.member undo rest refl in
       record {
         indexed = IsIndexed-made files members (member_back undo members) jobs orders moves kept later (reversed (record_change undo)) back shared (back-changes members undo its.fit.0 its.stand.0)
             (record { same = own; paths = is; spares = spare })
-            (room-fewer undo.member (changes_on undo.member jobs + 1) (count_of undo.member (undo ∷ rest) + changes_on undo.member jobs) kept (omega (arith, count)) (its.spares undo.member))
+            (spares-fewer (λ spec. changes_over spec jobs + so_many (is_over undo.member spec) 1) (λ spec. count_over spec (undo ∷ rest) + changes_over spec jobs) kept
+            (λ spec. let next = count-next spec undo rest in omega (arith, next)) its.spares)
             (bytes-with undo.member (changed (member_of undo.member members) (undo.change.place + 1) (before_of undo.change)) members
             (bytes-changed (member_of undo.member members) (undo.change.place + 1) (before_of undo.change) (bytes-member undo.member members its.indexed.bytes) bytes) its.indexed.bytes) its.indexed;
         same = tail-same its.same
             ∙ (λ i. map (λ (u : MemberChange). (sym (ap (moves_in (reversed (record_change u))) is ∙ moves-later (reversed (record_change u)) back kept.paths)) i) rest);
-        spares = λ member. elim (cases_eq undo.member member) [
-          | inl same ↦ (let more_of = count-is member undo rest same in
-              room-falls (reversed (record_change undo)) member (count_of member rest + changes_on member jobs) kept later shared
-              (room-fewer member (count_of member rest + changes_on member jobs + 1) (count_of member (undo ∷ rest) + changes_on member jobs) kept (omega (arith, more_of))
-              (its.spares member)) paths spares)
-          | inr differs ↦ (let same_of = count-not member undo rest differs in
-              room-other files (reversed (record_change undo)) member (count_of member rest + changes_on member jobs) kept later shared
-              (kept-of files members kept.paths its.indexed.views shared its.indexed.paths) paths spares (λ same. differs
-              (sym same))
-              (room-fewer member (count_of member rest + changes_on member jobs) (count_of member (undo ∷ rest) + changes_on member jobs) kept (omega (arith, same_of)) (its.spares member)))
-        ];
+        spares = spares-fall (reversed (record_change undo)) (λ spec. count_over spec rest + changes_over spec jobs) kept later shared paths spares
+            (spares-fewer (λ spec. count_over spec rest + changes_over spec jobs + so_many (is_over undo.member spec) 1) (λ spec. count_over spec (undo ∷ rest) + changes_over spec jobs) kept
+            (λ spec. let next = count-next spec undo rest in omega (arith, next)) its.spares);
         fit = fits-back members undo rest its.fit.1;
         stand = its.stand.1;
       }

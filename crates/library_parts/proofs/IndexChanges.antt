@@ -2,14 +2,14 @@
 use Rattle.std.proofs.Common.{ℕ, zero, suc, ◌+◌, ◌-◌, ◌≤◌, ◌≡◌, ◌==◌, if◌then◌else◌, IsTrue, Bool, true, false, cond, List, [], ◌∷◌, length, map, slice_get, Option, Some, None, refl, sym, ap, arith, ◌∙◌, subst}
 use Rattle.std.specs.Prelude.{filter}
 use Rattle.std.specs.List.{AllZip}
-use Rattle.std.proofs.lemmas.Bool.{eqb-true}
 use Rattle.member_slots.specs.declared.slot.Slot.{Slot}
 use Rattle.member_slots.specs.Members.{NumberedMembers}
+use Rattle.file_model.specs.declared.paths.PathSpec.{PathSpec}
 use Rattle.journal_model.specs.Rollback.{MemberChange}
 use Rattle.path_set.specs.declared.moves.PathMove.{PathMove}
 use Rattle.path_set.specs.KeptPaths.{KeptPaths, NumberedPaths}
-use Rattle.path_set.specs.RecordChanges.{RecordChange, reversed, moves_in, opposites, paths_after, HaveRoom}
-use Rattle.path_set.specs.MemberSteps.{slot_replaced}
+use Rattle.path_set.specs.RecordChanges.{RecordChange, reversed, moves_in, opposites, paths_after}
+use Rattle.path_set.specs.MemberSteps.{is_over, slot_replaced}
 use Rattle.path_set.proofs.RecordLemmas.{moves-opposite, moves-later}
 use Rattle.job_table.specs.Changes.{change_of}
 use Rattle.lawful_states.specs.Jobs.{cycle_from}
@@ -22,8 +22,8 @@ use Rattle.library_steps.specs.History.{is_running}
 use Rattle.library_steps.specs.SlotChange.{noted, with_cycle}
 use Rattle.library_steps.specs.State.{FileState, OpenState, CycleState, JobState, job_at, job_changed, or_new, with_opens}
 use Rattle.library_steps.specs.Uses.{changes_in}
-use Rattle.library_parts.specs.Indexed.{OpensRead, record_change, moves_back, moves_of_job, changes_on, IsIndexed}
-use Rattle.library_parts.proofs.IndexPaths.{count_on, changes_on-cons, changes_on-fewer, room-fewer}
+use Rattle.library_parts.specs.Indexed.{HaveSpares, OpensRead, record_change, moves_back, moves_of_job, changes_over, IsIndexed}
+use Rattle.library_parts.proofs.IndexPaths.{counted_in, changes_over-cons, changes_over-fewer, so_many, spares-fewer}
 use Rattle.library_parts.proofs.IndexOpens.{SameReads, same-open, opens-alike, opens-mapped, zip-changed}
 
 -- ---- a change noted
@@ -44,26 +44,26 @@ noted-moves paths place sequence undo [] = refl
 noted-moves paths zero sequence undo (job ∷ jobs) = λ i. (moves_back paths undo ∷ map (moves_back paths) (from-changes sequence job.cycle i)) ∷ map (moves_of_job paths) jobs
 noted-moves paths (suc place) sequence undo (job ∷ jobs) = ap (λ (w : List (List (List PathMove))). moves_of_job paths job ∷ w) (noted-moves paths place sequence undo jobs)
 
-noted-count : (member place sequence : ℕ) (undo : MemberChange) (jobs : List JobState)
-    → changes_on member (job_changed place (noted_at sequence undo (or_new (slice_get jobs place)).cycle) jobs) ≤ changes_on member jobs + (if undo.member == member then 1 else 0)
-noted-count member place sequence undo [] = omega arith
-noted-count member zero sequence undo (job ∷ jobs) =
-    let before = changes_on-cons member job jobs in
-    let after = changes_on-cons member (noted_at sequence undo job.cycle job) jobs in
-    let more = one (undo.member == member) in
-    let same = ap (λ (undos : List MemberChange). length (filter (λ (u : MemberChange). u.member == member) undos)) (from-changes sequence job.cycle) in
+noted-count : (spec : PathSpec) (place sequence : ℕ) (undo : MemberChange) (jobs : List JobState)
+    → changes_over spec (job_changed place (noted_at sequence undo (or_new (slice_get jobs place)).cycle) jobs) ≤ changes_over spec jobs + so_many (is_over undo.member spec) 1
+noted-count spec place sequence undo [] = omega arith
+noted-count spec zero sequence undo (job ∷ jobs) =
+    let before = changes_over-cons spec job jobs in
+    let after = changes_over-cons spec (noted_at sequence undo job.cycle job) jobs in
+    let more = one (is_over undo.member spec) in
+    let same = ap (λ (undos : List MemberChange). length (filter (λ (u : MemberChange). is_over u.member spec) undos)) (from-changes sequence job.cycle) in
     omega (arith, before, after, more, same)
   where
     one : (b : Bool)
-        → length (cond b (undo ∷ filter (λ (u : MemberChange). u.member == member) (cycle_from sequence job.cycle).undos) (filter (λ (u : MemberChange). u.member == member)
+        → length (cond b (undo ∷ filter (λ (u : MemberChange). is_over u.member spec) (cycle_from sequence job.cycle).undos) (filter (λ (u : MemberChange). is_over u.member spec)
         (cycle_from sequence job.cycle).undos))
-        ≡ length (filter (λ (u : MemberChange). u.member == member) (cycle_from sequence job.cycle).undos) + (if b then 1 else 0)
+        ≡ length (filter (λ (u : MemberChange). is_over u.member spec) (cycle_from sequence job.cycle).undos) + so_many b 1
     one true = omega arith
     one false = omega arith
-noted-count member (suc place) sequence undo (job ∷ jobs) =
-    let before = changes_on-cons member job jobs in
-    let after = changes_on-cons member job (job_changed place (noted_at sequence undo (or_new (slice_get jobs place)).cycle) jobs) in
-    let rest = noted-count member place sequence undo jobs in
+noted-count spec (suc place) sequence undo (job ∷ jobs) =
+    let before = changes_over-cons spec job jobs in
+    let after = changes_over-cons spec job (job_changed place (noted_at sequence undo (or_new (slice_get jobs place)).cycle) jobs) in
+    let rest = noted-count spec place sequence undo jobs in
     omega (arith, before, after, rest)
 
 -- the opens of the jobs stay
@@ -76,31 +76,22 @@ zip-left R zero change (job ∷ jobs) (thing ∷ things) each all = (each job th
 zip-left R (suc place) change (job ∷ jobs) (thing ∷ things) each all = (all.0, zip-left R place change jobs things each all.1)
 
 module _ (files : Named FileState) (members : NumberedMembers) (jobs : List JobState) (orders : List (Named OpenOrder)) (moves : List (List (List PathMove))) (kept : KeptPaths) where
-  noted-place : (place sequence : ℕ) (undo : MemberChange) (back : List PathMove) → back ≡ moves_back kept.paths undo → HaveRoom undo.member (changes_on undo.member jobs + 1) kept
+  noted-place : (place sequence : ℕ) (undo : MemberChange) (back : List PathMove) → back ≡ moves_back kept.paths undo → HaveSpares (λ spec. changes_over spec jobs + so_many (is_over undo.member spec) 1) kept
       → IsIndexed files members jobs orders moves kept
       → IsIndexed files members (job_changed place (noted_at sequence undo (or_new (slice_get jobs place)).cycle) jobs) orders (changed_at place (λ (ms : List (List PathMove)). back ∷ ms) moves) kept
   noted-place place sequence undo back is room indexed = record {
     paths = indexed.paths;
     orders = zip-left (OpensRead files kept.paths) place (noted_at sequence undo (or_new (slice_get jobs place)).cycle) jobs orders (λ job its reads. reads) indexed.orders;
     moves = (λ i. changed_at place (λ (ms : List (List PathMove)). is i ∷ ms) (indexed.moves i)) ∙ sym (noted-moves kept.paths place sequence undo jobs);
-    room = λ member. by member (undo.member == member) refl (noted-count member place sequence undo jobs);
+    room = spares-fewer (λ spec. changes_over spec (job_changed place (noted_at sequence undo (or_new (slice_get jobs place)).cycle) jobs))
+        (λ spec. changes_over spec jobs + so_many (is_over undo.member spec) 1) kept (λ spec. noted-count spec place sequence undo jobs) room;
     bytes = indexed.bytes;
     views = indexed.views;
   }
-    where
-      by : (member : ℕ) (b : Bool) → (undo.member == member) ≡ b
-          → changes_on member (job_changed place (noted_at sequence undo (or_new (slice_get jobs place)).cycle) jobs) ≤ changes_on member jobs + (if b then 1 else 0)
-          → HaveRoom member (changes_on member (job_changed place (noted_at sequence undo (or_new (slice_get jobs place)).cycle) jobs)) kept
-      by member true same le =
-          room-fewer member (changes_on member (job_changed place (noted_at sequence undo (or_new (slice_get jobs place)).cycle) jobs)) (changes_on member jobs + 1) kept le
-          (subst (λ (n : ℕ). HaveRoom n (changes_on n jobs + 1) kept) (eqb-true undo.member member same) room)
-      by member false other le =
-          room-fewer member (changes_on member (job_changed place (noted_at sequence undo (or_new (slice_get jobs place)).cycle) jobs)) (changes_on member jobs) kept (omega (arith, le))
-          (indexed.room member)
 
   -- a change of a job that runs
   pub IsIndexed-noted : (number sequence : ℕ) (undo : MemberChange) (back : List PathMove) → IsTrue (is_running (job_at number jobs)) → back ≡ moves_back kept.paths undo
-      → HaveRoom undo.member (changes_on undo.member jobs + 1) kept → IsIndexed files members jobs orders moves kept
+      → HaveSpares (λ spec. changes_over spec jobs + so_many (is_over undo.member spec) 1) kept → IsIndexed files members jobs orders moves kept
       → IsIndexed files members (job_changed (number - 1) (with_cycle (noted undo (cycle_from sequence (job_of_number number jobs).cycle))) jobs) orders (changed_at (number - 1)
       (λ ms. back ∷ ms) moves) kept
   IsIndexed-noted number sequence undo back running is room indexed =
@@ -119,9 +110,9 @@ none-moves paths place change [] none = refl
 none-moves paths zero change (job ∷ jobs) none = λ i. map (moves_back paths) (none job i) ∷ map (moves_of_job paths) jobs
 none-moves paths (suc place) change (job ∷ jobs) none = ap (λ (w : List (List (List PathMove))). moves_of_job paths job ∷ w) (none-moves paths place change jobs none)
 
-none-count : (member : ℕ) (change : JobState → JobState) → ((job : JobState) → changes_in (change job).cycle ≡ []) → (job : JobState) → count_on member (change job) ≤ count_on member job
-none-count member change none job =
-    let e : count_on member (change job) ≡ 0 = ap (λ (undos : List MemberChange). length (filter (λ (u : MemberChange). u.member == member) undos)) (none job) in omega (arith, e)
+none-count : (spec : PathSpec) (change : JobState → JobState) → ((job : JobState) → changes_in (change job).cycle ≡ []) → (job : JobState) → counted_in spec (change job) ≤ counted_in spec job
+none-count spec change none job =
+    let e : counted_in spec (change job) ≡ 0 = ap (λ (undos : List MemberChange). length (filter (λ (u : MemberChange). is_over u.member spec) undos)) (none job) in omega (arith, e)
 
 module _ (files : Named FileState) (members : NumberedMembers) (jobs : List JobState) (orders : List (Named OpenOrder)) (moves : List (List (List PathMove))) (kept : KeptPaths) where
   -- whatever is done to the opens, if they read by these orders
@@ -132,8 +123,8 @@ module _ (files : Named FileState) (members : NumberedMembers) (jobs : List JobS
     paths = indexed.paths;
     orders = reads;
     moves = ap (changed_at place (λ (ms : List (List PathMove)). [])) indexed.moves ∙ sym (none-moves kept.paths place change jobs none);
-    room = λ member. room-fewer member (changes_on member (job_changed place change jobs)) (changes_on member jobs) kept (changes_on-fewer member place change jobs (none-count member change none))
-        (indexed.room member);
+    room = spares-fewer (λ spec. changes_over spec (job_changed place change jobs)) (λ spec. changes_over spec jobs) kept
+        (λ spec. changes_over-fewer spec place change jobs (none-count spec change none)) indexed.room;
     bytes = indexed.bytes;
     views = indexed.views;
   }

@@ -49,7 +49,7 @@ use Rattle.lawful_states.proofs.BaseLemmas.{Keeps-self}
 use Rattle.library_parts.proofs.IndexPaths.{FileStays, any-both, changes-each, over-other, over-own, own-same, physical-of}
 use Rattle.library_parts.proofs.IndexShared.{IsNumbered, IsUnchanged, OpenIsAmong, OpensAreAmong, OpensStay, clash, IsIndexed-detached, IsIndexed-files, IsIndexed-members, IsIndexed-same, files-stay, opens-stay}
 use Rattle.library_parts.proofs.IndexStatus.{turned-bases, views-alike}
-use Rattle.library_parts.proofs.IndexFiles.{own-of, single-path, stand-based, unchanged-path}
+use Rattle.library_parts.proofs.IndexFiles.{own-members, single-path, stand-based, unchanged-path}
 use Rattle.library_parts.proofs.IndexGone.{IsFree, bytes-left, changes-free, has-first, has-later, is-free, jobs-free, over-left}
 use Rattle.library_parts.proofs.IndexDetached.{first-found, found_over, none-over}
 
@@ -158,7 +158,7 @@ module _ (s : State) (name : List ℕ) (file : FileState) (lawful : IsLibrary s)
   kind-among opened f found (LogicalFile spec) is own =
       let alike : AreAlike (bases_in others) (bases_in s.files) (LogicalFile spec) = subst (AreAlike (bases_in others) (bases_in s.files)) is (alike-of opened.file f found) in
       let view : IsViewBeside s.files (LogicalFile spec) = subst (IsViewBeside s.files) is (view-of opened.file f found) in
-      subst (λ (ps : List PathSpec). Contains ps (own_path (bases_in s.files) spec)) (sym (single-path (bases_in others) spec view.simple))
+      subst (λ (ps : List PathSpec). Contains ps (own_path (bases_in s.files) spec)) (sym (single-path (bases_in others) spec view.unjoined))
       (subst (λ (p : PathSpec). Contains (own_path (bases_in others) spec ∷ []) p) (own-same (bases_in others) (bases_in s.files) spec alike) (contained-first (own_path (bases_in others) spec) []))
 
   open-among : (entry : List ℕ × OpenState) → same_name name entry.1.file ≡ false → OpenHolds s.files entry.1 → OpenIsAmong (all_paths others) s.files entry
@@ -219,19 +219,16 @@ module _ (s : State) (name : List ℕ) (file : FileState) (lawful : IsLibrary s)
           (λ number job. has_open_of name job || list_any (λ member. has_changed member job) (base_members (bases_in s.files) spec))
           (λ number job none. opens-none job.opens (neither (has_open_of name job) (list_any (λ member. has_changed member job) (base_members (bases_in s.files) spec)) none).0) 1 s.jobs unused
 
-      -- or has changed its base's member
+      -- or has changed a member that it is over
       view-unchanged : IsUnchanged (own_path (bases_in s.files) spec) s.jobs
       view-unchanged =
-          let own = own-of (bases_in s.files) spec its-view.simple in
-          unchanged-path (own_path (bases_in s.files) spec) own.0 s.jobs own.2
-          (jobs-free (λ (job : JobState). has_changed own.0 job ≡ false)
+          unchanged-path (own_path (bases_in s.files) spec) (base_members (bases_in s.files) spec) s.jobs (own-members (bases_in s.files) spec its-view.unjoined)
+          (jobs-free (λ (job : JobState). list_any (λ member. has_changed member job) (base_members (bases_in s.files) spec) ≡ false)
           (λ number job. has_open_of name job || list_any (λ member. has_changed member job) (base_members (bases_in s.files) spec))
-          (λ number job none.
-          let changed = (neither (has_open_of name job) (list_any (λ member. has_changed member job) (base_members (bases_in s.files) spec)) none).1 in
-          (neither (has_changed own.0 job) false (ap (list_any (λ member. has_changed member job)) (sym own.1) ∙ changed)).0) 1 s.jobs unused)
+          (λ number job none. (neither (has_open_of name job) (list_any (λ member. has_changed member job) (base_members (bases_in s.files) spec)) none).1) 1 s.jobs unused)
 
       own-paths : paths_by s.files file.members file.spec ≡ own_path (bases_in s.files) spec ∷ []
-      own-paths = ap (paths_by s.files file.members) is ∙ single-path (bases_in s.files) spec its-view.simple
+      own-paths = ap (paths_by s.files file.members) is ∙ single-path (bases_in s.files) spec its-view.unjoined
 
       pub IsIndexed-without_view : (id : Option ℕ) (old new : KeptPaths) → AreShared old.paths → IsNumberOf (own_path (bases_in s.files) spec) id old.paths → new.paths ≡ detached_from id old.paths
           → ((number : ℕ) → IsSome (item_at number new.paths) → spare_of number new ≡ spare_of number old) → IsIndexed s.files s.members s.jobs orders moves old

@@ -1,5 +1,7 @@
 -- The kept paths are those of a library still, with a file more, physical or logical, or a member.
-use Rattle.std.proofs.Common.{ℕ, ◌+◌, ◌-◌, ◌<◌, ◌≤◌, ◌≡◌, ◌≢◌, ◌==◌, ◌||◌, nat_eq, nat_lt, if◌then◌else◌, Bool, true, false, cond, List, [], ◌∷◌, ◌++◌, length, map, length-append, Option, Some, None, is_some, IfSome, Ok, Err, Result, refl, sym, ap, arith, ◌∙◌, subst}
+use Rattle.std.proofs.Common.{ℕ, ◌+◌, ◌-◌, ◌<◌, ◌≤◌, ◌≡◌, ◌≢◌, ◌==◌, ◌||◌, nat_eq, nat_lt, if◌then◌else◌, Bool, true, false, cond, List, [], ◌∷◌, ◌++◌, length, map, length-append, Option, Some, None, is_some, IfSome, Ok, Err, Result, refl, sym, ap, arith, ◌∙◌, subst, slice_get, IsSome}
+use Rattle.logical_laws.proofs.SomeLemmas.{logical-some}
+use Rattle.dds_logical.specs.declared.views.View.{View}
 use Rattle.std.specs.Prelude.{All, replicate}
 use Rattle.std.specs.List.{AllByRecursion, IsDistinct, list_any}
 use Rattle.std.specs.Map.{keys_of}
@@ -66,7 +68,7 @@ use Rattle.library_steps.specs.LogicalFiles.{base_in, bases_in, bases_of, physic
 use Rattle.library_steps.specs.MemberCommands.{file_changed, with_member_name}
 use Rattle.library_steps.specs.State.{State, Memory, FileState, MemberStatus, JobState, fields_of, format_in, if_physical, memory_of, physical_among, physical_in, physical_spec}
 use Rattle.library_steps.specs.Uses.{changer_of_any, changes_in, has_changed}
-use Rattle.library_parts.specs.Indexed.{AreOfBytes, AreViewsBeside, IsIndexed, IsIndexedFor, IsSimple, IsView, IsViewBeside, RisesIfKeyless}
+use Rattle.library_parts.specs.Indexed.{AreOfBytes, AreViewsBeside, IsIndexed, IsIndexedFor, IsUnjoined, IsView, IsViewBeside, RisesIfKeyless, HasSeveral}
 use Rattle.lawful_states.specs.Lawful.{AreBased, GoesBack, IsBased, IsLibrary, StandsOver}
 use Rattle.library_parts.specs.PathChanges.{AttachesPath, IsAttached, member_path}
 use Rattle.lawful_states.proofs.BaseLemmas.{base-is, kept-more, kept-wider, physical-described, physical-found, physical-here, physical-member, some-of}
@@ -236,21 +238,32 @@ module _ (s : State) (orders : List (Named OpenOrder)) (moves : List (List (List
 
 -- ---- a logical file
 
-pub single-path : (bases : Bases) (spec : LogicalSpec) → IsSimple (LogicalFile spec) → logical_paths bases spec ≡ own_path bases spec ∷ []
-single-path bases (Simple view) simple = refl
-single-path bases (Multi views) simple = absurd simple
-single-path bases (Join view) simple = absurd simple
+pub single-path : (bases : Bases) (spec : LogicalSpec) → IsUnjoined (LogicalFile spec) → logical_paths bases spec ≡ own_path bases spec ∷ []
+single-path bases (Simple view) unjoined = refl
+single-path bases (Multi views) unjoined = refl
+single-path bases (Join view) unjoined = absurd unjoined
 
--- its path is over its base's member
-pub own-of : (bases : Bases) (spec : LogicalSpec) → IsSimple (LogicalFile spec) → (number : ℕ) × (base_members bases spec ≡ number ∷ []) × IsOfMember number (own_path bases spec)
-own-of bases (Simple view) simple = ((bases view.base).member, refl, record { format = view_format bases view; formats = refl; member = refl })
-own-of bases (Multi views) simple = absurd simple
-own-of bases (Join view) simple = absurd simple
+-- its path is over the members of its bases, in their order
+members-of-views : (bases : Bases) (views : List View)
+    → map (λ (f : PathFormat). f.member) (map (view_format bases) views) ≡ map (λ (name : List ℕ). (bases name).member) (map (λ (view : View). view.base) views)
+members-of-views bases [] = refl
+members-of-views bases (view ∷ views) = ap (λ (ms : List ℕ). (bases view.base).member ∷ ms) (members-of-views bases views)
 
-few-pairs : (spec : LogicalSpec) → IsSimple (LogicalFile spec) → HaveFewPairs spec
-few-pairs (Simple view) simple = tt
-few-pairs (Multi views) simple = absurd simple
-few-pairs (Join view) simple = absurd simple
+pub own-members : (bases : Bases) (spec : LogicalSpec) → IsUnjoined (LogicalFile spec) → map (λ (f : PathFormat). f.member) (own_path bases spec).formats ≡ base_members bases spec
+own-members bases (Simple view) unjoined = refl
+own-members bases (Multi views) unjoined = members-of-views bases views
+own-members bases (Join view) unjoined = absurd unjoined
+
+-- where it may have no equal keys it has one format
+pub own-one : (bases : Bases) (spec : LogicalSpec) → IsUnjoined (LogicalFile spec) → (own_path bases spec).unique ≡ true → length (own_path bases spec).formats ≤ 1
+own-one bases (Simple view) unjoined unique = omega arith
+own-one bases (Multi views) unjoined unique = absurd cc
+own-one bases (Join view) unjoined unique = absurd unjoined
+
+few-pairs : (spec : LogicalSpec) → IsUnjoined (LogicalFile spec) → HaveFewPairs spec
+few-pairs (Simple view) unjoined = tt
+few-pairs (Multi views) unjoined = tt
+few-pairs (Join view) unjoined = absurd unjoined
 
 none-laid : IsLaidOut []
 none-laid = record { few = (let few : 0 ≤ 1000 = omega arith in few); narrow = (let narrow : 0 ≤ 32766 = omega arith in narrow); lies = refl }
@@ -317,15 +330,40 @@ described-rises described source spec h =
 physical-there : (m : Memory) (name : List ℕ) → is_some (physical_spec name m) ≡ true → is_some (physical_among name m.files) ≡ true
 physical-there m name some = let it = some-of (physical_spec name m) some in physical-described name m it.0 it.1
 
+-- a file of several formats has two at least, where it has one
+several-views : (views : List View) → IsSome (slice_get (base_names (one_or_several views)) 0) → HasSeveral (one_or_several views)
+several-views [] some = absurd cc
+several-views (v ∷ []) some = tt
+several-views (v ∷ w ∷ views) some = omega arith
+
+several-join : (described : List ℕ → Option PhysicalSpec) (ks : List Keyword) (fs : List FormatLines) → IsSome (slice_get (base_names (join_described_by described ks fs)) 0)
+    → HasSeveral (join_described_by described ks fs)
+several-join described ks [] some = absurd cc
+several-join described ks (f ∷ fs) some = tt
+
+described-several : (described : List ℕ → Option PhysicalSpec) (source : Source) (spec : LogicalSpec) → IsSome (slice_get (base_names spec) 0) → logical_of described source ≡ Ok spec → HasSeveral spec
+unfolding logical_of logical_specification logical_faults
+described-several described source spec some h =
+    let fs : List FormatLines = formats_in source.specifications in
+    let right = found-right spec (described_by described source fs) (first_after None (faults_over described source (is_join_file fs) fs)) h in
+    subst (λ (sp : LogicalSpec). IsSome (slice_get (base_names sp) 0) → HasSeveral sp) right.1
+    (elim (is_join_file fs) as (λ b. IsSome (slice_get (base_names (if b then join_described_by described source.file fs
+    else one_or_several (map (view_described described source.file (is_multi_format fs) (most_parts fs)) fs))) 0)
+    → HasSeveral (if b then join_described_by described source.file fs
+    else one_or_several (map (view_described described source.file (is_multi_format fs) (most_parts fs)) fs))) [
+      | true ↦ several-join described source.file fs
+      | false ↦ several-views (map (view_described described source.file (is_multi_format fs) (most_parts fs)) fs)
+    ]) some
+
 -- what a source describes over the files that are there is a view over them
 pub record IsDescribedOver (m : Memory) (spec : LogicalSpec) : Type 0 where
   pub over : StandsOver m.files [] spec
   pub view : IsView (bases_of m) spec
 
-described-by : (m : Memory) (r : Result Source DdsFault) (spec : LogicalSpec) → AllAreKeyed m.files → IsSimple (LogicalFile spec) → logical_by (λ name. physical_spec name m) r ≡ Ok spec
+described-by : (m : Memory) (r : Result Source DdsFault) (spec : LogicalSpec) → AllAreKeyed m.files → IsUnjoined (LogicalFile spec) → logical_by (λ name. physical_spec name m) r ≡ Ok spec
     → IsDescribedOver m spec
-described-by m (Err fault) spec keyed simple h = absurd cc
-described-by m (Ok source) spec keyed simple h =
+described-by m (Err fault) spec keyed unjoined h = absurd cc
+described-by m (Ok source) spec keyed unjoined h =
     let described : List ℕ → Option PhysicalSpec = λ name. physical_spec name m in record {
       over = record {
         none = refl;
@@ -333,8 +371,10 @@ described-by m (Ok source) spec keyed simple h =
             (described-there described source spec h);
       };
       view = record {
-        simple = simple;
-        keyed = described-keyed described (bases_of m) source spec (λ name its e. fields-there name (named name m.files) its e) h (laid-bases m.files keyed (base_names spec)) (few-pairs spec simple);
+        unjoined = unjoined;
+        some = logical-some described source spec h;
+        several = described-several described source spec (logical-some described source spec h) h;
+        keyed = described-keyed described (bases_of m) source spec (λ name its e. fields-there name (named name m.files) its e) h (laid-bases m.files keyed (base_names spec)) (few-pairs spec unjoined);
         mapped = described-mapped described (bases_of m) source spec (λ name its e. fields-there name (named name m.files) its e) h;
         rises = described-rises described source spec h;
         formats = described-formatted described source spec h;
@@ -342,25 +382,41 @@ described-by m (Ok source) spec keyed simple h =
       };
     }
 
-pub described-over : (m : Memory) (text : List ℕ) (spec : LogicalSpec) → AllAreKeyed m.files → IsSimple (LogicalFile spec) → logical_described m text ≡ Ok spec → IsDescribedOver m spec
-described-over m text spec keyed simple h = described-by m (source_of text) spec keyed simple h
+pub described-over : (m : Memory) (text : List ℕ) (spec : LogicalSpec) → AllAreKeyed m.files → IsUnjoined (LogicalFile spec) → logical_described m text ≡ Ok spec → IsDescribedOver m spec
+described-over m text spec keyed unjoined h = described-by m (source_of text) spec keyed unjoined h
 
--- no open commit cycle has changed its base's member
-none-changed : (number : ℕ) (undos : List MemberChange) → list_any (λ (undo : MemberChange). undo.member == number) undos ≡ false → AllByRecursion (λ (undo : MemberChange). undo.member ≢ number) undos
+-- no open commit cycle has changed one of the members that it is over
+none-changed : (number : ℕ) (undos : List MemberChange) → list_any (λ (undo : MemberChange). undo.member == number) undos ≡ false → AllByRecursion (λ (undo : MemberChange). (number == undo.member) ≡ false) undos
 none-changed number [] none = tt
 none-changed number (undo ∷ undos) none =
     let parts = neither (undo.member == number) (list_any (λ (u : MemberChange). u.member == number) undos) none in
-    ((λ same. let e = parts.0 in let own : (undo.member == number) ≡ true = grind (arith, nat_tests) in absurd cc), none-changed number undos parts.1)
+    ((let e = parts.0 in let other : (number == undo.member) ≡ false = grind (arith, nat_tests, e) in other), none-changed number undos parts.1)
 
-unchanged-by : (spec : PathSpec) (number : ℕ) → IsOfMember number spec → (undos : List MemberChange) → AllByRecursion (λ (undo : MemberChange). undo.member ≢ number) undos
-    → AllByRecursion (λ (undo : MemberChange). is_over undo.member spec ≡ false) undos
-unchanged-by spec number its [] all = tt
-unchanged-by spec number its (undo ∷ undos) all = (over-other number undo.member spec its all.0, unchanged-by spec number its undos all.1)
+neither-over : (number : ℕ) (formats : List PathFormat) (undos : List MemberChange) → AllByRecursion (λ (undo : MemberChange). (number == undo.member) ≡ false) undos
+    → AllByRecursion (λ (undo : MemberChange). list_any (λ (f : PathFormat). f.member == undo.member) formats ≡ false) undos
+    → AllByRecursion (λ (undo : MemberChange). ((number == undo.member) || list_any (λ (f : PathFormat). f.member == undo.member) formats) ≡ false) undos
+neither-over number formats [] other rest = tt
+neither-over number formats (undo ∷ undos) other rest =
+    (ap (λ (b : Bool). b || list_any (λ (f : PathFormat). f.member == undo.member) formats) other.0 ∙ rest.0, neither-over number formats undos other.1 rest.1)
 
-pub unchanged-path : (spec : PathSpec) (number : ℕ) (jobs : List JobState) → IsOfMember number spec → AllByRecursion (λ (job : JobState). has_changed number job ≡ false) jobs → IsUnchanged spec jobs
-unchanged-path spec number [] its none = tt
-unchanged-path spec number (job ∷ jobs) its none =
-    (unchanged-by spec number its (changes_in job.cycle) (none-changed number (changes_in job.cycle) none.0), unchanged-path spec number jobs its none.1)
+no-formats : (undos : List MemberChange) → AllByRecursion (λ (undo : MemberChange). false ≡ false) undos
+no-formats [] = tt
+no-formats (undo ∷ undos) = (refl, no-formats undos)
+
+unchanged-by : (formats : List PathFormat) (undos : List MemberChange)
+    → list_any (λ (member : ℕ). list_any (λ (undo : MemberChange). undo.member == member) undos) (map (λ (f : PathFormat). f.member) formats) ≡ false
+    → AllByRecursion (λ (undo : MemberChange). list_any (λ (f : PathFormat). f.member == undo.member) formats ≡ false) undos
+unchanged-by [] undos none = no-formats undos
+unchanged-by (format ∷ formats) undos none =
+    let parts = neither (list_any (λ (undo : MemberChange). undo.member == format.member) undos)
+    (list_any (λ (member : ℕ). list_any (λ (undo : MemberChange). undo.member == member) undos) (map (λ (f : PathFormat). f.member) formats)) none in
+    neither-over format.member formats undos (none-changed format.member undos parts.0) (unchanged-by formats undos parts.1)
+
+pub unchanged-path : (spec : PathSpec) (members : List ℕ) (jobs : List JobState) → map (λ (f : PathFormat). f.member) spec.formats ≡ members
+    → AllByRecursion (λ (job : JobState). list_any (λ (member : ℕ). has_changed member job) members ≡ false) jobs → IsUnchanged spec jobs
+unchanged-path spec members [] own none = tt
+unchanged-path spec members (job ∷ jobs) own none =
+    (unchanged-by spec.formats (changes_in job.cycle) (ap (list_any (λ (member : ℕ). has_changed member job)) own ∙ none.0), unchanged-path spec members jobs own none.1)
 
 -- ---- a logical file more
 
@@ -374,10 +430,9 @@ module _ (s : State) (orders : List (Named OpenOrder)) (moves : List (List (List
 
   own-unchanged : IsUnchanged (own_path (bases_in s.files) plan.spec) s.jobs
   own-unchanged =
-      let base = own-of (bases_in s.files) plan.spec its.view.simple in
-      unchanged-path own base.0 s.jobs base.2
-      (jobs-free (λ (job : JobState). has_changed base.0 job ≡ false) (λ number job. list_any (λ member. has_changed member job) (base_members (bases_in s.files) plan.spec))
-      (λ number job none. (neither (has_changed base.0 job) false (ap (list_any (λ member. has_changed member job)) (sym base.1) ∙ none)).0) 1 s.jobs unchanged)
+      unchanged-path own (base_members (bases_in s.files) plan.spec) s.jobs (own-members (bases_in s.files) plan.spec its.view.unjoined)
+      (jobs-free (λ (job : JobState). list_any (λ member. has_changed member job) (base_members (bases_in s.files) plan.spec) ≡ false)
+      (λ number job. list_any (λ member. has_changed member job) (base_members (bases_in s.files) plan.spec)) (λ number job none. none) 1 s.jobs unchanged)
 
   own-view : IsView (bases_in with_view) plan.spec
   own-view = beside-alike s.files with_view (LogicalFile plan.spec) (alike-more s.files (name, logical_file plan) name [] (LogicalFile plan.spec) its.over.bases) its.view
@@ -387,7 +442,7 @@ module _ (s : State) (orders : List (Named OpenOrder)) (moves : List (List (List
       count-append path (own ∷ []) (all_paths s.files)
       ∙ turned (count_in path (own ∷ [])) (count_in path (all_paths s.files)) (count_in path (all_paths with_view))
       (ap (count_in path) (paths-more s.files name (logical_file plan) (stand-based s.files distinct lawful.bases)
-      ∙ ap (λ (ps : List PathSpec). all_paths s.files ++ ps) (paths-own s.files name (logical_file plan) its.over.bases ∙ single-path (bases_in s.files) plan.spec its.view.simple))
+      ∙ ap (λ (ps : List PathSpec). all_paths s.files ++ ps) (paths-own s.files name (logical_file plan) its.over.bases ∙ single-path (bases_in s.files) plan.spec its.view.unjoined))
       ∙ count-append path (all_paths s.files) (own ∷ []))
 
   pub IsIndexed-with_view : (old new : KeptPaths) → AreShared old.paths → IsAttached (own_path (bases_in s.files) plan.spec) s.members old new → IsIndexed s.files s.members s.jobs orders moves old
@@ -426,21 +481,20 @@ module _ (s : State) (lawful : IsLibrary s)
   pub view-can : (spec : LogicalSpec) → IsDescribedOver (memory_of s) spec → CanBeKept (own_path (bases_in s.files) spec) s.members
   view-can spec its =
       (recursion_from_All (λ (p : PathSpec). CanBeKept p s.members) (own_path (bases_in s.files) spec ∷ [])
-      (subst (λ (ps : List PathSpec). All (λ (p : PathSpec). CanBeKept p s.members) ps) (single-path (bases_in s.files) spec its.view.simple)
+      (subst (λ (ps : List PathSpec). All (λ (p : PathSpec). CanBeKept p s.members) ps) (single-path (bases_in s.files) spec its.view.unjoined)
       (paths-kept (bases_in s.files) spec s.members its.view.keyed (have-records spec its.over)))).0
 
   pub view-tells : (spec : LogicalSpec) → IsDescribedOver (memory_of s) spec → TellsRepeated (own_path (bases_in s.files) spec) s.members
   view-tells spec its = record {
     bytes = (recursion_from_All (λ (p : PathSpec). IsInBytes p s.members) (own_path (bases_in s.files) spec ∷ [])
-        (subst (λ (ps : List PathSpec). All (λ (p : PathSpec). IsInBytes p s.members) ps) (single-path (bases_in s.files) spec its.view.simple)
+        (subst (λ (ps : List PathSpec). All (λ (p : PathSpec). IsInBytes p s.members) ps) (single-path (bases_in s.files) spec its.view.unjoined)
         (paths-bytes (bases_in s.files) spec s.members its.view.keyed (have-records spec its.over)))).0;
-    one = λ unique. (let own = (own-of (bases_in s.files) spec its.view.simple).2 in let one : length (own_path (bases_in s.files) spec).formats ≡ 1 = ap (λ (fs : List PathFormat). length fs) own.formats in
-        omega (arith, one));
+    one = own-one (bases_in s.files) spec its.view.unjoined;
   }
 
 -- what is refused of equal keys in its path
-pub view-repeated : (m : Memory) (spec : LogicalSpec) → IsSimple (LogicalFile spec) → first_repeated (logical_paths (bases_of m) spec) m ≡ repeated_in (own_path (bases_of m) spec) m.members
-view-repeated m spec simple = ap (λ (ps : List PathSpec). first_repeated ps m) (single-path (bases_of m) spec simple)
+pub view-repeated : (m : Memory) (spec : LogicalSpec) → IsUnjoined (LogicalFile spec) → first_repeated (logical_paths (bases_of m) spec) m ≡ repeated_in (own_path (bases_of m) spec) m.members
+view-repeated m spec unjoined = ap (λ (ps : List PathSpec). first_repeated ps m) (single-path (bases_of m) spec unjoined)
 
 -- ---- physical files
 

@@ -23,7 +23,7 @@ IsIndexed-empty = record {
   paths = none-kept [];
   orders = tt;
   moves = refl;
-  room = λ member k d low. absurd (omega (arith, low));
+  room = λ k d low. absurd (omega (arith, low));
   bytes = tt;
   views = tt;
 }

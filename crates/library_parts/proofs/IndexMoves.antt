@@ -9,10 +9,11 @@ use Rattle.member_slots.specs.declared.slot.Slot.{Slot}
 use Rattle.member_slots.specs.declared.slot.Slot.TheVariants.{Live, Deleted}
 use Rattle.member_slots.specs.Member.{MemberState, empty_member, slot_at, appended, changed}
 use Rattle.member_slots.specs.Members.{NumberedMembers, member_at, member_of, with_member}
+use Rattle.file_model.specs.declared.paths.PathSpec.{PathSpec}
 use Rattle.path_set.specs.declared.moves.PathMove.{PathMove}
 use Rattle.path_set.specs.KeptPaths.{KeptPaths, NumberedPaths, AreShared, AreOver, spare_of}
 use Rattle.path_set.specs.RecordChanges.{RecordChange, reversed, moves_in, opposites, paths_after, HaveRoom, CanBeMade, count_in}
-use Rattle.path_set.specs.MemberSteps.{record_added, slot_replaced}
+use Rattle.path_set.specs.MemberSteps.{is_over, record_added, slot_replaced}
 use Rattle.path_set.proofs.MemberStepLemmas.{added-changes, added-there, replaced-changes}
 use Rattle.path_set.proofs.NumberedLemmas.{at-with_same}
 use Rattle.path_set.proofs.RecordLemmas.{moves-later, moves-opposite, paths-made}
@@ -25,10 +26,10 @@ use Rattle.library_steps.specs.Records.{slot_there}
 use Rattle.library_steps.specs.SlotChange.{with_slot}
 use Rattle.library_steps.specs.State.{Memory, FileState, JobState}
 use Rattle.library_steps.specs.Uses.{changes_in}
-use Rattle.library_parts.specs.Indexed.{HasBytes, moves_back, changes_on, IsIndexed}
+use Rattle.library_parts.specs.Indexed.{HasBytes, HaveSpares, moves_back, changes_over, IsIndexed}
 use Rattle.lawful_states.proofs.MemberLemmas.{slot_put-appended, slot_put-changed}
 use Rattle.library_parts.proofs.IndexChanges.{record_change-of}
-use Rattle.library_parts.proofs.IndexPaths.{count_on, changes_on-cons, room-fewer}
+use Rattle.library_parts.proofs.IndexPaths.{counted_in, changes_over-cons, so_many, spares-with}
 use Rattle.library_parts.proofs.IndexRecords.{IsIndexed-appended, IsIndexed-replaced}
 
 -- ---- room for all changes that are held
@@ -42,19 +43,20 @@ filter-shorter test (undo ∷ undos) =
       | false ↦ omega (arith, rest)
     ]
 
-pub changes-held : (member : ℕ) (jobs : List JobState) → changes_on member jobs ≤ changes_held jobs
-changes-held member [] = omega arith
-changes-held member (job ∷ jobs) =
-    let some = changes_on-cons member job jobs in
+pub changes-held : (spec : PathSpec) (jobs : List JobState) → changes_over spec jobs ≤ changes_held jobs
+changes-held spec [] = omega arith
+changes-held spec (job ∷ jobs) =
+    let some = changes_over-cons spec job jobs in
     let all : changes_held (job ∷ jobs) ≡ length (changes_in job.cycle) + changes_held jobs = sum_by-cons (λ (j : JobState). length (changes_in j.cycle)) job jobs in
-    let own : count_on member job ≤ length (changes_in job.cycle) = filter-shorter (λ (undo : MemberChange). undo.member == member) (changes_in job.cycle) in
-    let rest = changes-held member jobs in
+    let own : counted_in spec job ≤ length (changes_in job.cycle) = filter-shorter (λ (undo : MemberChange). is_over undo.member spec) (changes_in job.cycle) in
+    let rest = changes-held spec jobs in
     omega (arith, some, all, own, rest)
 
--- where there is room for all of them, there is for those of a member
-pub room-held : (member more : ℕ) (jobs : List JobState) (kept : KeptPaths) → HaveRoom member (changes_held jobs + more) kept → HaveRoom member (changes_on member jobs + more) kept
-room-held member more jobs kept =
-    let fewer = changes-held member jobs in room-fewer member (changes_on member jobs + more) (changes_held jobs + more) kept (omega (arith, fewer))
+-- where the paths over a member have room for all of them and more, they have for those that they are over and as many more
+pub spares-held : (member more : ℕ) (jobs : List JobState) (kept : KeptPaths) → HaveRoom member (changes_held jobs + more) kept → HaveSpares (λ spec. changes_over spec jobs) kept
+    → HaveSpares (λ spec. changes_over spec jobs + so_many (is_over member spec) more) kept
+spares-held member more jobs kept =
+    spares-with member more (changes_held jobs + more) (λ spec. changes_over spec jobs) kept (λ spec. let fewer = changes-held spec jobs in omega (arith, fewer))
 
 -- after a change there is room for one fewer
 pub room-left : (c : RecordChange) (made : List PathMove) (member held more : ℕ) (old new : KeptPaths) → AreShared old.paths → made ≡ moves_in c old.paths → new.paths ≡ paths_after made old.paths
@@ -178,16 +180,16 @@ module _ (files : Named FileState) (members : NumberedMembers) (jobs : List JobS
       → made ≡ moves_in (slot_replaced number (length (member_of number members).slots + 1) (unwrap_or (slot_at (member_of number members) (length (member_of number members).slots + 1)) Deleted)
       (Live image)) old.paths
       → IsIndexed files members jobs orders moves old → IsIndexed files (with_member number (appended (member_of number members) image) members) jobs orders moves new
-  IsIndexed-append image bytes same =
+  IsIndexed-append image bytes same indexed =
       IsIndexed-appended files members jobs orders moves old new number image made shared there bytes (append-moves number image members made old.paths same) is spare
-      (room-held number 1 jobs old room)
+      (spares-held number 1 jobs old room indexed.room) indexed
 
   pub IsIndexed-set : (rrn : ℕ) (slot : Slot) → 1 ≤ rrn → rrn ≤ length (member_of number members).slots → HasBytes slot
       → made ≡ moves_in (slot_replaced number rrn (unwrap_or (slot_at (member_of number members) rrn) Deleted) slot) old.paths
       → IsIndexed files members jobs orders moves old → IsIndexed files (with_member number (changed (member_of number members) rrn slot) members) jobs orders moves new
-  IsIndexed-set rrn slot first last bytes same =
+  IsIndexed-set rrn slot first last bytes same indexed =
       IsIndexed-replaced files members jobs orders moves old new number rrn (unwrap_or (slot_at (member_of number members) rrn) Deleted) slot made shared
-      (slot-stands (member_of number members) rrn first last) bytes same is spare (room-held number 1 jobs old room)
+      (slot-stands (member_of number members) rrn first last) bytes same is spare (spares-held number 1 jobs old room indexed.room) indexed
 
 -- ---- as requests change slots
 

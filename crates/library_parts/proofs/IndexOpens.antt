@@ -13,7 +13,8 @@ use Rattle.lock_table.specs.declared.levels.Call.{Call}
 use Rattle.member_slots.specs.Members.{NumberedMembers}
 use Rattle.path_set.specs.declared.moves.PathMove.{PathMove}
 use Rattle.path_set.specs.KeptPaths.{KeptPaths, NumberedPaths}
-use Rattle.path_set.specs.RecordChanges.{HaveRoom}
+use Rattle.file_model.specs.declared.paths.PathSpec.{PathSpec}
+use Rattle.path_set.specs.MemberSteps.{is_over}
 use Rattle.job_table.specs.Opens.{OpenOrder, SameOpen}
 use Rattle.job_table.specs.Table.{JobTable, changed_at}
 use Rattle.library_model.specs.declared.requests.OpenFile.{OpenFile}
@@ -26,8 +27,8 @@ use Rattle.library_steps.specs.Records.{is_file_path}
 use Rattle.library_steps.specs.Reads.{open_changed, positioned, has_read, entry_found}
 use Rattle.library_steps.specs.State.{FileState, OpenState, JobState, job_changed, with_opens, new_job}
 use Rattle.library_steps.specs.Uses.{changes_in}
-use Rattle.library_parts.specs.Indexed.{IsReadSo, ReadsBy, ReadsFile, ReadsIn, OpensRead, moves_back, moves_of_job, changes_on, path_read, IsIndexed}
-use Rattle.library_parts.proofs.IndexPaths.{count_on, changes_on-cons}
+use Rattle.library_parts.specs.Indexed.{IsReadSo, ReadsBy, ReadsFile, ReadsIn, OpensRead, moves_back, moves_of_job, changes_over, path_read, IsIndexed}
+use Rattle.library_parts.proofs.IndexPaths.{counted_in, changes_over-cons, spares-fewer}
 
 -- ---- opens that read as they did
 
@@ -79,15 +80,15 @@ moves-alike paths [] (other ∷ others) same = absurd same
 moves-alike paths (job ∷ jobs) [] same = absurd same
 moves-alike paths (job ∷ jobs) (other ∷ others) same = λ i. map (moves_back paths) (same.0.changes i) ∷ moves-alike paths jobs others same.1 i
 
-counts-alike : (member : ℕ) (jobs others : List JobState) → AllZip IsSameJob jobs others → changes_on member others ≡ changes_on member jobs
-counts-alike member [] [] same = refl
-counts-alike member [] (other ∷ others) same = absurd same
-counts-alike member (job ∷ jobs) [] same = absurd same
-counts-alike member (job ∷ jobs) (other ∷ others) same =
-    let before = changes_on-cons member job jobs in
-    let after = changes_on-cons member other others in
-    let rest = counts-alike member jobs others same.1 in
-    let first : count_on member other ≡ count_on member job = ap (λ (undos : List MemberChange). length (filter (λ (undo : MemberChange). undo.member == member) undos)) same.0.changes in
+counts-alike : (spec : PathSpec) (jobs others : List JobState) → AllZip IsSameJob jobs others → changes_over spec others ≡ changes_over spec jobs
+counts-alike spec [] [] same = refl
+counts-alike spec [] (other ∷ others) same = absurd same
+counts-alike spec (job ∷ jobs) [] same = absurd same
+counts-alike spec (job ∷ jobs) (other ∷ others) same =
+    let before = changes_over-cons spec job jobs in
+    let after = changes_over-cons spec other others in
+    let rest = counts-alike spec jobs others same.1 in
+    let first : counted_in spec other ≡ counted_in spec job = ap (λ (undos : List MemberChange). length (filter (λ (undo : MemberChange). is_over undo.member spec) undos)) same.0.changes in
     omega (arith, before, after, rest, first)
 
 pub IsIndexed-jobs : (files : Named FileState) (members : NumberedMembers) (jobs others : List JobState) (orders : List (Named OpenOrder)) (moves : List (List (List PathMove))) (kept : KeptPaths)
@@ -96,7 +97,7 @@ IsIndexed-jobs files members jobs others orders moves kept same indexed = record
   paths = indexed.paths;
   orders = jobs-alike files kept.paths jobs others orders same indexed.orders;
   moves = indexed.moves ∙ sym (moves-alike kept.paths jobs others same);
-  room = λ member. subst (λ (n : ℕ). HaveRoom member n kept) (sym (counts-alike member jobs others same)) (indexed.room member);
+  room = spares-fewer (λ spec. changes_over spec others) (λ spec. changes_over spec jobs) kept (λ spec. let e = counts-alike spec jobs others same in omega (arith, e)) indexed.room;
   bytes = indexed.bytes;
   views = indexed.views;
 }
@@ -199,18 +200,18 @@ moves-kept paths place change [] same = refl
 moves-kept paths zero change (job ∷ jobs) same = λ i. map (moves_back paths) (same job i) ∷ map (moves_of_job paths) jobs
 moves-kept paths (suc place) change (job ∷ jobs) same = ap (λ (w : List (List (List PathMove))). moves_of_job paths job ∷ w) (moves-kept paths place change jobs same)
 
-counts-kept : (member place : ℕ) (change : JobState → JobState) (jobs : List JobState) → ((job : JobState) → changes_in (change job).cycle ≡ changes_in job.cycle)
-    → changes_on member (job_changed place change jobs) ≡ changes_on member jobs
-counts-kept member place change [] same = refl
-counts-kept member zero change (job ∷ jobs) same =
-    let before = changes_on-cons member job jobs in
-    let after = changes_on-cons member (change job) jobs in
-    let first : count_on member (change job) ≡ count_on member job = ap (λ (undos : List MemberChange). length (filter (λ (undo : MemberChange). undo.member == member) undos)) (same job) in
+counts-kept : (spec : PathSpec) (place : ℕ) (change : JobState → JobState) (jobs : List JobState) → ((job : JobState) → changes_in (change job).cycle ≡ changes_in job.cycle)
+    → changes_over spec (job_changed place change jobs) ≡ changes_over spec jobs
+counts-kept spec place change [] same = refl
+counts-kept spec zero change (job ∷ jobs) same =
+    let before = changes_over-cons spec job jobs in
+    let after = changes_over-cons spec (change job) jobs in
+    let first : counted_in spec (change job) ≡ counted_in spec job = ap (λ (undos : List MemberChange). length (filter (λ (undo : MemberChange). is_over undo.member spec) undos)) (same job) in
     omega (arith, before, after, first)
-counts-kept member (suc place) change (job ∷ jobs) same =
-    let before = changes_on-cons member job jobs in
-    let after = changes_on-cons member job (job_changed place change jobs) in
-    let rest = counts-kept member place change jobs same in
+counts-kept spec (suc place) change (job ∷ jobs) same =
+    let before = changes_over-cons spec job jobs in
+    let after = changes_over-cons spec job (job_changed place change jobs) in
+    let rest = counts-kept spec place change jobs same in
     omega (arith, before, after, rest)
 
 module _ (files : Named FileState) (members : NumberedMembers) (jobs : List JobState) (orders : List (Named OpenOrder)) (moves : List (List (List PathMove))) (kept : KeptPaths) where
@@ -221,7 +222,8 @@ module _ (files : Named FileState) (members : NumberedMembers) (jobs : List JobS
     paths = indexed.paths;
     orders = reads;
     moves = indexed.moves ∙ sym (moves-kept kept.paths place change jobs same);
-    room = λ member. subst (λ (n : ℕ). HaveRoom member n kept) (sym (counts-kept member place change jobs same)) (indexed.room member);
+    room = spares-fewer (λ spec. changes_over spec (job_changed place change jobs)) (λ spec. changes_over spec jobs) kept
+        (λ spec. let e = counts-kept spec place change jobs same in omega (arith, e)) indexed.room;
     bytes = indexed.bytes;
     views = indexed.views;
   }
@@ -278,9 +280,8 @@ module _ (files : Named FileState) (members : NumberedMembers) (jobs : List JobS
     paths = indexed.paths;
     orders = zip-push (OpensRead files kept.paths) jobs orders (new_job name) [] indexed.orders tt;
     moves = ap (λ (w : List (List (List PathMove))). w ++ [] ∷ []) indexed.moves ∙ sym (map-append (moves_of_job kept.paths) jobs (new_job name ∷ []));
-    room = λ member.
-        let same : changes_on member (jobs ++ new_job name ∷ []) ≡ changes_on member jobs = (let e = sum_by_push (count_on member) jobs (new_job name) in omega (arith, e)) in
-        subst (λ (n : ℕ). HaveRoom member n kept) (sym same) (indexed.room member);
+    room = spares-fewer (λ spec. changes_over spec (jobs ++ new_job name ∷ [])) (λ spec. changes_over spec jobs) kept
+        (λ spec. let e = sum_by_push (counted_in spec) jobs (new_job name) in omega (arith, e)) indexed.room;
     bytes = indexed.bytes;
     views = indexed.views;
   }

@@ -37,7 +37,7 @@ use Rattle.library_steps.specs.Records.{is_file_path}
 use Rattle.library_steps.specs.LogicalFiles.{bases_in}
 use Rattle.library_steps.specs.State.{FileState, MemberStatus, OpenState, CycleState, JobState, job_changed}
 use Rattle.library_steps.specs.Uses.{changes_in}
-use Rattle.library_parts.specs.Indexed.{AreViews, AreViewsBeside, IsViewBeside, AreSameBasesBy, IsIndexedFor, IsReadSo, OpensRead, ReadsBy, ReadsFile, ReadsIn, changes_on, moves_back, moves_of_job, path_by, record_change}
+use Rattle.library_parts.specs.Indexed.{AreViews, AreViewsBeside, IsViewBeside, AreSameBasesBy, IsIndexedFor, IsReadSo, OpensRead, ReadsBy, ReadsFile, ReadsIn, HaveSpares, changes_over, moves_back, moves_of_job, path_by, record_change}
 use Rattle.lawful_states.specs.Lawful.{GoesBack, CycleGoesBack, AllGoBack}
 use Rattle.lawful_states.proofs.BaseLemmas.{IsKept}
 
@@ -115,12 +115,10 @@ one-member number other spec is also =
     any-own other number spec also (subst (λ (fs : List PathFormat). Any (λ (f : PathFormat). f.member ≡ number) fs) (sym is.formats) (any-first (λ
     (f : PathFormat). f.member ≡ number) is.format [] is.member))
 
--- ---- each path of a file is over one member
+-- ---- each path of a file that may have no equal keys is over one member
 
--- some member, which a physical file has
 pub record IsOfOwner (files : Named FileState) (spec : PathSpec) : Type 0 where
-  pub number : ℕ
-  pub of : IsOfMember number spec
+  pub one : spec.unique ≡ true → (number : ℕ) × IsOfMember number spec
 
 pub physical-of : (number : ℕ) (spec : PhysicalSpec) → IsOfMember number (physical_path number spec.format.fields spec.keys)
 physical-of number spec = record { format = path_format number every_record (own_fields spec.format.fields) spec.keys.parts; formats = refl; member = refl }
@@ -129,7 +127,7 @@ physical-of number spec = record { format = path_format number every_record (own
 physicals-of : (files : Named FileState) (spec : PhysicalSpec) (members : Named MemberStatus)
     → AllByRecursion (IsOfOwner files) (map (λ (entry : List ℕ × MemberStatus). physical_path entry.1.number spec.format.fields spec.keys) members)
 physicals-of files spec [] = tt
-physicals-of files spec (entry ∷ members) = (record { number = entry.1.number; of = physical-of entry.1.number spec }, physicals-of files spec members)
+physicals-of files spec (entry ∷ members) = (record { one = λ unique. (entry.1.number, physical-of entry.1.number spec) }, physicals-of files spec members)
 
 file-of : (files : Named FileState) (members : Named MemberStatus) (spec : FileSpec) → IsViewBeside files spec → AllByRecursion (IsOfOwner files) (paths_by files members spec)
 file-of files members (PhysicalFile spec) view =
@@ -139,9 +137,9 @@ file-of files members (PhysicalFile spec) view =
       | false ↦ tt
     ]
 file-of files members (LogicalFile (Simple view)) is =
-    (record { number = (bases_in files view.base).member; of = record { format = view_format (bases_in files) view; formats = refl; member = refl } }, tt)
-file-of files members (LogicalFile (Multi views)) is = absurd is.simple
-file-of files members (LogicalFile (Join view)) is = absurd is.simple
+    (record { one = λ unique. ((bases_in files view.base).member, record { format = view_format (bases_in files) view; formats = refl; member = refl }) }, tt)
+file-of files members (LogicalFile (Multi views)) is = (record { one = λ unique. absurd cc }, tt)
+file-of files members (LogicalFile (Join view)) is = absurd is.unjoined
 
 all-of : (all files : Named FileState) → AreViewsBeside all files → AllByRecursion (IsOfOwner all) (paths_among all files)
 all-of all [] views = tt
@@ -153,9 +151,6 @@ pub kept-of : (files : Named FileState) (members : NumberedMembers) (paths : Num
     → All (λ path. IsOfOwner files path.item.spec) paths
 kept-of files members paths views shared kept = λ k d low.
     each-contained (IsOfOwner files) (all_paths files) (get_or paths k d).item.spec (all-of files files views) (kept-contained (all_paths files) members paths shared kept k d low)
-
-pub of-file : (files : Named FileState) (spec : PathSpec) → IsOfOwner files spec → (number : ℕ) × IsOfMember number spec
-of-file files spec is = (is.number, is.of)
 
 -- ---- paths with other entries
 
@@ -243,17 +238,77 @@ room-fewer member few many kept le had k d low any =
     let m = mul-le-mul_right (length (get_or kept.paths k d).item.spec.formats) le in
     omega (arith, h, m)
 
-pub room-more : (member changes : ℕ) (old new : KeptPaths) → new.paths ≡ old.paths → ((id : ℕ) → spare_of id old ≤ spare_of id new) → HaveRoom member changes old → HaveRoom member changes new
-room-more member changes old new same more had =
-    subst (λ (paths : NumberedPaths). All (λ (path : Numbered KeptPath). Any (λ (f : PathFormat). f.member ≡ member) path.item.spec.formats
-    → changes * length path.item.spec.formats ≤ spare_of path.number new) paths) (sym same)
-    (λ k d low any. let h = had k d low any in let m = more (get_or old.paths k d).number in omega (arith, h, m))
+pub spares-fewer : (few many : PathSpec → ℕ) (kept : KeptPaths) → ((spec : PathSpec) → few spec ≤ many spec) → HaveSpares many kept → HaveSpares few kept
+spares-fewer few many kept le had k d low =
+    let h = had k d low in
+    let fewer = le (get_or kept.paths k d).item.spec in
+    let m = mul-le-mul_right (length (get_or kept.paths k d).item.spec.formats) fewer in
+    omega (arith, h, m)
+
+spares-more : (count : PathSpec → ℕ) (old new : KeptPaths) → new.paths ≡ old.paths → ((id : ℕ) → spare_of id old ≤ spare_of id new) → HaveSpares count old → HaveSpares count new
+spares-more count old new same more had =
+    subst (λ (paths : NumberedPaths). All (λ (path : Numbered KeptPath). count path.item.spec * length path.item.spec.formats ≤ spare_of path.number new) paths) (sym same)
+    (λ k d low. let h = had k d low in let m = more (get_or old.paths k d).number in omega (arith, h, m))
+
+-- so many where it is so, else none
+abbrev pub so_many : Bool → ℕ → ℕ
+so_many b n = if b then n else 0
+
+-- a format over the member, by the test and as one of them
+pub over-any : (member : ℕ) (formats : List PathFormat) → list_any (λ (f : PathFormat). f.member == member) formats ≡ true → Any (λ (f : PathFormat). f.member ≡ member) formats
+over-any member [] over = absurd cc
+over-any member (format ∷ formats) over = by (format.member == member) refl over (λ h. over-any member formats h)
+  where
+    by : (b : Bool) → (format.member == member) ≡ b → (b || list_any (λ (f : PathFormat). f.member == member) formats) ≡ true
+        → (list_any (λ (f : PathFormat). f.member == member) formats ≡ true → Any (λ (f : PathFormat). f.member ≡ member) formats) → Any (λ (f : PathFormat). f.member ≡ member) (format ∷ formats)
+    by true same h later = any-first (λ (f : PathFormat). f.member ≡ member) format formats (grind (arith, nat_tests, same))
+    by false other h later = any-later (λ (f : PathFormat). f.member ≡ member) format formats (later h)
+
+pub any-over : (member : ℕ) (formats : List PathFormat) → Any (λ (f : PathFormat). f.member ≡ member) formats → list_any (λ (f : PathFormat). f.member == member) formats ≡ true
+any-over member [] any = absurd (any-none (λ (f : PathFormat). f.member ≡ member) any)
+any-over member (format ∷ formats) any =
+    elim (any-cons (λ (f : PathFormat). f.member ≡ member) format formats any) [
+      | inl same ↦ ap (λ (b : Bool). b || list_any (λ (f : PathFormat). f.member == member) formats) (let e : (format.member == member) ≡ true = grind (arith, nat_tests) in e)
+      | inr rest ↦ ap (λ (b : Bool). (format.member == member) || b) (any-over member formats rest) ∙ either-true (format.member == member)
+    ]
+  where
+    either-true : (b : Bool) → (b || true) ≡ true
+    either-true true = refl
+    either-true false = refl
+
+-- where there is room for more changes of a member, the paths over it have memory for so many beside those that are counted
+pub spares-with : (member more most : ℕ) (count : PathSpec → ℕ) (kept : KeptPaths) → ((spec : PathSpec) → count spec + more ≤ most) → HaveRoom member most kept → HaveSpares count kept
+    → HaveSpares (λ spec. count spec + so_many (is_over member spec) more) kept
+spares-with member more most count kept le room had k d low =
+    one (get_or kept.paths k d) (room k d low) (had k d low) (is_over member (get_or kept.paths k d).item.spec) refl
+  where
+    one : (path : Numbered KeptPath) → (Any (λ (f : PathFormat). f.member ≡ member) path.item.spec.formats → most * length path.item.spec.formats ≤ spare_of path.number kept)
+        → count path.item.spec * length path.item.spec.formats ≤ spare_of path.number kept → (b : Bool) → is_over member path.item.spec ≡ b
+        → (count path.item.spec + so_many b more) * length path.item.spec.formats ≤ spare_of path.number kept
+    one path wide own true over =
+        let h = wide (over-any member path.item.spec.formats over) in
+        let fewer = le path.item.spec in
+        let m = mul-le-mul_right (length path.item.spec.formats) fewer in
+        omega (arith, h, m)
+    one path wide own false other =
+        let same : count path.item.spec + 0 ≡ count path.item.spec = omega arith in
+        subst (λ (n : ℕ). n * length path.item.spec.formats ≤ spare_of path.number kept) (sym same) own
+
+-- and the other way round
+pub room-of_spares : (member few : ℕ) (count : PathSpec → ℕ) (kept : KeptPaths) → ((spec : PathSpec) → is_over member spec ≡ true → few ≤ count spec) → HaveSpares count kept
+    → HaveRoom member few kept
+room-of_spares member few count kept le had k d low any =
+    let spec = (get_or kept.paths k d).item.spec in
+    let h = had k d low in
+    let fewer = le spec (any-over member spec.formats any) in
+    let m = mul-le-mul_right (length spec.formats) fewer in
+    omega (arith, h, m)
 
 -- memory is set aside
 pub IsIndexed-roomier : (specs : List PathSpec) (files : Named FileState) (members : NumberedMembers) (jobs : List JobState) (orders : List (Named OpenOrder)) (moves : List (List (List PathMove))) (old new : KeptPaths)
     → new.paths ≡ old.paths → ((id : ℕ) → spare_of id old ≤ spare_of id new) → IsIndexedFor specs files members jobs orders moves old → IsIndexedFor specs files members jobs orders moves new
 IsIndexed-roomier specs files members jobs orders moves old new same more indexed =
-    let rooms : (member : ℕ) → HaveRoom member (changes_on member jobs) new = λ member. room-more member (changes_on member jobs) old new same more (indexed.room member) in
+    let rooms : HaveSpares (λ spec. changes_over spec jobs) new = spares-more (λ spec. changes_over spec jobs) old new same more indexed.room in
     record {
       paths = rw same indexed.paths;
       orders = rw same indexed.orders;
@@ -263,23 +318,23 @@ IsIndexed-roomier specs files members jobs orders moves old new same more indexe
       views = indexed.views;
     }
 
--- ---- how many changes there are of a member
+-- ---- how many changes there are of members that a path is over
 
-abbrev pub count_on : (member : ℕ) → JobState → ℕ
-count_on member job = length (filter (λ (undo : MemberChange). undo.member == member) (changes_in job.cycle))
+abbrev pub counted_in : (spec : PathSpec) → JobState → ℕ
+counted_in spec job = length (filter (λ (undo : MemberChange). is_over undo.member spec) (changes_in job.cycle))
 
-pub changes_on-cons : (member : ℕ) (job : JobState) (jobs : List JobState) → changes_on member (job ∷ jobs) ≡ count_on member job + changes_on member jobs
-changes_on-cons member job jobs = sum_by-cons (count_on member) job jobs
+pub changes_over-cons : (spec : PathSpec) (job : JobState) (jobs : List JobState) → changes_over spec (job ∷ jobs) ≡ counted_in spec job + changes_over spec jobs
+changes_over-cons spec job jobs = sum_by-cons (counted_in spec) job jobs
 
-pub changes_on-fewer : (member place : ℕ) (change : JobState → JobState) (jobs : List JobState) → ((job : JobState) → count_on member (change job) ≤ count_on member job)
-    → changes_on member (job_changed place change jobs) ≤ changes_on member jobs
-changes_on-fewer member place change [] fewer = omega arith
-changes_on-fewer member zero change (job ∷ jobs) fewer =
-    let before = changes_on-cons member job jobs in let after = changes_on-cons member (change job) jobs in let f = fewer job in omega (arith, before, after, f)
-changes_on-fewer member (suc place) change (job ∷ jobs) fewer =
-    let before = changes_on-cons member job jobs in
-    let after = changes_on-cons member job (job_changed place change jobs) in
-    let rest = changes_on-fewer member place change jobs fewer in
+pub changes_over-fewer : (spec : PathSpec) (place : ℕ) (change : JobState → JobState) (jobs : List JobState) → ((job : JobState) → counted_in spec (change job) ≤ counted_in spec job)
+    → changes_over spec (job_changed place change jobs) ≤ changes_over spec jobs
+changes_over-fewer spec place change [] fewer = omega arith
+changes_over-fewer spec zero change (job ∷ jobs) fewer =
+    let before = changes_over-cons spec job jobs in let after = changes_over-cons spec (change job) jobs in let f = fewer job in omega (arith, before, after, f)
+changes_over-fewer spec (suc place) change (job ∷ jobs) fewer =
+    let before = changes_over-cons spec job jobs in
+    let after = changes_over-cons spec job (job_changed place change jobs) in
+    let rest = changes_over-fewer spec place change jobs fewer in
     omega (arith, before, after, rest)
 
 -- ---- all changes of open commit cycles
@@ -319,18 +374,17 @@ moves-among old new (job ∷ jobs) all = λ i. those (changes_in job.cycle) all.
     those [] same = refl
     those (undo ∷ undos) same = λ i. same.0 i ∷ those undos same.1 i
 
--- where none is of the member
-pub changes-none : (member : ℕ) (jobs : List JobState) → OfChanges (λ undo. undo.member ≢ member) jobs → changes_on member jobs ≡ 0
-changes-none member [] all = refl
-changes-none member (job ∷ jobs) all =
-    let sum = changes_on-cons member job jobs in
-    let rest = changes-none member jobs all.1 in
+-- where the path is over none of their members
+pub changes-none : (spec : PathSpec) (jobs : List JobState) → OfChanges (λ undo. is_over undo.member spec ≡ false) jobs → changes_over spec jobs ≡ 0
+changes-none spec [] all = refl
+changes-none spec (job ∷ jobs) all =
+    let sum = changes_over-cons spec job jobs in
+    let rest = changes-none spec jobs all.1 in
     let own = those (changes_in job.cycle) all.0 in
     omega (arith, sum, rest, own)
   where
-    those : (undos : List MemberChange) → AllByRecursion (λ (undo : MemberChange). undo.member ≢ member) undos → length (filter (λ (undo : MemberChange). undo.member == member) undos) ≡ 0
+    those : (undos : List MemberChange) → AllByRecursion (λ (undo : MemberChange). is_over undo.member spec ≡ false) undos → length (filter (λ (undo : MemberChange). is_over undo.member spec) undos) ≡ 0
     those [] apart = refl
     those (undo ∷ undos) apart =
-        ap length (cond-false (undo.member == member) (undo ∷ filter (λ (u : MemberChange). u.member == member) undos) (filter (λ (u : MemberChange). u.member == member) undos)
-        (let differs = apart.0 in let e : (undo.member == member) ≡ false = grind (arith, nat_tests) in e))
+        ap length (cond-false (is_over undo.member spec) (undo ∷ filter (λ (u : MemberChange). is_over u.member spec) undos) (filter (λ (u : MemberChange). is_over u.member spec) undos) apart.0)
         ∙ those undos apart.1

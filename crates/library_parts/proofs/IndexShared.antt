@@ -5,15 +5,13 @@ use Rattle.std.specs.List.{AllByRecursion, AllZip, list_any}
 use Rattle.std.proofs.lemmas.Bool.{cond-true, eqb-true}
 use Rattle.std.proofs.lemmas.Bool.Decides.{nat_tests}
 use Rattle.std.proofs.lemmas.List.Elements.{All-from_recursion, recursion_from_All}
-use Rattle.std.proofs.Math.Bool.{or-true}
 use Rattle.access_path.specs.Moves.{Move}
 use Rattle.member_slots.specs.Members.{Numbered, NumberedMembers, item_at, put_item, with_item, without_item}
-use Rattle.file_model.specs.declared.paths.PathFormat.{PathFormat}
 use Rattle.file_model.specs.declared.paths.PathSpec.{PathSpec}
 use Rattle.logical_model.specs.Bases.{Bases, FileSpec, PhysicalFile, LogicalFile, base_names}
 use Rattle.path_set.specs.declared.moves.PathMove.{PathMove}
 use Rattle.path_set.specs.KeptPaths.{KeptPath, KeptPaths, NumberedPaths, AreOver, AreShared, spare_of}
-use Rattle.path_set.specs.RecordChanges.{RecordChange, reversed, moves_of, in_path, moves_in, HaveRoom}
+use Rattle.path_set.specs.RecordChanges.{RecordChange, reversed, moves_of, in_path, moves_in}
 use Rattle.path_set.specs.MemberSteps.{is_over}
 use Rattle.path_set.specs.Sharing.{IsShared, IsPut, detached, given_up, one_fewer, one_more, path_over}
 use Rattle.path_set.proofs.MemberStepLemmas.{moves-others}
@@ -27,10 +25,10 @@ use Rattle.job_table.specs.Opens.{OpenOrder}
 use Rattle.library_model.specs.Named.{Named, named}
 use Rattle.library_steps.specs.LogicalFiles.{bases_in}
 use Rattle.library_steps.specs.State.{FileState, OpenState, JobState}
-use Rattle.library_parts.specs.Indexed.{AreOfBytes, AreSameBasesBy, AreViews, IsIndexedFor, OpensRead, ReadsBy, ReadsFile, ReadsIn, changes_on, moves_back, moves_of_job, path_read, record_change}
+use Rattle.library_parts.specs.Indexed.{AreOfBytes, AreSameBasesBy, AreViews, IsIndexedFor, OpensRead, ReadsBy, ReadsFile, ReadsIn, HaveSpares, changes_over, moves_back, moves_of_job, path_read, record_change}
 use Rattle.library_parts.specs.PathChanges.{IsAttached}
 use Rattle.lawful_states.proofs.BaseLemmas.{Keeps-self}
-use Rattle.library_parts.proofs.IndexPaths.{FileStays, FilesStay, OfChanges, PathsStay, any-cons, any-none, changes-each, changes-none, moves-among, orders-stay, read-stays}
+use Rattle.library_parts.proofs.IndexPaths.{FileStays, FilesStay, OfChanges, PathsStay, changes-each, changes-none, moves-among, orders-stay, read-stays}
 
 pub clash : {b : Bool} → b ≡ true → b ≡ false → ⊥
 clash yes_is no_is = absurd cc
@@ -76,30 +74,14 @@ numbers-there paths = All-from_recursion (λ (p : Numbered KeptPath). IsSome (it
 abbrev pub IsUnchanged : PathSpec → List JobState → Type 0
 IsUnchanged spec jobs = OfChanges (λ undo. is_over undo.member spec ≡ false) jobs
 
-formats-over : (member : ℕ) (formats : List PathFormat) → Any (λ (f : PathFormat). f.member ≡ member) formats → list_any (λ (f : PathFormat). f.member == member) formats ≡ true
-formats-over member [] any = absurd (any-none (λ (f : PathFormat). f.member ≡ member) any)
-formats-over member (format ∷ formats) any =
-    elim (any-cons (λ (f : PathFormat). f.member ≡ member) format formats any) [
-      | inl same ↦ ap (λ (b : Bool). b || list_any (λ (f : PathFormat). f.member == member) formats) (let e : (format.member == member) ≡ true = grind (arith, nat_tests) in e)
-      | inr rest ↦ ap (λ (b : Bool). (format.member == member) || b) (formats-over member formats rest) ∙ or-true (format.member == member)
-    ]
+-- a path has memory for the moves that take the changes of members that it is over back
+abbrev pub HasBackRoom : List JobState → KeptPaths → Numbered KeptPath → Type 0
+HasBackRoom jobs kept path = changes_over path.item.spec jobs * length path.item.spec.formats ≤ spare_of path.number kept
 
-unchanged-none : (member : ℕ) (spec : PathSpec) (jobs : List JobState) → is_over member spec ≡ true → IsUnchanged spec jobs → changes_on member jobs ≡ 0
-unchanged-none member spec jobs over unchanged =
-    changes-none member jobs (changes-each (λ undo. is_over undo.member spec ≡ false) (λ undo. undo.member ≢ member)
-    (λ undo none same. clash (subst (λ (n : ℕ). is_over n spec ≡ true) (sym same) over) none) jobs unchanged)
-
--- a path has memory for the moves that take the changes of a member back
-abbrev pub HasRoomIn : List JobState → KeptPaths → (member : ℕ) → Numbered KeptPath → Type 0
-HasRoomIn jobs kept member path =
-    Any (λ (f : PathFormat). f.member ≡ member) path.item.spec.formats → changes_on member jobs * length path.item.spec.formats ≤ spare_of path.number kept
-
-room-unchanged : (spec : PathSpec) (jobs : List JobState) (kept : KeptPaths) (member number : ℕ) → IsUnchanged spec jobs → Any (λ (f : PathFormat). f.member ≡ member) spec.formats
-    → changes_on member jobs * length spec.formats ≤ spare_of number kept
-room-unchanged spec jobs kept member number unchanged any =
-    let none : changes_on member jobs ≡ 0 = unchanged-none member spec jobs (formats-over member spec.formats any) unchanged in
-    let product : changes_on member jobs * length spec.formats ≡ 0 * length spec.formats = ap (λ (n : ℕ). n * length spec.formats) none in
-    omega (arith, product)
+room-unchanged : (spec : PathSpec) (jobs : List JobState) (kept : KeptPaths) (number : ℕ) → IsUnchanged spec jobs → changes_over spec jobs * length spec.formats ≤ spare_of number kept
+room-unchanged spec jobs kept number unchanged =
+    let none : changes_over spec jobs * length spec.formats ≡ 0 * length spec.formats = ap (λ (n : ℕ). n * length spec.formats) (changes-none spec jobs unchanged) in
+    omega (arith, none)
 
 -- the moves of a change, where another number of files has a path
 moves-with : (c : RecordChange) (id : ℕ) (path item : KeptPath) → item.spec ≡ path.spec → (paths : NumberedPaths) → item_at id paths ≡ Some path
@@ -225,22 +207,21 @@ module _ (specs : List PathSpec) (files : Named FileState) (members : NumberedMe
     moves-attached id (inr its) c none = ap (moves_in c) its.put ∙ moves-put c id (path_over spec members) old.paths its.number.free (moves-others c spec none)
 
     room-attached : (id : ℕ) → (IsShared spec id old.paths new.paths ⊎ IsPut spec members id old.paths new.paths) → ((other : ℕ) → spare_of other old ≤ spare_of other new)
-        → ((member : ℕ) → HaveRoom member (changes_on member jobs) old) → (member : ℕ) → HaveRoom member (changes_on member jobs) new
-    room-attached id its more had member = by its
+        → HaveSpares (λ spec. changes_over spec jobs) old → HaveSpares (λ spec. changes_over spec jobs) new
+    room-attached id its more had = by its
       where
-        roomier : AllByRecursion (HasRoomIn jobs new member) old.paths
-        roomier =
-            recursion_from_All (HasRoomIn jobs new member) old.paths (λ k d low any. let h = had member k d low any in let m = more (get_or old.paths k d).number in omega (arith, h, m))
+        roomier : AllByRecursion (HasBackRoom jobs new) old.paths
+        roomier = recursion_from_All (HasBackRoom jobs new) old.paths (λ k d low. let h = had k d low in let m = more (get_or old.paths k d).number in omega (arith, h, m))
 
-        by : (IsShared spec id old.paths new.paths ⊎ IsPut spec members id old.paths new.paths) → HaveRoom member (changes_on member jobs) new
+        by : (IsShared spec id old.paths new.paths ⊎ IsPut spec members id old.paths new.paths) → HaveSpares (λ spec. changes_over spec jobs) new
         by (inl is) =
-            subst (λ (p : NumberedPaths). All (HasRoomIn jobs new member) p) (sym is.counted)
-            (All-from_recursion (HasRoomIn jobs new member) (with_item id (one_more is.path) old.paths)
-            (each-with id is.path (one_more is.path) (HasRoomIn jobs new member) old.paths (λ own. own) is.there roomier))
+            subst (λ (p : NumberedPaths). All (HasBackRoom jobs new) p) (sym is.counted)
+            (All-from_recursion (HasBackRoom jobs new) (with_item id (one_more is.path) old.paths)
+            (each-with id is.path (one_more is.path) (HasBackRoom jobs new) old.paths (λ own. own) is.there roomier))
         by (inr is) =
-            subst (λ (p : NumberedPaths). All (HasRoomIn jobs new member) p) (sym is.put)
-            (All-from_recursion (HasRoomIn jobs new member) (put_item id (path_over spec members) old.paths)
-            (each-put id (path_over spec members) (HasRoomIn jobs new member) old.paths (room-unchanged spec jobs new member id unchanged) roomier))
+            subst (λ (p : NumberedPaths). All (HasBackRoom jobs new) p) (sym is.put)
+            (All-from_recursion (HasBackRoom jobs new) (put_item id (path_over spec members) old.paths)
+            (each-put id (path_over spec members) (HasBackRoom jobs new) old.paths (room-unchanged spec jobs new id unchanged) roomier))
 
     pub IsIndexed-attached : IsAttached spec members old new → IsIndexedFor specs files members jobs orders moves old → IsIndexedFor (spec ∷ specs) files members jobs orders moves new
     IsIndexed-attached is indexed = record {
@@ -290,13 +271,13 @@ module _ (specs : List PathSpec) (files : Named FileState) (members : NumberedMe
         (λ more. moves-with c id path (one_fewer path) refl old.paths at)
         (λ few. moves-without c id path (moves-others c path.spec (ap (is_over c.member) same ∙ none)) old.paths (two-from IsBelow old.paths shared.ascend) at)
 
-    room-detached : (member : ℕ) → HaveRoom member (changes_on member jobs) old → HaveRoom member (changes_on member jobs) left
-    room-detached member had =
-        let all = recursion_from_All (HasRoomIn jobs old member) old.paths had in
-        fewer-or-last (λ (p : NumberedPaths). All (HasRoomIn jobs old member) p)
-        (λ more. All-from_recursion (HasRoomIn jobs old member) (with_item id (one_fewer path) old.paths)
-        (each-with id path (one_fewer path) (HasRoomIn jobs old member) old.paths (λ own. own) at all))
-        (λ few. All-from_recursion (HasRoomIn jobs old member) (without_item id old.paths) (each-filter (λ (q : Numbered KeptPath). not (q.number == id)) (HasRoomIn jobs old member) old.paths all))
+    room-detached : HaveSpares (λ spec. changes_over spec jobs) old → HaveSpares (λ spec. changes_over spec jobs) left
+    room-detached had =
+        let all = recursion_from_All (HasBackRoom jobs old) old.paths had in
+        fewer-or-last (λ (p : NumberedPaths). All (HasBackRoom jobs old) p)
+        (λ more. All-from_recursion (HasBackRoom jobs old) (with_item id (one_fewer path) old.paths)
+        (each-with id path (one_fewer path) (HasBackRoom jobs old) old.paths (λ own. own) at all))
+        (λ few. All-from_recursion (HasBackRoom jobs old) (without_item id old.paths) (each-filter (λ (q : Numbered KeptPath). not (q.number == id)) (HasBackRoom jobs old) old.paths all))
 
     pub IsIndexed-detached : OpensAreAmong specs files jobs → IsIndexedFor (spec ∷ specs) files members jobs orders moves old → IsIndexedFor specs files members jobs orders moves left
     IsIndexed-detached among indexed = record {
@@ -305,7 +286,7 @@ module _ (specs : List PathSpec) (files : Named FileState) (members : NumberedMe
       moves = indexed.moves ∙ sym (moves-among old.paths (detached id old.paths) jobs
           (changes-each (λ undo. is_over undo.member spec ≡ false) (λ undo. moves_back (detached id old.paths) undo ≡ moves_back old.paths undo)
           (λ undo none. moves-detached (reversed (record_change undo)) none) jobs unchanged));
-      room = λ member. room-detached member (indexed.room member);
+      room = room-detached indexed.room;
       bytes = indexed.bytes;
       views = indexed.views;
     }
@@ -319,8 +300,8 @@ module _ (specs : List PathSpec) (files : Named FileState) (members : NumberedMe
     paths = subst (λ (p : NumberedPaths). AreKeptFor specs members p) (sym is) indexed.paths;
     orders = subst (λ (p : NumberedPaths). AllZip (OpensRead files p) jobs orders) (sym is) indexed.orders;
     moves = indexed.moves ∙ ap (λ (p : NumberedPaths). map (moves_of_job p) jobs) (sym is);
-    room = λ member k d low any.
-        let had = subst (λ (p : NumberedPaths). All (HasRoomIn jobs old member) p) (sym is) (indexed.room member) k d low any in
+    room = λ k d low.
+        let had = subst (λ (p : NumberedPaths). All (HasBackRoom jobs old) p) (sym is) indexed.room k d low in
         let same = spares (get_or new.paths k d).number (numbers-there new.paths k d low) in
         omega (arith, had, same);
     bytes = indexed.bytes;

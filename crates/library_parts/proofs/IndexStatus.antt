@@ -1,5 +1,6 @@
 -- The kept paths are those of a library still, when files change in what doesn't tell their paths.
 use Rattle.std.proofs.Common.{◌≡◌, ℕ, List, [], ◌∷◌, map, Some, refl, ap, sym, subst}
+use Rattle.dds_logical.specs.declared.views.View.{View}
 use Rattle.std.specs.List.{AllByRecursion}
 use Rattle.member_slots.specs.Members.{NumberedMembers}
 use Rattle.dds_logical.specs.declared.views.LogicalSpec.{LogicalSpec}
@@ -7,7 +8,7 @@ use Rattle.dds_logical.specs.declared.views.LogicalSpec.TheVariants.{Simple, Mul
 use Rattle.logical_model.specs.Bases.{Base, Bases, FileSpec, PhysicalFile, LogicalFile, base_names}
 use Rattle.logical_laws.specs.Mapped.{AreSameBases}
 use Rattle.logical_laws.proofs.SameLemmas.{same-mapped}
-use Rattle.logical_paths.specs.KeyedViews.{IsKeyedView}
+use Rattle.logical_paths.specs.KeyedViews.{IsKeyedView, IsViewOver}
 use Rattle.library_paths.specs.AllPaths.{all_paths, count_in}
 use Rattle.library_paths.proofs.BaseLemmas.{AllAlike, AreAlike, all-alike-status}
 use Rattle.library_paths.proofs.NameLemmas.{each-named}
@@ -45,17 +46,32 @@ files-alike files others alike kept name file here = record {
 
 -- ---- logical files beside them
 
+views-keyed : (bases other : Bases) (views : List View) → AreSameBases bases other (Multi views) → AllByRecursion (IsViewOver bases) views → AllByRecursion (IsViewOver other) views
+views-keyed bases other [] same all = tt
+views-keyed bases other (view ∷ views) same all = (subst (λ (b : Base). IsKeyedView b.fields view) same.0 all.0, views-keyed bases other views same.1 all.1)
+
 view-alike : (bases other : Bases) (spec : LogicalSpec) → AreSameBases bases other spec → IsView bases spec → IsView other spec
 view-alike bases other (Simple view) same is = record {
-  simple = tt;
+  unjoined = tt;
+  some = is.some;
+  several = is.several;
   keyed = subst (λ (b : Base). IsKeyedView b.fields view) same.0 is.keyed;
   mapped = same-mapped bases other (Simple view) same is.mapped;
   rises = is.rises;
   formats = is.formats;
   bytes = is.bytes;
 }
-view-alike bases other (Multi views) same is = absurd is.simple
-view-alike bases other (Join view) same is = absurd is.simple
+view-alike bases other (Multi views) same is = record {
+  unjoined = tt;
+  some = is.some;
+  several = is.several;
+  keyed = record { each = views-keyed bases other views same is.keyed.each; few = is.keyed.few; match = is.keyed.match };
+  mapped = same-mapped bases other (Multi views) same is.mapped;
+  rises = is.rises;
+  formats = is.formats;
+  bytes = is.bytes;
+}
+view-alike bases other (Join view) same is = absurd is.unjoined
 
 pub beside-alike : (files others : Named FileState) (spec : FileSpec) → AreAlike (bases_in others) (bases_in files) spec → IsViewBeside files spec → IsViewBeside others spec
 beside-alike files others (PhysicalFile spec) alike is = tt

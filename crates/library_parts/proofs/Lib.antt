@@ -5,6 +5,9 @@ pub mod LawfulLemmas
 pub mod ResultLemmas
 pub mod AnswerLemmas
 pub mod FindLemmas
+pub mod AlikeParts
+pub mod KeepReads
+pub mod FormatKeys
 pub mod IndexPaths
 pub mod IndexShared
 pub mod IndexOpens
@@ -26,6 +29,7 @@ pub mod IndexKeyed
 pub mod IndexNew
 pub mod RemadeLemmas
 pub mod AttachLemmas
+pub mod UnderLemmas
 pub mod UndoingLemmas
 pub mod ReadLemmas
 pub mod PlaceLemmas

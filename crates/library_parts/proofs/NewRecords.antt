@@ -77,15 +77,15 @@ module _ (parts : LibraryParts) (member rrn : ℕ) (image : List ℕ) (orders : 
   abbrev paths : NumberedPaths
   paths = parts.room.paths.paths
 
-  -- ---- each path over the member has one format
+  -- ---- each path over the member that may have no equal keys has one format
 
-  one-format : (id : ℕ) (path : KeptPath) → item_at id parts.room.paths.paths ≡ Some path → list_any (λ (f : PathFormat). f.member == member) path.spec.formats ≡ true
+  one-format : (id : ℕ) (path : KeptPath) → item_at id parts.room.paths.paths ≡ Some path → path.spec.unique ≡ true → list_any (λ (f : PathFormat). f.member == member) path.spec.formats ≡ true
       → (format : PathFormat) × IsFormatAt id member format parts.room.paths.paths
-  one-format id path at over =
+  one-format id path at unique over =
       let its : IsOfOwner s.files path.spec =
       each-at (λ (q : Numbered KeptPath). IsOfOwner s.files q.item.spec) id path paths
       (recursion_from_All (λ (q : Numbered KeptPath). IsOfOwner s.files q.item.spec) paths (kept-of s.files s.members paths indexed.views shared indexed.paths)) at in
-      let own : IsOfMember its.number path.spec = its.of in
+      let own : IsOfMember (its.one unique).0 path.spec = (its.one unique).1 in
       (own.format, record { path = path; at = at; formats = own.formats; its = over-one member own.format path.spec.formats own.formats over })
 
   -- ---- each path tells which record has the key
@@ -160,8 +160,8 @@ module _ (parts : LibraryParts) (member rrn : ℕ) (image : List ℕ) (orders : 
           (subst (λ (f : FileSpec). Contains (paths_by s.files file.members f) whole) (sym is) (zero, omega arith, refl)) in
           let both = both-true view.keys.unique (is_over member whole) passes in
           (path-kept name whole format among both.0 refl (over-one member format (format ∷ []) refl both.1), tt)
-  logical-kept name file here (Multi views) is its = absurd its.simple
-  logical-kept name file here (Join view) is its = absurd its.simple
+  logical-kept name file here (Multi views) is its = tt
+  logical-kept name file here (Join view) is its = absurd its.unjoined
 
   file-kept : (name : List ℕ) (file : FileState) → named name parts.state.files ≡ Some file
       → AllByRecursion (IsKeptOver member parts.room.paths.paths) (uniques_by file.spec (memory_of parts.state) member (name, file))

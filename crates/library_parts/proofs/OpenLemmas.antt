@@ -1,5 +1,6 @@
 -- How a new open reads: by its file's path, or in arrival order.
 use Rattle.std.proofs.Common.{◌≡◌, ◌≢◌, ℕ, zero, ◌&&◌, Bool, true, false, if◌then◌else◌, List, [], ◌∷◌, map, Option, Some, None, Result, Ok, Err, IfOk, IfSome, refl, sym, ap, subst, ◌∙◌, arith}
+use Rattle.lawful_states.specs.Owners.{has_number}
 use Rattle.std.specs.Prelude.{Any, Contains, MatchOption}
 use Rattle.dds_logical.specs.declared.views.LogicalSpec.{LogicalSpec}
 use Rattle.dds_logical.specs.declared.views.LogicalSpec.TheVariants.{Simple, Multi, Join}
@@ -23,15 +24,15 @@ use Rattle.job_table.specs.declared.reads.OpenReads.{OpenReads}
 use Rattle.library_model.specs.Named.{named}
 use Rattle.library_model.specs.declared.requests.OpenFile.{OpenFile}
 use Rattle.library_steps.specs.LogicalFiles.{bases_in}
-use Rattle.library_steps.specs.Opens.{new_open}
+use Rattle.library_steps.specs.Opens.{new_open, first_of}
 use Rattle.library_steps.specs.Records.{is_file_path}
 use Rattle.library_steps.specs.State.{FileState}
-use Rattle.library_parts.specs.Finds.{OpensMember, OpensBy}
-use Rattle.library_parts.specs.Indexed.{AreViews, IsSimple, IsView, IsViewBeside, ReadsBy, ReadsFile, path_by}
+use Rattle.library_parts.specs.Finds.{OpensMembers, OpensBy}
+use Rattle.library_parts.specs.Indexed.{AreViews, IsUnjoined, IsView, IsViewBeside, ReadsBy, ReadsFile, path_by}
 use Rattle.library_parts.specs.Parts.{LibraryParts}
 use Rattle.library_parts.specs.Reads.{IsNumberOf, MayReadSo, ReadsFor, ReadsNew}
 use Rattle.library_parts.proofs.IndexPaths.{any-both}
-use Rattle.library_parts.proofs.FindLemmas.{simple-of, view-of}
+use Rattle.library_parts.proofs.FindLemmas.{unjoined-of, view-of}
 
 -- ---- the number of a kept path
 
@@ -65,12 +66,12 @@ new-by commit paths None reads there new = record { path = new.by.0; formats = n
 new-by commit paths (Some spec) reads there new = record { path = numbered-there spec paths reads.path there new.by.0; formats = new.by.1 }
 
 module _ (parts : LibraryParts) (shared : AreShared parts.room.paths.paths) (are : AreKeptFor (all_paths parts.state.files) parts.state.members parts.room.paths.paths) (views : AreViews parts.state.files)
-    (args : OpenFile) (member : ℕ) (opens : OpensMember parts.state.files member (named args.file parts.state.files)) (so : MayReadSo args (named args.file parts.state.files)) where
+    (args : OpenFile) (members : List ℕ) (opens : OpensMembers parts.state.files members (named args.file parts.state.files)) (so : MayReadSo args (named args.file parts.state.files)) where
   -- the file is there
   pub file-there : (file : FileState) × (named args.file parts.state.files ≡ Some file)
   file-there = by (named args.file parts.state.files) refl opens
     where
-      by : (o : Option FileState) → named args.file parts.state.files ≡ o → OpensMember parts.state.files member o → (file : FileState) × (named args.file parts.state.files ≡ Some file)
+      by : (o : Option FileState) → named args.file parts.state.files ≡ o → OpensMembers parts.state.files members o → (file : FileState) × (named args.file parts.state.files ≡ Some file)
       by None is h = absurd h
       by (Some file) is h = (file, is)
 
@@ -84,35 +85,37 @@ module _ (parts : LibraryParts) (shared : AreShared parts.room.paths.paths) (are
     both-are true b h = h
     both-are false b h = absurd cc
 
-    kept-own : (spec : FileSpec) → file.spec ≡ spec → IsSimple spec → OpensBy parts.state.files member file spec
-        → IfSome (path_by (bases_in parts.state.files) (is_file_path args.access_path && has_key spec) member spec) (λ path. IsThere path parts.room.paths.paths)
-    kept-own (PhysicalFile spec) is simple has = by (is_file_path args.access_path && has_key (PhysicalFile spec)) refl
+    kept-own : (spec : FileSpec) → file.spec ≡ spec → IsUnjoined spec → OpensBy parts.state.files members file spec
+        → IfSome (path_by (bases_in parts.state.files) (is_file_path args.access_path && has_key spec) (first_of members) spec) (λ path. IsThere path parts.room.paths.paths)
+    kept-own (PhysicalFile spec) is unjoined has = by (is_file_path args.access_path && has_key (PhysicalFile spec)) refl
       where
         by : (b : Bool) → (is_file_path args.access_path && has_key (PhysicalFile spec)) ≡ b
-            → IfSome (if b then Some (physical_path member spec.format.fields spec.keys) else None) (λ path. IsThere path parts.room.paths.paths)
+            → IfSome (if b then Some (physical_path (first_of members) spec.format.fields spec.keys) else None) (λ path. IsThere path parts.room.paths.paths)
         by true keyed =
-            contained (physical_path member spec.format.fields spec.keys) (PhysicalFile spec) is
-            (member-path spec file.members member (both-are (is_file_path args.access_path) (has_key (PhysicalFile spec)) keyed) has)
+            contained (physical_path (first_of members) spec.format.fields spec.keys) (PhysicalFile spec) is
+            (member-path spec file.members (first_of members) (both-are (is_file_path args.access_path) (has_key (PhysicalFile spec)) keyed)
+            (subst (λ (ms : List ℕ). has_number (first_of ms) file.members ≡ true) (sym has.1) has.2))
         by false keyed = tt
-    kept-own (LogicalFile (Simple view)) is simple all =
+    kept-own (LogicalFile (Simple view)) is unjoined all =
         contained (views_path (bases_in parts.state.files) view.keys.unique (view ∷ [])) (LogicalFile (Simple view)) is (zero, omega arith, refl)
-    kept-own (LogicalFile (Multi views)) is simple all = absurd simple
-    kept-own (LogicalFile (Join view)) is simple all = absurd simple
+    kept-own (LogicalFile (Multi views)) is unjoined all =
+        contained (views_path (bases_in parts.state.files) false views) (LogicalFile (Multi views)) is (zero, omega arith, refl)
+    kept-own (LogicalFile (Join view)) is unjoined all = absurd unjoined
 
     -- so it reads by the file's path, or in arrival order
     pub new-reads : (spec : FileSpec) → file.spec ≡ spec → (reads : OpenReads)
-        → ReadsNew args.commit parts.room.paths.paths (path_by (bases_in parts.state.files) (is_file_path args.access_path && has_key spec) member spec) reads → ReadsFor parts args member reads
+        → ReadsNew args.commit parts.room.paths.paths (path_by (bases_in parts.state.files) (is_file_path args.access_path && has_key spec) (first_of members) spec) reads → ReadsFor parts args members reads
     new-reads spec is reads new =
-        let simple : IsSimple spec = subst IsSimple is (simple-of parts.state.files args.file file views here) in
-        let its : OpensBy parts.state.files member file spec =
-        subst (OpensBy parts.state.files member file) is (subst (λ (o : Option FileState). OpensMember parts.state.files member o) here opens) in
-        let read : ReadsBy parts.room.paths.paths (path_by (bases_in parts.state.files) (is_file_path args.access_path && has_key spec) member spec) (order_by 0 reads) =
-        new-by args.commit parts.room.paths.paths (path_by (bases_in parts.state.files) (is_file_path args.access_path && has_key spec) member spec) reads (kept-own spec is simple its) new in
+        let unjoined : IsUnjoined spec = subst IsUnjoined is (unjoined-of parts.state.files args.file file views here) in
+        let its : OpensBy parts.state.files members file spec =
+        subst (OpensBy parts.state.files members file) is (subst (λ (o : Option FileState). OpensMembers parts.state.files members o) here opens) in
+        let read : ReadsBy parts.room.paths.paths (path_by (bases_in parts.state.files) (is_file_path args.access_path && has_key spec) (first_of members) spec) (order_by 0 reads) =
+        new-by args.commit parts.room.paths.paths (path_by (bases_in parts.state.files) (is_file_path args.access_path && has_key spec) (first_of members) spec) reads (kept-own spec is unjoined its) new in
         record {
           start = new.start;
           order =
-              subst (ReadsFile (bases_in parts.state.files) parts.room.paths.paths (new_open args 0 (member ∷ [])) (order_by 0 reads)) (sym here) (
-                subst (λ (s : FileSpec). ReadsBy parts.room.paths.paths (path_by (bases_in parts.state.files) (is_file_path args.access_path && has_key s) member s) (order_by 0 reads)) (sym is) read,
+              subst (ReadsFile (bases_in parts.state.files) parts.room.paths.paths (new_open args 0 members) (order_by 0 reads)) (sym here) (
+                subst (λ (s : FileSpec). ReadsBy parts.room.paths.paths (path_by (bases_in parts.state.files) (is_file_path args.access_path && has_key s) (first_of members) s) (order_by 0 reads)) (sym is) read,
                 subst (λ (o : Option FileState). MayReadSo args o) here so,
               );
         }
@@ -132,12 +135,12 @@ pub new-position : (commit : Bool) (formats : List (List KeyPart)) (reads : Open
 new-position commit formats reads is =
     is ∙ (λ i. record { position = Start; boundary = Start; formats = (sym (ap (λ (p : OpenStand). p.formats) is)) i; marks = commit })
 
--- by a path with one format
-pub new-by-path : (commit : Bool) (paths : NumberedPaths) (path : PathSpec) (ps : List KeyPart) (reads : OpenReads) → map (λ format. format.key) path.formats ≡ key_parts 0 ps ∷ []
-    → IsNumberOf path reads.path paths → reads.position ≡ record { position = Start; boundary = Start; formats = key_parts 0 ps ∷ []; marks = commit } → ReadsNew commit paths (Some path) reads
-new-by-path commit paths path ps reads keys number position = record {
-  start = new-position commit (key_parts 0 ps ∷ []) reads position;
-  by = (number, ap (λ (p : OpenStand). p.formats) position ∙ sym keys);
+-- by a path
+pub new-by-path : (commit : Bool) (paths : NumberedPaths) (path : PathSpec) (reads : OpenReads) → IsNumberOf path reads.path paths
+    → reads.position ≡ record { position = Start; boundary = Start; formats = map (λ format. format.key) path.formats; marks = commit } → ReadsNew commit paths (Some path) reads
+new-by-path commit paths path reads number position = record {
+  start = new-position commit (map (λ format. format.key) path.formats) reads position;
+  by = (number, ap (λ (p : OpenStand). p.formats) position);
 }
 
 -- in arrival order

@@ -1,5 +1,9 @@
 -- What an open reads by: its order among those of its job, and the kept path of its file, with the entries that the members give it.
-use Rattle.std.proofs.Common.{ℕ, zero, suc, ◌-◌, ◌<◌, ◌≤◌, ◌≡◌, ◌==◌, ◌&&◌, nat_lt, if◌then◌else◌, IsTrue, Bool, true, false, cond, List, [], ◌∷◌, length, get_or, slice_get, Option, Some, None, IsSome, refl, sym, ap, arith, ◌∙◌, subst}
+use Rattle.std.proofs.Common.{ℕ, zero, suc, ◌-◌, ◌<◌, ◌≤◌, ◌≡◌, ◌==◌, ◌&&◌, nat_lt, if◌then◌else◌, IsTrue, Bool, true, false, cond, List, [], ◌∷◌, length, get_or, slice_get, Option, Some, map, None, IsSome, refl, sym, ap, arith, ◌∙◌, subst}
+use Rattle.library_parts.proofs.AlikeParts.{views-length}
+use Rattle.logical_model.specs.FilePaths.{view_format}
+use Rattle.file_model.specs.declared.paths.PathFormat.{PathFormat}
+use Rattle.dds_logical.specs.declared.views.View.{View}
 use Rattle.std.specs.Prelude.{All, AllPairs, unwrap_or}
 use Rattle.std.specs.List.{AllByRecursion, AllZip}
 use Rattle.std.proofs.lemmas.Bool.{cond-true, cond-false, ltb-false}
@@ -39,7 +43,7 @@ use Rattle.library_steps.specs.LogicalFiles.{bases_in}
 use Rattle.library_steps.specs.Opens.{first_of}
 use Rattle.library_steps.specs.Records.{is_file_path, is_keyed}
 use Rattle.library_steps.specs.State.{FileState, OpenState, JobState, job_at, or_new}
-use Rattle.library_parts.specs.Indexed.{AreOfBytes, HasBytes, IsByPath, IsReadSo, IsSimple, MemberHasBytes, ReadsBy, ReadsFile, ReadsIn, OpensRead, path_by, path_read, IsIndexed}
+use Rattle.library_parts.specs.Indexed.{AreOfBytes, HasBytes, IsByPath, IsReadSo, IsUnjoined, MemberHasBytes, ReadsBy, ReadsFile, ReadsIn, OpensRead, path_by, path_read, IsIndexed}
 use Rattle.lawful_states.specs.Lawful.{HoldsValues, IsThere}
 use Rattle.library_parts.specs.Reads.{formats_by, formats_read, has_positions}
 use Rattle.lawful_states.proofs.BaseLemmas.{some-of}
@@ -113,9 +117,16 @@ no-parts (p ∷ ps) none = let low : suc (length ps) ≤ 0 = ltb-false 0 (suc (l
 abbrev pub own_parts : (keyed : Bool) → FileSpec → List KeyPart
 own_parts keyed spec = if keyed then parts_in spec else []
 
-pub formats-are : (bases : Bases) (file : FileState) (opened : OpenState) → IsSimple file.spec → IsReadSo (is_file_path opened.access_path) file.spec
+-- a file of one format
+abbrev pub HasOneFormat : FileSpec → Type 0
+HasOneFormat (PhysicalFile spec) = Unit {0}
+HasOneFormat (LogicalFile (Simple view)) = Unit {0}
+HasOneFormat (LogicalFile (Multi views)) = ⊥
+HasOneFormat (LogicalFile (Join view)) = ⊥
+
+pub formats-are : (bases : Bases) (file : FileState) (opened : OpenState) → HasOneFormat file.spec → IsReadSo (is_file_path opened.access_path) file.spec
     → formats_read bases file opened ≡ key_parts 0 (own_parts (is_keyed file opened) file.spec) ∷ []
-formats-are bases file opened simple so = kind file.spec simple so
+formats-are bases file opened one so = kind file.spec one so
   where
     access : Bool
     access = is_file_path opened.access_path
@@ -129,27 +140,52 @@ formats-are bases file opened simple so = kind file.spec simple so
     logical ps true some = refl
     logical ps false none = ap (λ (qs : List KeyPart). key_parts 0 qs ∷ []) (no-parts ps none)
 
-    kind : (spec : FileSpec) → IsSimple spec → IsReadSo access spec
+    kind : (spec : FileSpec) → HasOneFormat spec → IsReadSo access spec
         → formats_by (path_by bases (access && has_key spec) (first_of opened.members) spec) ≡ key_parts 0 (own_parts (access && has_key spec) spec) ∷ []
-    kind (PhysicalFile spec) simple so = physical (access && has_key (PhysicalFile spec)) spec
-    kind (LogicalFile (Simple view)) simple so =
+    kind (PhysicalFile spec) one so = physical (access && has_key (PhysicalFile spec)) spec
+    kind (LogicalFile (Simple view)) one so =
         logical view.keys.parts (nat_lt 0 (length view.keys.parts)) refl
         ∙ ap (λ (a : Bool). key_parts 0 (own_parts (a && has_key (LogicalFile (Simple view))) (LogicalFile (Simple view))) ∷ []) (sym so)
-    kind (LogicalFile (Multi views)) simple so = absurd simple
-    kind (LogicalFile (Join view)) simple so = absurd simple
+    kind (LogicalFile (Multi views)) one so = absurd one
+    kind (LogicalFile (Join view)) one so = absurd one
+
+-- of several formats, in their order
+pub keys-of-views : (bases : Bases) (views : List View) → map (λ (f : PathFormat). f.key) (map (view_format bases) views) ≡ map (λ (view : View). key_parts 0 view.keys.parts) views
+keys-of-views bases [] = refl
+keys-of-views bases (view ∷ views) = ap (λ (rest : List (List KeyPart)). key_parts 0 view.keys.parts ∷ rest) (keys-of-views bases views)
+
+pub formats-of-views : (bases : Bases) (file : FileState) (opened : OpenState) (views : List View) → file.spec ≡ LogicalFile (Multi views)
+    → formats_read bases file opened ≡ map (λ (view : View). key_parts 0 view.keys.parts) views
+formats-of-views bases file opened views is =
+    ap (λ (spec : FileSpec). formats_by (path_by bases (is_file_path opened.access_path && has_key spec) (first_of opened.members) spec)) is ∙ keys-of-views bases views
 
 has-parts : (ps : List KeyPart) → has_positions (key_parts 0 ps ∷ []) ≡ nat_lt 0 (length ps)
 has-parts ps = ap (λ (qs : List KeyPart). nat_lt 0 (length qs)) (merged-one (key_parts 0 ps)) ∙ ap (λ (n : ℕ). nat_lt 0 n) (parts-length ps 0)
 
 -- it reads by a key where it has such positions
-pub reads-keyed : (bases : Bases) (file : FileState) (opened : OpenState) → IsSimple file.spec → IsReadSo (is_file_path opened.access_path) file.spec
+pub reads-keyed : (bases : Bases) (file : FileState) (opened : OpenState) → IsUnjoined file.spec → IsReadSo (is_file_path opened.access_path) file.spec
     → has_positions (formats_read bases file opened) ≡ is_keyed file opened
-reads-keyed bases file opened simple so =
-    ap has_positions (formats-are bases file opened simple so) ∙ has-parts (own_parts (is_keyed file opened) file.spec) ∙ by (is_keyed file opened) refl
+reads-keyed bases file opened unjoined so = kind file.spec refl unjoined
   where
     by : (b : Bool) → is_keyed file opened ≡ b → nat_lt 0 (length (own_parts b file.spec)) ≡ b
     by true keyed = both-are (is_file_path opened.access_path) (has_key file.spec) keyed
     by false keyed = refl
+
+    single : HasOneFormat file.spec → has_positions (formats_read bases file opened) ≡ is_keyed file opened
+    single one = ap has_positions (formats-are bases file opened one so) ∙ has-parts (own_parts (is_keyed file opened) file.spec) ∙ by (is_keyed file opened) refl
+
+    several : (views : List View) → file.spec ≡ LogicalFile (Multi views) → has_positions (formats_read bases file opened) ≡ is_keyed file opened
+    several views is =
+        ap has_positions (formats-of-views bases file opened views is)
+        ∙ ap (λ (n : ℕ). nat_lt 0 n) (views-length views)
+        ∙ ap has_key (sym is)
+        ∙ ap (λ (a : Bool). a && has_key file.spec) (sym (subst (IsReadSo (is_file_path opened.access_path)) is so))
+
+    kind : (spec : FileSpec) → file.spec ≡ spec → IsUnjoined spec → has_positions (formats_read bases file opened) ≡ is_keyed file opened
+    kind (PhysicalFile spec) is unjoined = single (subst HasOneFormat (sym is) tt)
+    kind (LogicalFile (Simple view)) is unjoined = single (subst HasOneFormat (sym is) tt)
+    kind (LogicalFile (Multi views)) is unjoined = several views is
+    kind (LogicalFile (Join view)) is unjoined = absurd unjoined
 
 -- ---- records
 

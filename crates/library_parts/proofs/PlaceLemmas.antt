@@ -1,5 +1,7 @@
 -- The key that a request gives and the place where it sets a position, by the positions of the open's key.
-use Rattle.std.proofs.Common.{◌≡◌, ℕ, ◌+◌, ◌||◌, nat_lt, not, Bool, true, false, if◌then◌else◌, List, [], ◌∷◌, length, Option, Some, None, Result, Ok, Err, refl, sym, ap, subst, ◌∙◌}
+use Rattle.std.proofs.Common.{◌≡◌, ℕ, ◌+◌, ◌||◌, nat_lt, not, Bool, true, false, if◌then◌else◌, List, [], ◌∷◌, length, Option, Some, None, Result, Ok, Err, refl, sym, ap, subst, ◌∙◌, map}
+use Rattle.library_parts.proofs.AlikeParts.{views-fault, views-given}
+use Rattle.dds_logical.specs.declared.views.View.{View}
 use Rattle.std.specs.Prelude.{is_ok}
 use Rattle.field_types.specs.declared.values.Value.{Value}
 use Rattle.field_types.specs.declared.faults.ValueFault.{ValueFault}
@@ -33,9 +35,9 @@ use Rattle.library_steps.specs.Refusals.{◌>>=◌, OpenedFile}
 use Rattle.library_steps.specs.State.{FileState, OpenState}
 use Rattle.library_parts.specs.declared.stop.Stop.{Stop}
 use Rattle.library_parts.specs.declared.stop.Stop.TheVariants.{NoMemory, Refused}
-use Rattle.library_parts.specs.Indexed.{IsReadSo, IsSimple}
-use Rattle.library_parts.specs.Reads.{CanStandIn, GivesKey, HasKeyOf, MayHaveKey, ReadsSo, Stands, formats_read, parts_read, refusal, stood_at}
-use Rattle.library_parts.proofs.OpenLooks.{formats-are, merged-one, own_parts}
+use Rattle.library_parts.specs.Indexed.{IsReadSo, IsUnjoined}
+use Rattle.library_parts.specs.Reads.{CanStandIn, GivesKey, HasKeyOf, MayHaveKey, ReadsSo, Stands, formats_read, parts_read, refusal, stood_at, TakesNumbers}
+use Rattle.library_parts.proofs.OpenLooks.{formats-are, merged-one, own_parts, HasOneFormat, formats-of-views}
 
 -- ---- two definitions of what is wrong with given values are the same
 
@@ -61,35 +63,56 @@ record IsByKey (bases : Bases) (file : FileState) (opened : OpenState) : Type 0 
   faults : (values : List Value) → steps.key_fault (parts_in file.spec) values ≡ given.key_fault (parts_read bases file opened) values
   given_is : (values : List Value) → given_key (parts_in file.spec) values ≡ given_key (parts_read bases file opened) values
 
-by-key : (bases : Bases) (file : FileState) (opened : OpenState) → IsSimple file.spec → IsReadSo (is_file_path opened.access_path) file.spec → is_keyed file opened ≡ true → IsByKey bases file opened
-by-key bases file opened simple so keyed =
-    let ps : List KeyPart = parts_in file.spec in
-    let parts : parts_read bases file opened ≡ key_parts 0 ps =
-    ap merged_parts (formats-are bases file opened simple so ∙ ap (λ (b : Bool). key_parts 0 (own_parts b file.spec) ∷ []) keyed) ∙ merged-one (key_parts 0 ps) in
-    record {
-      faults = λ values. fault-same ps values ∙ sym (same-key_fault 0 ps values) ∙ ap (λ (qs : List KeyPart). given.key_fault qs values) (sym parts);
-      given_is = λ values. sym (same-given_key 0 ps values) ∙ ap (λ (qs : List KeyPart). given_key qs values) (sym parts);
-    }
+by-key : (bases : Bases) (file : FileState) (opened : OpenState) → IsUnjoined file.spec → IsReadSo (is_file_path opened.access_path) file.spec → is_keyed file opened ≡ true → IsByKey bases file opened
+by-key bases file opened unjoined so keyed = kind file.spec refl unjoined
+  where
+    single : HasOneFormat file.spec → IsByKey bases file opened
+    single one =
+        let ps : List KeyPart = parts_in file.spec in
+        let parts : parts_read bases file opened ≡ key_parts 0 ps =
+        ap merged_parts (formats-are bases file opened one so ∙ ap (λ (b : Bool). key_parts 0 (own_parts b file.spec) ∷ []) keyed) ∙ merged-one (key_parts 0 ps) in
+        record {
+          faults = λ values. fault-same ps values ∙ sym (same-key_fault 0 ps values) ∙ ap (λ (qs : List KeyPart). given.key_fault qs values) (sym parts);
+          given_is = λ values. sym (same-given_key 0 ps values) ∙ ap (λ (qs : List KeyPart). given_key qs values) (sym parts);
+        }
 
-by-arrival : (bases : Bases) (file : FileState) (opened : OpenState) → IsSimple file.spec → IsReadSo (is_file_path opened.access_path) file.spec → is_keyed file opened ≡ false
+    several : (views : List View) → file.spec ≡ LogicalFile (Multi views) → IsByKey bases file opened
+    several views is =
+        let ps : List KeyPart = merged_parts (map (λ (view : View). view.keys.parts) views) in
+        let own : parts_in file.spec ≡ ps = ap parts_in is in
+        let parts : parts_read bases file opened ≡ merged_parts (map (λ (view : View). key_parts 0 view.keys.parts) views) = ap merged_parts (formats-of-views bases file opened views is) in
+        record {
+          faults = λ values. ap (λ (qs : List KeyPart). steps.key_fault qs values) own ∙ fault-same ps values ∙ views-fault views values ∙ ap (λ (qs : List KeyPart). given.key_fault qs values) (sym parts);
+          given_is = λ values. ap (λ (qs : List KeyPart). given_key qs values) own ∙ views-given views values ∙ ap (λ (qs : List KeyPart). given_key qs values) (sym parts);
+        }
+
+    kind : (spec : FileSpec) → file.spec ≡ spec → IsUnjoined spec → IsByKey bases file opened
+    kind (PhysicalFile spec) is unjoined = single (subst HasOneFormat (sym is) tt)
+    kind (LogicalFile (Simple view)) is unjoined = single (subst HasOneFormat (sym is) tt)
+    kind (LogicalFile (Multi views)) is unjoined = several views is
+    kind (LogicalFile (Join view)) is unjoined = absurd unjoined
+
+-- a file in which a number says which record is meant has one format
+numbered-one : (spec : FileSpec) → has_numbers spec ≡ true → HasOneFormat spec
+numbered-one (PhysicalFile spec) numbered = tt
+numbered-one (LogicalFile (Simple view)) numbered = tt
+numbered-one (LogicalFile (Multi views)) numbered = absurd cc
+numbered-one (LogicalFile (Join view)) numbered = absurd cc
+
+pub by-arrival : (bases : Bases) (file : FileState) (opened : OpenState) → has_numbers file.spec ≡ true → IsReadSo (is_file_path opened.access_path) file.spec → is_keyed file opened ≡ false
     → formats_read bases file opened ≡ [] ∷ []
-by-arrival bases file opened simple so not_keyed = formats-are bases file opened simple so ∙ ap (λ (b : Bool). key_parts 0 (own_parts b file.spec) ∷ []) not_keyed
-
-numbers : (its : FileSpec) → IsSimple its → has_numbers its ≡ true
-numbers (PhysicalFile spec) simple = refl
-numbers (LogicalFile (Simple view)) simple = refl
-numbers (LogicalFile (Multi views)) simple = absurd simple
-numbers (LogicalFile (Join view)) simple = absurd simple
+by-arrival bases file opened numbered so not_keyed =
+    formats-are bases file opened (numbered-one file.spec numbered) so ∙ ap (λ (b : Bool). key_parts 0 (own_parts b file.spec) ∷ []) not_keyed
 
 -- ---- the key that a request gives
 
 abbrev key_with : Bool → List KeyPart → List Value → Option RecordFault → Result (List KeyValue) Reply
 key_with keyed ps values fault = if keyed then key_or_fault ps values fault else Err WrongOpen
 
-asked-good : (bases : Bases) (file : FileState) (opened : OpenState) (values : List Value) → IsSimple file.spec → IsReadSo (is_file_path opened.access_path) file.spec → is_keyed file opened ≡ true
+asked-good : (bases : Bases) (file : FileState) (opened : OpenState) (values : List Value) → IsUnjoined file.spec → IsReadSo (is_file_path opened.access_path) file.spec → is_keyed file opened ≡ true
     → given.key_fault (parts_read bases file opened) values ≡ None → key_asked file opened values ≡ Ok (given_key (parts_read bases file opened) values)
-asked-good bases file opened values simple so keyed none =
-    let its = by-key bases file opened simple so keyed in
+asked-good bases file opened values unjoined so keyed none =
+    let its = by-key bases file opened unjoined so keyed in
     (λ i. key_with (keyed i) (parts_in file.spec) values (its.faults values i)) ∙ (λ i. key_or_fault (parts_in file.spec) values (none i))
     ∙ ap (λ (key : List KeyValue). Ok key) (its.given_is values)
 
@@ -97,9 +120,9 @@ some-bad : (fault : Option RecordFault) (reply : Reply) → refusal true fault �
 some-bad None reply h = absurd cc
 some-bad (Some bad) reply h = (bad, refl, let e : BadValue bad ≡ reply = cc in e)
 
-asked-bad : (bases : Bases) (file : FileState) (opened : OpenState) (values : List Value) (reply : Reply) → IsSimple file.spec → IsReadSo (is_file_path opened.access_path) file.spec
+asked-bad : (bases : Bases) (file : FileState) (opened : OpenState) (values : List Value) (reply : Reply) → IsUnjoined file.spec → IsReadSo (is_file_path opened.access_path) file.spec
     → refusal (is_keyed file opened) (given.key_fault (parts_read bases file opened) values) ≡ Some reply → key_asked file opened values ≡ Err reply
-asked-bad bases file opened values reply simple so refused = by (is_keyed file opened) refl
+asked-bad bases file opened values reply unjoined so refused = by (is_keyed file opened) refl
   where
     by : (b : Bool) → is_keyed file opened ≡ b → key_asked file opened values ≡ Err reply
     by false not_keyed =
@@ -107,29 +130,29 @@ asked-bad bases file opened values reply simple so refused = by (is_keyed file o
         let same : WrongOpen ≡ reply = cc in
         ap (λ (k : Bool). key_with k (parts_in file.spec) values (steps.key_fault (parts_in file.spec) values)) not_keyed ∙ ap (λ (r : Reply). Err r) same
     by true keyed =
-        let its = by-key bases file opened simple so keyed in
+        let its = by-key bases file opened unjoined so keyed in
         let bad = some-bad (given.key_fault (parts_read bases file opened) values) reply (ap (λ (k : Bool). refusal k (given.key_fault (parts_read bases file opened) values)) (sym keyed) ∙ refused) in
         (λ i. key_with (keyed i) (parts_in file.spec) values (its.faults values i)) ∙ (λ i. key_or_fault (parts_in file.spec) values (bad.1 i)) ∙ ap (λ (r : Reply). Err r) bad.2
 
-pub gives-key : (bases : Bases) (file : FileState) (opened : OpenState) (values : List Value) (result : Result (List ℕ) Stop) → IsSimple file.spec
+pub gives-key : (bases : Bases) (file : FileState) (opened : OpenState) (values : List Value) (result : Result (List ℕ) Stop) → IsUnjoined file.spec
     → IsReadSo (is_file_path opened.access_path) file.spec → HasKeyOf (is_keyed file opened) (parts_read bases file opened) values result → GivesKey bases file opened values result
-gives-key bases file opened values (Ok key) simple so has =
-    (given_key (parts_read bases file opened) values, asked-good bases file opened values simple so has.0 has.1.fits, has.1.stands)
-gives-key bases file opened values (Err NoMemory) simple so has = tt
-gives-key bases file opened values (Err (Refused reply)) simple so has = asked-bad bases file opened values reply simple so has
+gives-key bases file opened values (Ok key) unjoined so has =
+    (given_key (parts_read bases file opened) values, asked-good bases file opened values unjoined so has.0 has.1.fits, has.1.stands)
+gives-key bases file opened values (Err NoMemory) unjoined so has = tt
+gives-key bases file opened values (Err (Refused reply)) unjoined so has = asked-bad bases file opened values reply unjoined so has
 
 -- ---- where a position is set
 
 abbrev key-bound : (side : Bound → Position PathEntry) → Result (List KeyValue) Reply → Result (Position PathEntry) Reply
 key-bound side r = r >>= (λ key. Ok (side (KeyBound key)))
 
-pub stands-key : (bases : Bases) (its : OpenedFile) (values : List Value) (result : Result (Unit {0}) Stop) → IsSimple its.file.spec
+pub stands-key : (bases : Bases) (its : OpenedFile) (values : List Value) (result : Result (Unit {0}) Stop) → IsUnjoined its.file.spec
     → IsReadSo (is_file_path its.opened.access_path) its.file.spec → MayHaveKey (is_keyed its.file its.opened) (parts_read bases its.file its.opened) values result
     → Stands its (limits.Key values) result
-stands-key bases its values (Ok nothing) simple so may =
-    λ side. ap (λ (r : Result (List KeyValue) Reply). is_ok (key-bound side r)) (asked-good bases its.file its.opened values simple so may.0 may.1)
-stands-key bases its values (Err NoMemory) simple so may = absurd may
-stands-key bases its values (Err (Refused reply)) simple so may = λ side. ap (key-bound side) (asked-bad bases its.file its.opened values reply simple so may)
+stands-key bases its values (Ok nothing) unjoined so may =
+    λ side. ap (λ (r : Result (List KeyValue) Reply). is_ok (key-bound side r)) (asked-good bases its.file its.opened values unjoined so may.0 may.1)
+stands-key bases its values (Err NoMemory) unjoined so may = absurd may
+stands-key bases its values (Err (Refused reply)) unjoined so may = λ side. ap (key-bound side) (asked-bad bases its.file its.opened values reply unjoined so may)
 
 abbrev end_with : Bool → Position PathEntry → Result (Position PathEntry) Reply
 end_with keyed end = if keyed then Ok end else Err WrongOpen
@@ -150,12 +173,17 @@ number_with keyed numbered rrn = if keyed || not numbered then Err WrongOpen els
 abbrev number-bound : (side : Bound → Position PathEntry) → Result ℕ Reply → Result (Position PathEntry) Reply
 number-bound side r = r >>= (λ number. Ok (side (NumberBound number)))
 
-pub stands-number : (its : OpenedFile) (rrn : ℕ) (result : Result (Unit {0}) Stop) → IsSimple its.file.spec → ReadsSo (is_keyed its.file its.opened) false result
+number-refused : (keyed numbered : Bool) (rrn : ℕ) (reply : Reply) → (keyed || not numbered) ≡ true → reply ≡ WrongOpen → number_with keyed numbered rrn ≡ Err reply
+number-refused true numbered rrn reply refused is = ap (λ (r : Reply). Err r) (sym is)
+number-refused false false rrn reply refused is = ap (λ (r : Reply). Err r) (sym is)
+number-refused false true rrn reply refused is = absurd cc
+
+pub stands-number : (its : OpenedFile) (rrn : ℕ) (result : Result (Unit {0}) Stop) → TakesNumbers (is_keyed its.file its.opened) (has_numbers its.file.spec) result
     → Stands its (limits.RecordNumber rrn) result
-stands-number its rrn (Ok nothing) simple so = λ side. (λ i. is_ok (number-bound side (number_with (so i) (numbers its.file.spec simple i) rrn)))
-stands-number its rrn (Err NoMemory) simple so = absurd so
-stands-number its rrn (Err (Refused reply)) simple so =
-    λ side. ap (λ (b : Bool). number-bound side (number_with b (has_numbers its.file.spec) rrn)) so.0 ∙ ap (λ (r : Reply). Err r) (sym so.1)
+stands-number its rrn (Ok nothing) so = λ side. (λ i. is_ok (number-bound side (number_with (so.0 i) (so.1 i) rrn)))
+stands-number its rrn (Err NoMemory) so = absurd so
+stands-number its rrn (Err (Refused reply)) so =
+    λ side. ap (number-bound side) (number-refused (is_keyed its.file its.opened) (has_numbers its.file.spec) rrn reply so.0 so.1)
 
 -- ---- what is known of the place that a request names, and of the position there
 
@@ -168,15 +196,16 @@ end-is : (b : Bool) (end position : Position PathEntry) → end_with b end ≡ O
 end-is true end position h = cc
 end-is false end position h = absurd cc
 
-module _ (bases : Bases) (its : OpenedFile) (simple : IsSimple its.file.spec) (so : IsReadSo (is_file_path its.opened.access_path) its.file.spec) where
+module _ (bases : Bases) (its : OpenedFile) (unjoined : IsUnjoined its.file.spec) (so : IsReadSo (is_file_path its.opened.access_path) its.file.spec) where
   place-number : (side : Side) (rrn : ℕ) (position : Position PathEntry) → bound_asked its (side_of side) (limits.RecordNumber rrn) ≡ Ok position
       → IsPlace bases its side (limits.RecordNumber rrn) position
-  place-number side rrn position is = by (is_keyed its.file its.opened) (has_numbers its.file.spec) refl is
+  place-number side rrn position is = by (is_keyed its.file its.opened) (has_numbers its.file.spec) refl refl is
     where
-      by : (b n : Bool) → is_keyed its.file its.opened ≡ b → number-bound (side_of side) (number_with b n rrn) ≡ Ok position → IsPlace bases its side (limits.RecordNumber rrn) position
-      by true n keyed h = absurd cc
-      by false false keyed h = absurd cc
-      by false true keyed h = record { can = by-arrival bases its.file its.opened simple so keyed; stood = let e : side_of side (NumberBound rrn) ≡ position = cc in e }
+      by : (b n : Bool) → is_keyed its.file its.opened ≡ b → has_numbers its.file.spec ≡ n → number-bound (side_of side) (number_with b n rrn) ≡ Ok position
+          → IsPlace bases its side (limits.RecordNumber rrn) position
+      by true n keyed numbered h = absurd cc
+      by false false keyed numbered h = absurd cc
+      by false true keyed numbered h = record { can = by-arrival bases its.file its.opened numbered so keyed; stood = let e : side_of side (NumberBound rrn) ≡ position = cc in e }
 
   place-key : (side : Side) (values : List Value) (position : Position PathEntry) → bound_asked its (side_of side) (limits.Key values) ≡ Ok position
       → IsPlace bases its side (limits.Key values) position
@@ -186,7 +215,7 @@ module _ (bases : Bases) (its : OpenedFile) (simple : IsSimple its.file.spec) (s
           → key-bound (side_of side) (key_or_fault (parts_in its.file.spec) values fault) ≡ Ok position → IsPlace bases its side (limits.Key values) position
       with-fault (Some fault) keyed none h = absurd cc
       with-fault None keyed none h =
-          let own = by-key bases its.file its.opened simple so keyed in
+          let own = by-key bases its.file its.opened unjoined so keyed in
           let e : side_of side (KeyBound (given_key (parts_in its.file.spec) values)) ≡ position = cc in
           record { can = sym (own.faults values) ∙ none; stood = ap (λ (key : List KeyValue). side_of side (KeyBound key)) (sym (own.given_is values)) ∙ e }
 
@@ -216,11 +245,11 @@ pub record IsPlaced (bases : Bases) (its : OpenedFile) (side : Side) (to : Limit
   pub is : bound_asked its (side_of side) to ≡ Ok position
   pub placed : IsPlace bases its side to position
 
-pub placed-there : (bases : Bases) (r : Result OpenedFile Reply) (asked its : OpenedFile) (side : Side) (to : Limit) → IsSimple its.file.spec
+pub placed-there : (bases : Bases) (r : Result OpenedFile Reply) (asked its : OpenedFile) (side : Side) (to : Limit) → IsUnjoined its.file.spec
     → IsReadSo (is_file_path its.opened.access_path) its.file.spec → r ≡ Ok asked → r ≡ Ok its → is_ok (bound_asked asked (side_of side) to) ≡ true → IsPlaced bases its side to
-placed-there bases r asked its side to simple so is also ok =
+placed-there bases r asked its side to unjoined so is also ok =
     let there = ok-is (bound_asked its (side_of side) to) (subst (λ (o : OpenedFile). is_ok (bound_asked o (side_of side) to) ≡ true) (found-same r asked its is also) ok) in
-    record { position = there.0; is = there.1; placed = is-place bases its simple so side to there.0 there.1 }
+    record { position = there.0; is = there.1; placed = is-place bases its unjoined so side to there.0 there.1 }
 
 -- what holds of the way in which the open reads holds of all of its number
 pub of-number : (number : ℕ) (order : OpenOrder) (P : OpenOrder → Type 0) (orders : Named OpenOrder) → AllOfNumber number (λ other. other ≡ order) orders → P order → AllOfNumber number P orders

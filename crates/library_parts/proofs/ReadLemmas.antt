@@ -1,5 +1,7 @@
 -- What an open reads is there, and what it finds is a record that stands in its member.
-use Rattle.std.proofs.Common.{◌≡◌, ℕ, suc, ◌+◌, ◌-◌, ◌≤◌, ◌==◌, ◌&&◌, nat_lt, Bool, true, false, List, [], ◌∷◌, ◌++◌, length, map, Option, Some, None, is_some, IsSome, IfSome, slice_get, refl, sym, ap, subst, ◌∙◌, arith}
+use Rattle.std.proofs.Common.{◌≡◌, ℕ, suc, ◌+◌, ◌-◌, ◌≤◌, ◌==◌, ◌&&◌, nat_lt, Bool, true, false, List, [], ◌∷◌, ◌++◌, length, map, Option, Some, None, is_some, IsSome, IfSome, slice_get, refl, ◌<◌, zero, sym, ap, subst, ◌∙◌, arith}
+use Rattle.library_parts.proofs.IndexFiles.{own-members}
+use Rattle.library_steps.specs.Reads.{at_format}
 use Rattle.std.specs.Prelude.{All, filter, unwrap_or}
 use Rattle.std.specs.Option.{option_map}
 use Rattle.std.specs.List.{AllByRecursion}
@@ -14,7 +16,7 @@ use Rattle.record_fmt.specs.declared.formats.Field.{Field}
 use Rattle.member_slots.specs.declared.slot.Slot.{Slot}
 use Rattle.member_slots.specs.declared.slot.Slot.TheVariants.{Live, Deleted}
 use Rattle.member_slots.specs.Member.{IsMember, MemberState, empty_member, records_from, slot_at}
-use Rattle.member_slots.specs.Members.{AreMembers, Numbered, member_at, member_of}
+use Rattle.member_slots.specs.Members.{AreMembers, Numbered, NumberedMembers, member_at, member_of}
 use Rattle.dds_physical.specs.declared.physical_files.PhysicalSpec.{PhysicalSpec}
 use Rattle.file_model.specs.declared.paths.PathFormat.{PathFormat}
 use Rattle.file_model.specs.declared.paths.PathSpec.{PathSpec}
@@ -29,9 +31,9 @@ use Rattle.access_path.specs.PathBytes.{IsInBytes}
 use Rattle.access_path.proofs.OrderedLemmas.{all-in_order}
 use Rattle.dds_logical.specs.declared.views.LogicalSpec.TheVariants.{Simple, Multi, Join}
 use Rattle.dds_logical.specs.declared.views.View.{View}
-use Rattle.logical_model.specs.Bases.{Bases, FileSpec, PhysicalFile, LogicalFile}
+use Rattle.logical_model.specs.Bases.{Bases, FileSpec, PhysicalFile, LogicalFile, base_members, base_names}
 use Rattle.logical_model.specs.FilePaths.{view_format, views_path}
-use Rattle.logical_model.specs.Formats.{has_key}
+use Rattle.logical_model.specs.Formats.{has_key, format_names}
 use Rattle.logical_model.specs.Readings.{reading_in}
 use Rattle.key_order.specs.KeyFields.{key_width}
 use Rattle.key_pages.specs.EntryList.{EntryList}
@@ -54,20 +56,20 @@ use Rattle.path_set.specs.declared.moves.PathMove.{PathMove}
 use Rattle.path_set.specs.KeptPaths.{KeptPaths, NumberedPaths, AreShared}
 use Rattle.path_set.specs.RebuiltPaths.{HaveRooms}
 use Rattle.job_table.specs.Opens.{OpenOrder}
-use Rattle.library_model.specs.Named.{Named}
+use Rattle.library_model.specs.Named.{Named, named}
 use Rattle.library_paths.specs.AllPaths.{all_paths}
 use Rattle.library_steps.specs.LogicalFiles.{bases_in, bases_of}
 use Rattle.library_steps.specs.Opens.{first_of}
 use Rattle.library_steps.specs.Records.{is_file_path, is_keyed, live_record, reading_of, record_in}
-use Rattle.library_steps.specs.State.{State, Memory, FileState, OpenState, fields_of, format_in, memory_of}
+use Rattle.library_steps.specs.State.{State, Memory, FileState, OpenState, fields_of, format_in, memory_of, physical_among}
 use Rattle.library_parts.specs.Finds.{ReadsMember}
-use Rattle.library_parts.specs.Indexed.{IsByArrival, IsReadSo, IsSimple, IsView, IsViewBeside, ReadsBy, path_by, path_read, IsIndexed}
+use Rattle.library_parts.specs.Indexed.{IsByArrival, IsReadSo, IsUnjoined, IsView, IsViewBeside, ReadsBy, path_by, path_read, IsIndexed}
 use Rattle.library_parts.specs.Keyed.{AllAreKeyed}
-use Rattle.lawful_states.specs.Lawful.{IsBased, IsLibrary, IsThere, StandsOver}
-use Rattle.library_parts.specs.Reads.{ReadsAmong, formats_by, has_positions}
+use Rattle.lawful_states.specs.Lawful.{IsBased, IsLibrary, IsThere, StandsOver, OpensBy, OpensFile, OpenHolds}
+use Rattle.library_parts.specs.Reads.{ReadsAmong, formats_by, has_positions, formats_read}
 use Rattle.lawful_states.proofs.FindLemmas.{HasBase, has-base, physical-opened}
-use Rattle.library_parts.proofs.FindLemmas.{IsOverOwn, view-of}
-use Rattle.library_parts.proofs.OpenLooks.{IsReadBy, member-is, reads-keyed, reads-path, records-there}
+use Rattle.library_parts.proofs.FindLemmas.{view-of, members-many}
+use Rattle.library_parts.proofs.OpenLooks.{IsReadBy, member-is, reads-keyed, reads-path, records-there, HasOneFormat, formats-are, formats-of-views}
 
 -- ---- the records that stand
 
@@ -118,39 +120,76 @@ records-live member m =
     (records_from 1 (member_of member m.members).slots)
     (λ pair stands. stands-at (member_of member m.members) pair.0 stands) (records-stand 1 (member_of member m.members).slots)
 
--- a path of one format
-abbrev one_path : PathFormat → (unique : Bool) → Ties → PathSpec
-one_path format unique ties = record { formats = format ∷ []; unique = unique; ties = ties }
+-- an entry is of one of the formats, and the record stands in its member
+pub record IsLiveIn (formats : List PathFormat) (m : Memory) (entry : PathEntry) : Type 0 where
+  pub format : PathFormat
+  pub at : slice_get formats entry.format ≡ Some format
+  pub live : IsLive format.member m entry
 
-path-live : (format : PathFormat) (unique : Bool) (ties : Ties) (m : Memory) → AllByRecursion (IsLive format.member m) (path (one_path format unique ties) m.members)
-path-live format unique ties m =
-    all-in_order (compare_entries ties) (IsLive format.member m) (entries_of 0 format m.members ++ [])
-    (all-append (IsLive format.member m) (entries_of 0 format m.members) []
-    (all-map (IsLive format.member m) (paths.entry_of 0 format) (selected_of format (member_of format.member m.members).slots)
+-- the entries of the formats from this number on, which stand among all
+entries-live : (whole : List PathFormat) (m : Memory) (number : ℕ) (formats : List PathFormat) → ((i : ℕ) (format : PathFormat) → slice_get formats i ≡ Some format → slice_get whole (number + i) ≡ Some format)
+    → AllByRecursion (IsLiveIn whole m) (paths.entries_from number formats m.members)
+entries-live whole m number [] among = tt
+entries-live whole m number (format ∷ formats) among =
+    let here : slice_get whole number ≡ Some format = (let e : number + 0 ≡ number = omega arith in ap (λ (n : ℕ). slice_get whole n) (sym e) ∙ among 0 format refl) in
+    all-append (IsLiveIn whole m) (entries_of number format m.members) (paths.entries_from (number + 1) formats m.members)
+    (all-map (IsLiveIn whole m) (paths.entry_of number format) (selected_of format (member_of format.member m.members).slots)
+    (all-weaker (λ (pair : ℕ × List ℕ). is_some (live_record format.member pair.0 m) ≡ true) (λ pair. IsLiveIn whole m (paths.entry_of number format pair))
+    (selected_of format (member_of format.member m.members).slots) (λ pair live. record { format = format; at = here; live = live })
     (all-filter (λ (pair : ℕ × List ℕ). is_some (live_record format.member pair.0 m) ≡ true) (λ pair. selects format.rules pair.1)
-    (records_from 1 (member_of format.member m.members).slots) (records-live format.member m))) tt)
+    (records_from 1 (member_of format.member m.members).slots) (records-live format.member m))))
+    (entries-live whole m (number + 1) formats
+    (λ i other at. (let e : number + 1 + i ≡ number + suc i = omega arith in ap (λ (n : ℕ). slice_get whole n) e ∙ among (suc i) other at)))
 
-arrival-live : (member : ℕ) (m : Memory) → AllByRecursion (IsLive member m) (map arrival_entry (records_from 1 (member_of member m.members).slots))
-arrival-live member m = all-map (IsLive member m) arrival_entry (records_from 1 (member_of member m.members).slots) (records-live member m)
+path-live : (spec : PathSpec) (m : Memory) → AllByRecursion (IsLiveIn spec.formats m) (path spec m.members)
+path-live spec m =
+    all-in_order (compare_entries spec.ties) (IsLiveIn spec.formats m) (paths.entries_from 0 spec.formats m.members)
+    (entries-live spec.formats m 0 spec.formats
+    (λ i format at. (let e : 0 + i ≡ i = omega arith in ap (λ (n : ℕ). slice_get spec.formats n) e ∙ at)))
 
--- what is found stands in the open's member
-pub asked-live : (file : FileState) (opened : OpenState) (m : Memory) (by : ReadBy) (parts : List KeyPart) (position : Position PathEntry)
-    → IsOverOwn (bases_of m) file.spec opened.member → IfSome (asked_of by parts (reading_of file opened m) position) (IsLive opened.member m)
-asked-live file opened m by parts position over = kind file.spec (is_keyed file opened) over
+-- a record stands in the member of its format
+abbrev pub IsLiveAt : OpenState → Memory → PathEntry → Type 0
+IsLiveAt opened m entry = is_some (live_record (at_format entry.format opened).member entry.rrn m) ≡ true
+
+at-members : (formats : List PathFormat) (number : ℕ) (format : PathFormat) → slice_get formats number ≡ Some format → slice_get (map (λ (f : PathFormat). f.member) formats) number ≡ Some format.member
+at-members [] number format at = absurd cc
+at-members (f ∷ formats) zero format at = ap (λ (o : Option PathFormat). option_map (λ (g : PathFormat). g.member) o) at
+at-members (f ∷ formats) (suc number) format at = at-members formats number format at
+
+-- where the path is over the members of the open, in their order
+live-at : (opened : OpenState) (formats : List PathFormat) (m : Memory) → map (λ (f : PathFormat). f.member) formats ≡ opened.members → (entry : PathEntry) → IsLiveIn formats m entry → IsLiveAt opened m entry
+live-at opened formats m over entry is =
+    let member : slice_get opened.members entry.format ≡ Some is.format.member = ap (λ (ms : List ℕ). slice_get ms entry.format) (sym over) ∙ at-members formats entry.format is.format is.at in
+    subst (λ (o : Option ℕ). is_some (live_record (unwrap_or o opened.member) entry.rrn m) ≡ true) (sym member) is.live
+
+-- what is found stands in the member of its format
+pub asked-live : (files : Named FileState) (file : FileState) (opened : OpenState) (m : Memory) (by : ReadBy) (parts : List KeyPart) (position : Position PathEntry)
+    → m.files ≡ files → IsUnjoined file.spec → OpensBy files opened file.members file.spec → IfSome (asked_of by parts (reading_of file opened m) position) (IsLiveAt opened m)
+asked-live files file opened m by parts position same unjoined own = kind file.spec (is_keyed file opened) unjoined own
   where
-    kind : (its : FileSpec) (keyed : Bool) → IsOverOwn (bases_of m) its opened.member
-        → IfSome (asked_of by parts (reading_in (bases_of m) its keyed opened.member m.members) position) (IsLive opened.member m)
-    kind (PhysicalFile spec) true is =
-        asked-holds (IsLive opened.member m) parts spec.keys.ties (path (physical_path opened.member spec.format.fields spec.keys) m.members)
-        (path-live (path_format opened.member every_record (own_fields spec.format.fields) spec.keys.parts) spec.keys.unique spec.keys.ties m) by position
-    kind (PhysicalFile spec) false is =
-        asked-holds (IsLive opened.member m) parts Rising (map arrival_entry (records_from 1 (member_of opened.member m.members).slots)) (arrival-live opened.member m) by position
-    kind (LogicalFile (Simple view)) keyed is =
-        asked-holds (IsLive opened.member m) parts view.keys.ties (path (views_path (bases_of m) view.keys.unique (view ∷ [])) m.members)
-        (subst (λ (n : ℕ). AllByRecursion (IsLive n m) (path (views_path (bases_of m) view.keys.unique (view ∷ [])) m.members)) (sym is)
-        (path-live (view_format (bases_of m) view) view.keys.unique view.keys.ties m)) by position
-    kind (LogicalFile (Multi views)) keyed is = absurd is
-    kind (LogicalFile (Join view)) keyed is = absurd is
+    along : (spec : PathSpec) → map (λ (f : PathFormat). f.member) spec.formats ≡ opened.members → IfSome (asked_of by parts (path_reading spec.ties (path spec m.members)) position) (IsLiveAt opened m)
+    along spec over =
+        asked-holds (IsLiveAt opened m) parts spec.ties (path spec m.members)
+        (all-weaker (IsLiveIn spec.formats m) (IsLiveAt opened m) (path spec m.members) (live-at opened spec.formats m over) (path-live spec m)) by position
+
+    bases_are : bases_of m ≡ bases_in files
+    bases_are = ap bases_in same
+
+    kind : (its : FileSpec) (keyed : Bool) → IsUnjoined its → OpensBy files opened file.members its
+        → IfSome (asked_of by parts (reading_in (bases_of m) its keyed opened.member m.members) position) (IsLiveAt opened m)
+    kind (PhysicalFile spec) true so is = along (physical_path opened.member spec.format.fields spec.keys) (sym is.only)
+    kind (PhysicalFile spec) false so is =
+        let here : unwrap_or (slice_get opened.members 0) opened.member ≡ opened.member = ap (λ (ms : List ℕ). unwrap_or (slice_get ms 0) opened.member) is.only in
+        asked-holds (IsLiveAt opened m) parts Rising (map arrival_entry (records_from 1 (member_of opened.member m.members).slots))
+        (all-map (IsLiveAt opened m) arrival_entry (records_from 1 (member_of opened.member m.members).slots)
+        (all-weaker (λ (pair : ℕ × List ℕ). is_some (live_record opened.member pair.0 m) ≡ true) (λ pair. IsLiveAt opened m (arrival_entry pair))
+        (records_from 1 (member_of opened.member m.members).slots)
+        (λ pair live. subst (λ (n : ℕ). is_some (live_record n pair.0 m) ≡ true) (sym here) live) (records-live opened.member m))) by position
+    kind (LogicalFile (Simple view)) keyed so is =
+        along (views_path (bases_of m) view.keys.unique (view ∷ [])) (ap (λ (bases : Bases). (bases view.base).member ∷ []) bases_are ∙ sym is.all)
+    kind (LogicalFile (Multi views)) keyed so is =
+        along (views_path (bases_of m) false views) (own-members (bases_of m) (Multi views) tt ∙ ap (λ (bases : Bases). base_members bases (Multi views)) bases_are ∙ sym is.all)
+    kind (LogicalFile (Join view)) keyed so is = absurd so
 
 -- ---- among what it reads
 
@@ -160,10 +199,10 @@ formats-by paths None order reads = sym reads.formats
 formats-by paths (Some spec) order reads = sym reads.formats
 
 -- it reads by a key where it has such positions
-pub order-keyed : (bases : Bases) (paths : NumberedPaths) (file : FileState) (opened : OpenState) (order : OpenOrder) → IsSimple file.spec → IsReadSo (is_file_path opened.access_path) file.spec
+pub order-keyed : (bases : Bases) (paths : NumberedPaths) (file : FileState) (opened : OpenState) (order : OpenOrder) → IsUnjoined file.spec → IsReadSo (is_file_path opened.access_path) file.spec
     → ReadsBy paths (path_read bases file opened) order → has_positions order.formats ≡ is_keyed file opened
-order-keyed bases paths file opened order simple so reads =
-    ap has_positions (sym (formats-by paths (path_read bases file opened) order reads)) ∙ reads-keyed bases file opened simple so
+order-keyed bases paths file opened order unjoined so reads =
+    ap has_positions (sym (formats-by paths (path_read bases file opened) order reads)) ∙ reads-keyed bases file opened unjoined so
 
 no-parts : (ps : List KeyPart) → HasNoKey (key_parts 0 ps ∷ []) → ps ≡ []
 no-parts [] none = refl
@@ -173,6 +212,36 @@ no-parts (parts.Absent ∷ ps) none = absurd cc
 some-parts : (ps : List KeyPart) → nat_lt 0 (length ps) ≡ true → ps ≡ [] → ⊥
 some-parts [] some none = absurd cc
 some-parts (p ∷ ps) some none = absurd cc
+
+-- two formats have two keys
+several-keys : (bases : Bases) (views : List View) → 2 ≤ length views → HasNoKey (map (λ (f : PathFormat). f.key) (map (view_format bases) views)) → ⊥
+several-keys bases [] several none = omega (arith, several)
+several-keys bases (v ∷ []) several none = omega (arith, several)
+several-keys bases (v ∷ w ∷ views) several none = absurd cc
+
+-- no key has more bytes than all keys together can have
+wider : (members : NumberedMembers) (few most : ℕ) (format : PathFormat) → few ≤ most → HasKeysWithin few members format → HasKeysWithin most members format
+wider members few most format le has = let w = has.width in record { width = omega (arith, w, le); keys = has.keys }
+
+all-wider : (members : NumberedMembers) (few most : ℕ) (formats : List PathFormat) → few ≤ most → AllByRecursion (HasKeysWithin few members) formats → AllByRecursion (HasKeysWithin most members) formats
+all-wider members few most [] le all = tt
+all-wider members few most (format ∷ formats) le all = (wider members few most format le all.0, all-wider members few most formats le all.1)
+
+within-each : (members : NumberedMembers) (formats : List PathFormat) → AllByRecursion (λ (f : PathFormat). HasKeysWithin (key_width f.key) members f) formats
+    → (most : ℕ) × AllByRecursion (HasKeysWithin most members) formats
+within-each members [] all = (0, tt)
+within-each members (format ∷ formats) all =
+    let rest = within-each members formats all.1 in (
+      key_width format.key + rest.0,
+      (
+        wider members (key_width format.key) (key_width format.key + rest.0) format (omega arith) all.0,
+        all-wider members rest.0 (key_width format.key + rest.0) formats (omega arith) rest.1,
+      ),
+    )
+
+within-most : (members : NumberedMembers) (formats : List PathFormat) → AllByRecursion (λ (f : PathFormat). HasKeysWithin (key_width f.key) members f) formats
+    → (most : ℕ) × All (HasKeysWithin most members) formats
+within-most members formats all = let within = within-each members formats all in (within.0, All-from_recursion (HasKeysWithin within.0 members) formats within.1)
 
 there-is : (fields : List Field) (o : Option MemberState) → IsThere fields o → (state : MemberState) × (o ≡ Some state)
 there-is fields None there = absurd there
@@ -186,24 +255,19 @@ module _ (s : State) (orders : List (Named OpenOrder)) (moves : List (List (List
     (are : AreMembers s.members) (shared : AreShared kept.paths) (rooms : HaveRooms kept) (indexed : IsIndexed s.files s.members s.jobs orders moves kept)
     (opened : OpenState) (order : OpenOrder) (file : FileState) (has : ReadsMember s file opened)
     (reads : ReadsBy kept.paths (path_read (bases_in s.files) file opened) order) where
-  -- along a kept path of one format
-  along : (spec : PathSpec) → IsReadBy s.members kept order spec → length spec.formats ≡ 1 → ((list : EntryList) → IsPathOver order.formats spec s.members list → HasNoKey order.formats → AreNumbered list)
+  -- along a kept path
+  along : (spec : PathSpec) → IsReadBy s.members kept order spec → ((list : EntryList) → IsPathOver order.formats spec s.members list → HasNoKey order.formats → AreNumbered list)
       → reading_of file opened (memory_of s) ≡ path_reading spec.ties (path spec s.members)
       → ReadsAmong s.members kept opened.member order.formats order.path (reading_of file opened (memory_of s))
-  along spec read one numbered is =
+  along spec read numbered is =
       subst (λ (p : Option ℕ). ReadsAmong s.members kept opened.member order.formats p (reading_of file opened (memory_of s))) (sym read.number_is) (record {
         spec = spec;
         list = read.list;
         pages = read.pages;
         over = read.over;
-        one = ap length (sym read.over.keys) ∙ map-length spec.formats ∙ one;
         numbered = numbered read.list read.over;
         along = is;
       })
-    where
-      map-length : (fs : List PathFormat) → length (map (λ (f : PathFormat). f.key) fs) ≡ length fs
-      map-length [] = refl
-      map-length (f ∷ fs) = ap suc (map-length fs)
 
   -- ---- a physical file
 
@@ -215,11 +279,12 @@ module _ (s : State) (orders : List (Named OpenOrder)) (moves : List (List (List
       let records : HasRecordsOf spec.format.fields opened.member s.members =
       records-there spec.format.fields opened.member s.members are indexed.bytes (subst (λ (fs : List Field). IsThere fs (member_at opened.member s.members)) fields own.there) in
       let whole : PathSpec = physical_path opened.member spec.format.fields spec.keys in
-      let its : path_read (bases_in s.files) file opened ≡ Some whole = λ i. path_by (bases_in s.files) (by_key i) (first_of (has.only i)) (is i) in
+      let only : opened.members ≡ opened.member ∷ [] = (subst (λ (f : FileSpec). OpensBy s.files opened file.members f) is (subst (OpensFile s.files opened) has.there has.holds)).only in
+      let its : path_read (bases_in s.files) file opened ≡ Some whole = λ i. path_by (bases_in s.files) (by_key i) (first_of (only i)) (is i) in
       let read = reads-path (all_paths s.files) s.members kept order whole shared rooms indexed.paths (path-bytes spec opened.member s.members its_key records)
       (key_width (key_parts 0 spec.keys.parts), keys-within spec opened.member s.members its_key records) (subst (λ (o : Option PathSpec). ReadsBy kept.paths o order) its reads) in
       let some : nat_lt 0 (length spec.keys.parts) ≡ true = ap has_key (sym is) ∙ both-are (is_file_path opened.access_path) (has_key file.spec) by_key in
-      along whole read refl (λ list over none. absurd (some-parts spec.keys.parts some (no-parts spec.keys.parts (over.keys ∙ none))))
+      along whole read (λ list over none. absurd (some-parts spec.keys.parts some (no-parts spec.keys.parts (over.keys ∙ none))))
       (λ i. reading_in (bases_of (memory_of s)) (is i) (by_key i) opened.member s.members)
 
   by-arrival : (spec : PhysicalSpec) → file.spec ≡ PhysicalFile spec → is_keyed file opened ≡ false → ReadsAmong s.members kept opened.member order.formats order.path (reading_of file opened (memory_of s))
@@ -261,71 +326,114 @@ module _ (s : State) (orders : List (Named OpenOrder)) (moves : List (List (List
       (subst (λ (o : Option PathSpec). ReadsBy kept.paths o order) own reads) in
       let member : IsMember (member_of format.member s.members) =
       member-is (bases view.base).fields (bases view.base).member s.members (recursion_from_All (λ (entry : Numbered MemberState). IsMember entry.item) s.members are.each) there in
-      along whole read refl
+      along whole read
       (λ list over none.
       let empty : view.keys.parts ≡ [] = no-parts view.keys.parts (over.keys ∙ none) in
       keyless whole format s.members list refl (ap (key_parts 0) empty) (its.rises empty) member over.entries over.falling)
       (λ i. reading_in bases (is i) (is_keyed file opened) opened.member s.members)
 
-  pub reads-among : IsSimple file.spec → ReadsAmong s.members kept opened.member order.formats order.path (reading_of file opened (memory_of s))
-  reads-among simple = kind file.spec refl simple
+  -- of several formats
+  by-views : (views : List View) → file.spec ≡ LogicalFile (Multi views) → ReadsAmong s.members kept opened.member order.formats order.path (reading_of file opened (memory_of s))
+  by-views views is =
+      let bases : Bases = bases_in s.files in
+      let its : IsView bases (Multi views) = subst (IsViewBeside s.files) is (view-of s.files opened.file file indexed.views has.there) in
+      let stands : StandsOver s.files file.members (Multi views) = subst (IsBased s.files opened.file file.members) is (lawful.bases opened.file file has.there) in
+      let records : HaveRecords bases (Multi views) s.members = names-recorded (base_names (Multi views)) stands.bases in
+      let whole : PathSpec = views_path bases false views in
+      let bytes : IsInBytes whole s.members =
+      (recursion_from_All (λ (p : PathSpec). IsInBytes p s.members) (whole ∷ []) (paths-bytes bases (Multi views) s.members its.keyed records)).0 in
+      let short : All (λ (f : PathFormat). HasKeysWithin (key_width f.key) s.members f) whole.formats =
+      (recursion_from_All (λ (p : PathSpec). All (λ (f : PathFormat). HasKeysWithin (key_width f.key) s.members f) p.formats) (whole ∷ []) (keys-short bases (Multi views) s.members its.keyed records)).0 in
+      let own : path_read bases file opened ≡ Some whole = λ i. path_by bases (is_keyed file opened) (first_of opened.members) (is i) in
+      let read = reads-path (all_paths s.files) s.members kept order whole shared rooms indexed.paths bytes
+      (within-most s.members whole.formats (recursion_from_All (λ (f : PathFormat). HasKeysWithin (key_width f.key) s.members f) whole.formats short))
+      (subst (λ (o : Option PathSpec). ReadsBy kept.paths o order) own reads) in
+      along whole read
+      (λ list over none. absurd (several-keys bases views its.several (over.keys ∙ none)))
+      (λ i. reading_in bases (is i) (is_keyed file opened) opened.member s.members)
+    where
+      names-recorded : (names : List (List ℕ)) → AllByRecursion (λ name. IsSome (physical_among name s.files)) names
+          → AllByRecursion (λ name. HasRecordsOf (bases_in s.files name).fields (bases_in s.files name).member s.members) names
+      names-recorded [] there = tt
+      names-recorded (name ∷ names) there =
+          let base : HasBase s name = has-base s lawful name there.0 in
+          let own : IsThere (bases_in s.files name).fields (member_at (bases_in s.files name).member s.members) =
+          subst (λ (fs : List Field). IsThere fs (member_at (bases_in s.files name).member s.members)) (sym base.fields) base.has.there in
+          (records-there (bases_in s.files name).fields (bases_in s.files name).member s.members are indexed.bytes own, names-recorded names there.1)
+
+  pub reads-among : IsUnjoined file.spec → ReadsAmong s.members kept opened.member order.formats order.path (reading_of file opened (memory_of s))
+  reads-among unjoined = kind file.spec refl unjoined
     where
       key : (spec : PhysicalSpec) → file.spec ≡ PhysicalFile spec → (b : Bool) → is_keyed file opened ≡ b → ReadsAmong s.members kept opened.member order.formats order.path (reading_of file opened (memory_of s))
       key spec is true by_key = by-path spec is by_key
       key spec is false by_key = by-arrival spec is by_key
 
-      kind : (its : FileSpec) → file.spec ≡ its → IsSimple its → ReadsAmong s.members kept opened.member order.formats order.path (reading_of file opened (memory_of s))
-      kind (PhysicalFile spec) is simple = key spec is (is_keyed file opened) refl
-      kind (LogicalFile (Simple view)) is simple = by-view view is
-      kind (LogicalFile (Multi views)) is simple = absurd simple
-      kind (LogicalFile (Join view)) is simple = absurd simple
+      kind : (its : FileSpec) → file.spec ≡ its → IsUnjoined its → ReadsAmong s.members kept opened.member order.formats order.path (reading_of file opened (memory_of s))
+      kind (PhysicalFile spec) is unjoined = key spec is (is_keyed file opened) refl
+      kind (LogicalFile (Simple view)) is unjoined = by-view view is
+      kind (LogicalFile (Multi views)) is unjoined = by-views views is
+      kind (LogicalFile (Join view)) is unjoined = absurd unjoined
 
 -- ---- what is found
 
--- the entry that a hit shows is of the one format
+-- the entry that a hit shows
 pub record IsFound (hit : Hit) (wanted : Option PathEntry) : Type 0 where
   pub entry : PathEntry
   pub is : wanted ≡ Some entry
   pub rrn : entry.rrn ≡ hit.rrn
-  pub format : entry.format ≡ 0
+  pub format : entry.format ≡ hit.format
 
-pub hit-found : (parts : List KeyPart) (formats : List (List KeyPart)) (hit : Hit) (wanted : Option PathEntry) → Some (entry_hit parts hit) ≡ wanted → length formats ≡ 1
-    → IsEntryIn formats (entry_of hit) → IsFound hit wanted
-hit-found parts formats hit wanted found one of = let low = of.format in record { entry = entry_hit parts hit; is = sym found; rrn = refl; format = omega (arith, low, one) }
+pub hit-found : (parts : List KeyPart) (hit : Hit) (wanted : Option PathEntry) → Some (entry_hit parts hit) ≡ wanted → IsFound hit wanted
+hit-found parts hit wanted found = record { entry = entry_hit parts hit; is = sym found; rrn = refl; format = refl }
 
 pub none-found : (parts : List KeyPart) (result : Option Hit) (wanted : Option PathEntry) → result ≡ None → option_map (entry_hit parts) result ≡ wanted → wanted ≡ None
 none-found parts result wanted none found = sym found ∙ ap (option_map (entry_hit parts)) none
 
-pub some-found : (parts : List KeyPart) (formats : List (List KeyPart)) (result : Option Hit) (hit : Hit) (wanted : Option PathEntry) → result ≡ Some hit
-    → option_map (entry_hit parts) result ≡ wanted → length formats ≡ 1 → IfSome result (λ h. IsEntryIn formats (entry_of h)) → IsFound hit wanted
-some-found parts formats result hit wanted some found one bytes =
-    hit-found parts formats hit wanted (sym (ap (option_map (entry_hit parts)) some) ∙ found) one (subst (λ (o : Option Hit). IfSome o (λ h. IsEntryIn formats (entry_of h))) some bytes)
+pub some-found : (parts : List KeyPart) (result : Option Hit) (hit : Hit) (wanted : Option PathEntry) → result ≡ Some hit → option_map (entry_hit parts) result ≡ wanted → IsFound hit wanted
+some-found parts result hit wanted some found = hit-found parts hit wanted (sym (ap (option_map (entry_hit parts)) some) ∙ found)
 
--- what is noted of a hit: the entry that it shows, which is of the one format
+-- what is noted of a hit: the entry that it shows, which is of one of the formats
 pub record IsNoted (formats : List (List KeyPart)) (hit : Hit) (entry : PathEntry) : Type 0 where
   pub is : entry_hit (merged_parts formats) hit ≡ entry
-  pub format : entry.format ≡ 0
+  pub format : entry.format < length formats
   pub bytes : IsEntryIn formats (entry_of hit)
 
 pub noted : (formats : List (List KeyPart)) (result : Option Hit) (hit : Hit) (wanted : Option PathEntry) (entry : PathEntry) → result ≡ Some hit
-    → option_map (entry_hit (merged_parts formats)) result ≡ wanted → wanted ≡ Some entry → length formats ≡ 1 → IfSome result (λ h. IsEntryIn formats (entry_of h)) → IsNoted formats hit entry
-noted formats result hit wanted entry some found is one bytes =
+    → option_map (entry_hit (merged_parts formats)) result ≡ wanted → wanted ≡ Some entry → IfSome result (λ h. IsEntryIn formats (entry_of h)) → IsNoted formats hit entry
+noted formats result hit wanted entry some found is bytes =
     let shown : Some (entry_hit (merged_parts formats) hit) ≡ Some entry = sym (ap (option_map (entry_hit (merged_parts formats))) some) ∙ found ∙ is in
     let same : entry_hit (merged_parts formats) hit ≡ entry = some-equal shown in
     let of : IsEntryIn formats (entry_of hit) = subst (λ (o : Option Hit). IfSome o (λ h. IsEntryIn formats (entry_of h))) some bytes in
-    let low = of.format in
-    let first : (entry_hit (merged_parts formats) hit).format ≡ 0 = omega (arith, low, one) in
-    record { is = same; format = subst (λ (e : PathEntry). e.format ≡ 0) same first; bytes = of }
+    record { is = same; format = subst (λ (e : PathEntry). e.format < length formats) same of.format; bytes = of }
 
 pub mapped-some : {A B : Type 0} (f : A → B) (o : Option A) (b : B) → option_map f o ≡ Some b → is_some o ≡ true
 mapped-some f None b h = absurd cc
 mapped-some f (Some a) b h = refl
 
-pub found-live : (member : ℕ) (m : Memory) (hit : Hit) (wanted : Option PathEntry) → IsFound hit wanted → IfSome wanted (IsLive member m) → is_some (live_record member hit.rrn m) ≡ true
-found-live member m hit wanted found live =
-    subst (λ (n : ℕ). is_some (live_record member n m) ≡ true) found.rrn (subst (λ (o : Option PathEntry). IfSome o (IsLive member m)) found.is live)
+pub found-live : (opened : OpenState) (m : Memory) (hit : Hit) (wanted : Option PathEntry) → IsFound hit wanted → IfSome wanted (IsLiveAt opened m)
+    → is_some (live_record (at_format hit.format opened).member hit.rrn m) ≡ true
+found-live opened m hit wanted found live =
+    let own : IsLiveAt opened m found.entry = subst (λ (o : Option PathEntry). IfSome o (IsLiveAt opened m)) found.is live in
+    subst (λ (n : ℕ). is_some (live_record (at_format n opened).member hit.rrn m) ≡ true) found.format
+    (subst (λ (n : ℕ). is_some (live_record (at_format found.entry.format opened).member n m) ≡ true) found.rrn own)
 
-pub one-format : (members : _) (kept : KeptPaths) (member : ℕ) (formats : List (List KeyPart)) (number : Option ℕ) (reading : Reading PathEntry) → ReadsAmong members kept member formats number reading
-    → length formats ≡ 1
-one-format members kept member formats None reading among = ap length among.none
-one-format members kept member formats (Some id) reading among = among.one
+-- an open reads by as many formats as it has members
+pub formats-many : (files : Named FileState) (paths : NumberedPaths) (file : FileState) (opened : OpenState) (order : OpenOrder) → named opened.file files ≡ Some file → IsUnjoined file.spec
+    → OpenHolds files opened → IsReadSo (is_file_path opened.access_path) file.spec → ReadsBy paths (path_read (bases_in files) file opened) order
+    → length order.formats ≡ length opened.members
+formats-many files paths file opened order here unjoined holds so reads =
+    ap length (sym (formats-by paths (path_read (bases_in files) file opened) order reads)) ∙ kind file.spec refl unjoined ∙ sym (members-many files file opened here unjoined holds)
+  where
+    single : HasOneFormat file.spec → length (formats_read (bases_in files) file opened) ≡ 1
+    single one = ap length (formats-are (bases_in files) file opened one so)
+
+    many : (views : List View) → length (map (λ (view : View). key_parts 0 view.keys.parts) views) ≡ length (map (λ (view : View). view.format.name) views)
+    many [] = refl
+    many (view ∷ views) = ap suc (many views)
+
+    kind : (spec : FileSpec) → file.spec ≡ spec → IsUnjoined spec → length (formats_read (bases_in files) file opened) ≡ length (format_names file.spec)
+    kind (PhysicalFile spec) is un = single (subst HasOneFormat (sym is) tt) ∙ sym (ap (λ (f : FileSpec). length (format_names f)) is)
+    kind (LogicalFile (Simple view)) is un = single (subst HasOneFormat (sym is) tt) ∙ sym (ap (λ (f : FileSpec). length (format_names f)) is)
+    kind (LogicalFile (Multi views)) is un =
+        ap length (formats-of-views (bases_in files) file opened views is) ∙ many views ∙ sym (ap (λ (f : FileSpec). length (format_names f)) is)
+    kind (LogicalFile (Join view)) is un = absurd un

@@ -175,6 +175,7 @@ pub record IsPathOver (member id : ℕ) (paths : NumberedPaths) : Type 0 where
   pub path : KeptPath
   pub at : item_at id paths ≡ Some path
   pub over : is_over member path.spec ≡ true
+  pub unique : path.spec.unique ≡ true
 
 module _ (member : ℕ) (paths : NumberedPaths) (D : ℕ → KeptPath → Type 0) where
   pub done-first : (next : Option ℕ) → next ≡ option_map (λ (q : Numbered KeptPath). q.number) (find (is_unique_over member None) paths) → AreDoneTo member paths D next
@@ -192,6 +193,8 @@ module _ (member : ℕ) (paths : NumberedPaths) (D : ℕ → KeptPath → Type 0
             path = q.item;
             at = ap (λ (n : ℕ). item_at n paths) (sym same) ∙ find-there (is_unique_over member is.after) q paths (two-from IsBelow paths shared.ascend) found;
             over = and-first (is_over member q.item.spec) (q.item.spec.unique && is_above is.after q.number) (find-passes (is_unique_over member is.after) q paths found);
+            unique = and-first q.item.spec.unique (is_above is.after q.number)
+                (and-second (is_over member q.item.spec) (q.item.spec.unique && is_above is.after q.number) (find-passes (is_unique_over member is.after) q paths found));
           }
 
   -- those up to the one of this number are done, where it is

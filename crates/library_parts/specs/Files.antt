@@ -12,7 +12,7 @@ use Rattle.library_steps.specs.CreatePhysicalFile.{new_status}
 use Rattle.library_steps.specs.CreateLogicalFile.{NewLogical, logical_described}
 use Rattle.library_steps.specs.LogicalFiles.{bases_of}
 use Rattle.library_steps.specs.Uses.{changer_of_any}
-use Rattle.library_parts.specs.Indexed.{IsSimple}
+use Rattle.library_parts.specs.Indexed.{IsUnjoined}
 
 pub record IsNewFile (s : State) (name : List ℕ) (file : FileState) : Type 0 where
   pub absent : named name s.files ≡ None
@@ -24,7 +24,7 @@ pub record IsNewFile (s : State) (name : List ℕ) (file : FileState) : Type 0 w
 pub record IsNewView (s : State) (name : List ℕ) (plan : NewLogical) : Type 0 where
   pub absent : named name s.files ≡ None
   pub described : logical_described (memory_of s) plan.source ≡ Ok plan.spec
-  pub simple : IsSimple (LogicalFile plan.spec)
+  pub unjoined : IsUnjoined (LogicalFile plan.spec)
   pub unchanged : changer_of_any (base_members (bases_of (memory_of s)) plan.spec) (memory_of s) ≡ None
 
 pub record IsNewMember (s : State) (args : FileMember) : Type 0 where

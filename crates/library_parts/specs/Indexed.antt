@@ -1,7 +1,7 @@
 -- What the kept access paths are of a library's files, members and jobs: each path of a file is kept, with the entries that the members give it; each
 -- open reads by the path of its file, or in arrival order; and for each change of an open commit cycle the moves that take it back are at hand, with
 -- memory for them. (Our own.)
-use Rattle.std.specs.Prelude.{◌≡◌, ℕ, ◌+◌, ◌==◌, Bool, IsTrue, Option, Some, None, List, [], ◌∷◌, length, map, filter, Any, if◌then◌else◌}
+use Rattle.std.specs.Prelude.{◌≡◌, ℕ, ◌+◌, ◌*◌, ◌≤◌, Bool, IsTrue, Option, Some, None, IsSome, List, [], ◌∷◌, length, map, filter, slice_get, All, Any, if◌then◌else◌}
 use Rattle.std.specs.List.{AllByRecursion, AllZip, sum_by}
 use Rattle.member_slots.specs.declared.slot.Slot.{Slot}
 use Rattle.member_slots.specs.declared.slot.Slot.TheVariants.{Live, Deleted}
@@ -13,7 +13,7 @@ use Rattle.file_model.specs.declared.paths.PathSpec.{PathSpec}
 use Rattle.file_model.specs.FilePaths.{physical_path}
 use Rattle.dds_logical.specs.declared.views.LogicalSpec.{LogicalSpec}
 use Rattle.dds_logical.specs.declared.views.LogicalSpec.TheVariants.{Simple, Multi, Join}
-use Rattle.logical_model.specs.Bases.{Bases, FileSpec, PhysicalFile, LogicalFile}
+use Rattle.logical_model.specs.Bases.{Bases, FileSpec, PhysicalFile, LogicalFile, base_names}
 use Rattle.logical_laws.specs.Mapped.{AreSameBases, IsSpecMapped}
 use Rattle.logical_paths.specs.KeyedViews.{IsKeyedLogical}
 use Rattle.logical_paths.specs.Steps.{own_path}
@@ -22,9 +22,9 @@ use Rattle.library_paths.specs.AllPaths.{AreKeptFor, all_paths}
 use Rattle.journal_model.specs.Replay.{before_of}
 use Rattle.journal_model.specs.Rollback.{MemberChange}
 use Rattle.path_set.specs.declared.moves.PathMove.{PathMove}
-use Rattle.path_set.specs.KeptPaths.{KeptPaths, NumberedPaths}
-use Rattle.path_set.specs.RecordChanges.{RecordChange, reversed, moves_in, HaveRoom}
-use Rattle.path_set.specs.MemberSteps.{slot_replaced}
+use Rattle.path_set.specs.KeptPaths.{KeptPaths, NumberedPaths, spare_of}
+use Rattle.path_set.specs.RecordChanges.{RecordChange, reversed, moves_in}
+use Rattle.path_set.specs.MemberSteps.{is_over, slot_replaced}
 use Rattle.job_table.specs.Opens.{OpenOrder}
 use Rattle.library_model.specs.Named.{Named, named}
 use Rattle.library_steps.specs.LogicalFiles.{bases_in}
@@ -44,12 +44,12 @@ abbrev pub path_by : Bases → (keyed : Bool) → (member : ℕ) → FileSpec �
 path_by bases keyed member (PhysicalFile spec) = if keyed then Some (physical_path member spec.format.fields spec.keys) else None
 path_by bases keyed member (LogicalFile spec) = Some (own_path bases spec)
 
--- so far each logical file is over one physical file
-abbrev pub IsSimple : FileSpec → Type 0
-IsSimple (PhysicalFile spec) = Unit {0}
-IsSimple (LogicalFile (Simple view)) = Unit {0}
-IsSimple (LogicalFile (Multi views)) = ⊥
-IsSimple (LogicalFile (Join view)) = ⊥
+-- so far no logical file is a join
+abbrev pub IsUnjoined : FileSpec → Type 0
+IsUnjoined (PhysicalFile spec) = Unit {0}
+IsUnjoined (LogicalFile (Simple view)) = Unit {0}
+IsUnjoined (LogicalFile (Multi views)) = Unit {0}
+IsUnjoined (LogicalFile (Join view)) = ⊥
 
 -- where a file of one format has no key, its records stand by their rising numbers
 abbrev pub RisesIfKeyless : LogicalSpec → Type 0
@@ -57,10 +57,18 @@ RisesIfKeyless (Simple view) = view.keys.parts ≡ [] → view.keys.ties ≡ Ris
 RisesIfKeyless (Multi views) = Unit {0}
 RisesIfKeyless (Join view) = Unit {0}
 
--- its key is by fields of that file, and what is stored through it lies in whole fields of that file; the fields of its formats are those of what
--- it shows, and what they are made of has a byte
+-- a file of several formats has two at least
+abbrev pub HasSeveral : LogicalSpec → Type 0
+HasSeveral (Simple view) = Unit {0}
+HasSeveral (Multi views) = 2 ≤ length views
+HasSeveral (Join view) = Unit {0}
+
+-- it has a format; its key is by fields of its base files, and what is stored through it lies in whole fields of these; the fields of its formats are
+-- those of what it shows, and what they are made of has a byte
 pub record IsView (bases : Bases) (spec : LogicalSpec) : Type 0 where
-  pub simple : IsSimple (LogicalFile spec)
+  pub unjoined : IsUnjoined (LogicalFile spec)
+  pub some : IsSome (slice_get (base_names spec) 0)
+  pub several : HasSeveral spec
   pub keyed : IsKeyedLogical bases spec
   pub mapped : IsSpecMapped bases spec
   pub rises : RisesIfKeyless spec
@@ -130,9 +138,13 @@ moves_back paths undo = moves_in (reversed (record_change undo)) paths
 abbrev pub moves_of_job : NumberedPaths → JobState → List (List PathMove)
 moves_of_job paths job = map (moves_back paths) (changes_in job.cycle)
 
--- how many changes of the member the open commit cycles have
-abbrev pub changes_on : (member : ℕ) → List JobState → ℕ
-changes_on member jobs = sum_by (λ job. length (filter (λ undo. undo.member == member) (changes_in job.cycle))) jobs
+-- how many changes of members that the path is over the open commit cycles have
+abbrev pub changes_over : PathSpec → List JobState → ℕ
+changes_over spec jobs = sum_by (λ job. length (filter (λ undo. is_over undo.member spec) (changes_in job.cycle))) jobs
+
+-- each kept path has memory for the moves of so many changes
+abbrev pub HaveSpares : (PathSpec → ℕ) → KeptPaths → Type 0
+HaveSpares count kept = All (λ path. count path.item.spec * length path.item.spec.formats ≤ spare_of path.number kept) kept.paths
 
 -- ---- bytes
 
@@ -154,7 +166,7 @@ pub record IsIndexedFor (specs : List PathSpec) (files : Named FileState) (membe
   pub paths : AreKeptFor specs members kept.paths
   pub orders : AllZip (OpensRead files kept.paths) jobs reads
   pub moves : backs ≡ map (moves_of_job kept.paths) jobs
-  pub room : (member : ℕ) → HaveRoom member (changes_on member jobs) kept
+  pub room : HaveSpares (λ spec. changes_over spec jobs) kept
   pub bytes : AreOfBytes members
   pub views : AreViews files
 

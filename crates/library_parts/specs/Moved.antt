@@ -21,7 +21,7 @@ AreMovesOf parts member rrn new moves = moves ≡ moves_in (slot_replaced member
 abbrev pub HasMovesRoom : LibraryParts → (member more : ℕ) → Type 0
 HasMovesRoom parts member more = HaveRoom member (changes_held parts.state.jobs + more) parts.room.paths
 
--- the paths over the member as what is made of it gives them
+-- the paths over the member as what is made of it gives them, with memory for the moves of the changes that open commit cycles hold
 abbrev pub AreRemade : LibraryParts → (member : ℕ) → (MemberState → MemberState) → List (Numbered EntryList) → Type 0
 AreRemade parts member made rebuilt =
-    AreRebuilt (with_member member (made (member_of member parts.state.members)) parts.state.members) 0 (paths_over member parts.room.paths.paths) rebuilt
+    AreRebuilt (with_member member (made (member_of member parts.state.members)) parts.state.members) (changes_held parts.state.jobs) (paths_over member parts.room.paths.paths) rebuilt

@@ -170,6 +170,7 @@ pub record IsNewFor (parts : LibraryParts) (member rrn : ℕ) (image : List ℕ)
   pub before : (id : ℕ) (format : PathFormat) → IsFormatAt id member format parts.room.paths.paths → AllAreAskedBefore format member parts.state.jobs
   pub bytes : AreBytes image
   pub shared : AreShared parts.room.paths.paths
-  pub one : (id : ℕ) (path : KeptPath) → item_at id parts.room.paths.paths ≡ Some path → is_over member path.spec ≡ true → (format : PathFormat) × IsFormatAt id member format parts.room.paths.paths
+  pub one : (id : ℕ) (path : KeptPath) → item_at id parts.room.paths.paths ≡ Some path → path.spec.unique ≡ true → is_over member path.spec ≡ true
+      → (format : PathFormat) × IsFormatAt id member format parts.room.paths.paths
   pub told : (id : ℕ) (format : PathFormat) (over : IsFormatAt id member format parts.room.paths.paths) → clash_in 0 image rrn over.path ≡ clash format parts.state.members image rrn
   pub kept : AllByRecursion (IsKeptOver member parts.room.paths.paths) (unique_paths member (memory_of parts.state))

@@ -1,5 +1,5 @@
 -- How an open of the library reads, what it is asked, and what it finds. (Database Programming, "Reading database records".)
-use Rattle.std.specs.Prelude.{◌≡◌, ℕ, ◌-◌, nat_lt, Any, Bool, true, false, not, IsTrue, Option, Some, None, IfSome, Result, Ok, Err, is_ok, List, [], ◌∷◌, length, map, option_map, slice_index_or}
+use Rattle.std.specs.Prelude.{◌≡◌, ℕ, ◌-◌, ◌||◌, nat_lt, Any, Bool, true, false, not, IsTrue, Option, Some, None, IfSome, Result, Ok, Err, is_ok, List, [], ◌∷◌, length, map, option_map, slice_index_or}
 use Rattle.field_types.specs.declared.values.Value.{Value}
 use Rattle.key_spec.specs.declared.KeyPart.{KeyPart}
 use Rattle.file_model.specs.declared.paths.PathSpec.{PathSpec}
@@ -38,7 +38,7 @@ use Rattle.library_steps.specs.State.{Memory, FileState, OpenState, memory_of}
 use Rattle.library_parts.specs.declared.stop.Stop.{Stop}
 use Rattle.library_parts.specs.declared.stop.Stop.TheVariants.{NoMemory, Refused}
 use Rattle.library_parts.specs.declared.reading.Found.{Found}
-use Rattle.library_parts.specs.Indexed.{IsReadSo, IsSimple, ReadsBy, ReadsFile, path_read}
+use Rattle.library_parts.specs.Indexed.{IsReadSo, IsUnjoined, ReadsBy, ReadsFile, path_read}
 use Rattle.library_parts.specs.Parts.{LibraryParts}
 
 -- the positions of the key by which an open reads, in each format; an open without a key reads one format that has none
@@ -65,11 +65,11 @@ abbrev pub IsNumberOf : PathSpec → Option ℕ → NumberedPaths → Type 0
 IsNumberOf spec None paths = IsNew spec paths
 IsNumberOf spec (Some id) paths = Any (λ path. (path.number ≡ id) × (path.item.spec ≡ spec)) paths
 
--- the open is one of this library, of a simple file, and so is the way in which it reads
+-- the open is one of this library, of a file that is no join, and so is the way in which it reads
 pub record ReadsAs (parts : LibraryParts) (opened : KeptOpen) (file : FileState) : Type 0 where
   pub by : ReadsBy parts.room.paths.paths (path_read (bases_in parts.state.files) file opened.state) opened.order
   pub so : IsReadSo (is_file_path opened.state.access_path) file.spec
-  pub simple : IsSimple file.spec
+  pub unjoined : IsUnjoined file.spec
 
 -- how the opens of the job read, by their names
 abbrev pub orders_in : (job : ℕ) → LibraryParts → Named OpenOrder
@@ -85,10 +85,10 @@ pub record ReadsNew (commit : Bool) (paths : NumberedPaths) (spec : Option PathS
   pub start : IsNewReads commit reads
   pub by : ReadsByNumber paths spec reads
 
--- how a new open of the member reads
-pub record ReadsFor (parts : LibraryParts) (args : OpenFile) (member : ℕ) (reads : OpenReads) : Type 0 where
+-- how a new open over these members reads
+pub record ReadsFor (parts : LibraryParts) (args : OpenFile) (members : List ℕ) (reads : OpenReads) : Type 0 where
   pub start : IsNewReads args.commit reads
-  pub order : ReadsFile (bases_in parts.state.files) parts.room.paths.paths (new_open args 0 (member ∷ [])) (order_by 0 reads) (named args.file parts.state.files)
+  pub order : ReadsFile (bases_in parts.state.files) parts.room.paths.paths (new_open args 0 members) (order_by 0 reads) (named args.file parts.state.files)
 
 -- ---- the key that a request gives
 
@@ -130,7 +130,6 @@ pub record IsAlongPath (members : NumberedMembers) (kept : KeptPaths) (id : ℕ)
   pub list : EntryList
   pub pages : pages_at kept id ≡ Some list
   pub over : IsPathOver formats spec members list
-  pub one : length formats ≡ 1
   pub numbered : HasNoKey formats → AreNumbered list
   pub along : reading ≡ path_reading spec.ties (path spec members)
 
@@ -155,7 +154,7 @@ found_by by file opened m = asked_of by (parts_read (bases_of m) file opened) (r
 
 abbrev pub FindsEntry : Option Found → Option PathEntry → Type 0
 FindsEntry None wanted = wanted ≡ None
-FindsEntry (Some found) wanted = (entry : PathEntry) × (wanted ≡ Some entry) × (entry.rrn ≡ found.rrn) × (entry.format ≡ 0)
+FindsEntry (Some found) wanted = (entry : PathEntry) × (wanted ≡ Some entry) × (entry.rrn ≡ found.rrn) × (entry.format ≡ found.format)
 
 -- the job's open of this name, through which something is found
 pub record CanNote (parts : LibraryParts) (job : ℕ) (name : List ℕ) (by : ReadBy) : Type 0 where
@@ -184,6 +183,12 @@ abbrev pub ReadsSo : (keyed wanted : Bool) → Result (Unit {0}) Stop → Type 0
 ReadsSo keyed wanted (Ok nothing) = keyed ≡ wanted
 ReadsSo keyed wanted (Err NoMemory) = ⊥
 ReadsSo keyed wanted (Err (Refused reply)) = (keyed ≡ not wanted) × (reply ≡ WrongOpen)
+
+-- the open reads by no key, and its file is one in which a number says which record is meant; or it is refused
+abbrev pub TakesNumbers : (keyed numbered : Bool) → Result (Unit {0}) Stop → Type 0
+TakesNumbers keyed numbered (Ok nothing) = (keyed ≡ false) × (numbered ≡ true)
+TakesNumbers keyed numbered (Err NoMemory) = ⊥
+TakesNumbers keyed numbered (Err (Refused reply)) = ((keyed || not numbered) ≡ true) × (reply ≡ WrongOpen)
 
 -- an open of these formats can stand there
 abbrev pub CanStandIn : List (List KeyPart) → Limit → Type 0

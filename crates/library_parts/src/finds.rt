@@ -4,13 +4,14 @@ ghost use Rattle.library_model.specs.declared.replies.Reply.TheVariants.{NoSuchN
 ghost use Rattle.library_model.specs.declared.replies.Missing.TheVariants as missing;
 ghost use Rattle.library_steps.specs.State.{memory_of, job_at, file_named, open_named, physical_named};
 ghost use Rattle.library_steps.specs.History.{is_running};
+ghost use Rattle.library_steps.specs.Reads.{at_format};
 ghost use Rattle.library_steps.specs.Refusals.{named_or_refused, opened_file, member_of_file, sequences_left};
 ghost use Rattle.library_parts.specs.declared.stop.Stop.TheVariants.{Refused};
 ghost use Rattle.library_parts.specs.Answers.{Shows, Allows};
 ghost use Rattle.lawful_states.specs.Physical.{IsPhysical};
-ghost use Rattle.library_parts.specs.Finds.{ShowsOpen, FindsOpen, FindsMember, ReadsMember};
+ghost use Rattle.library_parts.specs.Finds.{ShowsOpen, FindsOpen, FindsMember, IsFormatIn, ReadsMember};
 ghost use Rattle.lawful_states.specs.Members.{HasMember};
-ghost use Rattle.library_parts.specs.Indexed.{IsSimple, IsViewBeside};
+ghost use Rattle.library_parts.specs.Indexed.{IsUnjoined, IsViewBeside};
 ghost use Rattle.job_table.specs.Opens.{AllOfNumber};
 ghost use Rattle.library_model.specs.Named.{named};
 ghost use Rattle.library_parts.specs.Reads.{ReadsAs, orders_in};
@@ -20,7 +21,7 @@ use crate::stop::Stop;
 use entry_codec::FileKind;
 use field_types::names::Name;
 use file_catalogue::{File, MemberStatus};
-use job_table::Open;
+use job_table::{Open, OpenAt};
 use library_model::replies::{LimitKind, Missing, Reply};
 use library_steps::limits::LAST_SEQUENCE;
 
@@ -80,19 +81,32 @@ impl Contents {
         ensures shows { IfOk result (λ its. open_named name.now job (memory_of self.now.state) ≡ Some its.opened.now.state) }
         ensures order { IfOk result (λ its. named name.now (orders_in job self.now) ≡ Some its.opened.now.order) }
         ensures there { IfOk result (λ its. ReadsMember self.now.state its.file.now its.opened.now.state) }
-        ensures simple { IfOk result (λ its. IsSimple its.file.now.spec) }
+        ensures unjoined { IfOk result (λ its. IsUnjoined its.file.now.spec) }
         ensures view { IfOk result (λ its. IsViewBeside self.now.state.files its.file.now.spec) }
         ensures reads { IfOk result (λ its. ReadsAs self.now its.opened.now its.file.now) }
         ensures alone { IfOk result (λ its. AllOfNumber its.opened.now.state.number (λ order. order ≡ its.opened.now.order) (orders_in job self.now)) }
     {
-        // The file of each open is there, and has its member. Each open stands beside how it reads.
+        // The file of each open is there, and has its members. Each open stands beside how it reads.
         let _jobs = self.jobs.len();
         let _files = self.catalogue.len();
         let opened = self.opened(job, name)?;
         let file = self.file(&opened.file())?;
-        // It is over one member, and has one format.
-        let _only = opened.only_member();
         Ok(OpenFound { opened, file })
+    }
+
+    /// An open, where it is at one of the formats of its file.
+    pub fn at_format<'a>(&self, opened: &'a Open, file: &File, format: u16) -> OpenAt<'a>
+        requires there { ReadsMember self.now.state file.now opened.now.state }
+        requires unjoined { IsUnjoined file.now.spec }
+        requires format { IsFormatIn file.now.spec format }
+        ensures state { result.state ≡ at_format format opened.now.state }
+        ensures order { result.order ≡ opened.now.order }
+        ensures there { ReadsMember self.now.state file.now result.state }
+    {
+        // What the parts of a library need of each other holds.
+        let _files = self.catalogue.len();
+        let _jobs = self.jobs.len();
+        opened.at(format)
     }
 
     /// The member of that name of the file of that name.

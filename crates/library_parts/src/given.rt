@@ -12,7 +12,7 @@ ghost use Rattle.library_steps.specs.State.{Memory, FileState, MemberStatus, mem
 ghost use Rattle.library_steps.specs.UniqueKeys.{all_apart, has_member, own_unique, unique_paths, uniques_by, view_unique};
 ghost use Rattle.library_parts.specs.Answers.{MayAllow};
 ghost use Rattle.library_parts.specs.Given.{AreMovesOfAll, AreTold, CanTake, HasRoomFor, IsTold, MayGive, members_given, unique_of, with_given};
-ghost use Rattle.library_parts.specs.Indexed.{AreViews, HasBytes, IsSimple};
+ghost use Rattle.library_parts.specs.Indexed.{AreViews, HasBytes, IsUnjoined};
 
 use crate::bases::LibraryBases;
 use crate::contents::Contents;
@@ -149,7 +149,7 @@ fn file_apart(
     member: u32,
     place: usize,
 ) -> Result<(), Stop>
-    ensures { (m later : Memory) (entry : List ℕ × FileState) → m.files ≡ catalogue.now.files → slice_get catalogue.now.files place ≡ Some entry → IsSimple entry.1.spec
+    ensures { (m later : Memory) (entry : List ℕ × FileState) → m.files ≡ catalogue.now.files → slice_get catalogue.now.files place ≡ Some entry → IsUnjoined entry.1.spec
         → AllByRecursion (IsTold later.members paths.now.paths) (uniques_by entry.1.spec m member entry) → MayAllow result (all_apart (uniques_by entry.1.spec m member entry) later) }
 {
     let Some((name, file)) = catalogue.at(place) else {
@@ -184,7 +184,7 @@ pub(crate) fn unique_path(
     member: u32,
     file: &File,
 ) -> Result<Option<PathSpec>, AllocError>
-    ensures { IfOk result (λ path. (m : Memory) (name : List ℕ) → m.files ≡ catalogue.now.files → IsSimple file.now.spec → uniques_by file.now.spec m member (name, file.now) ≡ unique_of name path) }
+    ensures { IfOk result (λ path. (m : Memory) (name : List ℕ) → m.files ≡ catalogue.now.files → IsUnjoined file.now.spec → uniques_by file.now.spec m member (name, file.now) ≡ unique_of name path) }
 {
     match file.described() {
         FileBody::Physical(described) => {
@@ -218,7 +218,7 @@ fn view_unique(
     member: u32,
     spec: &LogicalSpec,
 ) -> Result<Option<PathSpec>, AllocError>
-    ensures { IfOk result (λ path. (m : Memory) (name : List ℕ) → m.files ≡ catalogue.now.files → IsSimple (LogicalFile spec.now) → view_unique m name member spec.now ≡ unique_of name path) }
+    ensures { IfOk result (λ path. (m : Memory) (name : List ℕ) → m.files ≡ catalogue.now.files → IsUnjoined (LogicalFile spec.now) → view_unique m name member spec.now ≡ unique_of name path) }
 {
     let LogicalSpec::Simple(view) = spec else {
         return Ok(None);

@@ -18,7 +18,7 @@ ghost use Rattle.lawful_states.specs.Calls.{IsRead, IsWrite};
 
 use crate::contents::Contents;
 use crate::stop::Stop;
-use job_table::Open;
+use job_table::OpenAt;
 use library_model::replies::{LimitKind, Reply};
 use library_steps::limits::{MOST_GROUP_BYTES, MOST_GROUP_CHANGES};
 use lock_table::{Call, Held, Holder, Level, LockKind, MOST_LOCKS, RecordId, Wanted, asked};
@@ -26,7 +26,7 @@ use member_slots::slot::Slot;
 
 impl Contents {
     /// The lock level of an open of the job; `None` where it isn't under commitment control.
-    pub fn level_of(&self, job: u32, opened: &Open) -> Option<Level>
+    pub fn level_of(&self, job: u32, opened: &OpenAt<'_>) -> Option<Level>
         requires { IsTrue (is_running (job_at job self.now.state.jobs)) }
         ensures { result ≡ level_of (job_of job (memory_of self.now.state)) opened.now.state }
     {
@@ -38,7 +38,7 @@ impl Contents {
     }
 
     /// The least job whose lock clashes with the one that the call asks for.
-    pub fn clashing(&self, call: Call, job: u32, opened: &Open, rrn: u32) -> Option<u32>
+    pub fn clashing(&self, call: Call, job: u32, opened: &OpenAt<'_>, rrn: u32) -> Option<u32>
         requires { IsTrue (is_running (job_at job self.now.state.jobs)) }
         ensures { result ≡ clashing call job opened.now.state rrn (memory_of self.now.state) }
     {
@@ -49,7 +49,13 @@ impl Contents {
     }
 
     /// The refusal where another job's lock clashes with the one that the call asks for.
-    pub fn not_locked(&self, call: Call, job: u32, opened: &Open, rrn: u32) -> Result<(), Stop>
+    pub fn not_locked(
+        &self,
+        call: Call,
+        job: u32,
+        opened: &OpenAt<'_>,
+        rrn: u32,
+    ) -> Result<(), Stop>
         requires { IsTrue (is_running (job_at job self.now.state.jobs)) }
         ensures { Allows result (not_locked call job opened.now.state rrn (memory_of self.now.state)) }
     {
@@ -68,7 +74,7 @@ impl Contents {
         &self,
         call: Call,
         job: u32,
-        opened: &Open,
+        opened: &OpenAt<'_>,
         rrn: u32,
     ) -> Result<(), Stop>
         requires running { IsTrue (is_running (job_at job self.now.state.jobs)) }
@@ -86,7 +92,7 @@ impl Contents {
         &self,
         call: Call,
         job: u32,
-        opened: &Open,
+        opened: &OpenAt<'_>,
         rrn: u32,
     ) -> Result<(), Stop>
         requires running { IsTrue (is_running (job_at job self.now.state.jobs)) }
@@ -99,7 +105,7 @@ impl Contents {
         Ok(())
     }
 
-    fn are_too_many_to_read(&self, call: Call, job: u32, opened: &Open, rrn: u32) -> bool
+    fn are_too_many_to_read(&self, call: Call, job: u32, opened: &OpenAt<'_>, rrn: u32) -> bool
         requires running { IsTrue (is_running (job_at job self.now.state.jobs)) }
         requires call { IsRead call }
         ensures { result ≡ nat_lt MOST_LOCKS (length (locks_left call job opened.now.state rrn (memory_of self.now.state))) }
@@ -120,7 +126,7 @@ impl Contents {
         }
     }
 
-    fn are_too_many_to_write(&self, call: Call, job: u32, opened: &Open, rrn: u32) -> bool
+    fn are_too_many_to_write(&self, call: Call, job: u32, opened: &OpenAt<'_>, rrn: u32) -> bool
         requires running { IsTrue (is_running (job_at job self.now.state.jobs)) }
         requires call { IsWrite call }
         ensures { result ≡ nat_lt MOST_LOCKS (length (locks_left call job opened.now.state rrn (memory_of self.now.state))) }
@@ -154,7 +160,7 @@ impl Contents {
     }
 
     /// What the open and its job hold on a record of its member.
-    pub fn locks_on(&self, job: u32, opened: &Open, rrn: u32) -> Held
+    pub fn locks_on(&self, job: u32, opened: &OpenAt<'_>, rrn: u32) -> Held
         ensures by_open { result.by_open ≡ has_open_lock job opened.now.state rrn (memory_of self.now.state) }
         ensures to_boundary { result.to_boundary ≡ has_boundary_lock job opened.now.state rrn (memory_of self.now.state) }
     {
@@ -163,7 +169,7 @@ impl Contents {
     }
 
     /// The refusal where the job's open commit cycle has changed the record, and the open isn't under commitment control.
-    pub fn not_held(&self, job: u32, opened: &Open, rrn: u32) -> Result<(), Stop>
+    pub fn not_held(&self, job: u32, opened: &OpenAt<'_>, rrn: u32) -> Result<(), Stop>
         requires { IsTrue (is_running (job_at job self.now.state.jobs)) }
         ensures { Allows result (not_held job opened.now.state rrn (memory_of self.now.state)) }
     {
@@ -207,7 +213,7 @@ fn too_many_locks() -> Stop
 }
 
 /// Through which open of which job records are locked.
-pub fn holder_of(job: u32, opened: &Open) -> Holder
+pub fn holder_of(job: u32, opened: &OpenAt<'_>) -> Holder
     ensures { result ≡ holder_of job opened.now.state }
 {
     Holder {
@@ -217,7 +223,7 @@ pub fn holder_of(job: u32, opened: &Open) -> Holder
 }
 
 /// A record of the open's member.
-pub fn record_of(opened: &Open, rrn: u32) -> RecordId
+pub fn record_of(opened: &OpenAt<'_>, rrn: u32) -> RecordId
     ensures { result ≡ record_of opened.now.state rrn }
 {
     RecordId {

@@ -159,12 +159,16 @@ impl Contents {
         requires { IsSome (member_at member self.now.state.members) }
         ensures { IfOk result (AreRemade self.now member cleared) }
     {
+        let Some(held) = changes_with(self.jobs.changes_held(), 0) else {
+            return Err(AllocError);
+        };
         // What holds of all files, members and kept paths.
         let _files = self.catalogue.len();
         let _kept = self.paths.kept();
         let _member = self.members.at(member);
         let empty = Member::new(self.alloc, self.record_length(member));
-        self.paths.prepare_rebuild(&self.members, member, &empty, 0)
+        self.paths
+            .prepare_rebuild(&self.members, member, &empty, held)
     }
 
     /// The paths of the member as they will be without its deleted slots. It copies the records.
@@ -172,12 +176,15 @@ impl Contents {
         requires { IsSome (member_at member self.now.state.members) }
         ensures { IfOk result (AreRemade self.now member reorganized) }
     {
+        let Some(held) = changes_with(self.jobs.changes_held(), 0) else {
+            return Err(AllocError);
+        };
         // What holds of all files and kept paths.
         let _files = self.catalogue.len();
         let _kept = self.paths.kept();
         let compact = without_deleted(self.alloc, self.members.at(member).unwrap())?;
         self.paths
-            .prepare_rebuild(&self.members, member, &compact, 0)
+            .prepare_rebuild(&self.members, member, &compact, held)
     }
 
     /// Removes all slots of the member, which no job uses.

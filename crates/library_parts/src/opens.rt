@@ -1,5 +1,5 @@
 //! What effects change of the jobs and their locks: opens, positions, locks, and the end of a job.
-ghost use Rattle.std.specs.Prelude.{◌≡◌, ◌≤◌, ◌<◌, [], ◌∷◌, None, IsTrue, IfSome, OnOk, length};
+ghost use Rattle.std.specs.Prelude.{◌≡◌, ◌≤◌, ◌<◌, None, IsTrue, IfSome, OnOk, length};
 ghost use Rattle.lock_table.specs.Table.{blocker};
 ghost use Rattle.lock_table.specs.Levels.{asked, locks_after};
 ghost use Rattle.library_model.specs.Named.{named};
@@ -13,7 +13,7 @@ ghost use Rattle.library_steps.specs.Locking.{is_committed, with_locks};
 ghost use Rattle.library_steps.specs.EndJob.{job_ended};
 ghost use Rattle.job_table.specs.Table.{HasRoomFor};
 ghost use Rattle.job_table.specs.declared.jobs.TheConstants.{LAST_OPEN};
-ghost use Rattle.library_parts.specs.Finds.{OpensMember};
+ghost use Rattle.library_parts.specs.Finds.{OpensMembers};
 ghost use Rattle.lawful_states.specs.Calls.{AsksNone, IsOfOpen};
 ghost use Rattle.library_parts.specs.Locks.{HasLockRoom};
 ghost use Rattle.library_parts.specs.Reads.{ReadsFor};
@@ -21,6 +21,7 @@ ghost use Rattle.library_parts.specs.Reads.{ReadsFor};
 use crate::contents::Contents;
 use crate::cycles::level_due;
 use crate::leave::leave;
+use field_types::lists::ListOf;
 use field_types::names::Name;
 use job_table::OpenReads;
 use library_model::requests::OpenFile;
@@ -36,18 +37,18 @@ impl Contents {
         (self.jobs.open_count(job), self.jobs.opened(job))
     }
 
-    /// Opens a file for the job over one member, which reads in that way.
-    pub fn add_open(&mut self, job: u32, args: &OpenFile, member: u32, reads: OpenReads)
+    /// Opens a file for the job over these members, which reads in that way.
+    pub fn add_open(&mut self, job: u32, args: &OpenFile, members: ListOf<u32>, reads: OpenReads)
         requires running { IsTrue (is_running (job_at job self.old.state.jobs)) }
         requires few { length (job_of job (memory_of self.old.state)).opens < MOST_OPENS }
         requires numbered { (job_of job (memory_of self.old.state)).opened < LAST_OPEN }
-        requires there { OpensMember self.old.state.files member (named args.now.file self.old.state.files) }
-        requires reads { ReadsFor self.old args.now member reads }
-        ensures memory { memory_of self.new.state ≡ with_job job (with_open args.now (member ∷ [])) (memory_of self.old.state) }
+        requires there { OpensMembers self.old.state.files members (named args.now.file self.old.state.files) }
+        requires reads { ReadsFor self.old args.now members reads }
+        ensures memory { memory_of self.new.state ≡ with_job job (with_open args.now members) (memory_of self.old.state) }
         ensures entries { self.new.state.entries ≡ self.old.state.entries }
         ensures room { self.new.room ≡ record self.old.room { orders = self.new.room.orders } }
     {
-        self.jobs.add_open(job, args, member, reads);
+        self.jobs.add_open(job, args, members, reads);
     }
 
     /// Closes the job's open of that name, but for its locks.

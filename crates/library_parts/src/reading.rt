@@ -1,7 +1,6 @@
 //! What an open reads: the key that a request gives, the record that a read finds, and where the open stands then.
-ghost use Rattle.std.specs.Prelude.{◌≡◌, ◌≤◌, ◌&&◌, nat_lt, [], ◌∷◌, Ok, Some, None, true, false, is_some, length, IfOk, IfSome, IsSome, IsTrue, List, option_map};
+ghost use Rattle.std.specs.Prelude.{◌≡◌, ◌≤◌, ◌&&◌, nat_lt, [], ◌∷◌, Ok, Some, None, true, false, is_some, length, map, IfOk, IfSome, IsSome, IsTrue, List, option_map};
 ghost use Rattle.std.specs.List.{find};
-ghost use Rattle.file_model.specs.FilePaths.{key_parts};
 ghost use Rattle.file_model.specs.KeyOrder.{merged_parts};
 ghost use Rattle.file_model.specs.Paths.{PathEntry};
 ghost use Rattle.file_model.specs.Positions.{Position, Reading, Start};
@@ -16,19 +15,20 @@ ghost use Rattle.job_table.specs.Opens.{AllOfNumber};
 ghost use Rattle.job_table.specs.Table.{job_of_number, orders_at};
 ghost use Rattle.library_model.specs.Named.{named};
 ghost use Rattle.library_steps.specs.History.{is_running};
-ghost use Rattle.library_steps.specs.Reads.{bound_asked, open_changed, positioned, has_read, entry_found};
+ghost use Rattle.library_steps.specs.Reads.{at_format, bound_asked, open_changed, positioned, has_read, entry_found};
 ghost use Rattle.library_steps.specs.Records.{is_file_path, is_keyed, live_record, reading_of};
 ghost use Rattle.library_steps.specs.Refusals.{OpenedFile, opened_file};
 ghost use Rattle.library_steps.specs.State.{memory_of, job_at, open_named, with_job};
-ghost use Rattle.open_position.specs.OpenStand.{IsEntryIn};
+ghost use Rattle.open_position.specs.OpenStand.{AreFormatKeys, IsEntryIn};
 ghost use Rattle.open_position.specs.Reads.{IsAskedOf, IsStandAt, asked_of, entry_hit, side_of, stood};
 ghost use Rattle.library_steps.specs.LogicalFiles.{bases_in, bases_of};
-ghost use Rattle.logical_model.specs.Bases.{PhysicalFile};
+ghost use Rattle.logical_model.specs.Bases.{LogicalFile, PhysicalFile};
 ghost use Rattle.logical_model.specs.Formats.{has_key};
+ghost use Rattle.logical_model.specs.Readings.{has_numbers};
 ghost use Rattle.logical_paths.specs.Steps.{own_path};
 ghost use Rattle.library_parts.specs.Indexed.{IsView, path_by};
-ghost use Rattle.library_parts.specs.Finds.{OpensMember, ReadsMember};
-ghost use Rattle.library_parts.specs.Reads.{CanNote, CanStand, CanStandIn, FindsEntry, GivesKey, HasKeyOf, IsAlongPath, IsInArrival, IsLookedIn, MayHaveKey, MayReadSo, Stands, ReadsAmong, ReadsAs, ReadsFor, ReadsNew, ReadsSo, formats_read, found_by, has_positions, orders_in, stood_at, IsNumberOf};
+ghost use Rattle.library_parts.specs.Finds.{OpensMembers, ReadsMember};
+ghost use Rattle.library_parts.specs.Reads.{CanNote, CanStand, CanStandIn, FindsEntry, GivesKey, HasKeyOf, IsAlongPath, IsInArrival, IsLookedIn, MayHaveKey, MayReadSo, Stands, TakesNumbers, ReadsAmong, ReadsAs, ReadsFor, ReadsNew, ReadsSo, formats_read, found_by, has_positions, orders_in, stood_at};
 
 use crate::contents::Contents;
 use crate::finds::OpenFound;
@@ -41,7 +41,7 @@ use field_types::values::Value;
 use file_catalogue::{Described, File, FileBody};
 use file_cursor::places::{Hit, Order};
 use file_model::paths::PathSpec;
-use job_table::{Jobs, Open, OpenReads};
+use job_table::{Jobs, Open, OpenReads, first_of};
 use key_order::given::{KeyFault, encode_values, key_fault};
 use key_pages::Key;
 use key_spec::{KeyPart, KeySpec};
@@ -49,32 +49,37 @@ use key_values::laws::given_keys_are_read_back;
 use library_model::replies::Reply;
 use library_model::requests::{AccessPath, Limit, OpenFile};
 use lock_table::Call;
-use member_paths::{member_path, path_positions};
+use member_paths::member_path;
 use member_slots::members::Members;
 use open_position::position::{OpenPosition, Side, StandAt};
 use open_position::reads::ReadBy;
 use path_set::set::PathSet;
 use std::alloc::{AllocError, Global};
 
-/// A record that a read found.
+/// A record that a read found, and the format by which it is shown.
 #[derive(Clone, Copy)]
 pub struct Found {
+    pub format: u16,
     pub rrn: u32,
 }
 
 impl Contents {
     /// How a new open reads: by its file's path, or in arrival order. It stands at the start.
-    pub fn reads_for(&self, args: &OpenFile, member: u32) -> Result<OpenReads, AllocError>
-        requires member { OpensMember self.now.state.files member (named args.now.file self.now.state.files) }
+    pub fn reads_for(&self, args: &OpenFile, members: &[u32]) -> Result<OpenReads, AllocError>
+        requires members { OpensMembers self.now.state.files members.now (named args.now.file self.now.state.files) }
         requires so { MayReadSo args.now (named args.now.file self.now.state.files) }
-        ensures { IfOk result (λ reads. ReadsFor self.now args.now member reads) }
+        ensures { IfOk result (λ reads. ReadsFor self.now args.now members.now reads) }
     {
         // The path of each file is kept.
         let _files = self.catalogue.len();
         let _paths = self.paths.kept();
         let file = self.catalogue.named(&args.file).unwrap();
         match file.described() {
-            FileBody::Physical(described) => self.reads_physical(args, described, member),
+            FileBody::Physical(described) => self.reads_physical(
+                args,
+                described,
+                first_of(members),
+            ),
             FileBody::Logical(view) => self.reads_view(args.commit, view.spec()),
         }
     }
@@ -94,7 +99,7 @@ impl Contents {
         let keys = described.keys();
         if is_by_key(args, keys) {
             let path = member_path(self.alloc, member, described.format(), keys)?;
-            self.reads_by_path(args.commit, &path, keys)
+            self.reads_by_path(args.commit, &path)
         } else {
             reads_in_arrival(self.alloc, args.commit)
         }
@@ -106,26 +111,15 @@ impl Contents {
         ensures { IfOk result (λ reads. ReadsNew commit self.now.room.paths.paths (Some (own_path (bases_in self.now.state.files) spec.now)) reads) }
     {
         let path = self.own_path(spec)?;
-        match spec {
-            LogicalSpec::Simple(view) => self.reads_by_path(commit, &path, &view.keys),
-            _ => unreachable!(),
-        }
+        self.reads_by_path(commit, &path)
     }
 
-    /// How a new open reads by a path whose key has these positions.
-    fn reads_by_path(
-        &self,
-        commit: bool,
-        path: &PathSpec,
-        keys: &KeySpec,
-    ) -> Result<OpenReads, AllocError>
-        requires few { length (key_parts 0 keys.now.parts) ≤ MOST_POSITIONS }
-        requires allowed { ArePositions (key_parts 0 keys.now.parts) }
-        ensures path { IfOk result (λ reads. IsNumberOf path.now reads.path self.now.room.paths.paths) }
-        ensures position { IfOk result (λ reads. reads.position ≡ record { position = Start; boundary = Start; formats = key_parts 0 keys.now.parts ∷ []; marks = commit }) }
+    /// How a new open reads by a path.
+    fn reads_by_path(&self, commit: bool, path: &PathSpec) -> Result<OpenReads, AllocError>
+        requires { AreFormatKeys (map (λ format. format.key) path.now.formats) }
+        ensures { IfOk result (λ reads. ReadsNew commit self.now.room.paths.paths (Some path.now) reads) }
     {
-        let parts = path_positions(self.alloc, keys)?;
-        let position = OpenPosition::by_key(self.alloc, parts, commit)?;
+        let position = OpenPosition::by_path(self.alloc, path.formats.as_slice(), commit)?;
         let path = self.paths.number_of(path);
         Ok(OpenReads { path, position })
     }
@@ -145,11 +139,16 @@ impl Contents {
         requires asked { IsAskedOf (formats_read (bases_of (memory_of self.now.state)) file.now opened.now.state) by }
         requires looked { IsLookedIn (is_keyed file.now opened.now.state) by }
         ensures found { FindsEntry result (found_by by.entry file.now opened.now.state (memory_of self.now.state)) }
-        ensures live { IfSome result (λ found. is_some (live_record opened.now.state.member found.rrn (memory_of self.now.state)) ≡ true) }
+        ensures there { IfSome result (λ found. ReadsMember self.now.state file.now (at_format found.format opened.now.state)) }
+        ensures live { IfSome result (λ found. is_some (live_record (at_format found.format opened.now.state).member found.rrn (memory_of self.now.state)) ≡ true) }
     {
+        let _files = self.catalogue.len();
         self.reads_there(opened, file);
         match hit_of(&self.members, &self.paths, opened, by) {
-            Some(hit) => Some(Found { rrn: hit.rrn }),
+            Some(hit) => Some(Found {
+                format: hit.format,
+                rrn: hit.rrn,
+            }),
             None => None,
         }
     }
@@ -163,7 +162,7 @@ impl Contents {
             Limit::Key(values) => may_have_key(opened, values.as_slice()),
             Limit::LowValue => reads_so(opened, true),
             Limit::HighValue => reads_so(opened, true),
-            Limit::RecordNumber(_) => reads_so(opened, false),
+            Limit::RecordNumber(_) => takes_numbers(opened, file),
         }
     }
 
@@ -192,6 +191,8 @@ impl Contents {
         ensures entries { self.new.state.entries ≡ self.old.state.entries }
         ensures room { self.new.room ≡ self.old.room }
     {
+        // Each open stands beside how it reads.
+        let _jobs = self.jobs.len();
         let its = self.found_open(job, name);
         self.reads_there(its.opened, its.file);
         let number = its.opened.number();
@@ -224,11 +225,11 @@ impl Contents {
         ensures among { ReadsAmong self.now.state.members self.now.room.paths opened.now.state.member opened.now.order.formats opened.now.order.path (reading_of file.now opened.now.state (memory_of self.now.state)) }
         ensures formats { formats_read (bases_of (memory_of self.now.state)) file.now opened.now.state ≡ opened.now.order.formats }
         ensures keyed { has_positions opened.now.order.formats ≡ is_keyed file.now opened.now.state }
+        ensures as_many { length opened.now.order.formats ≡ length opened.now.state.members }
     {
         let _files = self.catalogue.len();
         let _paths = self.paths.kept();
         let _member = self.members.at(opened.member());
-        let _only = opened.only_member();
     }
 }
 
@@ -368,6 +369,36 @@ fn may_be_key(parts: &[KeyPart], values: &[Value]) -> Result<(), Stop>
     match key_fault(parts, values) {
         Some(fault) => Err(Stop::Refused(Reply::BadValue(fault))),
         None => Ok(()),
+    }
+}
+
+/// The refusal of a relative record number through an open that reads by a key, or of a file in which it doesn't say which record is meant.
+fn takes_numbers(opened: &Open, file: &File) -> Result<(), Stop>
+    ensures { TakesNumbers (has_positions opened.now.order.formats) (has_numbers file.now.spec) result }
+{
+    if opened.stand().parts().is_empty() && has_numbers(file) {
+        Ok(())
+    } else {
+        Err(Stop::Refused(Reply::WrongOpen))
+    }
+}
+
+/// Whether a relative record number says which record is meant.
+fn has_numbers(file: &File) -> bool
+    ensures { result ≡ has_numbers file.now.spec }
+{
+    match file.described() {
+        FileBody::Physical(_) => true,
+        FileBody::Logical(view) => has_one_format(view.spec()),
+    }
+}
+
+fn has_one_format(spec: &LogicalSpec) -> bool
+    ensures { result ≡ has_numbers (LogicalFile spec.now) }
+{
+    match spec {
+        LogicalSpec::Simple(_) => true,
+        LogicalSpec::Multi(_) | LogicalSpec::Join(_) => false,
     }
 }
 

@@ -1,8 +1,9 @@
 //! Which jobs use a member: by an open, by a change of an open commit cycle, or by a lock that is kept to the boundary. And which use a
-//! file, and the member that a logical file is over.
-ghost use Rattle.std.specs.Prelude.{◌≡◌, ℕ, nat_lt, true, [], ◌∷◌, ◌++◌, IfOk};
+//! file, and the members that a logical file is over.
+ghost use Rattle.std.specs.Prelude.{◌≡◌, ℕ, ◌<◌, nat_lt, true, Some, [], ◌∷◌, ◌++◌, ◌||◌, length, slice_get, IfOk};
 ghost use Rattle.std.specs.List.{list_any};
-ghost use Rattle.logical_model.specs.Bases.{LogicalFile, base_members};
+ghost use Rattle.dds_logical.specs.declared.views.LogicalSpec.TheVariants.{Multi};
+ghost use Rattle.logical_model.specs.Bases.{LogicalFile, base_members, base_names};
 ghost use Rattle.logical_model.specs.FilePaths.{is_over, logical_paths};
 ghost use Rattle.logical_model.specs.SamePaths.{count_paths};
 ghost use Rattle.library_steps.specs.declared.limits.TheConstants.{MOST_PATHS};
@@ -13,13 +14,15 @@ ghost use Rattle.library_steps.specs.Refusals.{named_or_refused};
 ghost use Rattle.library_steps.specs.SlotChange.{status_among};
 ghost use Rattle.library_steps.specs.State.{file_named, memory_of};
 ghost use Rattle.library_steps.specs.Uses.{changer_of_any, user_of, user_of_any, user_of_logical};
-ghost use Rattle.job_table.specs.Users.{least_of_members};
+ghost use Rattle.job_table.specs.Users.{first_changer, least_of_members};
+ghost use Rattle.logical_paths.specs.Steps.{own_path};
 ghost use Rattle.library_parts.specs.Answers.{Shows};
-ghost use Rattle.library_parts.specs.Indexed.{IsSimple};
+ghost use Rattle.library_parts.specs.Indexed.{IsUnjoined};
 
 use crate::contents::Contents;
 use crate::stop::Stop;
-use dds_logical::LogicalSpec;
+use dds_logical::{LogicalSpec, View};
+use field_types::lists::ListOf;
 use field_types::names::Name;
 use file_catalogue::{File, MemberStatus, Members};
 use file_model::paths::PathSpec;
@@ -60,10 +63,10 @@ impl Contents {
         least
     }
 
-    /// The file of that name; a logical one has one format over one physical file.
-    pub fn simple_file(&self, name: &Name) -> Result<&File, Stop>
+    /// The file of that name, which is no join.
+    pub fn unjoined_file(&self, name: &Name) -> Result<&File, Stop>
         ensures shows { Shows result (named_or_refused name.now (file_named name.now (memory_of self.now.state))) }
-        ensures simple { IfOk result (λ file. IsSimple file.now.spec) }
+        ensures unjoined { IfOk result (λ file. IsUnjoined file.now.spec) }
     {
         // What holds of all logical files.
         let _files = self.catalogue.len();
@@ -78,28 +81,71 @@ impl Contents {
         self.catalogue.member(member)
     }
 
-    /// The number of the member that a logical file is over.
-    pub fn member_under(&self, view: &LogicalSpec) -> u32
-        requires { IsSimple (LogicalFile view.now) }
-        ensures { base_members (bases_of (memory_of self.now.state)) view.now ≡ result ∷ [] }
+    /// The numbers of the members that a logical file is over, in the order of its formats.
+    pub fn members_under(&self, view: &LogicalSpec) -> Result<ListOf<u32>, AllocError>
+        requires { IsUnjoined (LogicalFile view.now) }
+        ensures { IfOk result (λ members. members ≡ base_members (bases_of (memory_of self.now.state)) view.now) }
+    {
+        let mut members = ListOf::new(self.alloc);
+        let count = base_count(view);
+        for place in 0..count {
+            members.push(self.base_at(view, place))?;
+        }
+        Ok(members)
+    }
+
+    /// The number of the member under the format of this number.
+    fn base_at(&self, view: &LogicalSpec, place: usize) -> u32
+        requires unjoined { IsUnjoined (LogicalFile view.now) }
+        requires within { place < length (base_names view.now) }
+        ensures { slice_get (base_members (bases_of (memory_of self.now.state)) view.now) place ≡ Some result }
     {
         match view {
-            LogicalSpec::Simple(view) => {
-                let (member, _) = self.catalogue.base_of(&view.base);
-                member
-            }
-            _ => unreachable!(),
+            LogicalSpec::Simple(view) => self.base_of_view(view),
+            LogicalSpec::Multi(views) => self.base_among(views.as_slice(), place),
+            LogicalSpec::Join(_) => unreachable!(),
         }
     }
 
-    /// Whether the member that a logical file would be over would have more different paths than it may.
+    /// The number of the member under one of several formats.
+    fn base_among(&self, views: &[View], place: usize) -> u32
+        requires { place < length views.now }
+        ensures { slice_get (base_members (bases_of (memory_of self.now.state)) (Multi views.now)) place ≡ Some result }
+    {
+        self.base_of_view(&views[place])
+    }
+
+    /// The number of the member under a format.
+    fn base_of_view(&self, view: &View) -> u32
+        ensures { result ≡ (bases_of (memory_of self.now.state) view.now.base).member }
+    {
+        let (member, _) = self.catalogue.base_of(&view.base);
+        member
+    }
+
+    /// Whether a member that a logical file would be over would have more different paths than it may.
     pub fn has_many_paths(&self, view: &LogicalSpec) -> Result<bool, AllocError>
-        requires { IsSimple (LogicalFile view.now) }
+        requires { IsUnjoined (LogicalFile view.now) }
         ensures { IfOk result (λ many. many ≡ list_any (has_many (logical_paths (bases_of (memory_of self.now.state)) view.now) (memory_of self.now.state)) (base_members (bases_of (memory_of self.now.state)) view.now)) }
     {
         let path = self.own_path(view)?;
-        let member = self.member_under(view);
-        Ok(self.has_many_with(&path, member))
+        Ok(self.have_many_with(view, &path))
+    }
+
+    /// Whether one of the members under a logical file would have too many with its path.
+    fn have_many_with(&self, view: &LogicalSpec, path: &PathSpec) -> bool
+        requires unjoined { IsUnjoined (LogicalFile view.now) }
+        requires own { path.now ≡ own_path (bases_of (memory_of self.now.state)) view.now }
+        ensures { result ≡ list_any (has_many (logical_paths (bases_of (memory_of self.now.state)) view.now) (memory_of self.now.state)) (base_members (bases_of (memory_of self.now.state)) view.now) }
+    {
+        let mut many = false;
+        let mut left = base_count(view);
+        while left > 0 {
+            left -= 1;
+            let member = self.base_at(view, left);
+            many = either(self.has_many_with(path, member), many);
+        }
+        many
     }
 
     /// Whether a member would have too many different paths with this one over it.
@@ -118,30 +164,39 @@ impl Contents {
 
     /// The least job whose open commit cycle has changed a record that a logical file is over.
     pub fn changer_under(&self, view: &LogicalSpec) -> Option<u32>
-        requires { IsSimple (LogicalFile view.now) }
+        requires { IsUnjoined (LogicalFile view.now) }
         ensures { result ≡ changer_of_any (base_members (bases_of (memory_of self.now.state)) view.now) (memory_of self.now.state) }
     {
         view_users_are_joined();
-        let member = self.member_under(view);
+        let mut least = None;
+        let mut left = base_count(view);
+        while left > 0 {
+            left -= 1;
+            let member = self.base_at(view, left);
+            least = lesser(self.changer_of(member), least);
+        }
+        least
+    }
+
+    /// The least job whose open commit cycle has changed a record of the member.
+    fn changer_of(&self, member: u32) -> Option<u32>
+        ensures { result ≡ first_changer member (memory_of self.now.state).jobs }
+    {
         self.jobs.first_changer(member)
     }
 
     /// The least job that uses a logical file: by an open of it, or by a change of a record that it is over.
     fn user_of_view(&self, name: &Name, view: &LogicalSpec) -> Option<u32>
-        requires { IsSimple (LogicalFile view.now) }
+        requires { IsUnjoined (LogicalFile view.now) }
         ensures { result ≡ user_of_logical name.now (base_members (bases_of (memory_of self.now.state)) view.now) (memory_of self.now.state) }
     {
         view_users_are_joined();
-        let member = self.member_under(view);
-        lesser(
-            self.jobs.first_opener(name),
-            self.jobs.first_changer(member),
-        )
+        lesser(self.jobs.first_opener(name), self.changer_under(view))
     }
 
     /// The least job that uses a file: a physical one by its members, a logical one by itself.
     pub fn user_of_file(&self, name: &Name, file: &File) -> Option<u32>
-        requires { IsSimple file.now.spec }
+        requires { IsUnjoined file.now.spec }
         ensures { result ≡ user_by file.now.spec name.now file.now (memory_of self.now.state) }
     {
         match file.logical() {
@@ -149,4 +204,23 @@ impl Contents {
             None => self.user_of_any(file.members()),
         }
     }
+}
+
+/// How many formats a logical file has, each over a base file.
+fn base_count(view: &LogicalSpec) -> usize
+    requires { IsUnjoined (LogicalFile view.now) }
+    ensures { result ≡ length (base_names view.now) }
+{
+    match view {
+        LogicalSpec::Simple(_) => 1,
+        LogicalSpec::Multi(views) => views.as_slice().len(),
+        LogicalSpec::Join(_) => unreachable!(),
+    }
+}
+
+/// Whether one of the two holds.
+fn either(one: bool, other: bool) -> bool
+    ensures { result ≡ (one || other) }
+{
+    one || other
 }

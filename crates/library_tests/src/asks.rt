@@ -109,6 +109,8 @@ pub enum RecordAsk {
     Write(&'static [Given]),
     /// WRITE RRN
     WriteAt(u32, &'static [Given]),
+    /// WRITE FMT
+    WriteThrough(&'static str, &'static [Given]),
     Update(&'static [Given]),
     Delete,
     Unlock,
@@ -275,9 +277,12 @@ fn record_request(alloc: Global, open_id: Name, ask: RecordAsk) -> Option<Reques
         RecordAsk::ReadPriorEqual(key) => Request::ReadPriorEqual(equal(alloc, open_id, key)?),
         RecordAsk::Chain(rrn) => Request::Chain(chaining(open_id, rrn, LockOption::No)),
         RecordAsk::ChainLocked(rrn) => Request::Chain(chaining(open_id, rrn, LockOption::Default)),
-        RecordAsk::Write(given) => Request::Write(writing(alloc, open_id, None, given)?),
+        RecordAsk::Write(given) => Request::Write(writing(alloc, open_id, None, None, given)?),
         RecordAsk::WriteAt(rrn, given) => {
-            Request::Write(writing(alloc, open_id, Some(rrn), given)?)
+            Request::Write(writing(alloc, open_id, None, Some(rrn), given)?)
+        }
+        RecordAsk::WriteThrough(format, given) => {
+            Request::Write(writing(alloc, open_id, Some(named(format)?), None, given)?)
         }
         RecordAsk::Update(given) => Request::Update(UpdateRecord {
             open_id,
@@ -318,12 +323,13 @@ fn chaining(open_id: Name, rrn: u32, lock: LockOption) -> ChainRecord {
 fn writing(
     alloc: Global,
     open_id: Name,
+    format: Option<Name>,
     record_number: Option<u32>,
     given: &[Given],
 ) -> Option<WriteRecord> {
     Some(WriteRecord {
         open_id,
-        format: None,
+        format,
         record_number,
         values: values_of(alloc, given)?,
     })

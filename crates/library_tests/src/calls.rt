@@ -14,7 +14,7 @@ use crate::ranges::RANGES;
 use crate::setups::{CHANGES, JOURNAL_CALLS, LOCKS};
 use crate::tables::{DELETED, RECORDS, SOURCES};
 use crate::undone::{AFTER_IMAGES, UNDONE};
-use crate::views::{ONE_EACH, PICKED, SHOWN, UNIQUE, WAITING};
+use crate::views::{MERGED, ONE_EACH, PICKED, SHOWN, UNIQUE, WAITING};
 use field_types::names::Name;
 use input_reader::input::read_input;
 use input_scripts::Scripts;
@@ -166,6 +166,11 @@ fn calls_on_after_images_are_answered(rt: HostRuntime) {
         "images after a change alone",
         &AFTER_IMAGES,
     );
+}
+
+#[test]
+fn calls_on_several_formats_are_answered(rt: HostRuntime) {
+    check_rows(&rt, rt.alloc(), "several formats", &MERGED);
 }
 
 #[test]

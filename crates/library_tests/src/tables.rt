@@ -58,6 +58,14 @@ pub const SOURCES: &str = "//DDS CUST
 //DDS BACKWARD
      A          R BACKR                     PFILE(CUST)
      A          K NAME                      DESCEND
+//DDS OLDCUST
+     A          R OLDCUSTR
+     A            NAME           5A
+//DDS MERGED
+     A          R NEWR                      PFILE(CUST)
+     A          K NAME
+     A          R OLDR                      PFILE(OLDCUST)
+     A          K NAME
 //DDS NOBASE
      A          R NOBASER                   PFILE(NONE)
 //END

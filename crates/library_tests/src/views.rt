@@ -1,4 +1,4 @@
-//! The tables of calls on logical files over one physical file: who asks, what, and what is to be answered.
+//! The tables of calls on logical files: who asks, what, and what is to be answered.
 use crate::answers::{Answer, Refusal};
 use crate::asks::{Ask, By, FileAsk, Given, JournalAsk, RecordAsk};
 use commit_level::Level;
@@ -14,6 +14,8 @@ const B: &[Given] = &[Given::Chars(b"\xC2")];
 
 const C: &[Given] = &[Given::Chars(b"\xC3")];
 
+const D: &[Given] = &[Given::Chars(b"\xC4")];
+
 const ZZ: &[Given] = &[Given::Chars(b"\xE9\xE9")];
 
 const A_READ: &[Given] = &[Given::Chars(b"\xC1\x40\x40\x40\x40")];
@@ -21,6 +23,8 @@ const A_READ: &[Given] = &[Given::Chars(b"\xC1\x40\x40\x40\x40")];
 const B_READ: &[Given] = &[Given::Chars(b"\xC2\x40\x40\x40\x40")];
 
 const C_READ: &[Given] = &[Given::Chars(b"\xC3\x40\x40\x40\x40")];
+
+const D_READ: &[Given] = &[Given::Chars(b"\xC4\x40\x40\x40\x40")];
 
 const ABC_READ: &[Given] = &[Given::Chars(b"\xC1\xC2\xC3\x40\x40")];
 
@@ -563,5 +567,119 @@ pub const WAITING: [(By, Ask, Answer); 23] = [
         By::Second,
         Ask::OfRecord("BACKWARD", RecordAsk::ReadPriorEqual(b"\xC3")),
         Answer::Record(2, "BACKR", C_READ),
+    ),
+];
+
+/// Records of two files in one order, each under its format. One is added where WRITE names the format, the first where it names none, and changed where it was read.
+pub const MERGED: [(By, Ask, Answer); 22] = [
+    (
+        By::First,
+        Ask::OfFile(FileAsk::Create("CUST", "CUST")),
+        Answer::Done,
+    ),
+    (
+        By::First,
+        Ask::OfFile(FileAsk::Create("OLDCUST", "OLDCUST")),
+        Answer::Done,
+    ),
+    (
+        By::First,
+        Ask::OfFile(FileAsk::CreateLogical("MERGED", "MERGED")),
+        Answer::Done,
+    ),
+    (
+        By::First,
+        Ask::OfFile(FileAsk::Open("MERGED", "MERGED", "MERGED", OpenOption::All)),
+        Answer::Done,
+    ),
+    (
+        By::First,
+        Ask::OfRecord("MERGED", RecordAsk::Write(A)),
+        Answer::Added(1),
+    ),
+    (
+        By::First,
+        Ask::OfRecord("MERGED", RecordAsk::WriteThrough("OLDR", B)),
+        Answer::Added(1),
+    ),
+    (
+        By::First,
+        Ask::OfRecord("MERGED", RecordAsk::WriteThrough("NEWR", C)),
+        Answer::Added(2),
+    ),
+    (
+        By::First,
+        Ask::OfRecord("MERGED", RecordAsk::WriteThrough("CUSTR", A)),
+        Answer::Refused(Refusal::NoSuchName("CUSTR")),
+    ),
+    (
+        By::First,
+        Ask::OfRecord("MERGED", RecordAsk::Read),
+        Answer::Record(1, "NEWR", A_READ),
+    ),
+    (
+        By::First,
+        Ask::OfRecord("MERGED", RecordAsk::Read),
+        Answer::Record(1, "OLDR", B_READ),
+    ),
+    (
+        By::First,
+        Ask::OfRecord("MERGED", RecordAsk::Update(D)),
+        Answer::Done,
+    ),
+    (
+        By::First,
+        Ask::OfRecord("MERGED", RecordAsk::Read),
+        Answer::Record(2, "NEWR", C_READ),
+    ),
+    (
+        By::First,
+        Ask::OfRecord("MERGED", RecordAsk::Read),
+        Answer::Record(1, "OLDR", D_READ),
+    ),
+    (
+        By::First,
+        Ask::OfRecord("MERGED", RecordAsk::Delete),
+        Answer::Done,
+    ),
+    (
+        By::First,
+        Ask::OfRecord("MERGED", RecordAsk::Read),
+        Answer::Refused(Refusal::EndOfFile),
+    ),
+    (
+        By::First,
+        Ask::OfRecord("MERGED", RecordAsk::Chain(1)),
+        Answer::Refused(Refusal::WrongOpen),
+    ),
+    (
+        By::Second,
+        Ask::OfFile(FileAsk::Delete("OLDCUST")),
+        Answer::Refused(Refusal::Dependents("MERGED")),
+    ),
+    (
+        By::Second,
+        Ask::OfFile(FileAsk::Clear("OLDCUST", "OLDCUST")),
+        Answer::Refused(Refusal::InUse(1)),
+    ),
+    (
+        By::First,
+        Ask::OfRecord("MERGED", RecordAsk::Close),
+        Answer::Done,
+    ),
+    (
+        By::Second,
+        Ask::OfFile(FileAsk::Clear("OLDCUST", "OLDCUST")),
+        Answer::Done,
+    ),
+    (
+        By::Second,
+        Ask::OfFile(FileAsk::Delete("MERGED")),
+        Answer::Done,
+    ),
+    (
+        By::Second,
+        Ask::OfFile(FileAsk::Delete("OLDCUST")),
+        Answer::Done,
     ),
 ];

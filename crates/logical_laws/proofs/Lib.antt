@@ -3,3 +3,4 @@ pub mod SameLemmas
 pub mod FoundLemmas
 pub mod GivenLemmas
 pub mod MappedLemmas
+pub mod SomeLemmas

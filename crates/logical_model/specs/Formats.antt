@@ -1,6 +1,7 @@
 -- What do a file's formats show of records, and which records do values make that are given through them?
 -- (DDS for Physical and Logical Files; Database Programming, "Using a logical file".)
 use Rattle.std.specs.Prelude.{ℕ, nat_lt, Bool, Option, Some, None, Result, Err, List, [], ◌∷◌, map, slice_get, length, unwrap_or, if◌then◌else◌}
+use Rattle.file_model.specs.KeyOrder.{merged_parts}
 use Rattle.std.specs.List.{position}
 use Rattle.std.specs.Str.{bytes_eq}
 use Rattle.std.specs.Ordering.{is_eq}
@@ -35,15 +36,11 @@ format_names (LogicalFile (Join view)) = view.format.name ∷ []
 abbrev pub format_number : List ℕ → FileSpec → Option ℕ
 format_number name spec = position (bytes_eq name) (format_names spec)
 
--- the positions of the key, as many in each format
-abbrev pub parts_of_views : List View → List KeyPart
-parts_of_views [] = []
-parts_of_views (view ∷ views) = view.keys.parts
-
+-- the positions of the key, at each that of the first format which has it
 abbrev pub parts_in : FileSpec → List KeyPart
 parts_in (PhysicalFile spec) = spec.keys.parts
 parts_in (LogicalFile (Simple view)) = view.keys.parts
-parts_in (LogicalFile (Multi views)) = parts_of_views views
+parts_in (LogicalFile (Multi views)) = merged_parts (map (λ view. view.keys.parts) views)
 parts_in (LogicalFile (Join view)) = view.keys.parts
 
 abbrev pub has_key : FileSpec → Bool

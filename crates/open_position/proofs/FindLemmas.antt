@@ -1,5 +1,5 @@
--- What a read finds in an order, by the position of an open of one format.
-use Rattle.std.proofs.Common.{◌≡◌, ℕ, zero, suc, Bool, Option, None, List, [], ◌∷◌, sym, subst, arith}
+-- What a read finds in an order, by the position of an open.
+use Rattle.std.proofs.Common.{◌≡◌, ℕ, Bool, Option, None, List, sym, subst}
 use Rattle.std.specs.Prelude.{All, IfSome}
 use Rattle.std.specs.Option.{option_map}
 use Rattle.field_types.specs.declared.values.Value.{Value}
@@ -22,25 +22,24 @@ use Rattle.file_cursor.specs.CursorPosition.{CursorState, CursorPosition, entry_
 use Rattle.file_cursor.specs.Reading.{falls, entries_in}
 use Rattle.open_position.specs.declared.reads.ReadBy.{ReadBy}
 use Rattle.open_position.specs.declared.reads.ReadBy.TheVariants as asked
-use Rattle.open_position.specs.OpenStand.{OpenStand, IsEntryIn, IsStandIn, position_by}
+use Rattle.open_position.specs.OpenStand.{OpenStand, AreFormatKeys, IsEntryIn, IsStandIn, parts_at, position_by}
 use Rattle.open_position.specs.Kept.{stand_of, IsKeptStand}
 use Rattle.open_position.specs.Reads.{asked_of, IsAskedOf, IsOrderOf, IsLookedUp, found_of, IfPath, IfArrival, IsPathOver, entry_hit}
-use Rattle.open_position.proofs.StandLemmas.{merged-one, among-one, in-one}
+use Rattle.open_position.proofs.StandLemmas.{among-at, in-one}
 use Rattle.open_position.proofs.PathLemmas.{KeysBack, GivenBack, ShowsAsked, finds-in-path}
 use Rattle.open_position.proofs.NumberLemmas.{NotFirst, finds-in-arrival}
 
--- ---- one format
+-- ---- what is read back
 
-module _ (parts : List KeyPart) where
+module _ (formats : List (List KeyPart)) (keys : AreFormatKeys formats) where
   pub keys-back : ((own file : List KeyPart) (image : List ℕ) → AreAmong own file → AreBytes image → HasKey own image → values_in file (encoded own image) ≡ key_of own image)
-      → KeysBack (parts ∷ [])
-  keys-back law zero image low bytes has = law parts (merged_parts (parts ∷ [])) image (among-one parts) bytes has
-  keys-back law (suc n) image low bytes has = absurd (omega (arith, low))
+      → KeysBack formats
+  keys-back law number image low bytes has = law (parts_at formats number) (merged_parts formats) image (among-at formats keys number low) bytes has
 
   pub given-back : ((parts : List KeyPart) (values : List Value) → ArePositions parts → key_fault parts values ≡ None → All IsOfBytes values
       → values_in parts (encoded_values parts values) ≡ given_key parts values)
-      → ArePositions parts → GivenBack (merged_parts (parts ∷ []))
-  given-back law allowed values good bytes = law (merged_parts (parts ∷ [])) values (subst ArePositions (sym (merged-one parts)) allowed) good bytes
+      → GivenBack (merged_parts formats)
+  given-back law values good bytes = law (merged_parts formats) values keys.allowed good bytes
 
 -- ---- in an order
 
@@ -91,34 +90,34 @@ pub record Finds (now : OpenStand) (over : Order) (by : ReadBy) (result : Option
   pub bytes : (spec : PathSpec) (members : NumberedMembers) → IfPath over (λ list. IsPathOver now.formats spec members list → IfSome result (λ hit. IsEntryIn now.formats (entry_of hit)))
   pub bytes_by_number : IfArrival over (λ member. IfSome result (λ hit. IsEntryIn now.formats (entry_of hit)))
 
-module _ (parts : List KeyPart) (cursor : CursorState) (marks : Bool) (kept : IsKeptStand parts cursor marks) (over : Order) (by : ReadBy) (result : Option Hit) where
-  finds-here : IsOrderOf (parts ∷ []) over → IsAskedOf (parts ∷ []) by → IsLookedUp by over → KeysBack (parts ∷ []) → GivenBack (merged_parts (parts ∷ []))
-      → option_map entry_of result ≡ found_of by (falls over) (entries_in over) cursor.position → Finds (stand_of parts cursor marks) over by result
+module _ (formats : List (List KeyPart)) (merged : List KeyPart) (cursor : CursorState) (marks : Bool) (kept : IsKeptStand formats merged cursor marks) (over : Order) (by : ReadBy) (result : Option Hit) where
+  finds-here : IsOrderOf formats over → IsAskedOf formats by → IsLookedUp by over → KeysBack formats → GivenBack (merged_parts formats)
+      → option_map entry_of result ≡ found_of by (falls over) (entries_in over) cursor.position → Finds (stand_of formats cursor marks) over by result
   finds-here order can looked back given found =
-      let along = by-path (parts ∷ []) by cursor.position result kept.position can over back given found in
-      let numbered = by-number (parts ∷ []) by cursor.position result over order looked found kept.position can in
+      let along = by-path formats by cursor.position result kept.position can over back given found in
+      let numbered = by-number formats by cursor.position result over order looked found kept.position can in
       record {
         by_path = λ spec members.
-            path-so over (λ list. IsPathOver (parts ∷ []) spec members list → ShowsAsked (parts ∷ []) by spec members cursor.position result)
-            (λ list. IsPathOver (parts ∷ []) spec members list
-            → option_map (entry_hit (merged_parts (parts ∷ []))) result
-            ≡ asked_of by (merged_parts (parts ∷ [])) (path_reading spec.ties (path spec members)) (position_by (merged_parts (parts ∷ [])) cursor.position))
+            path-so over (λ list. IsPathOver formats spec members list → ShowsAsked formats by spec members cursor.position result)
+            (λ list. IsPathOver formats spec members list
+            → option_map (entry_hit (merged_parts formats)) result
+            ≡ asked_of by (merged_parts formats) (path_reading spec.ties (path spec members)) (position_by (merged_parts formats) cursor.position))
             (λ list shows is. (shows is).0) (along spec members);
         by_number =
-            arrival-so over (ShowsNumber (parts ∷ []) by cursor.position result)
-            (λ member. option_map (entry_hit (merged_parts (parts ∷ []))) result
-            ≡ asked_of by (merged_parts (parts ∷ [])) (arrival_reading member) (position_by (merged_parts (parts ∷ [])) cursor.position))
+            arrival-so over (ShowsNumber formats by cursor.position result)
+            (λ member. option_map (entry_hit (merged_parts formats)) result
+            ≡ asked_of by (merged_parts formats) (arrival_reading member) (position_by (merged_parts formats) cursor.position))
             (λ member shows. shows.0) numbered;
         bytes = λ spec members.
-            path-so over (λ list. IsPathOver (parts ∷ []) spec members list → ShowsAsked (parts ∷ []) by spec members cursor.position result)
-            (λ list. IsPathOver (parts ∷ []) spec members list → IfSome result (λ hit. IsEntryIn (parts ∷ []) (entry_of hit)))
+            path-so over (λ list. IsPathOver formats spec members list → ShowsAsked formats by spec members cursor.position result)
+            (λ list. IsPathOver formats spec members list → IfSome result (λ hit. IsEntryIn formats (entry_of hit)))
             (λ list shows is. (shows is).1) (along spec members);
         bytes_by_number =
-            arrival-so over (ShowsNumber (parts ∷ []) by cursor.position result) (λ member. IfSome result (λ hit. IsEntryIn (parts ∷ []) (entry_of hit)))
+            arrival-so over (ShowsNumber formats by cursor.position result) (λ member. IfSome result (λ hit. IsEntryIn formats (entry_of hit)))
             (λ member shows. shows.1) numbered;
       }
 
-  pub finds : (now : OpenStand) → stand_of parts cursor marks ≡ now → IsOrderOf now.formats over → IsAskedOf now.formats by → IsLookedUp by over
+  pub finds : (now : OpenStand) → stand_of formats cursor marks ≡ now → IsOrderOf now.formats over → IsAskedOf now.formats by → IsLookedUp by over
       → ((own file : List KeyPart) (image : List ℕ) → AreAmong own file → AreBytes image → HasKey own image → values_in file (encoded own image) ≡ key_of own image)
       → ((parts : List KeyPart) (values : List Value) → ArePositions parts → key_fault parts values ≡ None → All IsOfBytes values
       → values_in parts (encoded_values parts values) ≡ given_key parts values)
@@ -126,9 +125,9 @@ module _ (parts : List KeyPart) (cursor : CursorState) (marks : Bool) (kept : Is
   finds now is order can looked keys given found =
       subst (λ (s : OpenStand). Finds s over by result) is
       (finds-here
-      (in-one (stand_of parts cursor marks) now is (λ formats. IsOrderOf formats over) order)
-      (in-one (stand_of parts cursor marks) now is (λ formats. IsAskedOf formats by) can)
+      (in-one (stand_of formats cursor marks) now is (λ fs. IsOrderOf fs over) order)
+      (in-one (stand_of formats cursor marks) now is (λ fs. IsAskedOf fs by) can)
       looked
-      (keys-back parts keys)
-      (given-back parts given kept.allowed)
+      (keys-back formats kept.keys keys)
+      (given-back formats kept.keys given)
       found)

@@ -1,16 +1,15 @@
--- The bytes of values that a request gives, for a key of one format.
-use Rattle.std.proofs.Common.{◌≡◌, true, None, Result, Ok, Err, OnOk, is_ok, ℕ, List, [], ◌∷◌, refl, sym, ◌∙◌, ap, subst}
+-- The bytes of values that a request gives.
+use Rattle.std.proofs.Common.{◌≡◌, true, None, Result, Ok, Err, OnOk, is_ok, ℕ, List, refl, ◌∙◌, ap}
 use Rattle.std.specs.Prelude.{All}
 use Rattle.std.specs.Result.{result_err}
 use Rattle.field_types.specs.declared.values.Value.{Value}
 use Rattle.key_spec.specs.declared.KeyPart.{KeyPart}
-use Rattle.file_model.specs.KeyOrder.{given_key, merged_parts}
+use Rattle.file_model.specs.KeyOrder.{given_key}
 use Rattle.key_order.specs.KeyBytes.{encoded_values}
 use Rattle.key_order.specs.KeyFields.{ArePositions}
 use Rattle.key_order.specs.GivenValues.{IsOfBytes, key_fault}
 use Rattle.key_values.specs.KeyValues.{values_in}
 use Rattle.open_position.specs.OpenStand.{AreGivenBytes}
-use Rattle.open_position.proofs.StandLemmas.{merged-one}
 
 pub on_ok : {A E P : Type 0} (r : Result A E) (x : A) → r ≡ Ok x → OnOk r P → P
 on_ok (Ok y) x is holds = holds
@@ -20,15 +19,10 @@ pub is-ok : {A E : Type 0} (r : Result A E) → result_err r ≡ None → is_ok 
 is-ok (Ok x) none = refl
 is-ok (Err e) none = absurd cc
 
-module _ (parts : List KeyPart) (values : List Value) (bytes : List ℕ)
-    (good : key_fault (merged_parts (parts ∷ [])) values ≡ None) (texts : All IsOfBytes values) (is : bytes ≡ encoded_values parts values) where
-  in-merged : bytes ≡ encoded_values (merged_parts (parts ∷ [])) values
-  in-merged = is ∙ ap (λ (w : List KeyPart). encoded_values w values) (sym (merged-one parts))
-
-  pub given-bytes : AreGivenBytes (merged_parts (parts ∷ [])) bytes
-  given-bytes = record { given = (values, good, texts, in-merged) }
+module _ (parts : List KeyPart) (values : List Value) (bytes : List ℕ) (good : key_fault parts values ≡ None) (texts : All IsOfBytes values) (is : bytes ≡ encoded_values parts values) where
+  pub given-bytes : AreGivenBytes parts bytes
+  given-bytes = record { given = (values, good, texts, is) }
 
   pub given-values : ((parts : List KeyPart) (values : List Value) → ArePositions parts → key_fault parts values ≡ None → All IsOfBytes values → values_in parts (encoded_values parts values) ≡ given_key parts values)
-      → ArePositions parts → values_in (merged_parts (parts ∷ [])) bytes ≡ given_key (merged_parts (parts ∷ [])) values
-  given-values law allowed =
-      ap (values_in (merged_parts (parts ∷ []))) in-merged ∙ law (merged_parts (parts ∷ [])) values (subst ArePositions (sym (merged-one parts)) allowed) good texts
+      → ArePositions parts → values_in parts bytes ≡ given_key parts values
+  given-values law allowed = ap (values_in parts) is ∙ law parts values allowed good texts

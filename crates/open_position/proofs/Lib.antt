@@ -1,4 +1,5 @@
 pub mod StandLemmas
+pub mod FormatLemmas
 pub mod GivenLemmas
 pub mod HeldLemmas
 pub mod PathLemmas

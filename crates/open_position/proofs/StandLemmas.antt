@@ -1,30 +1,33 @@
--- Where an open of one format can stand, and that there is room for the key.
-use Rattle.std.proofs.Common.{◌≡◌, ℕ, zero, suc, ◌<◌, ◌≤◌, List, [], ◌∷◌, length, refl, sym, ◌∙◌, ap, subst, arith}
+-- Where an open can stand, and that there is room for the key.
+use Rattle.std.proofs.Common.{◌≡◌, ℕ, zero, suc, ◌<◌, ◌≤◌, List, [], ◌∷◌, length, sym, ap, subst, arith}
+use Rattle.std.specs.List.{AllByRecursion}
 use Rattle.key_spec.specs.declared.KeyPart.{KeyPart}
 use Rattle.key_pages.specs.declared.entries.Entry.{Entry}
 use Rattle.file_model.specs.KeyOrder.{merged_parts}
 use Rattle.key_order.specs.KeyBytes.{encoded, encoded_values}
-use Rattle.key_order.specs.KeyFields.{HasKey, key_width}
+use Rattle.key_order.specs.KeyFields.{key_width}
 use Rattle.key_order.proofs.WidthLemmas.{length-encoded, length-encoded_values}
 use Rattle.key_values.specs.KeyValues.{AreAmong}
-use Rattle.key_values.proofs.AmongLemmas.{among-itself}
+use Rattle.key_values.proofs.AmongLemmas.{among-merged, among-width}
 use Rattle.file_cursor.specs.declared.places.Order.{Order}
 use Rattle.file_cursor.specs.declared.places.Order.TheVariants as orders
 use Rattle.file_cursor.specs.CursorPosition.{CursorPosition, Start, End, On, Before, Past, ByKey, ByNumber}
 use Rattle.file_cursor.specs.Reading.{Suits}
 use Rattle.open_position.specs.declared.reads.ReadBy.{ReadBy}
 use Rattle.open_position.specs.declared.reads.ReadBy.TheVariants as asked
-use Rattle.open_position.specs.OpenStand.{OpenStand, IsEntryIn, IsStandIn, AreGivenBytes, parts_at}
+use Rattle.open_position.specs.OpenStand.{OpenStand, AreFormatKeys, IsEntryIn, IsStandIn, AreGivenBytes, parts_at}
 use Rattle.open_position.specs.Reads.{IsOrderOf, IsAskedOf, IsLookedUp, CanFind}
 
--- ---- one format
+-- ---- each of some formats
 
-pub merged-one : (parts : List KeyPart) → merged_parts (parts ∷ []) ≡ parts
-merged-one [] = refl
-merged-one (p ∷ parts) = refl
+pub at-place : (P : List KeyPart → Type 0) (formats : List (List KeyPart)) → AllByRecursion P formats → (number : ℕ) → number < length formats → P (parts_at formats number)
+at-place P [] all number low = absurd (omega (arith, low))
+at-place P (parts ∷ formats) all zero low = all.0
+at-place P (parts ∷ formats) all (suc number) low = at-place P formats all.1 number (omega (arith, low))
 
-pub among-one : (parts : List KeyPart) → AreAmong parts (merged_parts (parts ∷ []))
-among-one parts = subst (AreAmong parts) (sym (merged-one parts)) (among-itself parts)
+-- its positions are among those of all together
+pub among-at : (formats : List (List KeyPart)) → AreFormatKeys formats → (number : ℕ) → number < length formats → AreAmong (parts_at formats number) (merged_parts formats)
+among-at formats keys number low = at-place (λ own. AreAmong own (merged_parts formats)) formats (among-merged formats keys.matching) number low
 
 -- what holds of the formats that contracts see holds of those that are kept
 pub in-one : (stand now : OpenStand) → stand ≡ now → (P : List (List KeyPart) → Type 0) → P now.formats → P stand.formats
@@ -32,27 +35,20 @@ in-one stand now is P holds = subst P (sym (ap (λ (s : OpenStand). s.formats) i
 
 -- ---- room
 
-module _ (parts : List KeyPart) (room : ℕ) (wide : key_width parts ≤ room) where
-  pub given-fit : (key : List ℕ) → AreGivenBytes (merged_parts (parts ∷ [])) key → length key ≤ room
+module _ (formats : List (List KeyPart)) (room : ℕ) (wide : key_width (merged_parts formats) ≤ room) where
+  pub given-fit : (key : List ℕ) → AreGivenBytes (merged_parts formats) key → length key ≤ room
   given-fit key is =
-      let long : length (encoded_values (merged_parts (parts ∷ [])) is.given.0) ≤ key_width (merged_parts (parts ∷ [])) =
-      length-encoded_values (merged_parts (parts ∷ [])) is.given.0 is.given.1 in
-      let one : key_width (merged_parts (parts ∷ [])) ≡ key_width parts = ap key_width (merged-one parts) in
-      let same : length key ≡ length (encoded_values (merged_parts (parts ∷ [])) is.given.0) = ap length is.given.3 in
-      omega (arith, long, one, same, wide)
-
-  pub entry-fits : (entry : Entry) → IsEntryIn (parts ∷ []) entry → length entry.key ≤ room
-  entry-fits entry is =
-      let own : parts_at (parts ∷ []) entry.format ≡ parts = first entry.format is.format in
-      let image : List ℕ = is.key.0 in
-      let has : HasKey parts image = subst (λ (w : List KeyPart). HasKey w image) own is.key.2 in
-      let long : length (encoded parts image) ≡ key_width parts = length-encoded parts image has in
-      let same : length entry.key ≡ length (encoded parts image) = ap length (is.key.3 ∙ ap (λ (w : List KeyPart). encoded w image) own) in
+      let long : length (encoded_values (merged_parts formats) is.given.0) ≤ key_width (merged_parts formats) = length-encoded_values (merged_parts formats) is.given.0 is.given.1 in
+      let same : length key ≡ length (encoded_values (merged_parts formats) is.given.0) = ap length is.given.3 in
       omega (arith, long, same, wide)
-    where
-      first : (number : ℕ) → number < length (parts ∷ []) → parts_at (parts ∷ []) number ≡ parts
-      first zero low = refl
-      first (suc n) low = absurd (omega arith)
+
+  pub entry-fits : AreFormatKeys formats → (entry : Entry) → IsEntryIn formats entry → length entry.key ≤ room
+  entry-fits keys entry is =
+      let own : List KeyPart = parts_at formats entry.format in
+      let long : length (encoded own is.key.0) ≡ key_width own = length-encoded own is.key.0 is.key.2 in
+      let few : key_width own ≤ key_width (merged_parts formats) = among-width own (merged_parts formats) (among-at formats keys entry.format is.format) in
+      let same : length entry.key ≡ length (encoded own is.key.0) = ap length is.key.3 in
+      omega (arith, long, few, same, wide)
 
 -- ---- what it can be asked
 

@@ -1,32 +1,42 @@
 -- How does an open keep where it stands? (Our own.)
-use Rattle.std.specs.Prelude.{ℕ, ◌≤◌, Bool, List, [], ◌∷◌, length, IsTrue}
+use Rattle.std.specs.Prelude.{◌≡◌, ℕ, ◌≤◌, Bool, Option, Some, None, List, length, IsTrue}
 use Rattle.key_spec.specs.declared.KeyPart.{KeyPart}
-use Rattle.file_model.specs.KeyOrder.{merged_parts}
+use Rattle.key_spec.specs.declared.KeyPart.TheVariants.{Absent}
+use Rattle.file_model.specs.KeyOrder.{either_part, merged_parts}
 use Rattle.key_order.specs.declared.widths.TheConstants.{MOST_POSITIONS}
 use Rattle.key_order.specs.KeyFields.{ArePositions, key_width}
 use Rattle.file_cursor.specs.declared.places.Place.{Place}
 use Rattle.file_cursor.specs.CursorPosition.{CursorState, CursorPosition, lower_limit, greater_than}
 use Rattle.open_position.specs.declared.position.Side.{Side}
 use Rattle.open_position.specs.declared.position.Side.TheVariants.{Before, Past}
-use Rattle.open_position.specs.OpenStand.{OpenStand, position_by, IsStandIn}
+use Rattle.open_position.specs.OpenStand.{OpenStand, AreFormatKeys, position_by, IsStandIn}
 
--- what a cursor stands for, in an open of one format with these positions of the key
-abbrev pub stand_of : List KeyPart → CursorState → Bool → OpenStand
-stand_of parts cursor marks = record {
-  position = position_by (merged_parts (parts ∷ [])) cursor.position;
-  boundary = position_by (merged_parts (parts ∷ [])) cursor.kept;
-  formats = parts ∷ [];
+-- what a cursor stands for, in an open of formats with these positions of the key
+abbrev pub stand_of : List (List KeyPart) → CursorState → Bool → OpenStand
+stand_of formats cursor marks = record {
+  position = position_by (merged_parts formats) cursor.position;
+  boundary = position_by (merged_parts formats) cursor.kept;
+  formats = formats;
   marks = marks;
 }
 
--- both positions are some that the open can have, and there is room for a key, with marks in both
-pub record IsKeptStand (parts : List KeyPart) (cursor : CursorState) (marks : Bool) : Type 0 where
-  pub few : length parts ≤ MOST_POSITIONS
-  pub allowed : ArePositions parts
-  pub position : IsStandIn (parts ∷ []) cursor.position
-  pub boundary : IsStandIn (parts ∷ []) cursor.kept
-  pub room : key_width parts ≤ cursor.room
+-- both positions are some that the open can have, and there is room for a key, with marks in both; the positions of all formats together are at hand
+pub record IsKeptStand (formats : List (List KeyPart)) (merged : List KeyPart) (cursor : CursorState) (marks : Bool) : Type 0 where
+  pub merged_are : merged ≡ merged_parts formats
+  pub keys : AreFormatKeys formats
+  pub position : IsStandIn formats cursor.position
+  pub boundary : IsStandIn formats cursor.kept
+  pub room : key_width (merged_parts formats) ≤ cursor.room
   pub kept_room : IsTrue marks → cursor.room ≤ cursor.kept_room
+
+-- ---- the positions of two formats
+
+-- of those at one place, where they have one, the first
+abbrev pub either_at : Option KeyPart → Option KeyPart → KeyPart
+either_at None None = Absent
+either_at None (Some other) = other
+either_at (Some part) None = part
+either_at (Some part) (Some other) = either_part part other
 
 -- ---- setting a position
 

@@ -1,13 +1,14 @@
 -- Where does an open stand, by values, when its position is kept in bytes? (Database Programming, "Setting a position in the file".)
-use Rattle.std.specs.Prelude.{◌≡◌, ℕ, ◌<◌, Bool, None, List, [], ◌∷◌, length, All, slice_index_or}
+use Rattle.std.specs.Prelude.{◌≡◌, ℕ, ◌<◌, ◌≤◌, Bool, None, List, [], ◌∷◌, length, All, AllPairs, slice_index_or}
 use Rattle.field_types.specs.declared.values.Value.{Value}
 use Rattle.key_spec.specs.declared.KeyPart.{KeyPart}
 use Rattle.key_pages.specs.declared.entries.Entry.{Entry}
 use Rattle.file_model.specs.KeyOrder.{merged_parts}
 use Rattle.file_model.specs.Paths.{PathEntry}
 use Rattle.file_model.specs.Positions.{Bound, KeyBound, NumberBound, Position, Start, End, On, Before, Past}
+use Rattle.key_order.specs.declared.widths.TheConstants.{MOST_POSITIONS}
 use Rattle.key_order.specs.KeyBytes.{encoded, encoded_values}
-use Rattle.key_order.specs.KeyFields.{AreBytes, HasKey}
+use Rattle.key_order.specs.KeyFields.{AreBytes, ArePositions, HasKey, Matches}
 use Rattle.key_order.specs.GivenValues.{IsOfBytes, key_fault}
 use Rattle.key_values.specs.KeyValues.{values_in}
 use Rattle.file_cursor.specs.CursorPosition as bytes
@@ -19,6 +20,12 @@ pub record OpenStand : Type 0 where
   pub boundary : Position PathEntry
   pub formats : List (List KeyPart)
   pub marks : Bool
+
+-- formats whose keys can be compared with one another and with given values
+pub record AreFormatKeys (formats : List (List KeyPart)) : Type 0 where
+  pub few : length (merged_parts formats) ≤ MOST_POSITIONS
+  pub allowed : ArePositions (merged_parts formats)
+  pub matching : AllPairs Matches formats
 
 -- ---- what bytes stand for, by the positions of the file's key
 

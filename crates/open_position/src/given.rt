@@ -1,6 +1,7 @@
 //! The positions of a key, with room for the bytes of values that a request gives for the first of them.
-ghost use Rattle.std.specs.Prelude.{◌≡◌, ◌≤◌, None, [], ◌∷◌, length, vec_capacity, All, IfOk};
-ghost use Rattle.file_model.specs.KeyOrder.{given_key, merged_parts};
+ghost use Rattle.std.specs.Prelude.{◌≡◌, ◌≤◌, List, None, [], length, vec_capacity, All, IfOk};
+ghost use Rattle.file_model.specs.KeyOrder.{given_key};
+ghost use Rattle.key_spec.specs.declared.KeyPart.{KeyPart};
 ghost use Rattle.key_order.specs.declared.widths.TheConstants.{MOST_POSITIONS};
 ghost use Rattle.key_order.specs.KeyFields.{AreBytes, ArePositions, key_width};
 ghost use Rattle.key_order.specs.GivenValues.{IsOfBytes, key_fault};
@@ -15,7 +16,7 @@ use key_values::laws::given_keys_are_read_back;
 use std::alloc::{AllocError, Global};
 use std::marker::Model;
 
-/// The positions of the key in the one format that is read, and the bytes of the values that were given last.
+/// The positions of the key, and the bytes of the values that were given last.
 #[derive(Drop)]
 pub(crate) struct GivenKey {
     parts: KeyParts,
@@ -55,10 +56,10 @@ impl GivenKey {
 
     /// Has the bytes of given values in place of those that were given before. It takes no memory.
     pub(crate) fn give(&mut self, values: &[Value])
-        requires { key_fault (merged_parts (self.old.parts ∷ [])) values.now ≡ None }
+        requires { key_fault self.old.parts values.now ≡ None }
         ensures parts { self.new.parts ≡ self.old.parts }
-        ensures bytes { AreGivenBytes (merged_parts (self.old.parts ∷ [])) self.new.bytes }
-        ensures values { values_in (merged_parts (self.old.parts ∷ [])) self.new.bytes ≡ given_key (merged_parts (self.old.parts ∷ [])) values.now }
+        ensures bytes { (parts : List KeyPart) → self.old.parts ≡ parts → AreGivenBytes parts self.new.bytes }
+        ensures values { (parts : List KeyPart) → self.old.parts ≡ parts → values_in parts self.new.bytes ≡ given_key parts values.now }
     {
         write_given(self.parts.as_slice(), values, &mut self.bytes);
     }
@@ -76,9 +77,9 @@ fn write_given(parts: &[KeyPart], values: &[Value], into: &mut Vec<u8>)
     requires few { length parts.now ≤ MOST_POSITIONS }
     requires allowed { ArePositions parts.now }
     requires room { key_width parts.now ≤ vec_capacity into.old }
-    requires good { key_fault (merged_parts (parts.now ∷ [])) values.now ≡ None }
-    ensures bytes { AreGivenBytes (merged_parts (parts.now ∷ [])) into.new.items }
-    ensures values { values_in (merged_parts (parts.now ∷ [])) into.new.items ≡ given_key (merged_parts (parts.now ∷ [])) values.now }
+    requires good { key_fault parts.now values.now ≡ None }
+    ensures bytes { AreGivenBytes parts.now into.new.items }
+    ensures values { values_in parts.now into.new.items ≡ given_key parts.now values.now }
     ensures capacity { vec_capacity into.new ≡ vec_capacity into.old }
 {
     given_keys_are_read_back();

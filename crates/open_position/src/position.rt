@@ -1,5 +1,5 @@
 //! The position of an open. What sets it takes no memory.
-ghost use Rattle.std.specs.Prelude.{◌≡◌, ◌≤◌, ℕ, [], ◌∷◌, length, IfOk, IfSome, IsTrue};
+ghost use Rattle.std.specs.Prelude.{◌≡◌, ◌≤◌, ℕ, [], ◌∷◌, length, map, IfOk, IfSome, IsTrue};
 ghost use Rattle.std.specs.Option.{option_map};
 ghost use Rattle.member_slots.specs.Members.{NumberedMembers};
 ghost use Rattle.file_model.specs.declared.paths.PathSpec.{PathSpec};
@@ -11,15 +11,17 @@ ghost use Rattle.key_order.specs.KeyFields.{ArePositions};
 ghost use Rattle.file_cursor.specs.CursorPosition.{entry_of, key_in, moved_to};
 ghost use Rattle.file_cursor.specs.Finding.{chain_key};
 ghost use Rattle.file_cursor.specs.Reading.{Suits, falls, entries_in};
-ghost use Rattle.open_position.specs.OpenStand.{IsEntryIn};
+ghost use Rattle.open_position.specs.OpenStand.{AreFormatKeys, IsEntryIn};
 ghost use Rattle.open_position.specs.Kept.{side_in};
 ghost use Rattle.open_position.specs.Reads.{stood, IsStandAt, asked_of, IsAskedOf, IsOrderOf, IsByPath, IsLookedUp, CanFind, found_of, IfPath, IfArrival, IsPathOver, entry_hit};
 
+use crate::formats::{keys_of, merged_parts};
 use crate::given::GivenKey;
 use crate::reads::ReadBy;
 use field_types::values::Value;
 use file_cursor::cursor::{Cursor, chain_key, chain_number};
 use file_cursor::places::{Hit, Order, Place};
+use file_model::paths::PathFormat;
 use key_order::widths::bound;
 use key_spec::{KeyPart, KeyParts};
 use key_values::laws::{given_keys_are_read_back, keys_are_read_back};
@@ -49,7 +51,9 @@ pub enum StandAt<'a> {
 /// Where an open stands, and where it stood at the last boundary.
 #[derive(Drop)]
 pub struct OpenPosition {
-    /// The key of the one format that is read, without positions where it is read by relative record numbers.
+    /// The positions of the key in each format that is read. One that has none is read by relative record numbers.
+    formats: Vec<KeyParts>,
+    /// The positions of all formats together.
     keys: GivenKey,
     cursor: Cursor,
     /// Whether there is room for the position at a boundary.
@@ -62,9 +66,9 @@ impl Model for OpenPosition {
 
     ghost Value = { OpenStand };
 
-    ghost view = { λ p. stand_of p.keys.parts p.cursor p.marks };
+    ghost view = { λ p. stand_of p.formats.items p.cursor p.marks };
 
-    ghost invariant = { λ p. IsKeptStand p.keys.parts p.cursor p.marks };
+    ghost invariant = { λ p. IsKeptStand p.formats.items p.keys.parts p.cursor p.marks };
 }
 
 impl OpenPosition {
@@ -72,27 +76,48 @@ impl OpenPosition {
     pub fn by_number(alloc: Global, marks: bool) -> Result<OpenPosition, AllocError>
         ensures { IfOk result (λ p. p ≡ record { position = Start; boundary = Start; formats = [] ∷ []; marks = marks }) }
     {
-        OpenPosition::by_key(alloc, KeyParts::new(alloc), marks)
+        let mut formats = Vec::new(alloc);
+        formats.push(KeyParts::new(alloc))?;
+        OpenPosition::at_start(alloc, formats, KeyParts::new(alloc), marks)
     }
 
-    /// The start, of an open that reads by a key with these positions.
-    pub fn by_key(alloc: Global, parts: KeyParts, marks: bool) -> Result<OpenPosition, AllocError>
-        requires few { length parts ≤ MOST_POSITIONS }
-        requires allowed { ArePositions parts }
-        ensures { IfOk result (λ p. p ≡ record { position = Start; boundary = Start; formats = parts ∷ []; marks = marks }) }
+    /// The start, of an open that reads by a path with these formats.
+    pub fn by_path(
+        alloc: Global,
+        formats: &[PathFormat],
+        marks: bool,
+    ) -> Result<OpenPosition, AllocError>
+        requires { AreFormatKeys (map (λ format. format.key) formats.now) }
+        ensures { IfOk result (λ p. p ≡ record { position = Start; boundary = Start; formats = map (λ format. format.key) formats.now; marks = marks }) }
     {
-        let keys = GivenKey::new(alloc, parts)?;
+        let keys = keys_of(alloc, formats)?;
+        let merged = merged_parts(alloc, formats)?;
+        OpenPosition::at_start(alloc, keys, merged, marks)
+    }
+
+    /// The start, with these formats and their positions together.
+    fn at_start(
+        alloc: Global,
+        formats: Vec<KeyParts>,
+        merged: KeyParts,
+        marks: bool,
+    ) -> Result<OpenPosition, AllocError>
+        requires keys { AreFormatKeys formats.items }
+        requires merged { merged ≡ merged_parts formats.items }
+        ensures { IfOk result (λ p. p ≡ record { position = Start; boundary = Start; formats = formats.items; marks = marks }) }
+    {
+        let keys = GivenKey::new(alloc, merged)?;
         let cursor = Cursor::with_room(alloc, bound(keys.parts()), marks)?;
         Ok(OpenPosition {
+            formats,
             keys,
             cursor,
             marks,
         })
     }
 
-    /// The positions of the key by which it reads, in its one format. They can be compared with given values.
+    /// The positions of the key by which it reads, of all its formats together. They can be compared with given values.
     pub fn parts(&self) -> &[KeyPart]
-        ensures one { length self.now.formats ≡ 1 }
         ensures parts { result.now ≡ merged_parts self.now.formats }
         ensures few { length result.now ≤ MOST_POSITIONS }
         ensures allowed { ArePositions result.now }

@@ -1,5 +1,6 @@
 -- The records that are changed through an open are those of a physical file: its own file, or the one that this is over.
 use Rattle.std.proofs.Common.{◌≡◌, ◌∙◌, ℕ, true, is_some, Option, Some, List, [], length, sym, ap, subst, refl}
+use Rattle.library_parts.proofs.FindLemmas.{each-there}
 use Rattle.member_slots.specs.declared.slot.Slot.TheVariants.{Live}
 use Rattle.member_slots.specs.Members.{member_of}
 use Rattle.record_fmt.specs.declared.formats.Field.{Field}
@@ -10,7 +11,7 @@ use Rattle.dds_logical.specs.declared.views.LogicalSpec.TheVariants.{Simple, Mul
 use Rattle.logical_model.specs.Bases.{FileSpec, PhysicalFile, LogicalFile}
 use Rattle.logical_laws.specs.Found.{HoldsRecord}
 use Rattle.logical_laws.specs.Mapped.{HoldDefaults}
-use Rattle.logical_paths.specs.KeyedViews.{IsKeyedView}
+use Rattle.logical_paths.specs.KeyedViews.{IsKeyedView, IsViewOver}
 use Rattle.lawful_states.specs.Owners.{AreApart, has_number}
 use Rattle.lawful_states.specs.Physical.{IsPhysical}
 use Rattle.lawful_states.proofs.NameLemmas.{some-equal}
@@ -24,7 +25,7 @@ use Rattle.lawful_states.proofs.BaseLemmas.{physical-here, some-is}
 use Rattle.lawful_states.proofs.MemberLemmas.{HasRecords-member_of}
 use Rattle.view_records.specs.Through.{IsFormatOf, HaveBytes}
 use Rattle.joint_state.specs.Views.{HaveDefaults}
-use Rattle.record_changes.specs.Images.{IsWritable, IsWrittenIn, fields_under}
+use Rattle.record_changes.specs.Images.{IsWritable, IsWrittenIn, fields_under, fields_of_view}
 use Rattle.record_changes.specs.Places.{FitsMember}
 use Rattle.record_changes.proofs.PlaceLemmas.{its-fits, its-there, its-values}
 
@@ -52,23 +53,20 @@ module _ (s : State) (file : FileState) (opened : OpenState) (lawful : IsLibrary
   base-fields name over = ap (λ (o : Option FileState). (base_in name o).fields) (base-found name over)
 
   -- the fields of the records
-  owner-fields : fields_under (bases_in s.files) file.spec ≡ fields_of has.owner
+  owner-fields : fields_under (bases_in s.files) file.spec opened.format ≡ fields_of has.owner
   owner-fields = by file.spec refl has.over
     where
-      by : (spec : FileSpec) → file.spec ≡ spec → IsBaseOf spec opened.file has.base → fields_under (bases_in s.files) spec ≡ fields_of has.owner
+      by : (spec : FileSpec) → file.spec ≡ spec → IsBaseOf spec opened.file opened.format has.base → fields_under (bases_in s.files) spec opened.format ≡ fields_of has.owner
       by (PhysicalFile spec) is over =
           let found : Some file ≡ Some has.owner = sym has.there ∙ ap (λ (n : List ℕ). named n s.files) (sym over) ∙ owner-here in
           sym (ap (λ (f : FileSpec). (format_in f).fields) is) ∙ ap fields_of (some-equal found)
       by (LogicalFile (Simple view)) is over = base-fields view.base over
-      by (LogicalFile (Multi views)) is over = absurd over
+      by (LogicalFile (Multi views)) is over = ap (fields_of_view (bases_in s.files)) over.1 ∙ base-fields over.0.base over.2
       by (LogicalFile (Join view)) is over = absurd over
 
   -- values that are given through its format make records of it
-  writable : (view : View) → has.base ≡ view.base → IsView (bases_in s.files) (Simple view) → HaveDefaults s.files → IsWritable s.files view
-  writable view over its defaults =
-      let keyed : IsKeyedView (bases_in s.files view.base).fields view = its.keyed in
-      let bytes : HaveBytes view.mapping = its.bytes in
-      let format : IsFormatOf view = its.formats in
+  writable : (view : View) → has.base ≡ view.base → IsKeyedView (bases_in s.files view.base).fields view → HaveBytes view.mapping → IsFormatOf view → HaveDefaults s.files → IsWritable s.files view
+  writable view over keyed bytes format defaults =
       record {
         there = some-is (base-found view.base over);
         written = record {
@@ -79,17 +77,22 @@ module _ (s : State) (file : FileState) (opened : OpenState) (lawful : IsLibrary
         format = format;
       }
 
-  pub written-in : IsViewBeside s.files file.spec → HaveDefaults s.files → IsWrittenIn s.files file.spec
+  pub written-in : IsViewBeside s.files file.spec → HaveDefaults s.files → IsWrittenIn s.files file.spec opened.format
   written-in beside defaults = by file.spec has.over beside
     where
-      by : (spec : FileSpec) → IsBaseOf spec opened.file has.base → IsViewBeside s.files spec → IsWrittenIn s.files spec
+      by : (spec : FileSpec) → IsBaseOf spec opened.file opened.format has.base → IsViewBeside s.files spec → IsWrittenIn s.files spec opened.format
       by (PhysicalFile spec) over its = tt
-      by (LogicalFile (Simple view)) over its = writable view over its defaults
-      by (LogicalFile (Multi views)) over its = absurd over
+      by (LogicalFile (Simple view)) over its = writable view over its.keyed its.bytes its.formats defaults
+      by (LogicalFile (Multi views)) over its =
+          let view : View = over.0 in
+          let keyed : IsKeyedView (bases_in s.files view.base).fields view = each-there (IsViewOver (bases_in s.files)) views opened.format view its.keyed.each over.1 in
+          let bytes : HaveBytes view.mapping = each-there (λ (v : View). HaveBytes v.mapping) views opened.format view its.bytes over.1 in
+          let format : IsFormatOf view = each-there IsFormatOf views opened.format view its.formats over.1 in
+          (view, over.1, writable view over.2 keyed bytes format defaults)
       by (LogicalFile (Join view)) over its = absurd over
 
   -- what stands in the member is a record with these fields
-  pub record-of : (image : List ℕ) → FitsMember s opened.member (Live image) → HoldsRecord (fields_under (bases_in s.files) file.spec) image
+  pub record-of : (image : List ℕ) → FitsMember s opened.member (Live image) → HoldsRecord (fields_under (bases_in s.files) file.spec opened.format) image
   record-of image fits =
       let records : HasRecords (fields_of has.owner) (member_of opened.member s.members) = HasRecords-member_of (fields_of has.owner) opened.member s.members has.has.there in
       let long : length image ≡ record_length (fields_of has.owner) = fits.fits ∙ records.long in
@@ -97,7 +100,7 @@ module _ (s : State) (file : FileState) (opened : OpenState) (lawful : IsLibrary
       subst (λ (fields : List Field). HoldsRecord fields image) (sym owner-fields) (record { long = long; values = values })
 
   -- and such a record may stand in it
-  pub fits-member : AreApart s.files → (image : List ℕ) → HoldsRecord (fields_under (bases_in s.files) file.spec) image → FitsMember s opened.member (Live image)
+  pub fits-member : AreApart s.files → (image : List ℕ) → HoldsRecord (fields_under (bases_in s.files) file.spec opened.format) image → FitsMember s opened.member (Live image)
   fits-member apart image holds =
       let its : HoldsRecord (fields_of has.owner) image = subst (λ (fields : List Field). HoldsRecord fields image) owner-fields holds in
       record {

@@ -27,12 +27,7 @@ last_read read = record { opened = read.opened; rrn = read.rrn }
 abbrev pub opened_with : OpenState → FileState → OpenedFile
 opened_with opened file = record { opened = opened; file = file }
 
--- the one format of a file is asked for, by its name or by none
-abbrev pub format_named : Option (List ℕ) → (own : List ℕ) → Result ℕ Reply
-format_named None own = Ok 0
-format_named (Some name) own = if bytes_eq name own then Ok 0 else Err (NoSuchName (Name name))
-
--- a record to add through an open that reads by its one format, from the values on
+-- a record to add through an open that is at a format, from the values on
 abbrev pub given_plan : Memory → (job : ℕ) → OpenedFile → WriteRecord → Result NewSlot Reply
 given_plan m job its args =
     packed (given_in (bases_of m) its.file.spec its.opened.format args.values None) >>= λ image. place_plan m job its.opened args.record_number image

@@ -49,6 +49,8 @@ fn plan_delete(contents: &Contents, job: u32, args: &OpenName) -> Result<Planned
 {
     may_deposit(contents)?;
     let OpenFound { opened, file: _ } = contents.opened_file(job, &args.open_id)?;
+    // Where it read its last record.
+    let opened = &opened.here();
     may_change(opened)?;
     let rrn = current_record(opened)?;
     contents.not_held(job, opened, rrn)?;

@@ -1,9 +1,10 @@
 //! The image of a record from the values that a request gives, by what its file is.
-ghost use Rattle.std.specs.Prelude.{◌≡◌, ℕ, Some, IfOk, IsSome};
+ghost use Rattle.std.specs.Prelude.{◌≡◌, ◌<◌, Some, IfOk, IsSome, length};
 ghost use Rattle.std.specs.Option.{ForSome, option_copied};
 ghost use Rattle.record_fmt.specs.Records.{record_given};
 ghost use Rattle.file_model.specs.Views.{base_image};
 ghost use Rattle.member_slots.specs.declared.slot.Slot.TheVariants.{Live};
+ghost use Rattle.dds_logical.specs.declared.views.LogicalSpec.TheVariants.{Multi};
 ghost use Rattle.logical_model.specs.Bases.{LogicalFile};
 ghost use Rattle.logical_model.specs.Formats.{given_in, given_through};
 ghost use Rattle.logical_laws.specs.Found.{HoldsRecord};
@@ -25,7 +26,7 @@ use field_types::names::Name;
 use field_types::texts::Image;
 use field_types::values::Value;
 use file_catalogue::{Described, DescribedView, File, FileBody};
-use job_table::Open;
+use job_table::OpenAt;
 use library_model::replies::Reply;
 use library_parts::{Contents, Stop};
 use record_fmt::formats::{Format, PackFault};
@@ -38,7 +39,7 @@ use view_records::given::image_given;
 pub(crate) fn image_through(
     contents: &Contents,
     file: &File,
-    opened: &Open,
+    opened: &OpenAt<'_>,
     given: &[Option<Value>],
     old: Option<&[u8]>,
 ) -> Result<Image, Stop>
@@ -52,26 +53,25 @@ pub(crate) fn image_through(
     // A logical file is over a physical one that is there, and no two members have one number.
     let _begun = contents.jobs_begun();
     let _counts = contents.counts();
-    // A file has one format, whichever the open read last.
-    let _ = opened;
-    image_in(contents, file.described(), given, old)
+    image_in(contents, file.described(), opened.format(), given, old)
 }
 
-/// The same by what the file is.
+/// The same by what the file is, through the format of that number.
 fn image_in(
     contents: &Contents,
     body: &FileBody,
+    number: u16,
     given: &[Option<Value>],
     old: Option<&[u8]>,
 ) -> Result<Image, Stop>
-    requires written { IsWrittenIn contents.now.state.files (spec_in body.now) }
-    requires old { ForSome old (λ image. HoldsRecord (fields_under (bases_of (memory_of contents.now.state)) (spec_in body.now)) image.now) }
-    ensures packed { (number : ℕ) → Gives result (packed (given_in (bases_of (memory_of contents.now.state)) (spec_in body.now) number given.now (option_copied old.entry))) }
-    ensures holds { IfOk result (λ image. HoldsRecord (fields_under (bases_of (memory_of contents.now.state)) (spec_in body.now)) image) }
+    requires written { IsWrittenIn contents.now.state.files (spec_in body.now) number }
+    requires old { ForSome old (λ image. HoldsRecord (fields_under (bases_of (memory_of contents.now.state)) (spec_in body.now) number) image.now) }
+    ensures packed { Gives result (packed (given_in (bases_of (memory_of contents.now.state)) (spec_in body.now) number given.now (option_copied old.entry))) }
+    ensures holds { IfOk result (λ image. HoldsRecord (fields_under (bases_of (memory_of contents.now.state)) (spec_in body.now) number) image) }
 {
     match body {
         FileBody::Physical(described) => own_image(contents.alloc(), described, given, old),
-        FileBody::Logical(view) => view_image(contents, view, given, old),
+        FileBody::Logical(view) => view_image(contents, view, number, given, old),
     }
 }
 
@@ -115,33 +115,55 @@ fn packed_image(
 fn view_image(
     contents: &Contents,
     view: &DescribedView,
+    number: u16,
     given: &[Option<Value>],
     old: Option<&[u8]>,
 ) -> Result<Image, Stop>
-    requires written { IsWrittenIn contents.now.state.files (LogicalFile view.now.spec) }
-    requires old { ForSome old (λ image. HoldsRecord (fields_under (bases_of (memory_of contents.now.state)) (LogicalFile view.now.spec)) image.now) }
-    ensures packed { (number : ℕ) → Gives result (packed (given_in (bases_of (memory_of contents.now.state)) (LogicalFile view.now.spec) number given.now (option_copied old.entry))) }
-    ensures holds { IfOk result (λ image. HoldsRecord (fields_under (bases_of (memory_of contents.now.state)) (LogicalFile view.now.spec)) image) }
+    requires written { IsWrittenIn contents.now.state.files (LogicalFile view.now.spec) number }
+    requires old { ForSome old (λ image. HoldsRecord (fields_under (bases_of (memory_of contents.now.state)) (LogicalFile view.now.spec) number) image.now) }
+    ensures packed { Gives result (packed (given_in (bases_of (memory_of contents.now.state)) (LogicalFile view.now.spec) number given.now (option_copied old.entry))) }
+    ensures holds { IfOk result (λ image. HoldsRecord (fields_under (bases_of (memory_of contents.now.state)) (LogicalFile view.now.spec) number) image) }
 {
-    simple_image(contents, view.spec(), given, old)
+    format_image(contents, view.spec(), number, given, old)
 }
 
-/// The same by what the logical file is, which has one format so far.
-fn simple_image(
+/// The same by what the logical file is.
+fn format_image(
     contents: &Contents,
     spec: &LogicalSpec,
+    number: u16,
     given: &[Option<Value>],
     old: Option<&[u8]>,
 ) -> Result<Image, Stop>
-    requires written { IsWrittenIn contents.now.state.files (LogicalFile spec.now) }
-    requires old { ForSome old (λ image. HoldsRecord (fields_under (bases_of (memory_of contents.now.state)) (LogicalFile spec.now)) image.now) }
-    ensures packed { (number : ℕ) → Gives result (packed (given_in (bases_of (memory_of contents.now.state)) (LogicalFile spec.now) number given.now (option_copied old.entry))) }
-    ensures holds { IfOk result (λ image. HoldsRecord (fields_under (bases_of (memory_of contents.now.state)) (LogicalFile spec.now)) image) }
+    requires written { IsWrittenIn contents.now.state.files (LogicalFile spec.now) number }
+    requires old { ForSome old (λ image. HoldsRecord (fields_under (bases_of (memory_of contents.now.state)) (LogicalFile spec.now) number) image.now) }
+    ensures packed { Gives result (packed (given_in (bases_of (memory_of contents.now.state)) (LogicalFile spec.now) number given.now (option_copied old.entry))) }
+    ensures holds { IfOk result (λ image. HoldsRecord (fields_under (bases_of (memory_of contents.now.state)) (LogicalFile spec.now) number) image) }
 {
     match spec {
         LogicalSpec::Simple(view) => image_over(contents, view, given, old),
-        LogicalSpec::Multi(_) | LogicalSpec::Join(_) => unreachable!(),
+        LogicalSpec::Multi(views) => {
+            image_among(contents, views.as_slice(), usize::from(number), given, old)
+        }
+        LogicalSpec::Join(_) => unreachable!(),
     }
+}
+
+/// The same by the format at that place among several.
+fn image_among(
+    contents: &Contents,
+    views: &[View],
+    place: usize,
+    given: &[Option<Value>],
+    old: Option<&[u8]>,
+) -> Result<Image, Stop>
+    requires within { place < length views.now }
+    requires written { IsWrittenIn contents.now.state.files (LogicalFile (Multi views.now)) place }
+    requires old { ForSome old (λ image. HoldsRecord (fields_under (bases_of (memory_of contents.now.state)) (LogicalFile (Multi views.now)) place) image.now) }
+    ensures packed { Gives result (packed (given_in (bases_of (memory_of contents.now.state)) (LogicalFile (Multi views.now)) place given.now (option_copied old.entry))) }
+    ensures holds { IfOk result (λ image. HoldsRecord (fields_under (bases_of (memory_of contents.now.state)) (LogicalFile (Multi views.now)) place) image) }
+{
+    image_over(contents, &views[place], given, old)
 }
 
 /// The image of a record of the file that a format is over.

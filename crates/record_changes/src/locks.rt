@@ -9,7 +9,7 @@ ghost use Rattle.lawful_states.specs.Calls.{IsOfOpen};
 ghost use Rattle.record_changes.specs.Locks.{IsOfCurrent, MayLock};
 
 use crate::planned::Through;
-use job_table::Open;
+use job_table::OpenAt;
 use library_parts::Contents;
 use library_parts::laws::locks_fit;
 use lock_table::{Call, Level};
@@ -33,7 +33,7 @@ pub(crate) fn may_lock(
     contents: &Contents,
     call: Call,
     job: u32,
-    opened: &Open,
+    opened: &OpenAt<'_>,
     rrn: u32,
 ) -> Result<(), AllocError>
     requires running { IsTrue (is_running (job_at job contents.now.state.jobs)) }
@@ -50,7 +50,7 @@ fn is_free(
     contents: &Contents,
     call: Call,
     job: u32,
-    opened: &Open,
+    opened: &OpenAt<'_>,
     rrn: u32,
 ) -> Result<(), AllocError>
     requires { IsTrue (is_running (job_at job contents.now.state.jobs)) }
@@ -63,7 +63,7 @@ fn is_free(
 }
 
 /// The locks are not too many with the one that a change keeps to the boundary.
-fn are_few(contents: &Contents, job: u32, opened: &Open, rrn: u32) -> Result<(), AllocError>
+fn are_few(contents: &Contents, job: u32, opened: &OpenAt<'_>, rrn: u32) -> Result<(), AllocError>
     requires { IsTrue (is_running (job_at job contents.now.state.jobs)) }
     ensures { OnOk result (few_locks Write job opened.now.state rrn (memory_of contents.now.state) ≡ Ok true) }
 {

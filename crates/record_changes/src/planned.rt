@@ -3,7 +3,7 @@ ghost use Rattle.std.specs.Prelude.{◌≡◌};
 ghost use Rattle.library_steps.specs.Locking.{holder_of, record_of};
 ghost use Rattle.record_changes.specs.Opens.{bare};
 
-use job_table::Open;
+use job_table::OpenAt;
 use lock_table::{Holder, RecordId};
 use member_slots::slot::Slot;
 use path_set::moves::Moves;
@@ -27,7 +27,7 @@ impl Model for Through {
 }
 
 impl Through {
-    pub(crate) fn of(opened: &Open) -> Through
+    pub(crate) fn of(opened: &OpenAt<'_>) -> Through
         ensures { result ≡ bare opened.now.state }
     {
         Through {

@@ -29,6 +29,8 @@ fn plan_unlock(contents: &Contents, job: u32, args: &OpenName) -> Result<LockedR
     ensures { PlansRead result (unlock_plan (memory_of contents.now.state) job args.now) }
 {
     let OpenFound { opened, file: _ } = contents.opened_file(job, &args.open_id)?;
+    // Where it read its last record.
+    let opened = &opened.here();
     let Some(rrn) = opened.last_read() else {
         return Err(Stop::Refused(Reply::NoCurrentRecord));
     };

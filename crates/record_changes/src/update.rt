@@ -55,6 +55,8 @@ fn plan_update(contents: &Contents, job: u32, args: &UpdateRecord) -> Result<Pla
     let _counts = contents.counts();
     may_deposit(contents)?;
     let OpenFound { opened, file } = contents.opened_file(job, &args.open_id)?;
+    // Where it read its last record.
+    let opened = &opened.here();
     may_change(opened)?;
     let rrn = current_record(opened)?;
     // A current record stands there, since its lock keeps it. Nothing states that, so the call gives up where none does.

@@ -9,7 +9,7 @@ ghost use Rattle.library_steps.specs.Records.{slot_there};
 ghost use Rattle.library_steps.specs.WriteRecord.{next_place, place_asked, write_call, write_change, write_plan, write_record};
 ghost use Rattle.library_parts.specs.Answers.{Answers, Gives};
 ghost use Rattle.library_parts.specs.Finds.{ReadsMember};
-ghost use Rattle.library_parts.specs.Indexed.{IsViewBeside};
+ghost use Rattle.library_parts.specs.Indexed.{IsUnjoined, IsViewBeside};
 ghost use Rattle.library_parts.specs.Locks.{HasLockRoom};
 ghost use Rattle.lawful_states.specs.Calls.{IsWrite};
 ghost use Rattle.joint_state.specs.Views.{HaveDefaults};
@@ -25,7 +25,7 @@ use crate::prepare::prepare_change;
 use crate::refusals::{added_keys_free, format_asked, may_change};
 use draft_list::may_deposit;
 use file_catalogue::File;
-use job_table::Open;
+use job_table::OpenAt;
 use library_model::replies::Reply;
 use library_model::requests::WriteRecord;
 use library_parts::{Contents, OpenFound, Stop};
@@ -62,22 +62,24 @@ fn plan_write(contents: &Contents, job: u32, args: &WriteRecord) -> Result<Plann
 {
     may_deposit(contents)?;
     let OpenFound { opened, file } = contents.opened_file(job, &args.open_id)?;
-    let _number = format_asked(file, args.format)?;
-    may_change(opened)?;
-    plan_given(contents, job, opened, file, args)
+    let number = format_asked(file, args.format)?;
+    let at = contents.at_format(opened, file, number);
+    may_change(&at)?;
+    plan_given(contents, job, &at, file, args)
 }
 
-/// The record that the values make, and its place.
+/// The record that the values make through the format at which the open is, and its place.
 #[tactic(auto, unfolding(library_steps::specs::WriteRecord::place_plan))]
 fn plan_given(
     contents: &Contents,
     job: u32,
-    opened: &Open,
+    opened: &OpenAt<'_>,
     file: &File,
     args: &WriteRecord,
 ) -> Result<PlannedSlot, Stop>
     requires running { IsTrue (is_running (job_at job contents.now.state.jobs)) }
     requires there { ReadsMember contents.now.state file.now opened.now.state }
+    requires unjoined { IsUnjoined file.now.spec }
     requires view { IsViewBeside contents.now.state.files file.now.spec }
     requires defaults { HaveDefaults contents.now.state.files }
     ensures plan { PlansSlot result (given_plan (memory_of contents.now.state) job (opened_with opened.now.state file.now) args.now) }
@@ -106,7 +108,7 @@ fn plan_given(
 fn place_asked(
     contents: &Contents,
     job: u32,
-    opened: &Open,
+    opened: &OpenAt<'_>,
     asked: Option<u32>,
 ) -> Result<u32, Stop>
     requires running { IsTrue (is_running (job_at job contents.now.state.jobs)) }

@@ -31,7 +31,7 @@ use Rattle.library_steps.specs.Reads.{Found, entry_found, find_in, with_opened, 
 use Rattle.library_steps.specs.Reads.{if_lockable, read_plan, read_change, read_equal_plan, chained, chain_plan, chain}
 use Rattle.library_parts.specs.declared.stop.Stop.{Stop}
 use Rattle.library_parts.specs.declared.stop.Stop.TheVariants.{NoMemory, Refused}
-use Rattle.library_parts.specs.Indexed.{IsSimple}
+use Rattle.library_parts.specs.Indexed.{IsUnjoined}
 use Rattle.library_parts.specs.Reads.{GivesKey, Stands, formats_read, parts_read}
 use Rattle.record_reads.specs.declared.asked.AskedBy.{AskedBy}
 use Rattle.record_reads.specs.declared.asked.AskedBy.TheVariants.{FirstEqual, Number}
@@ -39,7 +39,7 @@ use Rattle.record_reads.specs.declared.asked.Direction.{Direction}
 use Rattle.record_reads.specs.declared.asked.Direction.TheVariants as directions
 use Rattle.record_reads.specs.Asked.{found_through, CanBeAsked, any_in, equal_in, any_from, equal_from, end_in}
 use Rattle.record_reads.specs.Plans.{AsksChain, AsksOf, PlansPosition, Plans, position_set, read_from, read_equal_from, read_found}
-use Rattle.record_reads.proofs.SimpleLemmas.{join_in-simple, find_in-simple, number-refused}
+use Rattle.record_reads.proofs.SimpleLemmas.{join_in-unjoined, find_in-unjoined, number-refused}
 
 pub ok-value : {A B : Type 0} (r : Result A B) → is_ok r ≡ true → (a : A) × (r ≡ Ok a)
 ok-value (Ok a) is = (a, refl)
@@ -63,15 +63,15 @@ keyed-by false asked given is = absurd cc
 module _ (m : Memory) (job : ℕ) (its : OpenedFile) where
   -- ---- positions
 
-  pub position-made : (side : Side) (args : SetPosition) (position : Position PathEntry) → opened_file args.open_id job m ≡ Ok its → IsSimple its.file.spec
+  pub position-made : (side : Side) (args : SetPosition) (position : Position PathEntry) → opened_file args.open_id job m ≡ Ok its → IsUnjoined its.file.spec
       → bound_asked its (side_of side) args.to ≡ Ok position
       → position_set side m job args ≡ Ok (unjournaled Done (with_opened job its.opened (positioned None position) (with_locks (locks_left PositionCall job its.opened 0 m) m)))
   unfolding position_plan
-  position-made side args position there simple at =
+  position-made side args position there unjoined at =
       ap (λ (r : Result OpenedFile Reply). does (position_change m job) (r >>= λ o. (bound_asked o (side_of side) args.to >>= λ p. Ok (record { its = o; position = p })))) there
       ∙ ap (λ (r : Result (Position PathEntry) Reply). does (position_change m job) (r >>= λ p. Ok (record { its = its; position = p }))) at
       ∙ ap (λ (join : Option JoinView). Ok (unjournaled Done (with_opened job its.opened (positioned join position) (with_locks (locks_left PositionCall job its.opened 0 m) m))))
-      (join_in-simple its.file.spec simple)
+      (join_in-unjoined its.file.spec unjoined)
 
   position-refused : (side : Side) (args : SetPosition) (reply : Reply) → opened_file args.open_id job m ≡ Ok its → bound_asked its (side_of side) args.to ≡ Err reply
       → position_set side m job args ≡ Err reply
@@ -91,14 +91,14 @@ module _ (m : Memory) (job : ℕ) (its : OpenedFile) where
   abbrev pub read_of : LockOption → Reply → Option Found → Result Change Reply
   read_of lock nothing item = does (read_change m job) (found item nothing >>= λ it. if_lockable job m its lock it)
 
-  pub read-through : (direction : Direction) (args : ReadRecord) → opened_file args.open_id job m ≡ Ok its → IsSimple its.file.spec
+  pub read-through : (direction : Direction) (args : ReadRecord) → opened_file args.open_id job m ≡ Ok its → IsUnjoined its.file.spec
       → read_from direction m job args ≡ read_found m job its args.lock (any_in direction)
   unfolding read_plan
-  read-through direction args there simple =
+  read-through direction args there unjoined =
       ap (λ (r : Result OpenedFile Reply). does (read_change m job) (r >>= λ o. (found (find_in o m (λ reading. any_from direction reading o.opened.position)
       (λ reading. any_from direction reading o.opened.rows)) (end_in direction) >>= λ it. if_lockable job m o args.lock it))) there
       ∙ ap (λ (item : Option Found). read_of args.lock (end_in direction) item)
-      (find_in-simple its m (λ reading. any_from direction reading its.opened.position) (λ reading. any_from direction reading its.opened.rows) simple)
+      (find_in-unjoined its m (λ reading. any_from direction reading its.opened.position) (λ reading. any_from direction reading its.opened.rows) unjoined)
       ∙ by direction
     where
       by : (d : Direction) → read_of args.lock (end_in d) (option_map entry_found (any_from d (reading_of its.file its.opened m) its.opened.position)) ≡ read_found m job its args.lock (any_in d)
@@ -120,11 +120,11 @@ module _ (m : Memory) (job : ℕ) (its : OpenedFile) where
       (λ reading. equal_from direction reading key o.opened.rows)) (end_in direction) >>= λ it. if_lockable job m o args.lock it)))) there
       ∙ ap (equal_after direction args) is
 
-  equal-found : (direction : Direction) (args : ReadEqual) (given : List KeyValue) (key : List ℕ) → IsSimple its.file.spec → values_in (parts_read (bases_of m) its.file its.opened) key ≡ given
+  equal-found : (direction : Direction) (args : ReadEqual) (given : List KeyValue) (key : List ℕ) → IsUnjoined its.file.spec → values_in (parts_read (bases_of m) its.file its.opened) key ≡ given
       → equal_after direction args (Ok given) ≡ read_found m job its args.lock (equal_in direction key)
-  equal-found direction args given key simple is =
+  equal-found direction args given key unjoined is =
       ap (λ (item : Option Found). read_of args.lock (end_in direction) item)
-      (find_in-simple its m (λ reading. equal_from direction reading given its.opened.position) (λ reading. equal_from direction reading given its.opened.rows) simple)
+      (find_in-unjoined its m (λ reading. equal_from direction reading given its.opened.position) (λ reading. equal_from direction reading given its.opened.rows) unjoined)
       ∙ ap (λ (values : List KeyValue). read_of args.lock (end_in direction) (option_map entry_found (equal_from direction (reading_of its.file its.opened m) values its.opened.position))) (sym is)
       ∙ by direction
     where
@@ -134,10 +134,10 @@ module _ (m : Memory) (job : ℕ) (its : OpenedFile) where
       by directions.Next = refl
       by directions.Prior = refl
 
-  pub equal-through : (direction : Direction) (args : ReadEqual) (key : List ℕ) → opened_file args.open_id job m ≡ Ok its → IsSimple its.file.spec
+  pub equal-through : (direction : Direction) (args : ReadEqual) (key : List ℕ) → opened_file args.open_id job m ≡ Ok its → IsUnjoined its.file.spec
       → GivesKey (bases_of m) its.file its.opened args.key (Ok key) → read_equal_from direction m job args ≡ read_found m job its args.lock (equal_in direction key)
-  equal-through direction args key there simple gives =
-      equal-of direction args (Ok gives.0) there gives.1 ∙ equal-found direction args gives.0 key simple gives.2.values
+  equal-through direction args key there unjoined gives =
+      equal-of direction args (Ok gives.0) there gives.1 ∙ equal-found direction args gives.0 key unjoined gives.2.values
 
   pub equal-refused : (direction : Direction) (args : ReadEqual) (stop : Stop) → opened_file args.open_id job m ≡ Ok its → GivesKey (bases_of m) its.file its.opened args.key (Err stop)
       → Plans m job args.open_id (read_equal_from direction m job args) (Err stop)
@@ -167,15 +167,15 @@ module _ (m : Memory) (job : ℕ) (its : OpenedFile) where
       → chained its m (Key values) ≡ (asked >>= λ key. Ok (find_in its m (λ reading. chain_key reading key) (λ reading. chain_key reading key)))
   chained-key values asked is = ap (λ (k : Result (List KeyValue) Reply). k >>= λ key. Ok (find_in its m (λ reading. chain_key reading key) (λ reading. chain_key reading key))) is
 
-  pub key-chained : (values : List Value) (key : List ℕ) → IsSimple its.file.spec → GivesKey (bases_of m) its.file its.opened values (Ok key) → AsksChain m its (Key values) (FirstEqual key)
-  key-chained values key simple gives = record {
+  pub key-chained : (values : List Value) (key : List ℕ) → IsUnjoined its.file.spec → GivesKey (bases_of m) its.file its.opened values (Ok key) → AsksChain m its (Key values) (FirstEqual key)
+  key-chained values key unjoined gives = record {
     asked = record {
       formats = gives.2.bytes;
       looked = keyed-by (is_keyed its.file its.opened) (key_or_fault (parts_in its.file.spec) values (key_fault (parts_in its.file.spec) values)) gives.0 gives.1;
     };
     chains =
         chained-key values (Ok gives.0) gives.1
-        ∙ ap (λ (item : Option Found). Ok item) (find_in-simple its m (λ reading. chain_key reading gives.0) (λ reading. chain_key reading gives.0) simple)
+        ∙ ap (λ (item : Option Found). Ok item) (find_in-unjoined its m (λ reading. chain_key reading gives.0) (λ reading. chain_key reading gives.0) unjoined)
         ∙ ap (λ (given : List KeyValue). Ok (option_map entry_found (chain_key (reading_of its.file its.opened m) given))) (sym gives.2.values);
     none = refl;
   }
@@ -190,13 +190,13 @@ module _ (m : Memory) (job : ℕ) (its : OpenedFile) where
   chained-number rrn asked is =
       ap (λ (n : Result ℕ Reply). n >>= λ number. Ok (find_in its m (λ reading. chain_number reading number) (λ reading. chain_number reading number))) is
 
-  pub number-chained : (rrn : ℕ) → IsSimple its.file.spec → HasNoKey (formats_read (bases_of m) its.file its.opened) → number_asked its.file its.opened rrn ≡ Ok rrn
+  pub number-chained : (rrn : ℕ) → IsUnjoined its.file.spec → HasNoKey (formats_read (bases_of m) its.file its.opened) → number_asked its.file its.opened rrn ≡ Ok rrn
       → AsksChain m its (RecordNumber rrn) (Number rrn)
-  number-chained rrn simple none is = record {
+  number-chained rrn unjoined none is = record {
     asked = record { formats = none; looked = tt };
     chains =
         chained-number rrn (Ok rrn) is
-        ∙ ap (λ (item : Option Found). Ok item) (find_in-simple its m (λ reading. chain_number reading rrn) (λ reading. chain_number reading rrn) simple);
+        ∙ ap (λ (item : Option Found). Ok item) (find_in-unjoined its m (λ reading. chain_number reading rrn) (λ reading. chain_number reading rrn) unjoined);
     none = refl;
   }
 

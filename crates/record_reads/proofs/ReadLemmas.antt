@@ -18,25 +18,32 @@ use Rattle.record_reads.specs.declared.plans.PlannedRead.{PlannedRead}
 use Rattle.record_reads.specs.declared.plans.FoundRead.{FoundRead}
 use Rattle.record_reads.specs.Asked.{found_through, nothing_found}
 use Rattle.record_reads.specs.Plans.{opened_with, used_of, record_shown, record_planned, planned_change, read_found, MayLock, PlansReadBy, PlansFound, Plans}
-use Rattle.record_reads.proofs.SimpleLemmas.{at_format-only}
 
-module _ (m : Memory) (job : ℕ) (file : FileState) (opened : OpenState) (lock : LockOption) (only : opened.members ≡ opened.member ∷ []) (first : opened.format ≡ 0) where
+module _ (m : Memory) (job : ℕ) (file : FileState) (opened : OpenState) (lock : LockOption) where
   abbrev pub through_open : OpenedFile
   through_open = opened_with opened file
 
-  -- an entry of the one format is read as it is planned
-  read-planned : (entry : PathEntry) → entry.format ≡ 0
-      → does (read_change m job) (if_lockable job m through_open lock (entry_found entry)) ≡ does (λ plan. planned_change m job plan entry) (record_planned m job through_open lock entry.rrn)
-  read-planned entry zeroth =
-      ap (λ (n : ℕ). does (read_change m job) (lockable job m file (at_format n opened) lock (entry_found entry))) zeroth
-      ∙ ap (λ (o : OpenState). does (read_change m job) (lockable job m file o lock (entry_found entry))) (at_format-only opened only first)
-      ∙ by (not_locked (read_call lock opened) job opened entry.rrn m) (few_locks (read_call lock opened) job opened entry.rrn m)
+  -- the open at the format of an entry
+  abbrev pub at_entry : PathEntry → OpenedFile
+  at_entry entry = opened_with (at_format entry.format opened) file
+
+  -- an entry is read at its format as it is planned
+  read-planned : (entry : PathEntry)
+      → does (read_change m job) (if_lockable job m through_open lock (entry_found entry)) ≡ does (λ plan. planned_change m job plan entry) (record_planned m job (at_entry entry) lock entry.rrn)
+  read-planned entry =
+      by (not_locked (read_call lock (at_format entry.format opened)) job (at_format entry.format opened) entry.rrn m)
+      (few_locks (read_call lock (at_format entry.format opened)) job (at_format entry.format opened) entry.rrn m)
     where
       it : FoundEntry
-      it = record { file = file; opened = opened; call = read_call lock opened; found = entry_found entry }
+      it = record { file = file; opened = at_format entry.format opened; call = read_call lock (at_format entry.format opened); found = entry_found entry }
 
       plan : PlannedRead
-      plan = record { used = used_of job opened m; call = read_call lock opened; rrn = entry.rrn; shown = record_shown m file opened entry.rrn }
+      plan = record {
+        used = used_of job (at_format entry.format opened) m;
+        call = read_call lock (at_format entry.format opened);
+        rrn = entry.rrn;
+        shown = record_shown m file (at_format entry.format opened) entry.rrn;
+      }
 
       by : (unlocked few : Result Bool Reply)
           → does (read_change m job) (unlocked >>= λ _. (few >>= λ _. Ok it)) ≡ does (λ plan. planned_change m job plan entry) (unlocked >>= λ _. (few >>= λ _. Ok plan))
@@ -55,17 +62,18 @@ module _ (m : Memory) (job : ℕ) (file : FileState) (opened : OpenState) (lock 
     pub nothing-read : found_through asks file opened m ≡ None → its_read ≡ Err (nothing_found asks)
     nothing-read is = found-is None is
 
-    pub entry-read : (result : Result PlannedRead Stop) (entry : PathEntry) (rrn : ℕ) → found_through asks file opened m ≡ Some entry → entry.rrn ≡ rrn → entry.format ≡ 0
-        → Gives result (record_planned m job through_open lock rrn) → IfOk result (MayLock m job) → IfOk result (λ plan. plan.used ≡ used_of job opened m) → PlansReadBy m job through_open asks its_read result
-    entry-read result entry rrn is numbered zeroth gives may through = by result gives may through
+    pub entry-read : (result : Result PlannedRead Stop) (entry : PathEntry) (format rrn : ℕ) → found_through asks file opened m ≡ Some entry → entry.rrn ≡ rrn → entry.format ≡ format
+        → Gives result (record_planned m job (opened_with (at_format format opened) file) lock rrn) → IfOk result (MayLock m job) → IfOk result (λ plan. plan.used ≡ used_of job (at_format format opened) m)
+        → PlansReadBy m job through_open asks its_read result
+    entry-read result entry format rrn is numbered formed gives may through = by result gives may through
       where
-        planned : its_read ≡ does (λ plan. planned_change m job plan entry) (record_planned m job through_open lock rrn)
+        planned : its_read ≡ does (λ plan. planned_change m job plan entry) (record_planned m job (opened_with (at_format format opened) file) lock rrn)
         planned =
-            found-is (Some entry) is ∙ read-planned entry zeroth
-            ∙ ap (λ (n : ℕ). does (λ plan. planned_change m job plan entry) (record_planned m job through_open lock n)) numbered
+            found-is (Some entry) is ∙ read-planned entry
+            ∙ (λ i. does (λ plan. planned_change m job plan entry) (record_planned m job (opened_with (at_format (formed i) opened) file) lock (numbered i)))
 
-        by : (r : Result PlannedRead Stop) → Gives r (record_planned m job through_open lock rrn) → IfOk r (MayLock m job) → IfOk r (λ plan. plan.used ≡ used_of job opened m)
-            → PlansReadBy m job through_open asks its_read r
+        by : (r : Result PlannedRead Stop) → Gives r (record_planned m job (opened_with (at_format format opened) file) lock rrn) → IfOk r (MayLock m job)
+            → IfOk r (λ plan. plan.used ≡ used_of job (at_format format opened) m) → PlansReadBy m job through_open asks its_read r
         by (Ok plan) gives may through = record {
           entry = entry;
           finds = is;

@@ -1,5 +1,6 @@
 -- A record that stands in a member shows a value of each field, of its own file and of a logical file over it.
-use Rattle.std.proofs.Common.{◌≡◌, ℕ, ◌+◌, true, Option, Some, None, Result, IfOk, List, [], length, drop, is_some, unwrap_or, refl, subst, sym, ◌∙◌, ap}
+use Rattle.std.proofs.Common.{◌≡◌, ℕ, ◌+◌, true, Option, Some, None, Result, IfOk, List, [], ◌∷◌, length, drop, is_some, unwrap_or, refl, subst, sym, ◌∙◌, ap, zero, suc, map, slice_get, IsSome, option_map}
+use Rattle.dds_logical.specs.declared.views.View.{View}
 use Rattle.std.specs.List.{AllByRecursion}
 use Rattle.std.proofs.lemmas.List.{take-append-drop}
 use Rattle.key_order.specs.KeyFields.{AreBytes}
@@ -13,20 +14,21 @@ use Rattle.physical_paths.specs.KeyedFiles.{IsRecord}
 use Rattle.dds_logical.specs.declared.views.LogicalSpec.TheVariants.{Simple, Multi, Join}
 use Rattle.logical_model.specs.Bases.{FileSpec, PhysicalFile, LogicalFile}
 use Rattle.logical_model.specs.Formats.{shown_in}
-use Rattle.logical_paths.specs.KeyedViews.{IsKeyedView, IsShownOf}
+use Rattle.logical_paths.specs.KeyedViews.{IsKeyedView, IsShownOf, IsViewOver}
 use Rattle.logical_paths.specs.Steps.{shown_of}
 use Rattle.view_records.specs.Through.{IsFormatOf}
 use Rattle.library_model.specs.Named.{named}
 use Rattle.library_model.specs.declared.replies.RecordRead.{RecordRead}
 use Rattle.lawful_states.proofs.NameLemmas.{some-equal}
-use Rattle.library_steps.specs.State.{State, Memory, FileState, OpenState, fields_of, format_in, memory_of}
+use Rattle.library_steps.specs.State.{State, Memory, FileState, OpenState, fields_of, format_in, memory_of, physical_among}
 use Rattle.library_steps.specs.LogicalFiles.{bases_in, bases_of}
 use Rattle.library_steps.specs.Records.{record_in, live_record}
 use Rattle.library_steps.specs.Reads.{read_as}
 use Rattle.library_parts.specs.Finds.{IsBaseOf, ReadsMember}
-use Rattle.library_parts.specs.Indexed.{IsSimple, IsViewBeside}
+use Rattle.library_parts.specs.Indexed.{IsUnjoined, IsViewBeside}
 use Rattle.lawful_states.specs.Lawful.{HasRecords, IsBased, IsLibrary, IsThere, StandsOver}
 use Rattle.lawful_states.proofs.FindLemmas.{HasBase, has-base}
+use Rattle.library_parts.proofs.FindLemmas.{each-there}
 use Rattle.lawful_states.proofs.MemberLemmas.{HasRecords-member_of, HoldsValues-at}
 use Rattle.record_reads.specs.Plans.{record_shown}
 use Rattle.record_reads.specs.Shown.{ShowsImage}
@@ -58,10 +60,15 @@ record-there s fields member rrn image there live long bytes =
 
 -- ---- by what the file is
 
+mapped-there : {X Y : Type 0} (f : X → Y) (xs : List X) (place : ℕ) (x : X) → slice_get xs place ≡ Some x → slice_get (map f xs) place ≡ Some (f x)
+mapped-there f [] place x at = absurd cc
+mapped-there f (y ∷ xs) zero x at = ap (λ (o : Option _). option_map f o) at
+mapped-there f (y ∷ xs) (suc place) x at = mapped-there f xs place x at
+
 -- a record of the member that an open reads is one whose values its file shows
-pub shows-image : (s : State) (file : FileState) (opened : OpenState) (image : List ℕ) (member : ReadsMember s file opened) → IsLibrary s → IsSimple file.spec
-    → IsViewBeside s.files file.spec → IsRecord (fields_of member.owner) image → ShowsImage file.spec image
-shows-image s file opened image member lawful simple beside is = by file.spec refl simple beside member.over
+pub shows-image : (s : State) (file : FileState) (opened : OpenState) (image : List ℕ) (member : ReadsMember s file opened) → IsLibrary s → IsUnjoined file.spec
+    → IsViewBeside s.files file.spec → IsRecord (fields_of member.owner) image → ShowsImage file.spec opened.format image
+shows-image s file opened image member lawful unjoined beside is = by file.spec refl unjoined beside member.over
   where
     -- the file of this name is the one that has them
     own : (name : List ℕ) (its : FileState) → member.base ≡ name → named name s.files ≡ Some its → fields_of its ≡ fields_of member.owner
@@ -74,7 +81,7 @@ shows-image s file opened image member lawful simple beside is = by file.spec re
     under : (name : List ℕ) → member.base ≡ name → HasBase s name → (bases_in s.files name).fields ≡ fields_of member.owner
     under name over base = base.fields ∙ own name base.file over base.here
 
-    by : (spec : FileSpec) → file.spec ≡ spec → IsSimple spec → IsViewBeside s.files spec → IsBaseOf spec opened.file member.base → ShowsImage spec image
+    by : (spec : FileSpec) → file.spec ≡ spec → IsUnjoined spec → IsViewBeside s.files spec → IsBaseOf spec opened.file opened.format member.base → ShowsImage spec opened.format image
     by (PhysicalFile spec) same so its over =
         let fields : fields_of member.owner ≡ spec.format.fields = sym (own opened.file file over member.there) ∙ ap (λ (f : FileSpec). (format_in f).fields) same in
         subst (λ (fs : List Field). IsRecord fs image) fields is
@@ -91,7 +98,24 @@ shows-image s file opened image member lawful simple beside is = by file.spec re
           },
           format,
         )
-    by (LogicalFile (Multi views)) same so its over = absurd so
+    by (LogicalFile (Multi views)) same so its over =
+        let view : View = over.0 in
+        let keyed : IsKeyedView (bases_in s.files view.base).fields view = each-there (IsViewOver (bases_in s.files)) views opened.format view its.keyed.each over.1 in
+        let format : IsFormatOf view = each-there IsFormatOf views opened.format view its.formats over.1 in
+        let stands : StandsOver s.files file.members (Multi views) = subst (IsBased s.files opened.file file.members) same (lawful.bases opened.file file member.there) in
+        let there : IsSome (physical_among view.base s.files) =
+        each-there (λ (n : List ℕ). IsSome (physical_among n s.files)) (map (λ (v : View). v.base) views) opened.format view.base stands.bases (mapped-there (λ (v : View). v.base) views opened.format view over.1) in
+        let fields : (bases_in s.files view.base).fields ≡ fields_of member.owner = under view.base over.2 (has-base s lawful view.base there) in (
+          view,
+          over.1,
+          record {
+            base = fields_of member.owner;
+            lies = member.laid.lies;
+            fields = subst (λ (fs : List Field). AllByRecursion (IsShownOf fs) (shown_of view.mapping)) fields keyed.fields;
+            is = is;
+          },
+          format,
+        )
     by (LogicalFile (Join view)) same so its over = absurd so
 
 -- ---- what is shown

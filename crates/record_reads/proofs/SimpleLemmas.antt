@@ -18,35 +18,23 @@ use Rattle.library_steps.specs.State.{Memory, FileState, OpenState}
 use Rattle.library_steps.specs.Refusals.{◌>>=◌, OpenedFile}
 use Rattle.library_steps.specs.Records.{is_file_path, is_keyed, reading_of, number_asked}
 use Rattle.library_steps.specs.Reads.{entry_found, at_format, bound_asked, find_by, find_in}
-use Rattle.library_parts.specs.Indexed.{IsReadSo, IsSimple}
+use Rattle.library_parts.specs.Indexed.{IsReadSo, IsUnjoined}
 use Rattle.library_parts.specs.Reads.{formats_read}
-use Rattle.library_parts.proofs.OpenLooks.{formats-are, own_parts}
+use Rattle.library_parts.proofs.PlaceLemmas.{by-arrival}
 
 -- ---- by what the file is
 
-pub join_in-simple : (spec : FileSpec) → IsSimple spec → join_in spec ≡ None
-join_in-simple (PhysicalFile spec) simple = refl
-join_in-simple (LogicalFile (Simple view)) simple = refl
-join_in-simple (LogicalFile (Multi views)) simple = absurd simple
-join_in-simple (LogicalFile (Join view)) simple = absurd simple
-
-numbers-simple : (spec : FileSpec) → IsSimple spec → has_numbers spec ≡ true
-numbers-simple (PhysicalFile spec) simple = refl
-numbers-simple (LogicalFile (Simple view)) simple = refl
-numbers-simple (LogicalFile (Multi views)) simple = absurd simple
-numbers-simple (LogicalFile (Join view)) simple = absurd simple
+pub join_in-unjoined : (spec : FileSpec) → IsUnjoined spec → join_in spec ≡ None
+join_in-unjoined (PhysicalFile spec) unjoined = refl
+join_in-unjoined (LogicalFile (Simple view)) unjoined = refl
+join_in-unjoined (LogicalFile (Multi views)) unjoined = refl
+join_in-unjoined (LogicalFile (Join view)) unjoined = absurd unjoined
 
 -- ---- a file and its open
 
-pub find_in-simple : (its : OpenedFile) (m : Memory) (find_entry : Reading PathEntry → Option PathEntry) (find_row : Reading RowPlace → Option RowPlace) → IsSimple its.file.spec
+pub find_in-unjoined : (its : OpenedFile) (m : Memory) (find_entry : Reading PathEntry → Option PathEntry) (find_row : Reading RowPlace → Option RowPlace) → IsUnjoined its.file.spec
     → find_in its m find_entry find_row ≡ option_map entry_found (find_entry (reading_of its.file its.opened m))
-find_in-simple its m find_entry find_row simple = ap (λ (join : Option JoinView). find_by join its m find_entry find_row) (join_in-simple its.file.spec simple)
-
--- an open that is over its one member, by its one format
-pub at_format-only : (opened : OpenState) → opened.members ≡ opened.member ∷ [] → opened.format ≡ 0 → at_format 0 opened ≡ opened
-at_format-only opened only format =
-    ap (λ (members : List ℕ). record opened { format = 0; member = unwrap_or (slice_get members 0) opened.member }) only
-    ∙ ap (λ (n : ℕ). record opened { format = n }) (sym format)
+find_in-unjoined its m find_entry find_row unjoined = ap (λ (join : Option JoinView). find_by join its m find_entry find_row) (join_in-unjoined its.file.spec unjoined)
 
 -- ---- relative record numbers
 
@@ -56,21 +44,23 @@ number_if keyed numbered rrn = if keyed || not numbered then Err WrongOpen else 
 abbrev placed_at : Result ℕ Reply → Result (Position PathEntry) Reply
 placed_at asked = asked >>= λ number. Ok (Before (NumberBound number))
 
--- the open takes the number, as it doesn't read by a key
+-- the open takes the number, as it doesn't read by a key, and its file has one format
 pub record TakesNumber (its : OpenedFile) (rrn : ℕ) : Type 0 where
   pub asked : number_asked its.file its.opened rrn ≡ Ok rrn
   pub unkeyed : is_keyed its.file its.opened ≡ false
+  pub numbered : has_numbers its.file.spec ≡ true
 
 -- where it can stand there
-pub takes-number : (its : OpenedFile) (rrn : ℕ) → IsSimple its.file.spec → is_ok (bound_asked its Before (limits.RecordNumber rrn)) ≡ true → TakesNumber its rrn
-takes-number its rrn simple can = record { asked = both.0; unkeyed = both.1 }
+pub takes-number : (its : OpenedFile) (rrn : ℕ) → is_ok (bound_asked its Before (limits.RecordNumber rrn)) ≡ true → TakesNumber its rrn
+takes-number its rrn can = record { asked = all.0; unkeyed = all.1; numbered = all.2 }
   where
-    by : (b : Bool) → is_ok (placed_at (number_if b (has_numbers its.file.spec) rrn)) ≡ true → (number_if b (has_numbers its.file.spec) rrn ≡ Ok rrn) × (b ≡ false)
-    by true is = absurd cc
-    by false is = (ap (λ (n : Bool). number_if false n rrn) (numbers-simple its.file.spec simple), refl)
+    by : (b n : Bool) → is_ok (placed_at (number_if b n rrn)) ≡ true → (number_if b n rrn ≡ Ok rrn) × (b ≡ false) × (n ≡ true)
+    by true n is = absurd cc
+    by false false is = absurd cc
+    by false true is = (refl, refl, refl)
 
-    both : (number_asked its.file its.opened rrn ≡ Ok rrn) × (is_keyed its.file its.opened ≡ false)
-    both = by (is_keyed its.file its.opened) can
+    all : (number_asked its.file its.opened rrn ≡ Ok rrn) × (is_keyed its.file its.opened ≡ false) × (has_numbers its.file.spec ≡ true)
+    all = by (is_keyed its.file its.opened) (has_numbers its.file.spec) can
 
 -- where it can't, the number is refused for that
 pub number-refused : (asked : Result ℕ Reply) (reply : Reply) → placed_at asked ≡ Err reply → asked ≡ Err reply
@@ -78,7 +68,6 @@ number-refused (Ok number) reply is = absurd cc
 number-refused (Err other) reply is = let same : other ≡ reply = cc in ap (λ (r : Reply). Err r) same
 
 -- an open that doesn't read by a key has no position of one; a logical file isn't read in arrival order
-pub no-key : (bases : Bases) (file : FileState) (opened : OpenState) → IsSimple file.spec → IsReadSo (is_file_path opened.access_path) file.spec → is_keyed file opened ≡ false
+pub no-key : (bases : Bases) (file : FileState) (opened : OpenState) → has_numbers file.spec ≡ true → IsReadSo (is_file_path opened.access_path) file.spec → is_keyed file opened ≡ false
     → HasNoKey (formats_read bases file opened)
-no-key bases file opened simple so unkeyed =
-    formats-are bases file opened simple so ∙ ap (λ (b : Bool). key_parts 0 (own_parts b file.spec) ∷ []) unkeyed
+no-key bases file opened numbered so unkeyed = by-arrival bases file opened numbered so unkeyed

@@ -30,7 +30,7 @@ use Rattle.library_steps.specs.Locking.{level_of, is_committed, with_locks, not_
 use Rattle.library_steps.specs.Reads.{entry_found, open_changed, bound_asked, position_plan, position_change, read_call, read_as, has_read, read_plan, read_equal_plan, read_change, if_lockable, chained}
 use Rattle.library_parts.specs.declared.stop.Stop.{Stop}
 use Rattle.library_parts.specs.declared.stop.Stop.TheVariants.{NoMemory, Refused}
-use Rattle.library_parts.specs.Indexed.{IsSimple}
+use Rattle.library_parts.specs.Indexed.{IsUnjoined}
 use Rattle.lawful_states.specs.Calls.{IsRead}
 use Rattle.record_reads.specs.Asked.{found_through, CanBeAsked, nothing_found, any_from, equal_from, end_in}
 use Rattle.record_reads.specs.declared.asked.AskedBy.{AskedBy}
@@ -68,7 +68,7 @@ position_set side m job args = does (position_change m job) (position_plan (side
 pub record CanBeSet (m : Memory) (job : ℕ) (args : SetPosition) (used : UsedOpen) : Type 0 where
   pub its : OpenedFile
   pub opened : opened_file args.open_id job m ≡ Ok its
-  pub simple : IsSimple its.file.spec
+  pub unjoined : IsUnjoined its.file.spec
   pub place : (side : Bound → Position PathEntry) → is_ok (bound_asked its side args.to) ≡ true
   pub same : used ≡ used_of job its.opened m
 
@@ -106,7 +106,7 @@ AsksOf m its to (Ok by) = AsksChain m its to by
 AsksOf m its to (Err NoMemory) = Unit {0}
 AsksOf m its to (Err (Refused reply)) = chained its m to ≡ Err reply
 
--- what the open's format shows of a record of its member; it is no row of a join
+-- what the format at which the open is shows of a record of its member; it is no row of a join
 abbrev pub record_shown : Memory → FileState → OpenState → (rrn : ℕ) → RecordRead
 record_shown m file opened rrn = read_as rrn (shown_in (bases_of m) m.members file.spec opened.format (unwrap_or (live_record opened.member rrn m) []) None)
 

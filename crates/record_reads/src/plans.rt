@@ -5,7 +5,7 @@ ghost use Rattle.library_steps.specs.History.{is_running};
 ghost use Rattle.record_reads.specs.Plans.{used_of, holder_through, record_through};
 
 use crate::asked::AskedBy;
-use job_table::Open;
+use job_table::OpenAt;
 use library_model::replies::RecordRead;
 use library_parts::Contents;
 use lock_table::{Call, Holder, Level, RecordId};
@@ -57,7 +57,7 @@ pub(crate) struct FoundRead {
 }
 
 /// What an effect needs of an open of the job.
-pub(crate) fn used_open(contents: &Contents, job: u32, opened: &Open) -> UsedOpen
+pub(crate) fn used_open(contents: &Contents, job: u32, opened: &OpenAt<'_>) -> UsedOpen
     requires { IsTrue (is_running (job_at job contents.now.state.jobs)) }
     ensures { result ≡ used_of job opened.now.state (memory_of contents.now.state) }
 {

@@ -47,7 +47,8 @@ fn plan_position(contents: &Contents, job: u32, args: &SetPosition) -> Result<Us
 {
     let OpenFound { opened, file } = contents.opened_file(job, &args.open_id)?;
     contents.may_stand(opened, file, &args.to)?;
-    Ok(used_open(contents, job, opened))
+    let here = opened.here();
+    Ok(used_open(contents, job, &here))
 }
 
 fn apply_position(

@@ -10,7 +10,7 @@ ghost use Rattle.library_steps.specs.Records.{live_record};
 ghost use Rattle.library_steps.specs.Reads.{read, read_prior, read_equal, read_prior_equal, chain, read_call};
 ghost use Rattle.library_parts.specs.Answers.{Answers, Gives};
 ghost use Rattle.library_parts.specs.Finds.{ReadsMember};
-ghost use Rattle.library_parts.specs.Indexed.{IsSimple, IsViewBeside};
+ghost use Rattle.library_parts.specs.Indexed.{IsUnjoined, IsViewBeside};
 ghost use Rattle.library_parts.specs.Locks.{HasLockRoom};
 ghost use Rattle.lawful_states.specs.Calls.{IsRead};
 ghost use Rattle.library_parts.specs.Reads.{ReadsAs, Stands};
@@ -23,7 +23,7 @@ use crate::shown::record_shown;
 use field_types::names::Name;
 use field_types::values::Value;
 use file_catalogue::File;
-use job_table::Open;
+use job_table::{Open, OpenAt};
 use library_model::replies::Reply;
 use library_model::requests::{
     ChainRecord, ChainTo, Limit, LockOption, OpenOption, ReadEqual, ReadRecord,
@@ -124,7 +124,7 @@ fn chained_by(
     to: &ChainTo,
 ) -> Result<AskedBy, Stop>
     requires reads { ReadsAs contents.now opened.now file.now }
-    requires simple { IsSimple file.now.spec }
+    requires unjoined { IsUnjoined file.now.spec }
     ensures { AsksOf (memory_of contents.now.state) (opened_with opened.now.state file.now) to.now result }
 {
     match to {
@@ -141,7 +141,7 @@ fn chained_by_key(
     values: &[Value],
 ) -> Result<AskedBy, Stop>
     requires reads { ReadsAs contents.now opened.now file.now }
-    requires simple { IsSimple file.now.spec }
+    requires unjoined { IsUnjoined file.now.spec }
     ensures { AsksOf (memory_of contents.now.state) (opened_with opened.now.state file.now) (chain_to.Key values.now) result }
 {
     match contents.given_key(opened, file, values) {
@@ -158,7 +158,7 @@ fn chained_by_number(
     rrn: u32,
 ) -> Result<AskedBy, Stop>
     requires reads { ReadsAs contents.now opened.now file.now }
-    requires simple { IsSimple file.now.spec }
+    requires unjoined { IsUnjoined file.now.spec }
     ensures { AsksOf (memory_of contents.now.state) (opened_with opened.now.state file.now) (chain_to.RecordNumber rrn) result }
 {
     match may_stand_at(contents, opened, file, rrn) {
@@ -188,7 +188,7 @@ fn plan_found(
     requires running { IsTrue (is_running (job_at job contents.now.state.jobs)) }
     requires reads { ReadsAs contents.now opened.now file.now }
     requires member { ReadsMember contents.now.state file.now opened.now.state }
-    requires simple { IsSimple file.now.spec }
+    requires unjoined { IsUnjoined file.now.spec }
     requires view { IsViewBeside contents.now.state.files file.now.spec }
     requires asked { CanBeAsked by file.now opened.now.state (memory_of contents.now.state) }
     ensures { PlansFound (memory_of contents.now.state) job (opened_with opened.now.state file.now) (read_found (memory_of contents.now.state) job (opened_with opened.now.state file.now) lock by) result }
@@ -211,7 +211,7 @@ fn plan_asked(
     requires running { IsTrue (is_running (job_at job contents.now.state.jobs)) }
     requires reads { ReadsAs contents.now opened.now file.now }
     requires member { ReadsMember contents.now.state file.now opened.now.state }
-    requires simple { IsSimple file.now.spec }
+    requires unjoined { IsUnjoined file.now.spec }
     requires view { IsViewBeside contents.now.state.files file.now.spec }
     requires asked { CanBeAsked by.now file.now opened.now.state (memory_of contents.now.state) }
     ensures { PlansReadBy (memory_of contents.now.state) job (opened_with opened.now.state file.now) by.now (read_found (memory_of contents.now.state) job (opened_with opened.now.state file.now) lock by.now) result }
@@ -219,21 +219,22 @@ fn plan_asked(
     let Some(found) = contents.find(opened, file, by.as_read()) else {
         return Err(Stop::Refused(by.nothing_found()));
     };
-    plan_record(contents, job, opened, file, lock, found.rrn)
+    let at = opened.at(found.format);
+    plan_record(contents, job, &at, file, lock, found.rrn)
 }
 
 /// The read of a record that was found, where no lock is in its way.
 fn plan_record(
     contents: &Contents,
     job: u32,
-    opened: &Open,
+    opened: &OpenAt<'_>,
     file: &File,
     lock: LockOption,
     rrn: u32,
 ) -> Result<PlannedRead, Stop>
     requires running { IsTrue (is_running (job_at job contents.now.state.jobs)) }
     requires member { ReadsMember contents.now.state file.now opened.now.state }
-    requires simple { IsSimple file.now.spec }
+    requires unjoined { IsUnjoined file.now.spec }
     requires view { IsViewBeside contents.now.state.files file.now.spec }
     requires live { is_some (live_record opened.now.state.member rrn (memory_of contents.now.state)) ≡ true }
     ensures plan { Gives result (record_planned (memory_of contents.now.state) job (opened_with opened.now.state file.now) lock rrn) }
@@ -253,7 +254,7 @@ fn plan_record(
 }
 
 /// What a read through the open asks of the locks.
-fn read_call(lock: LockOption, opened: &Open) -> Call
+fn read_call(lock: LockOption, opened: &OpenAt<'_>) -> Call
     ensures call { result ≡ read_call lock opened.now.state }
     ensures read { IsRead result }
 {

@@ -1,26 +1,27 @@
-//! What a record shows through the one format of a file.
-ghost use Rattle.std.specs.Prelude.{◌≡◌, ℕ, true, is_some, length, None, Some, IfOk};
+//! What a record shows through a format of a file.
+ghost use Rattle.std.specs.Prelude.{◌≡◌, ◌<◌, true, is_some, length, None, Some, IfOk, slice_get};
 ghost use Rattle.key_order.specs.KeyFields.{AreBytes};
 ghost use Rattle.member_slots.specs.Members.{NumberedMembers, member_of};
 ghost use Rattle.record_fmt.specs.Layout.{record_length};
 ghost use Rattle.record_fmt.specs.Records.{record_held};
 ghost use Rattle.physical_paths.specs.KeyedFiles.{IsRecord};
+ghost use Rattle.dds_logical.specs.declared.views.LogicalSpec.TheVariants.{Multi};
 ghost use Rattle.logical_model.specs.Bases.{Bases, LogicalFile};
-ghost use Rattle.logical_model.specs.Formats.{shown_in, shown_through, values_shown};
+ghost use Rattle.logical_model.specs.Formats.{shown_by, shown_in, shown_through, values_shown};
 ghost use Rattle.view_records.specs.Through.{IsFormatOf, IsReadThrough};
 ghost use Rattle.file_catalogue.specs.Bodies.{spec_in};
 ghost use Rattle.library_steps.specs.State.{memory_of};
 ghost use Rattle.library_steps.specs.Reads.{read_as};
 ghost use Rattle.library_steps.specs.Records.{live_record};
 ghost use Rattle.library_parts.specs.Finds.{ReadsMember};
-ghost use Rattle.library_parts.specs.Indexed.{IsSimple, IsViewBeside};
+ghost use Rattle.library_parts.specs.Indexed.{IsUnjoined, IsViewBeside};
 ghost use Rattle.record_reads.specs.Plans.{record_shown};
 ghost use Rattle.record_reads.specs.Shown.{ShowsImage, shown_as_held};
 
 use dds_logical::{LogicalSpec, View};
 use field_values::fields::ImageFault;
 use file_catalogue::{Described, File, FileBody};
-use job_table::Open;
+use job_table::OpenAt;
 use library_model::replies::RecordRead;
 use library_model::value_lists::Values;
 use library_parts::Contents;
@@ -28,15 +29,15 @@ use record_fmt::formats::Format;
 use std::alloc::{AllocError, Global};
 use view_records::shown::values_shown;
 
-/// The record of that number of the open's member, through the format of its file.
+/// The record of that number of the open's member, through the format at which the open is.
 pub(crate) fn record_shown(
     contents: &Contents,
     file: &File,
-    opened: &Open,
+    opened: &OpenAt<'_>,
     rrn: u32,
 ) -> Result<RecordRead, AllocError>
     requires member { ReadsMember contents.now.state file.now opened.now.state }
-    requires simple { IsSimple file.now.spec }
+    requires unjoined { IsUnjoined file.now.spec }
     requires view { IsViewBeside contents.now.state.files file.now.spec }
     requires live { is_some (live_record opened.now.state.member rrn (memory_of contents.now.state)) ≡ true }
     ensures { IfOk result (λ shown. shown ≡ record_shown (memory_of contents.now.state) file.now opened.now.state rrn) }
@@ -44,7 +45,13 @@ pub(crate) fn record_shown(
     // What the parts of a library need of each other holds.
     let _jobs = contents.jobs_begun();
     let image = image_there(contents, opened.member(), rrn);
-    shown_by(contents.alloc(), file.described(), rrn, image)
+    shown_by(
+        contents.alloc(),
+        file.described(),
+        opened.format(),
+        rrn,
+        image,
+    )
 }
 
 /// The image of the record of that number, which is there.
@@ -64,19 +71,20 @@ fn are_bytes(bytes: &[u8])
     ensures { AreBytes bytes.now }
 {}
 
-/// What a file of one format shows of a record.
+/// What the format of that number shows of a record.
 fn shown_by(
     alloc: Global,
     body: &FileBody,
+    number: u16,
     rrn: u32,
     image: &[u8],
 ) -> Result<RecordRead, AllocError>
-    requires { ShowsImage (spec_in body.now) image.now }
-    ensures { (bases : Bases) (members : NumberedMembers) (number : ℕ) → IfOk result (λ shown. shown ≡ read_as rrn (shown_in bases members (spec_in body.now) number image.now None)) }
+    requires { ShowsImage (spec_in body.now) number image.now }
+    ensures { (bases : Bases) (members : NumberedMembers) → IfOk result (λ shown. shown ≡ read_as rrn (shown_in bases members (spec_in body.now) number image.now None)) }
 {
     match body {
         FileBody::Physical(described) => shown_physical(alloc, described, rrn, image),
-        FileBody::Logical(view) => shown_logical(alloc, view.spec(), rrn, image),
+        FileBody::Logical(view) => shown_logical(alloc, view.spec(), number, rrn, image),
     }
 }
 
@@ -99,20 +107,39 @@ fn shown_physical(
     })
 }
 
-/// What a logical file of one format shows of a record of its base file.
+/// What the format of that number of a logical file shows of a record of its base file.
 fn shown_logical(
     alloc: Global,
     spec: &LogicalSpec,
+    number: u16,
     rrn: u32,
     image: &[u8],
 ) -> Result<RecordRead, AllocError>
-    requires { ShowsImage (LogicalFile spec.now) image.now }
-    ensures { (bases : Bases) (members : NumberedMembers) (number : ℕ) → IfOk result (λ shown. shown ≡ read_as rrn (shown_in bases members (LogicalFile spec.now) number image.now None)) }
+    requires { ShowsImage (LogicalFile spec.now) number image.now }
+    ensures { (bases : Bases) (members : NumberedMembers) → IfOk result (λ shown. shown ≡ read_as rrn (shown_in bases members (LogicalFile spec.now) number image.now None)) }
 {
     match spec {
         LogicalSpec::Simple(view) => shown_view(alloc, view, rrn, image),
-        LogicalSpec::Multi(_) | LogicalSpec::Join(_) => unreachable!(),
+        LogicalSpec::Multi(views) => {
+            shown_among(alloc, views.as_slice(), usize::from(number), rrn, image)
+        }
+        LogicalSpec::Join(_) => unreachable!(),
     }
+}
+
+/// What the format at that place among several shows of a record of its base file.
+fn shown_among(
+    alloc: Global,
+    views: &[View],
+    place: usize,
+    rrn: u32,
+    image: &[u8],
+) -> Result<RecordRead, AllocError>
+    requires within { place < length views.now }
+    requires shows { ShowsImage (LogicalFile (Multi views.now)) place image.now }
+    ensures { IfOk result (λ shown. shown ≡ read_as rrn (shown_by (slice_get views.now place) image.now)) }
+{
+    shown_view(alloc, &views[place], rrn, image)
 }
 
 /// What a format shows of a record of its base file.

@@ -31,7 +31,7 @@ use Rattle.joint_state.specs.Limits.{AreFormats}
 use Rattle.joint_state.specs.Views.{AreMapped, HaveDefaults, IsMapped}
 use Rattle.library_kept.proofs.DefaultLemmas.{physical-defaults}
 use Rattle.library_kept.proofs.FieldLemmas.{physical-laid}
-use Rattle.library_kept.proofs.SomeLemmas.{logical-some}
+use Rattle.logical_laws.proofs.SomeLemmas.{logical-some}
 use Rattle.restart_model.specs.Libraries.{file_left, files_left, member_left, status_left}
 use Rattle.restart_model.specs.Sources.{described_files, format_named, spec_named}
 use Rattle.restart_laws.proofs.CatalogueLemmas.{AreNamesApart, AreNumbersApart, HasFirst, HasOther, HasPhysical, IsCatalogue, is_first}

@@ -1,4 +1,4 @@
-use Rattle.std.proofs.Common.{ℕ, List, [], ◌∷◌, refl, ap}
+use Rattle.std.proofs.Common.{ℕ, List, refl, ap}
 use Rattle.library_model.specs.declared.replies.Reply.TheVariants.{Done}
 use Rattle.library_steps.specs.State.{memory_of, with_job}
 use Rattle.library_steps.specs.Change.{does, unjournaled}
@@ -12,6 +12,6 @@ returns c =
     let job = c.args.job in
     let args = c.args.args.now in
     record {
-      answers = c.effects_answer.ensures.unjournaled old c.add_open.new.self.state Done (with_job job (with_open args (c.in_ok-member.member ∷ [])) m) _
-          (ap (does (λ (members : List ℕ). unjournaled Done (with_job job (with_open args members) m))) c.in_ok-member.ensures.plan) c.add_open.ensures.memory refl c.add_open.ensures.entries;
+      answers = c.effects_answer.ensures.unjournaled old c.add_open.new.self.state Done (with_job job (with_open args c.in_ok-members.members) m) _
+          (ap (does (λ (members : List ℕ). unjournaled Done (with_job job (with_open args members) m))) c.in_ok-members.ensures.plan) c.add_open.ensures.memory refl c.add_open.ensures.entries;
     }

@@ -1,10 +1,9 @@
 use Rattle.std.proofs.Common.{◌∙◌}
-use Rattle.open_position.proofs.StandLemmas.{merged-one}
 use Rattle.open_position.proofs.GivenLemmas.{is-ok, on_ok, given-bytes, given-values}
 use Rattle.open_position.proofs.given.write_given.Goals as goal
 
 pub unwrap-requires : goal.unwrap-requires
-unwrap-requires c = is-ok c.encode_values_into.result (c.encode_values_into.ensures.refused ∙ rw (merged-one c.args.parts.now) at c.requires.good)
+unwrap-requires c = is-ok c.encode_values_into.result (c.encode_values_into.ensures.refused ∙ c.requires.good)
 
 pub returns-clause-bytes : goal.returns-clause-bytes
 returns-clause-bytes c =

@@ -10,6 +10,6 @@ returns-clause-may c =
     let state = c.args.contents.now.state in
     let opened = c.in_ok-opened.field-0.opened.now.state in
     let its = c.in_ok-opened.ensures.there in
-    let found : live_record opened.member c.in_ok-rrn.rrn (memory_of state) ≡ Some c.in-Some._old.now = sym (rw c.member.ensures at c.in-Some.ensures.image) in
-    rw c.of.ensures
+    let found : live_record opened.member c.in_ok-rrn.rrn (memory_of state) ≡ Some c.in-Some._old.now = sym (rw (c.member.ensures, c.here.ensures) at c.in-Some.ensures.image) in
+    rw (c.of.ensures, c.here.ensures)
     (MayPut-live state its.base its.owner opened.member c.in_ok-rrn.rrn its.has c.in-Some._old.now found Deleted (deleted-fits state its.base its.owner opened.member its.has))

@@ -12,21 +12,21 @@ use Rattle.library_parts.specs.Answers.{Gives}
 use Rattle.record_changes.specs.Images.{IsWrittenIn, fields_under}
 use Rattle.record_changes.proofs.images.view_image.Goals as goal
 
-pub simple_image-requires-clause-written : goal.simple_image-requires-clause-written
-simple_image-requires-clause-written c =
-    subst (λ (spec : LogicalSpec). IsWrittenIn c.args.contents.now.state.files (LogicalFile spec)) (sym c.spec.ensures) c.requires.written
+pub format_image-requires-clause-written : goal.format_image-requires-clause-written
+format_image-requires-clause-written c =
+    subst (λ (spec : LogicalSpec). IsWrittenIn c.args.contents.now.state.files (LogicalFile spec) c.args.number) (sym c.spec.ensures) c.requires.written
 
-pub simple_image-requires-clause-old : goal.simple_image-requires-clause-old
-simple_image-requires-clause-old c = λ image is.
-    subst (λ (spec : LogicalSpec). HoldsRecord (fields_under (bases_of (memory_of c.args.contents.now.state)) (LogicalFile spec)) image.now) (sym c.spec.ensures) (c.requires.old image is)
+pub format_image-requires-clause-old : goal.format_image-requires-clause-old
+format_image-requires-clause-old c = λ image is.
+    subst (λ (spec : LogicalSpec). HoldsRecord (fields_under (bases_of (memory_of c.args.contents.now.state)) (LogicalFile spec) c.args.number) image.now) (sym c.spec.ensures) (c.requires.old image is)
 
 pub returns-clause-packed : goal.returns-clause-packed
-returns-clause-packed c = λ number.
+returns-clause-packed c =
     let bases = bases_of (memory_of c.args.contents.now.state) in
-    subst (λ (spec : LogicalSpec). Gives c.simple_image.result (packed (given_in bases (LogicalFile spec) number c.args.given.now (option_copied c.args.old)))) c.spec.ensures
-    (c.simple_image.ensures.packed number)
+    subst (λ (spec : LogicalSpec). Gives c.format_image.result (packed (given_in bases (LogicalFile spec) c.args.number c.args.given.now (option_copied c.args.old)))) c.spec.ensures
+    c.format_image.ensures.packed
 
 pub returns-clause-holds : goal.returns-clause-holds
 returns-clause-holds c =
     let bases = bases_of (memory_of c.args.contents.now.state) in
-    subst (λ (spec : LogicalSpec). IfOk c.simple_image.result (λ image. HoldsRecord (fields_under bases (LogicalFile spec)) image)) c.spec.ensures c.simple_image.ensures.holds
+    subst (λ (spec : LogicalSpec). IfOk c.format_image.result (λ image. HoldsRecord (fields_under bases (LogicalFile spec) c.args.number) image)) c.spec.ensures c.format_image.ensures.holds

@@ -14,15 +14,17 @@ image_through-requires-clause-old c = λ image is.
     let opened = c.in_ok-opened.field-0.opened.now.state in
     let its = c.in_ok-opened.ensures.there in
     let old = c.in-Some.old.now in
-    let found : live_record opened.member c.in_ok-rrn.rrn (memory_of state) ≡ Some old = sym (rw c.member.ensures at c.in-Some.ensures.image) in
-    let long : length old ≡ (member_of opened.member state.members).record_length = rw c.member.ensures at c.in-Some.ensures.fits in
-    subst (λ (shown : Bor (List ℕ)). FitsMember state opened.member (Live shown.now)) (some-equal is)
-    (live-fits state its.base its.owner opened.member c.in_ok-rrn.rrn its.has old found c.counts-counts.ensures.apart long)
+    let found : live_record opened.member c.in_ok-rrn.rrn (memory_of state) ≡ Some old = sym (rw (c.member.ensures, c.here.ensures) at c.in-Some.ensures.image) in
+    let long : length old ≡ (member_of opened.member state.members).record_length = rw (c.member.ensures, c.here.ensures) at c.in-Some.ensures.fits in
+    rw c.here.ensures
+    (subst (λ (shown : Bor (List ℕ)). FitsMember state opened.member (Live shown.now)) (some-equal is)
+    (live-fits state its.base its.owner opened.member c.in_ok-rrn.rrn its.has old found c.counts-counts.ensures.apart long))
 
 pub returns-clause-may : goal.returns-clause-may
 returns-clause-may c =
     let state = c.args.contents.now.state in
     let opened = c.in_ok-opened.field-0.opened.now.state in
     let its = c.in_ok-opened.ensures.there in
-    let found : live_record opened.member c.in_ok-rrn.rrn (memory_of state) ≡ Some c.in-Some.old.now = sym (rw c.member.ensures at c.in-Some.ensures.image) in
-    rw c.of.ensures (MayPut-live state its.base its.owner opened.member c.in_ok-rrn.rrn its.has c.in-Some.old.now found (Live c.in_ok-image.image) c.in_ok-image.ensures.fits)
+    let found : live_record opened.member c.in_ok-rrn.rrn (memory_of state) ≡ Some c.in-Some.old.now = sym (rw (c.member.ensures, c.here.ensures) at c.in-Some.ensures.image) in
+    let fits = rw c.here.ensures at c.in_ok-image.ensures.fits in
+    rw (c.of.ensures, c.here.ensures) (MayPut-live state its.base its.owner opened.member c.in_ok-rrn.rrn its.has c.in-Some.old.now found (Live c.in_ok-image.image) fits)

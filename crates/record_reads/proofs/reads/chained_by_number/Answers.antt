@@ -11,8 +11,8 @@ returns-in-Ok c =
     let m = memory_of c.args.contents.now.state in
     let its = opened_with c.args.opened.now.state c.args.file.now in
     let can = rw c.in-Ok.is at c.may_stand_at.ensures in
-    let takes = takes-number its c.args.rrn c.requires.simple (can Before) in
-    number-chained m 0 its c.args.rrn c.requires.simple (no-key (bases_of m) its.file its.opened c.requires.simple c.requires.reads.so takes.unkeyed) takes.asked
+    let takes = takes-number its c.args.rrn (can Before) in
+    number-chained m 0 its c.args.rrn c.requires.unjoined (no-key (bases_of m) its.file its.opened takes.numbered c.requires.reads.so takes.unkeyed) takes.asked
 
 pub returns-in-Err : goal.returns-in-Err
 returns-in-Err c =

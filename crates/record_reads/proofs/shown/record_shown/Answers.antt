@@ -1,4 +1,4 @@
-use Rattle.std.proofs.Common.{◌≡◌, Some, sym, subst}
+use Rattle.std.proofs.Common.{◌≡◌, Some, sym, subst, ℕ}
 use Rattle.logical_model.specs.Bases.{FileSpec}
 use Rattle.library_steps.specs.LogicalFiles.{bases_of}
 use Rattle.library_steps.specs.Records.{live_record}
@@ -20,9 +20,10 @@ shown_by-requires c =
     let live = rw c.member.ensures at c.image_there-image.ensures.live in
     let long = rw c.member.ensures at c.image_there-image.ensures.long in
     let reads = c.requires.member in
-    subst (λ (spec : FileSpec). ShowsImage spec image) (sym c.described.ensures.spec)
-    (shows-image s file opened image reads c.jobs_begun-jobs.ensures.lawful c.requires.simple c.requires.view
-    (record-there s (fields_of reads.owner) opened.member c.args.rrn image reads.has.there live long c.image_there-image.ensures.bytes))
+    subst (λ (n : ℕ). ShowsImage (spec_in c.described.result.now) n image) (sym c.format.ensures)
+    (subst (λ (spec : FileSpec). ShowsImage spec opened.format image) (sym c.described.ensures.spec)
+    (shows-image s file opened image reads c.jobs_begun-jobs.ensures.lawful c.requires.unjoined c.requires.view
+    (record-there s (fields_of reads.owner) opened.member c.args.rrn image reads.has.there live long c.image_there-image.ensures.bytes)))
 
 pub returns : goal.returns
 returns c =
@@ -30,4 +31,4 @@ returns c =
     let opened = c.args.opened.now.state in
     let live : live_record opened.member c.args.rrn m ≡ Some c.image_there-image.result.now = rw c.member.ensures at c.image_there-image.ensures.live in
     shown-as c.shown_by.result m c.args.file.now opened c.args.rrn (spec_in c.described.result.now) c.image_there-image.result.now c.described.ensures.spec live
-    (c.shown_by.ensures (bases_of m) m.members opened.format)
+    (let shown = c.shown_by.ensures (bases_of m) m.members in rw c.format.ensures at shown)

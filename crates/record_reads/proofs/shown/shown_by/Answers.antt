@@ -10,18 +10,18 @@ use Rattle.record_reads.specs.Shown.{ShowsImage}
 use Rattle.record_reads.proofs.shown.shown_by.Goals as goal
 
 pub shown_physical-requires : goal.shown_physical-requires
-shown_physical-requires c = subst (λ (body : FileBody). ShowsImage (spec_in body) c.args.image.now) c.in-Physical.is c.requires
+shown_physical-requires c = subst (λ (body : FileBody). ShowsImage (spec_in body) c.args.number c.args.image.now) c.in-Physical.is c.requires
 
 pub shown_logical-requires : goal.shown_logical-requires
 shown_logical-requires c =
-    subst (λ (spec : LogicalSpec). ShowsImage (LogicalFile spec) c.args.image.now) (sym c.spec.ensures)
-    (subst (λ (body : FileBody). ShowsImage (spec_in body) c.args.image.now) c.in-Logical.is c.requires)
+    subst (λ (spec : LogicalSpec). ShowsImage (LogicalFile spec) c.args.number c.args.image.now) (sym c.spec.ensures)
+    (subst (λ (body : FileBody). ShowsImage (spec_in body) c.args.number c.args.image.now) c.in-Logical.is c.requires)
 
 pub returns-in-Physical : goal.returns-in-Physical
-returns-in-Physical c = λ bases members number. rw c.in-Physical.is c.shown_physical.ensures
+returns-in-Physical c = λ bases members. rw c.in-Physical.is c.shown_physical.ensures
 
 pub returns-in-Logical : goal.returns-in-Logical
-returns-in-Logical c = λ bases members number.
+returns-in-Logical c = λ bases members.
     rw c.in-Logical.is
-    (subst (λ (spec : LogicalSpec). IfOk c.shown_logical.result (λ (shown : RecordRead). shown ≡ read_as c.args.rrn (shown_in bases members (LogicalFile spec) number c.args.image.now None)))
-    c.spec.ensures (c.shown_logical.ensures bases members number))
+    (subst (λ (spec : LogicalSpec). IfOk c.shown_logical.result (λ (shown : RecordRead). shown ≡ read_as c.args.rrn (shown_in bases members (LogicalFile spec) c.args.number c.args.image.now None)))
+    c.spec.ensures (c.shown_logical.ensures bases members))

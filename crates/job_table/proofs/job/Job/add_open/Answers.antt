@@ -16,10 +16,10 @@ invariant_of-self c = (
 pub returns-clause-added : goal.returns-clause-added
 returns-clause-added c =
     ap (λ opens. kept_job c.self.inside.name c.self.inside.ended c.self.inside.level c.self.inside.cycle opens (c.self.inside.opened + 1)) c.add.ensures
-    ∙ job-added c.self.inside.name c.self.inside.ended c.self.inside.level c.self.inside.cycle c.self.inside.opens c.self.inside.opened c.args.args.now (c.args.member ∷ [])
+    ∙ job-added c.self.inside.name c.self.inside.ended c.self.inside.level c.self.inside.cycle c.self.inside.opens c.self.inside.opened c.args.args.now c.args.members
     (order_by (c.self.inside.opened + 1) c.args.reads) c.new.result c.new.ensures.state c.new.ensures.order
     ∙ ap (λ (j : RoomyJob). record j {
-      state = with_open c.args.args.now (c.args.member ∷ []) j.state;
+      state = with_open c.args.args.now c.args.members j.state;
       orders = j.orders ++ (c.args.args.now.open_id, order_by (j.state.opened + 1) c.args.reads) ∷ [];
     }) c.self.view_is
 

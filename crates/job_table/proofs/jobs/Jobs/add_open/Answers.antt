@@ -1,4 +1,4 @@
-use Rattle.std.proofs.Common.{[], ◌∷◌, ◌-◌, refl, ap}
+use Rattle.std.proofs.Common.{◌-◌, refl, ap}
 use Rattle.std.proofs.lemmas.List.Elements.{All-set}
 use Rattle.library_steps.specs.Opens.{with_open}
 use Rattle.job_table.specs.Opens.{order_by}
@@ -19,11 +19,11 @@ add_open-requires-clause-numbered c =
 pub invariant_of-self : goal.invariant_of-self
 invariant_of-self c = (
   counted_kept c.self.inside.jobs.items c.args.self.now c.args.number c.index_mut-job.result.now c.add_open.new.self c.self.view_is c.requires.running c.index_mut-job.ensures.value
-      (with_open c.args.args.now (c.args.member ∷ [])) _ _ (ap (λ j. j.state) c.add_open.ensures.added) refl c.self.invariant.0,
+      (with_open c.args.args.now c.args.members) _ _ (ap (λ j. j.state) c.add_open.ensures.added) refl c.self.invariant.0,
   All-set IsWhole c.self.inside.jobs.items (c.args.number - 1) c.add_open.new.self c.add_open.ensures.whole c.self.invariant.1,
 )
 
 pub returns : goal.returns
 returns c =
     opened_table c.self.inside.jobs.items c.args.self.now c.args.number c.index_mut-job.result.now c.add_open.new.self c.self.view_is c.requires.running c.index_mut-job.ensures.value
-    (with_open c.args.args.now (c.args.member ∷ [])) (λ number. (c.args.args.now.open_id, order_by number c.args.reads)) c.add_open.ensures.added
+    (with_open c.args.args.now c.args.members) (λ number. (c.args.args.now.open_id, order_by number c.args.reads)) c.add_open.ensures.added

@@ -25,7 +25,7 @@ attach_own_path-requires-clause-kept c =
     let parts = c.self.inside in
     let state = state_of parts.catalogue parts.members parts.next_member parts.journal parts.locks parts.jobs in
     let new = rw (← c.self.view_is) at c.requires.new in
-    let its = described-over (memory_of state) c.args.view.source c.args.view.spec c.len-len.ensures.keyed new.simple new.described in
+    let its = described-over (memory_of state) c.args.view.source c.args.view.spec c.len-len.ensures.keyed new.unjoined new.described in
     let path : c.in_ok-path.path ≡ own_path (bases_in parts.catalogue.files) c.args.view.spec =
     (rw (← c.self.view_is) at c.in_ok-path.ensures) ∙ ap (own_path (bases_in parts.catalogue.files)) c.spec.ensures in
     subst (λ (p : PathSpec). CanBeKept p parts.members.members) (sym path)
@@ -38,7 +38,7 @@ attach_own_path-requires-clause-tells c =
     let parts = c.self.inside in
     let state = state_of parts.catalogue parts.members parts.next_member parts.journal parts.locks parts.jobs in
     let new = rw (← c.self.view_is) at c.requires.new in
-    let its = described-over (memory_of state) c.args.view.source c.args.view.spec c.len-len.ensures.keyed new.simple new.described in
+    let its = described-over (memory_of state) c.args.view.source c.args.view.spec c.len-len.ensures.keyed new.unjoined new.described in
     let path : c.in_ok-path.path ≡ own_path (bases_in parts.catalogue.files) c.args.view.spec =
     (rw (← c.self.view_is) at c.in_ok-path.ensures) ∙ ap (own_path (bases_in parts.catalogue.files)) c.spec.ensures in
     subst (λ (p : PathSpec). TellsRepeated p parts.members.members) (sym path)
@@ -57,7 +57,7 @@ returns-in_err-attach_own_path-clause-apart c =
     let path : c.in_ok-path.path ≡ own_path (bases_in parts.catalogue.files) c.args.view.spec =
     (rw (← c.self.view_is) at c.in_ok-path.ensures) ∙ ap (own_path (bases_in parts.catalogue.files)) c.spec.ensures in
     let repeated : first_repeated (logical_paths (bases_of (memory_of state)) c.args.view.spec) (memory_of state) ≡ repeated_in c.in_ok-path.path parts.members.members =
-    view-repeated (memory_of state) c.args.view.spec new.simple ∙ ap (λ (p : PathSpec). repeated_in p parts.members.members) (sym path) in
+    view-repeated (memory_of state) c.args.view.spec new.unjoined ∙ ap (λ (p : PathSpec). repeated_in p parts.members.members) (sym path) in
     let p = err_from_is_err_and c.from_residual-in_err-attach_own_path.result c.from_residual-in_err-attach_own_path.ensures.1 in
     let same : c.from_residual-in_err-attach_own_path.result ≡ c.attach_own_path.result = let first = p.1 in let told = p.2 in let was = c.in_err-attach_own_path.was in cc in
     rw (← c.self.view_is)
@@ -69,7 +69,7 @@ invariant_of-self-2 c =
     let parts = c.self.inside in
     let state = state_of parts.catalogue parts.members parts.next_member parts.journal parts.locks parts.jobs in
     let new = rw (← c.self.view_is) at c.requires.new in
-    let its = described-over (memory_of state) c.args.view.source c.args.view.spec c.len-len.ensures.keyed new.simple new.described in
+    let its = described-over (memory_of state) c.args.view.source c.args.view.spec c.len-len.ensures.keyed new.unjoined new.described in
     let path : c.in_ok-path.path ≡ own_path (bases_in parts.catalogue.files) c.args.view.spec =
     (rw (← c.self.view_is) at c.in_ok-path.ensures) ∙ ap (own_path (bases_in parts.catalogue.files)) c.spec.ensures in
     let attached = subst (λ (p : PathSpec). IsAttached p parts.members.members parts.paths c.attach_own_path.new.paths) path c.in_ok-attach_own_path.ensures.attached in

@@ -1,13 +1,30 @@
-use Rattle.std.proofs.Common.{◌∙◌, ℕ, List, sym, ap}
+use Rattle.std.proofs.Common.{◌≡◌, ◌∙◌, ◌≤◌, ◌+◌, ◌-◌, ℕ, suc, List, ◌∷◌, length, ap, sym, arith}
+use Rattle.logical_model.specs.Bases.{base_members, base_names}
+use Rattle.job_table.specs.Users.{first_changer}
+use Rattle.library_steps.specs.Checkpoint.{lesser}
+use Rattle.library_steps.specs.LogicalFiles.{bases_of}
 use Rattle.library_steps.specs.State.{memory_of}
 use Rattle.library_steps.specs.Uses.{changer_of_any}
-use Rattle.library_parts.specs.Parts.{state_of}
+use Rattle.library_parts.proofs.UnderLemmas.{all-dropped, least-more}
 use Rattle.library_parts.proofs.contents.Contents.changer_under.Goals as goal
 
-pub returns : goal.returns
-returns c =
-    let parts = c.self.inside in
-    let memory = memory_of (state_of parts.catalogue parts.members parts.next_member parts.journal parts.locks parts.jobs) in
-    let under = rw (← c.self.view_is) at c.member_under-member.ensures in
-    rw (← c.self.view_is, c.first_changer.ensures)
-    (sym (ap (λ (members : List ℕ). changer_of_any members memory) under ∙ c.view_users_are_joined.ensures.changer c.member_under-member.result memory))
+pub loop-left-init : goal.loop-left-init
+loop-left-init c =
+    let m = memory_of c.args.self.now.state in
+    let past : length (base_names c.args.view.now) ≤ c.base_count-left.result = omega (arith, c.base_count-left.ensures) in
+    record {
+      within = omega (arith, c.base_count-left.ensures);
+      least = sym (ap (λ (members : List ℕ). changer_of_any members m) (all-dropped (bases_of m) c.args.view.now c.base_count-left.result past) ∙ c.view_users_are_joined.ensures.none m);
+    }
+
+pub loop-left-preserved : goal.loop-left-preserved
+loop-left-preserved c =
+    let m = memory_of c.args.self.now.state in
+    let all = base_members (bases_of m) c.args.view.now in
+    let next : c.loop-left.left ≡ suc (c.loop-left.left - 1) = omega arith in
+    record {
+      within = omega (arith, c.loop-left.invariant.within);
+      least = least-more (λ (members : List ℕ). changer_of_any members m) lesser (λ (number : ℕ). first_changer number m.jobs) all (c.loop-left.left - 1) c.loop-left.left c.base_at-member.result
+          c.changer_of.result c.loop-left.least _ (λ (first : ℕ) (more : List ℕ). c.view_users_are_joined.ensures.changer first more m) next c.base_at-member.ensures c.changer_of.ensures c.loop-left.invariant.least
+          c.lesser-least.ensures;
+    }

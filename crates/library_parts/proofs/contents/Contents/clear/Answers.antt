@@ -1,18 +1,20 @@
 use Rattle.std.proofs.Common.{◌≡◌, ◌≤◌, arith}
 use Rattle.member_slots.specs.Member.{cleared}
 use Rattle.member_slots.specs.Members.{member_of, with_member}
+use Rattle.job_table.specs.Table.{changes_held}
 use Rattle.library_steps.specs.Ranges.{library_bytes}
 use Rattle.lawful_states.specs.Slots.{weight}
 use Rattle.lawful_states.proofs.MemberLemmas.{HasRecords-cleared, weight-cleared}
 use Rattle.path_set.proofs.RebuildLemmas.{rebuilt-ties}
-use Rattle.library_parts.proofs.IndexRebuilt.{IsIndexed-rebuilt, unused-changes, bytes-cleared}
+use Rattle.library_parts.proofs.IndexMoves.{changes-held}
+use Rattle.library_parts.proofs.IndexRebuilt.{IsIndexed-rebuilt, bytes-cleared}
 use Rattle.lawful_states.proofs.LawfulLemmas.{AreOne-slots}
 use Rattle.library_parts.proofs.contents.Contents.clear.Goals as goal
 
 pub rebuild-requires : goal.rebuild-requires
 rebuild-requires c =
     let members = c.self.inside.members.members in
-    rebuilt-ties c.args.member 0 (with_member c.args.member (cleared (member_of c.args.member members)) members) c.self.inside.paths.paths c.args.paths c.kept-kept.ensures.shared
+    rebuilt-ties c.args.member (changes_held c.self.inside.jobs.jobs) (with_member c.args.member (cleared (member_of c.args.member members)) members) c.self.inside.paths.paths c.args.paths c.kept-kept.ensures.shared
     (rw (← c.self.view_is) at c.requires.paths)
 
 pub invariant_of-self : goal.invariant_of-self
@@ -27,7 +29,7 @@ invariant_of-self c =
       AreOne-slots _ _ _ c.args.member cleared c.self.invariant.0 (rw (← c.self.view_is) at c.requires.there) (λ fields m has. HasRecords-cleared fields m has) (omega (arith, none)) (omega
           (arith, weighs, few, counted, none)) (rw (← c.self.view_is) at c.requires.unused),
       c.self.invariant.1,
-      IsIndexed-rebuilt _ members c.self.inside.jobs.jobs _ _ c.self.inside.paths c.rebuild.new.self c.args.member 0 (cleared member) c.args.paths c.kept-kept.ensures.shared
+      IsIndexed-rebuilt _ members c.self.inside.jobs.jobs _ _ c.self.inside.paths c.rebuild.new.self c.args.member (changes_held c.self.inside.jobs.jobs) (cleared member) c.args.paths c.kept-kept.ensures.shared
           c.kept-kept.ensures.rooms c.rebuild.ensures.put (rw (← c.self.view_is) at c.requires.paths) (bytes-cleared member)
-          (let none = unused-changes c.args.member c.self.inside.locks.held c.self.inside.jobs.jobs (rw (← c.self.view_is) at c.requires.unused) in omega (arith, none)) c.self.invariant.2,
+          (λ spec. changes-held spec c.self.inside.jobs.jobs) c.self.invariant.2,
     )

@@ -18,7 +18,7 @@ is_refused_in-requires-clause-path c =
     let new = c.args.new in
     let next = next-there new.member paths (IsFreeAt (memory_of s) paths new.job new.commit new.member new.rrn new.image.now) c.loop-path.path c.in-Some.id c.requires.asked.shared
     c.loop-path.invariant c.in-Some.is in
-    let one = c.requires.asked.one c.in-Some.id next.path next.at next.over in
+    let one = c.requires.asked.one c.in-Some.id next.path next.at next.unique next.over in
     (one.0, one.1, asked-there c.in-Some.id new.member new.image.now one.0 paths c.requires.asked.new one.1)
 
 pub loop-path-preserved : goal.loop-path-preserved

@@ -1,11 +1,12 @@
 use Rattle.std.proofs.Common.{Bool, List, true, false, sym, subst}
 use Rattle.key_spec.specs.declared.KeyPart.{KeyPart}
+use Rattle.logical_model.specs.Readings.{has_numbers}
 use Rattle.file_model.specs.KeyOrder.{merged_parts}
 use Rattle.library_steps.specs.LogicalFiles.{bases_in}
 use Rattle.library_steps.specs.Records.{is_keyed}
 use Rattle.library_steps.specs.Refusals.{OpenedFile}
 use Rattle.library_parts.specs.Indexed.{path_read}
-use Rattle.library_parts.specs.Reads.{MayHaveKey, ReadsSo}
+use Rattle.library_parts.specs.Reads.{MayHaveKey, ReadsSo, TakesNumbers}
 use Rattle.library_parts.proofs.PlaceLemmas.{stands-high, stands-key, stands-low, stands-number}
 use Rattle.library_parts.proofs.ReadLemmas.{formats-by, order-keyed}
 use Rattle.library_parts.proofs.contents.Contents.may_stand.Goals as goal
@@ -17,11 +18,11 @@ returns-in-Key c =
     let paths = c.args.self.now.room.paths.paths in
     let its : OpenedFile = record { opened = opened.state; file = file } in
     let bases = bases_in c.args.self.now.state.files in
-    let keyed = order-keyed bases paths file opened.state opened.order c.requires.simple c.requires.so c.requires.by in
+    let keyed = order-keyed bases paths file opened.state opened.order c.requires.unjoined c.requires.so c.requires.by in
     let formats = formats-by paths (path_read bases file opened.state) opened.order c.requires.by in
     let may = rw c.as_slice.ensures at c.may_have_key.ensures in
     rw c.in-Key.is
-    (stands-key bases its c.in-Key.values c.may_have_key.result c.requires.simple c.requires.so
+    (stands-key bases its c.in-Key.values c.may_have_key.result c.requires.unjoined c.requires.so
     (subst (λ (fs : List (List KeyPart)). MayHaveKey (is_keyed file opened.state) (merged_parts fs) c.in-Key.values c.may_have_key.result) (sym formats)
     (subst (λ (b : Bool). MayHaveKey b (merged_parts opened.order.formats) c.in-Key.values c.may_have_key.result) keyed may)))
 
@@ -32,7 +33,7 @@ returns-in-LowValue c =
     let paths = c.args.self.now.room.paths.paths in
     let its : OpenedFile = record { opened = opened.state; file = file } in
     let bases = bases_in c.args.self.now.state.files in
-    let keyed = order-keyed bases paths file opened.state opened.order c.requires.simple c.requires.so c.requires.by in
+    let keyed = order-keyed bases paths file opened.state opened.order c.requires.unjoined c.requires.so c.requires.by in
     rw c.in-LowValue.is (stands-low its c.reads_so.result (subst (λ (b : Bool). ReadsSo b true c.reads_so.result) keyed c.reads_so.ensures))
 
 pub returns-in-HighValue : goal.returns-in-HighValue
@@ -42,7 +43,7 @@ returns-in-HighValue c =
     let paths = c.args.self.now.room.paths.paths in
     let its : OpenedFile = record { opened = opened.state; file = file } in
     let bases = bases_in c.args.self.now.state.files in
-    let keyed = order-keyed bases paths file opened.state opened.order c.requires.simple c.requires.so c.requires.by in
+    let keyed = order-keyed bases paths file opened.state opened.order c.requires.unjoined c.requires.so c.requires.by in
     rw c.in-HighValue.is (stands-high its c.reads_so-in-HighValue.result (subst (λ (b : Bool). ReadsSo b true c.reads_so-in-HighValue.result) keyed c.reads_so-in-HighValue.ensures))
 
 pub returns-in-RecordNumber : goal.returns-in-RecordNumber
@@ -52,6 +53,6 @@ returns-in-RecordNumber c =
     let paths = c.args.self.now.room.paths.paths in
     let its : OpenedFile = record { opened = opened.state; file = file } in
     let bases = bases_in c.args.self.now.state.files in
-    let keyed = order-keyed bases paths file opened.state opened.order c.requires.simple c.requires.so c.requires.by in
+    let keyed = order-keyed bases paths file opened.state opened.order c.requires.unjoined c.requires.so c.requires.by in
     rw c.in-RecordNumber.is
-    (stands-number its _ c.reads_so-in-RecordNumber.result c.requires.simple (subst (λ (b : Bool). ReadsSo b false c.reads_so-in-RecordNumber.result) keyed c.reads_so-in-RecordNumber.ensures))
+    (stands-number its _ c.takes_numbers.result (subst (λ (b : Bool). TakesNumbers b (has_numbers file.spec) c.takes_numbers.result) keyed c.takes_numbers.ensures))

@@ -15,12 +15,12 @@ use Rattle.library_steps.specs.State.{memory_of}
 use Rattle.library_parts.specs.Parts.{state_of}
 use Rattle.library_parts.specs.Reads.{IsLookedIn, ReadsAmong, formats_read, found_by, has_positions}
 use Rattle.library_parts.proofs.DueLemmas.{HasDue-kept}
-use Rattle.library_parts.proofs.FindLemmas.{OpenHolds-first_read}
+use Rattle.library_parts.proofs.KeepReads.{keeps-read}
 use Rattle.library_parts.proofs.IndexOpens.{IsIndexed-has_read}
-use Rattle.lawful_states.proofs.LawfulLemmas.{AreOne-open_changed}
+use Rattle.lawful_states.proofs.LawfulLemmas.{AreOne-open_at}
 use Rattle.library_parts.proofs.NoteLemmas.{same-open}
 use Rattle.library_parts.proofs.PlaceLemmas.{found-same, of-number}
-use Rattle.library_parts.proofs.ReadLemmas.{mapped-some, noted, one-format}
+use Rattle.library_parts.proofs.ReadLemmas.{mapped-some, noted}
 use Rattle.library_parts.proofs.contents.Contents.note_read.Goals as goal
 
 pub found_open-its-requires-clause-named : goal.found_open-its-requires-clause-named
@@ -119,9 +119,8 @@ note_read-requires-clause-entry c =
     let bytes = subst (λ (o : KeptOpen). IfSome c.hit_of.result (λ hit. IsEntryIn o.order.formats (entry_of hit))) one c.hit_of.ensures.bytes in
     let entry = c.requires.found.found.0 in
     let found = subst (λ (o : OpenedFile). found_by by o.file o.opened m ≡ Some entry) same (rw (← c.self.view_is) at c.requires.found.found.1) in
-    let single = one-format _ _ _ kept.order.formats _ reading among in
     let wanted = subst (λ (fs : List (List KeyPart)). asked_of by (merged_parts fs) reading kept.state.position ≡ Some entry) formats found in
-    let its_entry = noted kept.order.formats c.hit_of.result c.unwrap-hit.result _ entry c.unwrap-hit.ensures shown wanted single bytes in
+    let its_entry = noted kept.order.formats c.hit_of.result c.unwrap-hit.result _ entry c.unwrap-hit.ensures shown wanted bytes in
     let alone = rw (← c.self.view_is) at c.found_open-its.ensures.alone in
     let number = c.number-number.ensures in
     let numbered = subst (λ (n : ℕ). AllOfNumber n (λ order. order ≡ kept.order) (orders_at c.args.job inside.jobs)) (sym number) alone in
@@ -150,16 +149,16 @@ invariant_of-self c =
     let bytes = subst (λ (o : KeptOpen). IfSome c.hit_of.result (λ hit. IsEntryIn o.order.formats (entry_of hit))) one c.hit_of.ensures.bytes in
     let entry = c.requires.found.found.0 in
     let found = subst (λ (o : OpenedFile). found_by by o.file o.opened m ≡ Some entry) same (rw (← c.self.view_is) at c.requires.found.found.1) in
-    let single = one-format _ _ _ kept.order.formats _ reading among in
     let wanted = subst (λ (fs : List (List KeyPart)). asked_of by (merged_parts fs) reading kept.state.position ≡ Some entry) formats found in
-    let its_entry = noted kept.order.formats c.hit_of.result c.unwrap-hit.result _ entry c.unwrap-hit.ensures shown wanted single bytes in
+    let its_entry = noted kept.order.formats c.hit_of.result c.unwrap-hit.result _ entry c.unwrap-hit.ensures shown wanted bytes in
     let alone = rw (← c.self.view_is) at c.found_open-its.ensures.alone in
     let number = c.number-number.ensures in
     let numbered = subst (λ (n : ℕ). AllOfNumber n (λ order. order ≡ kept.order) (orders_at c.args.job inside.jobs)) (sym number) alone in
     let all = of-number c.number-number.result kept.order (λ (order : OpenOrder). entry_hit (merged_parts order.formats) c.unwrap-hit.result ≡ entry) (orders_at c.args.job inside.jobs) numbered its_entry.is in
     rw (c.note_read.ensures entry all) (
-      AreOne-open_changed _ _ _ c.number-number.result (has_read c.args.call (entry_found entry)) c.self.invariant.0
-          (λ opened holds. OpenHolds-first_read _ c.args.call entry opened its_entry.format holds),
+      AreOne-open_at _ _ _ c.number-number.result (has_read c.args.call (entry_found entry)) c.self.invariant.0
+          (keeps-read inside.catalogue.files c.self.invariant.2.views inside.paths.paths c.number-number.result kept.order c.args.call entry its_entry.format _ inside.jobs.jobs inside.jobs.orders
+          c.len-jobs.ensures.ordered c.self.invariant.2.orders numbered),
       HasDue-kept _ _ _ _ _ (λ job. refl) c.self.invariant.1,
       IsIndexed-has_read _ _ _ _ _ _ _ c.number-number.result c.args.call entry c.self.invariant.2,
     )
@@ -186,9 +185,8 @@ returns-clause-memory c = λ other entry is asks.
     let bytes = subst (λ (o : KeptOpen). IfSome c.hit_of.result (λ hit. IsEntryIn o.order.formats (entry_of hit))) one c.hit_of.ensures.bytes in
     let also : other ≡ its = found-same _ other its is c.found_open-its.ensures.found in
     let found = subst (λ (o : OpenedFile). found_by by o.file o.opened m ≡ Some entry) also (rw (← c.self.view_is) at asks) in
-    let single = one-format _ _ _ kept.order.formats _ reading among in
     let wanted = subst (λ (fs : List (List KeyPart)). asked_of by (merged_parts fs) reading kept.state.position ≡ Some entry) formats found in
-    let its_entry = noted kept.order.formats c.hit_of.result c.unwrap-hit.result _ entry c.unwrap-hit.ensures shown wanted single bytes in
+    let its_entry = noted kept.order.formats c.hit_of.result c.unwrap-hit.result _ entry c.unwrap-hit.ensures shown wanted bytes in
     let alone = rw (← c.self.view_is) at c.found_open-its.ensures.alone in
     let number = c.number-number.ensures in
     let numbered = subst (λ (n : ℕ). AllOfNumber n (λ order. order ≡ kept.order) (orders_at c.args.job inside.jobs)) (sym number) alone in
@@ -218,9 +216,8 @@ returns-clause-room c =
     let bytes = subst (λ (o : KeptOpen). IfSome c.hit_of.result (λ hit. IsEntryIn o.order.formats (entry_of hit))) one c.hit_of.ensures.bytes in
     let entry = c.requires.found.found.0 in
     let found = subst (λ (o : OpenedFile). found_by by o.file o.opened m ≡ Some entry) same (rw (← c.self.view_is) at c.requires.found.found.1) in
-    let single = one-format _ _ _ kept.order.formats _ reading among in
     let wanted = subst (λ (fs : List (List KeyPart)). asked_of by (merged_parts fs) reading kept.state.position ≡ Some entry) formats found in
-    let its_entry = noted kept.order.formats c.hit_of.result c.unwrap-hit.result _ entry c.unwrap-hit.ensures shown wanted single bytes in
+    let its_entry = noted kept.order.formats c.hit_of.result c.unwrap-hit.result _ entry c.unwrap-hit.ensures shown wanted bytes in
     let alone = rw (← c.self.view_is) at c.found_open-its.ensures.alone in
     let number = c.number-number.ensures in
     let numbered = subst (λ (n : ℕ). AllOfNumber n (λ order. order ≡ kept.order) (orders_at c.args.job inside.jobs)) (sym number) alone in

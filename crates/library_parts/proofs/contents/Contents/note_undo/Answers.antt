@@ -4,7 +4,7 @@ use Rattle.library_steps.specs.SlotChange.{noted, with_cycle}
 use Rattle.lawful_states.specs.Jobs.{cycle_from}
 use Rattle.lawful_states.specs.Lawful.{GoesBack}
 use Rattle.library_parts.proofs.IndexChanges.{IsIndexed-noted}
-use Rattle.library_parts.proofs.IndexMoves.{room-held}
+use Rattle.library_parts.proofs.IndexMoves.{spares-held}
 use Rattle.lawful_states.proofs.LawfulLemmas.{AreOne-noted}
 use Rattle.lawful_states.proofs.BackLemmas.{CycleGoesBack-noted, CycleGoesBack-of}
 use Rattle.library_parts.proofs.DueLemmas.{HasDue-changed, few-noted, noted-due, some-mapped}
@@ -32,7 +32,7 @@ invariant_of-self c =
       HasDue-changed inside.jobs.jobs inside.due inside.journal.room _ _ c.args.job (with_cycle (noted c.args.undo.change (cycle_from sequence job.cycle))) running c.self.invariant.1
           (omega (arith, more, after)) (omega (arith, room, more, few)) (omega (arith, room, more, few, most)),
       IsIndexed-noted files members inside.jobs.jobs inside.jobs.orders inside.jobs.moves inside.paths c.args.job sequence c.args.undo.change c.args.undo.moves running
-          (rw (← c.self.view_is) at c.requires.moves) (room-held c.args.undo.change.member 1 inside.jobs.jobs inside.paths (rw (← c.self.view_is) at c.requires.moves_room)) c.self.invariant.2,
+          (rw (← c.self.view_is) at c.requires.moves) (spares-held c.args.undo.change.member 1 inside.jobs.jobs inside.paths (rw (← c.self.view_is) at c.requires.moves_room) c.self.invariant.2.room) c.self.invariant.2,
     )
 
 pub returns-clause-left : goal.returns-clause-left

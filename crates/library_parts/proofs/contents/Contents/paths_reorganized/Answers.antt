@@ -1,6 +1,7 @@
-use Rattle.std.proofs.Common.{◌≡◌, ◌∙◌, IfOk, sym, ap, subst}
+use Rattle.std.proofs.Common.{◌+◌, ℕ, arith, ◌≡◌, ◌∙◌, IfOk, sym, ap, subst}
 use Rattle.member_slots.specs.Member.{MemberState, reorganized}
 use Rattle.member_slots.specs.Members.{member_of, with_member}
+use Rattle.job_table.specs.Table.{changes_held}
 use Rattle.path_set.specs.MemberSteps.{paths_over}
 use Rattle.path_set.specs.RebuiltPaths.{AreRebuilt, CanBeRebuilt}
 use Rattle.library_parts.specs.Parts.{state_of}
@@ -22,6 +23,8 @@ returns c =
     let parts = c.self.inside in
     let found = found-member c.args.member parts.members.members _ c.at.result c.unwrap.result c.at.ensures.found c.unwrap.ensures in
     let same : c.in_ok-compact.compact.state ≡ reorganized (member_of c.args.member parts.members.members) = c.in_ok-compact.ensures ∙ ap reorganized found in
+    let all : c.in-Some.held ≡ changes_held parts.jobs.jobs = (let e = c.in-Some.ensures ∙ ap (λ (n : ℕ). n + 0) c.changes_held.ensures in omega (arith, e)) in
     rw (← c.self.view_is)
-    (subst (λ (m : MemberState). IfOk c.prepare_rebuild.result (AreRebuilt (with_member c.args.member m parts.members.members) 0 (paths_over c.args.member parts.paths.paths))) same
-    c.prepare_rebuild.ensures)
+    (subst (λ (n : ℕ). IfOk c.prepare_rebuild.result (AreRebuilt (with_member c.args.member (reorganized (member_of c.args.member parts.members.members)) parts.members.members) n (paths_over c.args.member parts.paths.paths))) all
+    (subst (λ (m : MemberState). IfOk c.prepare_rebuild.result (AreRebuilt (with_member c.args.member m parts.members.members) c.in-Some.held (paths_over c.args.member parts.paths.paths))) same
+    c.prepare_rebuild.ensures))

@@ -1,17 +1,11 @@
-use Rattle.std.proofs.Common.{subst}
-use Rattle.logical_paths.specs.KeyedViews.{IsKeyedLogical}
-use Rattle.logical_paths.proofs.ViewLemmas.{view-allowed, view-few}
+use Rattle.std.proofs.Common.{map, sym, subst}
+use Rattle.file_model.specs.declared.paths.PathSpec.{PathSpec}
 use Rattle.library_steps.specs.LogicalFiles.{bases_in}
+use Rattle.open_position.specs.OpenStand.{AreFormatKeys}
+use Rattle.library_parts.proofs.FormatKeys.{view-keys}
 use Rattle.library_parts.proofs.contents.Contents.reads_view.Goals as goal
 
-pub reads_by_path-requires-clause-few : goal.reads_by_path-requires-clause-few
-reads_by_path-requires-clause-few c =
-    let bases = bases_in c.args.self.now.state.files in
-    let view = c.in-Simple.view in
-    view-few (bases view.base).fields view (subst (IsKeyedLogical bases) c.in-Simple.is c.requires.keyed)
-
-pub reads_by_path-requires-clause-allowed : goal.reads_by_path-requires-clause-allowed
-reads_by_path-requires-clause-allowed c =
-    let bases = bases_in c.args.self.now.state.files in
-    let view = c.in-Simple.view in
-    view-allowed (bases view.base).fields view (subst (IsKeyedLogical bases) c.in-Simple.is c.requires.keyed)
+pub reads_by_path-requires : goal.reads_by_path-requires
+reads_by_path-requires c =
+    subst (λ (path : PathSpec). AreFormatKeys (map (λ format. format.key) path.formats)) (sym c.in_ok-path.ensures)
+    (view-keys (bases_in c.args.self.now.state.files) c.args.spec.now c.requires)

@@ -1,11 +1,13 @@
 use Rattle.std.proofs.Common.{◌≡◌, ◌∙◌, ◌≤◌, ap, arith}
 use Rattle.member_slots.specs.Member.{reorganized}
 use Rattle.member_slots.specs.Members.{NumberedMembers, member_of, with_member}
+use Rattle.job_table.specs.Table.{changes_held}
 use Rattle.library_steps.specs.Ranges.{library_bytes}
 use Rattle.lawful_states.specs.Slots.{weight}
 use Rattle.lawful_states.proofs.MemberLemmas.{HasRecords-reorganized, weight-reorganized, member_of-with, is_some-IsSome}
 use Rattle.path_set.proofs.RebuildLemmas.{rebuilt-ties}
-use Rattle.library_parts.proofs.IndexRebuilt.{IsIndexed-rebuilt, unused-changes, bytes-reorganized}
+use Rattle.library_parts.proofs.IndexMoves.{changes-held}
+use Rattle.library_parts.proofs.IndexRebuilt.{IsIndexed-rebuilt, bytes-reorganized}
 use Rattle.library_parts.proofs.IndexRecords.{bytes-member}
 use Rattle.lawful_states.proofs.LawfulLemmas.{AreOne-slots}
 use Rattle.library_parts.proofs.contents.Contents.reorganize.Goals as goal
@@ -13,7 +15,7 @@ use Rattle.library_parts.proofs.contents.Contents.reorganize.Goals as goal
 pub rebuild-requires : goal.rebuild-requires
 rebuild-requires c =
     let members = c.self.inside.members.members in
-    rebuilt-ties c.args.member 0 (with_member c.args.member (reorganized (member_of c.args.member members)) members) c.self.inside.paths.paths c.args.paths c.kept-kept.ensures.shared
+    rebuilt-ties c.args.member (changes_held c.self.inside.jobs.jobs) (with_member c.args.member (reorganized (member_of c.args.member members)) members) c.self.inside.paths.paths c.args.paths c.kept-kept.ensures.shared
     (rw (← c.self.view_is) at c.requires.paths)
 
 pub invariant_of-self : goal.invariant_of-self
@@ -31,7 +33,7 @@ invariant_of-self c =
     rw c.reorganize.ensures.reorganized (
       AreOne-slots _ _ _ c.args.member reorganized c.self.invariant.0 there (λ fields m has. HasRecords-reorganized fields m has) fewer (omega (arith, weighs, few, counted, after)) (rw (← c.self.view_is) at c.requires.unused),
       c.self.invariant.1,
-      IsIndexed-rebuilt _ members c.self.inside.jobs.jobs _ _ c.self.inside.paths c.rebuild.new.self c.args.member 0 (reorganized member) c.args.paths c.kept-kept.ensures.shared
+      IsIndexed-rebuilt _ members c.self.inside.jobs.jobs _ _ c.self.inside.paths c.rebuild.new.self c.args.member (changes_held c.self.inside.jobs.jobs) (reorganized member) c.args.paths c.kept-kept.ensures.shared
           c.kept-kept.ensures.rooms c.rebuild.ensures.put (rw (← c.self.view_is) at c.requires.paths) (bytes-reorganized member (bytes-member c.args.member members c.self.invariant.2.bytes))
-          (let none = unused-changes c.args.member c.self.inside.locks.held c.self.inside.jobs.jobs (rw (← c.self.view_is) at c.requires.unused) in omega (arith, none)) c.self.invariant.2,
+          (λ spec. changes-held spec c.self.inside.jobs.jobs) c.self.invariant.2,
     )

@@ -14,20 +14,20 @@ found-requires-clause-can c = can-find c.args.self.now.formats c.args.by c.args.
 
 pub returns-clause-by_path : goal.returns-clause-by_path
 returns-clause-by_path c =
-    (finds c.self.inside.keys.parts c.self.inside.cursor c.self.inside.marks c.self.invariant c.args.over c.args.by c.found.result c.args.self.now c.self.view_is
+    (finds c.self.inside.formats.items c.self.inside.keys.parts c.self.inside.cursor c.self.inside.marks c.self.invariant c.args.over c.args.by c.found.result c.args.self.now c.self.view_is
     c.requires.order c.requires.asked c.requires.looked c.keys_are_read_back.ensures.values c.given_keys_are_read_back.ensures.values c.found.ensures).by_path
 
 pub returns-clause-by_number : goal.returns-clause-by_number
 returns-clause-by_number c =
-    (finds c.self.inside.keys.parts c.self.inside.cursor c.self.inside.marks c.self.invariant c.args.over c.args.by c.found.result c.args.self.now c.self.view_is
+    (finds c.self.inside.formats.items c.self.inside.keys.parts c.self.inside.cursor c.self.inside.marks c.self.invariant c.args.over c.args.by c.found.result c.args.self.now c.self.view_is
     c.requires.order c.requires.asked c.requires.looked c.keys_are_read_back.ensures.values c.given_keys_are_read_back.ensures.values c.found.ensures).by_number
 
 pub returns-clause-bytes : goal.returns-clause-bytes
 returns-clause-bytes c =
-    (finds c.self.inside.keys.parts c.self.inside.cursor c.self.inside.marks c.self.invariant c.args.over c.args.by c.found.result c.args.self.now c.self.view_is
+    (finds c.self.inside.formats.items c.self.inside.keys.parts c.self.inside.cursor c.self.inside.marks c.self.invariant c.args.over c.args.by c.found.result c.args.self.now c.self.view_is
     c.requires.order c.requires.asked c.requires.looked c.keys_are_read_back.ensures.values c.given_keys_are_read_back.ensures.values c.found.ensures).bytes
 
 pub returns-clause-bytes_by_number : goal.returns-clause-bytes_by_number
 returns-clause-bytes_by_number c =
-    (finds c.self.inside.keys.parts c.self.inside.cursor c.self.inside.marks c.self.invariant c.args.over c.args.by c.found.result c.args.self.now c.self.view_is
+    (finds c.self.inside.formats.items c.self.inside.keys.parts c.self.inside.cursor c.self.inside.marks c.self.invariant c.args.over c.args.by c.found.result c.args.self.now c.self.view_is
     c.requires.order c.requires.asked c.requires.looked c.keys_are_read_back.ensures.values c.given_keys_are_read_back.ensures.values c.found.ensures).bytes_by_number
