@@ -1,9 +1,9 @@
 -- Files by their places, the last one first.
-use Rattle.std.proofs.Common.{◌≡◌, ◌<◌, ◌≤◌, ℕ, ◌+◌, cond, if◌then◌else◌, Bool, true, false, Option, Some, None, List, [], ◌∷◌, ◌++◌, length, take, refl, sym, ◌∙◌, ap, arith, append_assoc}
+use Rattle.std.proofs.Common.{◌≡◌, ◌<◌, ◌≤◌, ℕ, ◌+◌, cond, if◌then◌else◌, Bool, true, false, Option, Some, None, List, [], ◌∷◌, ◌++◌, length, take, drop, refl, sym, ◌∙◌, ap, arith, append_assoc}
 use Rattle.std.specs.Prelude.{reverse, slice_get}
 use Rattle.std.specs.List.{cons_option, filter_map}
 use Rattle.std.specs.Option.{option_map}
-use Rattle.std.proofs.lemmas.List.{append-nil, reverse-append, take_all, take_more}
+use Rattle.std.proofs.lemmas.List.{append-nil, drop_all, drop_more, reverse-append, take_all, take_more}
 use Rattle.std.proofs.lemmas.List.Elements.{filter_map-append}
 use Rattle.std.proofs.lemmas.Option.{get_or_from_slice_get, slice_get_within}
 use Rattle.entry_codec.specs.declared.kinds.FileKind.{FileKind}
@@ -13,6 +13,7 @@ use Rattle.journal_model.specs.Catalogue.{CatalogFile}
 use Rattle.journal_replay.specs.Tests.{is_physical}
 use Rattle.library_model.specs.Named.{Named}
 use Rattle.library_steps.specs.State.{FileState}
+use Rattle.restart_model.specs.Sources.{described_behind}
 use Rattle.described_journals.specs.Files.{described_upon}
 use Rattle.described_journals.specs.Needed.{found, found_before, if_records, is_wanted, needed, with_source}
 use Rattle.described_journals.proofs.FileLemmas.{upon-append}
@@ -95,3 +96,17 @@ upon-popped files before places rest place is =
     ap (λ (ps : List ℕ). described_upon before (found files ps)) is
     ∙ ap (described_upon before) (filter_map-append (slice_get files) rest (place ∷ []))
     ∙ upon-append before (found files rest) (found files (place ∷ []))
+
+pub behind-next : (files : List CatalogFile) (place : ℕ) (now next all : Named FileState) → place < length files → next ≡ described_upon now (found files (place ∷ []))
+    → described_behind now (drop place files) ≡ all → described_behind next (drop (place + 1) files) ≡ all
+behind-next files place now next all below is so_far = by (slice_get files place) refl
+  where
+    by : (o : Option CatalogFile) → slice_get files place ≡ o → described_behind next (drop (place + 1) files) ≡ all
+    by None none = absurd (no-place files place below none)
+    by (Some file) there =
+        ap (λ (before : Named FileState). described_behind before (drop (place + 1) files)) (is ∙ ap (λ (o : Option CatalogFile). described_upon now (cons_option o [])) there)
+        ∙ ap (described_behind now) (sym (drop_more files place file below ∙ ap (λ (x : CatalogFile). x ∷ drop (place + 1) files) (get_or_from_slice_get files place file file there)))
+        ∙ so_far
+
+pub behind-end : (files : List CatalogFile) (place count : ℕ) (now all : Named FileState) → count ≡ length files → count ≤ place → described_behind now (drop place files) ≡ all → now ≡ all
+behind-end files place count now all long past so_far = ap (described_behind now) (sym (drop_all place files (omega (arith, long, past)))) ∙ so_far

@@ -1,6 +1,6 @@
 //! What a physical file's source describes beside the files of a journal. Of the others only those are described that it names, and that these name.
 ghost use Rattle.std.specs.Prelude.{◌≡◌, ℕ, ◌+◌, ◌<◌, List, [], ◌∷◌, Option, None, true, false, length, reverse, slice_get, take, IfOk, OnOk};
-ghost use Rattle.std.specs.List.{cons_option, list_any};
+ghost use Rattle.std.specs.List.{list_any};
 ghost use Rattle.std.specs.Option.{option_map};
 ghost use Rattle.dds_source.specs.Reading.{source_of};
 ghost use Rattle.dds_physical.specs.References.{refers_to};
@@ -13,7 +13,7 @@ ghost use Rattle.described_journals.specs.Files.{described_upon};
 ghost use Rattle.described_journals.specs.Needed.{found, found_before, is_wanted, needed, with_source};
 
 use crate::described::DescribedFiles;
-use crate::whole::described_files;
+use crate::whole::{add_at, described_files};
 use dds_physical::{PhysicalError, PhysicalSpec, physical, refers_to};
 use dds_source::{Source, SourceError, read_source};
 use entry_codec::FileKind;
@@ -91,20 +91,6 @@ fn described_at(
         add_at(alloc, files, place, &mut described)?;
     }
     Ok(described)
-}
-
-fn add_at(
-    alloc: Global,
-    files: &Files,
-    place: usize,
-    described: &mut DescribedFiles,
-) -> Result<(), AllocError>
-    ensures { OnOk result (described.new ≡ described_upon described.old (found files.now (place ∷ []))) }
-{
-    match files.at(place) {
-        None => Ok(()),
-        Some((name, file)) => described.add(alloc, name, file),
-    }
 }
 
 /// The places of the files that the source names, and of those that these name, the last one first. Nothing where one of them isn't physical.

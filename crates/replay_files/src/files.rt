@@ -1,10 +1,9 @@
 //! The files as the journal leaves them, in order of creation, found by their names.
-ghost use Rattle.std.specs.Prelude.{List, ℕ, ◌≡◌, [], ◌∷◌, ◌++◌, None, not, is_none, length, map, slice_get, IfOk, OnOk};
+ghost use Rattle.std.specs.Prelude.{◌≡◌, [], ◌∷◌, ◌++◌, None, length, not, is_none, slice_get, IfOk, OnOk};
 ghost use Rattle.std.specs.List.{filter, find, list_any};
-ghost use Rattle.std.specs.Map.Iter.{ShowsInOrder, deref_pair};
 ghost use Rattle.std.specs.Option.{is_some, option_copied, option_map};
 ghost use Rattle.journal_model.specs.Catalogue.{is_named, depends_on};
-ghost use Rattle.replay_files.specs.Files.{FileBody, catalog_file};
+ghost use Rattle.replay_files.specs.Files.{catalog_file, file_shown};
 ghost use Rattle.journal_replay.specs.Tests.{is_physical_file};
 
 use crate::describe::Describe;
@@ -12,7 +11,6 @@ use entry_codec::FileKind;
 use field_types::names::Name;
 use field_types::texts::SourceText;
 use indexmap::IndexMap;
-use indexmap::map::Iter;
 use std::alloc::{AllocError, Global};
 use std::marker::Model;
 
@@ -67,17 +65,9 @@ impl Files {
 
     /// The file at a place in the order of creation, counted from 0.
     pub fn at(&self, place: usize) -> Option<(&Name, &File)>
-        ensures { option_map (λ entry. catalog_file (deref_pair entry)) result ≡ slice_get self.now place }
+        ensures { slice_get self.now place ≡ option_map file_shown result }
     {
         self.files.get_index(place)
-    }
-
-    /// The files in order of creation.
-    pub fn iter(&self) -> Iter<'_, Name, File>
-        ensures rest { map catalog_file result ≡ self.now }
-        ensures runs { ShowsInOrder (deref_pair {K = List ℕ} {X = FileBody}) }
-    {
-        self.files.iter()
     }
 
     /// The file of that name.
