@@ -1,11 +1,11 @@
 -- Files by their places, the last one first.
-use Rattle.std.proofs.Common.{◌≡◌, ◌<◌, ◌≤◌, ℕ, ◌+◌, cond, if◌then◌else◌, Bool, true, false, Option, Some, None, List, [], ◌∷◌, ◌++◌, length, take, drop, refl, sym, ◌∙◌, ap, arith, append_assoc}
+use Rattle.std.proofs.Common.{◌≡◌, ◌<◌, ◌≤◌, ℕ, ◌+◌, cond, if◌then◌else◌, Bool, true, false, Option, Some, None, List, [], ◌∷◌, ◌++◌, length, take, drop, get_or, refl, sym, ◌∙◌, ap, arith, append_assoc}
 use Rattle.std.specs.Prelude.{reverse, slice_get}
 use Rattle.std.specs.List.{cons_option, filter_map}
 use Rattle.std.specs.Option.{option_map}
 use Rattle.std.proofs.lemmas.List.{append-nil, drop_all, drop_more, reverse-append, take_all, take_more}
 use Rattle.std.proofs.lemmas.List.Elements.{filter_map-append}
-use Rattle.std.proofs.lemmas.Option.{get_or_from_slice_get, slice_get_within}
+use Rattle.std.proofs.lemmas.Option.{get_or_from_slice_get, slice_get-get_or, slice_get_within}
 use Rattle.entry_codec.specs.declared.kinds.FileKind.{FileKind}
 use Rattle.entry_codec.specs.declared.kinds.FileKind.TheVariants.{Physical, Logical}
 use Rattle.dds_source.specs.declared.specifications.Source.{Source}
@@ -69,9 +69,9 @@ module _ (files : List CatalogFile) (place : ℕ) (file : CatalogFile) (there : 
 -- there is no such place
 pub no-place : (files : List CatalogFile) (place : ℕ) → place < length files → slice_get files place ≡ None → ⊥
 no-place [] place below none = absurd (omega (arith, below))
-no-place (file ∷ files) place below none = by (slice_get (file ∷ files) place) (Rattle.std.proofs.lemmas.Option.slice_get-get_or (file ∷ files) place file below) none
+no-place (file ∷ files) place below none = by (slice_get (file ∷ files) place) (slice_get-get_or (file ∷ files) place file below) none
   where
-    by : (o : Option CatalogFile) → o ≡ Some (Rattle.std.specs.Prelude.get_or (file ∷ files) place file) → o ≡ None → ⊥
+    by : (o : Option CatalogFile) → o ≡ Some (get_or (file ∷ files) place file) → o ≡ None → ⊥
     by None some h = absurd cc
     by (Some x) some h = absurd cc
 
