@@ -25,7 +25,7 @@ use Rattle.restart_laws.proofs.ReferenceLemmas.{physical-stays}
 use Rattle.described_journals.specs.Files.{described_upon, with_file}
 use Rattle.described_journals.specs.Needed.{if_records, is_wanted, needed, source_if, with_source}
 use Rattle.described_journals.proofs.FileLemmas.{described-alike, described-other, upon-all}
-use Rattle.described_journals.proofs.NamedLemmas.{names-only}
+use Rattle.described_journals.proofs.NamedLemmas.{names-only, or-right}
 
 -- ---- one source
 
@@ -50,11 +50,7 @@ format_found o = option_map (λ (spec : PhysicalSpec). spec.format) (option_and_
 
 wanted-last : (name : List ℕ) (wanted : List Source) (source : Source) → refers_to name source ≡ true → is_wanted name (wanted ++ source ∷ []) ≡ true
 wanted-last name [] source is = ap (λ (b : Bool). b || false) is
-wanted-last name (first ∷ wanted) source is = by (refers_to name first)
-  where
-    by : (b : Bool) → (b || is_wanted name (wanted ++ source ∷ [])) ≡ true
-    by true = refl
-    by false = wanted-last name wanted source is
+wanted-last name (first ∷ wanted) source is = or-right (refers_to name first) (is_wanted name (wanted ++ source ∷ [])) (wanted-last name wanted source is)
 
 wanted-front : (name : List ℕ) (wanted more : List Source) → is_wanted name wanted ≡ true → is_wanted name (wanted ++ more) ≡ true
 wanted-front name wanted more is = list_any-append (refers_to name) wanted more ∙ ap (λ (b : Bool). b || list_any (refers_to name) more) is
