@@ -27,15 +27,15 @@ module _ (files : List CatalogFile) (place : ℕ) (file : CatalogFile) (there : 
   -- it isn't named
   pub place-passed : (places : List ℕ) (wanted : List Source) → is_wanted file.name wanted ≡ false
       → found_before files places (needed (reverse (take (place + 1) files)) wanted) ≡ found_before files places (needed (reverse (take place files)) wanted)
-  place-passed places wanted no =
+  place-passed places wanted passes =
       ap (λ (fs : List CatalogFile). found_before files places (needed fs wanted)) place-first
-      ∙ ap (λ (b : Bool). found_before files places (if b then if_records file.kind file (needed (reverse (take place files)) (with_source file.source wanted)) else needed (reverse (take place files)) wanted)) no
+      ∙ ap (λ (b : Bool). found_before files places (if b then if_records file.kind file (needed (reverse (take place files)) (with_source file.source wanted)) else needed (reverse (take place files)) wanted)) passes
 
   named-there : (wanted : List Source) → is_wanted file.name wanted ≡ true
       → needed (reverse (take (place + 1) files)) wanted ≡ if_records file.kind file (needed (reverse (take place files)) (with_source file.source wanted))
-  named-there wanted yes_wanted =
+  named-there wanted wants =
       ap (λ (fs : List CatalogFile). needed fs wanted) place-first
-      ∙ ap (λ (b : Bool). if b then if_records file.kind file (needed (reverse (take place files)) (with_source file.source wanted)) else needed (reverse (take place files)) wanted) yes_wanted
+      ∙ ap (λ (b : Bool). if b then if_records file.kind file (needed (reverse (take place files)) (with_source file.source wanted)) else needed (reverse (take place files)) wanted) wants
 
   found-one : (places : List ℕ) (more : List CatalogFile) → found files places ++ file ∷ more ≡ found files (places ++ place ∷ []) ++ more
   found-one places more =
