@@ -33,7 +33,7 @@ pub described-other : (file : CatalogFile) (o : Option FileSpec) (before : Named
 described-other file None before name differs = refl
 described-other file (Some spec) before name differs = named-more before name file.name (record { source = file.source; spec = spec; members = [] }) differs
 
-or-else : Option FileState → Option FileState → Option FileState
+abbrev or-else : Option FileState → Option FileState → Option FileState
 or-else None other = other
 or-else (Some file) other = Some file
 

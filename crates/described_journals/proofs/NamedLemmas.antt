@@ -1,5 +1,5 @@
 -- What a source names.
-use Rattle.std.proofs.Common.{◌≡◌, ℕ, ◌||◌, ◌&&◌, cond, if◌then◌else◌, Bool, true, false, Option, Some, None, IfSome, List, [], ◌∷◌, refl, sym, ◌∙◌, ap, codes}
+use Rattle.std.proofs.Common.{◌≡◌, ℕ, ◌||◌, ◌&&◌, if◌then◌else◌, Bool, true, false, Option, Some, None, IfSome, List, [], ◌∷◌, refl, ◌∙◌, ap, codes}
 use Rattle.std.specs.List.{AllByRecursion, before_first, cons_option, filter_map, list_any}
 use Rattle.std.specs.Str.{bytes_eq}
 use Rattle.std.proofs.lemmas.Cmp.{nat_list_eq_equiv}
