@@ -2,6 +2,7 @@
 use Rattle.std.proofs.Common.{◌≡◌, ℕ, ◌+◌, ◌==◌, ◌&&◌, Bool, true, false, Option, Some, None, List, [], ◌∷◌, length, drop, refl, sym, ◌∙◌, ap, arith}
 use Rattle.std.specs.Prelude.{is_none}
 use Rattle.std.specs.Option.{is_some}
+use Rattle.std.proofs.lemmas.Bool.{ne_eqb}
 use Rattle.std.proofs.lemmas.Bool.Decides.{nat_tests}
 use Rattle.std.proofs.lemmas.List.{take-append-drop}
 use Rattle.field_values.specs.FirstBad.{TellsFirstBad}
@@ -33,5 +34,5 @@ pub no-record : (image : List ℕ) → (length image == 0) ≡ is_record_of [] i
 unfolding record_held
 no-record [] = refl
 no-record (b ∷ bs) =
-    let some : (length (b ∷ bs) == 0) ≡ false = grind (arith, nat_tests) in
+    let some : (length (b ∷ bs) == 0) ≡ false = ne_eqb (length (b ∷ bs)) 0 (λ e. absurd (omega (arith, e))) in
     some ∙ sym (both-false (length (b ∷ bs) == 0))
