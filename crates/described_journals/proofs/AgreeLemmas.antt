@@ -90,7 +90,8 @@ wanted-agree (file ∷ earlier) wanted those is name wants =
     other own true same = absurd (false≢true (sym (subst (λ (n : List ℕ). is_wanted n wanted ≡ false) (sym (same_name-equal name file.name same)) own) ∙ wants))
     other own false same = refl
 
-    behind : (fs : List CatalogFile) → file.kind ≡ Physical → ((n : List ℕ) → is_wanted n (with_source file.source wanted) ≡ true → named n (described_upon [] fs) ≡ named n (described_upon [] earlier))
+    behind : (fs : List CatalogFile) → file.kind ≡ Physical
+        → ((n : List ℕ) → is_wanted n (with_source file.source wanted) ≡ true → named n (described_upon [] fs) ≡ named n (described_upon [] earlier))
         → named name (described_upon [] (file ∷ fs)) ≡ named name (with_file file (described_upon [] earlier))
     behind fs kind each =
         let spec : spec_beside (described_upon [] fs) file.kind file.source ≡ spec_beside (described_upon [] earlier) file.kind file.source =

@@ -30,7 +30,8 @@ files-named (f ∷ fs) = refl
 pub base_step : (name : List ℕ) (s : Specification) (ss : List Specification)
     → list_any (bytes_eq name) (filter_map base_name (formats_in (s ∷ ss))) ≡ ((is_record s.kind && named_base name s.keywords) || list_any (bytes_eq name) (filter_map base_name (formats_in ss)))
 base_step name s ss =
-    elim (is_record s.kind) as (λ b. list_any (bytes_eq name) (filter_map base_name (if b then record { head = s; body = before_first (λ (other : Specification). is_record other.kind) ss } ∷ formats_in ss else formats_in ss))
+    elim (is_record s.kind) as (λ b. list_any (bytes_eq name)
+    (filter_map base_name (if b then record { head = s; body = before_first (λ (other : Specification). is_record other.kind) ss } ∷ formats_in ss else formats_in ss))
     ≡ ((b && named_base name s.keywords) || list_any (bytes_eq name) (filter_map base_name (formats_in ss)))) [
       | true ↦ any_cons name (file_of_keyword (first_named (codes "PFILE") s.keywords)) (filter_map base_name (formats_in ss))
       | false ↦ refl

@@ -28,7 +28,8 @@ module _ (files : List CatalogFile) (place : ℕ) (file : CatalogFile) (there : 
       → found_before files places (needed (reverse (take (place + 1) files)) wanted) ≡ found_before files places (needed (reverse (take place files)) wanted)
   place-passed places wanted passes =
       ap (λ (fs : List CatalogFile). found_before files places (needed fs wanted)) place-first
-      ∙ ap (λ (b : Bool). found_before files places (if b then if_records file.kind file (needed (reverse (take place files)) (with_source file.source wanted)) else needed (reverse (take place files)) wanted)) passes
+      ∙ ap (λ (b : Bool). found_before files places
+      (if b then if_records file.kind file (needed (reverse (take place files)) (with_source file.source wanted)) else needed (reverse (take place files)) wanted)) passes
 
   named-there : (wanted : List Source) → is_wanted file.name wanted ≡ true
       → needed (reverse (take (place + 1) files)) wanted ≡ if_records file.kind file (needed (reverse (take place files)) (with_source file.source wanted))
@@ -76,7 +77,8 @@ no-place (file ∷ files) place below none = by (slice_get (file ∷ files) plac
 
 -- ---- before the first place, and behind the last
 
-pub places-begin : (files : List CatalogFile) (count : ℕ) (wanted : List Source) → count ≡ length files → found_before files [] (needed (reverse (take count files)) wanted) ≡ needed (reverse files) wanted
+pub places-begin : (files : List CatalogFile) (count : ℕ) (wanted : List Source) → count ≡ length files
+    → found_before files [] (needed (reverse (take count files)) wanted) ≡ needed (reverse files) wanted
 places-begin files count wanted all =
     ap (λ (fs : List CatalogFile). found_before files [] (needed (reverse fs) wanted)) (take_all count files (omega (arith, all))) ∙ none (needed (reverse files) wanted)
   where

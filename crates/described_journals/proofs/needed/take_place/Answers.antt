@@ -28,5 +28,6 @@ returns-clause-goes c = λ is.
     let sources : c.want.new.wanted.items ≡ with_source c.in-Some.file.now.source c.args.wanted.now.items = search rules in
     let places : c.push.new.self.items ≡ c.args.places.now.items ++ c.args.place ∷ [] = search rules in
     place-taken c.args.files.now c.args.place (catalog_file (c.in-Some.name.now, c.in-Some.file.now)) there c.args.places.now.items (c.args.source.now ∷ c.args.wanted.now.items) wants physical
-    ∙ ap (λ (ws : List Source). found_before c.args.files.now (c.args.places.now.items ++ c.args.place ∷ []) (needed (reverse (take c.args.place c.args.files.now)) (c.args.source.now ∷ ws))) (sym sources)
+    ∙ ap (λ (ws : List Source). found_before c.args.files.now (c.args.places.now.items ++ c.args.place ∷ [])
+    (needed (reverse (take c.args.place c.args.files.now)) (c.args.source.now ∷ ws))) (sym sources)
     ∙ ap (λ (ps : List ℕ). found_before c.args.files.now ps (needed (reverse (take c.args.place c.args.files.now)) (c.args.source.now ∷ c.want.new.wanted.items))) (sym places)
