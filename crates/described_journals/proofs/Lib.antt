@@ -1,0 +1,5 @@
+pub mod FileLemmas
+pub mod NamedLemmas
+pub mod AgreeLemmas
+pub mod PlaceLemmas
+pub mod RecordLemmas
