@@ -368,7 +368,7 @@ module _ (entries : List Entry) (attached moment : ℕ) (can : CanReplayJournal 
   images-told =
       each-append (EntryTold (catalogue_of r)) entries (restart_entries restart_job moment j)
       (each-weaker (IsToldIn (catalogue_of r)) (EntryTold (catalogue_of r)) (λ e it. it.told) entries stands.told)
-      (entries-told (catalogue_of r) None moment j sides)
+      (entries-told (catalogue_of r) restart_job moment j sides)
 
   one-is-told : (e : Entry) → EntryTold (catalogue_of r) e → EntryHasRoom (catalogue_of r) e → IsTold files e
   one-is-told e told room name file number owns names =
@@ -420,7 +420,7 @@ module _ (entries : List Entry) (attached moment : ℕ) (can : CanReplayJournal 
       (ap (known_after at None) (acts-append its.0.number None entries (restart_entries restart_job moment j))
       ∙ known_after-append at None (acts its.0.number None entries) (acts its.0.number (entry_before None entries) (restart_entries restart_job moment j))
       ∙ ap (λ (k : Option Slot). known_after at k (acts its.0.number (entry_before None entries) (restart_entries restart_job moment j))) nothing.known
-      ∙ restart-known its.0.number None moment at j (entry_before None entries) None (sym (undos-are its.0.number) ∙ nothing.undos))
+      ∙ restart-known its.0.number restart_job moment at j (entry_before None entries) None (sym (undos-are its.0.number) ∙ nothing.undos))
 
   pub restarted-sound : AreDeposited entries → library_bytes s.members ≤ MOST_LIBRARY_BYTES → IsSound s
   restarted-sound deposited few = record {
@@ -451,7 +451,7 @@ module _ (entries : List Entry) (attached moment : ℕ) (can : CanReplayJournal 
       };
     };
     agreed = record {
-      chained = λ member at. IsChained-replayed at (acts_after r member) (start_of r member) None tt (restarted-replays None moment j can.replays member);
+      chained = λ member at. IsChained-replayed at (acts_after r member) (start_of r member) None tt (restarted-replays restart_job moment j can.replays member);
       told = λ member at there. record { so = so-now member at there; silent = silent-now deposited.journaled member at there };
       committed = tt;
     };
