@@ -359,8 +359,8 @@ const FAULTS: [(usize, &str, u32); 29] = [
     (1, "//END", 2),
     (1, "//JOB J1", 2),
     (
-        3,
-        "     A          R CUSTV                     PFILE(CUST)",
+        2,
+        "     A          R CUSTV                     JFILE(A B)",
         1,
     ),
     (4, "//JOB", 4),
