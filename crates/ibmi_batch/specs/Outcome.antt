@@ -49,9 +49,9 @@ IsWrittenInPart text writing = writing.rose × (writing.tells → (part : ℕ) �
 -- ---- jobs are run
 
 -- the scripts are what an input says: the one that the source had, where the source tells it
-pub record IsRead (reading : Reading) (scripts : Scripts) : Type 0 where
+pub record IsRead (tells : Type 0) (input : List ℕ) (scripts : Scripts) : Type 0 where
   pub bytes : List ℕ
-  pub whole : reading.tells → reading.input ≡ bytes
+  pub whole : tells → input ≡ bytes
   pub short : length bytes ≤ MOST_INPUT
   pub sound : faults_of (lines_of bytes) ≡ []
   pub says : scripts ≡ input_of (lines_of bytes)
@@ -67,47 +67,55 @@ pub record IsRun (words : List (List ℕ)) (scripts : Scripts) (start : State) (
 abbrev pub HaveEnded : Scripts → List Call → Type 0
 HaveEnded scripts calls = (job : ℕ) → 1 ≤ job → job ≤ length scripts.scripts → IsTrue (has_ended job calls)
 
--- the jobs ran to their ends, and some ended early or none did
-pub record HaveRun (scripts : Scripts) (early : Bool) (calls : List Call) : Type 0 where
-  pub ended : HaveEnded scripts calls
-  pub ends : has_early_end calls ≡ early
+-- no call found the store at fault
+abbrev pub IsStanding : Outcome → Type 0
+IsStanding outcome = (s : State) × (outcome ≡ Standing s)
 
 -- a call found the store at fault, and no more calls were made
-pub record IsCutShort (outcome : Outcome) : Type 0 where
-  pub entries : List Entry
-  pub failed : outcome ≡ Failed entries
+abbrev pub IsCutShort : Outcome → Type 0
+IsCutShort outcome = (entries : List Entry) × (outcome ≡ Failed entries)
+
+-- the jobs ran to their ends, and some ended early or none did
+pub record HaveRun (scripts : Scripts) (early : Bool) (calls : List Call) (outcome : Outcome) : Type 0 where
+  pub ended : HaveEnded scripts calls
+  pub ends : has_early_end calls ≡ early
+  pub stands : IsStanding outcome
 
 -- what the calls came to and what was written, at each status that a run can come to
-abbrev pub HasRun : Status → Scripts → List Call → Outcome → Writing → Storing → Type 0
-HasRun Done scripts calls outcome writing storing = HaveRun scripts false calls × IsWritten (listing scripts.names calls) writing
-HasRun JobsEnded scripts calls outcome writing storing = HaveRun scripts true calls × IsWritten (listing scripts.names calls) writing
-HasRun WriteFault scripts calls outcome writing storing = HaveEnded scripts calls × IsWrittenInPart (listing scripts.names calls) writing
-HasRun StoreFault scripts calls outcome writing storing =
-    StoreRose storing × IsCutShort outcome × (IsWritten (listing scripts.names calls) writing ⊎ IsWrittenInPart (listing scripts.names calls) writing)
-HasRun NoMemory scripts calls outcome writing storing = NothingWritten writing
-HasRun Words scripts calls outcome writing storing = ⊥
-HasRun ReadFault scripts calls outcome writing storing = ⊥
-HasRun TooLong scripts calls outcome writing storing = ⊥
-HasRun (Script line) scripts calls outcome writing storing = ⊥
-HasRun NotALibrary scripts calls outcome writing storing = ⊥
-HasRun (Damaged area at) scripts calls outcome writing storing = ⊥
-HasRun Exists scripts calls outcome writing storing = ⊥
+abbrev pub HasRun : Status → Scripts → List Call → Outcome → Writing → Type 0
+HasRun Done scripts calls outcome writing = HaveRun scripts false calls outcome × IsWritten (listing scripts.names calls) writing
+HasRun JobsEnded scripts calls outcome writing = HaveRun scripts true calls outcome × IsWritten (listing scripts.names calls) writing
+HasRun WriteFault scripts calls outcome writing = HaveEnded scripts calls × IsStanding outcome × IsWrittenInPart (listing scripts.names calls) writing
+HasRun StoreFault scripts calls outcome writing =
+    IsCutShort outcome × (IsWritten (listing scripts.names calls) writing ⊎ IsWrittenInPart (listing scripts.names calls) writing)
+HasRun NoMemory scripts calls outcome writing = NothingWritten writing
+HasRun Words scripts calls outcome writing = ⊥
+HasRun ReadFault scripts calls outcome writing = ⊥
+HasRun TooLong scripts calls outcome writing = ⊥
+HasRun (Script line) scripts calls outcome writing = ⊥
+HasRun NotALibrary scripts calls outcome writing = ⊥
+HasRun (Damaged area at) scripts calls outcome writing = ⊥
+HasRun Exists scripts calls outcome writing = ⊥
 
--- the words were those of RUN or SERIAL, the input was read to its end and has no line at fault, the library was opened, and the jobs made these calls
-pub record WasRun (status : Status) (reading : Reading) (given : List Call → Type 0) (writing : Writing) (storing : Storing) : Type 0 where
-  pub words : are_job_words reading.words ≡ true
-  pub left : reading.tells → reading.left ≡ []
-  pub scripts : Scripts
-  pub read : IsRead reading scripts
+-- the library was opened, and the jobs of these scripts made these calls
+pub record RunOver (status : Status) (words : List (List ℕ)) (scripts : Scripts) (given : List Call → Type 0) (writing : Writing) (storing : Storing) : Type 0 where
   pub before : List Entry
   pub start : State
   pub starts : IsStart storing before start
   pub calls : List Call
   pub outcome : Outcome
-  pub run : IsRun reading.words scripts start calls outcome
+  pub run : IsRun words scripts start calls outcome
   pub timestamps : given calls
   pub kept : IsKeptRun storing before scripts.sources (begun start scripts.names) calls outcome
-  pub ran : HasRun status scripts calls outcome writing storing
+  pub ran : HasRun status scripts calls outcome writing
+
+-- the words were those of RUN or SERIAL, the input was read to its end and has no line at fault, and the jobs of its scripts ran
+pub record WasRun (status : Status) (reading : Reading) (given : List Call → Type 0) (writing : Writing) (storing : Storing) : Type 0 where
+  pub words : are_job_words reading.words ≡ true
+  pub left : reading.tells → reading.left ≡ []
+  pub scripts : Scripts
+  pub read : IsRead reading.tells reading.input scripts
+  pub over : RunOver status reading.words scripts given writing storing
 
 -- ---- a library is shown
 
@@ -158,10 +166,10 @@ pub record InputRefused (reading : Reading) (writing : Writing) (storing : Stori
   pub why : cause
 
 -- the input was read to its end, and the line is the first at fault
-pub record ScriptRefused (reading : Reading) (line : ℕ) : Type 0 where
-  pub left : reading.left ≡ []
-  pub fault : least (faults_of (lines_of reading.input)) ≡ Some line
-  pub short : length reading.input ≤ MOST_INPUT
+pub record ScriptRefused (input left : List ℕ) (line : ℕ) : Type 0 where
+  pub read : left ≡ []
+  pub fault : least (faults_of (lines_of input)) ≡ Some line
+  pub short : length input ≤ MOST_INPUT
 
 -- the words were those of such commands, an input that was asked for has no line at fault, and nothing was written or stored; what the store was
 pub record StoreRefused (words : Bool) (reading : Reading) (writing : Writing) (storing : Storing) (cause : Type 0) : Type 0 where
@@ -183,7 +191,7 @@ abbrev pub Comes : Status → Reading → (List Call → Type 0) → Writing →
 Comes Words reading given writing storing = WordsRefused reading writing storing
 Comes ReadFault reading given writing storing = InputRefused reading writing storing reading.rose
 Comes TooLong reading given writing storing = InputRefused reading writing storing (reading.tells → MOST_INPUT < length reading.input)
-Comes (Script line) reading given writing storing = InputRefused reading writing storing (reading.tells → ScriptRefused reading line)
+Comes (Script line) reading given writing storing = InputRefused reading writing storing (reading.tells → ScriptRefused reading.input reading.left line)
 Comes NotALibrary reading given writing storing = StoreRefused (are_open_words reading.words) reading writing storing (WasEmpty storing)
 Comes (Damaged area at) reading given writing storing = StoreRefused (are_open_words reading.words) reading writing storing (WasSomething storing × WasNoJournal storing)
 Comes Exists reading given writing storing = StoreRefused (are_format_words reading.words) reading writing storing (WasSomething storing)
