@@ -1,22 +1,24 @@
-//! `ibmi RUN folder` and `ibmi SERIAL folder`: run the jobs of an input and print every call with its reply.
-//! The run itself stands in the crate `ibmi_batch`, the real source, sink and clock in the crate `outside`.
+//! `ibmi INZ folder` makes a library, `ibmi RUN folder` and `ibmi SERIAL folder` run the jobs of an input over it and print every call with
+//! its reply, and `ibmi DSP folder` shows it. What a command does stands in the crate `ibmi_batch`, the store over a folder in `folder_store`,
+//! the real source, sink and clock in `outside`.
 #![tactic(auto)]
 
 mod help;
 mod kept;
 
-use crate::help::{Remains, say_help, say_terminal_help};
+use crate::help::{Remains, say_help, say_in_use, say_terminal_help};
 use crate::kept::{KeptSink, KeptSource};
+use folder_store::{FolderStore, OpenError};
 use ibmi_batch::batch::{program, program_alone};
 use ibmi_batch::status::Status;
-use ibmi_batch::words::are_run_words;
+use ibmi_batch::words::{are_command_words, are_job_words, are_run_words};
 use outside::{StandardInput, StandardOutput, SystemClock};
 use std::io::{ErrorKind, IsTerminal};
 use std::process::ExitCode;
 use std::sync::Wait;
 use std::thread::Threads;
 use std::{env, io};
-use store_model::{Clock, MemoryStore, OpenGate, Sink, Source};
+use store_model::{Clock, MemoryStore, OpenGate, Sink, Source, Store};
 
 fn main(rt: HostRuntime) -> ExitCode {
     let words: Vec<String> = match env::args(&rt) {
@@ -30,13 +32,13 @@ fn main(rt: HostRuntime) -> ExitCode {
         return end(&rt, Status::NoMemory);
     };
     let reader = rt.reader();
-    if reader.is_terminal() {
+    if are_job_words(words.as_slice()) && reader.is_terminal() {
         say_terminal_help(&rt, rt.alloc(), words.as_slice());
     }
     let mut input = KeptSource::new(rt.alloc(), StandardInput::new(reader));
     let mut output = KeptSink::new(rt.alloc(), StandardOutput::new(io::writer(&rt)));
     let clock = SystemClock::new(clock);
-    let status = run(&rt, words.as_slice(), &mut input, &mut output, clock);
+    let status = run_over(&rt, words.as_slice(), &mut input, &mut output, clock);
     let code = end(&rt, status);
     let remains = Remains {
         words: words.as_slice(),
@@ -47,16 +49,50 @@ fn main(rt: HostRuntime) -> ExitCode {
     code
 }
 
-/// Does what the words say: RUN with a runtime for the threads of its jobs, every other command without one.
-fn run<R: AllocGlobal + Threads + Wait + Sync, I: Source, O: Sink, C: Clock + Send + Drop>(
-    rt: &R,
+/// Does what the words say, over the folder that they name. Words that are no command touch no folder.
+fn run_over<I: Source, O: Sink, C: Clock + Send + Drop>(
+    rt: &HostRuntime,
     words: &[String],
     input: &mut I,
     output: &mut O,
     clock: C,
 ) -> Status {
+    let [_, folder] = words else {
+        return run(rt, words, MemoryStore::new(rt.alloc()), input, output, clock);
+    };
+    if !are_command_words(words) {
+        return run(rt, words, MemoryStore::new(rt.alloc()), input, output, clock);
+    }
+    let Ok(own) = rt.clone() else {
+        return Status::NoMemory;
+    };
+    match FolderStore::open(own, folder.as_str()) {
+        Ok(store) => run(rt, words, store, input, output, clock),
+        Err(OpenError::InUse) => {
+            say_in_use(rt, folder.as_str());
+            Status::StoreFault
+        }
+        Err(OpenError::Refused(error)) if error.kind() == ErrorKind::OutOfMemory => Status::NoMemory,
+        Err(OpenError::Refused(_)) => Status::StoreFault,
+    }
+}
+
+/// Does what the words say: RUN with a runtime for the threads of its jobs, every other command without one.
+fn run<
+    R: AllocGlobal + Threads + Wait + Sync,
+    S: Store + Send + Drop,
+    I: Source,
+    O: Sink,
+    C: Clock + Send + Drop,
+>(
+    rt: &R,
+    words: &[String],
+    store: S,
+    input: &mut I,
+    output: &mut O,
+    clock: C,
+) -> Status {
     let alloc = rt.alloc();
-    let store = MemoryStore::new(alloc);
     let (status, _store, _clock) = if are_run_words(words) {
         program(rt, alloc, words, store, input, output, clock, &OpenGate)
     } else {
@@ -80,7 +116,7 @@ fn end(rt: &impl Eprint, status: Status) -> ExitCode {
         Status::Done => {}
         Status::Words => {
             let _ = eprintln!(rt;
-                "{status}\nusage: ibmi RUN folder < input, or ibmi SERIAL folder < input"
+                "{status}\nusage: ibmi INZ folder, ibmi RUN folder < input, ibmi SERIAL folder < input, or ibmi DSP folder"
             );
         }
         _ => {
