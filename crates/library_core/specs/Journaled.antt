@@ -1,5 +1,5 @@
 -- How a library's journal stands to its state: the book comes to the state's last entry, and the store holds the state's entries. (Our own.)
-use Rattle.std.specs.Prelude.{◌≡◌, ℕ, ◌+◌, ◌<◌, ◌≤◌, Bool, false, length}
+use Rattle.std.specs.Prelude.{◌≡◌, ℕ, ◌+◌, ◌<◌, ◌≤◌, length}
 use Rattle.store_model.specs.Disk.{Disk}
 use Rattle.receiver_chain.specs.Chain.{attached_of}
 use Rattle.journal_book.specs.Book.{BookState, Holds, next_of}
@@ -19,12 +19,13 @@ pub record IsBookOf (book : BookState) (s : State) : Type 0 where
   pub little : length book.buffered < MUCH
   pub places : places_due s.jobs ≤ book.chain.room
 
--- what each call's entries rest on, so that they may wait in the book
+-- what each call's entries rest on, so that they may wait in the book; no checkpoint was saved, so that no receiver is given up
 pub record MayDeposit (s : State) : Type 0 where
   pub counted : IsCounted s
   pub groups : GroupsWithin s
   pub sequences : SequencesSuffice s
   pub few : length s.jobs ≤ 4294967295
+  pub unsaved : s.checkpoint ≡ 0
 
 -- the library's journal is that of its state, and the store holds it, where it tells
 pub record IsJournaled (tells : Type 0) (disk : Disk) (book : BookState) (s : State) : Type 0 where
