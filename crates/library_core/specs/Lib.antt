@@ -4,3 +4,4 @@ pub mod Journaled
 pub mod Stands
 pub mod Puts
 pub mod Fronts
+pub mod Laws

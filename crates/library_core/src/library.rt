@@ -16,7 +16,8 @@ ghost use Rattle.library_core.specs.Journaled.{IsJournaled};
 ghost use Rattle.library_core.specs.Running.{runs_after};
 ghost use Rattle.library_core.specs.Stands.{Stands, IsReady, Goes, whole_from};
 
-use crate::answering::{answer, places_for};
+use crate::answering::{answer, reserve_for};
+use crate::laws::journal_lasts;
 use field_types::names::Name;
 use kept_journal::KeptJournal;
 use library_model::replies::Reply;
@@ -94,9 +95,9 @@ impl<S: Store> Library<S> {
         ensures waiting { self.new.book.waiting ≡ self.old.book.waiting }
         ensures receiver { self.new.book.chain.first ≡ self.old.book.chain.first }
     {
+        journal_lasts();
         // A place for the block by which the job's end is forced.
-        let places = places_for(self.contents.jobs_begun())?;
-        self.journal.reserve(places)?;
+        reserve_for(&mut self.journal, self.contents.jobs_begun())?;
         self.contents.begin_job(*name)
     }
 

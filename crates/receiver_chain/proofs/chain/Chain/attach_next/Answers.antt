@@ -207,3 +207,15 @@ returns-clause-lengths g c = λ blocks.
     switch_lengths c.self.inside.earlier.items c.push_reserved.new.self.items c.append.new.self c.replace.new.dest (c.self.inside.attached.lengths ++ length blocks.ending ∷ [])
     (length blocks.beginning ∷ []) pushed more last
     ∙ ap (λ (v : ChainState). lengths_in v.earlier ++ (v.attached.lengths ++ length blocks.ending ∷ []) ∷ (length blocks.beginning ∷ []) ∷ []) c.self.view_is
+
+pub returns-in_err-next-clause-faults : goal.returns-in_err-next-clause-faults
+returns-in_err-next-clause-faults g c = c.make_next.ensures.any_moment.later.faults
+
+pub returns-in_err-append-clause-faults : goal.returns-in_err-append-clause-faults
+returns-in_err-append-clause-faults g c = omega (arith, c.make_next.ensures.any_moment.later.faults, c.append.ensures.apart.later.faults)
+
+pub returns-in_err-append-2-clause-faults : goal.returns-in_err-append-2-clause-faults
+returns-in_err-append-2-clause-faults g c = omega (arith, c.make_next.ensures.any_moment.later.faults, c.append.ensures.apart.later.faults, c.append-2.ensures.apart.later.faults)
+
+pub returns-clause-faults : goal.returns-clause-faults
+returns-clause-faults g c = omega (arith, c.make_next.ensures.any_moment.later.faults, c.append.ensures.apart.later.faults, c.append-2.ensures.apart.later.faults)
