@@ -5,9 +5,7 @@ use Rattle.std.specs.List.{list_all}
 use Rattle.std.proofs.lemmas.Grind.{common_steps}
 use Rattle.std.proofs.lemmas.Bool.Decides.{nat_tests}
 use Rattle.library_model.specs.declared.calls.Call.{Call}
-use Rattle.library_model.specs.declared.sources.NamedSource.{NamedSource}
 use Rattle.library_model.specs.Ending.{is_end_job}
-use Rattle.library_steps.specs.History.{Outcome, Standing, Failed, Runs}
 use Rattle.job_language.specs.declared.statements.Script.{Script}
 use Rattle.job_runner.specs.Ended.{calls_of, ends_once}
 use Rattle.job_runner.specs.Asked.{AreAsked, script_of, no_script}
@@ -41,13 +39,6 @@ slice_get-append (first ∷ xs) (suc place) x y there = slice_get-append xs plac
 pub slice_get-append_last : {X : Type 0} (xs : List X) (y : X) → slice_get (xs ++ y ∷ []) (length xs) ≡ Some y
 slice_get-append_last [] y = refl
 slice_get-append_last (first ∷ xs) y = slice_get-append_last xs y
-
--- calls that lead on from where the calls before them led
-pub Runs-append : (sources : List NamedSource) (from mid to : Outcome) (made more : List Call) → Runs sources from made mid → Runs sources mid more to → Runs sources from (made ++ more) to
-Runs-append sources from mid to [] more front back = subst (λ (o : Outcome). Runs sources o more to) front back
-Runs-append sources (Standing s) mid to (call ∷ made) more front back =
-    (front.0, front.1, front.2, Runs-append sources front.1 mid to made more front.3 back)
-Runs-append sources (Failed journal) mid to (call ∷ made) more front back = absurd front
 
 pub AreAsked-append : (scripts : List Script) (before made more : List Call) → AreAsked scripts before made → AreAsked scripts (before ++ made) more → AreAsked scripts before (made ++ more)
 AreAsked-append scripts before [] more front back = rw append-nil at back
