@@ -1,5 +1,5 @@
 -- The entry by which a receiver begins changes nothing of what is open, so that what is rolled back behind it is what a restart rolls back.
-use Rattle.std.proofs.Common.{◌≡◌, ◌⊎◌, inl, inr, ℕ, ◌+◌, ◌-◌, ◌<◌, Option, Some, None, List, [], ◌∷◌, ◌++◌, length, take, get_or, refl, sym, ◌∙◌, ap, arith, append_assoc, length-append}
+use Rattle.std.proofs.Common.{◌≡◌, ◌⊎◌, inl, inr, ℕ, ◌+◌, ◌-◌, ◌<◌, Option, Some, None, List, [], ◌∷◌, ◌++◌, length, take, get_or, refl, sym, ◌∙◌, ap, subst, arith, append_assoc, length-append}
 use Rattle.std.proofs.lemmas.List.{append-nil, take_all, take_more}
 use Rattle.entry_codec.specs.declared.entries.Entry.{Entry}
 use Rattle.entry_codec.specs.declared.entries.Draft.{Draft}
@@ -10,8 +10,10 @@ use Rattle.journal_model.specs.Acts.{Act, Nothing, act, acts, entry_before}
 use Rattle.journal_model.specs.Replay.{State, replay}
 use Rattle.journal_model.specs.Rollback.{MemberChange, library_draft, missing_behind, missing_draft, missing_kind, named, numbered_from, restart_drafts, undos_by, undos_of}
 use Rattle.journal_model.specs.Journal.{last_sequence, open_cycles, start_of}
+use Rattle.journal_model.specs.Pairs.{BeginsNoPair}
 use Rattle.journal_model.proofs.MemberLemmas.{acts-append}
 use Rattle.journal_model.proofs.ReplayLemmas.{replay-append}
+use Rattle.journal_replay.specs.SoFar.{EndsWhole}
 use Rattle.journal_opening.specs.Journals.{journal_with}
 use Rattle.restart_rollback.specs.Rollbacks.{rolled_back}
 use Rattle.restarted_journal.specs.Restarts.{beginning, begun_with, first_entry, restarted_entries}
@@ -21,6 +23,11 @@ use Rattle.restarted_journal.specs.Restarts.{beginning, begun_with, first_entry,
 before-push : (prior : Option Entry) (entries : List Entry) (e : Entry) → entry_before prior (entries ++ e ∷ []) ≡ Some e
 before-push prior [] e = refl
 before-push prior (x ∷ entries) e = before-push (Some x) entries e
+
+-- an entry by which a receiver begins ends the journal whole
+pub first-whole : (job : Option (List ℕ)) (moment number sequence : ℕ) (entries : List Entry) → EndsWhole (journal_with (entries ++ first_entry job moment number sequence ∷ []))
+first-whole job moment number sequence entries =
+    subst (λ (last : Option Entry). BeginsNoPair last) (sym (before-push None entries (first_entry job moment number sequence))) refl
 
 pub last-before : (entries : List Entry) (i : ℕ) (e : Entry) → length entries ≡ i + 1 → e ≡ get_or entries i e → entry_before None entries ≡ Some e
 last-before entries i e long is =
@@ -134,3 +141,10 @@ module _ (job : Option (List ℕ)) (moment : ℕ) (entries : List Entry) where
   pub begun-one : (number : ℕ) → missing_behind job moment (entry_before None entries) ≡ missing_draft job moment (beginning (Some number))
       → begun_with job moment entries ≡ entries ++ first_entry job moment number (length entries + 1) ∷ []
   begun-one number one = ap (λ (ds : List Draft). entries ++ numbered_from (length entries + 1) ds) one
+
+  -- no pair of images is open behind it either
+  pub begun-whole : EndsWhole (journal_with entries) → EndsWhole (journal_with (begun_with job moment entries))
+  begun-whole whole = elim (missing-none-or-one job moment (entry_before None entries)) [
+    | inl none ↦ subst (λ (l : List Entry). EndsWhole (journal_with l)) (sym (begun-none none)) whole
+    | inr one ↦ subst (λ (l : List Entry). EndsWhole (journal_with l)) (sym (begun-one one.0 one.1)) (first-whole job moment one.0 (length entries + 1) entries)
+  ]

@@ -32,21 +32,38 @@ begun_with job moment entries = entries ++ numbered_from (length entries + 1) (m
 abbrev pub restarted_entries : (job : Option (List ℕ)) (moment : ℕ) → List Entry → List Entry
 restarted_entries job moment entries = (restarted job moment (journal_with entries)).later
 
--- these entries, or they as their restart begins or ends them
-pub record IsRestarting (job : Option (List ℕ)) (moment : ℕ) (entries : List Entry) (areas : Areas) : Type 0 where
+-- ---- what a stop leaves
+
+-- what was left is these entries, or they as their restart begins or ends them
+abbrev pub IsStage : (job : Option (List ℕ)) (moment : ℕ) → (entries left : List Entry) → Type 0
+IsStage job moment entries left = (left ≡ entries) ⊎ ((left ≡ begun_with job moment entries) ⊎ (left ≡ restarted_entries job moment entries))
+
+-- the receivers hold such entries, which can be replayed
+pub record IsEnding (d : Descriptions) (job : Option (List ℕ)) (moment : ℕ) (entries : List Entry) (areas : Areas) : Type 0 where
   pub left : List Entry
-  pub which : (left ≡ entries) ⊎ ((left ≡ begun_with job moment entries) ⊎ (left ≡ restarted_entries job moment entries))
+  pub which : IsStage job moment entries left
   pub spells : SpellEntries FIRST_RECEIVER left areas
+  pub replays : CanReplayJournal d (journal_with left)
+
+-- the areas spell the journal of such entries, with its roots
+pub record IsRestarting (d : Descriptions) (job : Option (List ℕ)) (moment : ℕ) (entries : List Entry) (areas : Areas) : Type 0 where
+  pub left : List Entry
+  pub which : IsStage job moment entries left
+  pub spells : SpellJournal d left areas
 
 -- the same, or what a stop before could leave
-abbrev pub MayRestart : (disk : Disk) → (job : Option (List ℕ)) (moment : ℕ) → List Entry → Areas → Type 0
-MayRestart disk job moment entries areas = May disk areas ⊎ IsRestarting job moment entries areas
+abbrev pub MayRestart : (d : Descriptions) (disk : Disk) → (job : Option (List ℕ)) (moment : ℕ) → List Entry → Areas → Type 0
+MayRestart d disk job moment entries areas = May disk areas ⊎ IsRestarting d job moment entries areas
 
--- these entries were ended: the book holds what they are then, all of it on the disk, and this is what they leave
+-- ---- when it is done
+
+-- these entries were ended: the book holds what they are then, all of it on the disk, it can be replayed, and this is what it leaves
 pub record IsEnded (d : Descriptions) (tells : Type 0) (disk : Disk) (job : Option (List ℕ)) (moment : ℕ) (before : List Entry) (book : BookState) (entries : List Entry) (s : Standing) : Type 0 where
   pub ended : entries ≡ restarted_entries job moment before
   pub held : tells → Holds book entries disk
   pub nothing_waits : book.waiting ≡ 0
+  pub receiver : book.chain.first ≡ FIRST_RECEIVER
+  pub replays : CanReplayJournal d (journal_with entries)
   pub left : IsLeftBy d entries s
   pub closed : s.cycles ≡ []
 

@@ -7,12 +7,15 @@ ghost use Rattle.entry_codec.specs.declared.kinds.EntryKind.TheVariants.{Previou
 ghost use Rattle.entry_codec.specs.Drafts.{numbered};
 ghost use Rattle.entry_codec.specs.Spelling.{HasSpelling, spelling};
 ghost use Rattle.receiver_chain.specs.Chain.{attached_of};
+ghost use Rattle.receiver_chain.specs.Others.{LeavesRoots};
 ghost use Rattle.journal_model.specs.Acts.{entry_before};
 ghost use Rattle.journal_model.specs.Rollback.{library_draft, missing_behind, missing_draft, missing_kind};
 ghost use Rattle.journal_limits.specs.Lengths.{KeepsLengths};
 ghost use Rattle.journal_book.specs.Book.{HasMoreRoom, Holds, last_of, next_of};
 ghost use Rattle.journal_book.specs.Kept.{IsForcedOrFrom};
-ghost use Rattle.journal_opening.specs.Journals.{IsLeftBy};
+ghost use Rattle.journal_replay.specs.SoFar.{EndsWhole};
+ghost use Rattle.journal_opening.specs.Journals.{IsLeftBy, journal_with};
+ghost use Rattle.restart_rollback.specs.Rollbacks.{IsForcedOrReplayed};
 ghost use Rattle.restarted_journal.specs.Restarts.{beginning, begun_with, first_entry};
 
 use entry_codec::{Draft, Entry, EntryKind, entry_length};
@@ -51,6 +54,8 @@ pub fn begin_receiver<S: Store, D: Describe>(
     ensures nothing_waits { OnOk result (book.new.waiting ≡ 0) }
     ensures receiver { book.new.chain.first ≡ book.old.chain.first }
     ensures moments { S.tells → Leaves (S.disk store.old) (S.disk store.new) (IsForcedOrFrom book.old.chain.first book.old.forced (length (begun_with who.now.job who.now.moment entries.old.items)) (begun_with who.now.job who.now.moment entries.old.items)) }
+    ensures replays { S.tells → EndsWhole (journal_with entries.old.items) → Leaves (S.disk store.old) (S.disk store.new) (IsForcedOrReplayed (D.rules by.now) book.old.chain.first book.old.forced (begun_with who.now.job who.now.moment entries.old.items)) }
+    ensures roots { LeavesRoots (S.disk store.old) (S.disk store.new) }
     ensures cause { IsErrOf result RestartFault.StoreFault → Rose (S.disk store.old).faults (S.disk store.new).faults }
 {
     match missing_number(entries) {
@@ -146,6 +151,8 @@ fn begin_behind<S: Store, D: Describe>(
     ensures nothing_waits { OnOk result (book.new.waiting ≡ 0) }
     ensures receiver { book.new.chain.first ≡ book.old.chain.first }
     ensures moments { S.tells → Leaves (S.disk store.old) (S.disk store.new) (IsForcedOrFrom book.old.chain.first book.old.forced (length (entries.old.items ++ first_entry who.now.job who.now.moment number (length entries.old.items + 1) ∷ [])) (entries.old.items ++ first_entry who.now.job who.now.moment number (length entries.old.items + 1) ∷ [])) }
+    ensures replays { S.tells → Leaves (S.disk store.old) (S.disk store.new) (IsForcedOrReplayed (D.rules by.now) book.old.chain.first book.old.forced (entries.old.items ++ first_entry who.now.job who.now.moment number (length entries.old.items + 1) ∷ [])) }
+    ensures roots { LeavesRoots (S.disk store.old) (S.disk store.new) }
     ensures cause { IsErrOf result RestartFault.StoreFault → Rose (S.disk store.old).faults (S.disk store.new).faults }
 {
     let sequence = next_behind(entries)?;
@@ -268,6 +275,7 @@ fn put<S: Store>(
     ensures nothing_waits { OnOk result (book.new.waiting ≡ 0) }
     ensures receiver { book.new.chain.first ≡ book.old.chain.first }
     ensures moments { S.tells → Leaves (S.disk store.old) (S.disk store.new) (IsForcedOrFrom book.old.chain.first book.old.forced (length (entries.old.items ++ entry ∷ [])) (entries.old.items ++ entry ∷ [])) }
+    ensures roots { LeavesRoots (S.disk store.old) (S.disk store.new) }
     ensures cause { IsErrOf result RestartFault.StoreFault → Rose (S.disk store.old).faults (S.disk store.new).faults }
 {
     entries.reserve(1)?;

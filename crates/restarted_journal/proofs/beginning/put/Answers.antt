@@ -2,6 +2,7 @@ use Rattle.std.proofs.Common.{◌+◌, ◌≤◌, ◌∷◌, [], ◌++◌, ◌�
 use Rattle.entry_codec.specs.declared.entries.Entry.{Entry}
 use Rattle.entry_codec.specs.Drafts.{numbered}
 use Rattle.entry_codec.specs.Spelling.{HasSpelling, spelling}
+use Rattle.receiver_chain.proofs.Others.{roots_here}
 use Rattle.journal_book.specs.Book.{BookState, next_of}
 use Rattle.restart_rollback.proofs.PutLemmas.{still}
 use Rattle.restarted_journal.proofs.Depositing.{deposited-held, deposited-holds, deposited-moments, deposited-place, deposited-small, deposited-some}
@@ -54,3 +55,6 @@ returns-clause-moments g c = λ tells.
     (g.S.Store.disk c.args.store.now) (g.S.Store.disk c.force.new.store) (c.force.ensures.exactly tells (c.args.entries.now.items ++ c.args.entry ∷ [])
     (deposited-holds c.args.book.now c.begin-sequence.new.self c.args.entry (numbered c.args.draft (next_of c.args.book.now)) c.requires.is c.begin-sequence.ensures.deposited c.begin-sequence.ensures.holds c.args.entries.now.items
     (g.S.Store.disk c.args.store.now) (c.requires.held tells)))
+
+pub returns-in_err-reserve-clause-roots : goal.returns-in_err-reserve-clause-roots
+returns-in_err-reserve-clause-roots g c = roots_here (g.S.Store.disk c.args.store.now)
