@@ -1,4 +1,4 @@
--- The entries of a restart end with none that begins a pair of images, so that a journal with them can be replayed where they were taken.
+-- The last entry of a restart begins no pair of images, so that a journal with these entries can be replayed where they were taken.
 use Rattle.std.proofs.Common.{◌≡◌, inl, inr, ℕ, ◌+◌, ◌≤◌, Option, Some, None, List, [], ◌∷◌, ◌++◌, length, take, refl, sym, ◌∙◌, ap, subst, arith, append_assoc}
 use Rattle.std.specs.List.{filter}
 use Rattle.std.proofs.lemmas.List.{take_all, take-append-le}
@@ -11,7 +11,7 @@ use Rattle.entry_codec.specs.Drafts.{numbered}
 use Rattle.receiver_chain.proofs.Switches.{stays_here}
 use Rattle.journal_model.specs.Acts.{entry_before}
 use Rattle.journal_model.specs.Catalogue.{Descriptions}
-use Rattle.journal_model.specs.Journal.{CanReplayJournal, open_cycles}
+use Rattle.journal_model.specs.Journal.{open_cycles}
 use Rattle.journal_model.specs.Pairs.{BeginsNoPair}
 use Rattle.journal_model.specs.Replay.{is_in}
 use Rattle.journal_model.specs.Rollback.{MemberChange, all_rollback_drafts, cycle_draft, library_draft, numbered_from, restart_drafts, undo_drafts, undos_of}
@@ -22,7 +22,7 @@ use Rattle.journal_replay.specs.SoFar.{EndsWhole}
 use Rattle.journal_replay.specs.Standing.{Standing}
 use Rattle.journal_replay.proofs.SoFarLemmas.{entry_before-append, journal-whole}
 use Rattle.journal_opening.specs.Journals.{IsLeftBy, journal_with}
-use Rattle.restart_rollback.specs.Rollbacks.{IsForcedOrReplayed, rollback_entries, rolled_back}
+use Rattle.restart_rollback.specs.Rollbacks.{CanReopen, IsForcedOrReplayed, rollback_entries, rolled_back}
 
 -- ---- the last of them
 
@@ -53,14 +53,15 @@ rolled-whole job moment entries whole =
     subst (λ (last : Option Entry). BeginsNoPair last) (sym (entry_before-append None entries (rollback_entries job moment entries)))
     (restart-end job moment (undos_of [] None entries) (open_cycles (journal_with entries)) (length entries + 1) (entry_before None entries) whole)
 
-pub rolled-replays : (d : Descriptions) (job : Option (List ℕ)) (moment : ℕ) (entries : List Entry) (s : Standing) → EndsWhole (journal_with entries) → IsLeftBy d (rolled_back job moment entries) s
-    → CanReplayJournal d (journal_with (rolled_back job moment entries))
-rolled-replays d job moment entries s whole left = journal-whole d (journal_with (rolled_back job moment entries)) left.left.so_far (rolled-whole job moment entries whole) left.stays
+-- what entries leave tells that they can be replayed
+pub left-reopens : (d : Descriptions) (entries : List Entry) (s : Standing) → IsLeftBy d entries s → EndsWhole (journal_with entries) → CanReopen d entries
+left-reopens d entries s left whole = record { replays = journal-whole d (journal_with entries) left.left.so_far whole left.stays }
 
 -- ---- what a stop leaves
 
 -- nothing was done yet
-pub replayed-still : (d : Descriptions) (book : BookState) (entries more : List Entry) (disk : Disk) → Holds book entries disk → Leaves disk disk (IsForcedOrReplayed d book.chain.first book.forced (entries ++ more))
+pub replayed-still : (d : Descriptions) (book : BookState) (entries more : List Entry) (disk : Disk) → Holds book entries disk → Leaves disk disk
+    (IsForcedOrReplayed d book.chain.first book.forced (entries ++ more))
 replayed-still d book entries more disk holds =
     let counted = all_counted book entries disk holds in
     let within : book.forced ≤ length entries = omega (arith, counted) in
@@ -68,7 +69,8 @@ replayed-still d book entries more disk holds =
     (λ c may. inl (subst (λ (l : List Entry). SpellEntries book.chain.first l c) (sym (take-append-le book.forced entries more within)) (forced_left book entries disk holds c may)))
 
 -- all of them can be replayed
-pub replayed-exactly : (d : Descriptions) (receiver forced : ℕ) (entries : List Entry) (old new : Disk) → CanReplayJournal d (journal_with entries) → Leaves old new (IsForcedOrFrom receiver forced (length entries) entries)
+pub replayed-exactly : (d : Descriptions) (receiver forced : ℕ) (entries : List Entry) (old new : Disk) → CanReopen d entries → Leaves old new
+    (IsForcedOrFrom receiver forced (length entries) entries)
     → Leaves old new (IsForcedOrReplayed d receiver forced entries)
 replayed-exactly d receiver forced entries old new can leaves =
     leaves_less old new (IsForcedOrFrom receiver forced (length entries) entries) (IsForcedOrReplayed d receiver forced entries) leaves
@@ -78,11 +80,13 @@ replayed-exactly d receiver forced entries old new can leaves =
     ])
 
 -- while those that were taken are put behind these
-pub put-replayed : (d : Descriptions) (job : Option (List ℕ)) (moment : ℕ) (entries now more : List Entry) (s : Standing) (receiver forced : ℕ) (old new : Disk) → now ≡ entries → more ≡ rollback_entries job moment now
+pub put-replayed : (d : Descriptions) (job : Option (List ℕ)) (moment : ℕ) (entries now more : List Entry) (s : Standing) (receiver forced : ℕ) (old new : Disk) → now ≡ entries → more ≡
+    rollback_entries job moment now
     → IsLeftBy d (now ++ more) s → EndsWhole (journal_with entries) → Leaves old new (IsForcedOrFrom receiver forced (length (entries ++ more)) (entries ++ more))
     → Leaves old new (IsForcedOrReplayed d receiver forced (rolled_back job moment entries))
 put-replayed d job moment entries now more s receiver forced old new same is left whole leaves =
     let here : more ≡ rollback_entries job moment entries = is ∙ ap (rollback_entries job moment) same in
     replayed-exactly d receiver forced (rolled_back job moment entries) old new
-    (rolled-replays d job moment entries s whole (subst (λ (l : List Entry). IsLeftBy d (entries ++ l) s) here (subst (λ (l : List Entry). IsLeftBy d (l ++ more) s) same left)))
+    (left-reopens d (rolled_back job moment entries) s (subst (λ (l : List Entry). IsLeftBy d (entries ++ l) s) here (subst (λ (l : List Entry). IsLeftBy d (l ++ more) s) same left))
+    (rolled-whole job moment entries whole))
     (subst (λ (l : List Entry). Leaves old new (IsForcedOrFrom receiver forced (length (entries ++ l)) (entries ++ l))) here leaves)

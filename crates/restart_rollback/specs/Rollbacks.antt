@@ -16,6 +16,12 @@ rollback_entries job moment entries = numbered_from (length entries + 1) (restar
 abbrev pub rolled_back : (job : Option (List ℕ)) (moment : ℕ) → List Entry → List Entry
 rolled_back job moment entries = entries ++ rollback_entries job moment entries
 
--- exactly the entries that were forced, or all of these, which can be replayed then
+-- ---- what a stop leaves
+
+-- a store with these entries can be opened again
+pub record CanReopen (d : Descriptions) (entries : List Entry) : Type 0 where
+  pub replays : CanReplayJournal d (journal_with entries)
+
+-- exactly the entries that were forced, or all of these, with which it can be opened again
 abbrev pub IsForcedOrReplayed : Descriptions → (receiver forced : ℕ) → List Entry → Areas → Type 0
-IsForcedOrReplayed d receiver forced entries areas = SpellEntries receiver (take forced entries) areas ⊎ (SpellEntries receiver entries areas × CanReplayJournal d (journal_with entries))
+IsForcedOrReplayed d receiver forced entries areas = SpellEntries receiver (take forced entries) areas ⊎ (SpellEntries receiver entries areas × CanReopen d entries)

@@ -64,7 +64,8 @@ one-missing AbnormalEnd = inl refl
 one-missing (NextReceiver number) = inr (number - 1, refl)
 one-missing (PreviousReceiver number) = inl refl
 
-missing-none-or-one : (job : Option (List ℕ)) (moment : ℕ) (last : Option Entry) → (missing_behind job moment last ≡ []) ⊎ ((number : ℕ) × (missing_behind job moment last ≡ library_draft job moment (PreviousReceiver number) ∷ []))
+missing-none-or-one : (job : Option (List ℕ)) (moment : ℕ) (last : Option Entry) → (missing_behind job moment last ≡ []) ⊎
+    ((number : ℕ) × (missing_behind job moment last ≡ library_draft job moment (PreviousReceiver number) ∷ []))
 missing-none-or-one job moment None = inl refl
 missing-none-or-one job moment (Some last) = elim (one-missing last.kind) [
   | inl none ↦ inl (ap (missing_draft job moment) none)
@@ -99,7 +100,8 @@ module _ (job : Option (List ℕ)) (moment : ℕ) (entries : List Entry) where
   from-last : last_sequence (journal_with entries) ≡ length entries
   from-last = omega arith
 
-  restarted-by : (missing : List Draft) → missing_behind job moment (entry_before None entries) ≡ missing → restarted_entries job moment entries ≡ entries ++ numbered_from (length entries + 1) (missing ++ rolling)
+  restarted-by : (missing : List Draft) → missing_behind job moment (entry_before None entries) ≡ missing → restarted_entries job moment entries ≡ entries ++ numbered_from (length entries + 1)
+      (missing ++ rolling)
   restarted-by missing is =
       ap (λ (ds : List Draft). entries ++ numbered_from (last_sequence (journal_with entries) + 1) (ds ++ rolling)) is
       ∙ ap (λ (n : ℕ). entries ++ numbered_from (n + 1) (missing ++ rolling)) from-last
@@ -119,8 +121,10 @@ module _ (job : Option (List ℕ)) (moment : ℕ) (entries : List Entry) where
     rolled-one : rolled_back job moment (entries ++ its ∷ []) ≡ (entries ++ its ∷ []) ++ numbered_from (length entries + 1 + 1) rolling
     rolled-one =
         ap (λ (n : ℕ). (entries ++ its ∷ []) ++ numbered_from (n + 1) (restart_drafts job moment (open_cycles (journal_with (entries ++ its ∷ []))) (undos_of [] None (entries ++ its ∷ [])))) long
-        ∙ ap (λ (cycles : List ℕ). (entries ++ its ∷ []) ++ numbered_from (length entries + 1 + 1) (restart_drafts job moment cycles (undos_of [] None (entries ++ its ∷ [])))) (cycles-begun job moment number (length entries + 1) entries)
-        ∙ ap (λ (undos : List MemberChange). (entries ++ its ∷ []) ++ numbered_from (length entries + 1 + 1) (restart_drafts job moment (open_cycles (journal_with entries)) undos)) (undos-begun job moment number (length entries + 1) entries)
+        ∙ ap (λ (cycles : List ℕ). (entries ++ its ∷ []) ++ numbered_from (length entries + 1 + 1) (restart_drafts job moment cycles (undos_of [] None (entries ++ its ∷ []))))
+        (cycles-begun job moment number (length entries + 1) entries)
+        ∙ ap (λ (undos : List MemberChange). (entries ++ its ∷ []) ++ numbered_from (length entries + 1 + 1) (restart_drafts job moment (open_cycles (journal_with entries)) undos))
+        (undos-begun job moment number (length entries + 1) entries)
 
     ends-one : rolled_back job moment (begun_with job moment entries) ≡ restarted_entries job moment entries
     ends-one =

@@ -10,16 +10,15 @@ use Rattle.entry_codec.specs.Spelling.{HasSpelling, spelling}
 use Rattle.journal_model.specs.Catalogue.{Descriptions}
 use Rattle.journal_model.specs.Rollback.{library_draft}
 use Rattle.journal_replay.specs.Standing.{Standing}
-use Rattle.journal_replay.proofs.SoFarLemmas.{journal-whole}
 use Rattle.receiver_chain.specs.Chain.{ChainState}
 use Rattle.receiver_chain.specs.Receivers.{Kept}
 use Rattle.journal_book.specs.Book.{BookState, HasMoreRoom, Holds, IsHeld, Keeps, with_entry}
 use Rattle.journal_book.specs.Kept.{IsForcedOrFrom}
 use Rattle.journal_book.proofs.Deposits.{holds_same_chain}
-use Rattle.journal_opening.specs.Journals.{IsLeftBy, journal_with}
+use Rattle.journal_opening.specs.Journals.{IsLeftBy}
 use Rattle.restart_rollback.specs.Rollbacks.{IsForcedOrReplayed}
 use Rattle.restart_rollback.proofs.PutLemmas.{roomy-moments}
-use Rattle.restart_rollback.proofs.Wholes.{replayed-exactly}
+use Rattle.restart_rollback.proofs.Wholes.{left-reopens, replayed-exactly}
 use Rattle.restarted_journal.specs.Restarts.{first_entry}
 use Rattle.restarted_journal.proofs.Beginnings.{first-whole}
 
@@ -45,7 +44,8 @@ module _ (old new : BookState) (e its : Entry) (is : e ≡ its) (deposited : new
 
   module _ (keeps : (kept : Kept) (entries : List Entry) → Keeps old kept entries → Keeps new kept (entries ++ its ∷ [])) (entries : List Entry) (disk : Disk) where
     pub deposited-holds : Holds old entries disk → Holds new (entries ++ e ∷ []) disk
-    deposited-holds holds = holds_same_chain old new entries (entries ++ e ∷ []) disk chain-same (λ kept front. subst (λ (x : Entry). Keeps new kept (entries ++ x ∷ [])) (sym is) (keeps kept entries front)) holds
+    deposited-holds holds = holds_same_chain old new entries (entries ++ e ∷ []) disk chain-same (λ kept front. subst (λ (x : Entry). Keeps new kept (entries ++ x ∷ [])) (sym is)
+    (keeps kept entries front)) holds
 
     pub deposited-held : Holds old entries disk → IsHeld new disk
     deposited-held holds = ∣ (entries ++ e ∷ [], deposited-holds holds) ∣₁
@@ -56,13 +56,15 @@ module _ (old new : BookState) (e its : Entry) (is : e ≡ its) (deposited : new
 
 -- ---- the entry by which a receiver begins
 
-pub entry-is : (job : Option (List ℕ)) (moment number count : ℕ) (draft : Draft) (e : Entry) (sequence : ℕ) → draft ≡ library_draft job moment (PreviousReceiver number) → e ≡ numbered draft sequence → sequence ≡ count + 1
+pub entry-is : (job : Option (List ℕ)) (moment number count : ℕ) (draft : Draft) (e : Entry) (sequence : ℕ) → draft ≡ library_draft job moment (PreviousReceiver number) → e ≡ numbered draft
+    sequence → sequence ≡ count + 1
     → e ≡ first_entry job moment number (count + 1)
 entry-is job moment number count draft e sequence from is behind =
     is ∙ ap (λ (d : Draft). numbered d sequence) from ∙ ap (λ (n : ℕ). numbered (library_draft job moment (PreviousReceiver number)) n) behind
 
 -- it is put behind the others, in a book that got room
-module _ (job : Option (List ℕ)) (moment number sequence : ℕ) (book roomy : BookState) (room : HasMoreRoom book roomy) (entries : List Entry) (e : Entry) (is : e ≡ first_entry job moment number sequence) (old new : Disk)
+module _ (job : Option (List ℕ)) (moment number sequence : ℕ) (book roomy : BookState) (room : HasMoreRoom book roomy) (entries : List Entry) (e : Entry)
+    (is : e ≡ first_entry job moment number sequence) (old new : Disk)
     (leaves : Leaves old new (IsForcedOrFrom roomy.chain.first roomy.forced (length (entries ++ e ∷ [])) (entries ++ e ∷ []))) where
   abbrev its : Entry
   its = first_entry job moment number sequence
@@ -77,4 +79,4 @@ module _ (job : Option (List ℕ)) (moment number sequence : ℕ) (book roomy : 
   first-replays d s left =
       let here : IsLeftBy d (entries ++ its ∷ []) s = subst (λ (x : Entry). IsLeftBy d (entries ++ x ∷ []) s) is left in
       replayed-exactly d book.chain.first book.forced (entries ++ its ∷ []) old new
-      (journal-whole d (journal_with (entries ++ its ∷ [])) here.left.so_far (first-whole job moment number sequence entries) here.stays) first-moments
+      (left-reopens d (entries ++ its ∷ []) s here (first-whole job moment number sequence entries)) first-moments

@@ -21,8 +21,9 @@ use Rattle.journal_replay.specs.SoFar.{EndsWhole}
 use Rattle.journal_replay.specs.Standing.{Standing}
 use Rattle.journal_opening.specs.Journals.{IsLeftBy, SpellJournal, journal_with}
 use Rattle.journal_opening.proofs.Books.{book_spells}
+use Rattle.restart_rollback.proofs.Wholes.{left-reopens}
 use Rattle.restarted_journal.specs.Restarts.{IsEnded, IsEnding, IsRestarted, IsRestarting, MayRestart}
-use Rattle.restarted_journal.proofs.Ends.{all-forced, replays-whole}
+use Rattle.restarted_journal.proofs.Ends.{all-forced}
 
 root-before : ROOT_AREA < area_of FIRST_RECEIVER
 root-before = omega arith
@@ -49,7 +50,7 @@ module _ (roots : RootsState) (mid new : Disk) (has : HasRoots roots mid) (first
       later = ends.later;
       images = λ areas since.
           let ending = ends.images areas since in
-          record { left = ending.left; which = ending.which; spells = record { earlier = has.0; roots = roots-left areas since; spelled = ending.spells; replays = ending.replays } };
+          record { left = ending.left; which = ending.which; spells = record { earlier = has.0; roots = roots-left areas since; spelled = ending.spells; replays = ending.reopens.replays } };
     }
 
     -- from the store as it was before it was opened
@@ -68,7 +69,7 @@ module _ (roots : RootsState) (mid new : Disk) (has : HasRoots roots mid) (first
         earlier = has.0;
         roots = roots-seen;
         spelled = book_spells book entries new (ended.held told) ended.nothing_waits ended.receiver new.seen (λ area. refl);
-        replays = ended.replays;
+        replays = ended.reopens.replays;
       }
 
       -- and a stop leaves that
@@ -80,7 +81,7 @@ module _ (roots : RootsState) (mid new : Disk) (has : HasRoots roots mid) (first
             let all : book.forced ≡ length entries = all-forced book entries new (ended.held told) ended.nothing_waits in
             subst (λ (n : ℕ). SpellEntries n entries areas) ended.receiver
                 (subst (λ (l : List Entry). SpellEntries book.chain.first l areas) (take_all book.forced entries (omega (arith, all))) (forced_left book entries new (ended.held told) areas may));
-        replays = ended.replays;
+        replays = ended.reopens.replays;
       }
 
 -- opening alone
@@ -88,11 +89,13 @@ pub stays-may : (d : Descriptions) (old new : Disk) (job : Option (List ℕ)) (m
 stays-may d old new job moment entries stays = leaves_stays old new (MayRestart d old job moment entries) stays (λ areas may. inl may)
 
 -- what was opened can be replayed, and is what the store spelled
-pub ended-restarted : (d : Descriptions) (tells : Type 0) (old new : Disk) (job : Option (List ℕ)) (moment : ℕ) (opened : List Entry) (s : Standing) → IsLeftBy d opened s → EndsWhole (journal_with opened)
-    → (tells → SpellJournal d opened old.seen) → (book : BookState) (entries : List Entry) (after : Standing) → IsEnded d tells new job moment opened book entries after → IsRestarted d tells old new job moment book entries after
+pub ended-restarted : (d : Descriptions) (tells : Type 0) (old new : Disk) (job : Option (List ℕ)) (moment : ℕ) (opened : List Entry) (s : Standing) → IsLeftBy d opened s → EndsWhole
+    (journal_with opened)
+    → (tells → SpellJournal d opened old.seen) → (book : BookState) (entries : List Entry) (after : Standing) → IsEnded d tells new job moment opened book entries after → IsRestarted d tells old
+    new job moment book entries after
 ended-restarted d tells old new job moment opened s left whole spelled book entries after ended = record {
   before = opened;
-  replays = replays-whole d opened s left whole;
+  replays = (left-reopens d opened s left whole).replays;
   spelled = spelled;
   ended = ended;
 }

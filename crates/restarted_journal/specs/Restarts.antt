@@ -15,6 +15,7 @@ use Rattle.receiver_chain.specs.declared.numbers.TheConstants.{FIRST_RECEIVER}
 use Rattle.journal_book.specs.Book.{BookState, Holds}
 use Rattle.journal_book.specs.Kept.{SpellEntries}
 use Rattle.journal_opening.specs.Journals.{IsLeftBy, SpellJournal, journal_with}
+use Rattle.restart_rollback.specs.Rollbacks.{CanReopen}
 
 -- the kind of the entry by which the receiver behind the one of this number begins
 abbrev pub beginning : Option ℕ → Option EntryKind
@@ -38,12 +39,12 @@ restarted_entries job moment entries = (restarted job moment (journal_with entri
 abbrev pub IsStage : (job : Option (List ℕ)) (moment : ℕ) → (entries left : List Entry) → Type 0
 IsStage job moment entries left = (left ≡ entries) ⊎ ((left ≡ begun_with job moment entries) ⊎ (left ≡ restarted_entries job moment entries))
 
--- the receivers hold such entries, which can be replayed
+-- the receivers hold such entries, with which a store can be opened again
 pub record IsEnding (d : Descriptions) (job : Option (List ℕ)) (moment : ℕ) (entries : List Entry) (areas : Areas) : Type 0 where
   pub left : List Entry
   pub which : IsStage job moment entries left
   pub spells : SpellEntries FIRST_RECEIVER left areas
-  pub replays : CanReplayJournal d (journal_with left)
+  pub reopens : CanReopen d left
 
 -- the areas spell the journal of such entries, with its roots
 pub record IsRestarting (d : Descriptions) (job : Option (List ℕ)) (moment : ℕ) (entries : List Entry) (areas : Areas) : Type 0 where
@@ -57,13 +58,13 @@ MayRestart d disk job moment entries areas = May disk areas ⊎ IsRestarting d j
 
 -- ---- when it is done
 
--- these entries were ended: the book holds what they are then, all of it on the disk, it can be replayed, and this is what it leaves
+-- these entries were ended: the book holds what they are then, all of it on the disk, a store can be opened again with that, and this is what it leaves
 pub record IsEnded (d : Descriptions) (tells : Type 0) (disk : Disk) (job : Option (List ℕ)) (moment : ℕ) (before : List Entry) (book : BookState) (entries : List Entry) (s : Standing) : Type 0 where
   pub ended : entries ≡ restarted_entries job moment before
   pub held : tells → Holds book entries disk
   pub nothing_waits : book.waiting ≡ 0
   pub receiver : book.chain.first ≡ FIRST_RECEIVER
-  pub replays : CanReplayJournal d (journal_with entries)
+  pub reopens : CanReopen d entries
   pub left : IsLeftBy d entries s
   pub closed : s.cycles ≡ []
 
