@@ -1,5 +1,5 @@
 //! What becomes of the entries of one call. `journal.rt` has the journal.
-ghost use Rattle.std.specs.Prelude.{◌≡◌, ◌+◌, ◌<◌, ◌≤◌, ℕ, true, false, List, ◌++◌, length, OnOk, IsErr};
+ghost use Rattle.std.specs.Prelude.{◌≡◌, ◌⊎◌, ◌+◌, ◌<◌, ◌≤◌, ℕ, true, false, List, ◌++◌, length, OnOk, IsErr};
 ghost use Rattle.store_model.specs.Disk.{Leaves};
 ghost use Rattle.store_model.specs.Faults.{Rose};
 ghost use Rattle.entry_codec.specs.declared.entries.Entry.{Entry};
@@ -30,6 +30,7 @@ impl KeptJournal {
         ensures moments { S.tells → (all : List Entry) → Holds self.old all (S.disk store.old) → Leaves (S.disk store.old) (S.disk store.new) (IsForcedOrFrom self.old.chain.first self.old.forced (length (all ++ entries.now)) (all ++ entries.now)) }
         ensures roots { LeavesRoots (S.disk store.old) (S.disk store.new) }
         ensures acknowledged { OnOk result (forced ≡ true → self.new.waiting ≡ 0) }
+        ensures whole { OnOk result ((self.new.forced ≡ self.old.forced) ⊎ (self.new.waiting ≡ 0)) }
         ensures little { OnOk result (length self.new.buffered < MUCH) }
         ensures next { OnOk result (next_of self.new ≡ next_of self.old + length entries.now) }
         ensures first { self.new.first ≡ self.old.first }
@@ -51,6 +52,7 @@ impl KeptJournal {
         ensures moments { S.tells → (all : List Entry) → Holds self.old all (S.disk store.old) → Leaves (S.disk store.old) (S.disk store.new) (IsForcedOrFrom self.old.chain.first self.old.forced (length all) all) }
         ensures roots { LeavesRoots (S.disk store.old) (S.disk store.new) }
         ensures acknowledged { OnOk result (forced ≡ true → self.new.waiting ≡ 0) }
+        ensures whole { OnOk result ((self.new.forced ≡ self.old.forced) ⊎ (self.new.waiting ≡ 0)) }
         ensures little { OnOk result (length self.new.buffered < MUCH) }
         ensures next { OnOk result (next_of self.new ≡ next_of self.old) }
         ensures first { self.new.first ≡ self.old.first }

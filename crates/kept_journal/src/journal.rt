@@ -1,5 +1,5 @@
 //! A book with room for the largest block, which takes the entries of whole calls.
-ghost use Rattle.std.specs.Prelude.{◌≡◌, ◌+◌, ◌<◌, ◌≤◌, ◌^◌, ℕ, true, List, [], ◌++◌, length, IfOk, OnOk, OnErr, IsErr, IsErrOf, IsOk, false};
+ghost use Rattle.std.specs.Prelude.{◌≡◌, ◌⊎◌, ◌+◌, ◌<◌, ◌≤◌, ◌^◌, ℕ, true, List, [], ◌++◌, length, IfOk, OnOk, OnErr, IsErr, IsErrOf, IsOk, false};
 ghost use Rattle.store_model.specs.Disk.{Leaves};
 ghost use Rattle.store_model.specs.Faults.{Rose};
 ghost use Rattle.entry_codec.specs.declared.entries.Entry.{Entry};
@@ -154,6 +154,11 @@ impl KeptJournal {
         ensures less_places { OnOk result (self.old.chain.room ≤ self.new.chain.room + 1) }
         ensures same_number { OnErr result (attached_of self.new.chain ≡ attached_of self.old.chain) }
         ensures no_memory { IsErrOf result ChainFault.NoMemory → S.tells → (entries : List Entry) → Holds self.old entries (S.disk store.old) → Holds self.new entries (S.disk store.new) }
+        ensures same_next { IsErrOf result ChainFault.NoMemory → next_of self.new ≡ next_of self.old }
+        ensures same_forced { IsErrOf result ChainFault.NoMemory → (self.new.forced ≡ self.old.forced) ⊎ (self.new.waiting ≡ 0) }
+        ensures same_places { IsErrOf result ChainFault.NoMemory → self.old.chain.room ≤ self.new.chain.room + 1 }
+        ensures no_longer { length self.new.buffered ≤ length self.old.buffered }
+        ensures faults { (S.disk store.old).faults ≤ (S.disk store.new).faults }
         ensures cause { IsErrOf result ChainFault.StoreFault → Rose (S.disk store.old).faults (S.disk store.new).faults }
     {
         self.book.switch(alloc, store, nr, pr)

@@ -39,6 +39,7 @@ impl Chain {
         ensures roots { LeavesRoots (S.disk store.old) (S.disk store.new) }
         ensures no_memory { IsErrOf result ChainFault.NoMemory → S.tells → (kept : Kept) → Holds self.old kept (S.disk store.old) → Holds self.new kept (S.disk store.new) }
         ensures cause { IsErrOf result ChainFault.StoreFault → Rose (S.disk store.old).faults (S.disk store.new).faults }
+        ensures faults { (S.disk store.old).faults ≤ (S.disk store.new).faults }
         ensures firsts { OnOk result ((blocks : IsSwitch (attached_of self.old) nr.now pr.now) → firsts (logs_of self.new) ≡ firsts (logs_of self.old) ++ (blocks.before + 1) ∷ []) }
         ensures lengths { OnOk result ((blocks : IsSwitch (attached_of self.old) nr.now pr.now) → lengths_in (logs_of self.new) ≡ lengths_in self.old.earlier ++ (self.old.attached.lengths ++ length blocks.ending ∷ []) ∷ (length blocks.beginning ∷ []) ∷ []) }
         ensures same_first { self.new.first ≡ self.old.first }

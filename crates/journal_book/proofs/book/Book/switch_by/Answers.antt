@@ -150,6 +150,22 @@ returns-clause-freed g c = omega (arith, c.force.ensures.freed, c.attach.ensures
 pub returns-clause-no_longer : goal.returns-clause-no_longer
 returns-clause-no_longer g c = omega (arith, c.force.ensures.no_longer, ap length c.attach.ensures.buffered)
 
+pub returns-in_err-receiver-clause-same_next : goal.returns-in_err-receiver-clause-same_next
+returns-in_err-receiver-clause-same_next g c = λ is.
+    omega (arith, c.in_ok-force.ensures.all, c.in_ok-force.ensures.nothing_waits, c.force.ensures.first, c.in_err-receiver.ensures.same_count, c.attach.ensures.nothing_waits, c.attach.ensures.first)
+
+pub returns-in_err-receiver-clause-same_forced : goal.returns-in_err-receiver-clause-same_forced
+returns-in_err-receiver-clause-same_forced g c = λ is. inr (c.attach.ensures.nothing_waits ∙ c.in_ok-force.ensures.nothing_waits)
+
+pub returns-in_err-receiver-clause-same_places : goal.returns-in_err-receiver-clause-same_places
+returns-in_err-receiver-clause-same_places g c = λ is. omega (arith, c.in_ok-force.ensures.less_places, c.attach.ensures.places)
+
+pub returns-in_err-receiver-clause-faults : goal.returns-in_err-receiver-clause-faults
+returns-in_err-receiver-clause-faults g c = omega (arith, c.force.ensures.faults, c.attach.ensures.faults)
+
+pub returns-clause-faults : goal.returns-clause-faults
+returns-clause-faults g c = omega (arith, c.force.ensures.faults, c.attach.ensures.faults)
+
 pub returns-in_err-ending-clause-roots : goal.returns-in_err-ending-clause-roots
 returns-in_err-ending-clause-roots g c = roots_here (g.S.Store.disk c.args.store.now)
 
@@ -157,7 +173,8 @@ pub returns-in_err-beginning-clause-roots : goal.returns-in_err-beginning-clause
 returns-in_err-beginning-clause-roots g c = roots_here (g.S.Store.disk c.args.store.now)
 
 pub returns-in_err-receiver-clause-roots : goal.returns-in_err-receiver-clause-roots
-returns-in_err-receiver-clause-roots g c = roots_then (g.S.Store.disk c.args.store.now) (g.S.Store.disk c.force.new.store) (g.S.Store.disk c.attach.new.store) c.force.ensures.roots c.attach.ensures.roots
+returns-in_err-receiver-clause-roots g c = roots_then (g.S.Store.disk c.args.store.now) (g.S.Store.disk c.force.new.store) (g.S.Store.disk c.attach.new.store) c.force.ensures.roots
+    c.attach.ensures.roots
 
 pub returns-clause-roots : goal.returns-clause-roots
 returns-clause-roots g c = roots_then (g.S.Store.disk c.args.store.now) (g.S.Store.disk c.force.new.store) (g.S.Store.disk c.attach.new.store) c.force.ensures.roots c.attach.ensures.roots

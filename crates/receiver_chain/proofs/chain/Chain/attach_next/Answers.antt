@@ -209,6 +209,18 @@ returns-clause-lengths g c = λ blocks.
     (length blocks.beginning ∷ []) pushed more last
     ∙ ap (λ (v : ChainState). lengths_in v.earlier ++ (v.attached.lengths ++ length blocks.ending ∷ []) ∷ (length blocks.beginning ∷ []) ∷ []) c.self.view_is
 
+pub returns-in_err-next-clause-faults : goal.returns-in_err-next-clause-faults
+returns-in_err-next-clause-faults g c = c.make_next.ensures.any_moment.later.faults
+
+pub returns-in_err-append-clause-faults : goal.returns-in_err-append-clause-faults
+returns-in_err-append-clause-faults g c = omega (arith, c.make_next.ensures.any_moment.later.faults, c.append.ensures.apart.later.faults)
+
+pub returns-in_err-append-2-clause-faults : goal.returns-in_err-append-2-clause-faults
+returns-in_err-append-2-clause-faults g c = omega (arith, c.make_next.ensures.any_moment.later.faults, c.append.ensures.apart.later.faults, c.append-2.ensures.apart.later.faults)
+
+pub returns-clause-faults : goal.returns-clause-faults
+returns-clause-faults g c = omega (arith, c.make_next.ensures.any_moment.later.faults, c.append.ensures.apart.later.faults, c.append-2.ensures.apart.later.faults)
+
 pub returns-in_default-clause-roots : goal.returns-in_default-clause-roots
 returns-in_default-clause-roots g c = roots_here (g.S.Store.disk c.args.store.now)
 
@@ -224,19 +236,25 @@ returns-in_err-next-clause-roots g c =
 
 pub returns-in_err-append-clause-roots : goal.returns-in_err-append-clause-roots
 returns-in_err-append-clause-roots g c =
-    roots_then (g.S.Store.disk c.args.store.now) (g.S.Store.disk c.make_next.new.store) (g.S.Store.disk c.append.new.store) (roots_does (area_of (c.attached-receiver.result + 1)) Anything (g.S.Store.disk c.args.store.now) (g.S.Store.disk c.make_next.new.store) (omega arith) c.make_next.ensures.any_moment)
-    (roots_does c.reserve-2.new.self.area Anything (g.S.Store.disk c.make_next.new.store) (g.S.Store.disk c.append.new.store) (omega (arith, c.reserve-2.ensures.same_area, c.self.invariant.0, c.self.invariant.2)) c.append.ensures.apart)
+    roots_then (g.S.Store.disk c.args.store.now) (g.S.Store.disk c.make_next.new.store) (g.S.Store.disk c.append.new.store)
+    (roots_does (area_of (c.attached-receiver.result + 1)) Anything (g.S.Store.disk c.args.store.now) (g.S.Store.disk c.make_next.new.store) (omega arith) c.make_next.ensures.any_moment)
+    (roots_does c.reserve-2.new.self.area Anything (g.S.Store.disk c.make_next.new.store) (g.S.Store.disk c.append.new.store)
+    (omega (arith, c.reserve-2.ensures.same_area, c.self.invariant.0, c.self.invariant.2)) c.append.ensures.apart)
 
 pub returns-in_err-append-2-clause-roots : goal.returns-in_err-append-2-clause-roots
 returns-in_err-append-2-clause-roots g c =
     roots_then (g.S.Store.disk c.args.store.now) (g.S.Store.disk c.append.new.store) (g.S.Store.disk c.append-2.new.store)
-    (roots_then (g.S.Store.disk c.args.store.now) (g.S.Store.disk c.make_next.new.store) (g.S.Store.disk c.append.new.store) (roots_does (area_of (c.attached-receiver.result + 1)) Anything (g.S.Store.disk c.args.store.now) (g.S.Store.disk c.make_next.new.store) (omega arith) c.make_next.ensures.any_moment)
-    (roots_does c.reserve-2.new.self.area Anything (g.S.Store.disk c.make_next.new.store) (g.S.Store.disk c.append.new.store) (omega (arith, c.reserve-2.ensures.same_area, c.self.invariant.0, c.self.invariant.2)) c.append.ensures.apart))
+    (roots_then (g.S.Store.disk c.args.store.now) (g.S.Store.disk c.make_next.new.store) (g.S.Store.disk c.append.new.store)
+    (roots_does (area_of (c.attached-receiver.result + 1)) Anything (g.S.Store.disk c.args.store.now) (g.S.Store.disk c.make_next.new.store) (omega arith) c.make_next.ensures.any_moment)
+    (roots_does c.reserve-2.new.self.area Anything (g.S.Store.disk c.make_next.new.store) (g.S.Store.disk c.append.new.store)
+    (omega (arith, c.reserve-2.ensures.same_area, c.self.invariant.0, c.self.invariant.2)) c.append.ensures.apart))
     (roots_does c.in_ok-next.next.area Anything (g.S.Store.disk c.append.new.store) (g.S.Store.disk c.append-2.new.store) (omega (arith, c.in_ok-next.ensures.area)) c.append-2.ensures.apart)
 
 pub returns-clause-roots : goal.returns-clause-roots
 returns-clause-roots g c =
     roots_then (g.S.Store.disk c.args.store.now) (g.S.Store.disk c.append.new.store) (g.S.Store.disk c.append-2.new.store)
-    (roots_then (g.S.Store.disk c.args.store.now) (g.S.Store.disk c.make_next.new.store) (g.S.Store.disk c.append.new.store) (roots_does (area_of (c.attached-receiver.result + 1)) Anything (g.S.Store.disk c.args.store.now) (g.S.Store.disk c.make_next.new.store) (omega arith) c.make_next.ensures.any_moment)
-    (roots_does c.reserve-2.new.self.area Anything (g.S.Store.disk c.make_next.new.store) (g.S.Store.disk c.append.new.store) (omega (arith, c.reserve-2.ensures.same_area, c.self.invariant.0, c.self.invariant.2)) c.append.ensures.apart))
+    (roots_then (g.S.Store.disk c.args.store.now) (g.S.Store.disk c.make_next.new.store) (g.S.Store.disk c.append.new.store)
+    (roots_does (area_of (c.attached-receiver.result + 1)) Anything (g.S.Store.disk c.args.store.now) (g.S.Store.disk c.make_next.new.store) (omega arith) c.make_next.ensures.any_moment)
+    (roots_does c.reserve-2.new.self.area Anything (g.S.Store.disk c.make_next.new.store) (g.S.Store.disk c.append.new.store)
+    (omega (arith, c.reserve-2.ensures.same_area, c.self.invariant.0, c.self.invariant.2)) c.append.ensures.apart))
     (roots_does c.in_ok-next.next.area Anything (g.S.Store.disk c.append.new.store) (g.S.Store.disk c.append-2.new.store) (omega (arith, c.in_ok-next.ensures.area)) c.append-2.ensures.apart)

@@ -78,7 +78,8 @@ returns-in_err-drop_first-clause-roots g c =
     let least : 1 ≤ c.args.self.now.first = omega (arith, c.first-first.ensures.number, c.first-first.ensures.least) in
     roots_then (g.S.Store.disk c.args.store.now) (g.S.Store.disk c.loop-first.store) (g.S.Store.disk c.drop_first.new.store)
     (roots_cut (g.S.Store.disk c.args.store.now) (g.S.Store.disk c.loop-first.store) c.args.self.now.first c.loop-first.first least c.loop-first.invariant.moments c.loop-first.invariant.others)
-    (roots_does (area_of c.loop-first.self.first) (Cut 0) (g.S.Store.disk c.loop-first.store) (g.S.Store.disk c.drop_first.new.store) (omega (arith, least, c.loop-first.invariant.from, c.loop-first.invariant.first)) c.drop_first.ensures.does)
+    (roots_does (area_of c.loop-first.self.first) (Cut 0) (g.S.Store.disk c.loop-first.store) (g.S.Store.disk c.drop_first.new.store)
+    (omega (arith, least, c.loop-first.invariant.from, c.loop-first.invariant.first)) c.drop_first.ensures.does)
 
 pub returns-clause-roots : goal.returns-clause-roots
 returns-clause-roots g c =
