@@ -1,6 +1,6 @@
 -- What calls on receivers leave of the areas before the first receiver's, one call after another: for crates that hold chains.
 use Rattle.std.proofs.Common.{◌≡◌, ◌≢◌, inl, inr, ℕ, ◌<◌, ◌≤◌, List, refl, sym, ◌∙◌, arith}
-use Rattle.store_model.specs.Disk.{Areas, Disk, Does, IsDurable, Leaves, Stays}
+use Rattle.store_model.specs.Disk.{Disk, Does, IsDurable, Leaves, Stays}
 use Rattle.store_model.proofs.Runs.{later_trans}
 use Rattle.receiver_chain.specs.declared.numbers.TheConstants.{FIRST_RECEIVER}
 use Rattle.receiver_chain.specs.Receivers.{IsCutOf, area_of}

@@ -75,6 +75,11 @@ put-requires-clause-held g c = λ tells. roomy-holds c.args.book.now c.make_room
 pub put-requires-clause-alone : goal.put-requires-clause-alone
 put-requires-clause-alone g c = c.make_room.ensures.same.waiting ∙ c.requires.alone
 
+pub make_room-requires : goal.make_room-requires
+make_room-requires g c = subst (λ (x : Entry). HasSpelling x) (sym (entry-is c.args.who.now.job c.args.who.now.moment c.args.number (length c.args.entries.now.items)
+    c.first_draft.result c.numbered-entry.result c.in_ok-sequence.sequence c.first_draft.ensures c.numbered-entry.ensures c.in_ok-sequence.ensures))
+    (first-spelled c.args.number (length c.args.entries.now.items + 1))
+
 pub put-requires-clause-spelled : goal.put-requires-clause-spelled
 put-requires-clause-spelled g c = subst (λ (x : Entry). HasSpelling x) (sym (entry-is c.args.who.now.job c.args.who.now.moment c.args.number (length c.args.entries.now.items)
     c.first_draft.result c.numbered-entry.result c.in_ok-sequence.sequence c.first_draft.ensures c.numbered-entry.ensures c.in_ok-sequence.ensures))
