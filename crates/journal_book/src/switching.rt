@@ -9,6 +9,7 @@ ghost use Rattle.entry_codec.specs.Drafts.{numbered};
 ghost use Rattle.entry_codec.specs.Spelling.{HasSpelling, IsSpelled, spelling};
 ghost use Rattle.receiver_chain.specs.declared.numbers.TheConstants.{MAX_RECEIVER};
 ghost use Rattle.receiver_chain.specs.Chain.{attached_of};
+ghost use Rattle.receiver_chain.specs.Others.{LeavesRoots};
 ghost use Rattle.journal_book.specs.Book.{Holds, IsHeld, last_of, next_of};
 ghost use Rattle.journal_book.specs.Kept.{IsForcedOrFrom, IsKept, SpellEntries};
 ghost use Rattle.journal_book.specs.Switch.{AreTieBlocks, IsTie, tied_by};
@@ -44,6 +45,7 @@ impl Book {
         ensures switched { OnOk result (S.tells → (entries : List Entry) → Holds self.old entries (S.disk store.old) → Holds self.new (entries ++ tied_by nr pr (next_of self.old)) (S.disk store.new)) }
         ensures moments { S.tells → (entries : List Entry) → Holds self.old entries (S.disk store.old) → Leaves (S.disk store.old) (S.disk store.new) (IsKept self.old.chain.first self.old.forced (entries ++ tied_by nr pr (next_of self.old))) }
         ensures exactly { S.tells → (entries : List Entry) → Holds self.old entries (S.disk store.old) → Leaves (S.disk store.old) (S.disk store.new) (IsForcedOrFrom self.old.chain.first self.old.forced (length entries) (entries ++ tied_by nr pr (next_of self.old))) }
+        ensures roots { LeavesRoots (S.disk store.old) (S.disk store.new) }
         ensures number { IfOk result (λ receiver. receiver ≡ attached_of self.old.chain + 1) }
         ensures attached { IfOk result (λ receiver. receiver ≡ attached_of self.new.chain) }
         ensures nothing_waits { OnOk result (self.new.waiting ≡ 0) }
@@ -94,6 +96,7 @@ impl Book {
         ensures switched { OnOk result (S.tells → (entries : List Entry) → Holds self.old entries (S.disk store.old) → Holds self.new (entries ++ nr.now ∷ pr.now ∷ []) (S.disk store.new)) }
         ensures moments { S.tells → (entries : List Entry) → Holds self.old entries (S.disk store.old) → Leaves (S.disk store.old) (S.disk store.new) (IsKept self.old.chain.first self.old.forced (entries ++ nr.now ∷ pr.now ∷ [])) }
         ensures exactly { S.tells → (entries : List Entry) → Holds self.old entries (S.disk store.old) → Leaves (S.disk store.old) (S.disk store.new) (IsForcedOrFrom self.old.chain.first self.old.forced (length entries) (entries ++ nr.now ∷ pr.now ∷ [])) }
+        ensures roots { LeavesRoots (S.disk store.old) (S.disk store.new) }
         ensures number { IfOk result (λ receiver. receiver ≡ attached_of self.old.chain + 1) }
         ensures attached { IfOk result (λ receiver. receiver ≡ attached_of self.new.chain) }
         ensures nothing_waits { OnOk result (self.new.waiting ≡ 0) }
@@ -138,6 +141,7 @@ impl Book {
         requires few { last_of self.old ≤ 2 ^ 63 }
         ensures switched { OnOk result (S.tells → (entries : List Entry) (nr pr : Entry) → AreTieBlocks self.old nr pr ending.now beginning.now → Holds self.old entries (S.disk store.old) → Holds self.new (entries ++ nr ∷ pr ∷ []) (S.disk store.new)) }
         ensures moments { S.tells → (entries : List Entry) (nr pr : Entry) → AreTieBlocks self.old nr pr ending.now beginning.now → Holds self.old entries (S.disk store.old) → Leaves (S.disk store.old) (S.disk store.new) (IsKept self.old.chain.first self.old.forced (entries ++ nr ∷ pr ∷ [])) }
+        ensures roots { LeavesRoots (S.disk store.old) (S.disk store.new) }
         ensures number { IfOk result (λ receiver. receiver ≡ attached_of self.old.chain + 1) }
         ensures attached { IfOk result (λ receiver. receiver ≡ attached_of self.new.chain) }
         ensures nothing_waits { self.new.waiting ≡ self.old.waiting }

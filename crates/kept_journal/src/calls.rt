@@ -4,6 +4,7 @@ ghost use Rattle.store_model.specs.Disk.{Leaves};
 ghost use Rattle.store_model.specs.Faults.{Rose};
 ghost use Rattle.entry_codec.specs.declared.entries.Entry.{Entry};
 ghost use Rattle.receiver_chain.specs.Chain.{attached_of};
+ghost use Rattle.receiver_chain.specs.Others.{LeavesRoots};
 ghost use Rattle.journal_book.specs.Book.{Holds, IsHeld, next_of};
 ghost use Rattle.journal_book.specs.Kept.{IsForcedOrFrom};
 ghost use Rattle.kept_journal.specs.Journals.{MayWait};
@@ -27,6 +28,7 @@ impl KeptJournal {
         requires place { 0 < self.old.chain.room }
         ensures kept { OnOk result (S.tells → (all : List Entry) → Holds self.old all (S.disk store.old) → Holds self.new (all ++ entries.now) (S.disk store.new)) }
         ensures moments { S.tells → (all : List Entry) → Holds self.old all (S.disk store.old) → Leaves (S.disk store.old) (S.disk store.new) (IsForcedOrFrom self.old.chain.first self.old.forced (length (all ++ entries.now)) (all ++ entries.now)) }
+        ensures roots { LeavesRoots (S.disk store.old) (S.disk store.new) }
         ensures acknowledged { OnOk result (forced ≡ true → self.new.waiting ≡ 0) }
         ensures whole { OnOk result ((self.new.forced ≡ self.old.forced) ⊎ (self.new.waiting ≡ 0)) }
         ensures little { OnOk result (length self.new.buffered < MUCH) }
@@ -48,6 +50,7 @@ impl KeptJournal {
         requires place { 0 < self.old.chain.room }
         ensures kept { OnOk result (S.tells → (all : List Entry) → Holds self.old all (S.disk store.old) → Holds self.new all (S.disk store.new)) }
         ensures moments { S.tells → (all : List Entry) → Holds self.old all (S.disk store.old) → Leaves (S.disk store.old) (S.disk store.new) (IsForcedOrFrom self.old.chain.first self.old.forced (length all) all) }
+        ensures roots { LeavesRoots (S.disk store.old) (S.disk store.new) }
         ensures acknowledged { OnOk result (forced ≡ true → self.new.waiting ≡ 0) }
         ensures whole { OnOk result ((self.new.forced ≡ self.old.forced) ⊎ (self.new.waiting ≡ 0)) }
         ensures little { OnOk result (length self.new.buffered < MUCH) }

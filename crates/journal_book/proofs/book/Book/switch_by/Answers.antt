@@ -4,6 +4,7 @@ use Rattle.std.proofs.lemmas.Result.{err_from_is_err_and}
 use Rattle.receiver_chain.specs.declared.fault.ChainFault.{ChainFault}
 use Rattle.receiver_chain.specs.declared.fault.ChainFault.TheVariants.{NoMemory, StoreFault}
 use Rattle.receiver_chain.specs.Chain.{attached_of}
+use Rattle.receiver_chain.proofs.Others.{roots_here, roots_then}
 use Rattle.journal_book.specs.Switch.{AreTieBlocks}
 use Rattle.journal_book.proofs.Attaching.{leaves_exactly_more, leaves_more, rose_after, switch_exactly, switch_moments, switch_unswitched, ties_forced}
 use Rattle.journal_book.proofs.Forcing.{all_counted, none_exactly, none_moment}
@@ -181,3 +182,16 @@ returns-in_err-receiver-clause-wanting g c = λ is tells entries holds.
     let named : IsErrOf {T = ℕ} (Err c.in_err-receiver.field-0.0) NoMemory = ap (λ (e : ChainFault). Err e) same in
     switch_unswitched c.args.self.now c.force.new.self entries (g.S.Store.disk c.args.store.now) (g.S.Store.disk c.force.new.store) (g.S.Store.disk c.attach.new.store) c.force.ensures.receiver
     (c.force.ensures.exactly tells entries holds) (c.in_err-receiver.ensures.unswitched named tells entries (c.in_ok-force.ensures.forced tells entries holds))
+
+pub returns-in_err-ending-clause-roots : goal.returns-in_err-ending-clause-roots
+returns-in_err-ending-clause-roots g c = roots_here (g.S.Store.disk c.args.store.now)
+
+pub returns-in_err-beginning-clause-roots : goal.returns-in_err-beginning-clause-roots
+returns-in_err-beginning-clause-roots g c = roots_here (g.S.Store.disk c.args.store.now)
+
+pub returns-in_err-receiver-clause-roots : goal.returns-in_err-receiver-clause-roots
+returns-in_err-receiver-clause-roots g c = roots_then (g.S.Store.disk c.args.store.now) (g.S.Store.disk c.force.new.store) (g.S.Store.disk c.attach.new.store) c.force.ensures.roots
+    c.attach.ensures.roots
+
+pub returns-clause-roots : goal.returns-clause-roots
+returns-clause-roots g c = roots_then (g.S.Store.disk c.args.store.now) (g.S.Store.disk c.force.new.store) (g.S.Store.disk c.attach.new.store) c.force.ensures.roots c.attach.ensures.roots

@@ -9,6 +9,7 @@ use Rattle.receiver_chain.specs.Chain.{ChainState, Holds, IsSwitching, attached_
 use Rattle.receiver_chain.proofs.LinkLemmas.{start_no_link}
 use Rattle.receiver_chain.proofs.Deposits.{deposit_holds}
 use Rattle.receiver_chain.proofs.Switches.{link_length, start_length, reserved_holds, next_moment, none_chained, none_moment, made_moment, made_holds, tied_moment, tied_holds, begun_moment, switch_firsts, switch_lengths}
+use Rattle.receiver_chain.proofs.Others.{roots_does, roots_here, roots_then}
 use Rattle.receiver_chain.proofs.chain.Chain.attach_next.Goals as goal
 
 pub sequence_of-requires : goal.sequence_of-requires
@@ -240,3 +241,41 @@ returns-in_err-next-clause-unswitched g c = λ told tells kept holds.
     subst (λ (v : ChainState). Leaves (g.S.Store.disk c.args.store.now) (g.S.Store.disk c.make_next.new.store) (AreChained v.first kept)) c.self.view_is
     (next_moment c.self.inside.first c.self.inside.room c.reserve.new.self.items c.reserve-2.new.self kept (g.S.Store.disk c.args.store.now) reserved
     (area_of (c.attached-receiver.result + 1)) is Anything (g.S.Store.disk c.make_next.new.store) c.make_next.ensures.any_moment)
+
+pub returns-in_default-clause-roots : goal.returns-in_default-clause-roots
+returns-in_default-clause-roots g c = roots_here (g.S.Store.disk c.args.store.now)
+
+pub returns-in_err-reserve-clause-roots : goal.returns-in_err-reserve-clause-roots
+returns-in_err-reserve-clause-roots g c = roots_here (g.S.Store.disk c.args.store.now)
+
+pub returns-in_err-reserve-2-clause-roots : goal.returns-in_err-reserve-2-clause-roots
+returns-in_err-reserve-2-clause-roots g c = roots_here (g.S.Store.disk c.args.store.now)
+
+pub returns-in_err-next-clause-roots : goal.returns-in_err-next-clause-roots
+returns-in_err-next-clause-roots g c =
+    roots_does (area_of (c.attached-receiver.result + 1)) Anything (g.S.Store.disk c.args.store.now) (g.S.Store.disk c.make_next.new.store) (omega arith) c.make_next.ensures.any_moment
+
+pub returns-in_err-append-clause-roots : goal.returns-in_err-append-clause-roots
+returns-in_err-append-clause-roots g c =
+    roots_then (g.S.Store.disk c.args.store.now) (g.S.Store.disk c.make_next.new.store) (g.S.Store.disk c.append.new.store)
+    (roots_does (area_of (c.attached-receiver.result + 1)) Anything (g.S.Store.disk c.args.store.now) (g.S.Store.disk c.make_next.new.store) (omega arith) c.make_next.ensures.any_moment)
+    (roots_does c.reserve-2.new.self.area Anything (g.S.Store.disk c.make_next.new.store) (g.S.Store.disk c.append.new.store)
+    (omega (arith, c.reserve-2.ensures.same_area, c.self.invariant.0, c.self.invariant.2)) c.append.ensures.apart)
+
+pub returns-in_err-append-2-clause-roots : goal.returns-in_err-append-2-clause-roots
+returns-in_err-append-2-clause-roots g c =
+    roots_then (g.S.Store.disk c.args.store.now) (g.S.Store.disk c.append.new.store) (g.S.Store.disk c.append-2.new.store)
+    (roots_then (g.S.Store.disk c.args.store.now) (g.S.Store.disk c.make_next.new.store) (g.S.Store.disk c.append.new.store)
+    (roots_does (area_of (c.attached-receiver.result + 1)) Anything (g.S.Store.disk c.args.store.now) (g.S.Store.disk c.make_next.new.store) (omega arith) c.make_next.ensures.any_moment)
+    (roots_does c.reserve-2.new.self.area Anything (g.S.Store.disk c.make_next.new.store) (g.S.Store.disk c.append.new.store)
+    (omega (arith, c.reserve-2.ensures.same_area, c.self.invariant.0, c.self.invariant.2)) c.append.ensures.apart))
+    (roots_does c.in_ok-next.next.area Anything (g.S.Store.disk c.append.new.store) (g.S.Store.disk c.append-2.new.store) (omega (arith, c.in_ok-next.ensures.area)) c.append-2.ensures.apart)
+
+pub returns-clause-roots : goal.returns-clause-roots
+returns-clause-roots g c =
+    roots_then (g.S.Store.disk c.args.store.now) (g.S.Store.disk c.append.new.store) (g.S.Store.disk c.append-2.new.store)
+    (roots_then (g.S.Store.disk c.args.store.now) (g.S.Store.disk c.make_next.new.store) (g.S.Store.disk c.append.new.store)
+    (roots_does (area_of (c.attached-receiver.result + 1)) Anything (g.S.Store.disk c.args.store.now) (g.S.Store.disk c.make_next.new.store) (omega arith) c.make_next.ensures.any_moment)
+    (roots_does c.reserve-2.new.self.area Anything (g.S.Store.disk c.make_next.new.store) (g.S.Store.disk c.append.new.store)
+    (omega (arith, c.reserve-2.ensures.same_area, c.self.invariant.0, c.self.invariant.2)) c.append.ensures.apart))
+    (roots_does c.in_ok-next.next.area Anything (g.S.Store.disk c.append.new.store) (g.S.Store.disk c.append-2.new.store) (omega (arith, c.in_ok-next.ensures.area)) c.append-2.ensures.apart)
