@@ -1,16 +1,15 @@
 -- What the journal tells of the records of the members that files have: records of the file's fields, at places that its members may have.
 -- (Journal Management, "Before-images and after-images".)
-use Rattle.std.specs.Prelude.{◌≡◌, ℕ, ◌*◌, ◌<◌, ◌≤◌, Bool, true, false, Option, Some, None, is_some, IfSome, List, length}
+use Rattle.std.specs.Prelude.{◌≡◌, ℕ, ◌*◌, ◌<◌, ◌≤◌, true, Option, Some, None, is_some, IfSome, List, length}
 use Rattle.std.specs.List.{AllByRecursion}
 use Rattle.entry_codec.specs.declared.entries.Entry.{Entry}
-use Rattle.entry_codec.specs.declared.places.Place.{Place}
-use Rattle.entry_codec.specs.declared.places.Place.TheVariants.{Library, Member, Slot, Record, Commitment, CycleStart, CycleEnd}
 use Rattle.entry_codec.specs.Placing.{place}
 use Rattle.member_slots.specs.declared.member.TheConstants.{MOST_SLOTS, MOST_BYTES}
 use Rattle.record_fmt.specs.declared.formats.Field.{Field}
 use Rattle.record_fmt.specs.Layout.{record_length}
 use Rattle.record_fmt.specs.Records.{record_held}
 use Rattle.journal_model.specs.Images.{images_of}
+use Rattle.journaled_entries.specs.Deposited.{is_of_record}
 use Rattle.library_model.specs.Named.{Named}
 use Rattle.lawful_states.specs.Owners.{Owns}
 use Rattle.library_steps.specs.State.{State, FileState, fields_of}
@@ -29,16 +28,6 @@ pub record MayHavePlace (fields : List Field) (rrn : ℕ) : Type 0 where
 abbrev pub NamesPlace : List Field → Option ℕ → Type 0
 NamesPlace fields None = ⊥
 NamesPlace fields (Some rrn) = MayHavePlace fields rrn
-
--- an entry with this place names a record
-abbrev pub is_of_record : Place → Bool
-is_of_record Library = false
-is_of_record Member = false
-is_of_record Slot = true
-is_of_record Record = true
-is_of_record Commitment = false
-is_of_record CycleStart = false
-is_of_record CycleEnd = false
 
 -- the images of an entry are records of these fields, and the record that it names is at a place for them
 pub record TellsRecord (fields : List Field) (e : Entry) : Type 0 where

@@ -112,4 +112,4 @@ module _ (d : Descriptions) (before : List Entry) (e : Entry) (can : CanReplaySo
   none-begun many = by e.kind refl many
 
 pub too_many : (d : Descriptions) (before : List Entry) (e : Entry) → begins_too_many e.kind ≡ true → CannotFollow d (before ++ e ∷ [])
-too_many d before e many can stays = none-begun d before e can stays many
+too_many d before e many can stays are = none-begun d before e can stays many

@@ -35,4 +35,5 @@ empty_library areas roots spells = λ d. record {
     };
   };
   replays = journal-whole d (journal_with []) (empty-left d).so_far tt (empty_stays d);
+  journaled = tt;
 }

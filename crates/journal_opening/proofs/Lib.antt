@@ -3,4 +3,5 @@ pub mod Moments
 pub mod Books
 pub mod Takings
 pub mod Begins
+pub mod PlacedLemmas
 pub mod Opened

@@ -21,6 +21,8 @@ use Rattle.journal_book.proofs.Reading.{one_list}
 use Rattle.journal_opening.specs.Journals.{IsLeftBy, IsOpened, SpellJournal, journal_with}
 use Rattle.journal_opening.specs.Takings.{HasTakenAll}
 use Rattle.journal_opening.proofs.Books.{book_spells}
+use Rattle.journal_opening.proofs.PlacedLemmas.{spelled-placed}
+use Rattle.journaled_entries.specs.Deposited.{AreDeposited}
 
 -- ---- roots
 
@@ -42,9 +44,11 @@ one_journal d book all disk holds none first old stays entries spells =
 
 -- so the entries of that journal can't follow where those of the book can't
 pub no_journal : (d : Descriptions) (book : BookState) (all : List Entry) (disk : Disk) → Holds book all disk → book.waiting ≡ 0 → book.chain.first ≡ FIRST_RECEIVER → (old : Disk) → Stays old disk
-    → (CanReplayJournal d (journal_with all) → ⊥) → (entries : List Entry) → SpellJournal d entries old.seen → ⊥
+    → (CanReplayJournal d (journal_with all) → AreDeposited all → ⊥) → (entries : List Entry) → SpellJournal d entries old.seen → ⊥
 no_journal d book all disk holds none first old stays cannot entries spells =
-    cannot (subst (λ (l : List Entry). CanReplayJournal d (journal_with l)) (one_journal d book all disk holds none first old stays entries spells) spells.replays)
+    let same = one_journal d book all disk holds none first old stays entries spells in
+    cannot (subst (λ (l : List Entry). CanReplayJournal d (journal_with l)) same spells.replays)
+    (subst (λ (l : List Entry). AreDeposited l) same (record { placed = spelled-placed FIRST_RECEIVER entries old.seen spells.spelled; journaled = spells.journaled }))
 
 module _ (d : Descriptions) (tells : Type 0) (roots : RootsState) (book : BookState) (entries : List Entry) (s : Standing) (d0 d1 d2 d3 : Disk) (before : Stays d0 d1) (between : Stays d1 d2) (behind : Stays d2 d3) where
   pub opened_journal : HasRoots roots d1 → roots.last ≡ first_root → HasEntries book d2 → book.waiting ≡ 0 → book.chain.first ≡ FIRST_RECEIVER → tells → HasTakenAll d tells book entries s d2
@@ -67,5 +71,6 @@ module _ (d : Descriptions) (tells : Type 0) (roots : RootsState) (book : BookSt
           roots = subst (λ (r : Root). AreRoots has.0 r (d0.seen ROOT_AREA)) first (roots_are roots d0 d1 before has);
           spelled = book_spells book all d2 holds.1 none receiver d0.seen (λ area. sym ((stays_trans d0 d1 d2 before between).seen area));
           replays = replays;
+          journaled = left.journaled;
         },
       )

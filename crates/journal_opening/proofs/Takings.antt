@@ -5,11 +5,11 @@ use Rattle.std.proofs.lemmas.Bool.{false≢true}
 use Rattle.std.proofs.lemmas.List.{append-nil, take-append-drop, take_more}
 use Rattle.store_model.specs.Disk.{Disk, Stays}
 use Rattle.entry_codec.specs.declared.entries.Entry.{Entry}
-use Rattle.journal_model.specs.Catalogue.{Descriptions}
+use Rattle.journal_model.specs.Catalogue.{Catalogue, Descriptions}
 use Rattle.journal_model.specs.Journal.{CanReplayJournal, StaysMembers}
 use Rattle.journal_replay.specs.SoFar.{CanReplaySoFar, EndsWhole}
 use Rattle.journal_replay.specs.Left.{IsLeft}
-use Rattle.journal_replay.specs.Standing.{Standing, standing_after}
+use Rattle.journal_replay.specs.Standing.{Standing, catalogue_in, standing_after}
 use Rattle.journal_replay.specs.Tests.{may_stand_next}
 use Rattle.journal_replay.proofs.LimitLemmas.{limits-front}
 use Rattle.journal_replay.proofs.SoFarLemmas.{so_far-front, so_far-last, whole-journal, whole-journal-ends}
@@ -22,6 +22,8 @@ use Rattle.journal_limits.proofs.LimitSteps.{fits-stays, stays-fits}
 use Rattle.journal_book.specs.Book.{BookState, Holds, last_of}
 use Rattle.journal_book.specs.Reads.{between}
 use Rattle.journal_book.proofs.Deposits.{stays_holds}
+use Rattle.journaled_entries.specs.Deposited.{AreDeposited, may_be_deposited}
+use Rattle.journaled_entries.proofs.DepositedLemmas.{deposited-append, deposited-front, deposited-last}
 use Rattle.journal_opening.specs.Journals.{IsLeftBy, journal_with}
 use Rattle.journal_opening.specs.Takings.{CannotFollow, HasTakenAll, HasTakenRange}
 use Rattle.journal_opening.proofs.Books.{range_all, range_next}
@@ -41,7 +43,7 @@ front_stays d entries (e ∷ more) stays =
     limits-front d (journal_with entries) e (front_stays d (entries ++ e ∷ []) more (subst (λ (l : List Entry). StaysMembers d (journal_with l)) (sym (append_assoc entries (e ∷ []) more)) stays))
 
 pub front_cannot : (d : Descriptions) (entries more : List Entry) → CannotFollow d entries → CannotFollow d (entries ++ more)
-front_cannot d entries more cannot can stays = cannot (front_so_far d entries more can) (front_stays d entries more stays)
+front_cannot d entries more cannot can stays are = cannot (front_so_far d entries more can) (front_stays d entries more stays) (deposited-front entries more are)
 
 -- ---- one entry
 
@@ -49,21 +51,31 @@ module _ (d : Descriptions) (before : List Entry) (s : Standing) (e : Entry) (by
   step_left : may_stand_next d s e ≡ true → IsLeft d (λ member. 0) (journal_with (before ++ e ∷ [])) (standing_after e s)
   step_left may = left-after d (λ member. 0) (journal_with before) s by.left e (test-stands d s e may)
 
+  -- the entries before, as those that libraries deposit
+  deposited : AreDeposited before
+  deposited = record { placed = by.placed; journaled = by.journaled }
+
+  -- no library deposits it there
+  pub one_foreign : may_be_deposited (catalogue_in s) e ≡ false → CannotFollow d (before ++ e ∷ [])
+  one_foreign foreign can stays are =
+      false≢true (sym (subst (λ (c : Catalogue). may_be_deposited c e ≡ false) by.left.catalogue foreign) ∙ deposited-last before e are)
+
   -- it is taken
-  pub one_taken : KeepsLengths d → may_stand_next d s e ≡ true → (next : Standing) → next ≡ standing_after e s → fits_named d next e.member ≡ true → IsLeftBy d (before ++ e ∷ []) next
-  one_taken keeps may next is fits =
+  pub one_taken : KeepsLengths d → may_be_deposited (catalogue_in s) e ≡ true → may_stand_next d s e ≡ true → (next : Standing) → next ≡ standing_after e s → fits_named d next e.member ≡ true → IsLeftBy d (before ++ e ∷ []) next
+  one_taken keeps may_deposit may next is fits =
+      let all = deposited-append before e deposited (subst (λ (c : Catalogue). may_be_deposited c e ≡ true) by.left.catalogue may_deposit) in
       let after = subst (λ (t : Standing). IsLeft d (λ member. 0) (journal_with (before ++ e ∷ [])) t) (sym is) (step_left may) in
-      record { left = after; stays = fits-stays d keeps before s by.left e next after by.stays fits }
+      record { left = after; stays = fits-stays d keeps before s by.left e next after by.stays fits; journaled = all.journaled; placed = all.placed }
 
   -- it can't follow
   pub one_refused : may_stand_next d s e ≡ false → CannotFollow d (before ++ e ∷ [])
-  one_refused refused can stays =
+  one_refused refused can stays are =
       let may = stands-test d s e (come-stand d (λ member. 0) (journal_with before) s by.left e (so_far-last d (journal_with before) e can)) in
       false≢true (sym refused ∙ may)
 
   -- or the member that it names passes its limits
   pub one_passes : may_stand_next d s e ≡ true → (next : Standing) → next ≡ standing_after e s → fits_named d next e.member ≡ false → CannotFollow d (before ++ e ∷ [])
-  one_passes may next is passes can stays =
+  one_passes may next is passes can stays are =
       let after = subst (λ (t : Standing). IsLeft d (λ member. 0) (journal_with (before ++ e ∷ [])) t) (sym is) (step_left may) in
       false≢true (sym passes ∙ stays-fits d before e next after stays)
 
@@ -127,5 +139,5 @@ left_open d tells book entries s disk taken waits told all holds can =
     false≢true (sym waits ∙ whole-none d (λ member. 0) (journal_with all) s by.left (whole-journal-ends d (journal_with all) can))
 
 -- where its entries can't follow, the journal can't be replayed
-pub cannot_replay : (d : Descriptions) (entries : List Entry) → CannotFollow d entries → CanReplayJournal d (journal_with entries) → ⊥
+pub cannot_replay : (d : Descriptions) (entries : List Entry) → CannotFollow d entries → CanReplayJournal d (journal_with entries) → AreDeposited entries → ⊥
 cannot_replay d entries cannot can = cannot (whole-journal d (journal_with entries) can) can.limits

@@ -3,10 +3,11 @@
 use Rattle.std.specs.Prelude.{◌≡◌, ◌≢◌, ◌⊎◌, ℕ, List, []}
 use Rattle.store_model.specs.Disk.{Areas, Disk, May}
 use Rattle.entry_codec.specs.declared.entries.Entry.{Entry}
-use Rattle.journal_model.specs.Catalogue.{Descriptions}
+use Rattle.journal_model.specs.Catalogue.{Descriptions, empty_catalogue}
 use Rattle.journal_model.specs.Journal.{CanReplayJournal, Journal, StaysMembers}
 use Rattle.journal_replay.specs.Standing.{Standing}
 use Rattle.journal_replay.specs.Left.{IsLeft, empty_journal}
+use Rattle.journaled_entries.specs.Deposited.{AreJournaled, ArePlaced}
 use Rattle.checkpoint.specs.declared.layout.TheConstants.{ROOT_AREA}
 use Rattle.checkpoint.specs.declared.root.Root.{Root}
 use Rattle.checkpoint.specs.Roots.{AreRoots, HasNoRoot, first_root}
@@ -21,17 +22,21 @@ abbrev pub journal_with : List Entry → Journal
 journal_with entries = record empty_journal { later = entries }
 
 -- the areas of a store spell this journal: roots of which the last names no saved state, and receivers whose entries can be
--- replayed
+-- replayed; those of records come while their member is journaled
 pub record SpellJournal (d : Descriptions) (entries : List Entry) (areas : Areas) : Type 0 where
   pub earlier : List Root
   pub roots : AreRoots earlier first_root (areas ROOT_AREA)
   pub spelled : SpellEntries FIRST_RECEIVER entries areas
   pub replays : CanReplayJournal d (journal_with entries)
+  pub journaled : AreJournaled empty_catalogue entries
 
--- these entries leave this, and each member stays within its limits all along
+-- these entries leave this, and each member stays within its limits all along; each entry names what its kind wants, and those of
+-- records come while their member is journaled
 pub record IsLeftBy (d : Descriptions) (entries : List Entry) (s : Standing) : Type 0 where
   pub left : IsLeft d (λ member. 0) (journal_with entries) s
   pub stays : StaysMembers d (journal_with entries)
+  pub journaled : AreJournaled empty_catalogue entries
+  pub placed : ArePlaced entries
 
 -- a store's journal, opened: it has these entries, all of them on the disk, where a stop leaves them, and this is what they
 -- leave

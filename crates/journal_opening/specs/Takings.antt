@@ -5,14 +5,15 @@ use Rattle.entry_codec.specs.declared.entries.Entry.{Entry}
 use Rattle.journal_model.specs.Catalogue.{Descriptions}
 use Rattle.journal_model.specs.Journal.{StaysMembers}
 use Rattle.journal_replay.specs.SoFar.{CanReplaySoFar}
+use Rattle.journaled_entries.specs.Deposited.{AreDeposited}
 use Rattle.journal_replay.specs.Standing.{Standing}
 use Rattle.journal_book.specs.Book.{BookState, Holds}
 use Rattle.journal_book.specs.Reads.{between}
 use Rattle.journal_opening.specs.Journals.{IsLeftBy, journal_with}
 
--- no journal that these entries begin can be replayed with its members within their limits
+-- no journal that these entries begin can be replayed with its members within their limits, and be a library's
 abbrev pub CannotFollow : Descriptions → List Entry → Type 0
-CannotFollow d entries = CanReplaySoFar d (journal_with entries) → StaysMembers d (journal_with entries) → ⊥
+CannotFollow d entries = CanReplaySoFar d (journal_with entries) → StaysMembers d (journal_with entries) → AreDeposited entries → ⊥
 
 -- all of these entries were taken and leave this, or one of them can't follow
 abbrev pub AreTaken : Descriptions → List Entry → Standing → Option ℕ → Type 0

@@ -2,6 +2,7 @@
 //! and what they leave. Begin with `opening.rt`.
 #![tactic(auto)]
 
+mod deposited;
 mod fault;
 mod formatting;
 mod layout;

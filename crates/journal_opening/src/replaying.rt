@@ -5,12 +5,15 @@ ghost use Rattle.store_model.specs.Faults.{Rose};
 ghost use Rattle.entry_codec.specs.declared.entries.Entry.{Entry};
 ghost use Rattle.journal_model.specs.Journal.{CanReplayJournal};
 ghost use Rattle.journal_limits.specs.Lengths.{KeepsLengths};
+ghost use Rattle.journaled_entries.specs.Deposited.{AreDeposited, may_be_deposited};
+ghost use Rattle.journal_replay.specs.Standing.{catalogue_in};
 ghost use Rattle.journal_replay.specs.SoFar.{EndsWhole};
 ghost use Rattle.journal_book.specs.Book.{Holds, IsHeld, last_of};
 ghost use Rattle.journal_book.specs.Reads.{between};
 ghost use Rattle.journal_opening.specs.Journals.{IsLeftBy, journal_with};
 ghost use Rattle.journal_opening.specs.Takings.{AreTaken, CannotFollow, HasTakenAll, HasTakenRange};
 
+use crate::deposited::may_be_deposited;
 use crate::layout::{FIRST_AREA, PIECE};
 use crate::limits::{begins_too_many, fits_named};
 use entry_codec::Entry;
@@ -40,7 +43,7 @@ pub(crate) fn replay_book<S: Store, D: Describe>(
     requires forced { book.now.waiting ≡ 0 }
     ensures taken { IfOk result (λ taken. HasTakenAll (D.rules by.now) S.tells book.now taken.entries.items taken.replay (S.disk store.old)) }
     ensures whole { IfOk result (λ taken. (entries : List Entry) → IsLeftBy (D.rules by.now) entries taken.replay → EndsWhole (journal_with entries)) }
-    ensures damaged { (area at : ℕ) → IsErrOf result (LogFault.Damaged area at) → S.tells → (all : List Entry) → Holds book.now all (S.disk store.old) → CanReplayJournal (D.rules by.now) (journal_with all) → ⊥ }
+    ensures damaged { (area at : ℕ) → IsErrOf result (LogFault.Damaged area at) → S.tells → (all : List Entry) → Holds book.now all (S.disk store.old) → CanReplayJournal (D.rules by.now) (journal_with all) → AreDeposited all → ⊥ }
     ensures stays { Stays (S.disk store.old) (S.disk store.new) }
     ensures cause { IsErrOf result LogFault.StoreFault → Rose (S.disk store.old).faults (S.disk store.new).faults }
 {
@@ -162,7 +165,7 @@ pub fn take_all<D: Describe>(
     Ok(None)
 }
 
-/// Takes one entry more, where it can follow and leaves the member that it names within its limits. Where it can't follow, the rest is not to be used again.
+/// Takes one entry more, where it can follow as one that libraries deposit, and leaves the member that it names within its limits. Where it can't follow, the rest is not to be used again.
 fn take_one<D: Describe>(by: &D, replay: &mut Replay, entry: &Entry) -> Result<bool, AllocError>
     requires keeps { KeepsLengths (D.rules by.now) }
     ensures taken { IfOk result (λ b. b ≡ true → (before : List Entry) → IsLeftBy (D.rules by.now) before replay.old → IsLeftBy (D.rules by.now) (before ++ entry.now ∷ []) replay.new) }
@@ -171,14 +174,33 @@ fn take_one<D: Describe>(by: &D, replay: &mut Replay, entry: &Entry) -> Result<b
     if begins_too_many(&entry.kind) {
         Ok(false)
     } else {
-        let taken = take_judged(by, replay, entry)?;
+        let taken = take_deposited(by, replay, entry)?;
         Ok(taken)
     }
 }
 
 /// The same, once it is known that it takes no memory for more slots than a member may have.
+fn take_deposited<D: Describe>(
+    by: &D,
+    replay: &mut Replay,
+    entry: &Entry,
+) -> Result<bool, AllocError>
+    requires keeps { KeepsLengths (D.rules by.now) }
+    ensures taken { IfOk result (λ b. b ≡ true → (before : List Entry) → IsLeftBy (D.rules by.now) before replay.old → IsLeftBy (D.rules by.now) (before ++ entry.now ∷ []) replay.new) }
+    ensures refused { IfOk result (λ b. b ≡ false → (before : List Entry) → IsLeftBy (D.rules by.now) before replay.old → CannotFollow (D.rules by.now) (before ++ entry.now ∷ [])) }
+{
+    if may_be_deposited(replay, entry) {
+        let taken = take_judged(by, replay, entry)?;
+        Ok(taken)
+    } else {
+        Ok(false)
+    }
+}
+
+/// The same, once it is known that libraries deposit such an entry.
 fn take_judged<D: Describe>(by: &D, replay: &mut Replay, entry: &Entry) -> Result<bool, AllocError>
     requires keeps { KeepsLengths (D.rules by.now) }
+    requires deposited { may_be_deposited (catalogue_in replay.old) entry.now ≡ true }
     ensures taken { IfOk result (λ b. b ≡ true → (before : List Entry) → IsLeftBy (D.rules by.now) before replay.old → IsLeftBy (D.rules by.now) (before ++ entry.now ∷ []) replay.new) }
     ensures refused { IfOk result (λ b. b ≡ false → (before : List Entry) → IsLeftBy (D.rules by.now) before replay.old → CannotFollow (D.rules by.now) (before ++ entry.now ∷ [])) }
 {

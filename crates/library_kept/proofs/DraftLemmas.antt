@@ -12,7 +12,8 @@ use Rattle.record_fmt.specs.Records.{record_held}
 use Rattle.journal_model.specs.Images.{images_of}
 use Rattle.library_steps.specs.Drafts.{Author, record_draft, slot_kinds, slot_drafts, updated, added, if_both}
 use Rattle.lawful_states.specs.Lawful.{HoldsValues}
-use Rattle.joint_state.specs.Told.{IsRecordOf, MayHavePlace, NamesPlace, is_of_record}
+use Rattle.journaled_entries.specs.Deposited.{is_of_record}
+use Rattle.joint_state.specs.Told.{IsRecordOf, MayHavePlace, NamesPlace}
 use Rattle.library_kept.proofs.FieldLemmas.{length-record}
 
 -- an entry of this kind has records of these fields

@@ -21,7 +21,8 @@ use Rattle.journal_model.specs.Replay.{before_of}
 use Rattle.journal_model.specs.Walks.{RangeFault, Numbered, numbered, number_change, is_met, misfit, redo, undo, undo_to, apply, remove, ◌then◌}
 use Rattle.journal_model.proofs.PlaceLemmas.{length-put_slot}
 use Rattle.lawful_states.specs.Lawful.{HoldsValues}
-use Rattle.joint_state.specs.Told.{IsRecordOf, MayHavePlace, NamesPlace, TellsRecord, is_of_record}
+use Rattle.journaled_entries.specs.Deposited.{is_of_record}
+use Rattle.joint_state.specs.Told.{IsRecordOf, MayHavePlace, NamesPlace, TellsRecord}
 use Rattle.library_kept.proofs.ListLemmas.{each-take, each-drop}
 
 -- slots that a member with records of these fields may have

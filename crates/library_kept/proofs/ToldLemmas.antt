@@ -37,7 +37,8 @@ use Rattle.lawful_states.specs.Lawful.{HoldsValues, IsThere, GoesBack, CycleGoes
 use Rattle.lawful_states.proofs.FileLemmas.{Owns-below, number-below}
 use Rattle.lawful_states.proofs.MemberLemmas.{HasRecords-changed, HasRecords-member_of, IsThere-with_member}
 use Rattle.joint_state.specs.Cycles.{StandAsMade}
-use Rattle.joint_state.specs.Told.{AreTold, IsRecordOf, IsTold, MayHavePlace, TellsRecord, is_of_record}
+use Rattle.journaled_entries.specs.Deposited.{is_of_record}
+use Rattle.joint_state.specs.Told.{AreTold, IsRecordOf, IsTold, MayHavePlace, TellsRecord}
 use Rattle.joint_state.specs.Sound.{IsSound, after}
 use Rattle.library_kept.proofs.ChangeLemmas.{MayChange}
 use Rattle.library_kept.proofs.DraftLemmas.{DraftTold, KindTold, record-of, initial-told, slot_drafts-told}

@@ -35,7 +35,8 @@ use Rattle.library_steps.specs.Uses.{user_of, unused}
 use Rattle.lawful_states.specs.Lawful.{HoldsValues, HasRecords}
 use Rattle.lawful_states.proofs.BackLemmas.{AllGoBack-unused}
 use Rattle.lawful_states.proofs.LawfulLemmas.{AreOne-with_member}
-use Rattle.joint_state.specs.Told.{MayHavePlace, IsRecordOf, IsTold, is_of_record}
+use Rattle.journaled_entries.specs.Deposited.{is_of_record}
+use Rattle.joint_state.specs.Told.{MayHavePlace, IsRecordOf, IsTold}
 use Rattle.joint_state.specs.Sound.{IsSound}
 use Rattle.library_kept.proofs.DraftLemmas.{DraftTold, slot_drafts-told}
 use Rattle.library_kept.proofs.ListLemmas.{each-append, each-drop, each-reverse, each-take, each-weaker}

@@ -36,3 +36,7 @@ none_mapped f (Some x) h = absurd cc
 
 pub files-absent : (name : List ℕ) (es : List (List ℕ × FileBody)) → find (is_named name) (map catalog_file es) ≡ None → lookup (pointwise nat_eq name) es ≡ None
 files-absent name es h = none_mapped (λ (b : FileBody). catalog_file (name, b)) (lookup (pointwise nat_eq name) es) (sym (files-named name es) ∙ h)
+
+pub mapped_twice : {A B C : Type 0} (f : B → C) (g : A → B) (o : Option A) → option_map f (option_map g o) ≡ option_map (λ (x : A). f (g x)) o
+mapped_twice f g None = refl
+mapped_twice f g (Some x) = refl

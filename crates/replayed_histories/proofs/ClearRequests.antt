@@ -26,7 +26,7 @@ use Rattle.library_steps.specs.Change.{journaled}
 use Rattle.library_steps.specs.Drafts.{Author, author_of, member_draft}
 use Rattle.library_steps.specs.Journaling.{end_change, end_journaling, end_plan}
 use Rattle.library_steps.specs.MemberCommands.{clear_member, empty_plan, if_journaled, renumbered, renumbering, reorganize_member, with_slots}
-use Rattle.joint_state.specs.Told.{is_of_record}
+use Rattle.journaled_entries.specs.Deposited.{is_of_record}
 use Rattle.joint_state.specs.Sound.{IsSound, after}
 use Rattle.library_kept.proofs.CatalogueLemmas.{cleared-stands, reorganized-stands}
 use Rattle.library_kept.proofs.ResultLemmas.{does-each}

@@ -8,7 +8,7 @@ use Rattle.entry_codec.specs.Drafts.{numbered}
 use Rattle.entry_codec.specs.Placing.{is_placed}
 use Rattle.member_slots.specs.declared.slot.Slot.{Slot}
 use Rattle.member_slots.specs.Member.{IsMember}
-use Rattle.journal_model.specs.Catalogue.{Catalogue, CatalogMember, catalogue_by, catalogue_after, empty_catalogue, has_number, member_numbered}
+use Rattle.journal_model.specs.Catalogue.{Catalogue, CatalogMember, empty_catalogue, has_number, member_numbered}
 use Rattle.journal_model.specs.Journal.{record_length, state_of}
 use Rattle.journal_model.specs.Rollback.{numbered_from}
 use Rattle.journal_replay.specs.Left.{IsLeft}
@@ -22,7 +22,8 @@ use Rattle.library_steps.specs.Change.{journaled}
 use Rattle.joint_state.specs.Sound.{after}
 use Rattle.restart_model.specs.Sources.{descriptions}
 use Rattle.restart_model.specs.Libraries.{journal_with}
-use Rattle.restart_laws.specs.Given.{AreJournaled, IsJournaledThen}
+use Rattle.journaled_entries.specs.Deposited.{IsJournaledThen}
+use Rattle.journaled_entries.proofs.DepositedLemmas.{journaled-append}
 use Rattle.replayed_histories.proofs.ListLemmas.{all-append, drop-none}
 use Rattle.replayed_histories.specs.Replayed.{IsHeldWithin, IsLeftBy, IsReplayed, StandsAs}
 use Rattle.replayed_histories.specs.Deposits.{DraftsLeave, MayBeDeposited}
@@ -57,10 +58,6 @@ within-limits left entries is within member there =
     (λ found. found-within left (λ number. (state_of (journal_with entries) number).slots) left.members member.number member found within is.slots) there
 
 -- ---- an entry more
-
-journaled-append : (c : Catalogue) (entries : List Entry) (e : Entry) → AreJournaled c entries → IsJournaledThen (catalogue_after c entries) e → AreJournaled c (entries ++ e ∷ [])
-journaled-append c [] e are is = (is, tt)
-journaled-append c (x ∷ entries) e are is = (are.0, journaled-append (catalogue_by x.kind x c) entries e are.1 is)
 
 pub one-left : (entries : List Entry) (left : Standing) (e : Entry) → IsLeftBy entries left → MayBeDeposited left e → IsLeftBy (entries ++ e ∷ []) (standing_after e left)
 one-left entries left e by may =

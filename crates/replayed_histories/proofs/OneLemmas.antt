@@ -20,7 +20,7 @@ use Rattle.journal_model.specs.Rollback.{undos_by}
 use Rattle.journal_replay.specs.Standing.{HeldMember, Standing, catalogue_in, files_by, left_by, made_by, member_by, members_by, next_after, only_begun, standing_after, state_in}
 use Rattle.library_steps.specs.Drafts.{Author}
 use Rattle.restart_model.specs.Sources.{descriptions}
-use Rattle.restart_laws.specs.Given.{IsJournaledThen}
+use Rattle.journaled_entries.specs.Deposited.{IsJournaledThen}
 use Rattle.replayed_histories.specs.Replayed.{IsHeldWithin}
 use Rattle.replayed_histories.specs.Deposits.{MayBeDeposited}
 use Rattle.replayed_histories.proofs.QuietLemmas.{standing-same}

@@ -7,7 +7,7 @@ use Rattle.entry_codec.specs.Drafts.{numbered}
 use Rattle.entry_codec.specs.Placing.{is_placed}
 use Rattle.journal_replay.specs.Standing.{Standing, catalogue_in, standing_after, MayStandNext}
 use Rattle.restart_model.specs.Sources.{descriptions}
-use Rattle.restart_laws.specs.Given.{IsJournaledThen}
+use Rattle.journaled_entries.specs.Deposited.{IsJournaledThen}
 use Rattle.replayed_histories.specs.Replayed.{IsHeldWithin}
 
 -- a library deposits such an entry

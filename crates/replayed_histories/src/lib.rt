@@ -18,7 +18,7 @@ ghost use Rattle.library_steps.specs.State.{MemberStatus, State, begun, empty_li
 ghost use Rattle.library_steps.specs.Journaling.{end_change};
 ghost use Rattle.library_steps.specs.SlotChange.{status_among};
 ghost use Rattle.library_steps.specs.Uses.{user_of};
-ghost use Rattle.restart_laws.specs.Given.{AreDeposited};
+ghost use Rattle.journaled_entries.specs.Deposited.{AreDeposited};
 ghost use Rattle.restart_model.specs.Libraries.{journal_with};
 ghost use Rattle.restart_model.specs.Sources.{descriptions};
 ghost use Rattle.replayed_histories.specs.Replayed.{AreReplaysKeptByThese, IsReplayed};

@@ -18,9 +18,8 @@ use Rattle.journal_model.specs.Journal.{Journal, OfMember, entries as entries_of
 use Rattle.journal_model.specs.Replay.{State, before_of, is_in, replay, step, undos_after}
 use Rattle.journal_model.specs.Replayable.{CanReplay, MayFollow}
 use Rattle.journal_model.specs.Rollback.{MemberChange, all_rollback_drafts, change_drafts, missing_behind, missing_draft, missing_kind, numbered_from, of_member, restart_drafts, rollback_drafts, undo_drafts, undo_kinds, undos_of}
-use Rattle.joint_state.specs.Told.{is_of_record}
 use Rattle.restart_model.specs.Sources.{descriptions}
-use Rattle.restart_laws.specs.Given.{AreJournaled, IsJournaledThen}
+use Rattle.journaled_entries.specs.Deposited.{AreJournaled, IsJournaledThen, is_of_record}
 use Rattle.restart_laws.proofs.CatalogueLemmas.{IsCatalogue, entry-is, set_images}
 use Rattle.restart_laws.proofs.DescribedLemmas.{Among}
 use Rattle.restart_laws.proofs.GoesLemmas.{IsPlainCatalogue, among-append, among-filter, among-map, entry-goes, entry-plain, numbered-among}

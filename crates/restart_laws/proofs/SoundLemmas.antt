@@ -51,7 +51,8 @@ use Rattle.joint_state.specs.Told.{IsRecordOf, IsTold, MayHavePlace, NamesPlace}
 use Rattle.library_kept.proofs.FieldLemmas.{length-record}
 use Rattle.restart_model.specs.Libraries.{files_left, journal_with, library_restarted, member_left, record_length_in, restart_job}
 use Rattle.restart_model.specs.Sources.{described_files, descriptions, spec_named}
-use Rattle.restart_laws.specs.Given.{AreDeposited, AreJournaled, IsLeftAs}
+use Rattle.journaled_entries.specs.Deposited.{AreDeposited, AreJournaled}
+use Rattle.restart_laws.specs.Given.{IsLeftAs}
 use Rattle.restart_laws.proofs.CatalogueLemmas.{empty-is}
 use Rattle.restart_laws.proofs.DescribedLemmas.{Among, each-among, find-among}
 use Rattle.restart_laws.proofs.GoesLemmas.{beside-at, fields_at, fields_found, found-among, numbered-among, own-file}

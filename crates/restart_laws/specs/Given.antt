@@ -1,32 +1,15 @@
--- What a library's journal is, beyond that it can be replayed, and what is left of its files. (Our own.)
-use Rattle.std.specs.Prelude.{◌≡◌, ℕ, Bool, true, IsSome, Option, Some, List, [], ◌∷◌, IsTrue, if◌then◌else◌, codes}
+-- What is left of a journal's files? (Our own.)
+use Rattle.std.specs.Prelude.{◌≡◌, ℕ, Bool, Option, Some, List, if◌then◌else◌, codes}
 use Rattle.std.specs.List.{AllByRecursion}
-use Rattle.entry_codec.specs.declared.entries.Entry.{Entry}
-use Rattle.entry_codec.specs.Placing.{is_placed, place}
 use Rattle.dds_physical.specs.declared.physical_files.PhysicalSpec.{PhysicalSpec}
 use Rattle.dds_physical.specs.Keywords.{first_named}
 use Rattle.dds_logical.specs.FormatLines.{FormatLines}
 use Rattle.dds_logical.specs.Origins.{keyword_names}
 use Rattle.lawful_states.specs.Physical.{IsPhysical}
-use Rattle.journal_model.specs.Catalogue.{Catalogue, CatalogFile, catalogue_by, empty_catalogue, member_numbered}
-use Rattle.journal_model.specs.Journal.{OfMember}
-use Rattle.joint_state.specs.Told.{is_of_record}
+use Rattle.journal_model.specs.Catalogue.{CatalogFile}
 use Rattle.library_model.specs.Named.{Named, named}
 use Rattle.library_steps.specs.State.{FileState, fields_of}
 use Rattle.restart_model.specs.Sources.{fields_beside}
-
--- an entry of a record is of a member that is journaled when it comes
-abbrev pub IsJournaledThen : Catalogue → Entry → Type 0
-IsJournaledThen c e = is_of_record (place e.kind) ≡ true → OfMember (member_numbered e.member c) (λ member. IsSome member.images)
-
-abbrev pub AreJournaled : Catalogue → List Entry → Type 0
-AreJournaled c [] = Unit {0}
-AreJournaled c (e ∷ entries) = IsJournaledThen c e × AreJournaled (catalogue_by e.kind e c) entries
-
-pub record AreDeposited (entries : List Entry) : Type 0 where
-  -- each names a commit cycle, a member and a record as its kind wants: no other entry is read from the disk
-  pub placed : AllByRecursion (λ e. IsTrue (is_placed e)) entries
-  pub journaled : AreJournaled empty_catalogue entries
 
 -- ---- what is left of a physical file
 

@@ -19,7 +19,7 @@ loop-read-init g c = record {
   taken = record {
     left =
         subst (λ (l : List Entry). IsLeftBy (g.D.Describe.rules c.args.by.now) l c.new-replay.result) (sym c.new-entries.ensures.items)
-        (record { left = c.new-replay.ensures.journal (g.D.Describe.rules c.args.by.now); stays = empty_stays (g.D.Describe.rules c.args.by.now) });
+        (record { left = c.new-replay.ensures.journal (g.D.Describe.rules c.args.by.now); stays = empty_stays (g.D.Describe.rules c.args.by.now); journaled = tt; placed = tt });
     same = λ tells all holds. c.new-entries.ensures.items;
   };
 }

@@ -5,7 +5,7 @@ use Rattle.journal_opening.proofs.replaying.take_judged.Goals as goal
 
 pub returns-in_ok-fits-clause-taken : goal.returns-in_ok-fits-clause-taken
 returns-in_ok-fits-clause-taken g c = λ fits before left.
-    one_taken (g.D.Describe.rules c.args.by.now) before c.args.replay.now c.args.entry.now left c.requires.keeps (sym c.in_ok-follows.ensures.answer ∙ c.if-follows.true) _
+    one_taken (g.D.Describe.rules c.args.by.now) before c.args.replay.now c.args.entry.now left c.requires.keeps c.requires.deposited (sym c.in_ok-follows.ensures.answer ∙ c.if-follows.true) _
     (c.in_ok-follows.ensures.moved c.if-follows.true) (sym c.in_ok-fits.ensures ∙ fits)
 
 pub returns-in_ok-fits-clause-refused : goal.returns-in_ok-fits-clause-refused

@@ -1,0 +1,4 @@
+pub mod FileLemmas
+pub mod NamedLemmas
+pub mod AgreeLemmas
+pub mod PlaceLemmas

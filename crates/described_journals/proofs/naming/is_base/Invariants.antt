@@ -1,0 +1,12 @@
+use Rattle.std.proofs.Common.{◌≡◌, length}
+use Rattle.std.specs.List.{filter_map, list_any}
+use Rattle.std.specs.Str.{bytes_eq}
+use Rattle.dds_logical.specs.FormatLines.{formats_in}
+use Rattle.dds_logical.specs.Logical.{base_name}
+use Rattle.described_journals.proofs.naming.is_base.Given as goal
+
+abbrev pub invariant-loop-rest : goal.invariant-loop-rest
+invariant-loop-rest l = list_any (bytes_eq l.name) (filter_map base_name (formats_in l.rest)) ≡ list_any (bytes_eq l.name) (filter_map base_name (formats_in l.specifications))
+
+abbrev pub decreases-loop-rest : goal.decreases-loop-rest
+decreases-loop-rest l = length l.rest

@@ -1,0 +1,14 @@
+//! What data descriptions say of the files of a journal: the rules by which a journal is replayed. Begin with `descriptions.rt`, and `specs/Sources.antt` of
+//! `restart_model`.
+#![tactic(auto)]
+
+pub mod described;
+mod descriptions;
+mod naming;
+mod needed;
+mod reading;
+mod whole;
+
+pub use described::{DescribedFile, DescribedFiles};
+pub use descriptions::DataDescriptions;
+pub use whole::described_files;
