@@ -1,6 +1,8 @@
 -- What is held of a file beside its name?
 -- (Database Programming, "Physical file members".)
 use Rattle.std.specs.Prelude.{ℕ, List}
+use Rattle.std.specs.Borrow.{Bor}
+use Rattle.std.specs.Map.Iter.{deref_pair}
 use Rattle.entry_codec.specs.declared.kinds.FileKind.{FileKind}
 use Rattle.journal_model.specs.Catalogue.{CatalogFile}
 
@@ -13,3 +15,7 @@ pub record FileBody : Type 0 where
 -- with its name
 abbrev pub catalog_file : List ℕ × FileBody → CatalogFile
 catalog_file entry = record { created = entry.1.created; kind = entry.1.kind; name = entry.0; source = entry.1.source }
+
+-- the same of what is lent
+abbrev pub file_shown : Bor (List ℕ) × Bor FileBody → CatalogFile
+file_shown shown = catalog_file (deref_pair shown)

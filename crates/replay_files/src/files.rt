@@ -1,9 +1,9 @@
 //! The files as the journal leaves them, in order of creation, found by their names.
-ghost use Rattle.std.specs.Prelude.{◌≡◌, [], ◌∷◌, ◌++◌, None, not, is_none, IfOk, OnOk};
+ghost use Rattle.std.specs.Prelude.{◌≡◌, [], ◌∷◌, ◌++◌, None, length, not, is_none, slice_get, IfOk, OnOk};
 ghost use Rattle.std.specs.List.{filter, find, list_any};
 ghost use Rattle.std.specs.Option.{is_some, option_copied, option_map};
 ghost use Rattle.journal_model.specs.Catalogue.{is_named, depends_on};
-ghost use Rattle.replay_files.specs.Files.{catalog_file};
+ghost use Rattle.replay_files.specs.Files.{catalog_file, file_shown};
 ghost use Rattle.journal_replay.specs.Tests.{is_physical_file};
 
 use crate::describe::Describe;
@@ -54,6 +54,20 @@ impl Files {
         Files {
             files: IndexMap::new(alloc),
         }
+    }
+
+    /// How many files there are.
+    pub fn len(&self) -> usize
+        ensures { result ≡ length self.now }
+    {
+        self.files.len()
+    }
+
+    /// The file at a place in the order of creation, counted from 0.
+    pub fn at(&self, place: usize) -> Option<(&Name, &File)>
+        ensures { slice_get self.now place ≡ option_map file_shown result }
+    {
+        self.files.get_index(place)
     }
 
     /// The file of that name.

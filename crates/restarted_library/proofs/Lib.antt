@@ -1,0 +1,4 @@
+pub mod CopyLemmas
+pub mod BuiltLemmas
+pub mod StepLemmas
+pub mod LeftLemmas
