@@ -15,6 +15,7 @@ use Rattle.library_steps.specs.State.{State, FileState, MemberStatus}
 use Rattle.restart_model.specs.Libraries.{file_left, files_left, journal_with, library_left, member_left, record_length_in, records_then, status_left}
 use Rattle.restart_model.specs.Sources.{descriptions, described_files}
 use Rattle.restarted_library.specs.Built.{IsBuilt, files_built, is_of, member_built, members_built, status_held, statuses_of, with_statuses}
+use Rattle.restarted_library.specs.Steps.{Leads}
 use Rattle.restarted_library.proofs.BuiltLemmas.{length-built}
 
 -- the entries are numbered from the first on
@@ -87,3 +88,12 @@ module _ (entries : List Entry) where
         locks = built.bare.locks i;
         jobs = built.bare.jobs i;
       }
+
+  -- the same of what was put into a library that has the entries alone
+  pub left-whole : (attached : ℕ) (standing : Standing) (files : List CatalogFile) (members : List HeldMember) (next : ℕ) (first s : State) → IsLeft descriptions (λ _. 0) (journal_with entries) standing
+      → files ≡ standing.files → members ≡ standing.members → next ≡ standing.next_member → IsBuilt entries attached [] [] first → Leads first [] [] s files members → s.next_member ≡ next
+      → s ≡ library_left (λ _. 0) attached (journal_with entries)
+  left-whole attached standing files members next first s left files_are members_are next_is none leads risen =
+      left-built attached standing s left (risen ∙ next_is)
+      (subst (λ (f : List CatalogFile). IsBuilt entries attached f standing.members s) files_are
+      (subst (λ (m : List HeldMember). IsBuilt entries attached files m s) members_are (leads entries attached none)))
