@@ -18,6 +18,7 @@ mod opens;
 pub mod reading;
 mod records;
 mod reserves;
+mod restart;
 pub mod stop;
 mod texts;
 mod users;

@@ -1,0 +1,5 @@
+pub mod CopyLemmas
+pub mod BuiltLemmas
+pub mod StepLemmas
+pub mod WalkLemmas
+pub mod LeftLemmas

@@ -1,0 +1,194 @@
+//! One file or one member more, as the journal leaves it.
+ghost use Rattle.std.specs.Prelude.{◌≡◌, ◌≤◌, None, Some, Ok, true, IfOk, OnOk};
+ghost use Rattle.std.specs.Option.{is_some};
+ghost use Rattle.entry_codec.specs.declared.kinds.FileKind.TheVariants.{Logical, Physical};
+ghost use Rattle.logical_model.specs.Bases.{LogicalFile, base_members};
+ghost use Rattle.library_model.specs.Named.{named};
+ghost use Rattle.library_model.specs.declared.limits.TheConstants.{LAST_MEMBER};
+ghost use Rattle.library_steps.specs.CreateLogicalFile.{logical_described};
+ghost use Rattle.library_steps.specs.CreatePhysicalFile.{formats_of};
+ghost use Rattle.library_steps.specs.LogicalFiles.{bases_of};
+ghost use Rattle.library_steps.specs.State.{file_named, memory_of};
+ghost use Rattle.library_steps.specs.Uses.{changer_of_any};
+ghost use Rattle.library_parts.specs.Files.{IsNewMember};
+ghost use Rattle.library_parts.specs.Indexed.{IsUnjoined};
+ghost use Rattle.replay_members.specs.Bodies.{held};
+ghost use Rattle.restarted_library.specs.Steps.{AddsFile, AddsMember, AddsOwner, IsFileOf};
+
+use crate::filling::finish;
+use dds_logical::{LogicalFault, LogicalSpec};
+use field_types::names::Name;
+use field_types::texts::SourceText;
+use file_catalogue::{Described, DescribedView, File};
+use library_model::limits::LAST_MEMBER;
+use library_model::requests::FileMember;
+use library_parts::Contents;
+use library_steps::limits::MOST_MEMBERS;
+use replay_members::Member;
+use std::alloc::AllocError;
+
+// ---- numbers
+
+/// The next member has this number, where no member that is there has it or one above.
+pub(crate) fn raise(contents: &mut Contents, number: u32) -> Result<(), AllocError>
+    ensures state { OnOk result (contents.new.state ≡ record contents.old.state { next_member = number }) }
+    ensures risen { OnOk result (contents.old.state.next_member ≤ number) }
+{
+    let (_, next) = contents.counts();
+    if number < next {
+        return Err(AllocError);
+    }
+    contents.pass_numbers(number);
+    Ok(())
+}
+
+/// The same of a number that a member may have.
+fn pass_to(contents: &mut Contents, number: u32) -> Result<(), AllocError>
+    ensures state { OnOk result (contents.new.state ≡ record contents.old.state { next_member = number }) }
+    ensures risen { OnOk result (contents.old.state.next_member ≤ number) }
+    ensures few { OnOk result (number ≤ LAST_MEMBER) }
+{
+    if number > LAST_MEMBER {
+        return Err(AllocError);
+    }
+    raise(contents, number)?;
+    Ok(())
+}
+
+// ---- members
+
+/// One member more, of a file that is there.
+pub(crate) fn put_member(
+    contents: &mut Contents,
+    number: u32,
+    member: &Member,
+) -> Result<(), AllocError>
+    ensures { OnOk result (AddsMember contents.old.state contents.new.state (held (number, member.now))) }
+{
+    pass_to(contents, number)?;
+    contents.reserve_member()?;
+    let args = FileMember {
+        file: member.file(),
+        member: member.name(),
+    };
+    let _file = file_to_extend(contents, &args)?;
+    contents.add_member(&args)?;
+    finish(contents, number, member)?;
+    Ok(())
+}
+
+/// The physical file that the member may be added to.
+fn file_to_extend<'a>(contents: &'a Contents, args: &FileMember) -> Result<&'a File, AllocError>
+    requires { contents.now.state.next_member ≤ LAST_MEMBER }
+    ensures there { IfOk result (λ file. named args.now.file contents.now.state.files ≡ Some file.now) }
+    ensures new { OnOk result (IsNewMember contents.now.state args.now) }
+{
+    match contents.physical_file(&args.file) {
+        Ok(file) => {
+            if file.members().len() >= MOST_MEMBERS {
+                return Err(AllocError);
+            }
+            Ok(file)
+        }
+        Err(_) => Err(AllocError),
+    }
+}
+
+// ---- physical files
+
+/// One physical file more, with its first member, which has its name.
+pub(crate) fn put_physical(
+    contents: &mut Contents,
+    name: Name,
+    source: &SourceText,
+    number: u32,
+    member: &Member,
+) -> Result<(), AllocError>
+    ensures { OnOk result (AddsOwner contents.old.state contents.new.state Physical name source.now (held (number, member.now))) }
+{
+    if member.file() != name || member.name() != name || has_file(contents, &name) {
+        return Err(AllocError);
+    }
+    pass_to(contents, number)?;
+    let described = file_of(contents, source)?;
+    contents.reserve_file()?;
+    let file = File::new(contents.alloc(), described, name, number)?;
+    contents.add_file(name, file)?;
+    finish(contents, number, member)?;
+    Ok(())
+}
+
+fn has_file(contents: &Contents, name: &Name) -> bool
+    ensures { result ≡ is_some (file_named name.now (memory_of contents.now.state)) }
+{
+    match contents.file(name) {
+        Ok(_) => true,
+        Err(_) => false,
+    }
+}
+
+/// What the source describes beside the files that are there.
+fn file_of(contents: &Contents, source: &SourceText) -> Result<Described, AllocError>
+    ensures { IfOk result (λ new. IsFileOf (formats_of (memory_of contents.now.state)) source.now new) }
+{
+    match contents.describe(source) {
+        Ok(described) => Ok(described),
+        Err(_) => Err(AllocError),
+    }
+}
+
+// ---- logical files
+
+/// One logical file more. Where its source describes none beside the files that are there, it is left out.
+pub(crate) fn put_view(
+    contents: &mut Contents,
+    name: Name,
+    source: &SourceText,
+) -> Result<(), AllocError>
+    ensures { OnOk result (AddsFile contents.old.state contents.new.state Logical name source.now) }
+{
+    match contents.describe_view(source) {
+        Ok(view) => {
+            put_described(contents, name, view)?;
+            Ok(())
+        }
+        Err(LogicalFault::NoMemory) => Err(AllocError),
+        Err(LogicalFault::Fault(_)) => Ok(()),
+    }
+}
+
+fn put_described(
+    contents: &mut Contents,
+    name: Name,
+    view: DescribedView,
+) -> Result<(), AllocError>
+    requires { logical_described (memory_of contents.old.state) view.source ≡ Ok view.spec }
+    ensures { OnOk result (AddsFile contents.old.state contents.new.state Logical name view.source) }
+{
+    if has_file(contents, &name) || !may_stand(contents, view.spec()) {
+        return Err(AllocError);
+    }
+    contents.reserve_file()?;
+    match contents.add_view(name, view) {
+        Ok(()) => Ok(()),
+        Err(_) => Err(AllocError),
+    }
+}
+
+/// Whether it is no join, and no open commit cycle has changed a record under it.
+fn may_stand(contents: &Contents, view: &LogicalSpec) -> bool
+    ensures unjoined { result ≡ true → IsUnjoined (LogicalFile view.now) }
+    ensures unchanged { result ≡ true → changer_of_any (base_members (bases_of (memory_of contents.now.state)) view.now) (memory_of contents.now.state) ≡ None }
+{
+    is_unjoined(view) && contents.changer_under(view).is_none()
+}
+
+fn is_unjoined(view: &LogicalSpec) -> bool
+    ensures { result ≡ true → IsUnjoined (LogicalFile view.now) }
+{
+    match view {
+        LogicalSpec::Simple(_) => true,
+        LogicalSpec::Multi(_) => true,
+        LogicalSpec::Join(_) => false,
+    }
+}
