@@ -13,8 +13,10 @@ use ibmi_batch::batch::{program, program_alone};
 use ibmi_batch::status::Status;
 use ibmi_batch::words::{are_command_words, are_job_words, are_run_words};
 use outside::{StandardInput, StandardOutput, SystemClock};
+use std::fs::File;
 use std::io::{ErrorKind, IsTerminal};
 use std::process::ExitCode;
+use std::rt::Files;
 use std::sync::Wait;
 use std::thread::Threads;
 use std::{env, io};
@@ -31,6 +33,9 @@ fn main(rt: HostRuntime) -> ExitCode {
     let Ok(clock) = rt.clone() else {
         return end(&rt, Status::NoMemory);
     };
+    let Ok(files) = rt.clone() else {
+        return end(&rt, Status::NoMemory);
+    };
     let reader = rt.reader();
     if are_job_words(words.as_slice()) && reader.is_terminal() {
         say_terminal_help(&rt, rt.alloc(), words.as_slice());
@@ -38,7 +43,7 @@ fn main(rt: HostRuntime) -> ExitCode {
     let mut input = KeptSource::new(rt.alloc(), StandardInput::new(reader));
     let mut output = KeptSink::new(rt.alloc(), StandardOutput::new(io::writer(&rt)));
     let clock = SystemClock::new(clock);
-    let status = run_over(&rt, words.as_slice(), &mut input, &mut output, clock);
+    let status = run_over(&rt, files, words.as_slice(), &mut input, &mut output, clock);
     let code = end(&rt, status);
     let remains = Remains {
         words: words.as_slice(),
@@ -50,30 +55,38 @@ fn main(rt: HostRuntime) -> ExitCode {
 }
 
 /// Does what the words say, over the folder that they name. Words that are no command touch no folder.
-fn run_over<I: Source, O: Sink, C: Clock + Send + Drop>(
-    rt: &HostRuntime,
+fn run_over<
+    R: AllocGlobal + Eprint + Threads + Wait + Sync,
+    F: Files<File = File> + AllocGlobal + Drop + Send,
+    I: Source,
+    O: Sink,
+    C: Clock + Send + Drop,
+>(
+    rt: &R,
+    files: F,
     words: &[String],
     input: &mut I,
     output: &mut O,
     clock: C,
 ) -> Status {
-    let [_, folder] = words else {
-        return run(rt, words, MemoryStore::new(rt.alloc()), input, output, clock);
+    let alloc = rt.alloc();
+    let folder = match words {
+        [_, folder] if are_command_words(words) => folder,
+        _ => return run(rt, words, MemoryStore::new(alloc), input, output, clock),
     };
-    if !are_command_words(words) {
-        return run(rt, words, MemoryStore::new(rt.alloc()), input, output, clock);
-    }
-    let Ok(own) = rt.clone() else {
-        return Status::NoMemory;
-    };
-    match FolderStore::open(own, folder.as_str()) {
+    match FolderStore::open(files, folder.as_str()) {
         Ok(store) => run(rt, words, store, input, output, clock),
         Err(OpenError::InUse) => {
             say_in_use(rt, folder.as_str());
             Status::StoreFault
         }
-        Err(OpenError::Refused(error)) if error.kind() == ErrorKind::OutOfMemory => Status::NoMemory,
-        Err(OpenError::Refused(_)) => Status::StoreFault,
+        Err(OpenError::Refused(error)) => {
+            if error.kind() == ErrorKind::OutOfMemory {
+                Status::NoMemory
+            } else {
+                Status::StoreFault
+            }
+        }
     }
 }
 

@@ -11,6 +11,7 @@ use Rattle.input_scripts.specs.declared.Scripts.{Scripts}
 use Rattle.input_reader.specs.Input.{faults_of}
 use Rattle.restarted_journal.specs.Restarts.{MayRestart}
 use Rattle.restart_model.specs.Libraries.{restart_job}
+use Rattle.restart_model.specs.Sources.{descriptions}
 use Rattle.ibmi_batch.specs.declared.status.Status.{Status}
 use Rattle.ibmi_batch.specs.declared.status.Status.TheVariants.{Done, Words, ReadFault, TooLong, Script, NotALibrary, Damaged, StoreFault, WriteFault, NoMemory, JobsEnded, Exists}
 use Rattle.ibmi_batch.specs.Storing.{Storing, IsUntouched, WasEmpty, WasSomething, IsEmpty, SpelledBefore, IsRestart}
@@ -51,7 +52,7 @@ spelled-is-something storing entries spelled empty =
 -- where nothing is written a stop leaves what it may within a restart
 pub restart-of-untouched : (storing : Storing) → IsUntouched storing → IsRestart storing
 restart-of-untouched storing untouched = λ tells before spelled.
-    leaves_stays storing.old storing.new (MayRestart storing.old restart_job 0 before) untouched (λ areas may. inl may)
+    leaves_stays storing.old storing.new (MayRestart descriptions storing.old restart_job 0 before) untouched (λ areas may. inl may)
 
 -- ---- words that are none
 

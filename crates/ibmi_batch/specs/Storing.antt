@@ -75,7 +75,7 @@ IsRestart storing = Restarts storing.tells storing.old storing.new
 
 -- at every moment a stop leaves what it may within a restart, or the journal of whole calls
 abbrev pub MayRun : (disk : Disk) → List Entry → List NamedSource → State → List Call → Outcome → Areas → Type 0
-MayRun disk before sources start calls outcome areas = MayRestart disk restart_job 0 before areas ⊎ IsFront sources start calls [] outcome areas
+MayRun disk before sources start calls outcome areas = MayRestart descriptions disk restart_job 0 before areas ⊎ IsFront sources start calls [] outcome areas
 
 -- and behind the calls a stop leaves the journal of whole calls with every change that was acknowledged
 pub record IsKeptRun (storing : Storing) (before : List Entry) (sources : List NamedSource) (start : State) (calls : List Call) (outcome : Outcome) : Type 0 where

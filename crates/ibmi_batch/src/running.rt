@@ -116,7 +116,7 @@ fn write_at_end<S: Store, O: Sink, C: Clock>(
     session: &Session<S, C>,
     out: &mut O,
 ) -> Status
-    ensures { (outcome : Outcome) → IsStanding outcome → HaveEnded session.now.scripts session.now.calls → HasRun result session.now.scripts session.now.calls outcome (record { tells = O.tells; old = O.taken out.old; new = O.taken out.new; rose = Rose (O.faults out.old) (O.faults out.new) }) }
+    ensures ran { (outcome : Outcome) → IsStanding outcome → HaveEnded session.now.scripts session.now.calls → HasRun result session.now.scripts session.now.calls outcome (record { tells = O.tells; old = O.taken out.old; new = O.taken out.new; rose = Rose (O.faults out.old) (O.faults out.new) }) }
     ensures no_store_fault { result ≡ Status.StoreFault → ⊥ }
 {
     match write_listing(alloc, session, out) {

@@ -76,6 +76,13 @@ impl<S: Store> Library<S> {
         self.failed
     }
 
+    /// What it has in memory.
+    pub fn contents(&self) -> &Contents
+        ensures { result.now.state ≡ self.now.state }
+    {
+        &self.contents
+    }
+
     /// How many jobs have begun.
     pub fn jobs(&self) -> usize
         ensures { result ≡ length self.now.state.jobs }

@@ -13,6 +13,7 @@ mod keys;
 pub mod laws;
 mod leave;
 mod locking;
+mod looks;
 mod members;
 mod opens;
 pub mod reading;

@@ -141,6 +141,13 @@ impl MemoryJournal {
         Ok(&self.entries.as_slice()[from..from + count])
     }
 
+    /// All entries that are kept.
+    pub fn all_entries(&self) -> &[Entry]
+        ensures { result.now ≡ self.now.journal.entries }
+    {
+        self.entries.as_slice()
+    }
+
     /// The number of the first receiver that is kept.
     pub fn first_receiver(&self) -> u32
         ensures { result ≡ self.now.journal.receivers.first }

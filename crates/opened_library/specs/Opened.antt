@@ -26,7 +26,7 @@ pub record IsOpenedFrom (tells : Type 0) (old : Disk) (before : List Entry) (s :
 
 -- whatever the store spelled, at every moment a stop leaves what a stop before could, or the entries as a restart begins or ends them
 abbrev pub Restarts : (tells : Type 0) (old new : Disk) → Type 0
-Restarts tells old new = tells → (before : List Entry) → SpellJournal descriptions before old.seen → Leaves old new (MayRestart old restart_job 0 before)
+Restarts tells old new = tells → (before : List Entry) → SpellJournal descriptions before old.seen → Leaves old new (MayRestart descriptions old restart_job 0 before)
 
 -- a library that was opened: its state, which is sound, and all of its journal is on the disk
 pub record IsOpenedLibrary {S : Type 0} (tells : Type 0) (old new : Disk) (library : LibraryOver S) : Type 0 where
