@@ -1,5 +1,5 @@
 -- Which library is one that was opened, and what may a stop leave of its store meanwhile? (Journal Management, "Recovery operations using journaling".)
-use Rattle.std.specs.Prelude.{◌≡◌, ◌≢◌, ℕ, false, List, []}
+use Rattle.std.specs.Prelude.{◌≡◌, ◌≢◌, ◌≤◌, ℕ, false, List, [], length}
 use Rattle.store_model.specs.Disk.{Areas, Disk, Leaves, May, Stays}
 use Rattle.store_model.specs.Faults.{Rose}
 use Rattle.entry_codec.specs.declared.entries.Entry.{Entry}
@@ -36,8 +36,10 @@ pub record IsOpenedLibrary {S : Type 0} (tells : Type 0) (old new : Disk) (libra
   pub sound : IsSound library.state
   pub none : library.state.jobs ≡ []
   pub alive : library.failed ≡ false
-  pub nothing_waits : library.book.waiting ≡ 0
+  pub all : library.book.forced ≡ length library.state.entries
+  pub receiver : library.book.chain.first ≡ FIRST_RECEIVER
   pub left : tells → (areas : Areas) → May new areas → SpellEntries FIRST_RECEIVER library.state.entries areas
+  pub faults : old.faults ≤ new.faults
 
 -- why a store was not opened: none of its areas was written where its bytes are the cause
 abbrev pub IsNotOpened : OpenFault → (tells : Type 0) (old new : Disk) → Type 0

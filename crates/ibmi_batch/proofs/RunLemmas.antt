@@ -1,0 +1,131 @@
+-- What a library that was opened, and a session that ran over it, come to together.
+use Rattle.std.proofs.Common.{◌≡◌, ◌≤◌, ◌∙◌, ℕ, inl, inr, true, false, List, [], length, take, refl, sym, ap, subst, arith}
+use Rattle.std.proofs.lemmas.List.{take_all}
+use Rattle.store_model.specs.Disk.{Areas, Disk, Leaves, May}
+use Rattle.store_model.specs.Faults.{Rose}
+use Rattle.store_model.proofs.Runs.{leaves_less, leaves_then}
+use Rattle.entry_codec.specs.declared.entries.Entry.{Entry}
+use Rattle.receiver_chain.specs.declared.numbers.TheConstants.{FIRST_RECEIVER}
+use Rattle.journal_book.specs.Kept.{SpellEntries}
+use Rattle.journal_opening.specs.declared.fault.OpenFault.{OpenFault}
+use Rattle.journal_opening.specs.declared.fault.OpenFault.TheVariants as fault
+use Rattle.library_model.specs.declared.calls.Call.{Call}
+use Rattle.library_steps.specs.State.{State, begun}
+use Rattle.library_steps.specs.History.{Outcome, Standing, Failed}
+use Rattle.library_core.specs.Fronts.{IsFront}
+use Rattle.library_core.specs.Parts.{LibraryOver}
+use Rattle.library_core.specs.Stands.{IsAt}
+use Rattle.input_scripts.specs.declared.Scripts.{Scripts}
+use Rattle.job_runner.specs.Asked.{AreAsked}
+use Rattle.job_runner.specs.Ended.{has_ended}
+use Rattle.job_runner.specs.Made.{AreGiven}
+use Rattle.job_runner.specs.Moments.{HasRun as HasRunOver, StandsForced}
+use Rattle.job_runner.specs.Places.{BeginsJobs}
+use Rattle.job_runner.specs.Session.{SessionOver, HasMade}
+use Rattle.job_runner.specs.Turns.{AreInTurn}
+use Rattle.job_runner.proofs.StartLemmas.{HasRun-made, StandsForced-begun}
+use Rattle.opened_library.specs.Opened.{IsNotOpened, IsOpenedLibrary}
+use Rattle.restart_model.specs.Libraries.{restart_job}
+use Rattle.restart_model.specs.Sources.{descriptions}
+use Rattle.restarted_journal.specs.Restarts.{MayRestart}
+use Rattle.ibmi_batch.specs.declared.status.Status.{Status}
+use Rattle.ibmi_batch.specs.Opening.{status_of}
+use Rattle.ibmi_batch.specs.Outcome.{HasRun, HaveEnded, IsCutShort, IsStanding, RunOver, Writing}
+use Rattle.ibmi_batch.specs.Parts.{IsUnopened, SessionRan}
+use Rattle.ibmi_batch.specs.Storing.{MayRun}
+use Rattle.ibmi_batch.specs.Words.{are_serial_words}
+
+-- ---- a store that was not opened
+
+pub unopened : (why : OpenFault) (tells : Type 0) (old new : Disk) → IsNotOpened why tells old new → IsUnopened (status_of why) (record { tells = tells; old = old; new = new })
+unopened fault.NotALibrary tells old new is = is
+unopened (fault.Damaged area at) tells old new is = is
+unopened fault.StoreFault tells old new is = is
+unopened fault.NoMemory tells old new is = is
+
+-- ---- what a session came to
+
+-- an outcome of a library that hasn't failed stands
+pub stands-alive : {S : Type 0} (library : LibraryOver S) (outcome : Outcome) → IsAt library outcome → library.failed ≡ false → IsStanding outcome
+stands-alive library (Standing s) at alive = (s, refl)
+stands-alive library (Failed entries) at alive = absurd cc
+
+-- that of one that has failed doesn't
+pub cut-failed : {S : Type 0} (library : LibraryOver S) (outcome : Outcome) → IsAt library outcome → library.failed ≡ true → IsCutShort outcome
+cut-failed library (Standing s) at failed = absurd (let alive = at.alive in cc)
+cut-failed library (Failed entries) at failed = (entries, refl)
+
+module _ {S C : Type 0} (tells : Type 0) (disk : S → Disk) (gives : C → ℕ → C → Type 0) (words : List (List ℕ)) (first later : SessionOver S C) (made : List Call) (from : State)
+    (none : first.calls ≡ []) (forced : StandsForced tells disk first.library from) (has : HasMade tells disk gives first later made)
+    (order : are_serial_words words ≡ true → AreInTurn (length first.scripts.scripts) first.scripts.schedule first.calls made) where
+  all : later.calls ≡ made
+  all = has.calls ∙ ap (λ (calls : List Call). calls ++ made) none
+
+  led : HasRunOver tells disk first.scripts.sources first.library later.library from made
+  led = HasRun-made tells disk gives first later from made forced has
+
+  pub session-outcome : Outcome
+  session-outcome = led.outcome
+
+  pub session-at : IsAt later.library session-outcome
+  session-at = led.at
+
+  -- with what was written
+  pub session-ran : (status : Status) (writing : Writing) → HasRun status first.scripts made session-outcome writing
+      → SessionRan tells (disk first.library.store) (disk later.library.store) status words first.scripts from (AreGiven gives first.clock later.clock) writing
+  session-ran status writing ran = record {
+    calls = made;
+    outcome = led.outcome;
+    legal = led.runs;
+    asked = subst (λ (calls : List Call). AreAsked first.scripts.scripts calls made) none has.asked;
+    order = λ serial. subst (λ (calls : List Call). AreInTurn (length first.scripts.scripts) first.scripts.schedule calls made) none (order serial);
+    timestamps = has.given;
+    moments = led.moments;
+    acknowledged = led.now;
+    ran = ran;
+  }
+
+-- ---- over a library that was opened
+
+module _ {S : Type 0} (tells : Type 0) (disk : S → Disk) (old : Disk) (library : LibraryOver S) (opened : IsOpenedLibrary tells old (disk library.store) library) where
+  pub opened-forced : StandsForced tells disk library library.state
+  opened-forced = record {
+    stands = record { alive = opened.alive; state = refl };
+    all = opened.all;
+    receiver = opened.receiver;
+    left = λ told. record {
+      few = omega (arith, opened.all);
+      spells = λ areas may.
+          rw (opened.receiver, opened.all, take_all (length library.state.entries) library.state.entries (omega arith)) (opened.left told areas may);
+    };
+  }
+
+  module _ (begun-library : LibraryOver S) (scripts : Scripts) (begins : BeginsJobs library begun-library scripts.names) (last : Disk) where
+    pub over-run : (status : Status) (words : List (List ℕ)) (given : List Call → Type 0) (writing : Writing)
+        → SessionRan tells (disk begun-library.store) last status words scripts (begun library.state scripts.names) given writing
+        → RunOver status words scripts given writing (record { tells = tells; old = old; new = last })
+    over-run status words given writing ran = record {
+      before = opened.before;
+      start = library.state;
+      starts = opened.from;
+      calls = ran.calls;
+      outcome = ran.outcome;
+      run = record { legal = ran.legal; asked = ran.asked; order = ran.order };
+      timestamps = ran.timestamps;
+      kept = record {
+        moments = λ told.
+            leaves_then old (disk library.store) last (MayRun old opened.before scripts.sources (begun library.state scripts.names) ran.calls ran.outcome)
+            (leaves_less old (disk library.store) (MayRestart descriptions old restart_job 0 opened.before)
+            (MayRun old opened.before scripts.sources (begun library.state scripts.names) ran.calls ran.outcome)
+            (opened.restart told opened.before (opened.from.spelled told)) (λ areas may. inl may))
+            (leaves_less (disk library.store) last (IsFront scripts.sources (begun library.state scripts.names) ran.calls [] ran.outcome)
+            (MayRun old opened.before scripts.sources (begun library.state scripts.names) ran.calls ran.outcome)
+            (subst (λ (store : S). Leaves (disk store) last (IsFront scripts.sources (begun library.state scripts.names) ran.calls [] ran.outcome)) begins.store (ran.moments told))
+            (λ areas front. inr front));
+        acknowledged = ran.acknowledged;
+      };
+      ran = ran.ran;
+    }
+
+    pub rose-run : Rose (disk begun-library.store).faults last.faults → Rose old.faults last.faults
+    rose-run rose = let same = ap (λ (store : S). (disk store).faults) begins.store in let upto = opened.faults in omega (arith, rose, same, upto)
