@@ -59,10 +59,11 @@ fn fill(contents: &mut Contents, number: u32, member: &Member) -> Result<(), All
 fn fits(contents: &Contents, number: u32, member: &Member) -> bool
     ensures { result ≡ true → MayFill contents.now.state number (filled_by contents.now.state number member.now.slots) }
 {
-    are_of_bytes(member.slots());
+    let slots = member.slots();
+    are_of_bytes(slots);
     has_records(contents, number, member)
         && contents.user_of(number).is_none()
-        && has_room(contents, number, member.slots())
+        && has_room(contents, number, slots)
 }
 
 fn has_records(contents: &Contents, number: u32, member: &Member) -> bool

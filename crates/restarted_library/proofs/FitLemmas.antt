@@ -1,0 +1,67 @@
+-- Slots that are records of one file that has a member may stand in the member.
+use Rattle.std.proofs.Common.{ℕ, ◌+◌, ◌*◌, ◌≤◌, ◌≡◌, ◌==◌, ◌&&◌, Bool, true, false, List, [], ◌∷◌, length, Option, Some, None, IsSome, refl, sym, ap, ◌∙◌, subst}
+use Rattle.std.specs.Prelude.{unwrap_or}
+use Rattle.std.specs.List.{AllByRecursion}
+use Rattle.std.specs.Option.{is_none, option_map}
+use Rattle.std.proofs.lemmas.Bool.{eqb-true}
+use Rattle.record_fmt.specs.declared.formats.Format.{Format}
+use Rattle.member_slots.specs.declared.slot.Slot.{Slot}
+use Rattle.member_slots.specs.Members.{member_at, member_of}
+use Rattle.dds_physical.specs.declared.physical_files.PhysicalSpec.{PhysicalSpec}
+use Rattle.logical_model.specs.Bases.{FileSpec, LogicalFile, PhysicalFile}
+use Rattle.lawful_states.specs.Lawful.{HoldsValues, IsThere}
+use Rattle.lawful_states.specs.Members.{HasMember}
+use Rattle.lawful_states.specs.Owners.{AreApart, Owns}
+use Rattle.lawful_states.specs.Slots.{MayStand}
+use Rattle.lawful_states.proofs.MemberLemmas.{IsThere-is_some}
+use Rattle.library_model.specs.Named.{Named, named}
+use Rattle.library_parts.specs.Filled.{MayFill}
+use Rattle.library_parts.specs.Indexed.{HasBytes}
+use Rattle.library_steps.specs.declared.limits.TheConstants.{MOST_LIBRARY_BYTES}
+use Rattle.library_steps.specs.Ranges.{library_bytes}
+use Rattle.library_steps.specs.State.{State, FileState, fields_of, format_in, memory_of, physical_in}
+use Rattle.library_steps.specs.Uses.{user_of}
+use Rattle.restarted_library.specs.Steps.{filled_by}
+
+pub and-both : (a b : Bool) → (a && b) ≡ true → (a ≡ true) × (b ≡ true)
+and-both true b is = (refl, is)
+and-both false b is = absurd cc
+
+pub none-is : (o : Option ℕ) → is_none o ≡ true → o ≡ None
+none-is None is = refl
+none-is (Some n) is = absurd cc
+
+-- a file that holds records of a format has this one
+pub format-of : (spec : FileSpec) (format : Format) → Some format ≡ option_map (λ (p : PhysicalSpec). p.format) (physical_in spec) → format ≡ format_in spec
+format-of (PhysicalFile spec) format is = cc
+format-of (LogicalFile view) format is = absurd cc
+
+pub has-there : (s : State) (name : List ℕ) (file : FileState) (its number : ℕ) (b : Bool) → HasMember s name file its → ((its == number) && b) ≡ true → IsSome (member_at number s.members)
+has-there s name file its number b has is =
+    let same : its ≡ number = eqb-true its number (and-both (its == number) b is).0 in
+    subst (λ (n : ℕ). IsSome (member_at n s.members)) same (IsThere-is_some (fields_of file) (member_at its s.members) has.there)
+
+same-file : (files : Named FileState) (name other : List ℕ) (file another : FileState) (number : ℕ) → AreApart files → Owns files name file number → Owns files other another number → file ≡ another
+same-file files name other file another number apart one two =
+    let same : name ≡ other = apart.apart name other file another number one two in
+    ap (λ (o : Option FileState). unwrap_or o file) (sym one.there ∙ ap (λ (n : List ℕ). named n files) same ∙ two.there)
+
+each-stands : (s : State) (name : List ℕ) (file : FileState) (number : ℕ) → AreApart s.files → Owns s.files name file number → (slots : List Slot) → AllByRecursion (HoldsValues (fields_of file)) slots
+    → AllByRecursion (λ (slot : Slot). MayStand s number slot) slots
+each-stands s name file number apart owns [] all = tt
+each-stands s name file number apart owns (slot ∷ slots) all = (
+  λ other another its. subst (λ (f : FileState). HoldsValues (fields_of f) slot) (same-file s.files name other file another number apart owns its) all.0,
+  each-stands s name file number apart owns slots all.1,
+)
+
+pub has-values : (s : State) (name : List ℕ) (file : FileState) (its number : ℕ) (b : Bool) (slots : List Slot) → AreApart s.files → HasMember s name file its
+    → (b ≡ true → AllByRecursion (HoldsValues (fields_of file)) slots) → ((its == number) && b) ≡ true → AllByRecursion (λ (slot : Slot). MayStand s number slot) slots
+has-values s name file its number b slots apart has holds is =
+    let both = and-both (its == number) b is in
+    let same : its ≡ number = eqb-true its number both.0 in
+    subst (λ (n : ℕ). AllByRecursion (λ (slot : Slot). MayStand s n slot) slots) same (each-stands s name file its apart has.owns slots (holds both.1))
+
+-- all of it
+pub may-fill : (s : State) (number : ℕ) (slots : List Slot) → IsSome (member_at number s.members) → AllByRecursion (λ (slot : Slot). MayStand s number slot) slots → AllByRecursion HasBytes slots
+    → user_of number (memory_of s) ≡ None → library_bytes s.members + length slots * (member_of number s.members).record_length ≤ MOST_LIBRARY_BYTES → MayFill s number (filled_by s number slots)
+may-fill s number slots there values bytes unused few = record { there = there; unused = unused; long = refl; values = values; bytes = bytes; few = few }
