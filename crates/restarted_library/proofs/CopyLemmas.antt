@@ -1,6 +1,6 @@
 -- Slots are copied one after another, and their records counted.
 use Rattle.std.proofs.Common.{ℕ, ◌+◌, ◌-◌, ◌≡◌, ◌≤◌, ◌==◌, zero, suc, List, [], ◌∷◌, ◌++◌, length, false, ne_eqb, refl, sym, ap, arith, ◌∙◌}
-use Rattle.std.specs.List.{slice_set}
+use Rattle.std.specs.Prelude.{slice_set}
 use Rattle.member_slots.specs.declared.slot.Slot.{Slot}
 use Rattle.member_slots.specs.declared.slot.Slot.TheVariants.{Live, Deleted}
 use Rattle.member_slots.specs.Member.{MemberState, changed, records, records_from}

@@ -1,9 +1,8 @@
 -- Slots that are records of one file that has a member may stand in the member.
-use Rattle.std.proofs.Common.{ℕ, ◌+◌, ◌*◌, ◌≤◌, ◌≡◌, ◌==◌, ◌&&◌, Bool, true, false, List, [], ◌∷◌, length, Option, Some, None, IsSome, refl, sym, ap, ◌∙◌, subst}
+use Rattle.std.proofs.Common.{ℕ, ◌+◌, ◌*◌, ◌≤◌, ◌≡◌, ◌&&◌, Bool, true, false, List, [], ◌∷◌, length, Option, Some, None, IsSome, refl, sym, ap, ◌∙◌, subst}
 use Rattle.std.specs.Prelude.{unwrap_or}
 use Rattle.std.specs.List.{AllByRecursion}
-use Rattle.std.specs.Option.{is_none, option_map}
-use Rattle.std.proofs.lemmas.Bool.{eqb-true}
+use Rattle.std.specs.Option.{option_map}
 use Rattle.record_fmt.specs.declared.formats.Format.{Format}
 use Rattle.member_slots.specs.declared.slot.Slot.{Slot}
 use Rattle.member_slots.specs.Members.{member_at, member_of}
@@ -27,19 +26,10 @@ pub and-both : (a b : Bool) → (a && b) ≡ true → (a ≡ true) × (b ≡ tru
 and-both true b is = (refl, is)
 and-both false b is = absurd cc
 
-pub none-is : (o : Option ℕ) → is_none o ≡ true → o ≡ None
-none-is None is = refl
-none-is (Some n) is = absurd cc
-
 -- a file that holds records of a format has this one
 pub format-of : (spec : FileSpec) (format : Format) → Some format ≡ option_map (λ (p : PhysicalSpec). p.format) (physical_in spec) → format ≡ format_in spec
 format-of (PhysicalFile spec) format is = cc
 format-of (LogicalFile view) format is = absurd cc
-
-pub has-there : (s : State) (name : List ℕ) (file : FileState) (its number : ℕ) (b : Bool) → HasMember s name file its → ((its == number) && b) ≡ true → IsSome (member_at number s.members)
-has-there s name file its number b has is =
-    let same : its ≡ number = eqb-true its number (and-both (its == number) b is).0 in
-    subst (λ (n : ℕ). IsSome (member_at n s.members)) same (IsThere-is_some (fields_of file) (member_at its s.members) has.there)
 
 same-file : (files : Named FileState) (name other : List ℕ) (file another : FileState) (number : ℕ) → AreApart files → Owns files name file number → Owns files other another number → file ≡ another
 same-file files name other file another number apart one two =
@@ -54,14 +44,28 @@ each-stands s name file number apart owns (slot ∷ slots) all = (
   each-stands s name file number apart owns slots all.1,
 )
 
-pub has-values : (s : State) (name : List ℕ) (file : FileState) (its number : ℕ) (b : Bool) (slots : List Slot) → AreApart s.files → HasMember s name file its
-    → (b ≡ true → AllByRecursion (HoldsValues (fields_of file)) slots) → ((its == number) && b) ≡ true → AllByRecursion (λ (slot : Slot). MayStand s number slot) slots
-has-values s name file its number b slots apart has holds is =
-    let both = and-both (its == number) b is in
-    let same : its ≡ number = eqb-true its number both.0 in
-    subst (λ (n : ℕ). AllByRecursion (λ (slot : Slot). MayStand s n slot) slots) same (each-stands s name file its apart has.owns slots (holds both.1))
+pub stands-all : (s : State) (name : List ℕ) (file : FileState) (number : ℕ) (slots given : List Slot) → given ≡ slots → AreApart s.files → HasMember s name file number
+    → AllByRecursion (HoldsValues (fields_of file)) given → AllByRecursion (λ (slot : Slot). MayStand s number slot) slots
+stands-all s name file number slots given same apart has all =
+    subst (λ (w : List Slot). AllByRecursion (λ (slot : Slot). MayStand s number slot) w) same (each-stands s name file number apart has.owns given all)
+
+pub has-there : (s : State) (name : List ℕ) (file : FileState) (number : ℕ) → HasMember s name file number → IsSome (member_at number s.members)
+has-there s name file number has = IsThere-is_some (fields_of file) (member_at number s.members) has.there
+
+-- the member under its own name and number
+pub has-same : (s : State) (name other : List ℕ) (file : FileState) (its number : ℕ) → name ≡ other → its ≡ number → HasMember s name file its → HasMember s other file number
+has-same s name other file its number same_name same_number has =
+    subst (λ (n : List ℕ). HasMember s n file number) same_name (subst (λ (n : ℕ). HasMember s name file n) same_number has)
 
 -- all of it
-pub may-fill : (s : State) (number : ℕ) (slots : List Slot) → IsSome (member_at number s.members) → AllByRecursion (λ (slot : Slot). MayStand s number slot) slots → AllByRecursion HasBytes slots
-    → user_of number (memory_of s) ≡ None → library_bytes s.members + length slots * (member_of number s.members).record_length ≤ MOST_LIBRARY_BYTES → MayFill s number (filled_by s number slots)
-may-fill s number slots there values bytes unused few = record { there = there; unused = unused; long = refl; values = values; bytes = bytes; few = few }
+pub may-fill : (s : State) (number : ℕ) (slots first last : List Slot) → first ≡ slots → last ≡ slots → IsSome (member_at number s.members) → AllByRecursion (λ (slot : Slot). MayStand s number slot) slots
+    → AllByRecursion HasBytes first → user_of number (memory_of s) ≡ None → library_bytes s.members + length last * (member_of number s.members).record_length ≤ MOST_LIBRARY_BYTES
+    → MayFill s number (filled_by s number slots)
+may-fill s number slots first last first_is last_is there values bytes unused few = record {
+  there = there;
+  unused = unused;
+  long = refl;
+  values = values;
+  bytes = subst (λ (w : List Slot). AllByRecursion HasBytes w) first_is bytes;
+  few = subst (λ (w : List Slot). library_bytes s.members + length w * (member_of number s.members).record_length ≤ MOST_LIBRARY_BYTES) last_is few;
+}
