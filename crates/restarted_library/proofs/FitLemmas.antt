@@ -1,8 +1,8 @@
 -- Slots that are records of one file that has a member may stand in the member.
-use Rattle.std.proofs.Common.{ℕ, ◌+◌, ◌*◌, ◌≤◌, ◌≡◌, ◌&&◌, Bool, true, false, List, [], ◌∷◌, length, Option, Some, None, IsSome, refl, sym, ap, ◌∙◌, subst}
-use Rattle.std.specs.Prelude.{unwrap_or}
+use Rattle.std.proofs.Common.{ℕ, ◌+◌, ◌*◌, ◌<◌, ◌≤◌, ◌≡◌, ◌&&◌, Bool, true, false, List, [], ◌∷◌, length, Option, Some, None, Result, Ok, Err, IsSome, refl, sym, ap, ◌∙◌, subst}
+use Rattle.std.specs.Prelude.{IfSome, unwrap_or}
 use Rattle.std.specs.List.{AllByRecursion}
-use Rattle.std.specs.Option.{option_map}
+use Rattle.std.specs.Option.{is_some, option_map}
 use Rattle.record_fmt.specs.declared.formats.Format.{Format}
 use Rattle.member_slots.specs.declared.slot.Slot.{Slot}
 use Rattle.member_slots.specs.Members.{member_at, member_of}
@@ -14,11 +14,16 @@ use Rattle.lawful_states.specs.Owners.{AreApart, Owns}
 use Rattle.lawful_states.specs.Slots.{MayStand}
 use Rattle.lawful_states.proofs.MemberLemmas.{IsThere-is_some}
 use Rattle.library_model.specs.Named.{Named, named}
+use Rattle.library_model.specs.declared.limits.TheConstants.{LAST_MEMBER}
+use Rattle.library_model.specs.declared.replies.Reply.{Reply}
+use Rattle.library_model.specs.declared.requests.FileMember.{FileMember}
+use Rattle.library_parts.specs.Files.{IsNewMember}
 use Rattle.library_parts.specs.Filled.{MayFill}
 use Rattle.library_parts.specs.Indexed.{HasBytes}
-use Rattle.library_steps.specs.declared.limits.TheConstants.{MOST_LIBRARY_BYTES}
+use Rattle.library_steps.specs.declared.limits.TheConstants.{MOST_LIBRARY_BYTES, MOST_MEMBERS}
 use Rattle.library_steps.specs.Ranges.{library_bytes}
-use Rattle.library_steps.specs.State.{State, FileState, fields_of, format_in, memory_of, physical_in}
+use Rattle.library_steps.specs.Refusals.{found}
+use Rattle.library_steps.specs.State.{State, FileState, fields_of, format_in, memory_of, physical_among, physical_in}
 use Rattle.library_steps.specs.Uses.{user_of}
 use Rattle.restarted_library.specs.Steps.{filled_by}
 
@@ -48,6 +53,21 @@ pub stands-all : (s : State) (name : List ℕ) (file : FileState) (number : ℕ)
     → AllByRecursion (HoldsValues (fields_of file)) given → AllByRecursion (λ (slot : Slot). MayStand s number slot) slots
 stands-all s name file number slots given same apart has all =
     subst (λ (w : List Slot). AllByRecursion (λ (slot : Slot). MayStand s number slot) w) same (each-stands s name file number apart has.owns given all)
+
+-- ---- a file that gets a member
+
+pub shown-is : (o : Option FileState) (reply : Reply) (file : FileState) → found o reply ≡ Ok file → o ≡ Some file
+shown-is None reply file is = absurd cc
+shown-is (Some other) reply file is = cc
+
+pub extends : (s : State) (args : FileMember) (file : FileState) → physical_among args.file s.files ≡ Some file → length file.members < MOST_MEMBERS → s.next_member ≤ LAST_MEMBER → IsNewMember s args
+extends s args file is few number = record {
+  there = ap (λ (o : Option FileState). is_some o) is;
+  few = subst (λ (o : Option FileState). IfSome o (λ f. length f.members < MOST_MEMBERS)) (sym is) few;
+  number = number;
+}
+
+-- ---- slots
 
 pub has-there : (s : State) (name : List ℕ) (file : FileState) (number : ℕ) → HasMember s name file number → IsSome (member_at number s.members)
 has-there s name file number has = IsThere-is_some (fields_of file) (member_at number s.members) has.there

@@ -74,7 +74,7 @@ module _ (entries : List Entry) where
       let members : s.members ≡ map (member_left (files_left breaks journal) journal) (catalogue_of journal).members =
       built.members
       ∙ members-each shown (files_left breaks journal)
-        (λ name. ap (λ (fs : Named FileState). record_length_in (named name fs)) (sym files ∙ built.files) ∙ length-built shown standing.members name) standing.members left.slots
+      (λ name. ap (λ (fs : Named FileState). record_length_in (named name fs)) (sym files ∙ built.files) ∙ length-built shown standing.members name) standing.members left.slots
       ∙ ap (λ (c : Catalogue). map (member_left (files_left breaks journal) journal) c.members) left.catalogue in
       let numbers : s.next_member ≡ (catalogue_of journal).next_member = next ∙ ap (λ (c : Catalogue). c.next_member) left.catalogue in
       λ i. record {

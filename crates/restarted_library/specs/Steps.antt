@@ -15,7 +15,7 @@ use Rattle.library_steps.specs.CreateLogicalFile.{NewLogical, logical_described}
 use Rattle.library_steps.specs.CreatePhysicalFile.{NewFile, described}
 use Rattle.library_steps.specs.Journaling.{journaled_from, no_longer_journaled}
 use Rattle.library_steps.specs.State.{Memory, State, MemberStatus}
-use Rattle.replay_members.specs.Bodies.{Body, held}
+use Rattle.replay_members.specs.Bodies.{Body}
 use Rattle.restarted_library.specs.Built.{IsAdded, IsBuilt}
 
 -- whatever library has these files and members of a journal, it has those then

@@ -9,7 +9,7 @@ ghost use Rattle.library_model.specs.declared.limits.TheConstants.{LAST_MEMBER};
 ghost use Rattle.library_steps.specs.CreateLogicalFile.{logical_described};
 ghost use Rattle.library_steps.specs.CreatePhysicalFile.{formats_of};
 ghost use Rattle.library_steps.specs.LogicalFiles.{bases_of};
-ghost use Rattle.library_steps.specs.State.{file_named, memory_of};
+ghost use Rattle.library_steps.specs.State.{file_named, memory_of, physical_among};
 ghost use Rattle.library_steps.specs.Uses.{changer_of_any};
 ghost use Rattle.library_parts.specs.Files.{IsNewMember};
 ghost use Rattle.library_parts.specs.Indexed.{IsUnjoined};
@@ -84,13 +84,18 @@ fn file_to_extend<'a>(contents: &'a Contents, args: &FileMember) -> Result<&'a F
     ensures there { IfOk result (λ file. named args.now.file contents.now.state.files ≡ Some file.now) }
     ensures new { OnOk result (IsNewMember contents.now.state args.now) }
 {
-    match contents.physical_file(&args.file) {
-        Ok(file) => {
-            if file.members().len() >= MOST_MEMBERS {
-                return Err(AllocError);
-            }
-            Ok(file)
-        }
+    let file = physical_named(contents, &args.file)?;
+    if file.members().len() >= MOST_MEMBERS {
+        return Err(AllocError);
+    }
+    Ok(file)
+}
+
+fn physical_named<'a>(contents: &'a Contents, name: &Name) -> Result<&'a File, AllocError>
+    ensures { IfOk result (λ file. physical_among name.now contents.now.state.files ≡ Some file.now) }
+{
+    match contents.physical_file(name) {
+        Ok(file) => Ok(file),
         Err(_) => Err(AllocError),
     }
 }
@@ -187,11 +192,7 @@ fn view_of(contents: &Contents, source: &SourceText) -> Result<Option<DescribedV
     }
 }
 
-fn put_described(
-    contents: &mut Contents,
-    name: Name,
-    view: DescribedView,
-) -> Result<(), AllocError>
+fn put_described(contents: &mut Contents, name: Name, view: DescribedView) -> Result<(), AllocError>
     requires { logical_described (memory_of contents.old.state) view.source ≡ Ok view.spec }
     ensures { OnOk result (AddsFile contents.old.state contents.new.state Logical name view.source) }
 {
