@@ -5,6 +5,8 @@ use Rattle.std.specs.List.{AllByRecursion}
 use Rattle.std.specs.Option.{is_some, option_map}
 use Rattle.record_fmt.specs.declared.formats.Format.{Format}
 use Rattle.member_slots.specs.declared.slot.Slot.{Slot}
+use Rattle.entry_codec.specs.declared.kinds.Images.{Images}
+use Rattle.member_slots.specs.Member.{MemberState, records}
 use Rattle.member_slots.specs.Members.{member_at, member_of}
 use Rattle.dds_physical.specs.declared.physical_files.PhysicalSpec.{PhysicalSpec}
 use Rattle.logical_model.specs.Bases.{FileSpec, LogicalFile, PhysicalFile}
@@ -21,11 +23,13 @@ use Rattle.library_parts.specs.Files.{IsNewMember}
 use Rattle.library_parts.specs.Filled.{MayFill}
 use Rattle.library_parts.specs.Indexed.{HasBytes}
 use Rattle.library_steps.specs.declared.limits.TheConstants.{MOST_LIBRARY_BYTES, MOST_MEMBERS}
+use Rattle.library_steps.specs.Journaling.{journaled_from, no_longer_journaled}
 use Rattle.library_steps.specs.Ranges.{library_bytes}
 use Rattle.library_steps.specs.Refusals.{found}
 use Rattle.library_steps.specs.State.{State, FileState, fields_of, format_in, memory_of, physical_among, physical_in}
 use Rattle.library_steps.specs.Uses.{user_of}
-use Rattle.restarted_library.specs.Steps.{filled_by}
+use Rattle.replay_members.specs.Bodies.{Body}
+use Rattle.restarted_library.specs.Steps.{filled_by, status_by, status_set}
 
 pub and-both : (a b : Bool) → (a && b) ≡ true → (a ≡ true) × (b ≡ true)
 and-both true b is = (refl, is)
@@ -89,3 +93,23 @@ may-fill s number slots first last first_is last_is there values bytes unused fe
   bytes = subst (λ (w : List Slot). AllByRecursion HasBytes w) first_is bytes;
   few = subst (λ (w : List Slot). library_bytes s.members + length w * (member_of number s.members).record_length ≤ MOST_LIBRARY_BYTES) last_is few;
 }
+
+-- ---- what is put
+
+abbrev with_long : ℕ → List Slot → MemberState
+with_long long slots = record { record_length = long; slots = slots }
+
+pub filled-is : (s : State) (number long : ℕ) (slots given : List Slot) (new : MemberState) → new ≡ record { record_length = long; slots = given } → long ≡ (member_of number s.members).record_length
+    → given ≡ slots → new ≡ filled_by s number slots
+filled-is s number long slots given new made is same = made ∙ (λ i. with_long (is i) (same i))
+
+pub status-some : (body : Body) (images : Option Images) (its : Images) (sequence : ℕ) → images ≡ body.images → images ≡ Some its → sequence ≡ body.last_break → journaled_from sequence its ≡ status_by body
+status-some body images its sequence is some last =
+    ap (λ (n : ℕ). journaled_from n its) last
+    ∙ ap (λ (o : Option Images). status_set o body.last_break (length (records (record { record_length = 0; slots = body.slots })))) (sym some ∙ is)
+
+pub status-none : (body : Body) (images : Option Images) (sequence count : ℕ) → images ≡ body.images → images ≡ None → sequence ≡ body.last_break
+    → count ≡ length (records (record { record_length = 0; slots = body.slots })) → no_longer_journaled sequence count ≡ status_by body
+status-none body images sequence count is none last counted =
+    (λ i. no_longer_journaled (last i) (counted i))
+    ∙ ap (λ (o : Option Images). status_set o body.last_break (length (records (record { record_length = 0; slots = body.slots })))) (sym none ∙ is)

@@ -193,13 +193,14 @@ fn set_status(contents: &mut Contents, number: u32, member: &Member) -> Result<(
     ensures entries { contents.new.state.entries ≡ contents.old.state.entries }
 {
     let count = record_count(member.slots())?;
+    let last = member.last_break();
     match member.images() {
         Some(images) => {
-            contents.start_journaling(number, member.last_break(), images);
+            contents.start_journaling(number, last, images);
             Ok(())
         }
         None => {
-            contents.end_journaling(number, member.last_break(), count);
+            contents.end_journaling(number, last, count);
             Ok(())
         }
     }
