@@ -1,8 +1,9 @@
 -- The files and members of a library that is built from what a journal leaves, with one file or one member more.
-use Rattle.std.proofs.Common.{ℕ, ◌+◌, ◌<◌, ◌≡◌, ◌≢◌, ◌==◌, nat_lt, if◌then◌else◌, Bool, true, false, cond, map, filter, List, [], ◌∷◌, ◌++◌, Option, Some, None, refl, sym, ap, arith, ◌∙◌, subst, eq-eqb, ne_eqb}
+use Rattle.std.proofs.Common.{ℕ, ◌+◌, ◌<◌, ◌≡◌, ◌==◌, nat_lt, if◌then◌else◌, Bool, true, false, cond, map, filter, List, [], ◌∷◌, ◌++◌, Option, Some, None, refl, sym, ap, arith, ◌∙◌, subst, ne_eqb}
 use Rattle.std.specs.List.{AllByRecursion}
 use Rattle.std.specs.Option.{is_some, option_and_then, option_map}
 use Rattle.std.specs.Str.{bytes_eq}
+use Rattle.std.proofs.lemmas.Bool.{eq-eqb}
 use Rattle.std.proofs.lemmas.Bool.Decides.{nat_tests}
 use Rattle.dds_physical.specs.declared.physical_files.PhysicalSpec.{PhysicalSpec}
 use Rattle.member_slots.specs.Member.{MemberState, empty_member}
@@ -37,7 +38,7 @@ named-changed change name (entry ∷ files) =
       | false ↦ λ differ. named-changed change name files
     ] refl
 
-abbrev with_members_of : List HeldMember → List ℕ → FileState → FileState
+abbrev pub with_members_of : List HeldMember → List ℕ → FileState → FileState
 with_members_of held name file = record file { members = statuses_of name held }
 
 pub named-built : (described : Named FileState) (held : List HeldMember) (name : List ℕ) → named name (files_built described held) ≡ option_map (with_members_of held name) (named name described)

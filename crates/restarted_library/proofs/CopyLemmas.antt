@@ -1,17 +1,12 @@
 -- Slots are copied one after another, and their records counted.
 use Rattle.std.proofs.Common.{ℕ, ◌+◌, ◌-◌, ◌≡◌, ◌≤◌, ◌==◌, zero, suc, List, [], ◌∷◌, ◌++◌, length, false, ne_eqb, refl, sym, ap, arith, ◌∙◌}
-use Rattle.std.specs.List.{slice_set}
+use Rattle.std.specs.Prelude.{slice_set}
 use Rattle.member_slots.specs.declared.slot.Slot.{Slot}
 use Rattle.member_slots.specs.declared.slot.Slot.TheVariants.{Live, Deleted}
-use Rattle.member_slots.specs.Member.{MemberState, changed, records, records_from}
-use Rattle.restarted_library.specs.Copies.{live_count, one_live, with_behind}
+use Rattle.member_slots.specs.Member.{MemberState, changed, empty_member, records, records_from}
+use Rattle.restarted_library.specs.Copies.{live_count, one_live, with_all, with_behind}
 
 -- ---- copies
-
--- those before a place are copied, and those from it on are still to be
-pub record IsCopying (record_length : ℕ) (slots rest : List Slot) (now : MemberState) : Type 0 where
-  pub long : now.record_length ≡ record_length
-  pub joined : now.slots ++ rest ≡ slots
 
 append-joined : (xs : List Slot) (slot : Slot) (zs : List Slot) → (xs ++ slot ∷ []) ++ zs ≡ xs ++ slot ∷ zs
 append-joined [] slot zs = refl
@@ -21,23 +16,12 @@ append-none : (xs : List Slot) → xs ++ [] ≡ xs
 append-none [] = refl
 append-none (x ∷ xs) = ap (λ (w : List Slot). x ∷ w) (append-none xs)
 
-pub copying-first : (record_length : ℕ) (slots : List Slot) (now : MemberState) → now ≡ record { record_length = record_length; slots = [] } → IsCopying record_length slots slots now
-copying-first record_length slots now is = record {
-  long = ap (λ (m : MemberState). m.record_length) is;
-  joined = ap (λ (m : MemberState). m.slots ++ slots) is;
-}
+pub all-behind : (slots : List Slot) (member : MemberState) → with_all slots member ≡ record member { slots = member.slots ++ slots }
+all-behind [] member = λ i. record member { slots = sym (append-none member.slots) i }
+all-behind (slot ∷ slots) member = all-behind slots (with_behind slot member) ∙ (λ i. record member { slots = append-joined member.slots slot slots i })
 
-pub copying-next : (record_length : ℕ) (slots : List Slot) (slot : Slot) (rest : List Slot) (now later : MemberState) → later ≡ with_behind slot now → IsCopying record_length slots (slot ∷ rest) now
-    → IsCopying record_length slots rest later
-copying-next record_length slots slot rest now later made is = record {
-  long = ap (λ (m : MemberState). m.record_length) made ∙ is.long;
-  joined = ap (λ (m : MemberState). m.slots ++ rest) made ∙ append-joined now.slots slot rest ∙ is.joined;
-}
-
-pub copying-end : (record_length : ℕ) (slots : List Slot) (now : MemberState) → IsCopying record_length slots [] now → now ≡ record { record_length = record_length; slots = slots }
-copying-end record_length slots now is =
-    let same : now.slots ≡ slots = sym (append-none now.slots) ∙ is.joined in
-    λ i. record { record_length = is.long i; slots = same i }
+pub all-copied : (long : ℕ) (slots : List Slot) (first later : MemberState) → first ≡ empty_member long → later ≡ with_all slots first → later ≡ record { record_length = long; slots = slots }
+all-copied long slots first later is made = made ∙ ap (λ (m : MemberState). with_all slots m) is ∙ all-behind slots (empty_member long)
 
 -- ---- a record that is taken out again
 

@@ -67,14 +67,14 @@ module _ (entries : List Entry) where
   pub left-built : (attached : ℕ) (standing : Standing) (s : State) → IsLeft descriptions (λ _. 0) (journal_with entries) standing → s.next_member ≡ standing.next_member
       → IsBuilt entries attached standing.files standing.members s → s ≡ library_left (λ _. 0) attached (journal_with entries)
   left-built attached standing s left next built =
-      let described = described_files standing.files in
+      let shown = described_files standing.files in
       let files : s.files ≡ files_left breaks journal =
-      built.files ∙ files-each standing left.slots left.last_breaks described
+      built.files ∙ files-each standing left.slots left.last_breaks shown
       ∙ ap (λ (c : Catalogue). map (file_by c) (described_files c.files)) left.catalogue in
       let members : s.members ≡ map (member_left (files_left breaks journal) journal) (catalogue_of journal).members =
       built.members
-      ∙ members-each described (files_left breaks journal)
-        (λ name. ap (λ (fs : Named FileState). record_length_in (named name fs)) (sym files ∙ built.files) ∙ length-built described standing.members name) standing.members left.slots
+      ∙ members-each shown (files_left breaks journal)
+      (λ name. ap (λ (fs : Named FileState). record_length_in (named name fs)) (sym files ∙ built.files) ∙ length-built shown standing.members name) standing.members left.slots
       ∙ ap (λ (c : Catalogue). map (member_left (files_left breaks journal) journal) c.members) left.catalogue in
       let numbers : s.next_member ≡ (catalogue_of journal).next_member = next ∙ ap (λ (c : Catalogue). c.next_member) left.catalogue in
       λ i. record {

@@ -13,7 +13,7 @@ use Rattle.restarted_library.specs.Steps.{AddsFile, AddsMember, AddsOwner, Leads
 use Rattle.restarted_library.proofs.StepLemmas.{built-passed}
 
 take-found : {X : Type 0} (xs : List X) (place : ℕ) (x : X) → slice_get xs place ≡ Some x → take (place + 1) xs ≡ take place xs ++ x ∷ []
-take-found xs place x at = take_more xs place x (slice_get_within xs place x at) ∙ ap (λ (y : _). take place xs ++ y ∷ []) (get_or_from_slice_get xs place x x at)
+take-found {X = X} xs place x at = take_more xs place x (slice_get_within xs place x at) ∙ ap (λ (y : X). take place xs ++ y ∷ []) (get_or_from_slice_get xs place x x at)
 
 kind-is : (f : CatalogFile) (kind : FileKind) → f.kind ≡ kind → f ≡ record { created = f.created; kind = kind; name = f.name; source = f.source }
 kind-is f kind is = λ i. record { created = f.created; kind = is i; name = f.name; source = f.source }

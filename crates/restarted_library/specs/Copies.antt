@@ -8,6 +8,11 @@ use Rattle.member_slots.specs.Member.{MemberState}
 abbrev pub with_behind : Slot → MemberState → MemberState
 with_behind slot member = record member { slots = member.slots ++ slot ∷ [] }
 
+-- with all of these slots more
+abbrev pub with_all : List Slot → MemberState → MemberState
+with_all [] member = member
+with_all (slot ∷ slots) member = with_all slots (with_behind slot member)
+
 -- 1 where a record stands in the slot, else 0
 abbrev pub one_live : Slot → ℕ
 one_live (Live image) = 1

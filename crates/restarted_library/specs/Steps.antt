@@ -1,5 +1,5 @@
 -- What each step of building a library does to one that is built so far. (Our own.)
-use Rattle.std.specs.Prelude.{◌≡◌, ℕ, Option, Some, None, Ok, List, [], ◌∷◌, ◌++◌, length}
+use Rattle.std.specs.Prelude.{◌≡◌, ℕ, Option, Some, None, Ok, Err, List, [], ◌∷◌, ◌++◌, length}
 use Rattle.entry_codec.specs.declared.entries.Entry.{Entry}
 use Rattle.entry_codec.specs.declared.kinds.FileKind.{FileKind}
 use Rattle.entry_codec.specs.declared.kinds.Images.{Images}
@@ -10,10 +10,12 @@ use Rattle.member_slots.specs.Members.{member_of}
 use Rattle.member_slots.specs.Member.{MemberState}
 use Rattle.member_slots.specs.declared.slot.Slot.{Slot}
 use Rattle.record_fmt.specs.declared.formats.Format.{Format}
+use Rattle.dds_source.specs.declared.faults.DdsFault.{DdsFault}
+use Rattle.library_steps.specs.CreateLogicalFile.{NewLogical, logical_described}
 use Rattle.library_steps.specs.CreatePhysicalFile.{NewFile, described}
 use Rattle.library_steps.specs.Journaling.{journaled_from, no_longer_journaled}
-use Rattle.library_steps.specs.State.{State, MemberStatus}
-use Rattle.replay_members.specs.Bodies.{Body, held}
+use Rattle.library_steps.specs.State.{Memory, State, MemberStatus}
+use Rattle.replay_members.specs.Bodies.{Body}
 use Rattle.restarted_library.specs.Built.{IsAdded, IsBuilt}
 
 -- whatever library has these files and members of a journal, it has those then
@@ -61,3 +63,8 @@ filled_by s number slots = record { record_length = (member_of number s.members)
 -- this text, and what it describes
 abbrev pub IsFileOf : (List ℕ → Option Format) → (text : List ℕ) → NewFile → Type 0
 IsFileOf formats text new = (new.source ≡ text) × (described formats text ≡ Ok new.spec)
+
+-- this text and the logical file that it describes; none where something is wrong with it
+abbrev pub IsViewOf : Memory → (text : List ℕ) → Option NewLogical → Type 0
+IsViewOf m text None = (fault : DdsFault) × (logical_described m text ≡ Err fault)
+IsViewOf m text (Some new) = (new.source ≡ text) × (logical_described m text ≡ Ok new.spec)

@@ -2,24 +2,31 @@
 ghost use Rattle.std.specs.Prelude.{◌≡◌, ◌≤◌, length, IfOk, OnOk};
 ghost use Rattle.member_slots.specs.declared.slot.Slot.TheVariants.{Deleted, Live};
 ghost use Rattle.member_slots.specs.Member.{records};
-ghost use Rattle.restarted_library.specs.Copies.{live_count, one_live, with_behind};
+ghost use Rattle.restarted_library.specs.Copies.{live_count, one_live, with_all, with_behind};
 
 use field_types::texts::Image;
 use member_slots::member::{MOST_SLOTS, Member};
 use member_slots::slot::Slot;
 use std::alloc::{AllocError, Global};
 
-/// A member with copies of these slots, and records of that many bytes. More than a member may have count as want of memory.
-pub(crate) fn copied(alloc: Global, length: u32, slots: &[Slot]) -> Result<Member, AllocError>
-    ensures { IfOk result (λ member. member.state ≡ record { record_length = length; slots = slots.now }) }
+/// A member with copies of these slots, and records of so many bytes. More than a member may have count as want of memory.
+pub(crate) fn copied(alloc: Global, long: u32, slots: &[Slot]) -> Result<Member, AllocError>
+    ensures { IfOk result (λ member. member.state ≡ record { record_length = long; slots = slots.now }) }
 {
-    let mut member = Member::new(alloc, length);
+    let mut member = Member::new(alloc, long);
+    add_all(alloc, slots, &mut member)?;
+    Ok(member)
+}
+
+fn add_all(alloc: Global, slots: &[Slot], member: &mut Member) -> Result<(), AllocError>
+    ensures { OnOk result (member.new.state ≡ with_all slots.now member.old.state) }
+{
     let mut rest = slots;
     while let [first, more @ ..] = rest {
-        add_slot(alloc, first, &mut member)?;
+        add_slot(alloc, first, member)?;
         rest = more;
     }
-    Ok(member)
+    Ok(())
 }
 
 fn add_slot(alloc: Global, slot: &Slot, member: &mut Member) -> Result<(), AllocError>
@@ -63,9 +70,9 @@ fn add_deleted(alloc: Global, member: &mut Member) -> Result<(), AllocError>
 }
 
 /// So many bytes.
-fn blank(alloc: Global, length: u32) -> Result<Image, AllocError> {
+fn blank(alloc: Global, long: u32) -> Result<Image, AllocError> {
     let mut bytes = Vec::new(alloc);
-    bytes.resize(length as usize, 0)?;
+    bytes.resize(long as usize, 0)?;
     Ok(Image::from_vec(bytes))
 }
 

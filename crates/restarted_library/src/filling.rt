@@ -1,16 +1,18 @@
 //! A member that was added gets its slots and its journaling.
-ghost use Rattle.std.specs.Prelude.{◌≡◌, ◌+◌, ◌*◌, ◌≤◌, true, length, IfOk, IsSome, OnOk};
+ghost use Rattle.std.specs.Prelude.{◌≡◌, ◌+◌, ◌*◌, ◌≤◌, None, true, length, IfOk, IsSome, OnOk};
 ghost use Rattle.std.specs.List.{AllByRecursion};
 ghost use Rattle.key_order.specs.KeyFields.{AreBytes};
 ghost use Rattle.std.specs.Option.{is_some};
 ghost use Rattle.record_fmt.specs.Records.{record_held};
 ghost use Rattle.member_slots.specs.Members.{member_at, member_of};
 ghost use Rattle.lawful_states.specs.Lawful.{HoldsValues};
+ghost use Rattle.lawful_states.specs.Members.{HasMember};
 ghost use Rattle.lawful_states.specs.Slots.{MayStand};
 ghost use Rattle.library_steps.specs.declared.limits.TheConstants.{MOST_LIBRARY_BYTES};
 ghost use Rattle.library_steps.specs.MemberCommands.{with_slots};
 ghost use Rattle.library_steps.specs.Ranges.{library_bytes};
 ghost use Rattle.library_steps.specs.State.{fields_of, memory_of, with_status};
+ghost use Rattle.library_steps.specs.Uses.{user_of};
 ghost use Rattle.library_parts.specs.Filled.{MayFill};
 ghost use Rattle.library_parts.specs.Indexed.{HasBytes};
 ghost use Rattle.replay_members.specs.Bodies.{held};
@@ -45,9 +47,7 @@ fn fill(contents: &mut Contents, number: u32, member: &Member) -> Result<(), All
     ensures memory { OnOk result (memory_of contents.new.state ≡ with_slots number (λ _. filled_by contents.old.state number member.now.slots) (memory_of contents.old.state)) }
     ensures entries { contents.new.state.entries ≡ contents.old.state.entries }
 {
-    if !fits(contents, number, member) {
-        return Err(AllocError);
-    }
+    may_fill(contents, number, member)?;
     let length = contents.record_length(number);
     let new = copied(contents.alloc(), length, member.slots())?;
     let paths = contents.paths_filled(number, &new)?;
@@ -55,49 +55,72 @@ fn fill(contents: &mut Contents, number: u32, member: &Member) -> Result<(), All
     Ok(())
 }
 
-/// Whether the member of this number is one of that file and name, which no job uses, the slots are records of the file, and the library has room for them.
-fn fits(contents: &Contents, number: u32, member: &Member) -> bool
-    ensures { result ≡ true → MayFill contents.now.state number (filled_by contents.now.state number member.now.slots) }
+/// The member of this number is one of that file and name, which no job uses, the slots are records of the file, and the library has room for them.
+fn may_fill(contents: &Contents, number: u32, member: &Member) -> Result<(), AllocError>
+    ensures { OnOk result (MayFill contents.now.state number (filled_by contents.now.state number member.now.slots)) }
 {
     are_of_bytes(member.slots());
-    has_records(contents, number, member)
-        && contents.user_of(number).is_none()
-        && has_room(contents, number, member.slots())
+    has_records(contents, number, member)?;
+    is_unused(contents, number)?;
+    has_room(contents, number, member.slots())?;
+    Ok(())
 }
 
-fn has_records(contents: &Contents, number: u32, member: &Member) -> bool
-    ensures there { result ≡ true → IsSome (member_at number contents.now.state.members) }
-    ensures values { result ≡ true → AllByRecursion (λ slot. MayStand contents.now.state number slot) member.now.slots }
+fn has_records(contents: &Contents, number: u32, member: &Member) -> Result<(), AllocError>
+    ensures there { OnOk result (IsSome (member_at number contents.now.state.members)) }
+    ensures values { OnOk result (AllByRecursion (λ slot. MayStand contents.now.state number slot) member.now.slots) }
 {
     // No two files have one member.
     let _counts = contents.counts();
+    let file = file_of_member(contents, number, member)?;
+    hold_values(file, member.slots())?;
+    Ok(())
+}
+
+/// The file that has the member.
+fn file_of_member<'a>(
+    contents: &'a Contents,
+    number: u32,
+    member: &Member,
+) -> Result<&'a File, AllocError>
+    ensures { IfOk result (λ file. HasMember contents.now.state member.now.file file.now number) }
+{
     match contents.member_of_file(&member.file(), &member.name()) {
-        Ok(it) => it.status.number() == number && hold_values(it.file, member.slots()),
-        Err(_) => false,
+        Ok(it) => {
+            if it.status.number() == number {
+                Ok(it.file)
+            } else {
+                Err(AllocError)
+            }
+        }
+        Err(_) => Err(AllocError),
     }
 }
 
-/// Whether the slots are records of the file.
-fn hold_values(file: &File, slots: &[Slot]) -> bool
-    ensures { result ≡ true → AllByRecursion (HoldsValues (fields_of file.now)) slots.now }
+/// The slots are records of the file.
+fn hold_values(file: &File, slots: &[Slot]) -> Result<(), AllocError>
+    ensures { OnOk result (AllByRecursion (HoldsValues (fields_of file.now)) slots.now) }
 {
     match file.format() {
-        Some(format) => are_records(format, slots),
-        None => false,
+        Some(format) => {
+            are_records(format, slots)?;
+            Ok(())
+        }
+        None => Err(AllocError),
     }
 }
 
-fn are_records(format: &Format, slots: &[Slot]) -> bool
-    ensures { result ≡ true → AllByRecursion (HoldsValues format.now.fields) slots.now }
+fn are_records(format: &Format, slots: &[Slot]) -> Result<(), AllocError>
+    ensures { OnOk result (AllByRecursion (HoldsValues format.now.fields) slots.now) }
 {
     let mut rest = slots;
     while let [first, more @ ..] = rest {
         if !is_record(format, first) {
-            return false;
+            return Err(AllocError);
         }
         rest = more;
     }
-    true
+    Ok(())
 }
 
 fn is_record(format: &Format, slot: &Slot) -> bool
@@ -115,13 +138,28 @@ fn is_image(format: &Format, image: &[u8]) -> bool
     image.len() == format.length() as usize && format.first_bad(image).is_none()
 }
 
-/// Whether the library may have these slots too.
-fn has_room(contents: &Contents, number: u32, slots: &[Slot]) -> bool
-    ensures { result ≡ true → library_bytes contents.now.state.members + length slots.now * (member_of number contents.now.state.members).record_length ≤ MOST_LIBRARY_BYTES }
+fn is_unused(contents: &Contents, number: u32) -> Result<(), AllocError>
+    ensures { OnOk result (user_of number (memory_of contents.now.state) ≡ None) }
+{
+    if let Some(_) = contents.user_of(number) {
+        return Err(AllocError);
+    }
+    Ok(())
+}
+
+/// The library may have these slots too.
+fn has_room(contents: &Contents, number: u32, slots: &[Slot]) -> Result<(), AllocError>
+    ensures { OnOk result (library_bytes contents.now.state.members + length slots.now * (member_of number contents.now.state.members).record_length ≤ MOST_LIBRARY_BYTES) }
 {
     let count = slots.len() as u64;
     let length = u64::from(contents.record_length(number));
-    count <= MOST_SLOTS && contents.member_bytes() + count * length <= MOST_LIBRARY_BYTES
+    if count > MOST_SLOTS {
+        return Err(AllocError);
+    }
+    if contents.member_bytes() + count * length > MOST_LIBRARY_BYTES {
+        return Err(AllocError);
+    }
+    Ok(())
 }
 
 /// What the slots hold is of bytes.
@@ -155,13 +193,14 @@ fn set_status(contents: &mut Contents, number: u32, member: &Member) -> Result<(
     ensures entries { contents.new.state.entries ≡ contents.old.state.entries }
 {
     let count = record_count(member.slots())?;
+    let last = member.last_break();
     match member.images() {
         Some(images) => {
-            contents.start_journaling(number, member.last_break(), images);
+            contents.start_journaling(number, last, images);
             Ok(())
         }
         None => {
-            contents.end_journaling(number, member.last_break(), count);
+            contents.end_journaling(number, last, count);
             Ok(())
         }
     }

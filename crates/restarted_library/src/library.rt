@@ -57,11 +57,7 @@ fn put_all(contents: &mut Contents, files: &Files, members: &Members) -> Result<
 }
 
 /// Puts all files, and before each the members that come before its own, and answers how many members these are.
-fn put_files(
-    contents: &mut Contents,
-    files: &Files,
-    members: &Members,
-) -> Result<usize, AllocError>
+fn put_files(contents: &mut Contents, files: &Files, members: &Members) -> Result<usize, AllocError>
     ensures built { IfOk result (λ done. Leads contents.old.state [] [] contents.new.state files.now (take done members.now.members)) }
     ensures few { IfOk result (λ done. done ≤ length members.now.members) }
 {

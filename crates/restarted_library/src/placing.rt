@@ -1,5 +1,6 @@
 //! One file or one member more, as the journal leaves it.
-ghost use Rattle.std.specs.Prelude.{◌≡◌, ◌≤◌, None, Some, Ok, true, IfOk, OnOk};
+ghost use Rattle.std.specs.Prelude.{◌≡◌, ◌≤◌, ◌&&◌, None, Some, Ok, true, IfOk, OnOk};
+ghost use Rattle.std.specs.Str.{bytes_eq};
 ghost use Rattle.std.specs.Option.{is_some};
 ghost use Rattle.entry_codec.specs.declared.kinds.FileKind.TheVariants.{Logical, Physical};
 ghost use Rattle.logical_model.specs.Bases.{LogicalFile, base_members};
@@ -8,12 +9,12 @@ ghost use Rattle.library_model.specs.declared.limits.TheConstants.{LAST_MEMBER};
 ghost use Rattle.library_steps.specs.CreateLogicalFile.{logical_described};
 ghost use Rattle.library_steps.specs.CreatePhysicalFile.{formats_of};
 ghost use Rattle.library_steps.specs.LogicalFiles.{bases_of};
-ghost use Rattle.library_steps.specs.State.{file_named, memory_of};
+ghost use Rattle.library_steps.specs.State.{file_named, memory_of, physical_among};
 ghost use Rattle.library_steps.specs.Uses.{changer_of_any};
 ghost use Rattle.library_parts.specs.Files.{IsNewMember};
 ghost use Rattle.library_parts.specs.Indexed.{IsUnjoined};
 ghost use Rattle.replay_members.specs.Bodies.{held};
-ghost use Rattle.restarted_library.specs.Steps.{AddsFile, AddsMember, AddsOwner, IsFileOf};
+ghost use Rattle.restarted_library.specs.Steps.{AddsFile, AddsMember, AddsOwner, IsFileOf, IsViewOf};
 
 use crate::filling::finish;
 use dds_logical::{LogicalFault, LogicalSpec};
@@ -83,13 +84,18 @@ fn file_to_extend<'a>(contents: &'a Contents, args: &FileMember) -> Result<&'a F
     ensures there { IfOk result (λ file. named args.now.file contents.now.state.files ≡ Some file.now) }
     ensures new { OnOk result (IsNewMember contents.now.state args.now) }
 {
-    match contents.physical_file(&args.file) {
-        Ok(file) => {
-            if file.members().len() >= MOST_MEMBERS {
-                return Err(AllocError);
-            }
-            Ok(file)
-        }
+    let file = physical_named(contents, &args.file)?;
+    if file.members().len() >= MOST_MEMBERS {
+        return Err(AllocError);
+    }
+    Ok(file)
+}
+
+fn physical_named<'a>(contents: &'a Contents, name: &Name) -> Result<&'a File, AllocError>
+    ensures { IfOk result (λ file. physical_among name.now contents.now.state.files ≡ Some file.now) }
+{
+    match contents.physical_file(name) {
+        Ok(file) => Ok(file),
         Err(_) => Err(AllocError),
     }
 }
@@ -106,9 +112,7 @@ pub(crate) fn put_physical(
 ) -> Result<(), AllocError>
     ensures { OnOk result (AddsOwner contents.old.state contents.new.state Physical name source.now (held (number, member.now))) }
 {
-    if member.file() != name || member.name() != name || has_file(contents, &name) {
-        return Err(AllocError);
-    }
+    may_begin(contents, &name, member)?;
     pass_to(contents, number)?;
     let described = file_of(contents, source)?;
     contents.reserve_file()?;
@@ -116,6 +120,26 @@ pub(crate) fn put_physical(
     contents.add_file(name, file)?;
     finish(contents, number, member)?;
     Ok(())
+}
+
+/// The name is new, and the member has it and is of that file.
+fn may_begin(contents: &Contents, name: &Name, member: &Member) -> Result<(), AllocError>
+    ensures own { OnOk result ((bytes_eq member.now.file name.now && bytes_eq member.now.name name.now) ≡ true) }
+    ensures absent { OnOk result (named name.now contents.now.state.files ≡ None) }
+{
+    if !is_own(member, name) {
+        return Err(AllocError);
+    }
+    if has_file(contents, name) {
+        return Err(AllocError);
+    }
+    Ok(())
+}
+
+fn is_own(member: &Member, name: &Name) -> bool
+    ensures { result ≡ (bytes_eq member.now.file name.now && bytes_eq member.now.name name.now) }
+{
+    member.file() == *name && member.name() == *name
 }
 
 fn has_file(contents: &Contents, name: &Name) -> bool
@@ -147,27 +171,32 @@ pub(crate) fn put_view(
 ) -> Result<(), AllocError>
     ensures { OnOk result (AddsFile contents.old.state contents.new.state Logical name source.now) }
 {
-    match contents.describe_view(source) {
-        Ok(view) => {
+    let found = view_of(contents, source)?;
+    match found {
+        Some(view) => {
             put_described(contents, name, view)?;
             Ok(())
         }
-        Err(LogicalFault::NoMemory) => Err(AllocError),
-        Err(LogicalFault::Fault(_)) => Ok(()),
+        None => Ok(()),
     }
 }
 
-fn put_described(
-    contents: &mut Contents,
-    name: Name,
-    view: DescribedView,
-) -> Result<(), AllocError>
+/// The logical file that the source describes beside the files that are there, where it does.
+fn view_of(contents: &Contents, source: &SourceText) -> Result<Option<DescribedView>, AllocError>
+    ensures { IfOk result (λ view. IsViewOf (memory_of contents.now.state) source.now view) }
+{
+    match contents.describe_view(source) {
+        Ok(view) => Ok(Some(view)),
+        Err(LogicalFault::NoMemory) => Err(AllocError),
+        Err(LogicalFault::Fault(_)) => Ok(None),
+    }
+}
+
+fn put_described(contents: &mut Contents, name: Name, view: DescribedView) -> Result<(), AllocError>
     requires { logical_described (memory_of contents.old.state) view.source ≡ Ok view.spec }
     ensures { OnOk result (AddsFile contents.old.state contents.new.state Logical name view.source) }
 {
-    if has_file(contents, &name) || !may_stand(contents, view.spec()) {
-        return Err(AllocError);
-    }
+    may_stand(contents, &name, view.spec())?;
     contents.reserve_file()?;
     match contents.add_view(name, view) {
         Ok(()) => Ok(()),
@@ -175,12 +204,22 @@ fn put_described(
     }
 }
 
-/// Whether it is no join, and no open commit cycle has changed a record under it.
-fn may_stand(contents: &Contents, view: &LogicalSpec) -> bool
-    ensures unjoined { result ≡ true → IsUnjoined (LogicalFile view.now) }
-    ensures unchanged { result ≡ true → changer_of_any (base_members (bases_of (memory_of contents.now.state)) view.now) (memory_of contents.now.state) ≡ None }
+/// The name is new, the file is no join, and no open commit cycle has changed a record under it.
+fn may_stand(contents: &Contents, name: &Name, view: &LogicalSpec) -> Result<(), AllocError>
+    ensures absent { OnOk result (named name.now contents.now.state.files ≡ None) }
+    ensures unjoined { OnOk result (IsUnjoined (LogicalFile view.now)) }
+    ensures unchanged { OnOk result (changer_of_any (base_members (bases_of (memory_of contents.now.state)) view.now) (memory_of contents.now.state) ≡ None) }
 {
-    is_unjoined(view) && contents.changer_under(view).is_none()
+    if has_file(contents, name) {
+        return Err(AllocError);
+    }
+    if !is_unjoined(view) {
+        return Err(AllocError);
+    }
+    if let Some(_) = contents.changer_under(view) {
+        return Err(AllocError);
+    }
+    Ok(())
 }
 
 fn is_unjoined(view: &LogicalSpec) -> bool

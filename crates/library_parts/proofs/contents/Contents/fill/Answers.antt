@@ -11,9 +11,6 @@ use Rattle.library_parts.proofs.IndexRebuilt.{IsIndexed-rebuilt}
 use Rattle.library_parts.proofs.FilledLemmas.{AreOne-filled}
 use Rattle.library_parts.proofs.contents.Contents.fill.Goals as goal
 
-pub weight-requires : goal.weight-requires
-weight-requires c = c.requires.may.there
-
 pub replace-requires : goal.replace-requires
 replace-requires c = let may = rw (← c.self.view_is) at c.requires.may in may.there
 
