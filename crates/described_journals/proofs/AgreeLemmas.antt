@@ -1,5 +1,5 @@
 -- What a physical file's source describes beside those files that it names, and that these name, is what it describes beside all.
-use Rattle.std.proofs.Common.{◌≡◌, ℕ, ◌||◌, cond, if◌then◌else◌, Bool, true, false, Option, Some, None, Result, Ok, Err, List, [], ◌∷◌, ◌++◌, refl, sym, ◌∙◌, ap, subst}
+use Rattle.std.proofs.Common.{◌≡◌, ℕ, ◌||◌, if◌then◌else◌, Bool, true, false, Option, Some, None, Result, Ok, Err, List, [], ◌∷◌, ◌++◌, refl, sym, ◌∙◌, ap, subst}
 use Rattle.std.specs.Prelude.{reverse}
 use Rattle.std.specs.List.{list_any}
 use Rattle.std.specs.Option.{option_and_then, option_map}
@@ -25,7 +25,7 @@ use Rattle.restart_laws.proofs.ReferenceLemmas.{physical-stays}
 use Rattle.described_journals.specs.Files.{described_upon, with_file}
 use Rattle.described_journals.specs.Needed.{if_records, is_wanted, needed, source_if, with_source}
 use Rattle.described_journals.proofs.FileLemmas.{described-alike, described-other, upon-all}
-use Rattle.described_journals.proofs.NamedLemmas.{names-only}
+use Rattle.described_journals.proofs.NamedLemmas.{names-only, or-right}
 
 -- ---- one source
 
@@ -50,11 +50,7 @@ format_found o = option_map (λ (spec : PhysicalSpec). spec.format) (option_and_
 
 wanted-last : (name : List ℕ) (wanted : List Source) (source : Source) → refers_to name source ≡ true → is_wanted name (wanted ++ source ∷ []) ≡ true
 wanted-last name [] source is = ap (λ (b : Bool). b || false) is
-wanted-last name (first ∷ wanted) source is = by (refers_to name first)
-  where
-    by : (b : Bool) → (b || is_wanted name (wanted ++ source ∷ [])) ≡ true
-    by true = refl
-    by false = wanted-last name wanted source is
+wanted-last name (first ∷ wanted) source is = or-right (refers_to name first) (is_wanted name (wanted ++ source ∷ [])) (wanted-last name wanted source is)
 
 wanted-front : (name : List ℕ) (wanted more : List Source) → is_wanted name wanted ≡ true → is_wanted name (wanted ++ more) ≡ true
 wanted-front name wanted more is = list_any-append (refers_to name) wanted more ∙ ap (λ (b : Bool). b || list_any (refers_to name) more) is
@@ -85,7 +81,7 @@ wanted-agree (file ∷ earlier) wanted those is name wants =
     elim (is_wanted file.name wanted) as (λ b. is_wanted file.name wanted ≡ b
     → (if b then if_records file.kind file (needed earlier (with_source file.source wanted)) else needed earlier wanted) ≡ Some those
     → named name (described_upon [] those) ≡ named name (with_file file (described_upon [] earlier))) [
-      | true ↦ λ own h. taken file.kind refl h
+      | true ↦ λ own h. taken file.kind refl h (λ fs e n w. wanted-agree earlier (with_source file.source wanted) fs e n w)
       | false ↦ λ own h. wanted-agree earlier wanted those h name wants
           ∙ sym (described-other file (spec_beside (described_upon [] earlier) file.kind file.source) (described_upon [] earlier) name (other own (same_name name file.name) refl))
     ] refl is
@@ -94,10 +90,10 @@ wanted-agree (file ∷ earlier) wanted those is name wants =
     other own true same = absurd (false≢true (sym (subst (λ (n : List ℕ). is_wanted n wanted ≡ false) (sym (same_name-equal name file.name same)) own) ∙ wants))
     other own false same = refl
 
-    behind : (fs : List CatalogFile) → needed earlier (with_source file.source wanted) ≡ Some fs → file.kind ≡ Physical
+    behind : (fs : List CatalogFile) → file.kind ≡ Physical
+        → ((n : List ℕ) → is_wanted n (with_source file.source wanted) ≡ true → named n (described_upon [] fs) ≡ named n (described_upon [] earlier))
         → named name (described_upon [] (file ∷ fs)) ≡ named name (with_file file (described_upon [] earlier))
-    behind fs h kind =
-        let each = λ (n : List ℕ) (w : is_wanted n (with_source file.source wanted) ≡ true). wanted-agree earlier (with_source file.source wanted) fs h n w in
+    behind fs kind each =
         let spec : spec_beside (described_upon [] fs) file.kind file.source ≡ spec_beside (described_upon [] earlier) file.kind file.source =
         subst (λ (k : FileKind). spec_beside (described_upon [] fs) k file.source ≡ spec_beside (described_upon [] earlier) k file.source) (sym kind)
         (beside-same (described_upon [] fs) (described_upon [] earlier) file.source wanted each) in
@@ -106,14 +102,18 @@ wanted-agree (file ∷ earlier) wanted those is name wants =
         (each name (wanted-front name wanted (source_if (source_of file.source)) wants))
 
     more : (o : Option (List CatalogFile)) → needed earlier (with_source file.source wanted) ≡ o → file.kind ≡ Physical → option_map (λ (fs : List CatalogFile). file ∷ fs) o ≡ Some those
+        → ((fs : List CatalogFile) → needed earlier (with_source file.source wanted) ≡ Some fs → (n : List ℕ) → is_wanted n (with_source file.source wanted) ≡ true
+        → named n (described_upon [] fs) ≡ named n (described_upon [] earlier))
         → named name (described_upon [] those) ≡ named name (with_file file (described_upon [] earlier))
-    more None h kind e = absurd (none-some e)
-    more (Some fs) h kind e = ap (λ (l : List CatalogFile). named name (described_upon [] l)) (sym (some-same e)) ∙ behind fs h kind
+    more None h kind e before = absurd (none-some e)
+    more (Some fs) h kind e before = ap (λ (l : List CatalogFile). named name (described_upon [] l)) (sym (some-same e)) ∙ behind fs kind (before fs h)
 
     taken : (kind : FileKind) → file.kind ≡ kind → if_records kind file (needed earlier (with_source file.source wanted)) ≡ Some those
+        → ((fs : List CatalogFile) → needed earlier (with_source file.source wanted) ≡ Some fs → (n : List ℕ) → is_wanted n (with_source file.source wanted) ≡ true
+        → named n (described_upon [] fs) ≡ named n (described_upon [] earlier))
         → named name (described_upon [] those) ≡ named name (with_file file (described_upon [] earlier))
-    taken Physical kind h = more (needed earlier (with_source file.source wanted)) refl kind h
-    taken Logical kind h = absurd (none-some h)
+    taken Physical kind h before = more (needed earlier (with_source file.source wanted)) refl kind h before
+    taken Logical kind h before = absurd (none-some h)
 
 -- so the source describes the same beside those files and beside all
 pub beside-needed : (files : List CatalogFile) (source : Source) (those : List CatalogFile) → Some those ≡ needed (reverse files) (source ∷ [])

@@ -33,7 +33,7 @@ pub described-other : (file : CatalogFile) (o : Option FileSpec) (before : Named
 described-other file None before name differs = refl
 described-other file (Some spec) before name differs = named-more before name file.name (record { source = file.source; spec = spec; members = [] }) differs
 
-or-else : Option FileState → Option FileState → Option FileState
+abbrev or-else : Option FileState → Option FileState → Option FileState
 or-else None other = other
 or-else (Some file) other = Some file
 
@@ -41,7 +41,8 @@ named-last : (before : Named FileState) (name : List ℕ) (entry : List ℕ × F
     → named name (before ++ entry ∷ []) ≡ or-else (named name before) (cond (same_name name entry.0) (Some entry.1) None)
 named-last [] name entry = refl
 named-last (first ∷ before) name entry =
-    elim (same_name name first.0) as (λ b. cond b (Some first.1) (named name (before ++ entry ∷ [])) ≡ or-else (cond b (Some first.1) (named name before)) (cond (same_name name entry.0) (Some entry.1) None)) [
+    elim (same_name name first.0) as (λ b. cond b (Some first.1) (named name (before ++ entry ∷ []))
+    ≡ or-else (cond b (Some first.1) (named name before)) (cond (same_name name entry.0) (Some entry.1) None)) [
       | true ↦ refl
       | false ↦ named-last before name entry
     ]

@@ -2,3 +2,4 @@ pub mod FileLemmas
 pub mod NamedLemmas
 pub mod AgreeLemmas
 pub mod PlaceLemmas
+pub mod RecordLemmas

@@ -1,6 +1,6 @@
 -- What a source names.
-use Rattle.std.proofs.Common.{◌≡◌, ℕ, ◌||◌, ◌&&◌, cond, if◌then◌else◌, Bool, true, false, Option, Some, None, IfSome, List, [], ◌∷◌, refl, sym, ◌∙◌, ap, codes}
-use Rattle.std.specs.List.{AllByRecursion, cons_option, filter_map, list_any}
+use Rattle.std.proofs.Common.{◌≡◌, ℕ, ◌||◌, ◌&&◌, if◌then◌else◌, Bool, true, false, Option, Some, None, IfSome, List, [], ◌∷◌, refl, ◌∙◌, ap, codes}
+use Rattle.std.specs.List.{AllByRecursion, before_first, cons_option, filter_map, list_any}
 use Rattle.std.specs.Str.{bytes_eq}
 use Rattle.std.proofs.lemmas.Cmp.{nat_list_eq_equiv}
 use Rattle.dds_source.specs.declared.arguments.Argument.{Argument}
@@ -9,7 +9,7 @@ use Rattle.dds_source.specs.declared.specifications.Source.{Source}
 use Rattle.dds_source.specs.declared.specifications.Specification.{Specification}
 use Rattle.dds_source.specs.Reading.{is_record}
 use Rattle.dds_physical.specs.Keywords.{arguments_of, first_named}
-use Rattle.dds_physical.specs.References.{any_refers_to, is_named, keyword_refers_to, line_refers_to, place_is, reference_file, refers_to}
+use Rattle.dds_physical.specs.References.{any_refers_to, file_of_keyword, is_named, keyword_refers_to, line_refers_to, place_is, reference_file, refers_to}
 use Rattle.dds_logical.specs.FormatLines.{FormatLines, formats_in, is_join_file}
 use Rattle.dds_logical.specs.Logical.{base_name}
 use Rattle.restart_model.specs.Sources.{base_files, file_in_keyword, file_of_line, second_name}
@@ -30,9 +30,10 @@ files-named (f ∷ fs) = refl
 pub base_step : (name : List ℕ) (s : Specification) (ss : List Specification)
     → list_any (bytes_eq name) (filter_map base_name (formats_in (s ∷ ss))) ≡ ((is_record s.kind && named_base name s.keywords) || list_any (bytes_eq name) (filter_map base_name (formats_in ss)))
 base_step name s ss =
-    elim (is_record s.kind) as (λ b. list_any (bytes_eq name) (filter_map base_name (if b then record { head = s; body = _ } ∷ formats_in ss else formats_in ss))
+    elim (is_record s.kind) as (λ b. list_any (bytes_eq name)
+    (filter_map base_name (if b then record { head = s; body = before_first (λ (other : Specification). is_record other.kind) ss } ∷ formats_in ss else formats_in ss))
     ≡ ((b && named_base name s.keywords) || list_any (bytes_eq name) (filter_map base_name (formats_in ss)))) [
-      | true ↦ any_cons name _ (filter_map base_name (formats_in ss))
+      | true ↦ any_cons name (file_of_keyword (first_named (codes "PFILE") s.keywords)) (filter_map base_name (formats_in ss))
       | false ↦ refl
     ]
 
@@ -41,7 +42,7 @@ base_step name s ss =
 or-left : (a b : Bool) → a ≡ true → (a || b) ≡ true
 or-left a b is = ap (λ (x : Bool). x || b) is
 
-or-right : (a b : Bool) → b ≡ true → (a || b) ≡ true
+pub or-right : (a b : Bool) → b ≡ true → (a || b) ≡ true
 or-right true b is = refl
 or-right false b is = is
 

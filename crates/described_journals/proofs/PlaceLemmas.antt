@@ -1,11 +1,10 @@
 -- Files by their places, the last one first.
-use Rattle.std.proofs.Common.{◌≡◌, ◌<◌, ◌≤◌, ℕ, ◌+◌, cond, if◌then◌else◌, Bool, true, false, Option, Some, None, List, [], ◌∷◌, ◌++◌, length, take, drop, refl, sym, ◌∙◌, ap, arith, append_assoc}
+use Rattle.std.proofs.Common.{◌≡◌, ◌<◌, ◌≤◌, ℕ, ◌+◌, if◌then◌else◌, Bool, true, false, Option, Some, None, List, [], ◌∷◌, ◌++◌, length, take, drop, get_or, refl, sym, ◌∙◌, ap, arith, append_assoc}
 use Rattle.std.specs.Prelude.{reverse, slice_get}
-use Rattle.std.specs.List.{cons_option, filter_map}
-use Rattle.std.specs.Option.{option_map}
+use Rattle.std.specs.List.{cons_option}
 use Rattle.std.proofs.lemmas.List.{append-nil, drop_all, drop_more, reverse-append, take_all, take_more}
 use Rattle.std.proofs.lemmas.List.Elements.{filter_map-append}
-use Rattle.std.proofs.lemmas.Option.{get_or_from_slice_get, slice_get_within}
+use Rattle.std.proofs.lemmas.Option.{get_or_from_slice_get, slice_get-get_or, slice_get_within}
 use Rattle.entry_codec.specs.declared.kinds.FileKind.{FileKind}
 use Rattle.entry_codec.specs.declared.kinds.FileKind.TheVariants.{Physical, Logical}
 use Rattle.dds_source.specs.declared.specifications.Source.{Source}
@@ -27,15 +26,16 @@ module _ (files : List CatalogFile) (place : ℕ) (file : CatalogFile) (there : 
   -- it isn't named
   pub place-passed : (places : List ℕ) (wanted : List Source) → is_wanted file.name wanted ≡ false
       → found_before files places (needed (reverse (take (place + 1) files)) wanted) ≡ found_before files places (needed (reverse (take place files)) wanted)
-  place-passed places wanted no =
+  place-passed places wanted passes =
       ap (λ (fs : List CatalogFile). found_before files places (needed fs wanted)) place-first
-      ∙ ap (λ (b : Bool). found_before files places (if b then if_records file.kind file (needed (reverse (take place files)) (with_source file.source wanted)) else needed (reverse (take place files)) wanted)) no
+      ∙ ap (λ (b : Bool). found_before files places
+      (if b then if_records file.kind file (needed (reverse (take place files)) (with_source file.source wanted)) else needed (reverse (take place files)) wanted)) passes
 
   named-there : (wanted : List Source) → is_wanted file.name wanted ≡ true
       → needed (reverse (take (place + 1) files)) wanted ≡ if_records file.kind file (needed (reverse (take place files)) (with_source file.source wanted))
-  named-there wanted yes_wanted =
+  named-there wanted wants =
       ap (λ (fs : List CatalogFile). needed fs wanted) place-first
-      ∙ ap (λ (b : Bool). if b then if_records file.kind file (needed (reverse (take place files)) (with_source file.source wanted)) else needed (reverse (take place files)) wanted) yes_wanted
+      ∙ ap (λ (b : Bool). if b then if_records file.kind file (needed (reverse (take place files)) (with_source file.source wanted)) else needed (reverse (take place files)) wanted) wants
 
   found-one : (places : List ℕ) (more : List CatalogFile) → found files places ++ file ∷ more ≡ found files (places ++ place ∷ []) ++ more
   found-one places more =
@@ -69,15 +69,16 @@ module _ (files : List CatalogFile) (place : ℕ) (file : CatalogFile) (there : 
 -- there is no such place
 pub no-place : (files : List CatalogFile) (place : ℕ) → place < length files → slice_get files place ≡ None → ⊥
 no-place [] place below none = absurd (omega (arith, below))
-no-place (file ∷ files) place below none = by (slice_get (file ∷ files) place) (Rattle.std.proofs.lemmas.Option.slice_get-get_or (file ∷ files) place file below) none
+no-place (file ∷ files) place below none = by (slice_get (file ∷ files) place) (slice_get-get_or (file ∷ files) place file below) none
   where
-    by : (o : Option CatalogFile) → o ≡ Some (Rattle.std.specs.Prelude.get_or (file ∷ files) place file) → o ≡ None → ⊥
+    by : (o : Option CatalogFile) → o ≡ Some (get_or (file ∷ files) place file) → o ≡ None → ⊥
     by None some h = absurd cc
     by (Some x) some h = absurd cc
 
 -- ---- before the first place, and behind the last
 
-pub places-begin : (files : List CatalogFile) (count : ℕ) (wanted : List Source) → count ≡ length files → found_before files [] (needed (reverse (take count files)) wanted) ≡ needed (reverse files) wanted
+pub places-begin : (files : List CatalogFile) (count : ℕ) (wanted : List Source) → count ≡ length files
+    → found_before files [] (needed (reverse (take count files)) wanted) ≡ needed (reverse files) wanted
 places-begin files count wanted all =
     ap (λ (fs : List CatalogFile). found_before files [] (needed (reverse fs) wanted)) (take_all count files (omega (arith, all))) ∙ none (needed (reverse files) wanted)
   where

@@ -15,7 +15,9 @@ ghost use Rattle.entry_codec.specs.declared.kinds.FileKind.TheVariants.{Logical}
 ghost use Rattle.described_journals.specs.Named.{first_joined, named_argument, named_base};
 
 use dds_physical::refers_to;
-use dds_source::{Argument, Keyword, Source, SourceError, Specification, SpecificationKind, read_source};
+use dds_source::{
+    Argument, Keyword, Source, SourceError, Specification, SpecificationKind, read_source,
+};
 use entry_codec::FileKind;
 use field_types::names::Name;
 use field_types::texts::SourceText;

@@ -64,11 +64,7 @@ fn spec_over(
 }
 
 /// Files beside which the source describes what it does beside all of them.
-fn named_files(
-    alloc: Global,
-    files: &Files,
-    source: &Source,
-) -> Result<DescribedFiles, AllocError>
+fn named_files(alloc: Global, files: &Files, source: &Source) -> Result<DescribedFiles, AllocError>
     ensures { IfOk result (λ named. if_physical (physical_of (format_named named) source.now) ≡ if_physical (physical_of (format_named (described_files files.now)) source.now)) }
 {
     match named_places(alloc, files, source)? {

@@ -61,7 +61,8 @@ module _ (d : Descriptions) (before : List Entry) (s : Standing) (e : Entry) (by
       false≢true (sym (subst (λ (c : Catalogue). may_be_deposited c e ≡ false) by.left.catalogue foreign) ∙ deposited-last before e are)
 
   -- it is taken
-  pub one_taken : KeepsLengths d → may_be_deposited (catalogue_in s) e ≡ true → may_stand_next d s e ≡ true → (next : Standing) → next ≡ standing_after e s → fits_named d next e.member ≡ true → IsLeftBy d (before ++ e ∷ []) next
+  pub one_taken : KeepsLengths d → may_be_deposited (catalogue_in s) e ≡ true → may_stand_next d s e ≡ true
+      → (next : Standing) → next ≡ standing_after e s → fits_named d next e.member ≡ true → IsLeftBy d (before ++ e ∷ []) next
   one_taken keeps may_deposit may next is fits =
       let all = deposited-append before e deposited (subst (λ (c : Catalogue). may_be_deposited c e ≡ true) by.left.catalogue may_deposit) in
       let after = subst (λ (t : Standing). IsLeft d (λ member. 0) (journal_with (before ++ e ∷ [])) t) (sym is) (step_left may) in

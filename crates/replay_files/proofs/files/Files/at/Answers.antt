@@ -1,4 +1,4 @@
-use Rattle.std.proofs.Common.{◌∙◌, map, sym, ap}
+use Rattle.std.proofs.Common.{◌∙◌, sym, ap}
 use Rattle.std.specs.Option.{option_map}
 use Rattle.std.specs.Map.Iter.{deref_pair}
 use Rattle.std.proofs.lemmas.Option.{slice_get-map}
