@@ -1,5 +1,5 @@
 -- CHGJRN: from what became of the journal on the disk, and then in memory, to the call.
-use Rattle.std.proofs.Common.{◌≡◌, ◌≤◌, ◌<◌, ◌⊎◌, inl, inr, ℕ, ◌+◌, ◌*◌, ◌^◌, true, false, IsTrue, List, [], ◌++◌, length, length-append, Result, Ok, Err, refl, sym, ◌∙◌, ap, subst, arith}
+use Rattle.std.proofs.Common.{◌≡◌, ◌≤◌, ◌<◌, ◌⊎◌, inl, inr, ℕ, ◌+◌, ◌*◌, ◌^◌, Bool, true, false, IsTrue, List, [], ◌++◌, length, length-append, Result, Ok, Err, refl, sym, ◌∙◌, ap, subst, arith}
 use Rattle.std.specs.List.{AllByRecursion}
 use Rattle.std.proofs.lemmas.Bool.{false≢true}
 use Rattle.store_model.specs.Disk.{Disk, Leaves}
@@ -11,13 +11,14 @@ use Rattle.entry_codec.specs.Drafts.{numbered}
 use Rattle.entry_codec.specs.Spelling.{HasSpelling}
 use Rattle.receiver_chain.specs.Chain.{attached_of}
 use Rattle.receiver_chain.specs.declared.numbers.TheConstants.{MAX_RECEIVER}
-use Rattle.journal_book.specs.Book.{BookState, HasMoreRoom, Holds, last_of, next_of}
+use Rattle.journal_book.specs.Book.{BookState, HasMoreRoom, Holds, IsHeld, last_of, next_of}
 use Rattle.journal_book.specs.Kept.{IsForcedOrFrom}
 use Rattle.journal_book.specs.Switch.{tied_by}
 use Rattle.journal_book.proofs.Deposits.{more_holds}
 use Rattle.library_model.specs.declared.calls.Call.{Call}
 use Rattle.library_model.specs.declared.replies.Reply.{Reply}
 use Rattle.library_model.specs.declared.replies.Reply.TheVariants as replies
+use Rattle.library_model.specs.declared.requests.Request.{Request}
 use Rattle.library_model.specs.declared.requests.Request.TheVariants.{ChangeJournal}
 use Rattle.library_model.specs.declared.sources.NamedSource.{NamedSource}
 use Rattle.library_steps.specs.State.{Memory, State, job_at, memory_of}
@@ -55,6 +56,24 @@ attach-refused : (sources : List NamedSource) (s : State) (job timestamp : ℕ) 
 unfolding change
 attach-refused sources s job timestamp reply plan = ap (λ (p : Result ℕ Reply). does (attach_change (memory_of s) job timestamp) p) plan
 
+-- room that was made before
+pub room-put : (tells : Type 0) (old new : Disk) (before roomy after : BookState) (s t : State) (r : Request) (behind : List Entry) (failed : Bool) → HasMoreRoom before roomy → HasPut tells old new roomy after s t r behind failed
+    → HasPut tells old new before after s t r behind failed
+room-put tells old new before roomy after s t r behind failed more put = record {
+  journaled = put.journaled;
+  moments = λ told.
+      subst (λ (n : ℕ). Leaves old new (IsForcedOrFrom before.chain.first n (whole_from r s.entries behind) behind)) more.forced
+      (subst (λ (n : ℕ). Leaves old new (IsForcedOrFrom n roomy.forced (whole_from r s.entries behind) behind)) more.receiver (put.moments told));
+  least = λ alive. let least = put.least alive in omega (arith, least, more.forced);
+  whole = λ alive. elim (put.whole alive) [
+    | inl same ↦ inl (same ∙ more.forced)
+    | inr all ↦ inr all
+  ];
+  receiver = put.receiver ∙ more.receiver;
+  faults = put.faults;
+  cause = put.cause;
+}
+
 module _ (tells : Type 0) (old : Disk) (before roomy : BookState) (s : State) (sources : List NamedSource) (job timestamp : ℕ) (running : IsTrue (is_running (job_at job s.jobs))) (sound : IsSound s)
     (is : IsJournaled tells old before s) (more : HasMoreRoom before roomy) where
   abbrev Behind : List Entry
@@ -65,6 +84,9 @@ module _ (tells : Type 0) (old : Disk) (before roomy : BookState) (s : State) (s
 
   roomy-of : IsBookOf roomy s
   roomy-of = more-book before roomy s more is.book_of
+
+  pub ties-held : tells → IsHeld roomy old
+  ties-held told = ∣ (s.entries, more_holds before roomy s.entries old more (is.holds told)) ∣₁
 
   -- it was refused, or there was no memory in memory
   pub unready-put : HasPut tells old old before roomy s s ChangeJournal Behind false
