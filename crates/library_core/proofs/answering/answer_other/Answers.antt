@@ -47,12 +47,9 @@ returns-clause-put g c =
     subst (λ (x : Reply × Bool). HasPut g.S.Store.tells (g.S.Store.disk c.args.store.now) new c.args.journal.now c.put_done-put.new.journal c.args.contents.now.state c.perform-done.new.contents.state c.args.request.now
     (entries_behind c.args.sources.now c.args.contents.now.state (record { job = c.args.job; timestamp = c.args.timestamp; request = c.args.request.now; reply = x.0 })) x.1) (sym c.given.ensures)
     (ended-put g.S.Store.tells (g.S.Store.disk c.args.store.now) c.args.journal.now c.make_room.new.journal c.args.contents.now.state c.args.sources.now c.args.job c.args.timestamp c.args.request.now c.requires.running c.requires.built c.requires.other c.requires.sound c.requires.journaled c.make_room.ensures.same c.journal_lasts.ensures.places made c.journal_lasts.ensures.stay c.requires.short new c.put_done-put.new.journal c.perform-done.new.contents.state c.kept_count-before.result c.perform-done.result
-    c.put_done-put.result c.perform-done.ensures.step c.kept_count-before.ensures (
-      c.put_done-put.ensures.taken,
-      c.put_done-put.ensures.nothing,
-      c.put_done-put.ensures.same_journal,
-      λ bad (P : Disk → Type 0) here. subst (λ (st : g.row.S.Denot). P (g.S.Store.disk st)) (sym (c.put_done-put.ensures.same_store bad)) here,
-    ))
+    c.put_done-put.result c.perform-done.ensures.step c.kept_count-before.ensures
+    c.put_done-put.ensures.taken c.put_done-put.ensures.nothing c.put_done-put.ensures.same_journal
+    (λ bad (P : Disk → Type 0) here. subst (λ (st : g.row.S.Denot). P (g.S.Store.disk st)) (sym (c.put_done-put.ensures.same_store bad)) here))
 
 pub returns-clause-answered : goal.returns-clause-answered
 returns-clause-answered g c =
@@ -61,9 +58,5 @@ returns-clause-answered g c =
     subst (λ (x : Reply × Bool). HasAnswered c.args.sources.now c.args.contents.now.state c.perform-done.new.contents.state c.put_done-put.new.journal
     (record { job = c.args.job; timestamp = c.args.timestamp; request = c.args.request.now; reply = x.0 }) x.1) (sym c.given.ensures)
     (ended-answered g.S.Store.tells (g.S.Store.disk c.args.store.now) c.args.journal.now c.make_room.new.journal c.args.contents.now.state c.args.sources.now c.args.job c.args.timestamp c.args.request.now c.requires.running c.requires.built c.requires.other c.requires.sound c.requires.journaled c.make_room.ensures.same c.journal_lasts.ensures.places made c.journal_lasts.ensures.stay c.requires.short new c.put_done-put.new.journal c.each_call_leaves_a_sound_library.ensures.called c.perform-done.new.contents.state
-    c.kept_count-before.result c.perform-done.result c.put_done-put.result c.perform-done.ensures.step c.perform-done.ensures.memory c.kept_count-before.ensures (
-      c.put_done-put.ensures.taken,
-      c.put_done-put.ensures.nothing,
-      c.put_done-put.ensures.same_journal,
-      λ bad (P : Disk → Type 0) here. subst (λ (st : g.row.S.Denot). P (g.S.Store.disk st)) (sym (c.put_done-put.ensures.same_store bad)) here,
-    ))
+    c.kept_count-before.result c.perform-done.result c.put_done-put.result c.perform-done.ensures.step c.perform-done.ensures.memory c.kept_count-before.ensures
+    c.put_done-put.ensures.taken c.put_done-put.ensures.nothing c.put_done-put.ensures.same_journal)
