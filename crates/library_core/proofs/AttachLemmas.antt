@@ -1,6 +1,7 @@
 -- CHGJRN: from what became of the journal on the disk, and then in memory, to the call.
 use Rattle.std.proofs.Common.{◌≡◌, ◌≤◌, ◌<◌, ◌⊎◌, inl, inr, ℕ, ◌+◌, ◌*◌, ◌^◌, Bool, true, false, IsTrue, List, [], ◌++◌, length, length-append, Result, Ok, Err, refl, sym, ◌∙◌, ap, subst, arith}
 use Rattle.std.specs.List.{AllByRecursion}
+use Rattle.std.specs.Prelude.{IfOk, IsErrOf, IsOk, OnErr}
 use Rattle.std.proofs.lemmas.Bool.{false≢true}
 use Rattle.store_model.specs.Disk.{Disk, Leaves}
 use Rattle.store_model.specs.Faults.{Rose}
@@ -73,6 +74,15 @@ room-put tells old new before roomy after s t r behind failed more put = record 
   faults = put.faults;
   cause = put.cause;
 }
+
+pub err-is : {A E P : Type 0} (r : Result A E) (e : E) → IsErrOf r e → OnErr r P → P
+err-is (Ok a) e is p = absurd cc
+err-is (Err x) e is p = p
+
+-- the number that is given is that of the receiver that is attached then
+pub one-number : {E : Type 0} (r : Result ℕ E) (a b : ℕ) → IsOk r → IfOk r (λ n. n ≡ a) → IfOk r (λ n. n ≡ b) → b ≡ a
+one-number (Ok n) a b fine first second = sym second ∙ first
+one-number (Err e) a b fine first second = absurd (false≢true fine)
 
 module _ (tells : Type 0) (old : Disk) (before roomy : BookState) (s : State) (sources : List NamedSource) (job timestamp : ℕ) (running : IsTrue (is_running (job_at job s.jobs))) (sound : IsSound s)
     (is : IsJournaled tells old before s) (more : HasMoreRoom before roomy) where
@@ -215,7 +225,7 @@ module _ (tells : Type 0) (old : Disk) (before roomy : BookState) (s : State) (s
           short-answered = no_memory-answered tells old before roomy s sources job timestamp ChangeJournal running refl sound is more (attach-plain sources s job timestamp) later refl
 
         -- the next receiver is attached on the disk, and then in memory
-        module _ (stay : DepositsStay) (given : ℕ) (given_is : given ≡ attached_of roomy.chain + 1) (attached : given ≡ attached_of later.chain) (none : later.waiting ≡ 0) (all : later.forced ≡ roomy.forced + roomy.waiting + 2)
+        module _ (stay : DepositsStay) (number_is : attached_of later.chain ≡ attached_of roomy.chain + 1) (none : later.waiting ≡ 0) (all : later.forced ≡ roomy.forced + roomy.waiting + 2)
             (switched : tells → (entries : List Entry) → Holds roomy entries old → Holds later (entries ++ tied_by ending beginning (next_of roomy)) new) where
           two-more : length (after s Done).entries ≡ length s.entries + 2
           two-more = ap (λ (l : List Entry). length l) ties-after ∙ length-append s.entries Done.entries
@@ -225,7 +235,7 @@ module _ (tells : Type 0) (old : Disk) (before roomy : BookState) (s : State) (s
             first = first ∙ roomy-of.first;
             next = omega (arith, first, none, all, roomy-of.next, two-more);
             receiver = receiver ∙ roomy-of.receiver;
-            attached = omega (arith, attached, given_is, roomy-of.attached, next);
+            attached = omega (arith, number_is, roomy-of.attached, next);
             little = omega (arith, no_longer, roomy-of.little);
             places = lasts.behind later.chain.room enough;
           }

@@ -1,5 +1,5 @@
 -- What a call makes of the library's journal: its entries come behind all others, or the store is found at fault. (Our own.)
-use Rattle.std.specs.Prelude.{◌≡◌, ◌⊎◌, ℕ, ◌+◌, ◌<◌, ◌≤◌, ◌||◌, Bool, true, false, if◌then◌else◌, Result, Ok, Err, List, ◌++◌, length, OnOk, IsErr, IsTrue}
+use Rattle.std.specs.Prelude.{◌≡◌, ◌⊎◌, ℕ, ◌+◌, ◌<◌, ◌≤◌, ◌||◌, Bool, true, false, if◌then◌else◌, Result, Ok, Err, List, ◌++◌, length, OnOk, IsErr}
 use Rattle.store_model.specs.Disk.{Disk, Leaves}
 use Rattle.store_model.specs.Faults.{Rose}
 use Rattle.entry_codec.specs.declared.entries.Entry.{Entry}

@@ -32,7 +32,6 @@ use library_model::replies::Reply;
 use library_model::requests::Request;
 use library_model::sources::Sources;
 use library_parts::{Contents, Stop};
-use library_steps::limits::LAST_RECEIVER;
 use receiver_chain::ChainFault;
 use sound_histories::each_call_leaves_a_sound_library;
 use std::alloc::AllocError;
@@ -212,6 +211,7 @@ fn are_put(request: &Request, entries: &[Entry]) -> bool
     is_forced(request, entries) || has_entries(entries)
 }
 
+/// Whether there are some.
 fn has_entries(entries: &[Entry]) -> bool
     ensures { result ≡ has_entries entries.now }
 {
