@@ -1,8 +1,9 @@
 //! The library over a store, and the one call on it. What each request does is asked for in `dispatch.rt`; how its entries come to the journal on
 //! the disk stands in `answering.rt`.
-ghost use Rattle.std.specs.Prelude.{◌≡◌, ◌≢◌, ◌⊎◌, ℕ, true, false, ◌+◌, ◌<◌, ◌≤◌, ◌∷◌, [], ◌++◌, length, take, IsTrue, IfOk, OnOk, OnErr};
+ghost use Rattle.std.specs.Prelude.{◌≡◌, ◌≢◌, ◌⊎◌, ℕ, true, false, ◌+◌, ◌*◌, ◌<◌, ◌≤◌, ◌∷◌, [], ◌++◌, length, take, IsTrue, IfOk, OnOk, OnErr};
 ghost use Rattle.store_model.specs.Disk.{Areas, May, Leaves};
 ghost use Rattle.store_model.specs.Faults.{Rose};
+ghost use Rattle.journal_book.specs.Book.{HasMoreRoom};
 ghost use Rattle.journal_book.specs.Kept.{IsForcedOrFrom, SpellEntries};
 ghost use Rattle.answered_sources.specs.Answered.{AreAnswered};
 ghost use Rattle.built_requests.specs.Built.{is_built};
@@ -96,9 +97,7 @@ impl<S: Store> Library<S> {
         ensures receiver { self.new.book.chain.first ≡ self.old.book.chain.first }
     {
         journal_lasts();
-        // A place for the block by which the job's end is forced.
-        reserve_for(&mut self.journal, self.contents.jobs_begun())?;
-        self.contents.begin_job(*name)
+        begin(&mut self.contents, &mut self.journal, *name)
     }
 
     /// Hands the store back.
@@ -113,6 +112,19 @@ impl<S: Store> Library<S> {
         } = self;
         store
     }
+}
+
+/// Begins a job, with a place for the block by which its end is forced.
+fn begin(contents: &mut Contents, journal: &mut KeptJournal, name: Name) -> Result<u32, AllocError>
+    requires { length contents.old.state.jobs < 4294967295 }
+    ensures number { IfOk result (λ n. n ≡ length contents.old.state.jobs + 1) }
+    ensures begun { OnOk result (contents.new.state ≡ record contents.old.state { jobs = contents.old.state.jobs ++ new_job name ∷ [] }) }
+    ensures unchanged { OnErr result (contents.new.state ≡ contents.old.state) }
+    ensures same { HasMoreRoom journal.old journal.new }
+    ensures room { OnOk result (2 * length contents.old.state.jobs + 1 ≤ journal.new.chain.room) }
+{
+    reserve_for(journal, contents.jobs_begun())?;
+    contents.begin_job(name)
 }
 
 /// Answers one request of a job, at a time. After a store fault the library has failed: open it again.
