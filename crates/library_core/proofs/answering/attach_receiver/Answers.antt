@@ -44,9 +44,9 @@ returns-in-Err-clause-put g c = λ sources.
 
 pub returns-in-Err-clause-answered : goal.returns-in-Err-clause-answered
 returns-in-Err-clause-answered g c = λ sources.
-    let refused = subst (λ (s : State). Gives {A = ℕ} (Err c.in-Err.field-0) (attach_plan (memory_of s))) c.ready_to_attach.ensures.state c.ready_to_attach.ensures.plan in
+    let refused = subst (λ (s : State). Gives {A = ℕ} (Err c.in-Err.stop) (attach_plan (memory_of s))) c.ready_to_attach.ensures.state c.ready_to_attach.ensures.plan in
     subst (λ (t : State). HasAnswered sources c.args.contents.now.state t c.ready_to_attach.new.journal
     (record { job = c.args.job; timestamp = c.args.timestamp; request = ChangeJournal; reply = c.reply_of.result }) false) (sym c.ready_to_attach.ensures.state)
     (subst (λ (x : Reply). HasAnswered sources c.args.contents.now.state c.args.contents.now.state c.ready_to_attach.new.journal
     (record { job = c.args.job; timestamp = c.args.timestamp; request = ChangeJournal; reply = x }) false) (sym c.reply_of.ensures)
-    (unready-answered g.S.Store.tells (g.S.Store.disk c.args.store.now) c.args.journal.now c.ready_to_attach.new.journal c.args.contents.now.state sources c.args.job c.args.timestamp c.requires.running c.requires.sound c.requires.journaled c.ready_to_attach.ensures.same c.in-Err.field-0 refused))
+    (unready-answered g.S.Store.tells (g.S.Store.disk c.args.store.now) c.args.journal.now c.ready_to_attach.new.journal c.args.contents.now.state sources c.args.job c.args.timestamp c.requires.running c.requires.sound c.requires.journaled c.ready_to_attach.ensures.same c.in-Err.stop refused))
