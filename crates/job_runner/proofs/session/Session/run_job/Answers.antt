@@ -24,7 +24,7 @@ loop-preserved g c =
     record {
       others = λ other differs. ap (calls_of other) called.2.calls ∙ apart other differs ∙ c.loop.invariant.others other differs;
       made =
-          HasBegun-call g.C.Clock.gives c.args.self.now c.loop.self c.step_job.new.self whole rest next called.0 c.loop.invariant.made called.2
+          HasBegun-call g.S.Store.tells g.S.Store.disk g.C.Clock.gives c.args.self.now c.loop.self c.step_job.new.self whole rest next called.0 c.loop.invariant.made called.2
           (λ more is. AreByTurns-first jobs c.args.job c.loop.self.calls called.0 more called.1 c.requires.within earlier goes (first more is));
     }
 
@@ -33,18 +33,18 @@ returns-in-Ended-clause-made g c =
     let jobs = length c.args.self.now.scripts.scripts in
     let whole = AreByTurns jobs [] c.args.self.now.calls in
     let rest = AreByTurns jobs [] c.loop.self.calls in
-    HasBegun-end g.C.Clock.gives c.args.self.now c.loop.self c.step_job.new.self whole rest c.loop.invariant.made (c.in-Ended.ensures.unchanged (λ e. cc)) tt
+    HasBegun-end g.S.Store.tells g.S.Store.disk g.C.Clock.gives c.args.self.now c.loop.self c.step_job.new.self whole rest c.loop.invariant.made (c.in-Ended.ensures.unchanged (λ e. cc)) tt
 
 pub returns-in-Stopped-clause-made : goal.returns-in-Stopped-clause-made
 returns-in-Stopped-clause-made g c =
     let jobs = length c.args.self.now.scripts.scripts in
     let whole = AreByTurns jobs [] c.args.self.now.calls in
     let rest = AreByTurns jobs [] c.loop.self.calls in
-    HasBegun-end g.C.Clock.gives c.args.self.now c.loop.self c.step_job.new.self whole rest c.loop.invariant.made (c.in-Stopped.ensures.unchanged (λ e. cc)) tt
+    HasBegun-end g.S.Store.tells g.S.Store.disk g.C.Clock.gives c.args.self.now c.loop.self c.step_job.new.self whole rest c.loop.invariant.made (c.in-Stopped.ensures.unchanged (λ e. cc)) tt
 
 pub returns-in-NoMemory-clause-made : goal.returns-in-NoMemory-clause-made
 returns-in-NoMemory-clause-made g c =
     let jobs = length c.args.self.now.scripts.scripts in
     let whole = AreByTurns jobs [] c.args.self.now.calls in
     let rest = AreByTurns jobs [] c.loop.self.calls in
-    HasBegun-end g.C.Clock.gives c.args.self.now c.loop.self c.step_job.new.self whole rest c.loop.invariant.made (c.in-NoMemory.ensures.unchanged (λ e. cc)) tt
+    HasBegun-end g.S.Store.tells g.S.Store.disk g.C.Clock.gives c.args.self.now c.loop.self c.step_job.new.self whole rest c.loop.invariant.made (c.in-NoMemory.ensures.unchanged (λ e. cc)) tt
