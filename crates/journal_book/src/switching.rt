@@ -10,7 +10,7 @@ ghost use Rattle.entry_codec.specs.Spelling.{HasSpelling, IsSpelled, spelling};
 ghost use Rattle.receiver_chain.specs.declared.numbers.TheConstants.{MAX_RECEIVER};
 ghost use Rattle.receiver_chain.specs.Chain.{attached_of};
 ghost use Rattle.journal_book.specs.Book.{Holds, IsHeld, last_of, next_of};
-ghost use Rattle.journal_book.specs.Kept.{IsForcedOrFrom, IsKept};
+ghost use Rattle.journal_book.specs.Kept.{IsForcedOrFrom, IsKept, SpellEntries};
 ghost use Rattle.journal_book.specs.Switch.{AreTieBlocks, IsTie, tied_by};
 
 use crate::book::{Book, close, empty_block};
@@ -58,6 +58,7 @@ impl Book {
         ensures less_places { OnOk result (self.old.chain.room ≤ self.new.chain.room + 1) }
         ensures same_number { OnErr result (attached_of self.new.chain ≡ attached_of self.old.chain) }
         ensures no_memory { IsErrOf result ChainFault.NoMemory → S.tells → (entries : List Entry) → Holds self.old entries (S.disk store.old) → Holds self.new entries (S.disk store.new) }
+        ensures wanting { IsErrOf result ChainFault.NoMemory → S.tells → (entries : List Entry) → Holds self.old entries (S.disk store.old) → Leaves (S.disk store.old) (S.disk store.new) (IsForcedOrFrom self.old.chain.first self.old.forced (length entries) entries) }
         ensures same_next { IsErrOf result ChainFault.NoMemory → next_of self.new ≡ next_of self.old }
         ensures same_forced { IsErrOf result ChainFault.NoMemory → (self.new.forced ≡ self.old.forced) ⊎ (self.new.waiting ≡ 0) }
         ensures same_places { IsErrOf result ChainFault.NoMemory → self.old.chain.room ≤ self.new.chain.room + 1 }
@@ -107,6 +108,7 @@ impl Book {
         ensures less_places { OnOk result (self.old.chain.room ≤ self.new.chain.room + 1) }
         ensures same_number { OnErr result (attached_of self.new.chain ≡ attached_of self.old.chain) }
         ensures no_memory { IsErrOf result ChainFault.NoMemory → S.tells → (entries : List Entry) → Holds self.old entries (S.disk store.old) → Holds self.new entries (S.disk store.new) }
+        ensures wanting { IsErrOf result ChainFault.NoMemory → S.tells → (entries : List Entry) → Holds self.old entries (S.disk store.old) → Leaves (S.disk store.old) (S.disk store.new) (IsForcedOrFrom self.old.chain.first self.old.forced (length entries) entries) }
         ensures same_next { IsErrOf result ChainFault.NoMemory → next_of self.new ≡ next_of self.old }
         ensures same_forced { IsErrOf result ChainFault.NoMemory → (self.new.forced ≡ self.old.forced) ⊎ (self.new.waiting ≡ 0) }
         ensures same_places { IsErrOf result ChainFault.NoMemory → self.old.chain.room ≤ self.new.chain.room + 1 }
@@ -149,6 +151,7 @@ impl Book {
         ensures same_number { OnErr result (attached_of self.new.chain ≡ attached_of self.old.chain) }
         ensures no_memory { IsErrOf result ChainFault.NoMemory → S.tells → (entries : List Entry) → Holds self.old entries (S.disk store.old) → Holds self.new entries (S.disk store.new) }
         ensures same_count { OnErr result (self.new.forced ≡ self.old.forced) }
+        ensures unswitched { IsErrOf result ChainFault.NoMemory → S.tells → (entries : List Entry) → Holds self.old entries (S.disk store.old) → Leaves (S.disk store.old) (S.disk store.new) (SpellEntries self.old.chain.first entries) }
         ensures faults { (S.disk store.old).faults ≤ (S.disk store.new).faults }
         ensures cause { IsErrOf result ChainFault.StoreFault → Rose (S.disk store.old).faults (S.disk store.new).faults }
     {

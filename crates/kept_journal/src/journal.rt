@@ -151,6 +151,7 @@ impl KeptJournal {
         ensures less_places { OnOk result (self.old.chain.room ≤ self.new.chain.room + 1) }
         ensures same_number { OnErr result (attached_of self.new.chain ≡ attached_of self.old.chain) }
         ensures no_memory { IsErrOf result ChainFault.NoMemory → S.tells → (entries : List Entry) → Holds self.old entries (S.disk store.old) → Holds self.new entries (S.disk store.new) }
+        ensures wanting { IsErrOf result ChainFault.NoMemory → S.tells → (entries : List Entry) → Holds self.old entries (S.disk store.old) → Leaves (S.disk store.old) (S.disk store.new) (IsForcedOrFrom self.old.chain.first self.old.forced (length entries) entries) }
         ensures same_next { IsErrOf result ChainFault.NoMemory → next_of self.new ≡ next_of self.old }
         ensures same_forced { IsErrOf result ChainFault.NoMemory → (self.new.forced ≡ self.old.forced) ⊎ (self.new.waiting ≡ 0) }
         ensures same_places { IsErrOf result ChainFault.NoMemory → self.old.chain.room ≤ self.new.chain.room + 1 }

@@ -35,7 +35,7 @@ use Rattle.library_core.specs.Puts.{HasAnswered, HasPut, HasTaken, answer_given,
 use Rattle.library_core.specs.Stands.{whole_from}
 use Rattle.library_core.proofs.ChangeLaws.{Keeps, change-keeps, gives_up-none}
 use Rattle.library_core.proofs.JournalLemmas.{behind-book, counted, more-book}
-use Rattle.library_core.proofs.OutcomeLemmas.{IsPlain, after-entries, behind-is, done-answered, fault-answered, no_memory-answered, refused-answered, stopped-put}
+use Rattle.library_core.proofs.OutcomeLemmas.{IsPlain, after-entries, behind-is, done-answered, fault-answered, no_memory-answered, refused-answered, still-of, stopped-put}
 
 pub ok-is : {A E P : Type 0} (r : Result A E) → IsOk r → OnOk r P → P
 ok-is (Ok a) is p = p
@@ -149,6 +149,7 @@ module _ (tells : Type 0) (old : Disk) (before roomy : BookState) (s : State) (s
         done-put fine = record {
           journaled = λ alive. done-journaled fine;
           moments = done-moments;
+          still = λ alive same told. still-of old new before.chain.first before.forced r s.entries Behind (after s c).entries (its-behind ∙ sym its-after) same (done-moments told);
           least = λ alive. done-least fine;
           whole = λ alive. done-whole fine;
           receiver = taken.receiver ∙ more.receiver;
@@ -160,6 +161,7 @@ module _ (tells : Type 0) (old : Disk) (before roomy : BookState) (s : State) (s
         fault-put bad = record {
           journaled = λ alive. absurd (false≢true (sym alive));
           moments = done-moments;
+          still = λ alive same told. absurd (false≢true (sym alive));
           least = λ alive. absurd (false≢true (sym alive));
           whole = λ alive. absurd (false≢true (sym alive));
           receiver = taken.receiver ∙ more.receiver;

@@ -39,7 +39,7 @@ use Rattle.library_core.specs.Laws.{DepositsStay, EntriesAreSpelled, HasPlaces, 
 use Rattle.library_core.specs.Puts.{HasAnswered, HasPut}
 use Rattle.library_core.specs.Stands.{whole_from}
 use Rattle.library_core.proofs.JournalLemmas.{counted, more-book}
-use Rattle.library_core.proofs.OutcomeLemmas.{IsPlain, after-entries, behind-is, done-answered, no_memory-answered, ok-same, refused-answered, stopped-put, untouched-answered}
+use Rattle.library_core.proofs.OutcomeLemmas.{IsPlain, after-entries, behind-is, done-answered, no_memory-answered, ok-same, refused-answered, still-of, stopped-put, untouched-answered}
 
 does-plain : {A : Type 0} (effect : A → Change) (plan : Result A Reply) (m : Memory) (c : Change) → does effect plan ≡ Ok c → ((a : A) → IsPlain m (effect a)) → IsPlain m c
 does-plain effect (Ok a) m c is plain = subst (λ (x : Change). IsPlain m x) (ok-same (effect a) c is) (plain a)
@@ -65,6 +65,9 @@ room-put tells old new before roomy after s t r behind failed more put = record 
   moments = λ told.
       subst (λ (n : ℕ). Leaves old new (IsForcedOrFrom before.chain.first n (whole_from r s.entries behind) behind)) more.forced
       (subst (λ (n : ℕ). Leaves old new (IsForcedOrFrom n roomy.forced (whole_from r s.entries behind) behind)) more.receiver (put.moments told));
+  still = λ alive same told.
+      subst (λ (n : ℕ). Leaves old new (IsForcedOrFrom before.chain.first n (length s.entries) s.entries)) more.forced
+      (subst (λ (n : ℕ). Leaves old new (IsForcedOrFrom n roomy.forced (length s.entries) s.entries)) more.receiver (put.still alive same told));
   least = λ alive. let least = put.least alive in omega (arith, least, more.forced);
   whole = λ alive. elim (put.whole alive) [
     | inl same ↦ inl (same ∙ more.forced)
@@ -166,6 +169,7 @@ module _ (tells : Type 0) (old : Disk) (before roomy : BookState) (s : State) (s
       fault-put rose = record {
         journaled = λ alive. absurd (false≢true (sym alive));
         moments = tied-moments;
+        still = λ alive same told. absurd (false≢true (sym alive));
         least = λ alive. absurd (false≢true (sym alive));
         whole = λ alive. absurd (false≢true (sym alive));
         receiver = receiver ∙ more.receiver;
@@ -182,7 +186,8 @@ module _ (tells : Type 0) (old : Disk) (before roomy : BookState) (s : State) (s
 
         -- there was no memory for it
         module _ (same_next : next_of later ≡ next_of roomy) (same_forced : (later.forced ≡ roomy.forced) ⊎ (later.waiting ≡ 0)) (same_number : attached_of later.chain ≡ attached_of roomy.chain)
-            (held : tells → (entries : List Entry) → Holds roomy entries old → Holds later entries new) where
+            (held : tells → (entries : List Entry) → Holds roomy entries old → Holds later entries new)
+            (wanting : tells → (entries : List Entry) → Holds roomy entries old → Leaves old new (IsForcedOrFrom roomy.chain.first roomy.forced (length entries) entries)) where
           short-book : IsBookOf later s
           short-book = record {
             first = first ∙ roomy-of.first;
@@ -214,6 +219,10 @@ module _ (tells : Type 0) (old : Disk) (before roomy : BookState) (s : State) (s
           short-put = record {
             journaled = λ alive. record { book_of = short-book; may = is.may; holds = λ told. held told s.entries (more_holds before roomy s.entries old more (is.holds told)) };
             moments = tied-moments;
+            still = λ alive same told.
+                subst (λ (n : ℕ). Leaves old new (IsForcedOrFrom before.chain.first n (length s.entries) s.entries)) more.forced
+                (subst (λ (n : ℕ). Leaves old new (IsForcedOrFrom n roomy.forced (length s.entries) s.entries)) more.receiver
+                (wanting told s.entries (more_holds before roomy s.entries old more (is.holds told))));
             least = λ alive. short-least;
             whole = λ alive. short-whole;
             receiver = receiver ∙ more.receiver;
@@ -254,6 +263,9 @@ module _ (tells : Type 0) (old : Disk) (before roomy : BookState) (s : State) (s
           its-put = record {
             journaled = λ alive. record { book_of = tied-book; may = stay s Done does-it tt refl is.may; holds = tied-holds };
             moments = tied-moments;
+            still = λ alive same told.
+                still-of old new before.chain.first before.forced ChangeJournal s.entries Behind (after s Done).entries
+                (behind-is tells old before roomy s sources job timestamp ChangeJournal running refl sound is more (attach-plain sources s job timestamp) Done done ∙ sym ties-after) same (tied-moments told);
             least = λ alive. tied-least;
             whole = λ alive. inr tied-whole;
             receiver = receiver ∙ more.receiver;

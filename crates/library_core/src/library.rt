@@ -149,6 +149,7 @@ pub fn call<S: Store>(
     ensures faults { (S.disk library.old.store).faults ≤ (S.disk library.new.store).faults }
     // What a stop leaves within the call, and behind it.
     ensures moments { S.tells → Leaves (S.disk library.old.store) (S.disk library.new.store) (IsForcedOrFrom library.old.book.chain.first library.old.book.forced (whole_from request.now library.old.state.entries (entries_behind sources.now library.old.state (record { job = job; timestamp = timestamp; request = request.now; reply = result }))) (entries_behind sources.now library.old.state (record { job = job; timestamp = timestamp; request = request.now; reply = result }))) }
+    ensures still { library.new.failed ≡ false → library.new.state.entries ≡ library.old.state.entries → S.tells → Leaves (S.disk library.old.store) (S.disk library.new.store) (IsForcedOrFrom library.old.book.chain.first library.old.book.forced (length library.old.state.entries) library.old.state.entries) }
     ensures left { library.new.failed ≡ false → S.tells → (areas : Areas) → May (S.disk library.new.store) areas → SpellEntries library.new.book.chain.first (take library.new.book.forced library.new.state.entries) areas }
     ensures acknowledged { IsAcknowledged sources.now library.old.state (record { job = job; timestamp = timestamp; request = request.now; reply = result }) → library.new.book.waiting ≡ 0 }
     ensures least { library.new.failed ≡ false → library.old.book.forced ≤ library.new.book.forced }

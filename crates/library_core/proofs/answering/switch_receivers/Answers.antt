@@ -57,7 +57,7 @@ returns-in-Err-NoMemory-clause-put g c = λ sources.
     short-put g.S.Store.tells (g.S.Store.disk c.args.store.now) c.args.journal.now c.args.journal.now c.args.contents.now.state sources c.args.job c.args.timestamp c.requires.running c.requires.sound c.requires.journaled (more-none c.args.journal.now)
     c.args.number c.requires.plan c.requires.next c.requires.few c.requires.left c.requires.places c.attach_drafts-ending.result.0 c.attach_drafts-ending.result.1 c.attach_drafts-ending.ensures.ending c.attach_drafts-ending.ensures.beginning
     (g.S.Store.disk c.switch.new.store) c.switch.new.self c.switch.ensures.exactly c.switch.ensures.first c.switch.ensures.receiver c.switch.ensures.no_longer c.switch.ensures.faults
-    c.journal_lasts.ensures.places (c.switch.ensures.same_places none) (c.switch.ensures.same_next none) (c.switch.ensures.same_forced none) (err-is c.switch.result NoMemory none c.switch.ensures.same_number) (c.switch.ensures.no_memory none)
+    c.journal_lasts.ensures.places (c.switch.ensures.same_places none) (c.switch.ensures.same_next none) (c.switch.ensures.same_forced none) (err-is c.switch.result NoMemory none c.switch.ensures.same_number) (c.switch.ensures.no_memory none) (c.switch.ensures.wanting none)
 
 pub returns-in-Err-NoMemory-clause-answered : goal.returns-in-Err-NoMemory-clause-answered
 returns-in-Err-NoMemory-clause-answered g c = λ sources.
@@ -65,7 +65,7 @@ returns-in-Err-NoMemory-clause-answered g c = λ sources.
     short-answered g.S.Store.tells (g.S.Store.disk c.args.store.now) c.args.journal.now c.args.journal.now c.args.contents.now.state sources c.args.job c.args.timestamp c.requires.running c.requires.sound c.requires.journaled (more-none c.args.journal.now)
     c.args.number c.requires.plan c.requires.next c.requires.few c.requires.left c.requires.places c.attach_drafts-ending.result.0 c.attach_drafts-ending.result.1 c.attach_drafts-ending.ensures.ending c.attach_drafts-ending.ensures.beginning
     (g.S.Store.disk c.switch.new.store) c.switch.new.self c.switch.ensures.exactly c.switch.ensures.first c.switch.ensures.receiver c.switch.ensures.no_longer c.switch.ensures.faults
-    c.journal_lasts.ensures.places (c.switch.ensures.same_places none) (c.switch.ensures.same_next none) (c.switch.ensures.same_forced none) (err-is c.switch.result NoMemory none c.switch.ensures.same_number) (c.switch.ensures.no_memory none)
+    c.journal_lasts.ensures.places (c.switch.ensures.same_places none) (c.switch.ensures.same_next none) (c.switch.ensures.same_forced none) (err-is c.switch.result NoMemory none c.switch.ensures.same_number) (c.switch.ensures.no_memory none) (c.switch.ensures.wanting none)
 
 pub returns-in-Err-StoreFault-clause-put : goal.returns-in-Err-StoreFault-clause-put
 returns-in-Err-StoreFault-clause-put g c = λ sources.

@@ -66,6 +66,13 @@ returns-clause-moments g c =
     let called = called-of g.S.Store.tells g.S.Store.disk c.args.sources.now _ c.args.library.now new call c.library.view_is c.answer-reply.ensures.put c.answer-reply.ensures.answered in
     called.put.moments
 
+pub returns-clause-still : goal.returns-clause-still
+returns-clause-still g c =
+    let new : LibraryOver g.row.S.Denot = record { store = c.answer-reply.new.store; book = c.answer-reply.new.journal; state = c.answer-reply.new.contents.state; paths = c.answer-reply.new.contents.room.paths.paths; failed = c.answer-reply.result.1 } in
+    let call : Call = record { job = c.args.job; timestamp = c.args.timestamp; request = c.args.request.now; reply = c.answer-reply.result.0 } in
+    let called = called-of g.S.Store.tells g.S.Store.disk c.args.sources.now _ c.args.library.now new call c.library.view_is c.answer-reply.ensures.put c.answer-reply.ensures.answered in
+    called.put.still
+
 pub returns-clause-left : goal.returns-clause-left
 returns-clause-left g c =
     let new : LibraryOver g.row.S.Denot = record { store = c.answer-reply.new.store; book = c.answer-reply.new.journal; state = c.answer-reply.new.contents.state; paths = c.answer-reply.new.contents.room.paths.paths; failed = c.answer-reply.result.1 } in

@@ -5,7 +5,7 @@ use Rattle.receiver_chain.specs.declared.fault.ChainFault.{ChainFault}
 use Rattle.receiver_chain.specs.declared.fault.ChainFault.TheVariants.{NoMemory, StoreFault}
 use Rattle.receiver_chain.specs.Chain.{attached_of}
 use Rattle.journal_book.specs.Switch.{AreTieBlocks}
-use Rattle.journal_book.proofs.Attaching.{leaves_exactly_more, leaves_more, rose_after, switch_exactly, switch_moments, ties_forced}
+use Rattle.journal_book.proofs.Attaching.{leaves_exactly_more, leaves_more, rose_after, switch_exactly, switch_moments, switch_unswitched, ties_forced}
 use Rattle.journal_book.proofs.Forcing.{all_counted, none_exactly, none_moment}
 use Rattle.journal_book.proofs.book.Book.switch_by.Goals as goal
 
@@ -164,3 +164,20 @@ returns-in_err-receiver-clause-faults g c = omega (arith, c.force.ensures.faults
 
 pub returns-clause-faults : goal.returns-clause-faults
 returns-clause-faults g c = omega (arith, c.force.ensures.faults, c.attach.ensures.faults)
+
+pub returns-in_err-ending-clause-wanting : goal.returns-in_err-ending-clause-wanting
+returns-in_err-ending-clause-wanting g c = λ is tells entries holds. none_exactly c.args.self.now entries (g.S.Store.disk c.args.store.now) holds
+
+pub returns-in_err-beginning-clause-wanting : goal.returns-in_err-beginning-clause-wanting
+returns-in_err-beginning-clause-wanting g c = λ is tells entries holds. none_exactly c.args.self.now entries (g.S.Store.disk c.args.store.now) holds
+
+pub returns-in_err-force-clause-wanting : goal.returns-in_err-force-clause-wanting
+returns-in_err-force-clause-wanting g c = λ is tells entries holds. c.force.ensures.exactly tells entries holds
+
+pub returns-in_err-receiver-clause-wanting : goal.returns-in_err-receiver-clause-wanting
+returns-in_err-receiver-clause-wanting g c = λ is tells entries holds.
+    let p = err_from_is_err_and c.from_residual-in_err-receiver.result c.from_residual-in_err-receiver.ensures.1 in
+    let same : c.in_err-receiver.field-0.0 ≡ NoMemory = cc (p.1, p.2, is) in
+    let named : IsErrOf {T = ℕ} (Err c.in_err-receiver.field-0.0) NoMemory = ap (λ (e : ChainFault). Err e) same in
+    switch_unswitched c.args.self.now c.force.new.self entries (g.S.Store.disk c.args.store.now) (g.S.Store.disk c.force.new.store) (g.S.Store.disk c.attach.new.store) c.force.ensures.receiver
+    (c.force.ensures.exactly tells entries holds) (c.in_err-receiver.ensures.unswitched named tells entries (c.in_ok-force.ensures.forced tells entries holds))

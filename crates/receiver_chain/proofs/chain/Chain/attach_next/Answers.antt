@@ -4,11 +4,11 @@ use Rattle.store_model.specs.Disk.{Leaves}
 use Rattle.gated_log.specs.Log.{LogState, Anything}
 use Rattle.gated_log.proofs.Kept.{settled_apart}
 use Rattle.receiver_chain.specs.Links.{IsLink}
-use Rattle.receiver_chain.specs.Receivers.{area_of, deposited, switched}
+use Rattle.receiver_chain.specs.Receivers.{AreChained, area_of, deposited, switched}
 use Rattle.receiver_chain.specs.Chain.{ChainState, Holds, IsSwitching, attached_of, firsts, lengths_in, logs_of}
 use Rattle.receiver_chain.proofs.LinkLemmas.{start_no_link}
 use Rattle.receiver_chain.proofs.Deposits.{deposit_holds}
-use Rattle.receiver_chain.proofs.Switches.{link_length, start_length, reserved_holds, none_moment, made_moment, made_holds, tied_moment, tied_holds, begun_moment, switch_firsts, switch_lengths}
+use Rattle.receiver_chain.proofs.Switches.{link_length, start_length, reserved_holds, next_moment, none_chained, none_moment, made_moment, made_holds, tied_moment, tied_holds, begun_moment, switch_firsts, switch_lengths}
 use Rattle.receiver_chain.proofs.chain.Chain.attach_next.Goals as goal
 
 pub sequence_of-requires : goal.sequence_of-requires
@@ -219,3 +219,24 @@ returns-in_err-append-2-clause-faults g c = omega (arith, c.make_next.ensures.an
 
 pub returns-clause-faults : goal.returns-clause-faults
 returns-clause-faults g c = omega (arith, c.make_next.ensures.any_moment.later.faults, c.append.ensures.apart.later.faults, c.append-2.ensures.apart.later.faults)
+
+pub returns-in_default-clause-unswitched : goal.returns-in_default-clause-unswitched
+returns-in_default-clause-unswitched g c = λ is tells kept holds. none_chained c.args.self.now.first c.args.self.now.room c.args.self.now.earlier c.args.self.now.attached kept (g.S.Store.disk c.args.store.now) holds
+
+pub returns-in_err-reserve-clause-unswitched : goal.returns-in_err-reserve-clause-unswitched
+returns-in_err-reserve-clause-unswitched g c = λ is tells kept holds. none_chained c.args.self.now.first c.args.self.now.room c.args.self.now.earlier c.args.self.now.attached kept (g.S.Store.disk c.args.store.now) holds
+
+pub returns-in_err-reserve-2-clause-unswitched : goal.returns-in_err-reserve-2-clause-unswitched
+returns-in_err-reserve-2-clause-unswitched g c = λ is tells kept holds. none_chained c.args.self.now.first c.args.self.now.room c.args.self.now.earlier c.args.self.now.attached kept (g.S.Store.disk c.args.store.now) holds
+
+pub returns-in_err-next-clause-unswitched : goal.returns-in_err-next-clause-unswitched
+returns-in_err-next-clause-unswitched g c = λ told tells kept holds.
+    let reserved = reserved_holds c.self.inside.first c.self.inside.room c.self.inside.earlier.items c.reserve.new.self.items c.self.inside.attached c.reserve-2.new.self kept
+    (g.S.Store.disk c.args.store.now) (subst (λ (v : ChainState). Holds v kept (g.S.Store.disk c.args.store.now)) (sym c.self.view_is) holds)
+    c.reserve.ensures.items c.reserve-2.ensures.same_area c.reserve-2.ensures.same_first c.reserve-2.ensures.same_version c.reserve-2.ensures.same_lengths in
+    let number : attached_of c.args.self.now ≡ c.self.inside.first + length c.reserve.new.self.items = omega
+    (arith, ap (λ (v : ChainState). attached_of v) c.self.view_is, ap length c.reserve.ensures.items) in
+    let is : area_of (c.attached-receiver.result + 1) ≡ area_of (c.self.inside.first + length c.reserve.new.self.items + 1) = omega (arith, c.attached-receiver.ensures.number, number) in
+    subst (λ (v : ChainState). Leaves (g.S.Store.disk c.args.store.now) (g.S.Store.disk c.make_next.new.store) (AreChained v.first kept)) c.self.view_is
+    (next_moment c.self.inside.first c.self.inside.room c.reserve.new.self.items c.reserve-2.new.self kept (g.S.Store.disk c.args.store.now) reserved
+    (area_of (c.attached-receiver.result + 1)) is Anything (g.S.Store.disk c.make_next.new.store) c.make_next.ensures.any_moment)
